@@ -1,0 +1,3 @@
+pub mod AmountLaws
+pub mod Blanks
+pub mod DigitLaws

@@ -1,0 +1,154 @@
+ghost use Rattle.std.specs.Prelude.{◌≡◌, ◌≤◌, refl, nat_eq};
+ghost use Rattle.std.specs.Ordering.{nat_cmp, as_partial_cmp};
+ghost use Rattle.std.specs.Cmp.Lexicographic.{nat_list_eq_equiv, pointwise, slice_cmp};
+ghost use Rattle.std.specs.Cmp.{partial_order_from_own_ties, partial_equiv_from_equiv};
+ghost use Rattle.std.specs.Cmp.Rules.{comparing};
+ghost use Rattle.std.proofs.Common.{rules};
+
+use crate::fault::IdFault;
+use std::cmp::Ordering;
+use std::marker::Model;
+
+/// A text that names a provider, a family or a person: 1 to 20 printable ASCII bytes without `|` and without a
+/// trailing blank. Ids are ordered by their bytes, a prefix first (docs/PRODUCT.md, "Words").
+#[derive(Clone, Copy, Debug)]
+pub struct Id {
+    bytes: [u8; 20],
+    len: u8,
+}
+
+impl Model for Id {
+    ghost use Rattle.std.specs.Prelude.{List, ℕ, take};
+    ghost use Rattle.rx_fields.specs.Text.{IsPadded};
+
+    ghost Value = { List ℕ };
+
+    ghost view = { λ a. take a.len a.bytes };
+
+    ghost invariant = { λ a. IsPadded a.len a.bytes };
+
+    ghost use Rattle.rx_fields.specs.Padded.{padded_id, padded_back};
+
+    ghost inverse = { padded_id };
+
+    ghost inverse_ok = { padded_back };
+}
+
+ghost use Rattle.std.specs.Prelude.{length, ◌++◌, ◌-◌, replicate};
+ghost use Rattle.std.specs.List.{list_all, list_any};
+ghost use Rattle.std.specs.Result.{result_map_both};
+ghost use Rattle.rx_fields.specs.Text.{id_of, trimmed, is_printable, is_bar, IsId};
+
+impl Id {
+    /// The id in a text of a field that takes `max` bytes; trailing blanks are no part of it.
+    pub fn new(text: &[u8], max: usize) -> Result<Id, IdFault>
+        requires { max ≤ 20 }
+        ensures { result ≡ id_of max text.now }
+    {
+        let text = id_text(text, max)?;
+        Ok(Id {
+            bytes: padded(text),
+            len: text.len() as u8,
+        })
+    }
+
+    /// The id's bytes.
+    pub fn bytes(&self) -> &[u8]
+        ensures value { result.now ≡ self.now }
+        ensures again { IsId 20 self.now }
+    {
+        &self.bytes[..self.len as usize]
+    }
+}
+
+// The text without the blanks at its end.
+#[tactic(auto, using(crate::proofs::Blanks::trimmed_cut, crate::proofs::Blanks::trimmed_whole))]
+fn trimmed(text: &[u8]) -> &[u8]
+    ensures { result.now ≡ trimmed text.now }
+{
+    let mut rest = text;
+    while !rest.is_empty() && rest[rest.len() - 1] == b' ' {
+        rest = &rest[..rest.len() - 1];
+    }
+    rest
+}
+
+fn all_printable(text: &[u8]) -> bool
+    ensures { result ≡ list_all is_printable text.now }
+{
+    text.iter().all(|b| *b >= b' ' && *b <= b'~')
+}
+
+fn has_bar(text: &[u8]) -> bool
+    ensures { result ≡ list_any is_bar text.now }
+{
+    text.iter().any(|b| *b == b'|')
+}
+
+// The part of a text that is an id.
+fn id_text(text: &[u8], max: usize) -> Result<&[u8], IdFault>
+    ensures { result_map_both (λ t. t.now) (λ e. e) result ≡ id_of max text.now }
+{
+    let text = trimmed(text);
+    if text.is_empty() {
+        return Err(IdFault::Blank);
+    }
+    if text.len() > max {
+        return Err(IdFault::TooLong);
+    }
+    if !all_printable(text) {
+        return Err(IdFault::NotPrintable);
+    }
+    if has_bar(text) {
+        return Err(IdFault::Bar);
+    }
+    Ok(text)
+}
+
+// The text, and zeros up to twenty bytes.
+fn padded(text: &[u8]) -> [u8; 20]
+    requires { length text.now ≤ 20 }
+    ensures { result ≡ text.now ++ replicate (20 - length text.now) 0 }
+{
+    let mut bytes = [0; 20];
+    bytes[..text.len()].copy_from_slice(text);
+    bytes
+}
+
+impl PartialEq for Id {
+    ghost eq = { pointwise nat_eq };
+
+    ghost laws = { partial_equiv_from_equiv nat_list_eq_equiv };
+
+    fn eq(&self, other: &Id) -> bool {
+        self.bytes() == other.bytes()
+    }
+}
+
+impl Eq for Id {
+    ghost laws = { nat_list_eq_equiv };
+}
+
+impl PartialOrd for Id {
+    ghost partial_cmp = { as_partial_cmp (slice_cmp nat_cmp) };
+
+    ghost laws = { partial_order_from_own_ties (Prim.search (comparing, rules)) (Prim.search (comparing, rules)) };
+
+    fn partial_cmp(&self, other: &Id) -> Option<Ordering> {
+        Some(self.cmp(other))
+    }
+}
+
+impl Ord for Id {
+    ghost cmp = { slice_cmp nat_cmp };
+
+    ghost total = { Prim.search (comparing, rules) };
+
+    ghost matches_partial_cmp = { λ x y. refl };
+
+    ghost matches_eq = { Prim.search (comparing, rules) };
+
+    fn cmp(&self, other: &Id) -> Ordering {
+        self.bytes().cmp(other.bytes())
+    }
+}

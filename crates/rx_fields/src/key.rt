@@ -1,0 +1,14 @@
+use crate::day::Day;
+use crate::id::Id;
+
+/// A fill key: what a standing claim is known by. Ordered by provider, then reference, then date
+/// (docs/PRODUCT.md, "Words").
+#[derive(Clone, Copy, Debug, PartialEq, Eq, PartialOrd, Ord)]
+pub struct Key {
+    /// The pharmacy's id.
+    pub provider: Id,
+    /// The prescription reference number.
+    pub reference: u64,
+    /// The date of service.
+    pub date: Day,
+}
