@@ -1,3 +1,4 @@
 pub mod AmountLaws
 pub mod Blanks
 pub mod DigitLaws
+pub mod Joined
