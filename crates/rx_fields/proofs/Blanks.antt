@@ -20,7 +20,6 @@ trimmed_end (c ∷ bs) b other =
     let long : eqb (length (bs ++ b ∷ [])) 0 ≡ false = grind (arith, nat_tests, length-append bs (b ∷ [])) in
     rw (trimmed_end bs b other, long, and-false) refl
 
-
 last_split : (bs : List ℕ) → 0 < length bs → bs ≡ take (length bs - 1) bs ++ get_or bs (length bs - 1) 0 ∷ []
 last_split bs lt =
     let whole : take (length bs) bs ≡ bs = grind (arith, common_steps) in
@@ -39,14 +38,12 @@ empty (b ∷ bs) le = absurd (omega arith)
 
 pub trimmed_whole : (bs : List ℕ) → (0 < length bs → get_or bs (length bs - 1) 0 ≡ 32 → ⊥) → trimmed bs ≡ bs
 trimmed_whole bs other = elim (cases_lt 0 (length bs)) [
-    | inl some ↦ (
-        let e = last_split bs some in
-        let ne : eqb (get_or bs (length bs - 1) 0) 32 ≡ false = ne_eqb _ _ (other some) in
-        ap trimmed e ∙ trimmed_end (take (length bs - 1) bs) (get_or bs (length bs - 1) 0) ne ∙ sym e)
-    | inr none ↦ empty bs none
-    ]
-
-
+  | inl some ↦ (
+      let e = last_split bs some in
+      let ne : eqb (get_or bs (length bs - 1) 0) 32 ≡ false = ne_eqb _ _ (other some) in
+      ap trimmed e ∙ trimmed_end (take (length bs - 1) bs) (get_or bs (length bs - 1) 0) ne ∙ sym e)
+  | inr none ↦ empty bs none
+]
 
 twice_by : (c : Bool) (b : ℕ) (bs : List ℕ) → trimmed (trimmed bs) ≡ trimmed bs → ((eqb b 32) && eqb (length (trimmed bs)) 0) ≡ c → trimmed (cond c [] (b ∷ trimmed bs)) ≡ cond c [] (b ∷ trimmed bs)
 twice_by true b bs again e = refl
@@ -80,8 +77,8 @@ id_again max t v le e =
 
 pub padded_whole : (t : List ℕ) → length t ≤ 20 → id_of 20 t ≡ Ok t → IsPadded (length t) (t ++ replicate (20 - length t) 0)
 padded_whole t few id = record {
-    whole = omega (arith, length-append t (replicate (20 - length t) 0), length-replicate {A = ℕ} (20 - length t) 0);
-    few = few;
-    is_id = rw (take_at t (replicate (20 - length t) 0) (length t) refl) id;
-    rest = drop_at t (replicate (20 - length t) 0) (length t) refl;
-  }
+  whole = omega (arith, length-append t (replicate (20 - length t) 0), length-replicate {A = ℕ} (20 - length t) 0);
+  few = few;
+  is_id = rw (take_at t (replicate (20 - length t) 0) (length t) refl) id;
+  rest = drop_at t (replicate (20 - length t) 0) (length t) refl;
+}

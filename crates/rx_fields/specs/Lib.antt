@@ -1,4 +1,5 @@
 pub mod Amount
+pub mod Bounds
 pub mod Calendar
 pub mod Clock
 pub mod Codes

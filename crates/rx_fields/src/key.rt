@@ -1,3 +1,4 @@
+use crate::bounded::Reference;
 use crate::day::Day;
 use crate::id::Id;
 
@@ -8,7 +9,7 @@ pub struct Key {
     /// The pharmacy's id.
     pub provider: Id,
     /// The prescription reference number.
-    pub reference: u64,
+    pub reference: Reference,
     /// The date of service.
     pub date: Day,
 }

@@ -13,6 +13,7 @@
 #![tactic(auto)]
 
 mod amount;
+mod bounded;
 mod code;
 mod day;
 mod digits;
@@ -28,6 +29,7 @@ mod stamp;
 mod time;
 
 pub use amount::{signed_read, signed_write};
+pub use bounded::{Authorization, Bounded, Cents, Count, Days, Quantity, Reference};
 pub use code::Code;
 pub use day::{Day, date_read, date_write};
 pub use digits::{digits_write, number_read};

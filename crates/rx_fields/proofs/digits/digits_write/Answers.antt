@@ -5,9 +5,9 @@ use Rattle.rx_fields.proofs.digits.digits_write.Goals as goal
 
 pub loop-i-preserved : goal.loop-i-preserved
 loop-i-preserved g c = record {
-    room = omega (arith, length-set {A = ℕ});
-    text = write_step c.loop-i.i c.loop-i.rest c.loop-i.digits _ (omega arith) (omega arith) c.loop-i.invariant.text;
-  }
+  room = omega (arith, length-set {A = ℕ});
+  text = write_step c.loop-i.i c.loop-i.rest c.loop-i.digits _ (omega arith) (omega arith) c.loop-i.invariant.text;
+}
 
 pub returns-clause-again : goal.returns-clause-again
 returns-clause-again g c =

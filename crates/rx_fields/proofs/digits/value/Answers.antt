@@ -19,7 +19,7 @@ loop-digit-preserved c =
     let digit = digit_at c.args.digits.now loop.digit-index c.requires.digits c.loop-digit-test.true in
     record {
       so_far =
-        rw (number_more c.args.digits.now loop.digit-index c.loop-digit-test.true, ← loop.invariant.so_far)
-        (omega arith);
+          rw (number_more c.args.digits.now loop.digit-index c.loop-digit-test.true, ← loop.invariant.so_far)
+          (omega arith);
       within = below_more loop.sum loop.digit-index c.from.result loop.invariant.within (omega arith);
     }
