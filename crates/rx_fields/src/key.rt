@@ -1,13 +1,13 @@
 use crate::bounded::Reference;
 use crate::day::Day;
-use crate::id::Id;
+use crate::short_id::Provider;
 
 /// A fill key: what a standing claim is known by. Ordered by provider, then reference, then date
 /// (docs/PRODUCT.md, "Words").
 #[derive(Clone, Copy, Debug, PartialEq, Eq, PartialOrd, Ord)]
 pub struct Key {
     /// The pharmacy's id.
-    pub provider: Id,
+    pub provider: Provider,
     /// The prescription reference number.
     pub reference: Reference,
     /// The date of service.

@@ -25,6 +25,7 @@ mod lot;
 mod memory;
 mod period;
 mod product;
+mod short_id;
 mod stamp;
 mod time;
 
@@ -41,5 +42,6 @@ pub use lot::Lot;
 pub use memory::Memory;
 pub use period::Period;
 pub use product::Product;
+pub use short_id::{Person, Provider, ShortId};
 pub use stamp::Stamp;
 pub use time::Time;
