@@ -1,0 +1,6 @@
+pub mod Billed
+pub mod CodeList
+pub mod Echoed
+pub mod Filled
+pub mod Listed
+pub mod Priced

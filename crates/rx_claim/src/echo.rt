@@ -1,0 +1,100 @@
+ghost use Rattle.std.specs.Prelude.{◌≡◌};
+
+use std::marker::Model;
+
+/// The bytes of a request's header that a reply repeats.
+#[derive(Clone, Copy, Debug, PartialEq, Eq)]
+pub struct EchoParts {
+    /// The version, as `D0`.
+    pub version: [u8; 2],
+    /// The transaction code, as `B1`.
+    pub code: [u8; 2],
+    /// The service provider id qualifier, as `01`.
+    pub qualifier: [u8; 2],
+    /// The service provider id, filled with blanks.
+    pub provider: [u8; 15],
+    /// The date of service, CCYYMMDD.
+    pub date: [u8; 8],
+}
+
+/// What a reply repeats of its request: printable bytes alone (docs/FORMATS.md, "Reply transmission").
+#[derive(Clone, Copy, Debug, PartialEq, Eq)]
+pub struct Echo {
+    parts: EchoParts,
+}
+
+impl Model for Echo {
+    ghost use Rattle.rx_claim.specs.declared.echo.EchoParts.{EchoParts};
+    ghost use Rattle.rx_claim.specs.Echoed.{IsEcho};
+
+    ghost Value = { EchoParts };
+
+    ghost view = { λ e. e.parts };
+
+    ghost invariant = { λ e. IsEcho e.parts };
+
+    ghost inverse = { λ parts. record { parts = parts } };
+}
+
+ghost use Rattle.std.specs.List.{list_all};
+ghost use Rattle.rx_fields.specs.Text.{is_printable};
+ghost use Rattle.rx_claim.specs.Echoed.{echo_of, blanked, blanked_parts, IsEcho};
+
+impl Echo {
+    /// The echo of these bytes; None where one of them isn't printable.
+    pub fn new(parts: EchoParts) -> Option<Echo>
+        ensures { result ≡ echo_of parts }
+    {
+        if all_printable(&parts.version)
+            && all_printable(&parts.code)
+            && all_printable(&parts.qualifier)
+            && all_printable(&parts.provider)
+            && all_printable(&parts.date)
+        {
+            Some(Echo { parts })
+        } else {
+            None
+        }
+    }
+
+    /// The echo of these bytes, each unprintable one a blank.
+    pub fn blanked(parts: EchoParts) -> Echo
+        ensures { result ≡ blanked_parts parts }
+    {
+        Echo {
+            parts: EchoParts {
+                version: printable(parts.version),
+                code: printable(parts.code),
+                qualifier: printable(parts.qualifier),
+                provider: printable(parts.provider),
+                date: printable(parts.date),
+            },
+        }
+    }
+
+    /// The echo's bytes.
+    pub fn parts(&self) -> &EchoParts
+        ensures value { result.now ≡ self.now }
+        ensures printable { IsEcho self.now }
+    {
+        &self.parts
+    }
+}
+
+fn all_printable(bytes: &[u8]) -> bool
+    ensures { result ≡ list_all is_printable bytes.now }
+{
+    bytes.iter().all(|b| *b >= b' ' && *b <= b'~')
+}
+
+// The bytes, each unprintable one a blank.
+fn printable<const N: usize>(mut bytes: [u8; N]) -> [u8; N]
+    ensures { result ≡ blanked bytes.entry }
+{
+    for byte in bytes.iter_mut() {
+        if *byte < b' ' || *byte > b'~' {
+            *byte = b' ';
+        }
+    }
+    bytes
+}

@@ -1,0 +1,82 @@
+ghost use Rattle.std.specs.Prelude.{◌≡◌};
+
+use std::marker::Model;
+
+/// The amounts of a paid claim, in cents.
+#[derive(Clone, Copy, Debug, PartialEq, Eq)]
+pub struct Amounts {
+    /// The ingredient cost paid (506-F6).
+    pub ingredient_cost: u64,
+    /// The dispensing fee paid (507-F7).
+    pub dispensing_fee: u64,
+    /// The amount applied to the deductible (517-FH).
+    pub deductible: u64,
+    /// The copay (518-FI).
+    pub copay: u64,
+    /// The coinsurance (572-4U).
+    pub coinsurance: u64,
+}
+
+/// How a claim is paid: cost and fee together at most 99,999,999 cents, of which the patient pays no more than all
+/// (docs/FORMATS.md, "Books file").
+#[derive(Clone, Copy, Debug, PartialEq, Eq)]
+pub struct Pricing {
+    amounts: Amounts,
+}
+
+impl Model for Pricing {
+    ghost use Rattle.rx_claim.specs.declared.pricing.Amounts.{Amounts};
+    ghost use Rattle.rx_claim.specs.Priced.{IsPriced};
+
+    ghost Value = { Amounts };
+
+    ghost view = { λ p. p.amounts };
+
+    ghost invariant = { λ p. IsPriced p.amounts };
+
+    ghost inverse = { λ amounts. record { amounts = amounts } };
+}
+
+ghost use Rattle.std.specs.Prelude.{◌+◌, ◌≤◌};
+ghost use Rattle.rx_claim.specs.Priced.{IsPriced, pricing_of, allowed, patient_pay, total_paid};
+
+impl Pricing {
+    /// The pricing of these amounts; None where they pass the limits.
+    pub fn new(amounts: Amounts) -> Option<Pricing>
+        ensures { result ≡ pricing_of amounts }
+    {
+        let allowed = amounts.ingredient_cost.checked_add(amounts.dispensing_fee)?;
+        let patient_pay = amounts
+            .deductible
+            .checked_add(amounts.copay)?
+            .checked_add(amounts.coinsurance)?;
+        if allowed > 99_999_999 || patient_pay > allowed {
+            return None;
+        }
+        Some(Pricing { amounts })
+    }
+
+    /// The amounts that it is made of.
+    pub fn amounts(&self) -> &Amounts
+        ensures value { result.now ≡ self.now }
+        ensures within { IsPriced self.now }
+    {
+        &self.amounts
+    }
+
+    /// The patient pay amount (505-F5), in cents.
+    pub fn patient_pay(&self) -> u64
+        ensures value { result ≡ patient_pay self.now }
+        ensures within { result ≤ 99_999_999 }
+    {
+        self.amounts.deductible + self.amounts.copay + self.amounts.coinsurance
+    }
+
+    /// The total amount paid to the pharmacy (509-F9), in cents.
+    pub fn total_paid(&self) -> u64
+        ensures value { result ≡ total_paid self.now }
+        ensures within { result ≤ 99_999_999 }
+    {
+        self.amounts.ingredient_cost + self.amounts.dispensing_fee - self.patient_pay()
+    }
+}

@@ -1,0 +1,105 @@
+ghost use Rattle.std.specs.Prelude.{◌≡◌, ◌↔◌, IfOk, IsTrue};
+
+use crate::codes::Codes;
+use crate::echo::Echo;
+use crate::transaction::Transactions;
+use rx_fields::{Count, Day, Memory, Provider};
+use std::alloc::Global;
+
+/// A header that could not be heard.
+#[derive(Clone, Copy, Debug, PartialEq, Eq)]
+pub struct Rejected {
+    /// Why.
+    pub codes: Codes,
+    /// How many answers the reply has: the groups that came, at least 1 and at most 4.
+    pub groups: Count,
+}
+
+/// A header that was heard, with its transactions.
+#[derive(Debug, Drop)]
+pub struct Heard {
+    /// The pharmacy (201-B1).
+    pub provider: Provider,
+    /// The date of service (401-D1).
+    pub date: Day,
+    /// What it asks.
+    pub list: Transactions,
+}
+
+/// What follows the echo of a transmission.
+#[derive(Debug, Drop)]
+pub enum Body {
+    /// The header is rejected, and with it all transactions.
+    Rejected(Rejected),
+    /// The header is heard.
+    Heard(Heard),
+}
+
+/// A decoded request.
+#[derive(Debug, Drop)]
+pub struct Transmission {
+    /// What the reply repeats.
+    pub echo: Echo,
+    /// What is asked.
+    pub body: Body,
+}
+
+impl Heard {
+    fn copy(&self, alloc: Global) -> Result<Heard, Memory>
+        ensures { IfOk result (λ heard. heard ≡ self.now) }
+    {
+        let list = self.list.copy(alloc)?;
+        Ok(Heard {
+            provider: self.provider,
+            date: self.date,
+            list,
+        })
+    }
+
+    fn equals(&self, other: &Heard) -> bool
+        ensures { IsTrue result ↔ (self.now ≡ other.now) }
+    {
+        self.provider == other.provider && self.date == other.date && self.list.equals(&other.list)
+    }
+}
+
+impl Body {
+    fn copy(&self, alloc: Global) -> Result<Body, Memory>
+        ensures { IfOk result (λ body. body ≡ self.now) }
+    {
+        match self {
+            Body::Rejected(rejected) => Ok(Body::Rejected(*rejected)),
+            Body::Heard(heard) => Ok(Body::Heard(heard.copy(alloc)?)),
+        }
+    }
+
+    fn equals(&self, other: &Body) -> bool
+        ensures { IsTrue result ↔ (self.now ≡ other.now) }
+    {
+        match (self, other) {
+            (Body::Rejected(a), Body::Rejected(b)) => a == b,
+            (Body::Heard(a), Body::Heard(b)) => a.equals(b),
+            _ => false,
+        }
+    }
+}
+
+impl Transmission {
+    /// An equal transmission.
+    pub fn copy(&self, alloc: Global) -> Result<Transmission, Memory>
+        ensures { IfOk result (λ transmission. transmission ≡ self.now) }
+    {
+        let body = self.body.copy(alloc)?;
+        Ok(Transmission {
+            echo: self.echo,
+            body,
+        })
+    }
+
+    /// Whether the transmissions are equal.
+    pub fn equals(&self, other: &Transmission) -> bool
+        ensures { IsTrue result ↔ (self.now ≡ other.now) }
+    {
+        self.echo == other.echo && self.body.equals(&other.body)
+    }
+}
