@@ -28,7 +28,7 @@ impl Model for Codes {
     ghost inverse_ok = { filled_back };
 }
 
-ghost use Rattle.std.specs.Prelude.{◌≤◌, length, ◌∷◌, []};
+ghost use Rattle.std.specs.Prelude.{◌≤◌, ◌-◌, ◌++◌, length, replicate, ◌∷◌, []};
 ghost use Rattle.rx_claim.specs.CodeList.{codes_of};
 
 impl Codes {
@@ -39,10 +39,8 @@ impl Codes {
         if codes.is_empty() || codes.len() > 5 {
             return None;
         }
-        let mut filled = [Code::Bin; 5];
-        filled[..codes.len()].copy_from_slice(codes);
         Some(Codes {
-            codes: filled,
+            codes: filled(codes),
             len: codes.len() as u8,
         })
     }
@@ -65,4 +63,14 @@ impl Codes {
     {
         &self.codes[..self.len as usize]
     }
+}
+
+// The codes, and the first of all codes up to five.
+fn filled(codes: &[Code]) -> [Code; 5]
+    requires { length codes.now ≤ 5 }
+    ensures { result ≡ codes.now ++ replicate (5 - length codes.now) Code.Bin }
+{
+    let mut filled = [Code::Bin; 5];
+    filled[..codes.len()].copy_from_slice(codes);
+    filled
 }

@@ -36,6 +36,7 @@ impl Model for Echo {
     ghost inverse = { λ parts. record { parts = parts } };
 }
 
+ghost use Rattle.std.specs.Prelude.{if◌then◌else◌};
 ghost use Rattle.std.specs.List.{list_all};
 ghost use Rattle.rx_fields.specs.Text.{is_printable};
 ghost use Rattle.rx_claim.specs.Echoed.{echo_of, blanked, blanked_parts, IsEcho};
@@ -91,10 +92,24 @@ fn all_printable(bytes: &[u8]) -> bool
 fn printable<const N: usize>(mut bytes: [u8; N]) -> [u8; N]
     ensures { result ≡ blanked bytes.entry }
 {
-    for byte in bytes.iter_mut() {
-        if *byte < b' ' || *byte > b'~' {
-            *byte = b' ';
-        }
-    }
+    blank_unprintable(&mut bytes);
     bytes
+}
+
+fn blank_unprintable(bytes: &mut [u8])
+    ensures { bytes.new ≡ blanked bytes.old }
+{
+    for byte in bytes.iter_mut() {
+        *byte = printable_or_blank(*byte);
+    }
+}
+
+fn printable_or_blank(byte: u8) -> u8
+    ensures { result ≡ (if is_printable byte then byte else 32) }
+{
+    if byte >= b' ' && byte <= b'~' {
+        byte
+    } else {
+        b' '
+    }
 }

@@ -53,7 +53,7 @@ impl Model for Transactions {
     ghost invariant = { λ a. AreTransactions a.items.items };
 }
 
-ghost use Rattle.std.specs.Prelude.{◌↔◌, ◌≤◌, IfOk, IfErr, IsOk, IsTrue, length, true};
+ghost use Rattle.std.specs.Prelude.{◌↔◌, IfOk, IfErr, IsOk, length, true};
 ghost use Rattle.std.specs.List.{list_any};
 ghost use Rattle.rx_claim.specs.Listed.{is_bill, is_reversal, are_transactions};
 
@@ -84,21 +84,6 @@ impl Transactions {
     {
         let items = Vec::from_slice(alloc, self.items.as_slice())?;
         Ok(Transactions { items })
-    }
-
-    /// Whether the lists are equal.
-    pub fn equals(&self, other: &Transactions) -> bool
-        ensures { IsTrue result ↔ (self.now ≡ other.now) }
-    {
-        if self.items.len() != other.items.len() {
-            return false;
-        }
-        for i in 0..self.items.len() {
-            if self.items[i] != other.items[i] {
-                return false;
-            }
-        }
-        true
     }
 }
 

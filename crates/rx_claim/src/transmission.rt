@@ -1,4 +1,4 @@
-ghost use Rattle.std.specs.Prelude.{◌≡◌, ◌↔◌, IfOk, IsTrue};
+ghost use Rattle.std.specs.Prelude.{◌≡◌, IfOk};
 
 use crate::codes::Codes;
 use crate::echo::Echo;
@@ -55,12 +55,6 @@ impl Heard {
             list,
         })
     }
-
-    fn equals(&self, other: &Heard) -> bool
-        ensures { IsTrue result ↔ (self.now ≡ other.now) }
-    {
-        self.provider == other.provider && self.date == other.date && self.list.equals(&other.list)
-    }
 }
 
 impl Body {
@@ -70,16 +64,6 @@ impl Body {
         match self {
             Body::Rejected(rejected) => Ok(Body::Rejected(*rejected)),
             Body::Heard(heard) => Ok(Body::Heard(heard.copy(alloc)?)),
-        }
-    }
-
-    fn equals(&self, other: &Body) -> bool
-        ensures { IsTrue result ↔ (self.now ≡ other.now) }
-    {
-        match (self, other) {
-            (Body::Rejected(a), Body::Rejected(b)) => a == b,
-            (Body::Heard(a), Body::Heard(b)) => a.equals(b),
-            _ => false,
         }
     }
 }
@@ -94,12 +78,5 @@ impl Transmission {
             echo: self.echo,
             body,
         })
-    }
-
-    /// Whether the transmissions are equal.
-    pub fn equals(&self, other: &Transmission) -> bool
-        ensures { IsTrue result ↔ (self.now ≡ other.now) }
-    {
-        self.echo == other.echo && self.body.equals(&other.body)
     }
 }
