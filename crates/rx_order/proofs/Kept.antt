@@ -1,12 +1,12 @@
 -- What keeps a list ascending, and what shows that one is.
-use Rattle.std.proofs.Common.{◌≡◌, ℕ, zero, suc, ◌-◌, ◌<◌, List, [], ◌∷◌, ◌++◌, length, get_or, take, drop, map, Bool, true, not, refl, ap, ◌∙◌, inl, inr, arith}
+use Rattle.std.proofs.Common.{◌≡◌, ℕ, zero, suc, ◌+◌, ◌-◌, ◌<◌, List, [], ◌∷◌, ◌++◌, length, get_or, take, drop, map, Bool, true, not, false, refl, sym, ap, ◌∙◌, inl, inr, arith}
 use Rattle.std.specs.Prelude.{◌&&◌}
-use Rattle.std.specs.List.{All, filter}
+use Rattle.std.specs.List.{All, AllAdjacentBelow, IsAllAdjacentAnswer, filter}
 use Rattle.std.specs.Cmp.{IsTotalOrder}
 use Rattle.std.specs.Ordering.{is_lt, Ordering-set}
 use Rattle.std.specs.declared.cmp.Ordering.{Ordering}
 use Rattle.std.specs.declared.cmp.Ordering.TheVariants.{Less}
-use Rattle.std.proofs.lemmas.Bool.{cases_Bool, and_parts, and_from, and_right}
+use Rattle.std.proofs.lemmas.Bool.{cases_Bool, and_parts, and_from, and_left, and_right}
 use Rattle.std.proofs.lemmas.List.Elements.{All-head, All-tail}
 use mathlib.Core.HLevel.{×_prop, Unit-prop}
 use Rattle.rx_order.specs.Ascending.{has_key, IsBelow, IsAscending, is_ascending, is_past, put, put_all, without}
@@ -126,6 +126,26 @@ module _ {X K : Type 0} (cmp : K → K → Ordering) (order : IsTotalOrder cmp) 
   is_ascending-from_fact [] a = refl
   is_ascending-from_fact (x ∷ []) a = refl
   is_ascending-from_fact (x ∷ y ∷ ys) a = and_from _ _ (ap is_lt a.0.0) (is_ascending-from_fact (y ∷ ys) a.1)
+
+  -- what a test of each two neighbours answers
+  pub is_ascending-neighbours : (xs : List X) (r : Bool) → IsAllAdjacentAnswer (λ x y b. b ≡ is_lt (cmp (key x) (key y))) xs r → r ≡ is_ascending cmp key xs
+  is_ascending-neighbours xs true each = sym (all_less xs each)
+    where
+      all_less : (ys : List X) → AllAdjacentBelow (λ x y. true ≡ is_lt (cmp (key x) (key y))) ys (length ys) → is_ascending cmp key ys ≡ true
+      all_less [] h = refl
+      all_less (x ∷ []) h = refl
+      all_less (x ∷ y ∷ ys) h = and_from _ _ (sym (h 0 x (omega arith))) (all_less (y ∷ ys) (λ k d l.
+          let place : suc k + 1 ≡ suc (k + 1) = omega arith in
+          rw place at (h (suc k) d (omega arith))))
+  is_ascending-neighbours xs false (k, in_range, not_less) = sym (one_not xs k in_range not_less)
+    where
+      one_not : (ys : List X) (i : ℕ) → i + 1 < length ys → ((d : X) → false ≡ is_lt (cmp (key (get_or ys i d)) (key (get_or ys (i + 1) d)))) → is_ascending cmp key ys ≡ false
+      one_not [] i l h = absurd (omega arith)
+      one_not (x ∷ []) i l h = absurd (omega arith)
+      one_not (x ∷ y ∷ ys) zero l h = and_left _ _ (sym (h x))
+      one_not (x ∷ y ∷ ys) (suc i) l h =
+          let place : suc i + 1 ≡ suc (i + 1) = omega arith in
+          and_right _ _ (one_not (y ∷ ys) i (omega arith) (λ d. rw place at (h d)))
 
   -- two proofs that a list ascends are one, so a ghost field may say it
   pub IsAscending-prop : (xs : List X) → IsProp (IsAscending cmp key xs)

@@ -1,40 +1,36 @@
 -- What a binary search finds in an ascending list, and what an edit at that place does.
-use Rattle.std.proofs.Common.{◌≡◌, ℕ, zero, suc, ◌+◌, ◌-◌, ◌<◌, ◌≤◌, ◌≢◌, List, [], ◌∷◌, length, get_or, set, Some, None, Result, Ok, Err, IfOk, IfErr, false, refl, sym, inl, inr, ap, subst, ◌∙◌, arith}
+use Rattle.std.proofs.Common.{◌≡◌, ℕ, zero, suc, ◌+◌, ◌-◌, ◌<◌, ◌≤◌, ◌≢◌, List, [], ◌∷◌, length, get_or, set, Some, None, Result, Ok, Err, IfOk, IfErr, true, false, refl, sym, inl, inr, ap, subst, ◌∙◌, arith}
+use Rattle.std.specs.Option.{is_some}
+use Rattle.std.specs.Result.{is_ok}
 use Rattle.std.specs.List.{insert, remove}
 use Rattle.std.specs.List.Sorted.{IsSearchInRange, IsBinarySearchResult}
 use Rattle.std.specs.Cmp.{IsTotalOrder}
 use Rattle.std.specs.Ordering.{is_lt, is_eq}
 use Rattle.std.specs.declared.cmp.Ordering.{Ordering}
 use Rattle.std.specs.declared.cmp.Ordering.TheVariants.{Less, Equal}
-use Rattle.std.proofs.lemmas.Bool.{cases_lt}
+use Rattle.std.proofs.lemmas.Bool.{cases_Bool, cases_lt}
 use Rattle.std.proofs.lemmas.Cmp.{alike_right, tied_back, tied_itself}
 use Rattle.std.proofs.lemmas.List.{get_or_default}
 use Rattle.std.proofs.lemmas.List.Sorted.{searchable_from_sorted}
-use Rattle.rx_order.specs.Ascending.{has_key, IsAscending, IsAt, IsGap, item_at, put, without}
+use Rattle.rx_order.specs.Ascending.{has_key, IsAscending, IsAt, IsGap, contains_key, item_at, put, without}
 use Rattle.rx_order.proofs.Keys.{Greater-from_Less, IsBelow-tied, without-below}
 use Rattle.rx_order.proofs.Kept.{IsAscending-at, IsAscending-put, IsAscending-without}
 
--- where a search by key ended: at the key, or at the gap for it
-pub record IsSearched {X K : Type 0} (cmp : K → K → Ordering) (key : X → K) (xs : List X) (k : K) (r : Result ℕ ℕ) : Type 0 where
-  pub found : IfOk r (IsAt cmp key xs k)
-  pub absent : IfErr r (IsGap cmp key xs k)
-
 module _ {X K : Type 0} (cmp : K → K → Ordering) (order : IsTotalOrder cmp) (key : X → K) where
   -- a binary search by key ends at the key, or at the gap for it
-  pub searched : (xs : List X) (k : K) (r : Result ℕ ℕ) → IsAscending cmp key xs → IsSearchInRange r (length xs) → IsBinarySearchResult (λ x. cmp (key x) k) xs r → IsSearched cmp key xs k r
-  searched xs k (Ok at) a in_range equal = record { found = record { in_range = in_range; has_it = equal }; absent = tt }
+  pub searched : (xs : List X) (k : K) (r : Result ℕ ℕ) → IsAscending cmp key xs → IsSearchInRange r (length xs) → IsBinarySearchResult (λ x. cmp (key x) k) xs r → IfOk r (IsAt cmp key xs k) × IfErr r (IsGap cmp key xs k)
+  searched xs k (Ok at) a in_range equal = (record { in_range = in_range; has_it = equal }, tt)
   searched xs k (Err at) a in_range parted =
       let down : (i : ℕ) (d : X) → 0 ≤ i → i + 1 < length xs → is_lt (cmp (key (get_or xs (i + 1) d)) (key (get_or xs i d))) ≡ false =
       λ i d low high. ap is_lt (Greater-from_Less cmp order key _ _ (IsAscending-at cmp order key xs i (i + 1) d a (omega arith) high)) in
-      let up = searchable_from_sorted order key xs k down in
-      record {
-        found = tt;
-        absent = record {
+      let up = searchable_from_sorted order key xs k down in (
+        tt,
+        record {
           in_range = in_range;
           before = λ j d lt. (parted up).0 j d (omega arith) lt;
           after = λ j d le lt. (parted up).1 j d le lt;
-        };
-      }
+        },
+      )
 
   -- ---- the gap for a key
 
@@ -106,6 +102,22 @@ module _ {X K : Type 0} (cmp : K → K → Ordering) (order : IsTotalOrder cmp) 
   item_at-at (x ∷ xs) k zero d a is_at = rw (is_at.has_it d) refl
   item_at-at (x ∷ xs) k (suc i) d a is_at =
       rw (has_key-elsewhere (x ∷ xs) k (suc i) a is_at 0 d (omega arith) (omega arith)) (item_at-at xs k i d a.1 (IsAt-next x xs k i is_at))
+
+  pub contains_key-at : (xs : List X) (k : K) (i : ℕ) → IsAt cmp key xs k i → contains_key cmp key xs k ≡ true
+  contains_key-at [] k i is_at = absurd (omega (arith, is_at.in_range))
+  contains_key-at (x ∷ xs) k zero is_at = rw (is_at.has_it x) refl
+  contains_key-at (x ∷ xs) k (suc i) is_at = elim (cases_Bool (has_key cmp key k x)) [
+    | inl here ↦ rw here
+    | inr other ↦ rw other (contains_key-at xs k i (IsAt-next x xs k i is_at))
+  ]
+
+  pub contains_key-gap : (xs : List X) (k : K) (i : ℕ) → IsGap cmp key xs k i → contains_key cmp key xs k ≡ false
+  contains_key-gap xs k i gap = ap is_some (item_at-gap xs k i gap)
+
+  -- a search tells whether an item has the key
+  pub contains_key-searched : (xs : List X) (k : K) (r : Result ℕ ℕ) → IfOk r (IsAt cmp key xs k) → IfErr r (IsGap cmp key xs k) → is_ok r ≡ contains_key cmp key xs k
+  contains_key-searched xs k (Ok at) found absent = sym (contains_key-at xs k at found)
+  contains_key-searched xs k (Err at) found absent = sym (contains_key-gap xs k at absent)
 
   -- a removal at the key's place is the list without the key
   pub remove-at : (xs : List X) (k : K) (i : ℕ) → IsAscending cmp key xs → IsAt cmp key xs k i → remove xs i ≡ without cmp key xs k
