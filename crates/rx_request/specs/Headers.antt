@@ -6,8 +6,8 @@ use Rattle.rx_claim.specs.declared.echo.EchoParts.{EchoParts}
 use Rattle.rx_request.specs.declared.header.Header.{Header}
 
 -- the first 56 bytes, missing ones blanks
-unfoldable pub front : List ℕ → List ℕ
-front bytes = take 56 bytes ++ replicate (56 - length bytes) 32
+unfoldable pub header_bytes : List ℕ → List ℕ
+header_bytes bytes = take 56 bytes ++ replicate (56 - length bytes) 32
 
 -- its fields, by their lengths 6, 2, 2, 10, 1, 2, 15 and 8; the last 10 bytes, the software vendor's id, are not looked at
 unfoldable pub header_of : List ℕ → Header
@@ -25,7 +25,7 @@ header_of h =
 
 -- the 56 bytes are there, and each is printable
 unfoldable pub is_clean : List ℕ → Bool
-is_clean bytes = nat_le 56 (length bytes) && list_all is_printable (front bytes)
+is_clean bytes = nat_le 56 (length bytes) && list_all is_printable (header_bytes bytes)
 
 -- what a reply repeats
 abbrev pub echo_parts : Header → EchoParts

@@ -1,5 +1,5 @@
 -- What a request transmission is, for every byte string (docs/FORMATS.md, "Request transmission").
-use Rattle.std.specs.Prelude.{ℕ, ◌&&◌, is_some, min, max, if◌then◌else◌, List, [], length, drop, map, Option, None, unwrap_or, codes}
+use Rattle.std.specs.Prelude.{ℕ, Bool, ◌&&◌, is_some, min, max, if◌then◌else◌, List, [], ◌∷◌, length, drop, map, Option, None, unwrap_or, codes}
 use Rattle.rx_fields.specs.declared.code.Code.{Code}
 use Rattle.rx_fields.specs.declared.door.Door.{Door}
 use Rattle.rx_fields.specs.Calendar.{civil_of}
@@ -11,7 +11,7 @@ use Rattle.rx_claim.specs.Echoed.{blanked_parts}
 use Rattle.rx_request.specs.Bills.{transaction}
 use Rattle.rx_request.specs.Codes.{is_faulty, first_five, header_conditions}
 use Rattle.rx_request.specs.Cut.{same, cut, further}
-use Rattle.rx_request.specs.Headers.{front, header_of, is_clean, echo_parts}
+use Rattle.rx_request.specs.Headers.{header_bytes, header_of, is_clean, echo_parts}
 use Rattle.rx_request.specs.Known.{InsuranceTexts, common_of, group_of}
 use Rattle.rx_request.specs.Values.{provider_in, date_in}
 
@@ -33,12 +33,12 @@ groups bytes = further (parts bytes)
 
 abbrev pub conditions : Door → List ℕ → List (Code × Bool)
 conditions door bytes =
-    header_conditions door (header_of (front bytes)) (is_clean bytes && is_some (common bytes)) (length (groups bytes))
+    header_conditions door (header_of (header_bytes bytes)) (is_clean bytes && is_some (common bytes)) (length (groups bytes))
 
 -- the header is heard where no condition holds
 unfoldable pub body : Door → List ℕ → Body
 body door bytes =
-    let h = header_of (front bytes) in
+    let h = header_of (header_bytes bytes) in
     let insurance : InsuranceTexts = unwrap_or (common bytes) (record { cardholder = None; person = None }) in
     if is_faulty (conditions door bytes)
     then Rejected (record { codes = first_five (conditions door bytes); groups = max 1 (min (length (groups bytes)) 4) })
@@ -51,4 +51,4 @@ body door bytes =
 -- the transmission of a byte string, at a plan's door
 unfoldable pub transmission_of : Door → List ℕ → Transmission
 transmission_of door bytes =
-    record { echo = blanked_parts (echo_parts (header_of (front bytes))); body = body door bytes }
+    record { echo = blanked_parts (echo_parts (header_of (header_bytes bytes))); body = body door bytes }

@@ -35,6 +35,7 @@ struct Charges {
     gross_amount: Option<Cents>,
 }
 
+#[tactic(auto, unfolding(crate::specs::Codes::is_faulty, crate::specs::Steps::patient_parts))]
 fn patient_read(common: &Insurance) -> Option<Patient>
     ensures { result
         ≡ (if is_faulty (patient_conditions (insurance_texts common.now)) then None
@@ -46,6 +47,7 @@ fn patient_read(common: &Insurance) -> Option<Patient>
 }
 
 // What is dispensed, on which prescription. None: a condition of a reversal holds.
+#[tactic(auto, unfolding(crate::specs::Codes::is_faulty, crate::specs::Bills::reversal_parts))]
 fn fill_read(claim: &Claim) -> Option<Reversal>
     ensures { result
         ≡ (if is_faulty (reversal_conditions (claim_texts claim.now)) then None
@@ -62,6 +64,7 @@ fn fill_read(claim: &Claim) -> Option<Reversal>
     }
 }
 
+#[tactic(auto, unfolding(crate::specs::Codes::is_faulty, crate::specs::Steps::supply_parts))]
 fn supply_read(claim: &Claim) -> Option<Supply>
     ensures { result
         ≡ (if is_faulty (supply_conditions (claim_texts claim.now)) then None
@@ -76,6 +79,7 @@ fn supply_read(claim: &Claim) -> Option<Supply>
     }
 }
 
+#[tactic(auto, unfolding(crate::specs::Codes::is_faulty, crate::specs::Steps::charge_parts))]
 fn charges_read(pricing: &Pricing) -> Option<Charges>
     ensures { result
         ≡ (if is_faulty (charge_conditions (pricing_texts pricing.now)) then None
@@ -120,6 +124,7 @@ fn well_formed(common: &Insurance, group: &Group) -> Option<Bill>
     })
 }
 
+#[tactic(auto, unfolding(crate::specs::Bills::billing))]
 fn billing(alloc: Global, common: &Insurance, group: &Group) -> Result<Transaction, Memory>
     ensures { IfOk result (λ t. t ≡ billing (insurance_texts common.now) (group_texts group.now)) }
 {
@@ -133,6 +138,7 @@ fn billing(alloc: Global, common: &Insurance, group: &Group) -> Result<Transacti
     }))
 }
 
+#[tactic(auto, unfolding(crate::specs::Bills::reversal))]
 fn reversal(alloc: Global, claim: &Claim) -> Result<Transaction, Memory>
     ensures { IfOk result (λ t. t ≡ reversal (claim_texts claim.now)) }
 {

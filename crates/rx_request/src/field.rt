@@ -1,8 +1,8 @@
-ghost use Rattle.std.specs.Prelude.{◌≡◌, ◌&&◌, if◌then◌else◌, length, take, drop, option_map, Some, None};
+ghost use Rattle.std.specs.Prelude.{◌≡◌, length, map, option_map, None};
 ghost use Rattle.rx_fields.specs.Text.{trimmed};
-ghost use Rattle.rx_request.specs.Cut.{field_of, fields, has_id, is_name};
-ghost use Rattle.rx_request.specs.Known.{field, fields_in};
-ghost use Rattle.rx_request.specs.Slots.{texts_of, text_of, all_of, put};
+ghost use Rattle.rx_request.specs.Cut.{field_of};
+ghost use Rattle.rx_request.specs.Known.{field};
+ghost use Rattle.rx_request.specs.Slots.{texts_of, text_of, all_of, put, put_field};
 
 use crate::piece::{FS, Pieces};
 
@@ -29,7 +29,7 @@ pub(crate) fn put<'a>(
     ensures { option_map (λ _. texts_of slots.new) result ≡ put keys.now key text.entry.now (texts_of slots.old) }
 {
     for (at, known) in keys.iter().enumerate() {
-        if *known == key {
+        if key == *known {
             if slots[at].is_some() {
                 return None;
             }
@@ -39,36 +39,54 @@ pub(crate) fn put<'a>(
     Some(())
 }
 
-// The values of a segment under these ids. None: an id has two.
-fn values_of<'a, const N: usize>(
-    segment: &'a [u8],
-    ids: &[[u8; 2]; N],
-) -> Option<[Option<&'a [u8]>; N]>
-    ensures { option_map texts_of result ≡ all_of (λ id. field id (Some segment.entry.now)) ids.now }
+// Puts the value of a field into the slot of its id, where it has a value. None: the slot is taken.
+fn put_field<'a>(
+    slots: &mut [Option<&'a [u8]>],
+    ids: &[[u8; 2]],
+    piece: &'a [u8],
+) -> Option<()>
+    requires { length slots.old ≡ length ids.now }
+    ensures { option_map (λ _. texts_of slots.new) result ≡ put_field ids.now (field_of piece.entry.now) (texts_of slots.old) }
 {
-    let mut values = [None; N];
+    if piece.len() < 2 {
+        return Some(());
+    }
+    let (id, value) = piece.split_at(2);
+    let value = trimmed(value);
+    if value.is_empty() {
+        return Some(());
+    }
+    put(slots, ids, [id[0], id[1]], value)
+}
+
+// Puts the values of a segment under these ids into their slots. None: an id has two.
+fn put_fields<'a>(
+    slots: &mut [Option<&'a [u8]>],
+    ids: &[[u8; 2]],
+    segment: &'a [u8],
+) -> Option<()>
+    requires { texts_of slots.old ≡ map (λ _. None) ids.now }
+    ensures { option_map (λ _. texts_of slots.new) result ≡ all_of (λ id. field id (Some segment.entry.now)) ids.now }
+{
     let mut pieces = Pieces::new(segment, FS);
     let _front = pieces.next();
     while let Some(piece) = pieces.next() {
-        if let [a, b, value @ ..] = piece {
-            let value = trimmed(value);
-            if !value.is_empty() {
-                put(&mut values, ids, [*a, *b], value)?;
-            }
-        }
+        put_field(slots, ids, piece)?;
     }
-    Some(values)
+    Some(())
 }
 
-/// The values under these ids; none where the segment is absent. None: an id has two.
-pub(crate) fn values_in<'a, const N: usize>(
+/// Puts the values under these ids into their slots; there are none where the segment is absent. None: an id has two.
+pub(crate) fn put_values<'a>(
+    slots: &mut [Option<&'a [u8]>],
+    ids: &[[u8; 2]],
     segment: Option<&'a [u8]>,
-    ids: &[[u8; 2]; N],
-) -> Option<[Option<&'a [u8]>; N]>
-    ensures { option_map texts_of result ≡ all_of (λ id. field id (text_of segment.entry)) ids.now }
+) -> Option<()>
+    requires { texts_of slots.old ≡ map (λ _. None) ids.now }
+    ensures { option_map (λ _. texts_of slots.new) result ≡ all_of (λ id. field id (text_of segment.entry)) ids.now }
 {
     match segment {
-        Some(segment) => values_of(segment, ids),
-        None => Some([None; N]),
+        Some(segment) => put_fields(slots, ids, segment),
+        None => Some(()),
     }
 }

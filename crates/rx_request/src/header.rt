@@ -1,6 +1,8 @@
-ghost use Rattle.std.specs.Prelude.{◌≡◌, ◌+◌, ◌≤◌, drop, slice_range};
+ghost use Rattle.std.specs.Prelude.{◌≡◌, ◌+◌, ◌≤◌, ◌-◌, ◌++◌, length, replicate, drop, slice_range};
+ghost use Rattle.std.specs.List.{list_all};
+ghost use Rattle.rx_fields.specs.Text.{is_printable};
 ghost use Rattle.rx_claim.specs.Echoed.{blanked_parts};
-ghost use Rattle.rx_request.specs.Headers.{front, header_of, is_clean, echo_parts};
+ghost use Rattle.rx_request.specs.Headers.{header_bytes, header_of, is_clean, echo_parts};
 
 use rx_claim::{Echo, EchoParts};
 
@@ -20,14 +22,26 @@ pub(crate) struct Header {
     pub(crate) date: [u8; 8],
 }
 
-/// The first 56 bytes, missing ones blanks.
-pub(crate) fn front(bytes: &[u8]) -> [u8; 56]
-    ensures { result ≡ front bytes.now }
+// The text, and blanks up to N bytes.
+fn padded<const N: usize>(text: &[u8]) -> [u8; N]
+    requires { length text.now ≤ N }
+    ensures { result ≡ text.now ++ replicate (N - length text.now) 32 }
 {
-    let mut front = [b' '; 56];
-    let given = bytes.len().min(LENGTH);
-    front[..given].copy_from_slice(&bytes[..given]);
-    front
+    let mut bytes = [b' '; N];
+    bytes[..text.len()].copy_from_slice(text);
+    bytes
+}
+
+/// The first 56 bytes, missing ones blanks.
+#[tactic(auto, unfolding(crate::specs::Headers::header_bytes))]
+pub(crate) fn header_bytes(bytes: &[u8]) -> [u8; 56]
+    ensures { result ≡ header_bytes bytes.now }
+{
+    if bytes.len() < LENGTH {
+        padded(bytes)
+    } else {
+        padded(&bytes[..LENGTH])
+    }
 }
 
 // The N bytes from a place on.
@@ -44,11 +58,16 @@ fn bytes_at<const N: usize>(front: &[u8; 56], at: usize) -> [u8; N]
 pub(crate) fn after_header(bytes: &[u8]) -> &[u8]
     ensures { result.now ≡ drop 56 bytes.now }
 {
-    &bytes[bytes.len().min(LENGTH)..]
+    if bytes.len() < LENGTH {
+        &[]
+    } else {
+        &bytes[LENGTH..]
+    }
 }
 
 impl Header {
     /// The fields of these bytes.
+    #[tactic(auto, unfolding(crate::specs::Headers::header_of))]
     pub(crate) fn new(front: &[u8; 56]) -> Header
         ensures { result ≡ header_of front.now }
     {
@@ -78,10 +97,17 @@ impl Header {
     }
 }
 
+fn all_printable(bytes: &[u8]) -> bool
+    ensures { result ≡ list_all is_printable bytes.now }
+{
+    bytes.iter().all(|b| *b >= b' ' && *b <= b'~')
+}
+
 /// Whether the 56 bytes are there, and printable.
+#[tactic(auto, unfolding(crate::specs::Headers::is_clean))]
 pub(crate) fn is_clean(bytes: &[u8], front: &[u8; 56]) -> bool
-    requires { front.now ≡ front bytes.now }
+    requires { front.now ≡ header_bytes bytes.now }
     ensures { result ≡ is_clean bytes.now }
 {
-    bytes.len() >= LENGTH && front.iter().all(|b| *b >= b' ' && *b <= b'~')
+    bytes.len() >= LENGTH && all_printable(front)
 }

@@ -3,8 +3,8 @@ ghost use Rattle.rx_request.specs.Known.{insurance_of, claim_of, pricing_of, com
 ghost use Rattle.rx_request.specs.Slots.{text_of};
 ghost use Rattle.rx_request.specs.Views.{insurance_texts, claim_texts, pricing_texts, group_texts};
 
-use crate::field::values_in;
-use crate::part::segments_of;
+use crate::field::put_values;
+use crate::part::put_segments;
 
 /// The values of segment 04, insurance.
 #[derive(Clone, Copy, Debug)]
@@ -45,7 +45,9 @@ pub(crate) struct Group<'a> {
 fn insurance_read<'a>(segment: Option<&'a [u8]>) -> Option<Insurance<'a>>
     ensures { option_map insurance_texts result ≡ insurance_of (text_of segment.entry) }
 {
-    let [_, cardholder, person] = values_in(segment, &[*b"AM", *b"C2", *b"C3"])?;
+    let mut slots = [None; 3];
+    put_values(&mut slots, &[*b"AM", *b"C2", *b"C3"], segment)?;
+    let [_, cardholder, person] = slots;
     Some(Insurance { cardholder, person })
 }
 
@@ -55,6 +57,8 @@ fn claim_read<'a>(segment: Option<&'a [u8]>) -> Option<Claim<'a>>
     let ids = [
         *b"AM", *b"EM", *b"D2", *b"E1", *b"D7", *b"E7", *b"D5", *b"D6", *b"C8",
     ];
+    let mut slots = [None; 9];
+    put_values(&mut slots, &ids, segment)?;
     let [
         _,
         reference_qualifier,
@@ -65,7 +69,7 @@ fn claim_read<'a>(segment: Option<&'a [u8]>) -> Option<Claim<'a>>
         days,
         compound,
         other_coverage,
-    ] = values_in(segment, &ids)?;
+    ] = slots;
     Some(Claim {
         reference_qualifier,
         reference,
@@ -81,8 +85,9 @@ fn claim_read<'a>(segment: Option<&'a [u8]>) -> Option<Claim<'a>>
 fn pricing_read<'a>(segment: Option<&'a [u8]>) -> Option<Pricing<'a>>
     ensures { option_map pricing_texts result ≡ pricing_of (text_of segment.entry) }
 {
-    let ids = [*b"AM", *b"D9", *b"DC", *b"DQ", *b"DU"];
-    let [_, ingredient_cost, dispensing_fee, usual_charge, gross_amount] = values_in(segment, &ids)?;
+    let mut slots = [None; 5];
+    put_values(&mut slots, &[*b"AM", *b"D9", *b"DC", *b"DQ", *b"DU"], segment)?;
+    let [_, ingredient_cost, dispensing_fee, usual_charge, gross_amount] = slots;
     Some(Pricing {
         ingredient_cost,
         dispensing_fee,
@@ -95,7 +100,9 @@ fn pricing_read<'a>(segment: Option<&'a [u8]>) -> Option<Pricing<'a>>
 pub(crate) fn common_read<'a>(part: &'a [u8]) -> Option<Insurance<'a>>
     ensures { option_map insurance_texts result ≡ common_of part.entry.now }
 {
-    let [segment] = segments_of(part, &[*b"04"])?;
+    let mut slots = [None; 1];
+    put_segments(&mut slots, &[*b"04"], part)?;
+    let [segment] = slots;
     insurance_read(segment)
 }
 
@@ -103,7 +110,9 @@ pub(crate) fn common_read<'a>(part: &'a [u8]) -> Option<Insurance<'a>>
 pub(crate) fn group_read<'a>(part: &'a [u8]) -> Option<Group<'a>>
     ensures { option_map group_texts result ≡ group_of part.entry.now }
 {
-    let [claim_segment, pricing_segment] = segments_of(part, &[*b"07", *b"11"])?;
+    let mut slots = [None; 2];
+    put_segments(&mut slots, &[*b"07", *b"11"], part)?;
+    let [claim_segment, pricing_segment] = slots;
     let claim = claim_read(claim_segment)?;
     let pricing = pricing_read(pricing_segment)?;
     Some(Group { claim, pricing })

@@ -26,8 +26,8 @@ impl<'a> Model for Pieces<'a> {
     ghost view = { λ p. pieces_left p.separator p.rest };
 }
 
-ghost use Rattle.std.specs.Prelude.{◌∷◌, [], MatchOption};
-ghost use Rattle.rx_request.specs.Cut.{cut};
+ghost use Rattle.std.specs.Prelude.{◌∷◌, [], if◌then◌else◌, MatchOption, None, Some};
+ghost use Rattle.rx_request.specs.Cut.{cut, begins_empty, further};
 
 impl<'a> Pieces<'a> {
     /// All pieces of a text.
@@ -40,9 +40,20 @@ impl<'a> Pieces<'a> {
         }
     }
 
+    /// The pieces after the first separator. None: there are bytes before it.
+    pub(crate) fn after_first(text: &'a [u8], separator: u8) -> Option<Pieces<'a>>
+        ensures { result
+            ≡ (if begins_empty (cut separator text.now) then Some (further (cut separator text.now)) else None) }
+    {
+        let mut pieces = Pieces::new(text, separator);
+        let front = pieces.next()?;
+        if front.is_empty() { Some(pieces) } else { None }
+    }
+
     /// The next piece.
     pub(crate) fn next(&mut self) -> Option<&'a [u8]>
-        ensures { MatchOption result (self.old ≡ []) (λ piece. self.old ≡ piece.now ∷ self.new) }
+        ensures value { MatchOption result (self.old ≡ []) (λ piece. self.old ≡ piece.now ∷ self.new) }
+        ensures rest { self.new ≡ further self.old }
     {
         let text = self.rest?;
         match memchr(self.separator, text) {

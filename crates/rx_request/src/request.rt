@@ -1,9 +1,9 @@
-ghost use Rattle.std.specs.Prelude.{◌≡◌, ◌&&◌, if◌then◌else◌, IfOk, length, min, max, true, map, option_map, is_some, None, Some};
+ghost use Rattle.std.specs.Prelude.{◌≡◌, ◌==◌, ◌&&◌, count_by, if◌then◌else◌, IfOk, length, min, max, true, map, option_map, is_some, None, Some};
 ghost use Rattle.rx_claim.specs.Listed.{is_few};
 ghost use Rattle.rx_request.specs.Bills.{transaction};
 ghost use Rattle.rx_request.specs.Codes.{is_faulty, header_conditions};
 ghost use Rattle.rx_request.specs.Cut.{cut, further};
-ghost use Rattle.rx_request.specs.Headers.{front, header_of};
+ghost use Rattle.rx_request.specs.Headers.{header_bytes, header_of};
 ghost use Rattle.rx_request.specs.Known.{group_of};
 ghost use Rattle.rx_request.specs.Request.{transmission_of, body};
 ghost use Rattle.rx_request.specs.Steps.{is_addressed, opening_parts};
@@ -11,12 +11,12 @@ ghost use Rattle.rx_request.specs.Views.{insurance_texts, opening_view};
 
 use crate::bill::transaction;
 use crate::codes::{first_five, header_conditions, is_count};
-use crate::header::{Header, after_header, front, is_clean};
+use crate::header::{Header, after_header, header_bytes, is_clean};
 use crate::known::{Insurance, common_read};
 use crate::piece::{GS, Pieces};
 use crate::value;
 use rx_claim::{Body, Heard, Rejected, Transaction, Transactions, Transmission};
-use rx_fields::{Count, Day, Door, Memory, Provider};
+use rx_fields::{Bounded, Count, Day, Door, Memory, Provider};
 use std::alloc::Global;
 
 // What a header without codes opens.
@@ -28,15 +28,21 @@ struct Opening<'a> {
     common: Insurance<'a>,
 }
 
+fn count_of(wanted: u8, bytes: &[u8]) -> usize
+    ensures { result ≡ count_by (λ byte. byte == wanted) bytes.now }
+{
+    bytes.iter().filter(|byte| **byte == wanted).count()
+}
+
 // How many groups there are: one per separator.
 fn count_groups(rest: &[u8]) -> usize
     ensures { result ≡ length (further (cut 29 rest.now)) }
 {
-    rest.iter().filter(|byte| **byte == GS).count()
+    count_of(GS, rest)
 }
 
 // How many answers a rejected header has: the groups, at least 1 and at most 4.
-fn answers(groups: usize) -> Count
+fn answers(groups: usize) -> Bounded<1, 4>
     ensures { result ≡ max 1 (min groups 4) }
 {
     match Count::new(groups.clamp(1, 4) as u64) {
@@ -46,6 +52,7 @@ fn answers(groups: usize) -> Count
 }
 
 // None: a condition of a header holds.
+#[tactic(auto, unfolding(crate::specs::Codes::is_faulty, crate::specs::Steps::opening_parts))]
 fn opening_read<'a>(
     door: &Door,
     header: &Header,
@@ -90,7 +97,7 @@ fn transactions(
     mut pieces: Pieces<'_>,
     groups: usize,
 ) -> Result<Transactions, Memory>
-    requires { is_few (length pieces.entry) ≡ true }
+    requires { is_few (length pieces) ≡ true }
     ensures { IfOk result
         (λ list. list ≡ map (λ group. transaction is_billing (insurance_texts common.now) (group_of group)) pieces.entry) }
 {
@@ -105,7 +112,7 @@ fn transactions(
 }
 
 fn body(alloc: Global, door: &Door, bytes: &[u8], front: &[u8; 56], header: &Header) -> Result<Body, Memory>
-    requires front { front.now ≡ front bytes.now }
+    requires front { front.now ≡ header_bytes bytes.now }
     requires header { header.now ≡ header_of front.now }
     ensures { IfOk result (λ b. b ≡ body door.now bytes.now) }
 {
@@ -136,10 +143,11 @@ fn body(alloc: Global, door: &Door, bytes: &[u8], front: &[u8; 56], header: &Hea
 /// # Errors
 ///
 /// `Memory` where a growth was refused.
+#[tactic(auto, unfolding(crate::specs::Request::transmission_of))]
 pub fn decode(alloc: Global, door: &Door, bytes: &[u8]) -> Result<Transmission, Memory>
     ensures { IfOk result (λ t. t ≡ transmission_of door.now bytes.now) }
 {
-    let front = front(bytes);
+    let front = header_bytes(bytes);
     let header = Header::new(&front);
     let body = body(alloc, door, bytes, &front, &header)?;
     Ok(Transmission {

@@ -1,0 +1,6 @@
+pub mod Cuts
+pub mod Counts
+pub mod Puts
+pub mod Runs
+pub mod Fields
+pub mod Names
