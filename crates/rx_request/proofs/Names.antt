@@ -56,3 +56,38 @@ pub put_by_name : (is_cut : Bool) (name given : Option (List ℕ)) (names : List
     → cond is_cut (put_named names name text slots) None ≡ put_named names given text slots
 put_by_name true name given names text slots e = let same_name : name ≡ given = cc in ap (λ n. put_named names n text slots) same_name
 put_by_name false name given names text slots e = absurd cc
+
+-- ---- a segment that was opened, or that has bytes in front
+
+pub closed : {A : Type 0} (begins : Bool) (rest : List (List ℕ)) (o : Option A) → None ≡ cond begins (Some rest) None → None ≡ cond begins o None
+closed true rest o e = absurd cc
+closed false rest o e = refl
+
+pub opened : {A : Type 0} (begins : Bool) (rest pieces : List (List ℕ)) (o : Option A) → Some pieces ≡ cond begins (Some rest) None → o ≡ cond begins o None
+opened true rest pieces o e = refl
+opened false rest pieces o e = absurd cc
+
+pub opened_rest : (begins : Bool) (rest pieces : List (List ℕ)) → Some pieces ≡ cond begins (Some rest) None → pieces ≡ rest
+opened_rest true rest pieces e = cc
+opened_rest false rest pieces e = absurd cc
+
+none_either : (b : Bool) (name : Option (List ℕ)) → name ≡ None → cond b (name_known name) None ≡ None
+none_either true name e = rw e refl
+none_either false name e = refl
+
+-- the first piece that isn't empty gives no name
+pub named_nothing : (left pieces : List (List ℕ)) (piece : List ℕ) (total : Option (Option (List ℕ))) → pieces ≡ piece ∷ left → is_nonempty piece ≡ true
+    → None ≡ cond (has_id piece && is_name (field_of piece)) (Some (field_of piece).value) None
+    → named_by pieces ≡ total → None ≡ total
+named_nothing left pieces piece total e full name_is so_far =
+    let first = named_first left piece None (list_all has_id (filter is_nonempty left)) full name_is refl in
+    sym (none_either (list_all has_id (filter is_nonempty left)) None refl) ∙ (sym first ∙ (ap named_by (sym e) ∙ so_far))
+
+-- the first piece that isn't empty gives this name
+pub named_name : (left pieces : List (List ℕ)) (piece name : List ℕ) (are_fields : Bool) (total : Option (Option (List ℕ))) → pieces ≡ piece ∷ left → is_nonempty piece ≡ true
+    → Some name ≡ cond (has_id piece && is_name (field_of piece)) (Some (field_of piece).value) None
+    → are_fields ≡ list_all has_id (filter is_nonempty left)
+    → named_by pieces ≡ total → cond are_fields (Some (Some name)) None ≡ total
+named_name left pieces piece name are_fields total e full name_is all so_far =
+    let first = named_first left piece (Some name) are_fields full name_is all in
+    sym first ∙ (ap named_by (sym e) ∙ so_far)
