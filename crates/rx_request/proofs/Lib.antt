@@ -4,3 +4,4 @@ pub mod Puts
 pub mod Runs
 pub mod Fields
 pub mod Names
+pub mod Tables
