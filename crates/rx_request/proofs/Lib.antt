@@ -5,3 +5,4 @@ pub mod Runs
 pub mod Fields
 pub mod Names
 pub mod Tables
+pub mod Faults

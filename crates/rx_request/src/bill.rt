@@ -1,4 +1,4 @@
-ghost use Rattle.std.specs.Prelude.{◌≡◌, if◌then◌else◌, IfOk, option_map, None, Some};
+ghost use Rattle.std.specs.Prelude.{◌≡◌, if◌then◌else◌, None, Some};
 ghost use Rattle.rx_request.specs.Bills.{bill_parts, reversal_parts, billing, reversal, transaction};
 ghost use Rattle.rx_request.specs.Codes.{is_faulty, bill_conditions, reversal_conditions};
 ghost use Rattle.rx_request.specs.Steps.{patient_conditions, patient_parts, supply_conditions, supply_parts, charge_conditions, charge_parts};
@@ -9,8 +9,7 @@ use crate::codes::{bill_conditions, first_five, has_no_charge, reversal_conditio
 use crate::known::{Claim, Group, Insurance, Pricing, group_read};
 use crate::value;
 use rx_claim::{Bill, BillParts, Codes, Faulty, Reversal, Transaction};
-use rx_fields::{Cents, Code, Days, Id, Memory, Person, Quantity};
-use std::alloc::Global;
+use rx_fields::{Cents, Code, Days, Id, Person, Quantity};
 
 // Who is billed.
 #[derive(Clone, Copy)]
@@ -125,51 +124,44 @@ fn well_formed(common: &Insurance, group: &Group) -> Option<Bill>
 }
 
 #[tactic(auto, unfolding(crate::specs::Bills::billing))]
-fn billing(alloc: Global, common: &Insurance, group: &Group) -> Result<Transaction, Memory>
-    ensures { IfOk result (λ t. t ≡ billing (insurance_texts common.now) (group_texts group.now)) }
+fn billing(common: &Insurance, group: &Group) -> Transaction
+    ensures { result ≡ billing (insurance_texts common.now) (group_texts group.now) }
 {
     if let Some(bill) = well_formed(common, group) {
-        return Ok(Transaction::Bill(bill));
+        return Transaction::Bill(bill);
     }
-    let codes = first_five(alloc, &bill_conditions(common, group))?;
-    Ok(Transaction::Faulty(Faulty {
-        codes,
+    Transaction::Faulty(Faulty {
+        codes: first_five(&bill_conditions(common, group)),
         reference: value::reference(group.claim.reference),
-    }))
+    })
 }
 
 #[tactic(auto, unfolding(crate::specs::Bills::reversal))]
-fn reversal(alloc: Global, claim: &Claim) -> Result<Transaction, Memory>
-    ensures { IfOk result (λ t. t ≡ reversal (claim_texts claim.now)) }
+fn reversal(claim: &Claim) -> Transaction
+    ensures { result ≡ reversal (claim_texts claim.now) }
 {
     if let Some(reversal) = fill_read(claim) {
-        return Ok(Transaction::Reverse(reversal));
+        return Transaction::Reverse(reversal);
     }
-    let codes = first_five(alloc, &reversal_conditions(claim))?;
-    Ok(Transaction::Faulty(Faulty {
-        codes,
+    Transaction::Faulty(Faulty {
+        codes: first_five(&reversal_conditions(claim)),
         reference: value::reference(claim.reference),
-    }))
+    })
 }
 
 /// The transaction of a group.
-pub(crate) fn transaction(
-    alloc: Global,
-    is_billing: bool,
-    common: &Insurance,
-    group: &[u8],
-) -> Result<Transaction, Memory>
-    ensures { IfOk result (λ t. t ≡ transaction is_billing (insurance_texts common.now) (group_of group.now)) }
+pub(crate) fn transaction(is_billing: bool, common: &Insurance, group: &[u8]) -> Transaction
+    ensures { result ≡ transaction is_billing (insurance_texts common.now) (group_of group.now) }
 {
     let Some(group) = group_read(group) else {
-        return Ok(Transaction::Faulty(Faulty {
+        return Transaction::Faulty(Faulty {
             codes: Codes::one(Code::Syntax),
             reference: None,
-        }));
+        });
     };
     if is_billing {
-        billing(alloc, common, &group)
+        billing(common, &group)
     } else {
-        reversal(alloc, &group.claim)
+        reversal(&group.claim)
     }
 }

@@ -1,4 +1,4 @@
-ghost use Rattle.std.specs.Prelude.{◌≡◌, ◌&&◌, ◌+◌, ◌==◌, IfOk, true};
+ghost use Rattle.std.specs.Prelude.{◌≡◌, ◌&&◌, ◌+◌, ◌==◌, true};
 ghost use Rattle.rx_request.specs.Codes.{is_faulty, first_five, is_count, has_no_charge, header_conditions, bill_conditions, reversal_conditions};
 ghost use Rattle.rx_request.specs.Views.{insurance_texts, claim_texts, group_texts, pricing_texts};
 
@@ -6,23 +6,23 @@ use crate::header::Header;
 use crate::known::{Claim, Group, Insurance, Pricing};
 use crate::value;
 use rx_claim::Codes;
-use rx_fields::{Code, Door, Memory};
-use std::alloc::Global;
+use rx_fields::{Code, Door};
 
 /// The codes whose condition holds, the first five.
-#[tactic(auto, unfolding(crate::specs::Codes::first_five, crate::specs::Codes::is_faulty))]
-pub(crate) fn first_five(alloc: Global, rows: &[(Code, bool)]) -> Result<Codes, Memory>
+pub(crate) fn first_five(rows: &[(Code, bool)]) -> Codes
     requires { is_faulty rows.now ≡ true }
-    ensures { IfOk result (λ codes. codes ≡ first_five rows.now) }
+    ensures { result ≡ first_five rows.now }
 {
-    let codes: Vec<Code> = rows
-        .iter()
-        .filter(|row| row.1)
-        .map(|row| row.0)
-        .take(5)
-        .collect(alloc)?;
-    match Codes::new(&codes) {
-        Some(codes) => Ok(codes),
+    let mut codes = [Code::Syntax; 5];
+    let mut count = 0;
+    for row in rows {
+        if row.1 && count < 5 {
+            codes[count] = row.0;
+            count += 1;
+        }
+    }
+    match Codes::new(&codes[..count]) {
+        Some(codes) => codes,
         None => unreachable!(),
     }
 }

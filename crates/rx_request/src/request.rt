@@ -16,7 +16,7 @@ use crate::known::{Insurance, common_read};
 use crate::piece::{GS, Pieces};
 use crate::value;
 use rx_claim::{Body, Heard, Rejected, Transaction, Transactions, Transmission};
-use rx_fields::{Bounded, Count, Day, Door, Memory, Provider};
+use rx_fields::{Count, Day, Door, Memory, Provider};
 use std::alloc::Global;
 
 // What a header without codes opens.
@@ -42,7 +42,7 @@ fn count_groups(rest: &[u8]) -> usize
 }
 
 // How many answers a rejected header has: the groups, at least 1 and at most 4.
-fn answers(groups: usize) -> Bounded<1, 4>
+fn answers(groups: usize) -> Count
     ensures { result ≡ max 1 (min groups 4) }
 {
     match Count::new(groups.clamp(1, 4) as u64) {
@@ -67,16 +67,15 @@ fn opening_read<'a>(
     let provider = value::provider(&header.provider)?;
     let date = value::date(&header.date)?;
     let common = common?;
-    if is_clean && is_addressed(door, header) && is_count(header.count, groups) {
-        Some(Opening {
-            provider,
-            date,
-            is_billing: header.code == *b"B1",
-            common,
-        })
-    } else {
-        None
+    if !is_clean || !is_addressed(door, header) || !is_count(header.count, groups) {
+        return None;
     }
+    Some(Opening {
+        provider,
+        date,
+        is_billing: header.code == *b"B1",
+        common,
+    })
 }
 
 // Whether a header names this door, and a version and a code that are heard.
@@ -103,7 +102,7 @@ fn transactions(
 {
     let mut list: Vec<Transaction> = Vec::with_capacity(alloc, groups)?;
     while let Some(group) = pieces.next() {
-        list.push(transaction(alloc, is_billing, common, group)?)?;
+        list.extend_from_slice(&[transaction(is_billing, common, group)])?;
     }
     match Transactions::new(list) {
         Ok(list) => Ok(list),
@@ -127,7 +126,7 @@ fn body(alloc: Global, door: &Door, bytes: &[u8], front: &[u8; 56], header: &Hea
     let Some(opening) = opening_read(door, header, is_clean, common, groups) else {
         let conditions = header_conditions(door, header, is_clean && common.is_some(), groups);
         return Ok(Body::Rejected(Rejected {
-            codes: first_five(alloc, &conditions)?,
+            codes: first_five(&conditions),
             groups: answers(groups),
         }));
     };
