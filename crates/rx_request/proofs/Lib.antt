@@ -6,3 +6,4 @@ pub mod Fields
 pub mod Names
 pub mod Tables
 pub mod Faults
+pub mod Lists

@@ -20,6 +20,11 @@ abbrev pub begins_empty : List (List ℕ) → Bool
 begins_empty [] = false
 begins_empty (front ∷ pieces) = length front == 0
 
+-- the piece before the first separator
+abbrev pub first : List (List ℕ) → List ℕ
+first [] = []
+first (front ∷ pieces) = front
+
 -- the pieces after the first separator
 abbrev pub further : List (List ℕ) → List (List ℕ)
 further [] = []

@@ -44,6 +44,10 @@ pub record InsuranceTexts : Type 0 where
   pub cardholder : Option (List ℕ)
   pub person : Option (List ℕ)
 
+-- none of them
+abbrev pub no_insurance : InsuranceTexts
+no_insurance = record { cardholder = None; person = None }
+
 -- the values of segment 07, of a group
 pub record ClaimTexts : Type 0 where
   pub reference_qualifier : Option (List ℕ)

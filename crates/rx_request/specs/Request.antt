@@ -10,18 +10,14 @@ use Rattle.rx_claim.specs.declared.transaction.Transaction.{Transaction}
 use Rattle.rx_claim.specs.Echoed.{blanked_parts}
 use Rattle.rx_request.specs.Bills.{transaction}
 use Rattle.rx_request.specs.Codes.{is_faulty, first_five, header_conditions}
-use Rattle.rx_request.specs.Cut.{same, cut, further}
+use Rattle.rx_request.specs.Cut.{same, cut, first, further}
 use Rattle.rx_request.specs.Headers.{header_bytes, header_of, is_clean, echo_parts}
-use Rattle.rx_request.specs.Known.{InsuranceTexts, common_of, group_of}
+use Rattle.rx_request.specs.Known.{InsuranceTexts, no_insurance, common_of, group_of}
 use Rattle.rx_request.specs.Values.{provider_in, date_in}
 
 -- the parts: after the first 56 bytes, cut at each GS
 unfoldable pub parts : List ℕ → List (List ℕ)
 parts bytes = cut 29 (drop 56 bytes)
-
-abbrev pub first : List (List ℕ) → List ℕ
-first [] = []
-first (part ∷ more) = part
 
 -- the known values of the common part, or a syntax error
 unfoldable pub common : List ℕ → Option InsuranceTexts
@@ -39,7 +35,7 @@ conditions door bytes =
 unfoldable pub body : Door → List ℕ → Body
 body door bytes =
     let h = header_of (header_bytes bytes) in
-    let insurance : InsuranceTexts = unwrap_or (common bytes) (record { cardholder = None; person = None }) in
+    let insurance = unwrap_or (common bytes) no_insurance in
     if is_faulty (conditions door bytes)
     then Rejected (record { codes = first_five (conditions door bytes); groups = max 1 (min (length (groups bytes)) 4) })
     else Heard (record {

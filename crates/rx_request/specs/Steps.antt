@@ -1,17 +1,19 @@
 -- The parts of the tables that one reading step answers for.
-use Rattle.std.specs.Prelude.{ℕ, Bool, not, ◌||◌, ◌&&◌, List, [], ◌∷◌, Option, Some, None, is_none, unwrap_or, codes}
+use Rattle.std.specs.Prelude.{ℕ, Bool, not, ◌||◌, ◌&&◌, List, [], ◌∷◌, Option, Some, None, is_none, unwrap_or, codes, map, max, min}
 use Rattle.rx_fields.specs.declared.code.Code.{Code}
 use Rattle.rx_fields.specs.declared.code.Code.TheVariants as code
 use Rattle.rx_fields.specs.declared.door.Door.{Door}
 use Rattle.rx_fields.specs.Calendar.{Civil, civil_of}
+use Rattle.rx_claim.specs.declared.transmission.Heard.{Heard}
+use Rattle.rx_claim.specs.declared.transmission.Rejected.{Rejected}
 use Rattle.rx_request.specs.declared.bill.Patient.{Patient}
 use Rattle.rx_request.specs.declared.bill.Supply.{Supply}
 use Rattle.rx_request.specs.declared.bill.Charges.{Charges}
 use Rattle.rx_request.specs.declared.header.Header.{Header}
-use Rattle.rx_request.specs.Bills.{or_zero, or_empty}
-use Rattle.rx_request.specs.Codes.{has_no_charge}
+use Rattle.rx_request.specs.Bills.{or_zero, or_empty, transaction}
+use Rattle.rx_request.specs.Codes.{first_five, has_no_charge}
 use Rattle.rx_request.specs.Cut.{same}
-use Rattle.rx_request.specs.Known.{InsuranceTexts, ClaimTexts, PricingTexts, GroupTexts}
+use Rattle.rx_request.specs.Known.{InsuranceTexts, no_insurance, ClaimTexts, PricingTexts, group_of}
 use Rattle.rx_request.specs.Values.{provider_in, date_in, id_in, person_in, positive_in, amount_in, is_no_amount, is_plain, is_sole}
 
 -- the codes of the common part
@@ -66,10 +68,6 @@ pub record OpeningParts : Type 0 where
   pub is_billing : Bool
   pub common : InsuranceTexts
 
--- no values of the common part
-abbrev pub no_insurance : InsuranceTexts
-no_insurance = record { cardholder = None; person = None }
-
 unfoldable pub opening_parts : Header → Option InsuranceTexts → OpeningParts
 opening_parts h common =
     record {
@@ -78,3 +76,16 @@ opening_parts h common =
       is_billing = same h.code (codes "B1");
       common = unwrap_or common no_insurance;
     }
+
+-- a header that is heard, and its groups
+abbrev pub heard_parts : OpeningParts → List (List ℕ) → Heard
+heard_parts o groups =
+    record {
+      provider = o.provider;
+      date = o.date;
+      list = map (λ group. transaction o.is_billing o.common (group_of group)) groups;
+    }
+
+-- a header that isn't heard, before a number of groups
+abbrev pub rejected_parts : List (Code × Bool) → ℕ → Rejected
+rejected_parts conditions groups = record { codes = first_five conditions; groups = max 1 (min groups 4) }

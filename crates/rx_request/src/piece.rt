@@ -27,7 +27,7 @@ impl<'a> Model for Pieces<'a> {
 }
 
 ghost use Rattle.std.specs.Prelude.{◌∷◌, [], if◌then◌else◌, MatchOption, None, Some};
-ghost use Rattle.rx_request.specs.Cut.{cut, begins_empty, further};
+ghost use Rattle.rx_request.specs.Cut.{cut, begins_empty, first, further};
 
 impl<'a> Pieces<'a> {
     /// All pieces of a text.
@@ -48,6 +48,17 @@ impl<'a> Pieces<'a> {
         let mut pieces = Pieces::new(text, separator);
         let front = pieces.next()?;
         if front.is_empty() { Some(pieces) } else { None }
+    }
+
+    /// The next piece, or an empty one where none is left.
+    pub(crate) fn first(&mut self) -> &'a [u8]
+        ensures value { result.now ≡ first self.old }
+        ensures rest { self.new ≡ further self.old }
+    {
+        match self.next() {
+            Some(piece) => piece,
+            None => &[],
+        }
     }
 
     /// The next piece.

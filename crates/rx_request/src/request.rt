@@ -6,7 +6,7 @@ ghost use Rattle.rx_request.specs.Cut.{cut, further};
 ghost use Rattle.rx_request.specs.Headers.{header_bytes, header_of};
 ghost use Rattle.rx_request.specs.Known.{group_of};
 ghost use Rattle.rx_request.specs.Request.{transmission_of, body};
-ghost use Rattle.rx_request.specs.Steps.{is_addressed, opening_parts};
+ghost use Rattle.rx_request.specs.Steps.{is_addressed, opening_parts, heard_parts, rejected_parts};
 ghost use Rattle.rx_request.specs.Views.{insurance_texts, opening_view};
 
 use crate::bill::transaction;
@@ -110,7 +110,43 @@ fn transactions(
     }
 }
 
-fn body(alloc: Global, door: &Door, bytes: &[u8], front: &[u8; 56], header: &Header) -> Result<Body, Memory>
+// The transactions of a header that is heard.
+fn heard(
+    alloc: Global,
+    opening: &Opening,
+    pieces: Pieces<'_>,
+    groups: usize,
+) -> Result<Heard, Memory>
+    requires { is_few (length pieces) ≡ true }
+    ensures { IfOk result (λ heard. heard ≡ heard_parts (opening_view opening.now) pieces.entry) }
+{
+    let list = transactions(alloc, opening.is_billing, &opening.common, pieces, groups)?;
+    Ok(Heard {
+        provider: opening.provider,
+        date: opening.date,
+        list,
+    })
+}
+
+// A header that isn't heard, before a number of groups.
+fn rejected(door: &Door, header: &Header, is_sound: bool, groups: usize) -> Rejected
+    requires { is_faulty (header_conditions door.now header.now is_sound groups) ≡ true }
+    ensures { result ≡ rejected_parts (header_conditions door.now header.now is_sound groups) groups }
+{
+    Rejected {
+        codes: first_five(&header_conditions(door, header, is_sound, groups)),
+        groups: answers(groups),
+    }
+}
+
+// What follows the echo.
+fn body(
+    alloc: Global,
+    door: &Door,
+    bytes: &[u8],
+    front: &[u8; 56],
+    header: &Header,
+) -> Result<Body, Memory>
     requires front { front.now ≡ header_bytes bytes.now }
     requires header { header.now ≡ header_of front.now }
     ensures { IfOk result (λ b. b ≡ body door.now bytes.now) }
@@ -118,23 +154,17 @@ fn body(alloc: Global, door: &Door, bytes: &[u8], front: &[u8; 56], header: &Hea
     let rest = after_header(bytes);
     let groups = count_groups(rest);
     let mut pieces = Pieces::new(rest, GS);
-    let common = match pieces.next() {
-        Some(part) => common_read(part),
-        None => None,
-    };
+    let common = common_read(pieces.first());
     let is_clean = is_clean(bytes, front);
-    let Some(opening) = opening_read(door, header, is_clean, common, groups) else {
-        let conditions = header_conditions(door, header, is_clean && common.is_some(), groups);
-        return Ok(Body::Rejected(Rejected {
-            codes: first_five(&conditions),
-            groups: answers(groups),
-        }));
-    };
-    Ok(Body::Heard(Heard {
-        provider: opening.provider,
-        date: opening.date,
-        list: transactions(alloc, opening.is_billing, &opening.common, pieces, groups)?,
-    }))
+    match opening_read(door, header, is_clean, common, groups) {
+        Some(opening) => Ok(Body::Heard(heard(alloc, &opening, pieces, groups)?)),
+        None => Ok(Body::Rejected(rejected(
+            door,
+            header,
+            is_clean && common.is_some(),
+            groups,
+        ))),
+    }
 }
 
 /// The transmission of any byte string, at a plan's door (docs/FORMATS.md, "Request transmission").
