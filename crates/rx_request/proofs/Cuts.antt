@@ -23,9 +23,9 @@ pub cut_at : (separator : ℕ) (bytes : List ℕ) (at : ℕ) → at < length byt
     → cut separator bytes ≡ take at bytes ∷ cut separator (drop (at + 1) bytes)
 cut_at separator bytes at lt none here =
     let front : All (λ b. eqb b separator ≡ false) (take at bytes) = none_passes separator (take at bytes) (λ k below.
-      let k_lt : k < at = omega (arith, below, length-take at bytes) in
-      let same : get_or (take at bytes) k 0 ≡ get_or bytes k 0 = grind (arith, common_steps) in
-      rw same (none k (omega arith) k_lt)) in
+    let k_lt : k < at = omega (arith, below, length-take at bytes) in
+    let same : get_or (take at bytes) k 0 ≡ get_or bytes k 0 = grind (arith, common_steps) in
+    rw same (none k (omega arith) k_lt)) in
     let whole : take at bytes ++ get_or bytes at 0 ∷ drop (at + 1) bytes ≡ bytes = rw (add-one, ← drop-cons bytes at 0 lt) (take-append-drop at bytes) in
     ap (cut separator) (sym whole) ∙ slice_split_at (λ b. eqb b separator) (take at bytes) (get_or bytes at 0) (drop (at + 1) bytes) front here
 

@@ -11,6 +11,7 @@ use Rattle.rx_fields.specs.declared.code.Code.{Code}
 use Rattle.rx_fields.specs.declared.code.Code.TheVariants.{Syntax}
 use Rattle.rx_fields.specs.declared.door.Door.{Door}
 use Rattle.rx_claim.specs.CodeList.{codes_of}
+use Rattle.rx_claim.specs.Listed.{is_few}
 use Rattle.rx_request.specs.declared.header.Header.{Header}
 use Rattle.rx_request.specs.Codes.{is_faulty, first_five, is_count, has_no_charge, header_conditions, bill_conditions, reversal_conditions}
 use Rattle.rx_request.specs.Cut.{same}
@@ -90,7 +91,7 @@ bill_parts_faulty common group =
     let holds = λ (row : Code × Bool). row.1 in
     list_any-append holds (patient_conditions common) (reversal_conditions group.claim ++ (supply_conditions group.claim ++ charge_conditions group.pricing))
     ∙ ap (λ b. list_any holds (patient_conditions common) || b) (list_any-append holds (reversal_conditions group.claim) (supply_conditions group.claim ++ charge_conditions group.pricing)
-      ∙ ap (λ b. list_any holds (reversal_conditions group.claim) || b) (list_any-append holds (supply_conditions group.claim) (charge_conditions group.pricing)))
+    ∙ ap (λ b. list_any holds (reversal_conditions group.claim) || b) (list_any-append holds (supply_conditions group.claim) (charge_conditions group.pricing)))
 
 -- a step that fails tells that its part is faulty
 pub fault_of : {A : Type 0} (is_faulty : Bool) (x : A) → None ≡ cond is_faulty None (Some x) → is_faulty ≡ true
@@ -199,3 +200,23 @@ none_row true None p e same = rw (← same) refl
 none_row true (Some x) p e same = absurd cc
 none_row false None p e same = absurd cc
 none_row false (Some x) p e same = rw (← same) refl
+
+-- ---- the number of groups
+
+not_false : (b : Bool) → not b ≡ false → b ≡ true
+not_false true e = refl
+not_false false e = absurd cc
+
+and_left : (a b : Bool) → (a && b) ≡ true → a ≡ true
+and_left true b e = refl
+and_left false b e = absurd cc
+
+-- a header without codes has 1 to 4 groups
+pub header_few : (door : Door) (h : Header) (is_sound : Bool) (groups : ℕ) → is_faulty (header_conditions door h is_sound groups) ≡ false → is_few groups ≡ true
+unfolding is_faulty
+header_few door h is_sound groups e =
+    let after_bin = or_right (not (same h.bin door.bin)) _ e in
+    let after_version = or_right (not (same h.version (codes "D0"))) _ after_bin in
+    let after_code = or_right (not (same h.code (codes "B1") || same h.code (codes "B2"))) _ after_version in
+    let after_pcn = or_right (not (same h.pcn door.pcn)) _ after_code in
+    and_left (is_few groups) _ (not_false (is_count h.count groups) (or_left (not (is_count h.count groups)) _ after_pcn))

@@ -7,3 +7,4 @@ pub mod Names
 pub mod Tables
 pub mod Faults
 pub mod Lists
+pub mod Bodies

@@ -48,7 +48,7 @@ put_other keys key text slots i k s total lt e is_other so_far =
     let lt_slots : i < length slots = omega arith in
     let next : put (drop i keys) key text (drop i slots) ≡ (put (drop (i + 1) keys) key text (drop (i + 1) slots) >>= λ ys. Some (get_or slots i s ∷ ys)) = rw (put_next keys key text slots i k s lt e, stays) refl in
     let one : with_front (take i slots) (put (drop i keys) key text (drop i slots)) ≡ with_front (take (i + 1) slots) (put (drop (i + 1) keys) key text (drop (i + 1) slots)) =
-      rw (next, take_more slots i s lt_slots) (regroup (take i slots) (get_or slots i s) (put (drop (i + 1) keys) key text (drop (i + 1) slots))) in
+    rw (next, take_more slots i s lt_slots) (regroup (take i slots) (get_or slots i s) (put (drop (i + 1) keys) key text (drop (i + 1) slots))) in
     sym one ∙ so_far
 
 -- the slot of the key is free
@@ -63,7 +63,7 @@ put_free keys key text slots i k s total lt e is_key is_free so_far =
     let front : take (i + 1) (set slots i (Some text)) ≡ take i slots ++ Some text ∷ [] = grind (arith, common_steps) in
     let back : drop (i + 1) (set slots i (Some text)) ≡ drop (i + 1) slots = grind (arith, common_steps) in
     let one : with_front (take i slots) (put (drop i keys) key text (drop i slots)) ≡ with_front (take (i + 1) (set slots i (Some text))) (put (drop (i + 1) keys) key text (drop (i + 1) (set slots i (Some text)))) =
-      rw (next, front, back) (regroup (take i slots) (Some text) (put (drop (i + 1) keys) key text (drop (i + 1) slots))) in
+    rw (next, front, back) (regroup (take i slots) (Some text) (put (drop (i + 1) keys) key text (drop (i + 1) slots))) in
     sym one ∙ so_far
 
 -- all slots were looked at

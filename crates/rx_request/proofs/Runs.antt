@@ -230,5 +230,5 @@ unfolding is_part segment segments
 segments_total names slots part e =
     let texts = further (cut 30 part) in
     let all : run_segments names slots texts ≡ cond (list_all is_segment texts) (all_of (λ k. only (filter (has_name k) texts)) names) None =
-      ap (λ (from : List Slot). run_segments names from texts) e ∙ run_segments_empty names texts in
+    ap (λ (from : List Slot). run_segments names from texts) e ∙ run_segments_empty names texts in
     rw all (both (begins_empty (cut 30 part)) (list_all is_segment texts) (all_of (λ k. only (filter (has_name k) texts)) names))

@@ -23,7 +23,7 @@ insurance_ids = codes "AM" ∷ codes "C2" ∷ codes "C3" ∷ []
 
 abbrev insurance_binds : Option Slot → Option Slot → Option Slot → Option InsuranceTexts
 insurance_binds o0 o1 o2 =
-    o0 >>= λ x0. o1 >>= λ x1. o2 >>= λ x2. 
+    o0 >>= λ x0. o1 >>= λ x1. o2 >>= λ x2.
     Some (record { cardholder = x1; person = x2 })
 
 insurance_none : (o0 o1 o2 : Option Slot) → None ≡ each (o0 ∷ o1 ∷ o2 ∷ []) → None ≡ insurance_binds o0 o1 o2
@@ -52,7 +52,7 @@ claim_ids = codes "AM" ∷ codes "EM" ∷ codes "D2" ∷ codes "E1" ∷ codes "D
 
 abbrev claim_binds : Option Slot → Option Slot → Option Slot → Option Slot → Option Slot → Option Slot → Option Slot → Option Slot → Option Slot → Option ClaimTexts
 claim_binds o0 o1 o2 o3 o4 o5 o6 o7 o8 =
-    o0 >>= λ x0. o1 >>= λ x1. o2 >>= λ x2. o3 >>= λ x3. o4 >>= λ x4. o5 >>= λ x5. o6 >>= λ x6. o7 >>= λ x7. o8 >>= λ x8. 
+    o0 >>= λ x0. o1 >>= λ x1. o2 >>= λ x2. o3 >>= λ x3. o4 >>= λ x4. o5 >>= λ x5. o6 >>= λ x6. o7 >>= λ x7. o8 >>= λ x8.
     Some (record { reference_qualifier = x1; reference = x2; product_qualifier = x3; product = x4; quantity = x5; days = x6; compound = x7; other_coverage = x8 })
 
 claim_none : (o0 o1 o2 o3 o4 o5 o6 o7 o8 : Option Slot) → None ≡ each (o0 ∷ o1 ∷ o2 ∷ o3 ∷ o4 ∷ o5 ∷ o6 ∷ o7 ∷ o8 ∷ []) → None ≡ claim_binds o0 o1 o2 o3 o4 o5 o6 o7 o8
@@ -93,7 +93,7 @@ pricing_ids = codes "AM" ∷ codes "D9" ∷ codes "DC" ∷ codes "DQ" ∷ codes 
 
 abbrev pricing_binds : Option Slot → Option Slot → Option Slot → Option Slot → Option Slot → Option PricingTexts
 pricing_binds o0 o1 o2 o3 o4 =
-    o0 >>= λ x0. o1 >>= λ x1. o2 >>= λ x2. o3 >>= λ x3. o4 >>= λ x4. 
+    o0 >>= λ x0. o1 >>= λ x1. o2 >>= λ x2. o3 >>= λ x3. o4 >>= λ x4.
     Some (record { ingredient_cost = x1; dispensing_fee = x2; usual_charge = x3; gross_amount = x4 })
 
 pricing_none : (o0 o1 o2 o3 o4 : Option Slot) → None ≡ each (o0 ∷ o1 ∷ o2 ∷ o3 ∷ o4 ∷ []) → None ≡ pricing_binds o0 o1 o2 o3 o4

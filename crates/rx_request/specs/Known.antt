@@ -89,15 +89,15 @@ claim_of found = do
   compound_text ← field (codes "D6") found
   other_coverage_text ← field (codes "C8") found
   Some (record {
-      reference_qualifier = reference_qualifier_text;
-      reference = reference_text;
-      product_qualifier = product_qualifier_text;
-      product = product_text;
-      quantity = quantity_text;
-      days = days_text;
-      compound = compound_text;
-      other_coverage = other_coverage_text;
-    })
+    reference_qualifier = reference_qualifier_text;
+    reference = reference_text;
+    product_qualifier = product_qualifier_text;
+    product = product_text;
+    quantity = quantity_text;
+    days = days_text;
+    compound = compound_text;
+    other_coverage = other_coverage_text;
+  })
 
 unfoldable pub pricing_of : Option (List ℕ) → Option PricingTexts
 pricing_of found = do
@@ -107,11 +107,11 @@ pricing_of found = do
   usual_charge_text ← field (codes "DQ") found
   gross_amount_text ← field (codes "DU") found
   Some (record {
-      ingredient_cost = ingredient_cost_text;
-      dispensing_fee = dispensing_fee_text;
-      usual_charge = usual_charge_text;
-      gross_amount = gross_amount_text;
-    })
+    ingredient_cost = ingredient_cost_text;
+    dispensing_fee = dispensing_fee_text;
+    usual_charge = usual_charge_text;
+    gross_amount = gross_amount_text;
+  })
 
 unfoldable pub insurance_in : List ℕ → Option InsuranceTexts
 insurance_in part = do

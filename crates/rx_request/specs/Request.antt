@@ -39,10 +39,10 @@ body door bytes =
     if is_faulty (conditions door bytes)
     then Rejected (record { codes = first_five (conditions door bytes); groups = max 1 (min (length (groups bytes)) 4) })
     else Heard (record {
-        provider = unwrap_or (provider_in h.provider) [];
-        date = unwrap_or (date_in h.date) (civil_of h.date);
-        list = map (λ group. transaction (same h.code (codes "B1")) insurance (group_of group)) (groups bytes);
-      })
+      provider = unwrap_or (provider_in h.provider) [];
+      date = unwrap_or (date_in h.date) (civil_of h.date);
+      list = map (λ group. transaction (same h.code (codes "B1")) insurance (group_of group)) (groups bytes);
+    })
 
 -- the transmission of a byte string, at a plan's door
 unfoldable pub transmission_of : Door → List ℕ → Transmission

@@ -38,7 +38,7 @@ struct Charges {
 fn patient_read(common: &Insurance) -> Option<Patient>
     ensures { result
         ≡ (if is_faulty (patient_conditions (insurance_texts common.now)) then None
-           else Some (patient_parts (insurance_texts common.now))) }
+        else Some (patient_parts (insurance_texts common.now))) }
 {
     let family = value::family(common.cardholder)?;
     let person = value::person(common.person)?;
@@ -50,7 +50,7 @@ fn patient_read(common: &Insurance) -> Option<Patient>
 fn fill_read(claim: &Claim) -> Option<Reversal>
     ensures { result
         ≡ (if is_faulty (reversal_conditions (claim_texts claim.now)) then None
-           else Some (reversal_parts (claim_texts claim.now))) }
+        else Some (reversal_parts (claim_texts claim.now))) }
 {
     let reference = value::reference(claim.reference)?;
     let product = value::product(claim.product)?;
@@ -67,7 +67,7 @@ fn fill_read(claim: &Claim) -> Option<Reversal>
 fn supply_read(claim: &Claim) -> Option<Supply>
     ensures { result
         ≡ (if is_faulty (supply_conditions (claim_texts claim.now)) then None
-           else Some (supply_parts (claim_texts claim.now))) }
+        else Some (supply_parts (claim_texts claim.now))) }
 {
     let quantity = value::quantity(claim.quantity)?;
     let days = value::days(claim.days)?;
@@ -82,7 +82,7 @@ fn supply_read(claim: &Claim) -> Option<Supply>
 fn charges_read(pricing: &Pricing) -> Option<Charges>
     ensures { result
         ≡ (if is_faulty (charge_conditions (pricing_texts pricing.now)) then None
-           else Some (charge_parts (pricing_texts pricing.now))) }
+        else Some (charge_parts (pricing_texts pricing.now))) }
 {
     let ingredient_cost = value::amount(pricing.ingredient_cost)?;
     if value::is_no_amount(pricing.dispensing_fee)
@@ -103,7 +103,7 @@ fn charges_read(pricing: &Pricing) -> Option<Charges>
 fn well_formed(common: &Insurance, group: &Group) -> Option<Bill>
     ensures { result
         ≡ (if is_faulty (bill_conditions (insurance_texts common.now) (group_texts group.now)) then None
-           else Some (bill_parts (insurance_texts common.now) (group_texts group.now))) }
+        else Some (bill_parts (insurance_texts common.now) (group_texts group.now))) }
 {
     let patient = patient_read(common)?;
     let fill = fill_read(&group.claim)?;

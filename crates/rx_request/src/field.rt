@@ -40,11 +40,7 @@ pub(crate) fn put<'a>(
 }
 
 // Puts the value of a field into the slot of its id, where it has a value. None: the slot is taken.
-fn put_field<'a>(
-    slots: &mut [Option<&'a [u8]>],
-    ids: &[[u8; 2]],
-    piece: &'a [u8],
-) -> Option<()>
+fn put_field<'a>(slots: &mut [Option<&'a [u8]>], ids: &[[u8; 2]], piece: &'a [u8]) -> Option<()>
     requires { length slots.old ≡ length ids.now }
     ensures { option_map (λ _. texts_of slots.new) result ≡ put_field ids.now (field_of piece.entry.now) (texts_of slots.old) }
 {
@@ -60,11 +56,7 @@ fn put_field<'a>(
 }
 
 // Puts the values of a segment under these ids into their slots. None: an id has two.
-fn put_fields<'a>(
-    slots: &mut [Option<&'a [u8]>],
-    ids: &[[u8; 2]],
-    segment: &'a [u8],
-) -> Option<()>
+fn put_fields<'a>(slots: &mut [Option<&'a [u8]>], ids: &[[u8; 2]], segment: &'a [u8]) -> Option<()>
     requires { texts_of slots.old ≡ map (λ _. None) ids.now }
     ensures { option_map (λ _. texts_of slots.new) result ≡ all_of (λ id. field id (Some segment.entry.now)) ids.now }
 {

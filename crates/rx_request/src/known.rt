@@ -86,8 +86,18 @@ fn pricing_read<'a>(segment: Option<&'a [u8]>) -> Option<Pricing<'a>>
     ensures { option_map pricing_texts result ≡ pricing_of (text_of segment.entry) }
 {
     let mut slots = [None; 5];
-    put_values(&mut slots, &[*b"AM", *b"D9", *b"DC", *b"DQ", *b"DU"], segment)?;
-    let [_, ingredient_cost, dispensing_fee, usual_charge, gross_amount] = slots;
+    put_values(
+        &mut slots,
+        &[*b"AM", *b"D9", *b"DC", *b"DQ", *b"DU"],
+        segment,
+    )?;
+    let [
+        _,
+        ingredient_cost,
+        dispensing_fee,
+        usual_charge,
+        gross_amount,
+    ] = slots;
     Some(Pricing {
         ingredient_cost,
         dispensing_fee,

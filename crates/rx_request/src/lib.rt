@@ -13,12 +13,12 @@
 
 mod bill;
 mod codes;
-mod request;
 mod field;
 mod header;
 mod known;
 mod part;
 mod piece;
+mod request;
 mod value;
 
 pub use request::decode;

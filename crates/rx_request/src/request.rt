@@ -62,7 +62,7 @@ fn opening_read<'a>(
 ) -> Option<Opening<'a>>
     ensures { option_map opening_view result
         ≡ (if is_faulty (header_conditions door.now header.now (is_clean && is_some common.entry) groups) then None
-           else Some (opening_parts header.now (option_map insurance_texts common.entry))) }
+        else Some (opening_parts header.now (option_map insurance_texts common.entry))) }
 {
     let provider = value::provider(&header.provider)?;
     let date = value::date(&header.date)?;
@@ -129,10 +129,17 @@ fn heard(
 }
 
 // A header that isn't heard, before a number of groups.
-fn rejected(door: &Door, header: &Header, is_sound: bool, groups: usize) -> Rejected
-    requires { is_faulty (header_conditions door.now header.now is_sound groups) ≡ true }
-    ensures { result ≡ rejected_parts (header_conditions door.now header.now is_sound groups) groups }
+fn rejected(
+    door: &Door,
+    header: &Header,
+    is_clean: bool,
+    has_common: bool,
+    groups: usize,
+) -> Rejected
+    requires { is_faulty (header_conditions door.now header.now (is_clean && has_common) groups) ≡ true }
+    ensures { result ≡ rejected_parts (header_conditions door.now header.now (is_clean && has_common) groups) groups }
 {
+    let is_sound = is_clean && has_common;
     Rejected {
         codes: first_five(&header_conditions(door, header, is_sound, groups)),
         groups: answers(groups),
@@ -158,12 +165,7 @@ fn body(
     let is_clean = is_clean(bytes, front);
     match opening_read(door, header, is_clean, common, groups) {
         Some(opening) => Ok(Body::Heard(heard(alloc, &opening, pieces, groups)?)),
-        None => Ok(Body::Rejected(rejected(
-            door,
-            header,
-            is_clean && common.is_some(),
-            groups,
-        ))),
+        None => Ok(Body::Rejected(rejected(door, header, is_clean, common.is_some(), groups))),
     }
 }
 
@@ -192,8 +194,12 @@ mod tests {
 
     #[test]
     fn base_claim(rt: HostRuntime) -> Result<(), Fail> {
-        let door = Door { bin: *b"900001", pcn: *b"RXDEMO    " };
-        let text = b"900001D0B1RXDEMO    1011234567893     20260228          \x1e\x1cAM04\x1cC2C100\x1cC301\x1d\x1e\x1cAM07\x1cEM1\x1cD2000000000123\x1cE103\x1cD700002000202\x1cE70000030000\x1cD5030\x1cD61\x1e\x1cAM11\x1cD90003000{\x1cDC0000017E\x1cDQ0004000{";
+        let door = Door {
+            bin: *b"900001",
+            pcn: *b"RXDEMO    ",
+        };
+        let text =
+            b"900001D0B1RXDEMO    1011234567893     20260228          \x1e\x1cAM04\x1cC2C100\x1cC301\x1d\x1e\x1cAM07\x1cEM1\x1cD2000000000123\x1cE103\x1cD700002000202\x1cE70000030000\x1cD5030\x1cD61\x1e\x1cAM11\x1cD90003000{\x1cDC0000017E\x1cDQ0004000{";
         let transmission = decode(rt.alloc(), &door, text)?;
         println!(rt; "{transmission:?}")?;
         Ok(())

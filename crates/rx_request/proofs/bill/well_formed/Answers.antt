@@ -46,10 +46,10 @@ returns c =
     let group = group_texts c.args.group.now in
     let no_charge_fault = no_fault_of (is_faulty (charge_conditions group.pricing)) _ _ c.in_ok-charges.ensures in
     let well : is_faulty (bill_conditions common group) ≡ false = none_faulty (is_faulty (patient_conditions common)) (is_faulty (reversal_conditions group.claim)) (is_faulty (supply_conditions group.claim)) (is_faulty (charge_conditions group.pricing)) _ (bill_parts_faulty common group)
-      (no_fault_of (is_faulty (patient_conditions common)) _ _ c.in_ok-patient.ensures)
-      (no_fault_of (is_faulty (reversal_conditions group.claim)) _ _ c.in_ok-fill.ensures)
-      (no_fault_of (is_faulty (supply_conditions group.claim)) _ _ c.in_ok-supply.ensures)
-      no_charge_fault in
+    (no_fault_of (is_faulty (patient_conditions common)) _ _ c.in_ok-patient.ensures)
+    (no_fault_of (is_faulty (reversal_conditions group.claim)) _ _ c.in_ok-fill.ensures)
+    (no_fault_of (is_faulty (supply_conditions group.claim)) _ _ c.in_ok-supply.ensures)
+    no_charge_fault in
     let patient : c.in_ok-patient.patient ≡ patient_parts common = value_of (is_faulty (patient_conditions common)) _ _ c.in_ok-patient.ensures in
     let fill : c.in_ok-fill.fill ≡ reversal_parts group.claim = value_of (is_faulty (reversal_conditions group.claim)) _ _ c.in_ok-fill.ensures in
     let supply : c.in_ok-supply.supply ≡ supply_parts group.claim = value_of (is_faulty (supply_conditions group.claim)) _ _ c.in_ok-supply.ensures in

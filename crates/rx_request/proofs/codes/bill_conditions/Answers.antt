@@ -16,5 +16,19 @@ returns c =
     let no_quantity : c.is_none-5.result ≡ is_none (positive_in 10 group.claim.quantity) = none_row c.is_none-5.result c.quantity.result (positive_in 10 group.claim.quantity) c.is_none-5.ensures c.quantity.ensures in
     let no_days : c.is_none-6.result ≡ is_none (positive_in 3 group.claim.days) = none_row c.is_none-6.result c.days.result (positive_in 3 group.claim.days) c.is_none-6.ensures c.days.ensures in
     let no_amount : c.is_none-7.result ≡ is_none (amount_in group.pricing.ingredient_cost) = none_row c.is_none-7.result c.amount.result (amount_in group.pricing.ingredient_cost) c.is_none-7.ensures c.amount.ensures in
-    rw (no_family, no_person, c.is_text.ensures, no_reference, c.is_text-2.ensures, no_product, no_quantity, no_days, c.is_plain.ensures, c.is_sole.ensures, no_amount,
-      c.is_no_amount.ensures, c.has_no_charge.ensures, c.is_no_amount-2.ensures) refl
+    rw (
+      no_family,
+      no_person,
+      c.is_text.ensures,
+      no_reference,
+      c.is_text-2.ensures,
+      no_product,
+      no_quantity,
+      no_days,
+      c.is_plain.ensures,
+      c.is_sole.ensures,
+      no_amount,
+      c.is_no_amount.ensures,
+      c.has_no_charge.ensures,
+      c.is_no_amount-2.ensures,
+    ) refl

@@ -24,19 +24,19 @@ loop-row-preserved c =
     let cut : length (take count codes) ≡ count = omega (arith, length-take count codes, c.loop-row.invariant.whole, c.loop-row.invariant.few) in
     elim c.if-row.branch [
       | then-row+then-count-lt5 w ↦
-        let whole : length c.if-row.codes ≡ 5 = rw (w.codes-is, length-set) c.loop-row.invariant.whole in
-        let few : c.if-row.count ≤ 5 = omega (arith, w.count-is, w.if-count-lt5.true) in
-        let more = five_more rows (take count codes) i (Bin, false) (omega (arith, w.if-count-lt5.true)) c.loop-row-test.true w.if-row.true so_far in
-        let pushed = take_set codes count (get_or rows i (Bin, false)).0 (omega (arith, w.if-count-lt5.true, c.loop-row.invariant.whole)) in
-        record { whole = whole; few = few; kept = rw (w.codes-is, w.count-is) (pushed ∙ more) }
+          let whole : length c.if-row.codes ≡ 5 = rw (w.codes-is, length-set) c.loop-row.invariant.whole in
+          let few : c.if-row.count ≤ 5 = omega (arith, w.count-is, w.if-count-lt5.true) in
+          let more = five_more rows (take count codes) i (Bin, false) (omega (arith, w.if-count-lt5.true)) c.loop-row-test.true w.if-row.true so_far in
+          let pushed = take_set codes count (get_or rows i (Bin, false)).0 (omega (arith, w.if-count-lt5.true, c.loop-row.invariant.whole)) in
+          record { whole = whole; few = few; kept = rw (w.codes-is, w.count-is) (pushed ∙ more) }
       | else-row w ↦
-        let whole : length c.if-row.codes ≡ 5 = rw w.codes-is c.loop-row.invariant.whole in
-        let few : c.if-row.count ≤ 5 = omega (arith, w.count-is, c.loop-row.invariant.few) in
-        elim w.else-row.branch [
-          | else-row-via-then-row+else-count-lt5 w' ↦
-            record { whole = whole; few = few; kept = rw (w.codes-is, w.count-is) (five_full rows (take count codes) i (omega (arith, w'.if-count-lt5.false)) c.loop-row-test.true so_far) }
-          | else-row-via-else-row w' ↦
-            record { whole = whole; few = few; kept = rw (w.codes-is, w.count-is) (five_same rows (take count codes) i (Bin, false) c.loop-row-test.true w'.if-row.false so_far) }
+          let whole : length c.if-row.codes ≡ 5 = rw w.codes-is c.loop-row.invariant.whole in
+          let few : c.if-row.count ≤ 5 = omega (arith, w.count-is, c.loop-row.invariant.few) in
+          elim w.else-row.branch [
+            | else-row-via-then-row+else-count-lt5 w' ↦
+                record { whole = whole; few = few; kept = rw (w.codes-is, w.count-is) (five_full rows (take count codes) i (omega (arith, w'.if-count-lt5.false)) c.loop-row-test.true so_far) }
+            | else-row-via-else-row w' ↦
+                record { whole = whole; few = few; kept = rw (w.codes-is, w.count-is) (five_same rows (take count codes) i (Bin, false) c.loop-row-test.true w'.if-row.false so_far) }
           ]
     ]
 

@@ -23,10 +23,10 @@ loop-at-preserved c =
     let lt : at < length slots = omega arith in
     elim c.if-eq.branch [
       | then-eq+else-is_some w ↦
-        let slot : is_some (get_or (texts_of slots) at None) ≡ false = ap is_some (get_or-map text_of slots at None None lt) ∙ (is_some_text _ ∙ (sym w.is_some.ensures ∙ w.if-is_some.false)) in
-        rw (w.slots-is, map-set) (put_free c.args.keys.now c.args.key c.args.text.now (texts_of slots) at _ None _ c.loop-at-test.true lengths (sym c.eq.ensures ∙ w.if-eq.true) slot c.loop-at.invariant)
+          let slot : is_some (get_or (texts_of slots) at None) ≡ false = ap is_some (get_or-map text_of slots at None None lt) ∙ (is_some_text _ ∙ (sym w.is_some.ensures ∙ w.if-is_some.false)) in
+          rw (w.slots-is, map-set) (put_free c.args.keys.now c.args.key c.args.text.now (texts_of slots) at _ None _ c.loop-at-test.true lengths (sym c.eq.ensures ∙ w.if-eq.true) slot c.loop-at.invariant)
       | else-eq w ↦
-        rw w.slots-is (put_other c.args.keys.now c.args.key c.args.text.now (texts_of slots) at _ None _ c.loop-at-test.true lengths (sym c.eq.ensures ∙ w.if-eq.false) c.loop-at.invariant)
+          rw w.slots-is (put_other c.args.keys.now c.args.key c.args.text.now (texts_of slots) at _ None _ c.loop-at-test.true lengths (sym c.eq.ensures ∙ w.if-eq.false) c.loop-at.invariant)
     ]
 
 pub returns : goal.returns

@@ -14,12 +14,12 @@ put_field-requires c = omega (arith, empty_length c.args.ids.now c.args.slots.no
 pub loop-piece-preserved : goal.loop-piece-preserved
 loop-piece-preserved c =
     run_on c.args.ids.now (texts_of c.loop-piece.slots) (texts_of c.put_field.new.slots) c.loop-piece.pieces c.next.new.self c.in-Some.piece.now _
-      c.in-Some.ensures.value (sym c.in_ok-put_field.ensures) c.loop-piece.invariant
+    c.in-Some.ensures.value (sym c.in_ok-put_field.ensures) c.loop-piece.invariant
 
 pub returns-in_err-put_field : goal.returns-in_err-put_field
 returns-in_err-put_field c =
     let none = run_off c.args.ids.now (texts_of c.loop-piece.slots) c.loop-piece.pieces c.next.new.self c.in-Some.piece.now _
-      c.in-Some.ensures.value (sym c.in_err-put_field.ensures) c.loop-piece.invariant in
+    c.in-Some.ensures.value (sym c.in_err-put_field.ensures) c.loop-piece.invariant in
     rw c.from_residual.ensures (sym none ∙ fields_total c.args.ids.now (texts_of c.args.slots.now) c.args.segment.now c.requires)
 
 pub returns : goal.returns

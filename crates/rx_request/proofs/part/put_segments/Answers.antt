@@ -18,7 +18,7 @@ put_segment-requires c = omega (arith, empty_length c.args.names.now c.args.slot
 pub loop-segment-preserved : goal.loop-segment-preserved
 loop-segment-preserved c =
     segments_on c.args.names.now (texts_of c.loop-segment.slots) (texts_of c.put_segment.new.slots) c.loop-segment.pieces c.next.new.self c.in-Some.segment.now _
-      c.in-Some.ensures.value (sym c.in_ok-put_segment.ensures) c.loop-segment.invariant
+    c.in-Some.ensures.value (sym c.in_ok-put_segment.ensures) c.loop-segment.invariant
 
 pub returns-in_err-put_segment : goal.returns-in_err-put_segment
 returns-in_err-put_segment c =
@@ -26,7 +26,7 @@ returns-in_err-put_segment c =
     let names = c.args.names.now in
     let slots = texts_of c.args.slots.now in
     let none = segments_off names (texts_of c.loop-segment.slots) c.loop-segment.pieces c.next.new.self c.in-Some.segment.now _
-      c.in-Some.ensures.value (sym c.in_err-put_segment.ensures) c.loop-segment.invariant in
+    c.in-Some.ensures.value (sym c.in_err-put_segment.ensures) c.loop-segment.invariant in
     rw c.from_residual-in_err-put_segment.ensures (sym none ∙ (opened (begins_empty pieces) (further pieces) c.in_ok-pieces.pieces (run_segments names slots (further pieces)) c.in_ok-pieces.ensures ∙ segments_total names slots c.args.part.now c.requires))
 
 pub returns : goal.returns

@@ -10,7 +10,7 @@ pub returns-in_err-common : goal.returns-in_err-common
 returns-in_err-common c =
     let unsound : (c.args.is_clean && is_some c.args.common) ≡ false = rw c.in_err-common.was (and-false c.args.is_clean) in
     let faulty : is_faulty (header_conditions c.args.door.now c.args.header.now (c.args.is_clean && is_some c.args.common) c.args.groups) ≡ true =
-      header_unsound c.args.door.now c.args.header.now (c.args.is_clean && is_some c.args.common) c.args.groups unsound in
+    header_unsound c.args.door.now c.args.header.now (c.args.is_clean && is_some c.args.common) c.args.groups unsound in
     rw (c.from_residual-in_err-common.ensures, faulty) refl
 
 pub returns-then-not-is_clean : goal.returns-then-not-is_clean
@@ -20,10 +20,10 @@ returns-then-not-is_clean c =
     let is_sound = c.args.is_clean && is_some c.args.common in
     let faulty : is_faulty (header_conditions door header is_sound c.args.groups) ≡ true = elim c.then-not-is_clean.branch [
       | then-not-is_clean-via-then-not-is_clean w ↦
-        header_unsound door header is_sound c.args.groups (rw w.if-not-is_clean.true refl)
+          header_unsound door header is_sound c.args.groups (rw w.if-not-is_clean.true refl)
       | then-not-is_clean-via-else-not-is_clean+then-not-is_addressed w ↦
-        header_elsewhere door header is_sound c.args.groups (sym w.is_addressed.ensures ∙ w.if-not-is_addressed.true)
+          header_elsewhere door header is_sound c.args.groups (sym w.is_addressed.ensures ∙ w.if-not-is_addressed.true)
       | then-not-is_clean-via-else-not-is_clean+else-not-is_addressed+then-not-is_count w ↦
-        header_miscounted door header is_sound c.args.groups (sym w.is_count.ensures ∙ w.if-not-is_count.true)
-      ] in
+          header_miscounted door header is_sound c.args.groups (sym w.is_count.ensures ∙ w.if-not-is_count.true)
+    ] in
     rw faulty refl

@@ -9,7 +9,7 @@ use Rattle.rx_request.proofs.request.transactions.Goals as goal
 pub loop-group-preserved : goal.loop-group-preserved
 loop-group-preserved c =
     asked_more c.args.is_billing (insurance_texts c.args.common.now) c.loop-group.list.items c.extend_from_slice.new.self.items c.loop-group.pieces c.next.new.self c.in-Some.group.now c.transaction.result _
-      c.in-Some.ensures.value c.in_ok-extend_from_slice.ensures.items c.transaction.ensures c.loop-group.invariant
+    c.in-Some.ensures.value c.in_ok-extend_from_slice.ensures.items c.transaction.ensures c.loop-group.invariant
 
 pub unreachable-requires : goal.unreachable-requires
 unreachable-requires c =
