@@ -12,6 +12,8 @@
 #![tactic(auto)]
 
 mod bill;
+#[cfg(test)]
+mod cases;
 mod codes;
 mod field;
 mod header;

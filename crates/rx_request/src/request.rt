@@ -186,22 +186,3 @@ pub fn decode(alloc: Global, door: &Door, bytes: &[u8]) -> Result<Transmission, 
         body,
     })
 }
-
-#[cfg(test)]
-mod tests {
-    use super::*;
-    use std::test::Fail;
-
-    #[test]
-    fn base_claim(rt: HostRuntime) -> Result<(), Fail> {
-        let door = Door {
-            bin: *b"900001",
-            pcn: *b"RXDEMO    ",
-        };
-        let text =
-            b"900001D0B1RXDEMO    1011234567893     20260228          \x1e\x1cAM04\x1cC2C100\x1cC301\x1d\x1e\x1cAM07\x1cEM1\x1cD2000000000123\x1cE103\x1cD700002000202\x1cE70000030000\x1cD5030\x1cD61\x1e\x1cAM11\x1cD90003000{\x1cDC0000017E\x1cDQ0004000{";
-        let transmission = decode(rt.alloc(), &door, text)?;
-        println!(rt; "{transmission:?}")?;
-        Ok(())
-    }
-}
