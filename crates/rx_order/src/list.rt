@@ -141,6 +141,7 @@ impl<T: Keyed> Ascending<T> {
         ensures there { is_there result ≡ contains_key T.Key.cmp T.key_of self.old (T.key_of item) }
         ensures err { OnErr result (self.new ≡ self.old) }
         ensures back { IfErr result (λ refused. refused_item refused ≡ item) }
+        ensures ascending { IsAscending T.Key.cmp T.key_of self.old }
         ensures small { length self.new < 2 ^ 63 }
     {
         match self.place(&item.key()) {
@@ -165,6 +166,7 @@ impl<T: Keyed> Ascending<T> {
         ensures value { result ≡ ok_or (item_at T.Key.cmp T.key_of self.old (T.key_of item)) item }
         ensures ok { OnOk result (self.new ≡ put T.Key.cmp T.key_of self.old item) }
         ensures err { OnErr result (self.new ≡ self.old) }
+        ensures ascending { IsAscending T.Key.cmp T.key_of self.old }
     {
         match self.place(&item.key()) {
             Ok(at) => Ok(std::mem::replace(&mut self.items[at], item)),
@@ -175,6 +177,7 @@ impl<T: Keyed> Ascending<T> {
     pub fn remove(&mut self, key: &T::Key) -> Option<T>
         ensures value { result ≡ item_at T.Key.cmp T.key_of self.old key.now }
         ensures items { self.new ≡ without T.Key.cmp T.key_of self.old key.now }
+        ensures ascending { IsAscending T.Key.cmp T.key_of self.old }
     {
         match self.place(key) {
             Ok(at) => Some(self.items.remove(at)),
