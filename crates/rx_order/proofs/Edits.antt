@@ -1,6 +1,7 @@
 -- Ascending lists are told apart by their look-ups, so changes can be undone, repeated and exchanged.
 use Rattle.std.proofs.Common.{◌≡◌, List, [], ◌∷◌, ◌++◌, true, false, Option, Some, None, refl, sym, ap, ◌∙◌, inl, inr}
 use Rattle.std.specs.Option.{option_or}
+use Rattle.std.specs.List.{Contains}
 use Rattle.std.specs.Cmp.{IsTotalOrder}
 use Rattle.std.specs.Ordering.{is_eq}
 use Rattle.std.specs.declared.cmp.Ordering.{Ordering}
@@ -11,7 +12,7 @@ use Rattle.std.proofs.lemmas.List.Sums.{fold-append}
 use Rattle.rx_order.specs.Ascending.{has_key, IsAscending, item_at, is_past, put, put_all, without}
 use Rattle.rx_order.proofs.Keys.{cases_Ordering, Equal-from_is_eq, Less-from_is_lt, Less-from_Greater, has_key-itself, is_eq-turned, IsBelow-through, item_at-below}
 use Rattle.rx_order.proofs.Kept.{IsAscending-put, IsAscending-put_all, IsAscending-without}
-use Rattle.rx_order.proofs.LookUps.{item_at-tied, item_at-put, item_at-put_other, item_at-put_all, item_at-without, item_at-without_other, item_at-found}
+use Rattle.rx_order.proofs.LookUps.{item_at-tied, item_at-put, item_at-put_other, item_at-put_all, item_at-without, item_at-without_other, item_at-found, item_at-from_contains}
 
 module _ {X K : Type 0} (cmp : K → K → Ordering) (order : IsTotalOrder cmp) (key : X → K) where
   -- the first item is found by its key
@@ -44,6 +45,29 @@ module _ {X K : Type 0} (cmp : K → K → Ordering) (order : IsTotalOrder cmp) 
         let less : cmp (key y) (key x) ≡ Less = Less-from_Greater cmp order key (key x) (key y) more in
         absurd (let e : None ≡ Some y = sym (item_at-below cmp order key (key y) (x ∷ xs) (less, IsBelow-through cmp order key (key y) (key x) xs less a.0)) ∙ h (key y) ∙ item_at-first y ys in cc)
   ]
+
+  -- ascending lists with the same items are one
+  pub same_members : (xs ys : List X) → IsAscending cmp key xs → IsAscending cmp key ys
+      → ((x : X) → Contains xs x → Contains ys x) → ((x : X) → Contains ys x → Contains xs x) → xs ≡ ys
+  same_members xs ys a b to from = same_items xs ys a b (λ k. both k (item_at cmp key xs k) (item_at cmp key ys k) refl refl)
+    where
+      through : (us vs : List X) → IsAscending cmp key vs → ((x : X) → Contains us x → Contains vs x) → (k : K) (x : X) → item_at cmp key us k ≡ Some x → item_at cmp key vs k ≡ Some x
+      through us vs c into k x h =
+          let found = item_at-found cmp order key us k x h in
+          sym (item_at-tied cmp order key vs (key x) k found.1) ∙ item_at-from_contains cmp order key vs x c (into x found.0)
+
+      both : (k : K) (o p : Option X) → item_at cmp key xs k ≡ o → item_at cmp key ys k ≡ p → item_at cmp key xs k ≡ item_at cmp key ys k
+      both k (Some x) p h m = h ∙ sym (through xs ys b to k x h)
+      both k None (Some y) h m = through ys xs a from k y m ∙ sym m
+      both k None None h m = h ∙ sym m
+
+  -- two items of one list with one key are one
+  pub same_item : (xs : List X) (x y : X) → IsAscending cmp key xs → Contains xs x → Contains xs y → cmp (key x) (key y) ≡ Equal → x ≡ y
+  same_item xs x y a one two tied =
+      let at_x = item_at-from_contains cmp order key xs x a one in
+      let at_y = item_at-from_contains cmp order key xs y a two in
+      let e : Some x ≡ Some y = sym at_x ∙ item_at-tied cmp order key xs (key x) (key y) tied ∙ at_y in
+      cc
 
   -- ---- what is put and taken out again
 

@@ -47,6 +47,10 @@ module _ {X K : Type 0} (cmp : K → K → Ordering) (key : X → K) where
   abbrev pub put_all : List X → List X → List X
   put_all xs ys = fold put xs ys
 
+  -- the lists put together, one after another
+  abbrev pub joined : List (List X) → List X
+  joined lists = fold put_all [] lists
+
   -- every item but the one that has the key
   abbrev pub without : List X → K → List X
   without xs k = filter (λ x. not (has_key k x)) xs
