@@ -43,3 +43,6 @@ pub use period::Period;
 pub use product::Product;
 pub use stamp::Stamp;
 pub use time::Time;
+
+#[cfg(test)]
+mod tests;
