@@ -1,3 +1,4 @@
+pub mod Agreeing
 pub mod Edits
 pub mod FilteredPuts
 pub mod Filters
