@@ -17,6 +17,8 @@ mod codes;
 mod echo;
 mod pricing;
 mod reply;
+#[cfg(test)]
+mod tests;
 mod transaction;
 mod transmission;
 

@@ -82,7 +82,7 @@ impl Transactions {
     pub fn copy(&self, alloc: Global) -> Result<Transactions, Memory>
         ensures { IfOk result (λ list. list ≡ self.now) }
     {
-        let items = Vec::from_slice(alloc, self.items.as_slice())?;
+        let items = Vec::from_slice(alloc, self.as_slice())?;
         Ok(Transactions { items })
     }
 }
