@@ -43,3 +43,13 @@ UnlessMemory other P = P
 -- what a call answered is what the definition has, unless memory was wanting
 abbrev pub Gives : {X : Type 0} → Result X BatchFault → Result X BatchFault → Type 0
 Gives result meant = MatchResult result (λ x. meant ≡ Ok x) (λ f. UnlessMemory f (meant ≡ Err f))
+
+-- the value that a call put in place is the one that the definition has, unless memory was wanting
+abbrev pub Takes : {X : Type 0} → Result Unit BatchFault → X → Result X BatchFault → Type 0
+Takes result new meant = MatchResult result (λ _. meant ≡ Ok new) (λ f. UnlessMemory f (meant ≡ Err f))
+
+-- the first step, and where it has no fault the next
+infixl 10 ◌>>=◌
+abbrev pub ◌>>=◌ : {A B : Type 0} → Result A BatchFault → (A → Result B BatchFault) → Result B BatchFault
+(Ok x) >>= f = f x
+(Err e) >>= f = Err e

@@ -1,5 +1,6 @@
 -- The records of a batch file in their order, and which bytes are a file (NCPDP Batch Standard 1.2).
 use Rattle.std.specs.Prelude.{◌≡◌, ℕ, ◌+◌, Bool, true, false, not, ◌&&◌, ◌||◌, nat_lt, nat_le, ◌==◌, if◌then◌else◌, List, [], ◌∷◌, ◌++◌, codes, length, drop, slice_range, All, Option, Some, None, Result, Ok, Err}
+use Rattle.std.specs.Option.{ok_or}
 use Rattle.rx_batch.specs.declared.detail.Detail.{Detail}
 use Rattle.rx_batch.specs.declared.fault.BatchFault.{BatchFault}
 use Rattle.rx_batch.specs.declared.fault.BatchFault.TheVariants as fault
@@ -7,7 +8,8 @@ use Rattle.rx_batch.specs.declared.front.Front.{Front}
 use Rattle.rx_batch.specs.declared.front.Stage.{Stage}
 use Rattle.rx_batch.specs.declared.front.Stage.TheVariants.{Start, Headed, Whole}
 use Rattle.rx_batch.specs.declared.head.Head.{Head}
-use Rattle.rx_batch.specs.declared.record.Trailer.{Trailer}
+use Rattle.rx_batch.specs.declared.trailer.Trailer.{Trailer}
+use Rattle.rx_batch.specs.Fault.{◌>>=◌}
 use Rattle.rx_batch.specs.Header.{is_kind, head_of, trailer_of}
 
 -- CR and LF, which are skipped before, between and after records
@@ -34,39 +36,51 @@ past n f = record f { length = f.length + n }
 abbrev pub with_record : Front → List ℕ → Stage → List Detail → Front
 with_record f body stage details = record { stage = stage; details = details; length = f.length + (length body + 2) }
 
--- the header, which is the first record
-abbrev pub with_head : Front → List ℕ → Option Head → Result Front BatchFault
-with_head f body None = Err (fault.HeaderShape f.length)
-with_head f body (Some head) = Ok (with_record f body (Headed head) f.details)
+-- the header: of the fields that the standard has
+abbrev pub header : ℕ → List ℕ → Result Head BatchFault
+header at body =
+    if is_kind (codes "00") body then ok_or (head_of body) (fault.HeaderShape at) else Err (fault.NoHeader at)
 
-abbrev pub header : Front → List ℕ → Result Front BatchFault
-header f body = if is_kind (codes "00") body then with_head f body (head_of body) else Err (fault.NoHeader f.length)
+-- a detail: a reference of ten bytes, and a transmission; there are at most 100,000
+abbrev pub detail : ℕ → List Detail → List ℕ → Result Detail BatchFault
+detail at details body =
+    if nat_lt (length body) 12 then Err (fault.DetailShape at)
+    else (if nat_le 100_000 (length details) then Err (fault.TooMuch at)
+    else Ok (record { reference = slice_range body 2 12; text = drop 12 body }))
 
--- a detail, of which there are at most 100,000
-abbrev pub detail_of : List ℕ → Detail
-detail_of body = record { reference = slice_range body 2 12; text = drop 12 body }
+-- the trailer: its batch number is the header's, and its count that of the details or two more
+abbrev pub agreeing : ℕ → Head → List Detail → Trailer → Result Trailer BatchFault
+agreeing at head details t =
+    if not (t.number == head.lot.number) then Err (fault.NumberDiffers at)
+    else (if not (t.count == length details || t.count == length details + 2) then Err (fault.CountDiffers at)
+    else Ok t)
 
-abbrev pub detail : Front → Head → List ℕ → Result Front BatchFault
-detail f head body =
-    if nat_lt (length body) 12 then Err (fault.DetailShape f.length)
-    else (if nat_le 100_000 (length f.details) then Err (fault.TooMuch f.length)
-    else Ok (with_record f body (Headed head) (f.details ++ detail_of body ∷ [])))
-
--- the trailer, whose batch number is the header's, and whose count is that of the details or two more
-abbrev pub with_trailer : Front → Head → List ℕ → Option Trailer → Result Front BatchFault
-with_trailer f head body None = Err (fault.TrailerShape f.length)
-with_trailer f head body (Some t) =
-    if not (t.number == head.lot.number) then Err (fault.NumberDiffers f.length)
-    else (if not (t.count == length f.details || t.count == length f.details + 2) then Err (fault.CountDiffers f.length)
-    else Ok (with_record f body (Whole head) f.details))
+abbrev pub trailer : ℕ → Head → List Detail → List ℕ → Result Trailer BatchFault
+trailer at head details body = do
+  t ← ok_or (trailer_of body) (fault.TrailerShape at)
+  agreeing at head details t
 
 -- what a good front is with the record that follows it, or the first fault of that record
+abbrev pub with_header : Front → List ℕ → Result Front BatchFault
+with_header f body = do
+  head ← header f.length body
+  Ok (with_record f body (Headed head) f.details)
+
+abbrev pub with_detail : Front → List ℕ → Result Front BatchFault
+with_detail f body = do
+  d ← detail f.length f.details body
+  Ok (with_record f body f.stage (f.details ++ d ∷ []))
+
+abbrev pub with_trailer : Front → Head → List ℕ → Result Front BatchFault
+with_trailer f head body = do
+  t ← trailer f.length head f.details body
+  Ok (with_record f body (Whole head) f.details)
+
 abbrev pub record_at : Stage → Front → List ℕ → Result Front BatchFault
-record_at Start f body = header f body
+record_at Start f body = with_header f body
 record_at (Headed head) f body =
-    if is_kind (codes "G1") body then detail f head body
-    else (if is_kind (codes "99") body then with_trailer f head body (trailer_of body)
-    else Err (fault.RecordKind f.length))
+    if is_kind (codes "G1") body then with_detail f body
+    else (if is_kind (codes "99") body then with_trailer f head body else Err (fault.RecordKind f.length))
 record_at (Whole head) f body = Err (fault.AfterTrailer f.length)
 
 abbrev pub record_of : Front → List ℕ → Result Front BatchFault

@@ -6,13 +6,13 @@ use Rattle.std.specs.Result.{result_ok}
 use Rattle.rx_fields.specs.Digits.{number_of}
 use Rattle.rx_fields.specs.Calendar.{date_of}
 use Rattle.rx_fields.specs.Clock.{time_of}
-use Rattle.rx_fields.specs.Numbered.{lot_of}
+use Rattle.rx_fields.specs.Numbered.{LotParts, lot_of}
 use Rattle.rx_batch.specs.declared.head.Head.{Head}
 use Rattle.rx_batch.specs.declared.head.Kind.{Kind}
 use Rattle.rx_batch.specs.declared.head.Kind.TheVariants.{Transmission, Response}
 use Rattle.rx_batch.specs.declared.head.FileType.{FileType}
 use Rattle.rx_batch.specs.declared.head.FileType.TheVariants.{Production, Test}
-use Rattle.rx_batch.specs.declared.record.Trailer.{Trailer}
+use Rattle.rx_batch.specs.declared.trailer.Trailer.{Trailer}
 
 -- T for requests, R for replies
 abbrev pub byte_of_kind : Kind → ℕ
@@ -36,13 +36,18 @@ infixl 10 ◌>>=◌
 abbrev pub ◌>>=◌ : {A B : Type 0} → Option A → (A → Option B) → Option B
 o >>= f = option_and_then f o
 
+-- the batch number and the creation date of their digits
+abbrev pub lot_in : List ℕ → List ℕ → Option LotParts
+lot_in number created = do
+  n ← result_ok (number_of 7 number)
+  day ← result_ok (date_of created)
+  lot_of n day
+
 -- the head of a header: 73 bytes between STX and ETX, type T, version 12
 abbrev pub head_of : List ℕ → Option Head
 head_of body =
     if length body == 73 && slice_index body 2 == 84 && is_kind (codes "12") (slice_range body 47 49) then (do
-      number ← result_ok (number_of 7 (slice_range body 27 34))
-      created ← result_ok (date_of (slice_range body 34 42))
-      lot ← lot_of number created
+      lot ← lot_in (slice_range body 27 34) (slice_range body 34 42)
       time ← time_of (slice_range body 42 46)
       file ← file_of (slice_index body 46)
       Some (record {

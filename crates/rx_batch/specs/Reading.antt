@@ -7,6 +7,7 @@ use Rattle.rx_batch.specs.declared.fault.BatchFault.TheVariants as fault
 use Rattle.rx_batch.specs.declared.front.Front.{Front}
 use Rattle.rx_batch.specs.declared.front.Stage.{Stage}
 use Rattle.rx_batch.specs.declared.front.Stage.TheVariants.{Start, Headed, Whole}
+use Rattle.rx_batch.specs.Fault.{◌>>=◌}
 use Rattle.rx_batch.specs.Grammar.{is_skipped, past, record_of, no_front}
 
 -- the trailer was read
@@ -50,11 +51,6 @@ gap piece = prefix_len is_skipped piece
 
 abbrev pub unskipped : List ℕ → List ℕ
 unskipped piece = drop (gap piece) piece
-
-infixl 10 ◌>>=◌
-abbrev pub ◌>>=◌ : {A B : Type 0} → Result A BatchFault → (A → Result B BatchFault) → Result B BatchFault
-(Ok x) >>= f = f x
-(Err e) >>= f = Err e
 
 -- what follows a good front, cut at each ETX, is read record by record
 abbrev pub batch_after : Front → List (List ℕ) → Result Batch BatchFault

@@ -19,6 +19,7 @@ mod head;
 
 
 mod record;
+mod trailer;
 
 
 pub use batch::Batch;
