@@ -1,4 +1,5 @@
 pub mod Fault
 pub mod Grammar
 pub mod Header
+pub mod Pieces
 pub mod Reading

@@ -38,7 +38,7 @@ impl Model for Details {
     ghost view = { λ d. d.details.items };
 }
 
-ghost use Rattle.std.specs.Prelude.{[], ◌∷◌, ◌++◌, length, OnOk, OnErr};
+ghost use Rattle.std.specs.Prelude.{[], ◌∷◌, ◌++◌, ◌==◌, length, OnOk, OnErr};
 
 use std::alloc::{AllocError, AllocFailed};
 
@@ -53,6 +53,12 @@ impl Text {
         ensures { result.now ≡ self.now }
     {
         self.bytes.as_slice()
+    }
+
+    pub fn is_empty(&self) -> bool
+        ensures { result ≡ (length self.now == 0) }
+    {
+        self.bytes.is_empty()
     }
 
     pub fn into_vec(self) -> Vec<u8>

@@ -1,10 +1,10 @@
-ghost use Rattle.std.specs.Prelude.{◌≡◌, Ok};
+ghost use Rattle.std.specs.Prelude.{◌≡◌, ◌++◌, Ok};
 ghost use Rattle.rx_batch.specs.Fault.{Takes};
 ghost use Rattle.rx_batch.specs.Grammar.{past, with_header, with_detail, with_trailer, record_of, no_front};
 ghost use Rattle.rx_batch.specs.Reading.{is_whole, stray, ended};
 
 use crate::batch::Batch;
-use crate::detail::Details;
+use crate::detail::{Details, Text};
 use crate::fault::BatchFault;
 use crate::head::Head;
 use crate::record;
@@ -102,6 +102,17 @@ impl Front {
             }
             Stage::Whole(_) => Err(BatchFault::AfterTrailer { at: self.length }),
         }
+    }
+
+    // Takes the record whose bytes between STX and ETX came in two parts.
+    pub(crate) fn joined_record(&mut self, alloc: Global, mut body: Text, end: &[u8]) -> Result<(), BatchFault>
+        ensures { Takes result self.new (record_of self.old (body ++ end.now)) }
+    {
+        if body.is_empty() {
+            return self.record(alloc, end);
+        }
+        body.extend(end)?;
+        self.record(alloc, body.bytes())
     }
 
     fn header(&mut self, body: &[u8]) -> Result<(), BatchFault>

@@ -18,6 +18,8 @@ mod front;
 mod head;
 
 
+mod pieces;
+mod reader;
 mod record;
 mod trailer;
 
@@ -26,5 +28,6 @@ pub use batch::Batch;
 pub use detail::{Detail, Details, Text};
 pub use fault::BatchFault;
 pub use head::{FileType, Head, Kind};
+pub use pieces::Pieces;
 
 
