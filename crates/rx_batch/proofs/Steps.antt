@@ -12,8 +12,8 @@ use Rattle.rx_batch.specs.declared.fault.BatchFault.TheVariants as fault
 use Rattle.rx_batch.specs.declared.front.Front.{Front}
 use Rattle.rx_batch.specs.declared.reader.Reader.{Reader}
 use Rattle.rx_batch.specs.Fault.{UnlessMemory, Gives, ◌>>=◌}
-use Rattle.rx_batch.specs.Grammar.{is_skipped, is_mark, IsInside, record_text, past, record_of, IsFront}
-use Rattle.rx_batch.specs.Grammar.IsFront.{skipped, good}
+use Rattle.rx_batch.specs.Grammar.{is_skipped, is_mark, IsInside, record_text, past, record_of, no_front, IsFront}
+use Rattle.rx_batch.specs.Grammar.IsFront.{empty, skipped, good}
 use Rattle.rx_batch.specs.Reading.{is_whole, ended, stray, begins, batch_from, batch_of}
 use Rattle.rx_batch.specs.Pieces.{begun_text, IsRead, IsReadUpTo, IsFaultOf}
 use Rattle.rx_batch.proofs.Following.{past_none, past_more, not_whole, front_of, from_record, from_stray, from_second, from_begun, from_end}
@@ -165,6 +165,26 @@ end_read f text h = ap batch_of h.whole ∙ front_of h.good [] ∙ from_end f
 pub begun_end_read : (f : Front) (text body : List ℕ) → IsRead (within f body) text → batch_of text ≡ Err (fault.Unclosed f.length)
 begun_end_read f text body h = ap batch_of h.whole ∙ front_of h.good (2 ∷ body) ∙ from_begun f body h.can_begin.1 h.can_begin.0
 
+-- nothing was read of the empty text
+pub nothing_read : (r : Reader) → r ≡ record { front = no_front; begun = None } → IsRead r []
+nothing_read r is =
+    let start : IsRead (between no_front) [] = record { bytes = []; good = empty; whole = refl; can_begin = tt } in
+    subst (λ (x : Reader). IsRead x []) (sym is) start
+
+-- a fault stays that of the longer text
+pub kept_fault : (f : BatchFault) (text more : List ℕ) → IsFaultOf f text → IsFaultOf f (text ++ more)
+kept_fault f text more h =
+    let said : ((later : List ℕ) → batch_of (text ++ later) ≡ Err f) → (later : List ℕ) → batch_of ((text ++ more) ++ later) ≡ Err f = λ is later.
+    ap batch_of (append_assoc text more later) ∙ is (more ++ later) in
+    unless_so f said h
+
+-- a fault of every longer text is that of the text
+pub fault_here : (f : BatchFault) (text : List ℕ) → IsFaultOf f text → UnlessMemory f (batch_of text ≡ Err f)
+fault_here f text h =
+    let said : ((later : List ℕ) → batch_of (text ++ later) ≡ Err f) → batch_of text ≡ Err f = λ is.
+    ap batch_of (sym (append-nil text)) ∙ is [] in
+    unless_so f said h
+
 -- a piece comes behind the text so far
 pub piece_comes : (r : Reader) (text piece : List ℕ) → IsRead r text → IsReadUpTo r (text ++ piece) piece
 piece_comes r text piece h = record { before = text; whole = refl; is_read = h }
@@ -214,7 +234,7 @@ begun_passed f text rest some stx early h =
     (subst (λ (bs : List ℕ). IsReadUpTo (between f) text bs) (first_of_all rest some ∙ ap (λ (b : ℕ). b ∷ take (length rest - 1) (drop 1 rest)) stx) h)
 
 pub filled : (n : ℕ) (b : Bool) → b ≡ eqb n 0 → b ≡ false → 0 < n
-filled n b is empty = grind (arith, nat_tests)
+filled n b is some = grind (arith, nat_tests)
 
 pub early_whole : (f : Front) (b : ℕ) (whole : Bool) → whole ≡ is_whole f.stage → whole ≡ true → begins f b ≡ false
 early_whole f b whole is yes_whole = rw (sym is ∙ yes_whole) refl
