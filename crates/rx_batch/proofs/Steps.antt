@@ -1,5 +1,5 @@
 -- What a reader's steps make of the text that it has read so far.
-use Rattle.std.proofs.Common.{◌≡◌, ◌≢◌, cond, eqb, add-zero, ℕ, zero, suc, ◌+◌, Bool, true, false, List, [], ◌∷◌, ◌++◌, length, drop, append_assoc, append-nil, refl, sym, ap, ◌∙◌, subst, arith, take, get_or, take_all, length-drop, ◌-◌, ◌<◌, inl, inr, Result, Ok, Err, Option, Some, None}
+use Rattle.std.proofs.Common.{◌≡◌, ◌≢◌, cond, eqb, add-zero, ℕ, zero, suc, ◌+◌, Bool, true, false, List, [], ◌∷◌, ◌++◌, length, drop, append_assoc, append-nil, refl, sym, ap, ◌∙◌, subst, arith, take, get_or, take_all, length-drop, ◌-◌, ◌<◌, inl, inr, Result, Ok, Err, Option, Some, None, MatchOption}
 use Rattle.std.specs.List.{All, prefix_len}
 use Rattle.std.proofs.lemmas.Bool.{cases_Bool, ne_eqb}
 use Rattle.std.proofs.lemmas.Bool.Decides.{nat_tests}
@@ -15,7 +15,7 @@ use Rattle.rx_batch.specs.Fault.{UnlessMemory, Gives, ◌>>=◌}
 use Rattle.rx_batch.specs.Grammar.{is_skipped, is_mark, IsInside, record_text, past, record_of, no_front, IsFront}
 use Rattle.rx_batch.specs.Grammar.IsFront.{empty, skipped, good}
 use Rattle.rx_batch.specs.Reading.{is_whole, ended, stray, begins, batch_from, batch_of}
-use Rattle.rx_batch.specs.Pieces.{begun_text, IsRead, IsReadUpTo, IsFaultOf}
+use Rattle.rx_batch.specs.Pieces.{begun_text, IsRead, IsReadUpTo, IsFaultOf, Fed, StandsFor, answer_of}
 use Rattle.rx_batch.proofs.Following.{past_none, past_more, not_whole, front_of, from_record, from_stray, from_second, from_begun, from_end}
 
 -- ---- want of memory
@@ -171,19 +171,22 @@ nothing_read r is =
     let start : IsRead (between no_front) [] = record { bytes = []; good = empty; whole = refl; can_begin = tt } in
     subst (λ (x : Reader). IsRead x []) (sym is) start
 
--- a fault stays that of the longer text
-pub kept_fault : (f : BatchFault) (text more : List ℕ) → IsFaultOf f text → IsFaultOf f (text ++ more)
-kept_fault f text more h =
-    let said : ((later : List ℕ) → batch_of (text ++ later) ≡ Err f) → (later : List ℕ) → batch_of ((text ++ more) ++ later) ≡ Err f = λ is later.
-    ap batch_of (append_assoc text more later) ∙ is (more ++ later) in
-    unless_so f said h
-
 -- a fault of every longer text is that of the text
 pub fault_here : (f : BatchFault) (text : List ℕ) → IsFaultOf f text → UnlessMemory f (batch_of text ≡ Err f)
 fault_here f text h =
     let said : ((later : List ℕ) → batch_of (text ++ later) ≡ Err f) → batch_of text ≡ Err f = λ is.
     ap batch_of (sym (append-nil text)) ∙ is [] in
     unless_so f said h
+
+-- what a call answers for a fault that is kept
+answered : (o : Option BatchFault) (r : Reader) (text : List ℕ) (e : BatchFault) → Err e ≡ answer_of o → MatchOption o (IsRead r text) (λ f. IsFaultOf f text) → UnlessMemory e (batch_of text ≡ Err e)
+answered None r text e is h = cc
+answered (Some f) r text e is h =
+    let same : f ≡ e = cc in
+    subst (λ (x : BatchFault). UnlessMemory x (batch_of text ≡ Err x)) same (fault_here f text h)
+
+pub fed_fault : (fed : Fed) (text : List ℕ) (e : BatchFault) → Err e ≡ answer_of fed.fault → StandsFor fed text → UnlessMemory e (batch_of text ≡ Err e)
+fed_fault fed text e is h = answered fed.fault fed.reader text e is h
 
 -- a piece comes behind the text so far
 pub piece_comes : (r : Reader) (text piece : List ℕ) → IsRead r text → IsReadUpTo r (text ++ piece) piece

@@ -3,3 +3,4 @@ pub mod Grammar
 pub mod Header
 pub mod Pieces
 pub mod Reading
+pub mod Writing

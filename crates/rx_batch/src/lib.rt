@@ -16,18 +16,17 @@ mod detail;
 mod fault;
 mod front;
 mod head;
-
-
 mod pieces;
 mod reader;
+mod reading;
 mod record;
 mod trailer;
-
+mod writing;
 
 pub use batch::Batch;
 pub use detail::{Detail, Details, Text};
 pub use fault::BatchFault;
 pub use head::{FileType, Head, Kind};
 pub use pieces::Pieces;
-
-
+pub use reading::read_batch;
+pub use writing::write_batch;

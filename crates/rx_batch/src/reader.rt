@@ -12,8 +12,8 @@ use crate::front::Front;
 use memchr::memchr2;
 use std::alloc::Global;
 
-const STX: u8 = 2;
-const ETX: u8 = 3;
+pub(crate) const STX: u8 = 2;
+pub(crate) const ETX: u8 = 3;
 
 /// A good front of a text, and the bytes after the STX of a record that was begun.
 #[derive(Debug, Drop)]
