@@ -1,0 +1,3 @@
+mod Cases
+pub mod Following
+pub mod Steps
