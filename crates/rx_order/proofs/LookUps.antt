@@ -1,6 +1,6 @@
 -- What is found by a key, after each change of a list.
-use Rattle.std.proofs.Common.{◌≡◌, zero, suc, List, [], ◌∷◌, map, Bool, true, false, cond, Some, None, refl, sym, ap, ◌∙◌, subst, inl, inr, arith}
-use Rattle.std.specs.Option.{option_map, option_or, option_and_then}
+use Rattle.std.proofs.Common.{◌≡◌, zero, suc, List, [], ◌∷◌, map, Bool, true, false, cond, Option, Some, None, refl, sym, ap, ◌∙◌, subst, inl, inr, arith}
+use Rattle.std.specs.Option.{is_some, option_map, option_or, option_and_then}
 use Rattle.std.specs.Bool.{then_some}
 use Rattle.std.specs.List.{All, Contains, filter}
 use Rattle.std.specs.Cmp.{IsTotalOrder}
@@ -10,7 +10,7 @@ use Rattle.std.specs.declared.cmp.Ordering.TheVariants.{Equal}
 use Rattle.std.proofs.lemmas.Bool.{cases_Bool}
 use Rattle.std.proofs.lemmas.Cmp.{alike_right, tied_itself}
 use Rattle.std.proofs.lemmas.List.Elements.{All-cons, All-head, All-tail, All-nil}
-use Rattle.rx_order.specs.Ascending.{has_key, IsAscending, item_at, put, put_all, without}
+use Rattle.rx_order.specs.Ascending.{has_key, IsAscending, contains_key, item_at, put, put_all, without}
 use Rattle.rx_order.proofs.Keys.{cases_Ordering, Equal-from_is_eq, Greater-from_Less, has_key-itself, has_key-tied, has_key-both, is_eq-turned, item_at-below}
 
 module _ {X K : Type 0} (cmp : K → K → Ordering) (order : IsTotalOrder cmp) (key : X → K) where
@@ -153,6 +153,14 @@ module _ {X K : Type 0} (cmp : K → K → Ordering) (order : IsTotalOrder cmp) 
   pub item_at-none : (xs : List X) (k : K) → All (λ x. has_key cmp key k x ≡ false) xs → item_at cmp key xs k ≡ None
   item_at-none [] k h = refl
   item_at-none (x ∷ xs) k h = rw (All-head (λ y. has_key cmp key k y ≡ false) x xs h) (item_at-none xs k (All-tail (λ y. has_key cmp key k y ≡ false) x xs h))
+
+  -- a key that is free finds nothing
+  pub item_at-free : (xs : List X) (k : K) → contains_key cmp key xs k ≡ false → item_at cmp key xs k ≡ None
+  item_at-free xs k = no_item (item_at cmp key xs k)
+    where
+      no_item : (o : Option X) → is_some o ≡ false → o ≡ None
+      no_item None h = refl
+      no_item (Some x) h = cc
 
   -- what holds of each item holds of the one that is found
   pub item_at-all : (P : X → Type 0) (xs : List X) (k : K) (x : X) → All P xs → item_at cmp key xs k ≡ Some x → P x

@@ -3,7 +3,7 @@ use Rattle.std.proofs.Common.{rules}
 use Rattle.std.specs.Ordering.{is_lt}
 use Rattle.std.proofs.lemmas.List.Sorted.{answers_always}
 use Rattle.rx_order.proofs.Kept.{is_ascending-neighbours}
-use Rattle.rx_order.proofs.list.is_ascending.Goals as goal
+use Rattle.rx_order.proofs.slices.is_ascending.Goals as goal
 
 pub returns : goal.returns
 returns g c =

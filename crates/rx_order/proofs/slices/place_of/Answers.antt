@@ -2,7 +2,7 @@
 use Rattle.std.proofs.Common.{rules}
 use Rattle.std.proofs.lemmas.List.Sorted.{answers_always}
 use Rattle.rx_order.proofs.Places.{searched}
-use Rattle.rx_order.proofs.list.place_of.Goals as goal
+use Rattle.rx_order.proofs.slices.place_of.Goals as goal
 
 pub returns : goal.returns
 returns g c =
