@@ -1,13 +1,9 @@
 -- What keeps a ledger a ledger: one more member, one more row of a listed member, one row less.
-use Rattle.std.proofs.Common.{◌≡◌, List, [], ◌∷◌, Bool, true, false, not, refl, inl, inr, arith}
-use Rattle.std.specs.List.{filter, list_all}
-use Rattle.std.specs.Ordering.{is_eq}
-use Rattle.std.specs.declared.cmp.Ordering.{Ordering}
-use Rattle.std.proofs.lemmas.Bool.{cases_Bool, and_parts}
+use Rattle.std.proofs.Common.{◌≡◌, List, true, not, inl, inr}
+use Rattle.std.proofs.lemmas.Bool.{cases_Bool}
 use Rattle.rx_fields.specs.Order.{key_cmp}
 use Rattle.rx_fields.specs.declared.key.Key.{Key}
 use Rattle.rx_order.specs.Ascending.{contains_key, has_key, put, without}
-use Rattle.rx_order.proofs.Keys.{cases_Ordering}
 use Rattle.rx_order.proofs.Kept.{IsAscending-put, IsAscending-without}
 use Rattle.rx_order.proofs.LookUps.{item_at-put}
 use Rattle.rx_ledger.specs.Ledger.{Ledger, IsLedger, is_whole}
@@ -17,38 +13,7 @@ use Rattle.rx_ledger.specs.declared.member.Member.{Member}
 use Rattle.rx_ledger.specs.declared.member.MemberKey.{MemberKey}
 use Rattle.rx_ledger.specs.declared.row.Row.{Row}
 use Rattle.rx_ledger.proofs.Orders.{key_total, member_total}
-
--- ---- tests that each item passes
-
-module _ {X : Type 0} (p : X → Bool) where
-  pub passed_next : (x : X) (xs : List X) → p x ≡ true → list_all p xs ≡ true → list_all p (x ∷ xs) ≡ true
-  passed_next x xs one rest = rw one rest
-
-  pub passed_filter : (keep : X → Bool) (xs : List X) → list_all p xs ≡ true → list_all p (filter keep xs) ≡ true
-  passed_filter keep [] h = refl
-  passed_filter keep (x ∷ xs) h =
-      let parts = and_parts (p x) (list_all p xs) h in
-      elim (cases_Bool (keep x)) [
-        | inl kept ↦ rw kept (passed_next x (filter keep xs) parts.0 (passed_filter keep xs parts.1))
-        | inr dropped ↦ rw dropped (passed_filter keep xs parts.1)
-      ]
-
-  pub passed_put : {K : Type 0} (cmp : K → K → Ordering) (key : X → K) (xs : List X) (x : X) → list_all p xs ≡ true → p x ≡ true → list_all p (put cmp key xs x) ≡ true
-  passed_put cmp key [] x h one = passed_next x [] one refl
-  passed_put cmp key (y ∷ ys) x h one =
-      let parts = and_parts (p y) (list_all p ys) h in
-      elim (cases_Ordering (cmp (key y) (key x))) [
-        | inl less ↦ rw less (passed_next y (put cmp key ys x) parts.0 (passed_put cmp key ys x parts.1 one))
-        | inr (inl tied) ↦ rw tied (passed_next x ys one parts.1)
-        | inr (inr more) ↦ rw more (passed_next x (y ∷ ys) one h)
-      ]
-
--- a test that passes wherever another does
-pub passed_weaker : {X : Type 0} (p q : X → Bool) → ((x : X) → p x ≡ true → q x ≡ true) → (xs : List X) → list_all p xs ≡ true → list_all q xs ≡ true
-passed_weaker p q weaker [] h = refl
-passed_weaker p q weaker (x ∷ xs) h =
-    let parts = and_parts (p x) (list_all p xs) h in
-    passed_next q x xs (weaker x parts.0) (passed_weaker p q weaker xs parts.1)
+use Rattle.rx_ledger.proofs.Passed.{passed_filter, passed_put, passed_weaker}
 
 -- ---- ledgers
 
