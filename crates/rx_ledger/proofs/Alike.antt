@@ -59,12 +59,12 @@ module _ (figures : Figures) (ds es : List Listed) (lot : LotParts) (provider : 
   new_alike : (b : BillParts) (m : Member) (rows : List Row) → drug_of one.plan b.product ≡ drug_of other.plan b.product → answer_new one b m rows ≡ answer_new other b m rows
   new_alike b m rows same =
       let last : answer_covered one b rows (drug_of one.plan b.product) ≡ answer_covered other b rows (drug_of other.plan b.product) =
-          covered_alike b rows (drug_of one.plan b.product) ∙ ap (answer_covered other b rows) same in
+      covered_alike b rows (drug_of one.plan b.product) ∙ ap (answer_covered other b rows) same in
       ap (λ (a : Answer).
-        if is_lt (day_cmp date figures.period.first) then refused code.TooOld b.reference
-        else (if is_gt (day_cmp date lot.created) then refused code.PostDated b.reference
-        else (if not (is_within m.coverage date) || is_gt (day_cmp date figures.period.last) then refused code.NotCovered b.reference
-        else a))) last
+      if is_lt (day_cmp date figures.period.first) then refused code.TooOld b.reference
+      else (if is_gt (day_cmp date lot.created) then refused code.PostDated b.reference
+      else (if not (is_within m.coverage date) || is_gt (day_cmp date figures.period.last) then refused code.NotCovered b.reference
+      else a))) last
 
   member_alike : (b : BillParts) (m : Member) (rows : List Row) (under : Option Row) → drug_of one.plan b.product ≡ drug_of other.plan b.product → answer_member one b m rows under ≡ answer_member other b m rows under
   member_alike b m rows None same = new_alike b m rows same
@@ -129,7 +129,7 @@ module _ (figures : Figures) (ds es : List Listed) (lot : LotParts) (place : ℕ
       let b : Answer = answer (asked lot q place h nth) L t in
       let after_a : Ledger = after (asked lot p place h nth) L t a in
       let rest : answers_from lot p place h (nth + 1) ts after_a ≡ answers_from lot q place h (nth + 1) ts (after (asked lot q place h nth) L t b) =
-          answers_alike ts (nth + 1) after_a same.1 ∙ ap (answers_from lot q place h (nth + 1) ts) (next_alike nth t L same.0) in
+      answers_alike ts (nth + 1) after_a same.1 ∙ ap (answers_from lot q place h (nth + 1) ts) (next_alike nth t L same.0) in
       ap (λ (x : Answer). x ∷ answers_from lot p place h (nth + 1) ts after_a) (first_alike nth t L same.0) ∙ ap (λ (xs : List Answer). b ∷ xs) rest
 
   pub ledger_alike : (ts : List Transaction) (nth : ℕ) (L : Ledger) → SayAlike p q ts → ledger_from lot p place h nth ts L ≡ ledger_from lot q place h nth ts L

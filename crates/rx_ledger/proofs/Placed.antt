@@ -98,7 +98,7 @@ module _ (plan : Plan) where
   said_in_place (None ∷ ps) product said (inr among) = said_in_place ps product said.1 among
   said_in_place (Some l ∷ ps) product said (inl is) =
       let here : has_key nat_cmp listed_product product l ≡ true =
-          ap (λ k. has_key nat_cmp listed_product k l) (sym (listed_product_is l product (drug_of plan product) is)) ∙ has_key-itself nat_cmp number_total listed_product l in
+      ap (λ k. has_key nat_cmp listed_product k l) (sym (listed_product_is l product (drug_of plan product) is)) ∙ has_key-itself nat_cmp number_total listed_product l in
       rw here (sym (said_again l product said.0 here))
   said_in_place (Some l ∷ ps) product said (inr among) = elim (cases_Bool (has_key nat_cmp listed_product product l)) [
     | inl here ↦ rw here (sym (said_again l product said.0 here))
