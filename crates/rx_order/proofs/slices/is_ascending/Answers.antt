@@ -10,4 +10,5 @@ returns g c =
     let cmp = g.T.Key.Ord.cmp in
     let key = g.T.Keyed.key_of in
     is_ascending-neighbours cmp g.met.T.Key.Ord.total key c.args.items.now c.is_sorted_by.result
-    (c.is_sorted_by.ensures.cases (λ x y. is_lt (cmp (key x) (key y))) (answers_always _ _ _ (λ f a r h called. search rules)))
+    (c.is_sorted_by.ensures.cases (λ x y. is_lt (cmp (key x) (key y)))
+    (answers_always _ _ _ (λ f a r h called. search rules)))
