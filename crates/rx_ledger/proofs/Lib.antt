@@ -1,0 +1,6 @@
+pub mod Alike
+pub mod Ledgers
+pub mod Orders
+pub mod Passed
+pub mod Placed
+pub mod Refusals
