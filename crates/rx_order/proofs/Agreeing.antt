@@ -1,24 +1,18 @@
 -- Ascending lists that agree, put together: each is a part of the whole.
-use Rattle.std.proofs.Common.{◌≡◌, zero, suc, List, [], ◌∷◌, map, Bool, true, false, Option, Some, None, refl, sym}
+use Rattle.std.proofs.Common.{◌≡◌, zero, suc, List, [], ◌∷◌, map, Bool, true, Option, Some, None, refl, sym}
 use Rattle.std.proofs.Common.{ap, subst, ◌∙◌, inl, inr, arith}
-use Rattle.std.specs.Prelude.{◌||◌, ◌⊎◌}
-use Rattle.std.specs.Bool.{then_some}
-use Rattle.std.specs.Option.{option_and_then, option_or}
-use Rattle.std.specs.List.{All, Contains, filter, fold, list_any}
+use Rattle.std.specs.Prelude.{◌⊎◌}
+use Rattle.std.specs.Option.{option_or}
+use Rattle.std.specs.List.{All, Contains, filter, fold}
 use Rattle.std.specs.Cmp.{IsTotalOrder}
 use Rattle.std.specs.declared.cmp.Ordering.{Ordering}
-use Rattle.std.specs.declared.cmp.Ordering.TheVariants.{Equal}
-use Rattle.std.proofs.lemmas.Bool.{cases_Bool}
-use Rattle.std.proofs.lemmas.List.Elements.{All-contains, All-head, All-tail, filter_agree}
-use Rattle.std.proofs.lemmas.Cmp.{tied_back, tied_itself}
-use Rattle.rx_order.specs.Ascending.{IsBelow, IsAscending, item_at, put, put_all}
+use Rattle.std.proofs.lemmas.List.Elements.{All-contains}
+use Rattle.rx_order.specs.Ascending.{IsAscending, item_at, put_all}
 use Rattle.rx_order.specs.Joined.{Agree, joined}
-use Rattle.rx_order.proofs.Edits.{same_item, same_items, same_members}
-use Rattle.rx_order.proofs.Filters.{filter_none, Contains-filter, Contains-filter_kept}
-use Rattle.rx_order.proofs.FilteredPuts.{filter-put}
-use Rattle.rx_order.proofs.Keys.{IsBelow-filter, put-below}
-use Rattle.rx_order.proofs.Kept.{IsAscending-filter, IsAscending-put, IsAscending-put_all}
-use Rattle.rx_order.proofs.LookUps.{item_at-filter, item_at-found, item_at-from_contains, item_at-put_all}
+use Rattle.rx_order.proofs.Edits.{same_members}
+use Rattle.rx_order.proofs.Filters.{Contains-filter, Contains-filter_kept}
+use Rattle.rx_order.proofs.Kept.{IsAscending-filter}
+use Rattle.rx_order.proofs.LookUps.{item_at-found, item_at-from_contains, item_at-put_all}
 use Rattle.rx_order.proofs.Joined.{IsAscending-joined}
 
 Contains-cons : {A : Type 0} (x y : A) (xs : List A) → Contains xs y → Contains (x ∷ xs) y

@@ -1,24 +1,24 @@
 -- Ascending lists put together, and parts of one list put back together.
-use Rattle.std.proofs.Common.{◌≡◌, zero, suc, List, [], ◌∷◌, map, Bool, true, false, Option, Some, None, refl, sym}
-use Rattle.std.proofs.Common.{ap, subst, ◌∙◌, inl, inr, arith}
-use Rattle.std.specs.Prelude.{◌||◌, ◌⊎◌}
+use Rattle.std.proofs.Common.{◌≡◌, List, [], ◌∷◌, map, Bool, true, false, Option, Some, None, refl, sym}
+use Rattle.std.proofs.Common.{ap, ◌∙◌, inl, inr}
+use Rattle.std.specs.Prelude.{◌||◌}
 use Rattle.std.specs.Bool.{then_some}
 use Rattle.std.specs.Option.{option_and_then, option_or}
-use Rattle.std.specs.List.{All, Contains, filter, fold, list_any}
+use Rattle.std.specs.List.{All, filter, fold, list_any}
 use Rattle.std.specs.Cmp.{IsTotalOrder}
 use Rattle.std.specs.declared.cmp.Ordering.{Ordering}
 use Rattle.std.specs.declared.cmp.Ordering.TheVariants.{Equal}
 use Rattle.std.proofs.lemmas.Bool.{cases_Bool}
-use Rattle.std.proofs.lemmas.List.Elements.{All-contains, All-head, All-tail, filter_agree}
+use Rattle.std.proofs.lemmas.List.Elements.{All-head, All-tail, filter_agree}
 use Rattle.std.proofs.lemmas.Cmp.{tied_back, tied_itself}
 use Rattle.rx_order.specs.Ascending.{IsBelow, IsAscending, item_at, put, put_all}
 use Rattle.rx_order.specs.Joined.{Agree, joined}
-use Rattle.rx_order.proofs.Edits.{same_item, same_items, same_members}
-use Rattle.rx_order.proofs.Filters.{filter_none, Contains-filter, Contains-filter_kept}
+use Rattle.rx_order.proofs.Edits.{same_item, same_items}
+use Rattle.rx_order.proofs.Filters.{filter_none, Contains-filter}
 use Rattle.rx_order.proofs.FilteredPuts.{filter-put}
 use Rattle.rx_order.proofs.Keys.{IsBelow-filter, put-below}
 use Rattle.rx_order.proofs.Kept.{IsAscending-filter, IsAscending-put, IsAscending-put_all}
-use Rattle.rx_order.proofs.LookUps.{item_at-filter, item_at-found, item_at-from_contains, item_at-put_all}
+use Rattle.rx_order.proofs.LookUps.{item_at-filter, item_at-found, item_at-put_all}
 
 module _ {X K : Type 0} (cmp : K → K → Ordering) (order : IsTotalOrder cmp) (key : X → K) where
   pub filter-put_all : (p : X → Bool) (xs ys : List X) → All (λ y. p y ≡ true) ys → IsAscending cmp key xs

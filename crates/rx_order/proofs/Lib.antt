@@ -7,5 +7,7 @@ pub mod Kept
 pub mod KeyOrders
 pub mod Keys
 pub mod LookUps
+pub mod MapEntries
 pub mod Places
 pub mod Totals
+mod WorkedLists

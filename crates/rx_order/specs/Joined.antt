@@ -1,5 +1,5 @@
 -- Ascending lists put together.
-use Rattle.std.specs.Prelude.{◌≡◌, List, [], Option, Some}
+use Rattle.std.specs.Prelude.{◌≡◌, List, [], Some}
 use Rattle.std.specs.List.{Contains, fold}
 use Rattle.std.specs.declared.cmp.Ordering.{Ordering}
 use Rattle.rx_order.specs.Ascending.{IsAscending, item_at, put_all}
