@@ -1,3 +1,5 @@
 mod Cases
+pub mod Files
 pub mod Following
+pub mod Readings
 pub mod Steps

@@ -35,10 +35,10 @@ gives_same (Err f) meant e = unless f (sym e)
 
 -- ---- between records
 
-abbrev between : Front → Reader
+abbrev pub between : Front → Reader
 between f = record { front = f; begun = None }
 
-abbrev within : Front → List ℕ → Reader
+abbrev pub within : Front → List ℕ → Reader
 within f body = record { front = f; begun = Some body }
 
 pub as_between : (r : Reader) (text : List ℕ) → r.begun ≡ None → IsRead r text → IsRead (between r.front) text
@@ -47,7 +47,7 @@ as_between r text is h = subst (λ (b : Option (List ℕ)). IsRead (record { fro
 pub as_within : (r : Reader) (text body : List ℕ) → r.begun ≡ Some body → IsRead r text → IsRead (within r.front body) text
 as_within r text body is h = subst (λ (b : Option (List ℕ)). IsRead (record { front = r.front; begun = b }) text) is h
 
-one_skipped : (f : Front) (text rest : List ℕ) (b : ℕ) → is_skipped b ≡ true → IsReadUpTo (between f) text (b ∷ rest) → IsReadUpTo (between (past 1 f)) text rest
+pub one_skipped : (f : Front) (text rest : List ℕ) (b : ℕ) → is_skipped b ≡ true → IsReadUpTo (between f) text (b ∷ rest) → IsReadUpTo (between (past 1 f)) text rest
 one_skipped f text rest b is h = record {
   before = h.before ++ b ∷ [];
   whole = h.whole ∙ sym (append_assoc h.before (b ∷ []) rest);

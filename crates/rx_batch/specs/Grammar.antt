@@ -1,5 +1,6 @@
 -- The records of a batch file in their order, and which bytes are a file (NCPDP Batch Standard 1.2).
-use Rattle.std.specs.Prelude.{◌≡◌, ℕ, ◌+◌, Bool, true, false, not, ◌&&◌, ◌||◌, nat_lt, nat_le, ◌==◌, if◌then◌else◌, List, [], ◌∷◌, ◌++◌, codes, length, drop, slice_range, All, Option, Some, None, Result, Ok, Err}
+use Rattle.std.specs.Prelude.{◌≡◌, ◌≤◌, ◌⊎◌, ℕ, ◌+◌, Bool, true, false, not, ◌&&◌, ◌||◌, nat_lt, nat_le, ◌==◌, if◌then◌else◌, List, [], ◌∷◌, ◌++◌, codes, length, drop, slice_range, All, Option, Some, None, Result, Ok, Err}
+use Rattle.std.specs.List.{flat_map, AllZip}
 use Rattle.std.specs.Option.{ok_or}
 use Rattle.rx_batch.specs.declared.detail.Detail.{Detail}
 use Rattle.rx_batch.specs.declared.fault.BatchFault.{BatchFault}
@@ -96,6 +97,48 @@ pub data IsFront : List ℕ → Front → Type 0 where
   skipped : {bytes : List ℕ} {f : Front} (b : ℕ) → IsFront bytes f → is_skipped b ≡ true → IsFront (bytes ++ b ∷ []) (past 1 f)
   good : {bytes : List ℕ} {f : Front} (body : List ℕ) (g : Front) → IsFront bytes f → IsInside body → record_of f body ≡ Ok g → IsFront (bytes ++ record_text body) g
 
--- the bytes are the batch file of a head and its details: a good front up to its end, with the trailer
-abbrev pub IsFile : List ℕ → Head → List Detail → Type 0
-IsFile bytes head details = IsFront bytes (record { stage = Whole head; details = details; length = length bytes })
+-- ---- a whole file
+
+-- a record, and the bytes that are skipped before it
+pub record Spaced : Type 0 where
+  pub gap : List ℕ
+  pub body : List ℕ
+
+abbrev pub spaced_text : Spaced → List ℕ
+spaced_text r = r.gap ++ record_text r.body
+
+abbrev pub IsGap : List ℕ → Type 0
+IsGap bytes = All (λ b. is_skipped b ≡ true) bytes
+
+abbrev pub IsSpaced : Spaced → Type 0
+IsSpaced r = IsGap r.gap × IsInside r.body
+
+-- the body of a header of this head
+abbrev pub IsHeader : List ℕ → Head → Type 0
+IsHeader body head = (is_kind (codes "00") body ≡ true) × (head_of body ≡ Some head)
+
+-- the body of this detail: G1, ten bytes of reference, and the transmission
+abbrev pub IsDetail : List ℕ → Detail → Type 0
+IsDetail body d =
+    (is_kind (codes "G1") body ≡ true) × (12 ≤ length body) × (d ≡ record { reference = slice_range body 2 12; text = drop 12 body })
+
+-- the body of a trailer with the batch number of the head, and the count of the details or two more
+pub record IsTrailer (body : List ℕ) (head : Head) (details : List Detail) : Type 0 where
+  pub kind : is_kind (codes "99") body ≡ true
+  pub trailer : Trailer
+  pub is : trailer_of body ≡ Some trailer
+  pub number : trailer.number ≡ head.lot.number
+  pub count : (trailer.count ≡ length details) ⊎ (trailer.count ≡ length details + 2)
+
+-- the bytes are a file of this head and these details: one header, the details, one trailer, and what is skipped
+pub record IsFile (bytes : List ℕ) (head : Head) (details : List Detail) : Type 0 where
+  pub header : Spaced
+  pub records : List Spaced
+  pub trailer : Spaced
+  pub gap : List ℕ
+  pub whole : bytes ≡ spaced_text header ++ (flat_map spaced_text records ++ (spaced_text trailer ++ gap))
+  pub header_is : IsSpaced header × IsHeader header.body head
+  pub details_are : AllZip (λ r d. IsSpaced r × IsDetail r.body d) records details
+  pub few : length details ≤ 100_000
+  pub trailer_is : IsSpaced trailer × IsTrailer trailer.body head details
+  pub gap_is : IsGap gap

@@ -1,5 +1,5 @@
 -- What a text is read as: its batch, or its first fault with the place.
-use Rattle.std.specs.Prelude.{ℕ, Bool, true, false, ◌&&◌, ◌==◌, if◌then◌else◌, List, [], ◌∷◌, drop, Result, Ok, Err}
+use Rattle.std.specs.Prelude.{◌≡◌, ℕ, Bool, true, false, ◌&&◌, ◌==◌, if◌then◌else◌, List, [], ◌∷◌, ◌++◌, drop, Result, Ok, Err}
 use Rattle.std.specs.List.{prefix_len, slice_split, list_any}
 use Rattle.rx_batch.specs.declared.batch.Batch.{Batch}
 use Rattle.rx_batch.specs.declared.fault.BatchFault.{BatchFault}
@@ -7,8 +7,9 @@ use Rattle.rx_batch.specs.declared.fault.BatchFault.TheVariants as fault
 use Rattle.rx_batch.specs.declared.front.Front.{Front}
 use Rattle.rx_batch.specs.declared.front.Stage.{Stage}
 use Rattle.rx_batch.specs.declared.front.Stage.TheVariants.{Start, Headed, Whole}
+use Rattle.rx_batch.specs.declared.head.Head.{Head}
 use Rattle.rx_batch.specs.Fault.{◌>>=◌}
-use Rattle.rx_batch.specs.Grammar.{is_skipped, past, record_of, no_front}
+use Rattle.rx_batch.specs.Grammar.{is_skipped, IsInside, IsFront, past, record_of, no_front}
 
 -- the trailer was read
 abbrev pub is_whole : Stage → Bool
@@ -44,6 +45,24 @@ closed f (b ∷ body) =
 abbrev pub last : Front → List ℕ → Result Batch BatchFault
 last f [] = ended f
 last f (b ∷ body) = if begins f b then Err (fault.Unclosed f.length) else Err (stray f)
+
+-- the fault of what follows a good front that is as long as it can be
+pub data FaultAfter (f : Front) : List ℕ → BatchFault → Type 0 where
+  no_header : f.stage ≡ Start → FaultAfter f [] (fault.NoHeader f.length)
+  no_trailer : (head : Head) → f.stage ≡ Headed head → FaultAfter f [] (fault.NoTrailer f.length)
+  no_record : (b : ℕ) (rest : List ℕ) → is_skipped b ≡ false → begins f b ≡ false → FaultAfter f (b ∷ rest) (stray f)
+  no_end : (body : List ℕ) → is_whole f.stage ≡ false → IsInside body → FaultAfter f (2 ∷ body) (fault.Unclosed f.length)
+  second_start : (body rest : List ℕ) → is_whole f.stage ≡ false → IsInside body → FaultAfter f (2 ∷ (body ++ 2 ∷ rest)) (fault.Unclosed f.length)
+  bad_record : (body rest : List ℕ) (e : BatchFault) → is_whole f.stage ≡ false → IsInside body → record_of f body ≡ Err e → FaultAfter f (2 ∷ (body ++ 3 ∷ rest)) e
+
+-- the bytes are no file, and have this fault
+pub record HasFault (bytes : List ℕ) (e : BatchFault) : Type 0 where
+  pub front : List ℕ
+  pub rest : List ℕ
+  pub read : Front
+  pub whole : bytes ≡ front ++ rest
+  pub good : IsFront front read
+  pub fault_is : FaultAfter read rest e
 
 -- a piece without the CR and LF in front of it, and the front that has these
 abbrev pub gap : List ℕ → ℕ
