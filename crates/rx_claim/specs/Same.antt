@@ -5,8 +5,8 @@ use Rattle.std.proofs.lemmas.Bool.Decides.{Decides-eqb, Decides-and, Decides-lik
 use Rattle.std.specs.Cmp.{IsEquivalence, IsPartialEquivalence, decided, partial_equiv_from_equiv}
 use base.Stored.{Gv, gnil, gnum, gcons, Coded}
 
--- two stored values are one
-abbrev pub same_stored : Gv → Gv → Bool
+-- two values as ghost names store them, trees of numbers, are one
+abbrev same_stored : Gv → Gv → Bool
 same_stored gnil gnil = true
 same_stored gnil (gnum n) = false
 same_stored gnil (gcons a b) = false
@@ -33,7 +33,7 @@ same_stored_decides (gcons a b) (gcons c d) =
     (λ e. (cc, cc))
     (Decides-and (same_stored a c) (same_stored b d) (same_stored_decides a c) (same_stored_decides b d))
 
--- the two values are one, of a type whose values can be stored
+-- the two values are one
 pub same : {A : Type 0} → Coded A → A → A → Bool
 same c x y = same_stored (c.code x) (c.code y)
 
