@@ -1,8 +1,9 @@
 -- Whether two values are one: what `==` answers at the lists and at what holds them.
-use Rattle.std.specs.Prelude.{◌≡◌, Bool, true, false, ◌&&◌, ◌==◌}
+use Rattle.std.specs.Prelude.{◌≡◌, Bool, true, false, ◌&&◌, ◌==◌, List}
 use Rattle.std.proofs.Common.{ap, Decides}
 use Rattle.std.proofs.lemmas.Bool.Decides.{Decides-eqb, Decides-and, Decides-like, same_from_decides}
 use Rattle.std.specs.Cmp.{IsEquivalence, IsPartialEquivalence, decided, partial_equiv_from_equiv}
+use Rattle.std.specs.Cmp.Lexicographic.{pointwise, pointwise_decides}
 use base.Stored.{Gv, gnil, gnum, gcons, Coded}
 
 -- two values as ghost names store them, trees of numbers, are one
@@ -45,6 +46,10 @@ same_decides c x y =
     (c.inj x y)
     (ap c.code)
     (same_stored_decides (c.code x) (c.code y))
+
+-- the same of two lists, compared pair by pair
+pub same_lists : {A : Type 0} (c : Coded A) (xs ys : List A) → Decides (pointwise (same c) xs ys) (xs ≡ ys)
+same_lists c = pointwise_decides (same_decides c)
 
 pub same_equivalence : {A : Type 0} (c : Coded A) → IsEquivalence (same c)
 same_equivalence c = decided (same c) (same_decides c)
