@@ -111,6 +111,7 @@ impl PartialEq for Transactions {
 
     ghost laws = { same_laws the_row.coded };
 
+    #[tactic(auto, using(crate::proofs::Decided::transactions_decides))]
     fn eq(&self, other: &Transactions) -> bool
         ensures { IsTrue result ↔ (self.now ≡ other.now) }
     {
