@@ -1,1 +1,4 @@
 mod Limits
+mod SameText
+mod Steps
+mod Summed
