@@ -1,4 +1,10 @@
-mod Limits
-mod SameText
-mod Steps
-mod Summed
+pub mod Alike
+pub mod Ledgers
+pub mod Limits
+pub mod Orders
+pub mod Passed
+pub mod Placed
+pub mod Refusals
+pub mod SameText
+pub mod Steps
+pub mod Summed

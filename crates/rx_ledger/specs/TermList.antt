@@ -11,7 +11,7 @@ pub record TermParts : Type 0 where
   pub figures : Figures
   pub places : List (Option Listed)
 
-abbrev itself : Option Listed → Option Listed
+abbrev pub itself : Option Listed → Option Listed
 itself listed = listed
 
 -- the drugs in their places

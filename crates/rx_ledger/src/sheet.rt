@@ -38,6 +38,21 @@ pub enum AddFault {
     Memory,
 }
 
+ghost use Rattle.rx_ledger.specs.Keys.{add_fault_number};
+
+impl AddFault {
+    /// The fault's number, from 1, in the order in which they are looked for.
+    pub fn code(self) -> u32
+        ensures { result ≡ add_fault_number self }
+    {
+        match self {
+            AddFault::Range => 1,
+            AddFault::There => 2,
+            AddFault::Memory => 3,
+        }
+    }
+}
+
 /// A plan sheet: figures within their ranges, and the drugs that the plan covers (docs/FORMATS.md, "Plan sheet").
 #[derive(Debug, Drop)]
 pub struct Sheet {

@@ -61,3 +61,12 @@ impl SheetKey {
 /// A figure outside its range, by its key in the plan sheet.
 #[derive(Clone, Copy, Debug, PartialEq, Eq)]
 pub struct Wrong(pub SheetKey);
+
+impl Wrong {
+    /// The number of the key whose figure it is.
+    pub fn code(self) -> u32
+        ensures { result ≡ sheet_key_number self.0 }
+    {
+        self.0.code()
+    }
+}

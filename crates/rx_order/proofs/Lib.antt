@@ -1,8 +1,10 @@
 pub mod Edits
+pub mod FilteredPuts
 pub mod Filters
+pub mod Joined
 pub mod Kept
-pub mod Keys
 pub mod KeyOrders
+pub mod Keys
 pub mod LookUps
 pub mod Places
 pub mod Totals

@@ -2,5 +2,7 @@
 #![tactic(auto)]
 
 mod list;
+mod slices;
 
-pub use list::{Ascending, InsertError, Keyed, is_ascending, place_of};
+pub use list::{Ascending, InsertError};
+pub use slices::{Keyed, is_ascending, place_of};

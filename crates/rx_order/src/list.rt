@@ -1,21 +1,14 @@
 ghost use Rattle.std.specs.Prelude.{◌≡◌, ◌<◌, ◌^◌, ◌++◌, ◌∷◌, ◌==◌, [], IfErr, IfOk, IsTrue, OnErr, OnOk, is_ok, is_some, length, if◌then◌else◌};
 ghost use Rattle.std.specs.Option.{ok_or, option_copied};
+ghost use Rattle.std.specs.Slice.Iter.{iter_rest};
+ghost use Rattle.std.specs.Iterator.Adapters.{IterYieldsInOrder};
 ghost use Rattle.rx_order.specs.Ascending.{IsAscending, IsAt, IsGap, contains_key, is_ascending, is_past, item_at, put, without};
 ghost use Rattle.rx_order.specs.InsertError.{is_there, refused_item};
 
-use std::alloc::{AllocFailed, Global};
+use crate::slices::{Keyed, is_ascending, place_of};
+use std::alloc::{AllocError, AllocFailed, Global};
 use std::marker::Model;
-
-/// What has a key, by which it is kept in order.
-pub trait Keyed {
-    /// What the items are ordered by.
-    type Key: Ord + Copy + Drop;
-
-    ghost key_of: { Self → Self.Key };
-
-    fn key(&self) -> Self::Key
-        ensures { result ≡ key_of self.now };
-}
+use std::slice::Iter;
 
 /// Why an item was not inserted. It comes back.
 #[derive(Debug, Drop)]
@@ -76,6 +69,16 @@ impl<T: Keyed> Ascending<T> {
         }
     }
 
+    /// An equal list, where the items can be copied.
+    pub fn to_copy(&self, alloc: Global) -> Result<Self, AllocError>
+    where
+        T: Copy,
+        ensures { IfOk result (λ copy. copy ≡ self.now) }
+    {
+        let items = Vec::from_slice(alloc, &self.items)?;
+        Ok(Ascending { items })
+    }
+
     pub fn into_vec(self) -> Vec<T>
         ensures { result.items ≡ self }
     {
@@ -88,6 +91,13 @@ impl<T: Keyed> Ascending<T> {
         ensures small { length self.now < 2 ^ 63 }
     {
         &self.items
+    }
+
+    pub fn iter(&self) -> Iter<'_, T>
+        ensures rest { iter_rest result ≡ self.now }
+        ensures runs { IterYieldsInOrder T }
+    {
+        self.items.iter()
     }
 
     pub fn len(&self) -> usize
@@ -141,6 +151,7 @@ impl<T: Keyed> Ascending<T> {
         ensures there { is_there result ≡ contains_key T.Key.cmp T.key_of self.old (T.key_of item) }
         ensures err { OnErr result (self.new ≡ self.old) }
         ensures back { IfErr result (λ refused. refused_item refused ≡ item) }
+        ensures ascending { IsAscending T.Key.cmp T.key_of self.old }
         ensures small { length self.new < 2 ^ 63 }
     {
         match self.place(&item.key()) {
@@ -165,6 +176,7 @@ impl<T: Keyed> Ascending<T> {
         ensures value { result ≡ ok_or (item_at T.Key.cmp T.key_of self.old (T.key_of item)) item }
         ensures ok { OnOk result (self.new ≡ put T.Key.cmp T.key_of self.old item) }
         ensures err { OnErr result (self.new ≡ self.old) }
+        ensures ascending { IsAscending T.Key.cmp T.key_of self.old }
     {
         match self.place(&item.key()) {
             Ok(at) => Ok(std::mem::replace(&mut self.items[at], item)),
@@ -175,6 +187,7 @@ impl<T: Keyed> Ascending<T> {
     pub fn remove(&mut self, key: &T::Key) -> Option<T>
         ensures value { result ≡ item_at T.Key.cmp T.key_of self.old key.now }
         ensures items { self.new ≡ without T.Key.cmp T.key_of self.old key.now }
+        ensures ascending { IsAscending T.Key.cmp T.key_of self.old }
     {
         match self.place(key) {
             Ok(at) => Some(self.items.remove(at)),
@@ -183,18 +196,20 @@ impl<T: Keyed> Ascending<T> {
     }
 }
 
-/// Whether each item's key is less than the next item's.
-pub fn is_ascending<T: Keyed>(items: &[T]) -> bool
-    ensures { result ≡ is_ascending T.Key.cmp T.key_of items.now }
-{
-    items.is_sorted_by(|a, b| a.key().cmp(&b.key()).is_lt())
+impl<T: Keyed + PartialEq> PartialEq for Ascending<T> {
+    ghost use Rattle.std.specs.Cmp.Lexicographic.{lists_per, pointwise};
+
+    ghost eq = { λ a b. pointwise T.eq a b };
+
+    ghost laws = { lists_per T.laws };
+
+    fn eq(&self, other: &Ascending<T>) -> bool {
+        self.as_slice() == other.as_slice()
+    }
 }
 
-/// Where the item with the key is, or where it would go.
-pub fn place_of<T: Keyed>(items: &[T], key: &T::Key) -> Result<usize, usize>
-    requires { IsAscending T.Key.cmp T.key_of items.now }
-    ensures found { IfOk result (IsAt T.Key.cmp T.key_of items.now key.now) }
-    ensures absent { IfErr result (IsGap T.Key.cmp T.key_of items.now key.now) }
-{
-    items.binary_search_by_key(key, |item| item.key())
+impl<T: Keyed + Eq> Eq for Ascending<T> {
+    ghost use Rattle.std.specs.Cmp.Lexicographic.{lists_equiv};
+
+    ghost laws = { lists_equiv T.Eq.laws };
 }
