@@ -1,6 +1,7 @@
 pub mod Alike
 pub mod Ledgers
 pub mod Limits
+pub mod OfMember
 pub mod Orders
 pub mod Passed
 pub mod Placed

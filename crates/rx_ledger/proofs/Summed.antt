@@ -38,3 +38,7 @@ module _ (f : Figures) (person : List ℕ) (rows : List Row) (i : ℕ) (r : Row)
   used_by-other within other =
       let more = used_by-more f person rows i r in_range in
       rw (more, ← is, within, other) (simp add-zero)
+
+pub used_by-same : {f g : Figures} {p q : List ℕ} {rows others : List Row} → f ≡ g → p ≡ q → rows ≡ others
+    → used_by f p rows ≡ used_by g q others
+used_by-same figures person rows = λ i. used_by (figures i) (person i) (rows i)

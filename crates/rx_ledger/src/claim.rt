@@ -189,7 +189,7 @@ fn has_days_left(row: &Row, date: Day, percent: u64) -> bool
     passed * 100 < (row.days.get() * percent) as i64
 }
 
-fn refused(code: Code, reference: Reference) -> Answer
+pub(crate) fn refused(code: Code, reference: Reference) -> Answer
     ensures { result ≡ refused code reference }
 {
     Answer::Refused(Refused {

@@ -14,6 +14,7 @@
 
 mod claim;
 mod drug;
+mod family;
 mod figures;
 mod fold;
 mod ledger;
@@ -24,6 +25,7 @@ mod row;
 mod share;
 mod sheet;
 mod sheet_key;
+mod step;
 mod sums;
 mod terms;
 
