@@ -1,4 +1,4 @@
-ghost use Rattle.std.specs.Prelude.{◌≡◌, [], IfOk};
+ghost use Rattle.std.specs.Prelude.{◌≡◌, ◌++◌, ◌∷◌, [], IfOk, OnOk};
 ghost use Rattle.rx_claim.specs.declared.transaction.Transaction.TheVariants as asks;
 ghost use Rattle.rx_ledger.specs.Answers.{after, answer, answer_reversal, key_of, paid_row};
 ghost use Rattle.rx_ledger.specs.Claims.{asked_on};
@@ -15,40 +15,44 @@ use rx_claim::{Answer, Approved, Bill, Paid, Refused, Reversal, Transaction};
 use rx_fields::{Cents, Code, Key, Memory, Reference};
 use std::alloc::Global;
 
-// The answer to a transaction; a paid claim stands from now on, a reversed one no longer.
+// Adjudicates a transaction, and puts its answer after the others: a paid claim stands from now on, a reversed one no
+// longer.
 pub(crate) fn adjudicate(
     alloc: Global,
     occasion: &Occasion,
     sheet: &Sheet,
-    ledger: &mut Ledger,
     transaction: &Transaction,
-) -> Result<Answer, Memory>
+    ledger: &mut Ledger,
+    answers: &mut Vec<Answer>,
+) -> Result<(), Memory>
     requires { occasion.now.figures ≡ sheet.now.figures }
-    ensures value { IfOk result (λ given. given ≡ answer (asked_on occasion.now sheet.now.drugs) ledger.old transaction.now) }
-    ensures after { IfOk result (λ given. ledger.new ≡ after (asked_on occasion.now sheet.now.drugs) ledger.old transaction.now given) }
+    ensures value { OnOk result (answers.new.items ≡ answers.old.items ++ answer (asked_on occasion.now sheet.now.drugs) ledger.old transaction.now ∷ []) }
+    ensures after { OnOk result (ledger.new ≡ after (asked_on occasion.now sheet.now.drugs) ledger.old transaction.now (answer (asked_on occasion.now sheet.now.drugs) ledger.old transaction.now)) }
 {
-    match transaction {
-        Transaction::Bill(bill) => adjudicate_bill(alloc, occasion, sheet, ledger, bill),
-        Transaction::Reverse(reversal) => Ok(adjudicate_reversal(occasion, ledger, reversal)),
-        Transaction::Faulty(faulty) => Ok(Answer::Refused(Refused {
+    let answer = match transaction {
+        Transaction::Bill(bill) => adjudicate_bill(alloc, occasion, sheet, bill, ledger)?,
+        Transaction::Reverse(reversal) => adjudicate_reversal(occasion, reversal, ledger),
+        Transaction::Faulty(faulty) => Answer::Refused(Refused {
             codes: faulty.codes,
             reference: faulty.reference,
-        })),
-    }
+        }),
+    };
+    answers.push(answer)?;
+    Ok(())
 }
 
 fn adjudicate_bill(
     alloc: Global,
     occasion: &Occasion,
     sheet: &Sheet,
-    ledger: &mut Ledger,
     bill: &Bill,
+    ledger: &mut Ledger,
 ) -> Result<Answer, Memory>
     requires { occasion.now.figures ≡ sheet.now.figures }
     ensures value { IfOk result (λ given. given ≡ answer (asked_on occasion.now sheet.now.drugs) ledger.old (asks.Bill bill.now)) }
     ensures after { IfOk result (λ given. ledger.new ≡ after (asked_on occasion.now sheet.now.drugs) ledger.old (asks.Bill bill.now) given) }
 {
-    let answer = answer_bill(alloc, occasion, sheet, ledger, bill)?;
+    let answer = answer_bill(alloc, occasion, sheet, bill, ledger)?;
     if let Answer::Paid(paid) = &answer {
         ledger.put_row(paid_row(occasion, bill, paid))?;
     }
@@ -60,8 +64,8 @@ fn answer_bill(
     alloc: Global,
     occasion: &Occasion,
     sheet: &Sheet,
-    ledger: &Ledger,
     bill: &Bill,
+    ledger: &Ledger,
 ) -> Result<Answer, Memory>
     requires { occasion.now.figures ≡ sheet.now.figures }
     ensures { IfOk result (λ given. given ≡ answer (asked_on occasion.now sheet.now.drugs) ledger.now (asks.Bill bill.now)) }
@@ -79,7 +83,7 @@ fn answer_bill(
     Ok(claim.answer(&members, ledger.row(&key_of(occasion, parts.reference))))
 }
 
-fn adjudicate_reversal(occasion: &Occasion, ledger: &mut Ledger, reversal: &Reversal) -> Answer
+fn adjudicate_reversal(occasion: &Occasion, reversal: &Reversal, ledger: &mut Ledger) -> Answer
     ensures value { result ≡ answer (asked_on occasion.now []) ledger.old (asks.Reverse reversal.now) }
     ensures after { ledger.new ≡ after (asked_on occasion.now []) ledger.old (asks.Reverse reversal.now) result }
 {
