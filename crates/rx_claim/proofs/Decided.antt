@@ -1,7 +1,7 @@
 -- A derived `==` answers true exactly where the two values are one.
 use Rattle.std.proofs.Common.{◌≡◌, ℕ, Bool, ◌==◌, List, ◌++◌, ◌-◌, length, take, replicate, Option, Some, None, Decides, refl, ap, sym, ◌∙◌}
 use Rattle.std.specs.Option.{option_eq}
-use Rattle.std.specs.Cmp.Lexicographic.{pointwise_decides, bytes_decides}
+use Rattle.std.specs.Cmp.Lexicographic.{pointwise, pointwise_decides, bytes_decides}
 use Rattle.std.proofs.lemmas.Bool.Decides.{Decides-eqb, Decides-and, Decides-like}
 use Rattle.std.proofs.lemmas.List.{take_at}
 use Rattle.std.proofs.Math.Seq.{take-append_seam}
@@ -122,6 +122,9 @@ transaction_decides (transaction.Faulty a) (transaction.Faulty b) =
     Decides-like (faulty.eq a b) (ap transaction.Faulty) (λ e. cc) (faulty_decides a b)
 transaction_decides _ _ = (λ e. cc, λ e. cc)
 
+pub transactions_decides : (a b : List Transaction) → Decides (pointwise transaction_eq.eq a b) (a ≡ b)
+transactions_decides = pointwise_decides transaction_decides
+
 pub paid_decides : (a b : Paid) → Decides (paid.eq a b) (a ≡ b)
 paid_decides a b =
     Decides-like
@@ -158,6 +161,9 @@ answer_decides (answer.Approved a) (answer.Approved b) =
 answer_decides (answer.Refused a) (answer.Refused b) =
     Decides-like (refused.eq a b) (ap answer.Refused) (λ e. cc) (refused_decides a b)
 answer_decides _ _ = (λ e. cc, λ e. cc)
+
+pub answers_decides : (a b : List Answer) → Decides (pointwise answer_eq.eq a b) (a ≡ b)
+answers_decides = pointwise_decides answer_decides
 
 pub rejected_decides : (a b : Rejected) → Decides (rejected.eq a b) (a ≡ b)
 rejected_decides a b =

@@ -1,12 +1,13 @@
 -- Whether two values are one: what `==` answers at the lists and at what holds them.
-use Rattle.std.specs.Prelude.{◌≡◌, Bool, true, false, ◌&&◌, ◌==◌}
+use Rattle.std.specs.Prelude.{◌≡◌, Bool, true, false, ◌&&◌, ◌==◌, List}
 use Rattle.std.proofs.Common.{ap, Decides}
 use Rattle.std.proofs.lemmas.Bool.Decides.{Decides-eqb, Decides-and, Decides-like, same_from_decides}
 use Rattle.std.specs.Cmp.{IsEquivalence, IsPartialEquivalence, decided, partial_equiv_from_equiv}
+use Rattle.std.specs.Cmp.Lexicographic.{pointwise, pointwise_decides}
 use base.Stored.{Gv, gnil, gnum, gcons, Coded}
 
--- two stored values are one
-abbrev pub same_stored : Gv → Gv → Bool
+-- two values as ghost names store them, trees of numbers, are one
+abbrev same_stored : Gv → Gv → Bool
 same_stored gnil gnil = true
 same_stored gnil (gnum n) = false
 same_stored gnil (gcons a b) = false
@@ -33,7 +34,7 @@ same_stored_decides (gcons a b) (gcons c d) =
     (λ e. (cc, cc))
     (Decides-and (same_stored a c) (same_stored b d) (same_stored_decides a c) (same_stored_decides b d))
 
--- the two values are one, of a type whose values can be stored
+-- the two values are one
 pub same : {A : Type 0} → Coded A → A → A → Bool
 same c x y = same_stored (c.code x) (c.code y)
 
@@ -45,6 +46,10 @@ same_decides c x y =
     (c.inj x y)
     (ap c.code)
     (same_stored_decides (c.code x) (c.code y))
+
+-- the same of two lists, compared pair by pair
+pub same_lists : {A : Type 0} (c : Coded A) (xs ys : List A) → Decides (pointwise (same c) xs ys) (xs ≡ ys)
+same_lists c = pointwise_decides (same_decides c)
 
 pub same_equivalence : {A : Type 0} (c : Coded A) → IsEquivalence (same c)
 same_equivalence c = decided (same c) (same_decides c)

@@ -122,6 +122,7 @@ impl PartialEq for Answers {
 
     ghost laws = { same_laws answers_row.coded };
 
+    #[tactic(auto, using(crate::proofs::Decided::answers_decides))]
     fn eq(&self, other: &Answers) -> bool
         ensures { IsTrue result ↔ (self.now ≡ other.now) }
     {
@@ -138,6 +139,7 @@ impl PartialEq for Outcome {
 
     ghost laws = { same_laws outcome_row.coded };
 
+    #[tactic(auto, using(crate::proofs::Decided::rejected_decides))]
     fn eq(&self, other: &Outcome) -> bool
         ensures { IsTrue result ↔ (self.now ≡ other.now) }
     {

@@ -82,7 +82,7 @@ impl Transactions {
     pub fn copy(&self, alloc: Global) -> Result<Transactions, Memory>
         ensures { IfOk result (λ list. list ≡ self.now) }
     {
-        let items = Vec::from_slice(alloc, self.items.as_slice())?;
+        let items = Vec::from_slice(alloc, self.as_slice())?;
         Ok(Transactions { items })
     }
 }
@@ -111,6 +111,7 @@ impl PartialEq for Transactions {
 
     ghost laws = { same_laws the_row.coded };
 
+    #[tactic(auto, using(crate::proofs::Decided::transactions_decides))]
     fn eq(&self, other: &Transactions) -> bool
         ensures { IsTrue result ↔ (self.now ≡ other.now) }
     {

@@ -107,6 +107,7 @@ impl PartialEq for Body {
 
     ghost laws = { same_laws body_row.coded };
 
+    #[tactic(auto, using(crate::proofs::Decided::rejected_decides))]
     fn eq(&self, other: &Body) -> bool
         ensures { IsTrue result ↔ (self.now ≡ other.now) }
     {

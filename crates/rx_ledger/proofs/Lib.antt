@@ -1,4 +1,5 @@
 pub mod Alike
+pub mod Decided
 pub mod Ledgers
 pub mod Limits
 pub mod OfMember

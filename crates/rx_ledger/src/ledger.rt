@@ -164,3 +164,6 @@ impl Ledger {
         self.rows.remove(key)
     }
 }
+
+#[cfg(test)]
+mod tests;

@@ -148,3 +148,6 @@ impl Sheet {
         self.drugs.as_slice()
     }
 }
+
+#[cfg(test)]
+mod tests;

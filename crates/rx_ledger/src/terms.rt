@@ -9,7 +9,7 @@ use std::marker::Model;
 
 /// What one record is adjudicated under: its lot, and a small sheet with all figures and the drugs of the record's
 /// products.
-#[derive(Clone, Copy, Debug, PartialEq, Eq)]
+#[derive(Clone, Copy, Debug)]
 pub struct Terms {
     lot: Lot,
     figures: Figures,
@@ -28,7 +28,7 @@ impl Model for Terms {
     ghost inverse = { λ p. record { lot = p.lot; figures = p.figures; places = p.places } };
 }
 
-ghost use Rattle.std.specs.Prelude.{◌≤◌, IfSome, length, true};
+ghost use Rattle.std.specs.Prelude.{◌↔◌, ◌≤◌, IfSome, IsTrue, length, true};
 ghost use Rattle.std.specs.Ordering.{nat_cmp};
 ghost use Rattle.rx_order.specs.Ascending.{item_at};
 ghost use Rattle.rx_ledger.specs.Places.{billed_at, transactions_of};
@@ -115,4 +115,23 @@ fn listed_in(places: &[Option<Listed>], product: Product) -> Option<Listed>
         .iter()
         .filter_map(|place| *place)
         .find(|listed| listed.product == product)
+}
+
+ghost use Rattle.rx_claim.specs.Same.{same, same_laws, same_equivalence};
+ghost use Rattle.rx_ledger.specs.contracts.terms.Terms.{the_row as terms_row};
+
+impl PartialEq for Terms {
+    ghost eq = { same terms_row.coded };
+
+    ghost laws = { same_laws terms_row.coded };
+
+    fn eq(&self, other: &Terms) -> bool
+        ensures { IsTrue result ↔ (self.now ≡ other.now) }
+    {
+        self.lot == other.lot && self.figures == other.figures && self.places == other.places
+    }
+}
+
+impl Eq for Terms {
+    ghost laws = { same_equivalence terms_row.coded };
 }

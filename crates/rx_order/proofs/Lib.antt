@@ -1,3 +1,4 @@
+pub mod Agreeing
 pub mod Edits
 pub mod FilteredPuts
 pub mod Filters
@@ -6,5 +7,7 @@ pub mod Kept
 pub mod KeyOrders
 pub mod Keys
 pub mod LookUps
+pub mod MapEntries
 pub mod Places
 pub mod Totals
+mod WorkedLists

@@ -1,6 +1,7 @@
 -- What is found by a key, after each change of a list.
 use Rattle.std.proofs.Common.{◌≡◌, zero, suc, List, [], ◌∷◌, map, Bool, true, false, cond, Option, Some, None, refl}
 use Rattle.std.proofs.Common.{sym, ap, ◌∙◌, subst, inl, inr, arith}
+use Rattle.std.specs.Prelude.{◌&&◌, ◌||◌, not}
 use Rattle.std.specs.Option.{is_some, option_map, option_or, option_and_then}
 use Rattle.std.specs.Bool.{then_some}
 use Rattle.std.specs.List.{All, Contains, filter}
@@ -52,6 +53,11 @@ module _ {X K : Type 0} (cmp : K → K → Ordering) (order : IsTotalOrder cmp) 
       → item_at cmp key (put cmp key xs x) k ≡ item_at cmp key xs k
   item_at-put_other xs x k other = item_at-put xs x k ∙ rw other
 
+  pub contains_key-put : (xs : List X) (x : X) (k : K)
+      → contains_key cmp key (put cmp key xs x) k ≡ (has_key cmp key k x || contains_key cmp key xs k)
+  contains_key-put xs x k = ap is_some (item_at-put xs x k)
+      ∙ elim (cases_Bool (has_key cmp key k x)) [ inl here ↦ rw here | inr other ↦ rw other ]
+
   -- what is put hides what was there
   pub item_at-put_all : (xs ys : List X) (k : K) → IsAscending cmp key ys
       → item_at cmp key (put_all cmp key xs ys) k ≡ option_or (item_at cmp key ys k) (item_at cmp key xs k)
@@ -88,6 +94,11 @@ module _ {X K : Type 0} (cmp : K → K → Ordering) (order : IsTotalOrder cmp) 
       | inr other ↦ rw (stays, other) (item_at-without xs j k)
     ]
   ]
+
+  pub contains_key-without : (xs : List X) (j k : K)
+      → contains_key cmp key (without cmp key xs j) k ≡ (not (is_eq (cmp j k)) && contains_key cmp key xs k)
+  contains_key-without xs j k = ap is_some (item_at-without xs j k)
+      ∙ elim (cases_Bool (is_eq (cmp j k))) [ inl t ↦ rw t | inr f ↦ rw f ]
 
   pub item_at-without_same : (xs : List X) (k : K) → item_at cmp key (without cmp key xs k) k ≡ None
   item_at-without_same xs k = item_at-without xs k k ∙ rw (tied_itself order k)

@@ -1,4 +1,5 @@
--- Ascending lists: items in the order of their keys, at most one of a key. `cmp` is the order of the keys, and `key` reads an item's key.
+-- Ascending lists: items in the order of their keys, at most one of a key.
+-- `cmp` is the order of the keys, and `key` reads an item's key.
 use Rattle.std.specs.Prelude.{◌≡◌, ℕ, ◌<◌, ◌≤◌, Bool, true, not, ◌&&◌, List, [], ◌∷◌, length, slice_index_or, Option}
 use Rattle.std.specs.Prelude.{is_some}
 use Rattle.std.specs.List.{filter, find, fold, list_all}
@@ -47,10 +48,6 @@ module _ {X K : Type 0} (cmp : K → K → Ordering) (key : X → K) where
   -- the list with each of ys put in, one after another
   abbrev pub put_all : List X → List X → List X
   put_all xs ys = fold put xs ys
-
-  -- the lists put together, one after another
-  abbrev pub joined : List (List X) → List X
-  joined lists = fold put_all [] lists
 
   -- every item but the one that has the key
   abbrev pub without : List X → K → List X

@@ -1,8 +1,10 @@
-ghost use Rattle.std.specs.Prelude.{◌≡◌, ◌<◌, ◌^◌, ◌++◌, ◌∷◌, ◌==◌, [], IfErr, IfOk, IsTrue, OnErr, OnOk, is_ok, is_some, length, if◌then◌else◌};
+ghost use Rattle.std.specs.Prelude.{◌≡◌, ◌<◌, ◌^◌, ◌++◌, ◌∷◌, ◌==◌, [], IfErr, IfOk, IsTrue, OnErr, OnOk};
+ghost use Rattle.std.specs.Prelude.{is_ok, length};
+ghost use Rattle.std.specs.Iterator.Adapters.{IterYieldsInOrder};
 ghost use Rattle.std.specs.Option.{ok_or, option_copied};
 ghost use Rattle.std.specs.Slice.Iter.{iter_rest};
-ghost use Rattle.std.specs.Iterator.Adapters.{IterYieldsInOrder};
-ghost use Rattle.rx_order.specs.Ascending.{IsAscending, IsAt, IsGap, contains_key, is_ascending, is_past, item_at, put, without};
+ghost use Rattle.rx_order.specs.Ascending.{IsAscending, IsAt, IsGap, contains_key, is_ascending, is_past};
+ghost use Rattle.rx_order.specs.Ascending.{item_at, put, without};
 ghost use Rattle.rx_order.specs.InsertError.{is_there, refused_item};
 
 use crate::slices::{Keyed, is_ascending, place_of};
@@ -30,7 +32,7 @@ impl<T> From<AllocFailed<T>> for InsertError<T> {
     }
 }
 
-/// A list of items in the ascending order of their keys, at most one of a key.
+/// A list of items in the ascending order of their keys, at most one item of a key.
 #[derive(Debug, Drop)]
 pub struct Ascending<T: Keyed> {
     items: Vec<T>,
@@ -56,7 +58,7 @@ impl<T: Keyed> Ascending<T> {
         }
     }
 
-    /// Takes no memory. Items that are not ascending come back.
+    /// Items that are not in order, or of which two have one key, come back. It takes no memory.
     pub fn from_vec(items: Vec<T>) -> Result<Self, Vec<T>>
         ensures ok { is_ok result ≡ is_ascending T.Key.cmp T.key_of items.items }
         ensures value { IfOk result (λ list. list ≡ items.items) }
@@ -69,7 +71,7 @@ impl<T: Keyed> Ascending<T> {
         }
     }
 
-    /// An equal list, where the items can be copied.
+    /// An equal list, of items that can be copied.
     pub fn to_copy(&self, alloc: Global) -> Result<Self, AllocError>
     where
         T: Copy,
@@ -82,7 +84,8 @@ impl<T: Keyed> Ascending<T> {
     pub fn into_vec(self) -> Vec<T>
         ensures { result.items ≡ self }
     {
-        self.items
+        let Ascending { items } = self;
+        items
     }
 
     pub fn as_slice(&self) -> &[T]
@@ -90,7 +93,7 @@ impl<T: Keyed> Ascending<T> {
         ensures ascending { IsAscending T.Key.cmp T.key_of self.now }
         ensures small { length self.now < 2 ^ 63 }
     {
-        &self.items
+        self.items.as_slice()
     }
 
     pub fn iter(&self) -> Iter<'_, T>
@@ -136,7 +139,7 @@ impl<T: Keyed> Ascending<T> {
         self.place(key).is_ok()
     }
 
-    /// Whether the key is greater than that of each item.
+    /// Whether each item's key is less than this one. It looks at the last item alone.
     pub fn is_past(&self, key: &T::Key) -> bool
         ensures { result ≡ is_past T.Key.cmp T.key_of self.now key.now }
     {
@@ -146,11 +149,13 @@ impl<T: Keyed> Ascending<T> {
         }
     }
 
+    /// An item whose key is there already is refused, and then memory is not asked for.
     pub fn insert(&mut self, item: T) -> Result<(), InsertError<T>>
         ensures ok { OnOk result (self.new ≡ put T.Key.cmp T.key_of self.old item) }
         ensures there { is_there result ≡ contains_key T.Key.cmp T.key_of self.old (T.key_of item) }
         ensures err { OnErr result (self.new ≡ self.old) }
         ensures back { IfErr result (λ refused. refused_item refused ≡ item) }
+
         ensures ascending { IsAscending T.Key.cmp T.key_of self.old }
         ensures small { length self.new < 2 ^ 63 }
     {
@@ -160,22 +165,25 @@ impl<T: Keyed> Ascending<T> {
         }
     }
 
-    /// An item past the others goes to the end.
+    /// An item past the others goes to the end, which `is_past` tells.
     pub fn push(&mut self, item: T) -> Result<(), AllocFailed<T>>
         requires { IsTrue (is_past T.Key.cmp T.key_of self.old (T.key_of item)) }
         ensures ok { OnOk result (self.new ≡ self.old ++ item ∷ []) }
         ensures err { OnErr result (self.new ≡ self.old) }
         ensures back { IfErr result (λ refused. refused.value ≡ item) }
+
         ensures small { length self.new < 2 ^ 63 }
     {
         self.items.push(item)
     }
 
-    /// Writes the item over the one that has its key, and gives that back. An item with a new key comes back itself. Takes no memory.
+    /// Writes the item over the one that has its key, which comes back. An item with a new key comes back itself, as
+    /// an `Err`. It takes no memory.
     pub fn replace(&mut self, item: T) -> Result<T, T>
         ensures value { result ≡ ok_or (item_at T.Key.cmp T.key_of self.old (T.key_of item)) item }
         ensures ok { OnOk result (self.new ≡ put T.Key.cmp T.key_of self.old item) }
         ensures err { OnErr result (self.new ≡ self.old) }
+
         ensures ascending { IsAscending T.Key.cmp T.key_of self.old }
     {
         match self.place(&item.key()) {
@@ -187,6 +195,7 @@ impl<T: Keyed> Ascending<T> {
     pub fn remove(&mut self, key: &T::Key) -> Option<T>
         ensures value { result ≡ item_at T.Key.cmp T.key_of self.old key.now }
         ensures items { self.new ≡ without T.Key.cmp T.key_of self.old key.now }
+
         ensures ascending { IsAscending T.Key.cmp T.key_of self.old }
     {
         match self.place(key) {
@@ -213,3 +222,6 @@ impl<T: Keyed + Eq> Eq for Ascending<T> {
 
     ghost laws = { lists_equiv T.Eq.laws };
 }
+
+#[cfg(test)]
+mod tests;

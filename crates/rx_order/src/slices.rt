@@ -1,9 +1,8 @@
 ghost use Rattle.std.specs.Prelude.{◌≡◌, IfErr, IfOk};
 ghost use Rattle.rx_order.specs.Ascending.{IsAscending, IsAt, IsGap, is_ascending};
 
-/// What has a key, by which it is kept in order.
+/// An item that has a key.
 pub trait Keyed {
-    /// What the items are ordered by.
     type Key: Ord + Copy + Drop;
 
     ghost key_of: { Self → Self.Key };
@@ -19,7 +18,7 @@ pub fn is_ascending<T: Keyed>(items: &[T]) -> bool
     items.is_sorted_by(|a, b| a.key().cmp(&b.key()).is_lt())
 }
 
-/// Where the item with the key is, or where it would go.
+/// Where the item with the key is, or where it would go. It takes logarithmic time.
 pub fn place_of<T: Keyed>(items: &[T], key: &T::Key) -> Result<usize, usize>
     requires { IsAscending T.Key.cmp T.key_of items.now }
     ensures found { IfOk result (IsAt T.Key.cmp T.key_of items.now key.now) }

@@ -1,4 +1,4 @@
-use crate::{Id, IdFault, Key, Reference, date_read};
+use crate::{Id, IdFault, Key, Person, Provider, Reference, date_read};
 use std::cmp::Ordering;
 use std::test::Fail;
 
@@ -45,6 +45,18 @@ fn ids_are_trimmed_texts(rt: HostRuntime) -> Result<(), Fail> {
 }
 
 #[test]
+fn short_ids_have_at_most_their_length(rt: HostRuntime) -> Result<(), Fail> {
+    let pharmacy = Provider::new(b"ABCDEFGHIJKLMNO ")?;
+    assert_eq!(rt; pharmacy.bytes(), b"ABCDEFGHIJKLMNO".as_slice());
+    assert_eq!(rt; Provider::new(b"ABCDEFGHIJKLMNOP"), Err(IdFault::TooLong));
+    assert_eq!(rt; Person::new(b"01 ")?.bytes(), b"01".as_slice());
+    assert_eq!(rt; Person::new(b"012")?.id(), Id::new(b"012", 20)?);
+    assert_eq!(rt; Person::new(b"0123"), Err(IdFault::TooLong));
+    assert_eq!(rt; Person::new(b"   "), Err(IdFault::Blank));
+    Ok(())
+}
+
+#[test]
 fn ids_are_ordered_a_prefix_first(rt: HostRuntime) -> Result<(), Fail> {
     for (i, low) in IDS_IN_ORDER.into_iter().enumerate() {
         let low = Id::new(low, 20)?;
@@ -70,7 +82,7 @@ const KEYS_IN_ORDER: [(&[u8], u64, &[u8]); 5] = [
 
 fn key((provider, reference, date): (&[u8], u64, &[u8])) -> Result<Key, Fail> {
     Ok(Key {
-        provider: Id::new(provider, 15)?,
+        provider: Provider::new(provider)?,
         reference: Reference::new(reference).ok_or("reference")?,
         date: date_read(date)?,
     })
