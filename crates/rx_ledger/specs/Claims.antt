@@ -1,0 +1,28 @@
+-- A billing with what it is answered by.
+use Rattle.std.specs.Prelude.{◌≡◌, true, List, IfSome}
+use Rattle.rx_ledger.specs.declared.claim.Claim.{Claim}
+use Rattle.rx_ledger.specs.declared.occasion.Occasion.{Occasion}
+use Rattle.rx_ledger.specs.declared.sheet.Listed.{Listed}
+use Rattle.rx_ledger.specs.Answers.{Asked, used_by}
+use Rattle.rx_ledger.specs.Plan.{Plan, AreFigures, drug_of, is_drug}
+
+-- what the occasion's transaction is asked under, where the plan lists these drugs
+abbrev pub asked_on : Occasion → List Listed → Asked
+asked_on o drugs =
+    record {
+      lot = o.lot;
+      plan = record { figures = o.figures; drugs = drugs };
+      provider = o.provider;
+      date = o.date;
+      number = o.number;
+    }
+
+-- figures and drug are within their ranges, and what is used is the sum over the rows
+pub record IsClaim (c : Claim) : Type 0 where
+  pub figures_fit : AreFigures c.occasion.figures
+  pub drug_fits : IfSome c.drug (λ d. is_drug d ≡ true)
+  pub used_is : c.used ≡ used_by c.occasion.figures c.bill.person c.rows.now
+
+-- the drugs have what the claim says of the billing's product
+abbrev pub IsListed : Claim → List Listed → Type 0
+IsListed c drugs = drug_of (asked_on c.occasion drugs).plan c.bill.product ≡ c.drug
