@@ -1,0 +1,4 @@
+pub mod AnswerLaws
+pub mod FieldLaws
+pub mod Loops
+pub mod Laws

@@ -1,8 +1,10 @@
 //! Reply transmissions as bytes.
 #![tactic(auto)]
 
-mod amounts;
-mod segments;
+mod fault;
+mod reading;
 mod writing;
 
+pub use fault::ReplyFault;
+pub use reading::decode_reply;
 pub use writing::encode;

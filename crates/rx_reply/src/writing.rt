@@ -4,10 +4,13 @@ ghost use Rattle.std.specs.Prelude.{◌≡◌, ◌≤◌, ◌++◌, ◌∷◌, [
 ghost use Rattle.std.specs.List.{flat_map};
 ghost use Rattle.rx_reply.specs.Text.{paid_text, answer_text, group_text, header_text, answers_of, reply_text};
 
-use crate::amounts::{put_amounts, put_reversed};
-use crate::segments::{put_codes, put_known, put_number, put_reference};
+mod amounts;
+mod segments;
+
+use amounts::{put_amounts, put_reversed};
 use rx_claim::{Answer, Answers, Echo, Outcome, Paid, Refused, Rejected, Reply};
 use rx_fields::{Count, Memory, digits_write};
+use segments::{put_codes, put_known, put_number, put_reference};
 use std::alloc::{AllocError, Global};
 
 // The bytes of the header, and the most that an answer has, with its GS.

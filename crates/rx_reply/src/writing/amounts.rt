@@ -9,7 +9,7 @@ use rx_fields::{Cents, signed_write};
 use std::alloc::AllocError;
 
 // An amount as it is paid.
-pub(crate) fn paid_text(cents: u64) -> [u8; 8]
+pub(super) fn paid_text(cents: u64) -> [u8; 8]
     requires { cents ≤ 99_999_999 }
     ensures { result ≡ signed_text (pos cents) }
 {
@@ -17,7 +17,7 @@ pub(crate) fn paid_text(cents: u64) -> [u8; 8]
 }
 
 // An amount as it is taken back.
-pub(crate) fn reversed_text(cents: u64) -> [u8; 8]
+pub(super) fn reversed_text(cents: u64) -> [u8; 8]
     requires { cents ≤ 99_999_999 }
     ensures { result ≡ signed_text (neg_ℤ (pos cents)) }
 {
@@ -44,7 +44,7 @@ fn put_coinsurance(out: &mut Vec<u8>, cents: u64) -> Result<(), AllocError>
 }
 
 // Segment 23 of a paid claim.
-pub(crate) fn put_amounts(out: &mut Vec<u8>, pricing: &Pricing) -> Result<(), AllocError>
+pub(super) fn put_amounts(out: &mut Vec<u8>, pricing: &Pricing) -> Result<(), AllocError>
     ensures { OnOk result (out.new.items ≡ out.old.items ++ amounts_segment pricing.now) }
 {
     let amounts = pricing.amounts();
@@ -59,7 +59,7 @@ pub(crate) fn put_amounts(out: &mut Vec<u8>, pricing: &Pricing) -> Result<(), Al
 }
 
 // Segment 23 of a reversal.
-pub(crate) fn put_reversed(out: &mut Vec<u8>, total_paid: Cents) -> Result<(), AllocError>
+pub(super) fn put_reversed(out: &mut Vec<u8>, total_paid: Cents) -> Result<(), AllocError>
     ensures { OnOk result (out.new.items ≡ out.old.items ++ reversed_segment total_paid) }
 {
     out.extend_from_slice(b"\x1E\x1CAM23\x1CF9")?;

@@ -9,7 +9,7 @@ use rx_fields::{Authorization, Code, Reference, digits_write};
 use std::alloc::AllocError;
 
 // Segment 21 of an answer that has an authorization number.
-pub(crate) fn put_number(
+pub(super) fn put_number(
     out: &mut Vec<u8>,
     status: u8,
     number: Authorization,
@@ -24,7 +24,7 @@ pub(crate) fn put_number(
 }
 
 // Segment 22.
-pub(crate) fn put_reference(out: &mut Vec<u8>, reference: Reference) -> Result<(), AllocError>
+pub(super) fn put_reference(out: &mut Vec<u8>, reference: Reference) -> Result<(), AllocError>
     ensures { OnOk result (out.new.items ≡ out.old.items ++ reference_segment reference) }
 {
     out.extend_from_slice(b"\x1E\x1CAM22\x1CEM1\x1CD2")?;
@@ -33,7 +33,7 @@ pub(crate) fn put_reference(out: &mut Vec<u8>, reference: Reference) -> Result<(
 }
 
 // Segment 22, where the reference is known.
-pub(crate) fn put_known(out: &mut Vec<u8>, reference: Option<Reference>) -> Result<(), AllocError>
+pub(super) fn put_known(out: &mut Vec<u8>, reference: Option<Reference>) -> Result<(), AllocError>
     ensures { OnOk result (out.new.items ≡ out.old.items ++ known_reference reference) }
 {
     match reference {
@@ -59,7 +59,7 @@ fn put_each_code(out: &mut Vec<u8>, codes: &[Code]) -> Result<(), AllocError>
 }
 
 // Segment 21 of an answer that has reject codes.
-pub(crate) fn put_codes(out: &mut Vec<u8>, codes: &Codes) -> Result<(), AllocError>
+pub(super) fn put_codes(out: &mut Vec<u8>, codes: &Codes) -> Result<(), AllocError>
     ensures { OnOk result (out.new.items ≡ out.old.items ++ codes_segment codes.now) }
 {
     let codes = codes.as_slice();
