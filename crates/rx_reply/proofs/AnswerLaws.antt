@@ -344,7 +344,7 @@ answer_parts (answer.Twice p) = refl
 answer_parts (answer.Approved a) = refl
 answer_parts (answer.Refused r) = refl
 
-chosen : {A : Type 0} (b : Bool) (r s : Option A) (x : A) → cond b r s ≡ Some x → ((b ≡ true) × (r ≡ Some x)) ⊎ ((b ≡ false) × (s ≡ Some x))
+pub chosen : {A : Type 0} (b : Bool) (r s : Option A) (x : A) → cond b r s ≡ Some x → ((b ≡ true) × (r ≡ Some x)) ⊎ ((b ≡ false) × (s ≡ Some x))
 chosen true r s x e = inl (refl, e)
 chosen false r s x e = inr (refl, e)
 

@@ -2,3 +2,5 @@ pub mod AnswerLaws
 pub mod FieldLaws
 pub mod Loops
 pub mod Laws
+pub mod ReplyLaws
+pub mod Shapes

@@ -3,6 +3,7 @@
 
 mod fault;
 mod reading;
+mod shape;
 mod writing;
 
 pub use fault::ReplyFault;

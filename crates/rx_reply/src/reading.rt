@@ -1,14 +1,20 @@
 //! Reading replies.
 
-ghost use Rattle.std.specs.Prelude.{◌≡◌, ◌≤◌, IfOk, IfSome, Some, None, option_map, length};
+ghost use Rattle.std.specs.Prelude.{◌≡◌, ◌≤◌, IfOk, IfErr, IfSome, Some, None, option_map, length};
+ghost use Rattle.rx_claim.specs.declared.reply.Reply.{Reply};
+ghost use Rattle.rx_reply.specs.Fault.{IsFault, IsReadAs};
+ghost use Rattle.rx_reply.specs.Limits.{IsReply};
 ghost use Rattle.rx_reply.specs.Readers.{times};
 ghost use Rattle.rx_reply.specs.Reading.{group_at, refusal_at, are_copies, heard_in, rejected_in, outcome_in, reply_in};
+ghost use Rattle.rx_reply.specs.Text.{reply_text};
 
 mod amounts;
 mod answer;
 mod fields;
 mod header;
 
+use crate::fault::ReplyFault;
+use crate::shape::fault_of;
 use answer::{codes_at, group_at};
 use fields::{after, behind};
 use header::{Status, header_at};
@@ -121,4 +127,18 @@ fn reply_in(alloc: Global, bytes: &[u8]) -> Result<Option<Reply>, Memory>
     Ok(Some(reply))
 }
 
-pub fn decode_reply() {}
+/// The reply that the bytes are the text of (docs/FORMATS.md, "Reply transmission").
+pub fn decode_reply(alloc: Global, bytes: &[u8]) -> Result<Reply, ReplyFault>
+    // What is read is a reply within the limits, and the bytes are its text.
+    ensures reads { IfOk result (λ reply. IsReply reply × (bytes.now ≡ reply_text reply)) }
+    // A reply within the limits is read back, unless memory runs out.
+    ensures again { (r : Reply) → IsReply r → bytes.now ≡ reply_text r → IsReadAs result r }
+    // Which fault it is.
+    ensures refuses { IfErr result (IsFault bytes.now) }
+{
+    match reply_in(alloc, bytes) {
+        Ok(Some(reply)) => Ok(reply),
+        Ok(None) => Err(fault_of(bytes)),
+        Err(Memory) => Err(ReplyFault::Memory),
+    }
+}
