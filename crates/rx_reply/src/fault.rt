@@ -1,5 +1,8 @@
 ghost use Rattle.std.specs.Prelude.{◌≡◌};
 ghost use Rattle.rx_reply.specs.Fault.{fault_code};
+ghost use Rattle.rx_reply.specs.declared.fault.ReplyFault.TheVariants as the_fault;
+
+use rx_fields::Memory;
 
 /// Why bytes are no reply: the first of these that holds (docs/FORMATS.md, "Reply transmission").
 #[derive(Clone, Copy, Debug, PartialEq, Eq)]
@@ -25,5 +28,13 @@ impl ReplyFault {
             ReplyFault::Field => 3,
             ReplyFault::Memory => 4,
         }
+    }
+}
+
+impl From<Memory> for ReplyFault {
+    ghost from_gives = { λ _ fault. fault ≡ the_fault.Memory };
+
+    fn from(_memory: Memory) -> ReplyFault {
+        ReplyFault::Memory
     }
 }

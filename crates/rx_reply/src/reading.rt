@@ -136,9 +136,9 @@ pub fn decode_reply(alloc: Global, bytes: &[u8]) -> Result<Reply, ReplyFault>
     // Which fault it is.
     ensures refuses { IfErr result (IsFault bytes.now) }
 {
-    match reply_in(alloc, bytes) {
-        Ok(Some(reply)) => Ok(reply),
-        Ok(None) => Err(fault_of(bytes)),
-        Err(Memory) => Err(ReplyFault::Memory),
+    let found = reply_in(alloc, bytes)?;
+    match found {
+        Some(reply) => Ok(reply),
+        None => Err(fault_of(bytes)),
     }
 }
