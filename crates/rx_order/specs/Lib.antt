@@ -1,0 +1,4 @@
+pub mod Ascending
+pub mod InsertError
+pub mod Joined
+pub mod Orders
