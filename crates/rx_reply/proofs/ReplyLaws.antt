@@ -327,6 +327,16 @@ outcome_again (outcome.Heard answers) fits = (heard_again answers fits, refl, fe
 abbrev made_reply : EchoParts → Outcome → Reply
 made_reply echo o = record { echo = echo; outcome = o }
 
+-- the header's text, and then the groups' text
+text_is : (bs : List ℕ) (h : Header) (o : Outcome) (rest : List ℕ) → bs ≡ spelt_header h ++ rest
+    → IsIn o (status_text h.status) h.count rest → bs ≡ reply_text (made_reply h.echo o)
+text_is bs h o rest header all =
+    let groups = flat_map group_text (answers_of o) in
+    let behind : bs ≡ spelt_header h ++ groups = header ∙ ap (λ (t : List ℕ). spelt_header h ++ t) all.text in
+    let counted : bs ≡ header_text h.echo (length (answers_of o)) (status_text h.status) ++ groups =
+    behind ∙ ap (λ (k : ℕ). header_text h.echo k (status_text h.status) ++ groups) (sym all.as_many) in
+    counted ∙ ap (λ (t : List ℕ). header_text h.echo (length (answers_of o)) t ++ groups) (sym all.under)
+
 -- what is read is a reply within the limits, and the bytes are its text
 pub reply_is : (bs : List ℕ) (r : Reply) → reply_in bs ≡ Some r → IsReply r × (bs ≡ reply_text r)
 unfolding reply_in
@@ -335,12 +345,8 @@ reply_is bs r e =
     let o = bind_some (outcome_in h.0.0.status h.0.0.count h.0.1) (λ o. Some (made_reply h.0.0.echo o)) r h.2 in
     let header = header-reads.takes bs h.0 h.1 in
     let outcome = outcome_is h.0.0.status h.0.0.count h.0.1 o.0 header.1.some header.1.few o.1 in
-    let text : bs ≡ reply_text (made_reply h.0.0.echo o.0) =
-    header.0 ∙ (ap (λ (t : List ℕ). spelt_header h.0.0 ++ t) outcome.text
-    ∙ (ap (λ (k : ℕ). header_text h.0.0.echo k (status_text h.0.0.status) ++ flat_map group_text (answers_of o.0)) (sym outcome.as_many)
-    ∙ ap (λ (t : List ℕ). header_text h.0.0.echo (length (answers_of o.0)) t ++ flat_map group_text (answers_of o.0)) (sym outcome.under))) in
     subst (λ (x : Reply). IsReply x × (bs ≡ reply_text x)) (some_same o.2)
-    (record { echo = header.1.echo; outcome = outcome.within }, text)
+    (record { echo = header.1.echo; outcome = outcome.within }, text_is bs h.0.0 o.0 h.0.1 header.0 outcome)
 
 -- a reply within the limits is read back
 pub reply_again : (r : Reply) → IsReply r → reply_in (reply_text r) ≡ Some r

@@ -3,12 +3,10 @@
 ghost use Rattle.std.specs.Prelude.{◌≡◌, length};
 ghost use Rattle.std.specs.List.{list_all, enumerate_from};
 ghost use Rattle.rx_fields.specs.Text.{is_printable};
-ghost use Rattle.rx_reply.specs.Fault.{is_header, cut, labels, in_order, is_labelled, is_group, are_groups, fault_of};
+ghost use Rattle.rx_reply.specs.Fault.{is_header, cut, is_labelled, is_group, are_groups, fault_of};
 
 use crate::fault::ReplyFault;
-
-// The bytes of the header.
-const HEADER: usize = 31;
+use crate::layout::{GROUP, HEADER, SEGMENT};
 
 fn are_printable(bytes: &[u8]) -> bool
     ensures { result ≡ list_all is_printable bytes.now }
@@ -43,7 +41,7 @@ fn are_labelled(segments: &[u8]) -> bool
     ensures { result ≡ list_all (λ p. is_labelled p.0 p.1) (enumerate_from 0 (cut 30 segments.now)) }
 {
     segments
-        .split(|b| *b == 0x1E)
+        .split(|b| *b == SEGMENT)
         .enumerate()
         .all(|(place, segment)| is_labelled(place, segment))
 }
@@ -52,7 +50,7 @@ fn is_group(group: &[u8]) -> bool
     ensures { result ≡ is_group group.now }
 {
     match group {
-        [0x1E, segments @ ..] => are_labelled(segments),
+        [SEGMENT, segments @ ..] => are_labelled(segments),
         _ => false,
     }
 }
@@ -60,20 +58,20 @@ fn is_group(group: &[u8]) -> bool
 fn group_count(groups: &[u8]) -> usize
     ensures { result ≡ length (cut 29 groups.now) }
 {
-    groups.split(|b| *b == 0x1D).count()
+    groups.split(|b| *b == GROUP).count()
 }
 
 fn are_all_groups(groups: &[u8]) -> bool
     ensures { result ≡ list_all is_group (cut 29 groups.now) }
 {
-    groups.split(|b| *b == 0x1D).all(|group| is_group(group))
+    groups.split(|b| *b == GROUP).all(|group| is_group(group))
 }
 
 fn are_groups(count: usize, bytes: &[u8]) -> bool
     ensures { result ≡ are_groups count bytes.now }
 {
     match bytes {
-        [0x1D, groups @ ..] => group_count(groups) == count && are_all_groups(groups),
+        [GROUP, groups @ ..] => group_count(groups) == count && are_all_groups(groups),
         _ => false,
     }
 }

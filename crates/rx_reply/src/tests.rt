@@ -117,15 +117,6 @@ fn rejection(echo: Option<Echo>, codes: &[Code], groups: u64) -> Result<Reply, F
     })
 }
 
-fn is_same(a: &Reply, b: &Reply) -> bool {
-    a.echo == b.echo
-        && match (&a.outcome, &b.outcome) {
-            (Outcome::Rejected(a), Outcome::Rejected(b)) => *a == *b,
-            (Outcome::Heard(a), Outcome::Heard(b)) => a.as_slice() == b.as_slice(),
-            _ => false,
-        }
-}
-
 const ONE_BILLING_AMOUNTS: Amounts = Amounts {
     ingredient_cost: 30000,
     dispensing_fee: 175,
@@ -204,8 +195,8 @@ fn replies_are_written_and_read_back(rt: HostRuntime) -> Result<(), Fail> {
     ];
     for (reply, text) in &cases {
         assert_eq!(rt; encode(alloc, reply)?.as_slice(), *text);
-        let read = decode_reply(alloc, text)?;
-        assert!(rt; is_same(&read, reply), "{read:?}");
+        assert_eq!(rt; decode_reply(alloc, text)?, *reply);
+        assert_eq!(rt; read_back(alloc, reply)?, *reply);
     }
     Ok(())
 }

@@ -2,21 +2,20 @@
 
 ghost use Rattle.std.specs.Prelude.{◌≡◌, ◌≤◌, ◌++◌, ◌∷◌, [], OnOk, IfOk, length};
 ghost use Rattle.std.specs.List.{flat_map};
-ghost use Rattle.rx_reply.specs.Text.{paid_text, answer_text, group_text, header_text, answers_of, reply_text};
+ghost use Rattle.rx_reply.specs.Text.{paid_text, answer_text, group_text, header_text, reply_text};
 
 mod amounts;
 mod segments;
 
+use crate::layout::{GROUP, HEADER};
 use amounts::{put_amounts, put_reversed};
-use rx_claim::{Answer, Answers, Echo, Outcome, Paid, Refused, Rejected, Reply};
-use rx_fields::{Count, Memory, digits_write};
+use rx_claim::{Answer, Echo, Outcome, Paid, Refused, Reply};
+use rx_fields::{Memory, digits_write};
 use segments::{put_codes, put_known, put_number, put_reference};
 use std::alloc::{AllocError, Global};
 
-// The bytes of the header, and the most that an answer has, with its GS.
-const HEADER: usize = 31;
-
-const GROUP: usize = 137;
+// The most bytes that an answer has, with its GS.
+const MOST: usize = 137;
 
 fn put_paid(out: &mut Vec<u8>, status: u8, paid: &Paid) -> Result<(), AllocError>
     ensures { OnOk result (out.new.items ≡ out.old.items ++ paid_text (status ∷ []) paid.now) }
@@ -48,7 +47,7 @@ fn put_answer(out: &mut Vec<u8>, answer: &Answer) -> Result<(), AllocError>
 fn put_group(out: &mut Vec<u8>, answer: &Answer) -> Result<(), AllocError>
     ensures { OnOk result (out.new.items ≡ out.old.items ++ group_text answer.now) }
 {
-    out.push(0x1D)?;
+    out.push(GROUP)?;
     put_answer(out, answer)
 }
 
@@ -81,7 +80,7 @@ fn text_of(alloc: Global, echo: &Echo, status: u8, answers: &[Answer]) -> Result
     requires { length answers.now ≤ 4 }
     ensures { IfOk result (λ text. text.items ≡ header_text echo.now (length answers.now) (status ∷ []) ++ flat_map group_text answers.now) }
 {
-    let mut text = Vec::with_capacity(alloc, HEADER + GROUP * answers.len())?;
+    let mut text = Vec::with_capacity(alloc, HEADER + MOST * answers.len())?;
     put_header(&mut text, echo, answers.len() as u64, status)?;
     put_groups(&mut text, answers)?;
     Ok(text)

@@ -1,7 +1,6 @@
 //! Reading amounts.
 
 ghost use Rattle.std.specs.Prelude.{◌≡◌, option_map};
-ghost use Rattle.rx_reply.specs.Readers.{labelled};
 ghost use Rattle.rx_reply.specs.Reading.{paid_at, reversed_at, amount_at, coinsurance_at, price_at, share_at, pricing_at};
 
 use super::fields::{after, signed_at};

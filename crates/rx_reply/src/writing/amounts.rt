@@ -4,6 +4,7 @@ ghost use Rattle.std.specs.Prelude.{◌≡◌, ◌≤◌, ◌++◌, OnOk, pos, n
 ghost use Rattle.rx_fields.specs.Amount.{signed_text};
 ghost use Rattle.rx_reply.specs.Text.{amount_field, coinsurance_field, amounts_segment, reversed_segment};
 
+use crate::layout::FIELD;
 use rx_claim::Pricing;
 use rx_fields::{Cents, signed_write};
 use std::alloc::AllocError;
@@ -28,7 +29,7 @@ fn put_amount(out: &mut Vec<u8>, id: [u8; 2], cents: u64) -> Result<(), AllocErr
     requires { cents ≤ 99_999_999 }
     ensures { OnOk result (out.new.items ≡ out.old.items ++ amount_field id cents) }
 {
-    out.push(0x1C)?;
+    out.push(FIELD)?;
     out.extend_from_slice(&id)?;
     out.extend_from_slice(&paid_text(cents))
 }

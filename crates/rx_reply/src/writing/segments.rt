@@ -1,6 +1,6 @@
 //! Writing the fields and segments of an answer.
 
-ghost use Rattle.std.specs.Prelude.{◌≡◌, ◌≤◌, ◌++◌, ◌∷◌, [], OnOk, length};
+ghost use Rattle.std.specs.Prelude.{◌≡◌, ◌++◌, ◌∷◌, [], OnOk};
 ghost use Rattle.std.specs.List.{flat_map};
 ghost use Rattle.rx_reply.specs.Text.{number_segment, reference_segment, known_reference, code_field, codes_segment};
 
