@@ -14,7 +14,13 @@ pub(crate) type Field = [u8; 15];
 pub(crate) fn provider_field(reply: &Reply) -> Field
     ensures { result ≡ field_text (provider_of reply.now) }
 {
-    let field = reply.echo.parts().provider;
+    known_or_blank(reply.echo.parts().provider)
+}
+
+// The field where it names a provider, else blanks.
+fn known_or_blank(field: Field) -> Field
+    ensures { result ≡ field_text (named field) }
+{
     if Provider::new(&field).is_ok() {
         field
     } else {
