@@ -1,10 +1,10 @@
 -- The tallies by provider, after some replies are counted.
 use Rattle.std.proofs.Common.{◌≡◌, ℕ, ◌≤◌, Bool, true, false, not, cond, List, [], ◌∷◌, ◌++◌, map, refl, sym, ap, ◌∙◌}
-use Rattle.std.proofs.Common.{inl, inr, arith, zero-add, le_refl}
+use Rattle.std.proofs.Common.{inl, inr, subst, arith, zero-add}
 use Rattle.std.specs.Cmp.{IsEquivalence}
 use Rattle.std.specs.Cmp.Lexicographic.{on_texts_equal}
 use Rattle.std.specs.List.{filter, flat_map}
-use Rattle.std.specs.Prelude.{codes, nat_eq}
+use Rattle.std.specs.Prelude.{nat_eq}
 use Rattle.std.specs.Cmp.Lexicographic.{pointwise}
 use Rattle.std.proofs.lemmas.Bool.{cases_Bool}
 use Rattle.std.proofs.lemmas.List.{append-nil, map-append}
@@ -13,9 +13,9 @@ use Rattle.indexmap.specs.IndexMap.{insert_entry}
 use Rattle.rx_claim.specs.declared.reply.Reply.{Reply}
 use Rattle.rx_settle.specs.declared.tally.Tally.{Tally}
 use Rattle.rx_settle.specs.Answers.{answers_in, tally, plus, weight}
-use Rattle.rx_settle.specs.Counting.{field_text, tally_at, counted}
-use Rattle.rx_settle.specs.Providers.{named, provider_of, providers, is_same, without, replies_to}
-use Rattle.rx_settle.specs.Settlement.{counts_text, provider_line}
+use Rattle.rx_settle.specs.Counting.{field_text, tally_at, tally_for, tallies_of, counted, line}
+use Rattle.rx_settle.specs.Providers.{provider_of, providers, is_same, without, replies_to}
+use Rattle.rx_settle.specs.Settlement.{provider_line}
 use Rattle.rx_settle.proofs.Firsts.{firsts, seen, Distinct, Distinct-firsts, firsts-push, seen_alike, none_alike}
 use Rattle.rx_settle.proofs.Names.{same_fields, named_again}
 use Rattle.rx_settle.proofs.Tallies.{tally_of, tally_of-push, weight-filter}
@@ -28,16 +28,38 @@ laws : IsEquivalence same
 laws = on_texts_equal provider_of
 
 -- a reply's field with the tally of all replies to its provider
-abbrev pub entry : List Reply → Reply → List ℕ × Tally
+abbrev entry : List Reply → Reply → List ℕ × Tally
 entry replies r = (field_text (provider_of r), tally_of (replies_to (provider_of r) replies))
 
 -- the first reply to each provider, in order
-abbrev pub first_replies : List Reply → List Reply
+abbrev first_replies : List Reply → List Reply
 first_replies replies = firsts same replies
 
 -- a field with its tally for each provider, in order of first appearance
-abbrev pub entries : List Reply → List (List ℕ × Tally)
+abbrev entries : List Reply → List (List ℕ × Tally)
 entries replies = map (entry replies) (first_replies replies)
+
+-- ---- the providers
+
+names-others : (r : Reply) (fs : List Reply)
+    → map provider_of (filter (λ s. not (same r s)) fs) ≡ without (provider_of r) (map provider_of fs)
+names-others r [] = refl
+names-others r (f ∷ fs) = elim (cases_Bool (same r f)) [
+  | inl here ↦ rw here (names-others r fs)
+  | inr other ↦ rw other (ap (λ ns. provider_of f ∷ ns) (names-others r fs))
+]
+
+names : (rs : List Reply) → map provider_of (first_replies rs) ≡ providers rs
+names [] = refl
+names (r ∷ rs) = ap (λ ns. provider_of r ∷ ns) (names-others r (first_replies rs) ∙ ap (without (provider_of r)) (names rs))
+
+entries_among : (rs fs : List Reply) → map (entry rs) fs ≡ map (tally_for rs) (map provider_of fs)
+entries_among rs [] = refl
+entries_among rs (f ∷ fs) = ap (λ es. entry rs f ∷ es) (entries_among rs fs)
+
+-- the first replies give each provider its tally
+entries-tallies : (rs : List Reply) → entries rs ≡ tallies_of rs
+entries-tallies rs = entries_among rs (first_replies rs) ∙ ap (map (tally_for rs)) (names rs)
 
 -- ---- one reply is counted
 
@@ -102,7 +124,7 @@ counted_among rs (f ∷ fs) x d = elim (cases_Bool (same x f)) [
 ]
 
 -- counting a reply leads from the entries before it to those after it
-pub counted-entries : (rs : List Reply) (x : Reply)
+counted-entries : (rs : List Reply) (x : Reply)
     → counted (field_text (provider_of x)) (tally (answers_in x.outcome)) (entries rs) ≡ entries (rs ++ x ∷ [])
 counted-entries rs x = counted_among rs (first_replies rs) x (Distinct-firsts same laws rs)
     ∙ elim (cases_Bool (seen same x (first_replies rs))) [
@@ -119,6 +141,13 @@ counted-entries rs x = counted_among rs (first_replies rs) x (Distinct-firsts sa
           ∙ ap (λ e. map (entry (rs ++ x ∷ [])) (first_replies rs) ++ e ∷ []) last))
     ]
 
+-- counting a reply leads from the tallies before it to those after it
+pub counted-tallies : (rs : List Reply) (x : Reply)
+    → counted (field_text (provider_of x)) (tally (answers_in x.outcome)) (tallies_of rs) ≡ tallies_of (rs ++ x ∷ [])
+counted-tallies rs x =
+    ap (counted (field_text (provider_of x)) (tally (answers_in x.outcome))) (sym (entries-tallies rs))
+    ∙ counted-entries rs x ∙ entries-tallies (rs ++ x ∷ [])
+
 -- ---- how much is counted
 
 tally_at-among : (field : List ℕ) (rs fs : List Reply) → weight (tally_at field (map (entry rs) fs)) ≤ weight (tally_of rs)
@@ -129,32 +158,18 @@ tally_at-among field rs (f ∷ fs) = elim (cases_Bool (is_same field (field_text
 ]
 
 -- no provider's tally weighs more than all replies
-pub weight-tally_at : (field : List ℕ) (rs : List Reply) → weight (tally_at field (entries rs)) ≤ weight (tally_of rs)
-weight-tally_at field rs = tally_at-among field rs (first_replies rs)
+pub weight-tally_at : (field : List ℕ) (rs : List Reply) → weight (tally_at field (tallies_of rs)) ≤ weight (tally_of rs)
+weight-tally_at field rs = subst (λ es. weight (tally_at field es) ≤ weight (tally_of rs)) (entries-tallies rs)
+    (tally_at-among field rs (first_replies rs))
 
 -- ---- the lines
-
--- the line of a field with its tally
-abbrev pub line : List ℕ × Tally → List ℕ
-line e = codes "P|" ++ (named e.0 ++ counts_text e.1)
 
 lines_among : (rs fs : List Reply)
     → flat_map line (map (entry rs) fs) ≡ flat_map (provider_line rs) (map provider_of fs)
 lines_among rs [] = refl
 lines_among rs (f ∷ fs) = rw (named_again f.echo.provider, lines_among rs fs) refl
 
-names-others : (r : Reply) (fs : List Reply)
-    → map provider_of (filter (λ s. not (same r s)) fs) ≡ without (provider_of r) (map provider_of fs)
-names-others r [] = refl
-names-others r (f ∷ fs) = elim (cases_Bool (same r f)) [
-  | inl here ↦ rw here (names-others r fs)
-  | inr other ↦ rw other (ap (λ ns. provider_of f ∷ ns) (names-others r fs))
-]
-
-names : (rs : List Reply) → map provider_of (first_replies rs) ≡ providers rs
-names [] = refl
-names (r ∷ rs) = ap (λ ns. provider_of r ∷ ns) (names-others r (first_replies rs) ∙ ap (without (provider_of r)) (names rs))
-
--- the lines of the entries are those of the providers
-pub lines : (rs : List Reply) → flat_map line (entries rs) ≡ flat_map (provider_line rs) (providers rs)
-lines rs = lines_among rs (first_replies rs) ∙ ap (flat_map (provider_line rs)) (names rs)
+-- the lines of the tallies are those of the providers
+pub lines : (rs : List Reply) → flat_map line (tallies_of rs) ≡ flat_map (provider_line rs) (providers rs)
+lines rs = ap (flat_map line) (sym (entries-tallies rs)) ∙ lines_among rs (first_replies rs)
+    ∙ ap (flat_map (provider_line rs)) (names rs)

@@ -9,7 +9,7 @@ use Rattle.rx_settle.proofs.settlement.count.Goals as goal
 
 pub returns : goal.returns
 returns c =
-    let es = c.args.tallies.now.entries in
+    let es = c.args.providers.now.entries in
     let before : c.unwrap_or_default-before.result ≡ tally_at c.args.field es = search rules in
     c.in_ok-insert.ensures.entries
     ∙ ap (insert_entry (pointwise nat_eq) es c.args.field) (c.plus.ensures ∙ ap (λ t. plus t c.args.more) before)
