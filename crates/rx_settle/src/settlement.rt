@@ -25,6 +25,7 @@ struct Tallied {
 
 /// The settlement of a batch's replies: counts of their answers and the net in cents, per provider in order of first
 /// appearance and over all (docs/FORMATS.md, "Settlement file").
+#[tactic(auto, using(crate::proofs::Tallied::lines, std::proofs::Common::append_assoc))]
 pub fn settle(alloc: Global, lot: Lot, stamp: Stamp, replies: &[Reply]) -> Result<Vec<u8>, Memory>
     ensures { IfOk result (λ text. text.items ≡ settlement_text lot stamp replies.now) }
 {
