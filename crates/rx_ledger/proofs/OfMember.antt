@@ -34,10 +34,10 @@ listed_by-person (x ∷ xs) family person m found =
     elim (cases_Bool (has_key member_cmp member_key k x)) [
       | inl here ↦ rw here refl
       | inr other ↦ rw other (elim (cases_Bool (of_family family x)) [
-          inl own ↦ elim (cases_Bool (is_same x.key.person person)) [
-              inl same ↦ let tied : has_key member_cmp member_key k x ≡ true = tied-both (id_cmp x.key.family family) (id_cmp x.key.person person) own same in cc
-            | inr different ↦ listed_by-person xs family person m (rw (own, different) at found)
-          ]
+        | inl own ↦ elim (cases_Bool (is_same x.key.person person)) [
+          | inl same ↦ let tied : has_key member_cmp member_key k x ≡ true = tied-both (id_cmp x.key.family family) (id_cmp x.key.person person) own same in cc
+          | inr different ↦ listed_by-person xs family person m (rw (own, different) at found)
+        ]
         | inr stranger ↦ listed_by-person xs family person m (rw stranger at found)
       ])
     ]

@@ -21,9 +21,11 @@ adds f person r used =
 used_by-more : (f : Figures) (person : List ℕ) (rows : List Row) (i : ℕ) (d : Row) → i < length rows
     → used_by f person (take (i + 1) rows) ≡ adds f person (get_or rows i d) (used_by f person (take i rows))
 used_by-more f person rows i d h =
-    rw (sum_by_more (counted f.period (persons_deductible_paid person)) rows i d h,
-        sum_by_more (counted f.period paid_by_patient) rows i d h,
-        sum_by_more (counted f.period deductible_paid) rows i d h) refl
+    rw (
+      sum_by_more (counted f.period (persons_deductible_paid person)) rows i d h,
+      sum_by_more (counted f.period paid_by_patient) rows i d h,
+      sum_by_more (counted f.period deductible_paid) rows i d h,
+    ) refl
 
 module _ (f : Figures) (person : List ℕ) (rows : List Row) (i : ℕ) (r : Row) (in_range : i < length rows) (is : r ≡ get_or rows i r) where
   -- a row of the period, of the person or of another in the family

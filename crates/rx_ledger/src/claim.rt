@@ -4,8 +4,8 @@ ghost use Rattle.std.specs.Ordering.{is_gt, is_lt};
 ghost use Rattle.rx_fields.specs.Calendar.{day_cmp, day_number};
 ghost use Rattle.rx_fields.specs.Numbered.{is_within};
 ghost use Rattle.rx_ledger.specs.declared.sheet.Listed.{Listed};
-ghost use Rattle.rx_ledger.specs.Answers.{answer_bill, answer_covered, answer_member, answer_new, answer_person, is_same_claim, is_too_soon, refused};
-ghost use Rattle.rx_ledger.specs.Claims.{IsClaim, IsListed, asked_on};
+ghost use Rattle.rx_ledger.specs.Answers.{answer_bill, answer_covered, answer_member, answer_new, is_same_claim, is_too_soon, refused};
+ghost use Rattle.rx_ledger.specs.Claims.{IsClaim, IsListed, asked_for};
 ghost use Rattle.rx_ledger.specs.Members.{is_same, person_in};
 
 use crate::drug::Drug;
@@ -36,7 +36,8 @@ impl Claim<'_> {
     /// The answer, by the table of cases in its order (docs/PRODUCT.md, "Rules of adjudication").
     pub fn answer(&self, members: &[Member], under: Option<Row>) -> Answer
         requires { IsClaim self.now }
-        ensures { (drugs : List Listed) → IsListed self.now drugs → result ≡ answer_bill (asked_on self.now.occasion drugs) self.now.bill members.now self.now.rows.now under }
+        ensures { (drugs : List Listed) → IsListed self.now drugs
+            → result ≡ answer_bill (asked_for self.now drugs) self.now.bill members.now self.now.rows.now under }
     {
         if members.is_empty() {
             return self.refused(Code::UnknownCardholder);
@@ -50,7 +51,8 @@ impl Claim<'_> {
     // A row stands under the key, or none.
     fn of_member(&self, member: &Member, under: Option<Row>) -> Answer
         requires { IsClaim self.now }
-        ensures { (drugs : List Listed) → IsListed self.now drugs → result ≡ answer_member (asked_on self.now.occasion drugs) self.now.bill member.now self.now.rows.now under }
+        ensures { (drugs : List Listed) → IsListed self.now drugs
+            → result ≡ answer_member (asked_for self.now drugs) self.now.bill member.now self.now.rows.now under }
     {
         match under {
             None => self.of_new(member),
@@ -66,7 +68,8 @@ impl Claim<'_> {
     // No row stands under the key.
     fn of_new(&self, member: &Member) -> Answer
         requires { IsClaim self.now }
-        ensures { (drugs : List Listed) → IsListed self.now drugs → result ≡ answer_new (asked_on self.now.occasion drugs) self.now.bill member.now self.now.rows.now }
+        ensures { (drugs : List Listed) → IsListed self.now drugs
+            → result ≡ answer_new (asked_for self.now drugs) self.now.bill member.now self.now.rows.now }
     {
         if self.is_too_old() {
             return self.refused(Code::TooOld);
@@ -96,7 +99,8 @@ impl Claim<'_> {
 
     // Whether the date of service is outside the member's coverage, or after the period.
     fn is_outside(&self, member: &Member) -> bool
-        ensures { result ≡ (not (is_within member.now.coverage self.now.occasion.date) || is_gt (day_cmp self.now.occasion.date self.now.occasion.figures.period.last)) }
+        ensures { let date = self.now.occasion.date in
+            result ≡ (not (is_within member.now.coverage date) || is_gt (day_cmp date self.now.occasion.figures.period.last)) }
     {
         let date = self.occasion.date;
         !member.coverage.contains(date) || date > self.occasion.figures.period.last()
@@ -105,7 +109,7 @@ impl Claim<'_> {
     // The member is covered on the date of service.
     fn of_covered(&self) -> Answer
         requires { IsClaim self.now }
-        ensures { result ≡ answer_covered (asked_on self.now.occasion []) self.now.bill self.now.rows.now self.now.drug }
+        ensures { result ≡ answer_covered (asked_for self.now []) self.now.bill self.now.rows.now self.now.drug }
     {
         let Some(drug) = self.drug else {
             return self.refused(Code::ProductNotCovered);
@@ -140,7 +144,8 @@ impl Claim<'_> {
 
     fn is_any_too_soon(&self) -> bool
         requires { IsClaim self.now }
-        ensures { result ≡ list_any (is_too_soon self.now.occasion.figures self.now.occasion.date self.now.bill) self.now.rows.now }
+        ensures { let occasion = self.now.occasion in
+            result ≡ list_any (is_too_soon occasion.figures occasion.date self.now.bill) self.now.rows.now }
     {
         self.rows.iter().any(|row| self.is_too_soon(row))
     }
@@ -149,7 +154,8 @@ impl Claim<'_> {
     #[tactic(auto, using(crate::proofs::SameText::same_text))]
     fn is_too_soon(&self, row: &Row) -> bool
         requires { IsClaim self.now }
-        ensures { result ≡ is_too_soon self.now.occasion.figures self.now.occasion.date self.now.bill row.now }
+        ensures { let occasion = self.now.occasion in
+            result ≡ is_too_soon occasion.figures occasion.date self.now.bill row.now }
     {
         let parts = self.bill.parts();
         let date = self.occasion.date;
@@ -170,7 +176,10 @@ impl Claim<'_> {
 fn person_in(members: &[Member], person: Person) -> Option<Member>
     ensures { result ≡ person_in members.now person }
 {
-    members.iter().find(|member| is_person(member, person)).copied()
+    members
+        .iter()
+        .find(|member| is_person(member, person))
+        .copied()
 }
 
 #[tactic(auto, using(crate::proofs::SameText::same_text))]
@@ -183,7 +192,8 @@ fn is_person(member: &Member, person: Person) -> bool
 // Whether fewer than the percentage of the row's days have passed on the date.
 fn has_days_left(row: &Row, date: Day, percent: u64) -> bool
     requires { percent ≤ 100 }
-    ensures { result ≡ int_lt ((day_number date -ℤ day_number row.now.key.date) *ℤ pos 100) (pos (row.now.days * percent)) }
+    ensures { let passed = day_number date -ℤ day_number row.now.key.date in
+        result ≡ int_lt (passed *ℤ pos 100) (pos (row.now.days * percent)) }
 {
     let passed = i64::from(date.number()) - i64::from(row.key.date.number());
     passed * 100 < (row.days.get() * percent) as i64

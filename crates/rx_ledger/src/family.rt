@@ -8,7 +8,11 @@ use rx_fields::{Id, Memory};
 use std::alloc::Global;
 
 // The members of a family among these.
-pub(crate) fn members_of(alloc: Global, members: &[Member], family: Id) -> Result<Vec<Member>, Memory>
+pub(crate) fn members_of(
+    alloc: Global,
+    members: &[Member],
+    family: Id,
+) -> Result<Vec<Member>, Memory>
     ensures { IfOk result (λ of. of.items ≡ filter (of_family family) members.now) }
 {
     let mut of = Vec::new(alloc);

@@ -22,6 +22,7 @@ mod member;
 mod occasion;
 mod price;
 mod reply;
+mod reversal;
 mod row;
 mod share;
 mod sheet;
@@ -38,9 +39,13 @@ pub use ledger::{AddError, Ledger};
 pub use member::{Member, MemberKey};
 pub use occasion::Occasion;
 pub use price::Allowance;
+pub use reversal::answer_reversal;
 pub use row::Row;
 pub use share::{Used, shared};
 pub use sheet::{AddFault, Listed, Sheet};
 pub use sheet_key::{SheetKey, Wrong};
 pub use sums::used_by;
 pub use terms::Terms;
+
+#[cfg(test)]
+mod tests;

@@ -37,7 +37,10 @@ impl Allowance {
     {
         let parts = bill.parts();
         let submitted_fee = parts.dispensing_fee.map_or(0, |fee| fee.get());
-        let ingredient_cost = parts.ingredient_cost.get().min(cost_of(parts.quantity, price));
+        let ingredient_cost = parts
+            .ingredient_cost
+            .get()
+            .min(cost_of(parts.quantity, price));
         let dispensing_fee = submitted_fee.min(most_fee);
         capped(bill.cap().get(), ingredient_cost, dispensing_fee)
     }

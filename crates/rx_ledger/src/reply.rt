@@ -1,14 +1,13 @@
 ghost use Rattle.std.specs.Prelude.{◌≡◌, ◌≤◌, length, true, IfOk, OnOk};
 ghost use Rattle.rx_claim.specs.Listed.{is_few};
-ghost use Rattle.rx_ledger.specs.Claims.{asked_on};
-ghost use Rattle.rx_ledger.specs.Fold.{answers_from, asked, ledger_after, ledger_from, reply_to};
+ghost use Rattle.rx_ledger.specs.Fold.{answers_from, ledger_after, ledger_from, reply_to};
 
 use crate::ledger::Ledger;
 use crate::occasion::Occasion;
 use crate::sheet::Sheet;
 use crate::step::adjudicate;
 use rx_claim::{Answer, Answers, Body, Heard, Outcome, Reply, Transmission};
-use rx_fields::{Authorization, Lot, Memory};
+use rx_fields::{Lot, Memory};
 use std::alloc::Global;
 
 // The reply to the record at a place of the lot; the ledger is then the one after the record.
@@ -44,13 +43,14 @@ fn answers(
     ledger: &mut Ledger,
 ) -> Result<Answers, Memory>
     requires { place ≤ 100_000 }
-    ensures value { IfOk result (λ answers. answers ≡ answers_from lot sheet.now place heard.now 1 heard.now.list ledger.old) }
+    ensures value { IfOk result
+        (λ answers. answers ≡ answers_from lot sheet.now place heard.now 1 heard.now.list ledger.old) }
     ensures after { OnOk result (ledger.new ≡ ledger_from lot sheet.now place heard.now 1 heard.now.list ledger.old) }
 {
     let list = heard.list.as_slice();
     let mut answers: Vec<Answer> = Vec::with_capacity(alloc, list.len())?;
     for (at, transaction) in list.iter().enumerate() {
-        let occasion = occasion(lot, sheet, place, heard, at as u64 + 1);
+        let occasion = Occasion::new(lot, sheet.figures(), place, heard, at as u64 + 1);
         adjudicate(alloc, &occasion, sheet, transaction, ledger, &mut answers)?;
     }
     Ok(answers_of(answers))
@@ -64,22 +64,5 @@ fn answers_of(items: Vec<Answer>) -> Answers
     match Answers::new(items) {
         Ok(answers) => answers,
         Err(_) => unreachable!(),
-    }
-}
-
-// What the nth transaction of the record at a place is asked under.
-fn occasion(lot: Lot, sheet: &Sheet, place: u64, heard: &Heard, nth: u64) -> Occasion
-    requires place { place ≤ 100_000 }
-    requires nth { nth ≤ 4 }
-    ensures value { asked_on result sheet.now.drugs ≡ asked lot sheet.now place heard.now nth }
-    ensures figures { result.figures ≡ sheet.now.figures }
-{
-    let number = u64::from(lot.number()) * 100_000_000 + place * 10 + nth;
-    Occasion {
-        lot,
-        figures: *sheet.figures(),
-        provider: heard.provider,
-        date: heard.date,
-        number: Authorization::new(number).unwrap(),
     }
 }

@@ -1,18 +1,17 @@
 ghost use Rattle.std.specs.Prelude.{◌≡◌, ◌++◌, ◌∷◌, [], IfOk, OnOk};
 ghost use Rattle.rx_claim.specs.declared.transaction.Transaction.TheVariants as asks;
-ghost use Rattle.rx_ledger.specs.Answers.{after, answer, answer_reversal, key_of, paid_row};
+ghost use Rattle.rx_ledger.specs.Answers.{after, answer};
 ghost use Rattle.rx_ledger.specs.Claims.{asked_on};
-ghost use Rattle.rx_ledger.specs.Ledger.{row_under};
 
-use crate::claim::{Claim, refused};
+use crate::claim::Claim;
 use crate::family::{members_of, rows_of};
 use crate::ledger::Ledger;
 use crate::occasion::Occasion;
-use crate::row::Row;
+use crate::reversal::answer_reversal;
 use crate::sheet::Sheet;
 use crate::sums::used_by;
-use rx_claim::{Answer, Approved, Bill, Paid, Refused, Reversal, Transaction};
-use rx_fields::{Cents, Code, Key, Memory, Reference};
+use rx_claim::{Answer, Bill, Refused, Reversal, Transaction};
+use rx_fields::Memory;
 use std::alloc::Global;
 
 // Adjudicates a transaction, and puts its answer after the others: a paid claim stands from now on, a reversed one no
@@ -26,8 +25,10 @@ pub(crate) fn adjudicate(
     answers: &mut Vec<Answer>,
 ) -> Result<(), Memory>
     requires { occasion.now.figures ≡ sheet.now.figures }
-    ensures value { OnOk result (answers.new.items ≡ answers.old.items ++ answer (asked_on occasion.now sheet.now.drugs) ledger.old transaction.now ∷ []) }
-    ensures after { OnOk result (ledger.new ≡ after (asked_on occasion.now sheet.now.drugs) ledger.old transaction.now (answer (asked_on occasion.now sheet.now.drugs) ledger.old transaction.now)) }
+    ensures value { let asked = asked_on occasion.now sheet.now.drugs in
+        OnOk result (answers.new.items ≡ answers.old.items ++ answer asked ledger.old transaction.now ∷ []) }
+    ensures after { let asked = asked_on occasion.now sheet.now.drugs in
+        OnOk result (ledger.new ≡ after asked ledger.old transaction.now (answer asked ledger.old transaction.now)) }
 {
     let answer = match transaction {
         Transaction::Bill(bill) => adjudicate_bill(alloc, occasion, sheet, bill, ledger)?,
@@ -49,12 +50,14 @@ fn adjudicate_bill(
     ledger: &mut Ledger,
 ) -> Result<Answer, Memory>
     requires { occasion.now.figures ≡ sheet.now.figures }
-    ensures value { IfOk result (λ given. given ≡ answer (asked_on occasion.now sheet.now.drugs) ledger.old (asks.Bill bill.now)) }
-    ensures after { IfOk result (λ given. ledger.new ≡ after (asked_on occasion.now sheet.now.drugs) ledger.old (asks.Bill bill.now) given) }
+    ensures value { let asked = asked_on occasion.now sheet.now.drugs in
+        IfOk result (λ given. given ≡ answer asked ledger.old (asks.Bill bill.now)) }
+    ensures after { let asked = asked_on occasion.now sheet.now.drugs in
+        IfOk result (λ given. ledger.new ≡ after asked ledger.old (asks.Bill bill.now) given) }
 {
     let answer = answer_bill(alloc, occasion, sheet, bill, ledger)?;
     if let Answer::Paid(paid) = &answer {
-        ledger.put_row(paid_row(occasion, bill, paid))?;
+        ledger.put_row(occasion.row(bill, paid))?;
     }
     Ok(answer)
 }
@@ -68,7 +71,8 @@ fn answer_bill(
     ledger: &Ledger,
 ) -> Result<Answer, Memory>
     requires { occasion.now.figures ≡ sheet.now.figures }
-    ensures { IfOk result (λ given. given ≡ answer (asked_on occasion.now sheet.now.drugs) ledger.now (asks.Bill bill.now)) }
+    ensures { let asked = asked_on occasion.now sheet.now.drugs in
+        IfOk result (λ given. given ≡ answer asked ledger.now (asks.Bill bill.now)) }
 {
     let parts = bill.parts();
     let members = members_of(alloc, ledger.members(), parts.family)?;
@@ -80,59 +84,17 @@ fn answer_bill(
         rows: &rows,
         used: used_by(sheet.figures(), parts.person, &rows),
     };
-    Ok(claim.answer(&members, ledger.row(&key_of(occasion, parts.reference))))
+    Ok(claim.answer(&members, ledger.row(&occasion.key(parts.reference))))
 }
 
 fn adjudicate_reversal(occasion: &Occasion, reversal: &Reversal, ledger: &mut Ledger) -> Answer
     ensures value { result ≡ answer (asked_on occasion.now []) ledger.old (asks.Reverse reversal.now) }
     ensures after { ledger.new ≡ after (asked_on occasion.now []) ledger.old (asks.Reverse reversal.now) result }
 {
-    let key = key_of(occasion, reversal.reference);
+    let key = occasion.key(reversal.reference);
     let answer = answer_reversal(occasion, reversal, ledger.row(&key));
     if let Answer::Approved(_) = answer {
         ledger.remove_row(&key);
     }
     answer
-}
-
-// The answer to a reversal, given the row under its fill key.
-fn answer_reversal(occasion: &Occasion, reversal: &Reversal, under: Option<Row>) -> Answer
-    ensures { result ≡ answer_reversal (asked_on occasion.now []) reversal.now under }
-{
-    match under {
-        Some(row) if row.product == reversal.product => Answer::Approved(Approved {
-            number: occasion.number,
-            reference: reversal.reference,
-            total_paid: Cents::new(row.pricing.total_paid()).unwrap(),
-        }),
-        _ => refused(Code::ReversalNotProcessed, reversal.reference),
-    }
-}
-
-// The fill key of a prescription reference number.
-fn key_of(occasion: &Occasion, reference: Reference) -> Key
-    ensures { result ≡ key_of (asked_on occasion.now []) reference }
-{
-    Key {
-        provider: occasion.provider,
-        reference,
-        date: occasion.date,
-    }
-}
-
-// The row of a billing that is paid.
-fn paid_row(occasion: &Occasion, bill: &Bill, paid: &Paid) -> Row
-    ensures { result ≡ paid_row (asked_on occasion.now []) bill.now paid.now.number paid.now.pricing }
-{
-    let parts = bill.parts();
-    Row {
-        key: key_of(occasion, parts.reference),
-        family: parts.family,
-        person: parts.person,
-        product: parts.product,
-        quantity: parts.quantity,
-        days: parts.days,
-        pricing: paid.pricing,
-        number: paid.number,
-    }
 }

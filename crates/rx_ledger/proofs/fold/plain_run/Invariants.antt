@@ -7,7 +7,7 @@ abbrev pub invariant-loop-at : goal.invariant-loop-at
 invariant-loop-at l =
     record {
       replies : l.replies.items ++ fold_replies l.lot l.sheet (l.at + 1) (drop l.at l.transmissions) l.ledger
-        ≡ fold_replies l.lot l.sheet 1 l.transmissions l.before;
+          ≡ fold_replies l.lot l.sheet 1 l.transmissions l.before;
       ledger : fold_ledger l.lot l.sheet (l.at + 1) (drop l.at l.transmissions) l.ledger
-        ≡ fold_ledger l.lot l.sheet 1 l.transmissions l.before;
+          ≡ fold_ledger l.lot l.sheet 1 l.transmissions l.before;
     }

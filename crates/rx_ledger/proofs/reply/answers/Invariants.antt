@@ -8,7 +8,7 @@ invariant-loop-at l =
     record {
       count : length l.answers.items ≡ l.at;
       answers : l.answers.items ++ answers_from l.lot l.sheet l.place l.heard (l.at + 1) (drop l.at l.list) l.ledger
-        ≡ answers_from l.lot l.sheet l.place l.heard 1 l.list l.initial.ledger;
+          ≡ answers_from l.lot l.sheet l.place l.heard 1 l.list l.initial.ledger;
       ledger : ledger_from l.lot l.sheet l.place l.heard (l.at + 1) (drop l.at l.list) l.ledger
-        ≡ ledger_from l.lot l.sheet l.place l.heard 1 l.list l.initial.ledger;
+          ≡ ledger_from l.lot l.sheet l.place l.heard 1 l.list l.initial.ledger;
     }
