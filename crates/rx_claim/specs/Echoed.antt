@@ -1,5 +1,5 @@
 -- What a reply repeats of its request.
-use Rattle.std.specs.Prelude.{◌≡◌, ℕ, Bool, true, ◌&&◌, if◌then◌else◌, List, map, length, Option, Some, None}
+use Rattle.std.specs.Prelude.{◌≡◌, ℕ, Bool, true, ◌&&◌, if◌then◌else◌, List, map, Option, Some, None}
 use Rattle.std.specs.List.{list_all}
 use Rattle.rx_fields.specs.Text.{is_printable}
 use Rattle.rx_claim.specs.declared.echo.EchoParts.{EchoParts}

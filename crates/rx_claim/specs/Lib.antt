@@ -4,3 +4,4 @@ pub mod Echoed
 pub mod Filled
 pub mod Listed
 pub mod Priced
+pub mod Same

@@ -1,5 +1,5 @@
 -- The lists of a transmission and of a reply.
-use Rattle.std.specs.Prelude.{◌≡◌, ℕ, Bool, true, false, not, ◌&&◌, ◌||◌, nat_le, List, length}
+use Rattle.std.specs.Prelude.{◌≡◌, ℕ, Bool, true, false, not, ◌&&◌, nat_le, List, length}
 use Rattle.std.specs.List.{list_any}
 use Rattle.rx_claim.specs.declared.transaction.Transaction.{Transaction}
 use Rattle.rx_claim.specs.declared.transaction.Transaction.TheVariants.{Bill, Reverse, Faulty}

@@ -9,7 +9,8 @@
 //! for transaction in heard.list.iter() { .. }
 //! ```
 //!
-//! How they are read from bytes and written is left to `rx_request` and `rx_reply`.
+//! `==` tells without memory whether two of them are the same value; a `Transmission` is copied by `copy`, for which
+//! memory may be wanting. How they are read from bytes and written is left to `rx_request` and `rx_reply`.
 #![tactic(auto)]
 
 mod bill;
@@ -17,6 +18,8 @@ mod codes;
 mod echo;
 mod pricing;
 mod reply;
+#[cfg(test)]
+mod tests;
 mod transaction;
 mod transmission;
 

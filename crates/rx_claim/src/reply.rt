@@ -111,3 +111,62 @@ impl Answers {
         self.items.as_slice()
     }
 }
+
+ghost use Rattle.rx_claim.specs.contracts.reply.Answers.{the_row as answers_row};
+ghost use Rattle.rx_claim.specs.contracts.reply.Outcome.{the_row as outcome_row};
+ghost use Rattle.rx_claim.specs.contracts.reply.Reply.{the_row as reply_row};
+ghost use Rattle.rx_claim.specs.Same.{same, same_laws, same_equivalence};
+
+impl PartialEq for Answers {
+    ghost eq = { same answers_row.coded };
+
+    ghost laws = { same_laws answers_row.coded };
+
+    #[tactic(auto, using(crate::proofs::Decided::answers_decides))]
+    fn eq(&self, other: &Answers) -> bool
+        ensures { IsTrue result ↔ (self.now ≡ other.now) }
+    {
+        self.as_slice() == other.as_slice()
+    }
+}
+
+impl Eq for Answers {
+    ghost laws = { same_equivalence answers_row.coded };
+}
+
+impl PartialEq for Outcome {
+    ghost eq = { same outcome_row.coded };
+
+    ghost laws = { same_laws outcome_row.coded };
+
+    #[tactic(auto, using(crate::proofs::Decided::rejected_decides))]
+    fn eq(&self, other: &Outcome) -> bool
+        ensures { IsTrue result ↔ (self.now ≡ other.now) }
+    {
+        match (self, other) {
+            (Outcome::Rejected(a), Outcome::Rejected(b)) => *a == *b,
+            (Outcome::Heard(a), Outcome::Heard(b)) => *a == *b,
+            _ => false,
+        }
+    }
+}
+
+impl Eq for Outcome {
+    ghost laws = { same_equivalence outcome_row.coded };
+}
+
+impl PartialEq for Reply {
+    ghost eq = { same reply_row.coded };
+
+    ghost laws = { same_laws reply_row.coded };
+
+    fn eq(&self, other: &Reply) -> bool
+        ensures { IsTrue result ↔ (self.now ≡ other.now) }
+    {
+        self.echo == other.echo && self.outcome == other.outcome
+    }
+}
+
+impl Eq for Reply {
+    ghost laws = { same_equivalence reply_row.coded };
+}

@@ -53,7 +53,7 @@ impl Model for Transactions {
     ghost invariant = { λ a. AreTransactions a.items.items };
 }
 
-ghost use Rattle.std.specs.Prelude.{◌↔◌, IfOk, IfErr, IsOk, length, true};
+ghost use Rattle.std.specs.Prelude.{◌↔◌, IfOk, IfErr, IsOk, IsTrue, length, true};
 ghost use Rattle.std.specs.List.{list_any};
 ghost use Rattle.rx_claim.specs.Listed.{is_bill, is_reversal, are_transactions};
 
@@ -82,7 +82,7 @@ impl Transactions {
     pub fn copy(&self, alloc: Global) -> Result<Transactions, Memory>
         ensures { IfOk result (λ list. list ≡ self.now) }
     {
-        let items = Vec::from_slice(alloc, self.items.as_slice())?;
+        let items = Vec::from_slice(alloc, self.as_slice())?;
         Ok(Transactions { items })
     }
 }
@@ -101,4 +101,24 @@ fn has_reversal(items: &[Transaction]) -> bool
     items
         .iter()
         .any(|item| matches!(item, Transaction::Reverse(_)))
+}
+
+ghost use Rattle.rx_claim.specs.contracts.transaction.Transactions.{the_row};
+ghost use Rattle.rx_claim.specs.Same.{same, same_laws, same_equivalence};
+
+impl PartialEq for Transactions {
+    ghost eq = { same the_row.coded };
+
+    ghost laws = { same_laws the_row.coded };
+
+    #[tactic(auto, using(crate::proofs::Decided::transactions_decides))]
+    fn eq(&self, other: &Transactions) -> bool
+        ensures { IsTrue result ↔ (self.now ≡ other.now) }
+    {
+        self.as_slice() == other.as_slice()
+    }
+}
+
+impl Eq for Transactions {
+    ghost laws = { same_equivalence the_row.coded };
 }

@@ -1,4 +1,4 @@
-ghost use Rattle.std.specs.Prelude.{◌≡◌, IfOk};
+ghost use Rattle.std.specs.Prelude.{◌≡◌, ◌↔◌, IfOk, IsTrue};
 
 use crate::codes::Codes;
 use crate::echo::Echo;
@@ -79,4 +79,62 @@ impl Transmission {
             body,
         })
     }
+}
+
+ghost use Rattle.rx_claim.specs.contracts.transmission.Heard.{the_row as heard_row};
+ghost use Rattle.rx_claim.specs.contracts.transmission.Body.{the_row as body_row};
+ghost use Rattle.rx_claim.specs.contracts.transmission.Transmission.{the_row as transmission_row};
+ghost use Rattle.rx_claim.specs.Same.{same, same_laws, same_equivalence};
+
+impl PartialEq for Heard {
+    ghost eq = { same heard_row.coded };
+
+    ghost laws = { same_laws heard_row.coded };
+
+    fn eq(&self, other: &Heard) -> bool
+        ensures { IsTrue result ↔ (self.now ≡ other.now) }
+    {
+        self.provider == other.provider && self.date == other.date && self.list == other.list
+    }
+}
+
+impl Eq for Heard {
+    ghost laws = { same_equivalence heard_row.coded };
+}
+
+impl PartialEq for Body {
+    ghost eq = { same body_row.coded };
+
+    ghost laws = { same_laws body_row.coded };
+
+    #[tactic(auto, using(crate::proofs::Decided::rejected_decides))]
+    fn eq(&self, other: &Body) -> bool
+        ensures { IsTrue result ↔ (self.now ≡ other.now) }
+    {
+        match (self, other) {
+            (Body::Rejected(a), Body::Rejected(b)) => *a == *b,
+            (Body::Heard(a), Body::Heard(b)) => *a == *b,
+            _ => false,
+        }
+    }
+}
+
+impl Eq for Body {
+    ghost laws = { same_equivalence body_row.coded };
+}
+
+impl PartialEq for Transmission {
+    ghost eq = { same transmission_row.coded };
+
+    ghost laws = { same_laws transmission_row.coded };
+
+    fn eq(&self, other: &Transmission) -> bool
+        ensures { IsTrue result ↔ (self.now ≡ other.now) }
+    {
+        self.echo == other.echo && self.body == other.body
+    }
+}
+
+impl Eq for Transmission {
+    ghost laws = { same_equivalence transmission_row.coded };
 }

@@ -1,4 +1,6 @@
+-- Laws of the definitions in `specs/`.
 pub mod AmountLaws
-pub mod Blanks
 pub mod DigitLaws
-pub mod Joined
+pub mod IdLaws
+pub mod OrderLaws
+pub mod StampLaws

@@ -1,5 +1,6 @@
 -- Days of the civil calendar, years 0000 to 9999.
-use Rattle.std.specs.Prelude.{◌≡◌, ℕ, Bool, true, ◌&&◌, nat_lt, nat_le, ◌==◌, if◌then◌else◌, List, ◌++◌, length, slice_range, Result, Ok, Err, ℤ, pos}
+use Rattle.std.specs.Prelude.{◌≡◌, ℕ, Bool, true, ◌&&◌, nat_lt, nat_le, ◌==◌, if◌then◌else◌, ℤ, pos}
+use Rattle.std.specs.Prelude.{List, ◌++◌, length, slice_range, Result, Ok, Err}
 use Rattle.std.specs.Ordering.{nat_cmp, ordering_then}
 use Rattle.std.specs.declared.cmp.Ordering.{Ordering}
 use Rattle.jiff_core.specs.Calendar.{days_in_month, days_from_civil}
@@ -7,6 +8,7 @@ use Rattle.rx_fields.specs.declared.fault.FieldFault.{FieldFault}
 use Rattle.rx_fields.specs.declared.fault.FieldFault.TheVariants.{Empty, TooLong, NotDigit, NotDate}
 use Rattle.rx_fields.specs.Digits.{all_digits, number, digits_text}
 
+-- a year, a month from 1 and a day of the month from 1
 pub record Civil : Type 0 where
   pub year : ℕ
   pub month : ℕ
@@ -18,17 +20,22 @@ is_civil c =
     nat_lt c.year 10000 && nat_le 1 c.month && nat_le c.month 12
     && nat_le 1 c.day && nat_le c.day (days_in_month (pos c.year) c.month)
 
+-- `is_civil` as a fact
 abbrev pub IsCivil : Civil → Type 0
 IsCivil c = is_civil c ≡ true
 
--- the number of a day: 1970-01-01 is 0
+-- the number of a day: 1970-01-01 is 0, and each day is one more than the day before
 abbrev pub day_number : Civil → ℤ
 day_number c = days_from_civil (pos c.year) c.month c.day
 
 -- the parts of eight digits CCYYMMDD
 abbrev pub civil_of : List ℕ → Civil
 civil_of bs =
-    record { year = number (slice_range bs 0 4); month = number (slice_range bs 4 6); day = number (slice_range bs 6 8) }
+    record {
+      year = number (slice_range bs 0 4);
+      month = number (slice_range bs 4 6);
+      day = number (slice_range bs 6 8);
+    }
 
 -- the day of eight digits, or the first fault
 abbrev pub date_of : List ℕ → Result Civil FieldFault
@@ -38,7 +45,7 @@ date_of bs =
     else (if all_digits bs then (if length bs == 8 && is_civil (civil_of bs) then Ok (civil_of bs) else Err NotDate)
     else Err NotDigit))
 
--- the one spelling of a day
+-- the one spelling of a day: CCYYMMDD
 unfoldable pub date_text : Civil → List ℕ
 date_text c = digits_text 4 c.year ++ (digits_text 2 c.month ++ digits_text 2 c.day)
 

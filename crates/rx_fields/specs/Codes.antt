@@ -4,6 +4,7 @@ use Rattle.std.specs.Cmp.Lexicographic.{pointwise}
 use Rattle.rx_fields.specs.declared.code.Code.{Code}
 use Rattle.rx_fields.specs.declared.code.Code.TheVariants as code
 
+-- the characters of a code, a line each
 abbrev pub code_text : Code → List ℕ
 code_text code.Bin = codes "01"
 code_text code.Version = codes "02"
@@ -47,6 +48,6 @@ all_codes =
     ∷ code.ReversalNotProcessed ∷ code.TransactionCount ∷ code.DispensingFee ∷ code.UsualCharge ∷ code.GrossAmount
     ∷ code.ProductQualifier ∷ code.Quantity ∷ code.ReferenceQualifier ∷ code.Syntax ∷ []
 
--- the code of these characters
+-- the code that has these characters
 abbrev pub code_of : List ℕ → Option Code
 code_of bs = find (λ c. pointwise nat_eq (code_text c) bs) all_codes

@@ -13,4 +13,5 @@ id_cmp a b = slice_cmp nat_cmp a b
 -- by provider, then reference, then date
 abbrev pub key_cmp : Key → Key → Ordering
 key_cmp a b =
-    ordering_then (id_cmp a.provider b.provider) (ordering_then (nat_cmp a.reference b.reference) (day_cmp a.date b.date))
+    ordering_then (id_cmp a.provider b.provider)
+    (ordering_then (nat_cmp a.reference b.reference) (day_cmp a.date b.date))

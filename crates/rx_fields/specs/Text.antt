@@ -1,18 +1,20 @@
 -- What is an id: 1 to 20 printable bytes without a bar and without a trailing blank.
-use Rattle.std.specs.Prelude.{◌≡◌, ◌≤◌, ℕ, ◌-◌, Bool, ◌&&◌, not, nat_lt, nat_le, ◌==◌, if◌then◌else◌, List, [], ◌∷◌, length, take, drop, replicate, Result, Ok, Err}
+use Rattle.std.specs.Prelude.{◌≡◌, ◌≤◌, ℕ, ◌-◌, Bool, ◌&&◌, not, nat_lt, nat_le, ◌==◌, if◌then◌else◌}
+use Rattle.std.specs.Prelude.{List, [], ◌∷◌, length, take, drop, replicate, Result, Ok, Err}
 use Rattle.std.specs.List.{list_all, list_any}
 use Rattle.rx_fields.specs.declared.fault.IdFault.{IdFault}
 use Rattle.rx_fields.specs.declared.fault.IdFault.TheVariants as fault
 
--- without the blanks at the end
+-- the text without the blanks at its end
 abbrev pub trimmed : List ℕ → List ℕ
 trimmed [] = []
 trimmed (b ∷ bs) = if (b == 32) && (length (trimmed bs) == 0) then [] else b ∷ trimmed bs
 
--- X'20' to X'7E'
+-- the byte is printable ASCII, X'20' to X'7E'
 abbrev pub is_printable : ℕ → Bool
 is_printable b = nat_le 32 b && nat_le b 126
 
+-- the byte is |
 abbrev pub is_bar : ℕ → Bool
 is_bar b = b == 124
 

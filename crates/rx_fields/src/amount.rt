@@ -4,7 +4,7 @@ ghost use Rattle.rx_fields.specs.Amount.{signed, last_of, signed_of, signed_text
 use crate::digits::{all_digits, digits_write, value};
 use crate::fault::FieldFault;
 
-// Whether the amount is negative, and its last digit.
+// What a last character says: whether the amount is negative, and its last digit.
 fn last_digit(byte: u8) -> Option<(bool, u8)>
     ensures value { result ≡ last_of byte }
     ensures within { IfSome result (λ last. last.1 < 10) }
@@ -19,6 +19,7 @@ fn last_digit(byte: u8) -> Option<(bool, u8)>
     }
 }
 
+// The amount of a sign and a size.
 fn signed(is_negative: bool, magnitude: u64) -> i64
     requires { magnitude < 2 ^ 62 }
     ensures value { result ≡ signed is_negative magnitude }
@@ -28,8 +29,8 @@ fn signed(is_negative: bool, magnitude: u64) -> i64
     if is_negative { -amount } else { amount }
 }
 
-/// The amount, in cents, of 1 to 8 characters; the last is an overpunched or a plain digit
-/// (docs/FORMATS.md, "Overpunched amounts").
+/// The amount, in cents, of 1 to 8 characters: digits, the last of them overpunched or plain. A plain last digit is
+/// positive, and negative zero is 0 (docs/FORMATS.md, "Overpunched amounts").
 pub fn signed_read(bytes: &[u8]) -> Result<i64, FieldFault>
     ensures value { result ≡ signed_of bytes.now }
     ensures within { IfOk result (λ cents. unsigned_abs cents ≤ 99_999_999) }
@@ -50,6 +51,7 @@ pub fn signed_read(bytes: &[u8]) -> Result<i64, FieldFault>
     Ok(signed(negative, value(front) * 10 + u64::from(digit)))
 }
 
+// The characters of an amount.
 #[tactic(auto, unfolding(crate::specs::Amount::signed_text, crate::specs::Digits::digits_text))]
 fn spelled(amount: i64) -> [u8; 8]
     requires { unsigned_abs amount ≤ 99_999_999 }
@@ -70,8 +72,8 @@ fn spelled(amount: i64) -> [u8; 8]
     ]
 }
 
-/// The one spelling of an amount in cents: seven digits and an overpunched one. Zero is `0000000{`
-/// (docs/FORMATS.md, "Overpunched amounts").
+/// The one spelling of an amount in cents, 99,999,999 at most either way: seven digits and an overpunched one. Zero is
+/// `0000000{` (docs/FORMATS.md, "Overpunched amounts").
 pub fn signed_write(amount: i64) -> [u8; 8]
     requires { unsigned_abs amount ≤ 99_999_999 }
     ensures text { result ≡ signed_text amount }

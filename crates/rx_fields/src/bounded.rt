@@ -2,7 +2,7 @@ ghost use Rattle.std.specs.Prelude.{◌≡◌};
 
 use std::marker::Model;
 
-/// A number from `LOW` to `HIGH`, both included.
+/// A number from `LOW` to `HIGH`, both included, ordered as numbers are.
 #[derive(Clone, Copy, Debug, PartialEq, Eq, PartialOrd, Ord)]
 pub struct Bounded<const LOW: u64, const HIGH: u64> {
     number: u64,
@@ -24,7 +24,7 @@ ghost use Rattle.std.specs.Prelude.{◌≤◌};
 ghost use Rattle.rx_fields.specs.Bounds.{bounded};
 
 impl<const LOW: u64, const HIGH: u64> Bounded<LOW, HIGH> {
-    /// The number, where it is from `LOW` to `HIGH`.
+    /// The bounded number of a number; None where it is below `LOW` or above `HIGH`.
     pub fn new(number: u64) -> Option<Bounded<LOW, HIGH>>
         ensures { result ≡ bounded LOW HIGH number }
     {

@@ -5,7 +5,7 @@ use crate::fault::FieldFault;
 use jiff_core::civil::Date;
 use std::marker::Model;
 
-/// A civil date of the years 0000 to 9999, ordered as the calendar is (docs/PRODUCT.md, "Words").
+/// A civil date of the years 0000 to 9999 that exists, ordered from earlier to later (docs/PRODUCT.md, "Words").
 #[derive(Clone, Copy, Debug, PartialEq, Eq, PartialOrd, Ord)]
 pub struct Day {
     year: u16,
@@ -63,7 +63,7 @@ impl Day {
     }
 }
 
-/// The day of the eight digits CCYYMMDD (docs/FORMATS.md, "Dates").
+/// The day of the eight digits CCYYMMDD; fewer digits are no date (docs/FORMATS.md, "Dates").
 pub fn date_read(bytes: &[u8]) -> Result<Day, FieldFault>
     ensures { result ≡ date_of bytes.now }
 {

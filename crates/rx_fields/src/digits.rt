@@ -42,7 +42,7 @@ pub fn number_read(bytes: &[u8], max: usize) -> Result<u64, FieldFault>
     Ok(value(bytes))
 }
 
-/// The number in exactly `N` digits, filled with zeros in front.
+/// The number in exactly `N` digits, filled with zeros in front (docs/FORMATS.md, "Notation").
 pub fn digits_write<const N: usize>(number: u64) -> [u8; N]
     requires some { 1 ≤ N }
     requires few { N ≤ 19 }

@@ -1,4 +1,5 @@
-/// Whom a transmission has to name to be heard: the plan's BIN and its processor control number.
+/// Whom a transmission has to name to be heard: the plan's BIN and its processor control number
+/// (docs/FORMATS.md, "Request transmission").
 #[derive(Clone, Copy, Debug, PartialEq, Eq)]
 pub struct Door {
     /// The bank identification number, as six bytes.

@@ -40,7 +40,7 @@ ghost use Rattle.std.specs.Result.{result_map_both};
 ghost use Rattle.rx_fields.specs.Text.{id_of, trimmed, is_printable, is_bar, IsId};
 
 impl Id {
-    /// The id in a text of a field that takes `max` bytes; trailing blanks are no part of it.
+    /// The id in a text of a field that takes `max` bytes; trailing blanks are no part of it, and aren't counted.
     pub fn new(text: &[u8], max: usize) -> Result<Id, IdFault>
         requires { max ≤ 20 }
         ensures { result ≡ id_of max text.now }
@@ -52,7 +52,7 @@ impl Id {
         })
     }
 
-    /// The id's bytes.
+    /// The id's bytes, 1 to 20.
     pub fn bytes(&self) -> &[u8]
         ensures value { result.now ≡ self.now }
         ensures again { IsId 20 self.now }
@@ -62,7 +62,7 @@ impl Id {
 }
 
 // The text without the blanks at its end.
-#[tactic(auto, using(crate::proofs::Blanks::trimmed_cut, crate::proofs::Blanks::trimmed_whole))]
+#[tactic(auto, using(crate::proofs::IdLaws::trimmed_cut, crate::proofs::IdLaws::trimmed_whole))]
 fn trimmed(text: &[u8]) -> &[u8]
     ensures { result.now ≡ trimmed text.now }
 {
@@ -73,19 +73,21 @@ fn trimmed(text: &[u8]) -> &[u8]
     rest
 }
 
+// Whether each byte is X'20' to X'7E'.
 fn all_printable(text: &[u8]) -> bool
     ensures { result ≡ list_all is_printable text.now }
 {
     text.iter().all(|b| *b >= b' ' && *b <= b'~')
 }
 
+// Whether a byte is `|`.
 fn has_bar(text: &[u8]) -> bool
     ensures { result ≡ list_any is_bar text.now }
 {
     text.iter().any(|b| *b == b'|')
 }
 
-// The part of a text that is an id.
+// The part of a text that is an id of at most `max` bytes.
 fn id_text(text: &[u8], max: usize) -> Result<&[u8], IdFault>
     ensures { result_map_both (λ t. t.now) (λ e. e) result ≡ id_of max text.now }
 {

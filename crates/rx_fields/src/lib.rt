@@ -45,3 +45,6 @@ pub use product::Product;
 pub use short_id::{Person, Provider, ShortId};
 pub use stamp::Stamp;
 pub use time::Time;
+
+#[cfg(test)]
+mod tests;

@@ -27,7 +27,7 @@ ghost use Rattle.std.specs.Prelude.{◌<◌};
 ghost use Rattle.rx_fields.specs.Numbered.{lot_of};
 
 impl Lot {
-    /// The lot of a batch number and a creation date; None where the number has more than seven digits.
+    /// The lot of a batch number and a creation date; None where the number is above 9,999,999.
     pub fn new(number: u32, created: Day) -> Option<Lot>
         ensures { result ≡ lot_of number created }
     {

@@ -3,7 +3,8 @@ ghost use Rattle.std.specs.Prelude.{◌≡◌};
 use crate::digits::{all_digits, digits_write, value};
 use std::marker::Model;
 
-/// A drug product: the number of an eleven-digit National Drug Code, ordered as its digits are.
+/// A drug product: an eleven-digit National Drug Code, kept as its number and ordered as its digits are
+/// (docs/FORMATS.md, "Request transmission").
 #[derive(Clone, Copy, Debug, PartialEq, Eq, PartialOrd, Ord)]
 pub struct Product {
     number: u64,

@@ -1,7 +1,8 @@
 use crate::day::{Day, date_read, date_write};
 use crate::time::Time;
 
-/// When a run took place: a day and a time, which the response file carries (docs/FORMATS.md, "Batch file").
+/// When a run took place: a day and a time, which the response file carries (docs/FORMATS.md, "Batch file"). Ordered
+/// from earlier to later.
 #[derive(Clone, Copy, Debug, PartialEq, Eq, PartialOrd, Ord)]
 pub struct Stamp {
     /// The day of the run.

@@ -3,7 +3,7 @@ ghost use Rattle.std.specs.Prelude.{◌≡◌};
 use crate::digits::{all_digits, digits_write, value};
 use std::marker::Model;
 
-/// A time of day to the minute, 00:00 to 23:59.
+/// A time of day to the minute, 00:00 to 23:59, ordered as the clock is (docs/FORMATS.md, "Batch file").
 #[derive(Clone, Copy, Debug, PartialEq, Eq, PartialOrd, Ord)]
 pub struct Time {
     hour: u8,
@@ -26,7 +26,7 @@ ghost use Rattle.std.specs.Prelude.{Some};
 ghost use Rattle.rx_fields.specs.Clock.{time_of, time_text};
 
 impl Time {
-    /// The time of the four digits HHMM; None for any other text.
+    /// The time of the four digits HHMM: an hour 00 to 23 and a minute 00 to 59. None for any other text.
     pub fn new(bytes: &[u8]) -> Option<Time>
         ensures { result ≡ time_of bytes.now }
     {

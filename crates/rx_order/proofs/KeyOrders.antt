@@ -34,16 +34,23 @@ module _ {K A B : Type 0} {p : A → A → Ordering} {q : B → B → Ordering} 
   by_two_total o n = then_total (on_total first o) (on_total second n)
 
   -- keys are made of the two fields
-  pub by_two_exact : CmpEqualImpliesEq p → CmpEqualImpliesEq q → ((j k : K) → first j ≡ first k → second j ≡ second k → j ≡ k) → CmpEqualImpliesEq (by_two p first q second)
-  by_two_exact o n made j k tied = let both = then_ties (p (first j) (first k)) (q (second j) (second k)) tied in made j k (o _ _ both.0) (n _ _ both.1)
+  pub by_two_exact : CmpEqualImpliesEq p → CmpEqualImpliesEq q
+      → ((j k : K) → first j ≡ first k → second j ≡ second k → j ≡ k) → CmpEqualImpliesEq (by_two p first q second)
+  by_two_exact o n made j k tied = let both = then_ties (p (first j) (first k)) (q (second j) (second k)) tied in
+      made j k (o _ _ both.0) (n _ _ both.1)
 
-module _ {K A B C : Type 0} {p : A → A → Ordering} {q : B → B → Ordering} {r : C → C → Ordering} (first : K → A) (second : K → B) (third : K → C) where
-  pub by_three_total : IsTotalOrder p → IsTotalOrder q → IsTotalOrder r → IsTotalOrder (by_three p first q second r third)
+module _ {K A B C : Type 0} {p : A → A → Ordering} {q : B → B → Ordering} {r : C → C → Ordering} (first : K → A)
+    (second : K → B) (third : K → C) where
+  pub by_three_total : IsTotalOrder p → IsTotalOrder q → IsTotalOrder r
+      → IsTotalOrder (by_three p first q second r third)
   by_three_total o n m = then_total (on_total first o) (by_two_total second third n m)
 
-  pub by_three_exact : CmpEqualImpliesEq p → CmpEqualImpliesEq q → CmpEqualImpliesEq r → ((j k : K) → first j ≡ first k → second j ≡ second k → third j ≡ third k → j ≡ k) → CmpEqualImpliesEq (by_three p first q second r third)
+  pub by_three_exact : CmpEqualImpliesEq p → CmpEqualImpliesEq q → CmpEqualImpliesEq r
+      → ((j k : K) → first j ≡ first k → second j ≡ second k → third j ≡ third k → j ≡ k)
+      → CmpEqualImpliesEq (by_three p first q second r third)
   by_three_exact o n m made j k tied =
-      let front = then_ties (p (first j) (first k)) (ordering_then (q (second j) (second k)) (r (third j) (third k))) tied in
+      let front = then_ties (p (first j) (first k))
+      (ordering_then (q (second j) (second k)) (r (third j) (third k))) tied in
       let back = then_ties (q (second j) (second k)) (r (third j) (third k)) front.1 in
       made j k (o _ _ front.0) (n _ _ back.0) (m _ _ back.1)
 
@@ -53,5 +60,6 @@ module _ {K : Type 0} (first : K → ℕ) (second : K → ℕ) (third : K → �
   pub triple_total : IsTotalOrder (triple_cmp first second third)
   triple_total = by_three_total first second third number_total number_total number_total
 
-  pub triple_exact : ((j k : K) → first j ≡ first k → second j ≡ second k → third j ≡ third k → j ≡ k) → CmpEqualImpliesEq (triple_cmp first second third)
+  pub triple_exact : ((j k : K) → first j ≡ first k → second j ≡ second k → third j ≡ third k → j ≡ k)
+      → CmpEqualImpliesEq (triple_cmp first second third)
   triple_exact made = by_three_exact first second third number_exact number_exact number_exact made

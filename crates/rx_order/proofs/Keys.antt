@@ -1,5 +1,6 @@
 -- What an order says of two keys, and of a key below a whole list.
-use Rattle.std.proofs.Common.{◌≡◌, ℕ, zero, suc, ◌<◌, List, [], ◌∷◌, ◌++◌, length, get_or, Bool, true, false, None, refl, ap, ◌∙◌, inl, inr, arith}
+use Rattle.std.proofs.Common.{◌≡◌, ℕ, zero, suc, ◌<◌, List, [], ◌∷◌, ◌++◌, length, get_or, Bool, true, false, None}
+use Rattle.std.proofs.Common.{refl, ap, ◌∙◌, inl, inr, arith}
 use Rattle.std.specs.Prelude.{◌⊎◌}
 use Rattle.std.specs.List.{filter}
 use Rattle.std.specs.Cmp.{IsTotalOrder}
@@ -57,11 +58,13 @@ module _ {X K : Type 0} (cmp : K → K → Ordering) (order : IsTotalOrder cmp) 
     | inr f ↦ rw f (IsBelow-filter p k xs b.1)
   ]
 
-  pub IsBelow-append : (k : K) (xs ys : List X) → IsBelow cmp key k xs → IsBelow cmp key k ys → IsBelow cmp key k (xs ++ ys)
+  pub IsBelow-append : (k : K) (xs ys : List X) → IsBelow cmp key k xs → IsBelow cmp key k ys
+      → IsBelow cmp key k (xs ++ ys)
   IsBelow-append k [] ys b c = c
   IsBelow-append k (x ∷ xs) ys b c = (b.0, IsBelow-append k xs ys b.1 c)
 
-  pub IsBelow-put : (k : K) (xs : List X) (x : X) → cmp k (key x) ≡ Less → IsBelow cmp key k xs → IsBelow cmp key k (put cmp key xs x)
+  pub IsBelow-put : (k : K) (xs : List X) (x : X) → cmp k (key x) ≡ Less → IsBelow cmp key k xs
+      → IsBelow cmp key k (put cmp key xs x)
   IsBelow-put k [] x h b = (h, tt)
   IsBelow-put k (y ∷ ys) x h b = elim (cases_Ordering (cmp (key y) (key x))) [
     | inl less ↦ rw less (b.0, IsBelow-put k ys x h b.1)
@@ -84,14 +87,20 @@ module _ {X K : Type 0} (cmp : K → K → Ordering) (order : IsTotalOrder cmp) 
 
   -- ---- below a list
 
-  pub IsBelow-at : (k : K) (xs : List X) (i : ℕ) (d : X) → IsBelow cmp key k xs → i < length xs → cmp k (key (get_or xs i d)) ≡ Less
+  pub IsBelow-at : (k : K) (xs : List X) (i : ℕ) (d : X) → IsBelow cmp key k xs → i < length xs
+      → cmp k (key (get_or xs i d)) ≡ Less
   IsBelow-at k [] i d b h = absurd (omega arith)
   IsBelow-at k (x ∷ xs) zero d b h = b.0
   IsBelow-at k (x ∷ xs) (suc i) d b h = IsBelow-at k xs i d b.1 (omega arith)
 
-  pub IsBelow-from_places : (k : K) (xs : List X) → ((i : ℕ) (d : X) → i < length xs → cmp k (key (get_or xs i d)) ≡ Less) → IsBelow cmp key k xs
+  pub IsBelow-from_places : (k : K) (xs : List X)
+      → ((i : ℕ) (d : X) → i < length xs → cmp k (key (get_or xs i d)) ≡ Less) → IsBelow cmp key k xs
   IsBelow-from_places k [] h = tt
-  IsBelow-from_places k (x ∷ xs) h = (h 0 x (omega arith), IsBelow-from_places k xs (λ i d lt. h (suc i) d (omega arith)))
+  IsBelow-from_places k (x ∷ xs) h = (
+    h 0 x (omega arith),
+    IsBelow-from_places k xs
+        (λ i d lt. h (suc i) d (omega arith)),
+  )
 
   -- no item has a key below the list
   pub item_at-below : (k : K) (xs : List X) → IsBelow cmp key k xs → item_at cmp key xs k ≡ None

@@ -1,8 +1,13 @@
+pub mod Agreeing
 pub mod Edits
+pub mod FilteredPuts
 pub mod Filters
+pub mod Joined
 pub mod Kept
-pub mod Keys
 pub mod KeyOrders
+pub mod Keys
 pub mod LookUps
+pub mod MapEntries
 pub mod Places
 pub mod Totals
+mod WorkedLists

@@ -1,5 +1,7 @@
--- Ascending lists: items in the order of their keys, at most one of a key. `cmp` is the order of the keys, and `key` reads an item's key.
-use Rattle.std.specs.Prelude.{◌≡◌, ℕ, ◌<◌, ◌≤◌, Bool, true, not, ◌&&◌, List, [], ◌∷◌, length, slice_index_or, Option, is_some}
+-- Ascending lists: items in the order of their keys, at most one of a key.
+-- `cmp` is the order of the keys, and `key` reads an item's key.
+use Rattle.std.specs.Prelude.{◌≡◌, ℕ, ◌<◌, ◌≤◌, Bool, true, not, ◌&&◌, List, [], ◌∷◌, length, slice_index_or, Option}
+use Rattle.std.specs.Prelude.{is_some}
 use Rattle.std.specs.List.{filter, find, fold, list_all}
 use Rattle.std.specs.Ordering.{is_eq, is_lt, match_ordering}
 use Rattle.std.specs.declared.cmp.Ordering.{Ordering}

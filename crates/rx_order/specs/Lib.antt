@@ -1,3 +1,4 @@
 pub mod Ascending
 pub mod InsertError
+pub mod Joined
 pub mod Orders

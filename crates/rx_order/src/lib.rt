@@ -1,6 +1,20 @@
-//! Items in the ascending order of their keys, at most one of a key.
+//! Lists of items in the ascending order of their keys, at most one item of a key, as `specs/Ascending.antt` has them.
+//!
+//! In come items that have a key (`Keyed`), in any order by `insert`, or in order by `push` and `from_vec`.
+//! Out come the item with a key, found by binary search, and all items in order.
+//!
+//! ```rust
+//! let mut seats = Ascending::new(alloc);
+//! seats.insert(seat)?;
+//! let guest = seats.get(&place).map(|seat| seat.guest);
+//! ```
+//!
+//! No item is lent for writing, since its key has to stay: `replace` writes a whole item over the one with its key.
+//! The lemmas on these lists, and those on orders of keys with several fields, are in `proofs/`.
 #![tactic(auto)]
 
 mod list;
+mod slices;
 
-pub use list::{Ascending, InsertError, Keyed, is_ascending, place_of};
+pub use list::{Ascending, InsertError};
+pub use slices::{Keyed, is_ascending, place_of};

@@ -1,21 +1,16 @@
-ghost use Rattle.std.specs.Prelude.{◌≡◌, ◌<◌, ◌^◌, ◌++◌, ◌∷◌, ◌==◌, [], IfErr, IfOk, IsTrue, OnErr, OnOk, is_ok, is_some, length, if◌then◌else◌};
+ghost use Rattle.std.specs.Prelude.{◌≡◌, ◌<◌, ◌^◌, ◌++◌, ◌∷◌, ◌==◌, [], IfErr, IfOk, IsTrue, OnErr, OnOk};
+ghost use Rattle.std.specs.Prelude.{is_ok, length};
+ghost use Rattle.std.specs.Iterator.Adapters.{IterYieldsInOrder};
 ghost use Rattle.std.specs.Option.{ok_or, option_copied};
-ghost use Rattle.rx_order.specs.Ascending.{IsAscending, IsAt, IsGap, contains_key, is_ascending, is_past, item_at, put, without};
+ghost use Rattle.std.specs.Slice.Iter.{iter_rest};
+ghost use Rattle.rx_order.specs.Ascending.{IsAscending, IsAt, IsGap, contains_key, is_ascending, is_past};
+ghost use Rattle.rx_order.specs.Ascending.{item_at, put, without};
 ghost use Rattle.rx_order.specs.InsertError.{is_there, refused_item};
 
-use std::alloc::{AllocFailed, Global};
+use crate::slices::{Keyed, is_ascending, place_of};
+use std::alloc::{AllocError, AllocFailed, Global};
 use std::marker::Model;
-
-/// What has a key, by which it is kept in order.
-pub trait Keyed {
-    /// What the items are ordered by.
-    type Key: Ord + Copy + Drop;
-
-    ghost key_of: { Self → Self.Key };
-
-    fn key(&self) -> Self::Key
-        ensures { result ≡ key_of self.now };
-}
+use std::slice::Iter;
 
 /// Why an item was not inserted. It comes back.
 #[derive(Debug, Drop)]
@@ -37,7 +32,7 @@ impl<T> From<AllocFailed<T>> for InsertError<T> {
     }
 }
 
-/// A list of items in the ascending order of their keys, at most one of a key.
+/// A list of items in the ascending order of their keys, at most one item of a key.
 #[derive(Debug, Drop)]
 pub struct Ascending<T: Keyed> {
     items: Vec<T>,
@@ -55,6 +50,7 @@ impl<T: Keyed> Model for Ascending<T> {
 }
 
 impl<T: Keyed> Ascending<T> {
+    /// The list without items. It takes no memory.
     pub fn new(alloc: Global) -> Self
         ensures { result ≡ [] }
     {
@@ -63,7 +59,7 @@ impl<T: Keyed> Ascending<T> {
         }
     }
 
-    /// Takes no memory. Items that are not ascending come back.
+    /// The list of these items. Where they are not in order, or two have one key, they come back. It takes no memory.
     pub fn from_vec(items: Vec<T>) -> Result<Self, Vec<T>>
         ensures ok { is_ok result ≡ is_ascending T.Key.cmp T.key_of items.items }
         ensures value { IfOk result (λ list. list ≡ items.items) }
@@ -76,20 +72,42 @@ impl<T: Keyed> Ascending<T> {
         }
     }
 
+    /// An equal list, of items that can be copied.
+    pub fn to_copy(&self, alloc: Global) -> Result<Self, AllocError>
+    where
+        T: Copy,
+        ensures { IfOk result (λ copy. copy ≡ self.now) }
+    {
+        let items = Vec::from_slice(alloc, &self.items)?;
+        Ok(Ascending { items })
+    }
+
+    /// The items, in order.
     pub fn into_vec(self) -> Vec<T>
         ensures { result.items ≡ self }
     {
-        self.items
+        let Ascending { items } = self;
+        items
     }
 
+    /// All items, in order.
     pub fn as_slice(&self) -> &[T]
         ensures value { result.now ≡ self.now }
         ensures ascending { IsAscending T.Key.cmp T.key_of self.now }
         ensures small { length self.now < 2 ^ 63 }
     {
-        &self.items
+        self.items.as_slice()
     }
 
+    /// Goes over the items, in order.
+    pub fn iter(&self) -> Iter<'_, T>
+        ensures rest { iter_rest result ≡ self.now }
+        ensures runs { IterYieldsInOrder T }
+    {
+        self.items.iter()
+    }
+
+    /// How many items there are.
     pub fn len(&self) -> usize
         ensures value { result ≡ length self.now }
         ensures small { result < 2 ^ 63 }
@@ -97,6 +115,7 @@ impl<T: Keyed> Ascending<T> {
         self.items.len()
     }
 
+    /// Whether there are no items.
     pub fn is_empty(&self) -> bool
         ensures { result ≡ (length self.now == 0) }
     {
@@ -111,6 +130,7 @@ impl<T: Keyed> Ascending<T> {
         place_of(&self.items, key)
     }
 
+    /// The item that has the key.
     pub fn get(&self, key: &T::Key) -> Option<&T>
         ensures { option_copied result ≡ item_at T.Key.cmp T.key_of self.now key.now }
     {
@@ -120,13 +140,14 @@ impl<T: Keyed> Ascending<T> {
         }
     }
 
+    /// Whether an item has the key.
     pub fn contains_key(&self, key: &T::Key) -> bool
         ensures { result ≡ contains_key T.Key.cmp T.key_of self.now key.now }
     {
         self.place(key).is_ok()
     }
 
-    /// Whether the key is greater than that of each item.
+    /// Whether each item's key is less than this one. It looks at the last item alone.
     pub fn is_past(&self, key: &T::Key) -> bool
         ensures { result ≡ is_past T.Key.cmp T.key_of self.now key.now }
     {
@@ -136,11 +157,15 @@ impl<T: Keyed> Ascending<T> {
         }
     }
 
+    /// Puts an item with a new key in its place. One whose key is there is refused before memory is asked for.
     pub fn insert(&mut self, item: T) -> Result<(), InsertError<T>>
         ensures ok { OnOk result (self.new ≡ put T.Key.cmp T.key_of self.old item) }
         ensures there { is_there result ≡ contains_key T.Key.cmp T.key_of self.old (T.key_of item) }
         ensures err { OnErr result (self.new ≡ self.old) }
         ensures back { IfErr result (λ refused. refused_item refused ≡ item) }
+
+        // For a caller that keeps totals over the items: how they stood, and that there are few.
+        ensures ascending { IsAscending T.Key.cmp T.key_of self.old }
         ensures small { length self.new < 2 ^ 63 }
     {
         match self.place(&item.key()) {
@@ -149,22 +174,26 @@ impl<T: Keyed> Ascending<T> {
         }
     }
 
-    /// An item past the others goes to the end.
+    /// Puts an item whose key is past the others' at the end. `is_past` tells whether it is.
     pub fn push(&mut self, item: T) -> Result<(), AllocFailed<T>>
         requires { IsTrue (is_past T.Key.cmp T.key_of self.old (T.key_of item)) }
         ensures ok { OnOk result (self.new ≡ self.old ++ item ∷ []) }
         ensures err { OnErr result (self.new ≡ self.old) }
         ensures back { IfErr result (λ refused. refused.value ≡ item) }
+
         ensures small { length self.new < 2 ^ 63 }
     {
         self.items.push(item)
     }
 
-    /// Writes the item over the one that has its key, and gives that back. An item with a new key comes back itself. Takes no memory.
+    /// Writes the item over the one that has its key, which comes back. An item with a new key comes back itself, as
+    /// an `Err`. It takes no memory.
     pub fn replace(&mut self, item: T) -> Result<T, T>
         ensures value { result ≡ ok_or (item_at T.Key.cmp T.key_of self.old (T.key_of item)) item }
         ensures ok { OnOk result (self.new ≡ put T.Key.cmp T.key_of self.old item) }
         ensures err { OnErr result (self.new ≡ self.old) }
+
+        ensures ascending { IsAscending T.Key.cmp T.key_of self.old }
     {
         match self.place(&item.key()) {
             Ok(at) => Ok(std::mem::replace(&mut self.items[at], item)),
@@ -172,9 +201,12 @@ impl<T: Keyed> Ascending<T> {
         }
     }
 
+    /// Takes the item that has the key out of the list. It takes no memory.
     pub fn remove(&mut self, key: &T::Key) -> Option<T>
         ensures value { result ≡ item_at T.Key.cmp T.key_of self.old key.now }
         ensures items { self.new ≡ without T.Key.cmp T.key_of self.old key.now }
+
+        ensures ascending { IsAscending T.Key.cmp T.key_of self.old }
     {
         match self.place(key) {
             Ok(at) => Some(self.items.remove(at)),
@@ -183,18 +215,23 @@ impl<T: Keyed> Ascending<T> {
     }
 }
 
-/// Whether each item's key is less than the next item's.
-pub fn is_ascending<T: Keyed>(items: &[T]) -> bool
-    ensures { result ≡ is_ascending T.Key.cmp T.key_of items.now }
-{
-    items.is_sorted_by(|a, b| a.key().cmp(&b.key()).is_lt())
+impl<T: Keyed + PartialEq> PartialEq for Ascending<T> {
+    ghost use Rattle.std.specs.Cmp.Lexicographic.{lists_per, pointwise};
+
+    ghost eq = { λ a b. pointwise T.eq a b };
+
+    ghost laws = { lists_per T.laws };
+
+    fn eq(&self, other: &Ascending<T>) -> bool {
+        self.as_slice() == other.as_slice()
+    }
 }
 
-/// Where the item with the key is, or where it would go.
-pub fn place_of<T: Keyed>(items: &[T], key: &T::Key) -> Result<usize, usize>
-    requires { IsAscending T.Key.cmp T.key_of items.now }
-    ensures found { IfOk result (IsAt T.Key.cmp T.key_of items.now key.now) }
-    ensures absent { IfErr result (IsGap T.Key.cmp T.key_of items.now key.now) }
-{
-    items.binary_search_by_key(key, |item| item.key())
+impl<T: Keyed + Eq> Eq for Ascending<T> {
+    ghost use Rattle.std.specs.Cmp.Lexicographic.{lists_equiv};
+
+    ghost laws = { lists_equiv T.Eq.laws };
 }
+
+#[cfg(test)]
+mod tests;

@@ -1,4 +1,4 @@
-use Rattle.std.proofs.Common.{◌≡◌, length, replicate, drop, ap, ◌++◌}
+use Rattle.std.proofs.Common.{length, ap, ◌++◌}
 use Rattle.std.proofs.lemmas.List.{drop-replicate}
 use Rattle.rx_fields.specs.declared.code.Code.TheVariants.{Bin}
 use Rattle.rx_claim.proofs.codes.filled.Goals as goal

@@ -1,3 +1,4 @@
+-- The spelling is read back as the amount.
 use Rattle.std.proofs.Common.{ap, ◌∙◌, FitsSigned, w64}
 use Rattle.std.proofs.lemmas.Int.{to_z-of_z}
 use Rattle.rx_fields.specs.Amount.{signed_of}

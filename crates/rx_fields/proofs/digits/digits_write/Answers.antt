@@ -1,5 +1,5 @@
-use Rattle.std.proofs.Common.{◌≡◌, arith, length-set, subst, sym, List, ℕ, Ok}
-use Rattle.rx_fields.specs.Digits.{digits_text, number_of}
+-- Each step writes one digit, from the right; at the end all are written.
+use Rattle.std.proofs.Common.{arith, length-set, ℕ}
 use Rattle.rx_fields.proofs.DigitLaws.{write_step, write_done, digits_text-again}
 use Rattle.rx_fields.proofs.digits.digits_write.Goals as goal
 

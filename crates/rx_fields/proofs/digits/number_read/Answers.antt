@@ -1,3 +1,4 @@
+-- Digits below the limit stand for a number below its power of ten.
 use Rattle.std.proofs.Common.{length, arith}
 use Rattle.rx_fields.proofs.DigitLaws.{power_le}
 use Rattle.rx_fields.proofs.digits.number_read.Goals as goal

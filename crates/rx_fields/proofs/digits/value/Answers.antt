@@ -1,3 +1,4 @@
+-- Each step appends a digit to the sum, which stays below 10^19.
 use Rattle.std.proofs.Common.{arith}
 use Rattle.rx_fields.proofs.DigitLaws.{number_more, digit_at, fits_more, below_more}
 use Rattle.rx_fields.proofs.digits.value.Goals as goal

@@ -1,3 +1,4 @@
+-- The sum so far is the number of the digits so far, and has no more digits.
 use Rattle.std.proofs.Common.{◌≡◌, ◌<◌, ◌^◌, take}
 use Rattle.rx_fields.specs.Digits.{number}
 use Rattle.rx_fields.proofs.digits.value.Given as goal

@@ -1,3 +1,4 @@
+-- The blanks that are cut off leave what the text trims to.
 use Rattle.std.proofs.Common.{◌≡◌, length}
 use Rattle.rx_fields.specs.Text.{trimmed}
 use Rattle.rx_fields.proofs.id.trimmed.Given as goal

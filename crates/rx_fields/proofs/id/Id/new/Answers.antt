@@ -1,5 +1,6 @@
-use Rattle.std.proofs.Common.{sym, arith}
-use Rattle.rx_fields.proofs.Blanks.{id_again, padded_whole}
+-- The text that was let through is an id, so its padded bytes are one.
+use Rattle.std.proofs.Common.{sym}
+use Rattle.rx_fields.proofs.IdLaws.{id_again, padded_whole}
 use Rattle.rx_fields.proofs.id.Id.new.Goals as goal
 
 pub invariant_of-result : goal.invariant_of-result

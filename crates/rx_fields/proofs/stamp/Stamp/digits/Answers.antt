@@ -1,6 +1,7 @@
+-- The two halves of the array are the texts of the day and the time.
 use Rattle.std.proofs.Common.{◌≡◌, length, arith, length-append, rules, refl}
 use Rattle.rx_fields.specs.Clock.{stamp_text}
-use Rattle.rx_fields.proofs.Joined.{written_after, stamp_again}
+use Rattle.rx_fields.proofs.StampLaws.{written_after, stamp_again}
 use Rattle.rx_fields.proofs.stamp.Stamp.digits.Goals as goal
 
 pub returns-clause-text : goal.returns-clause-text
@@ -19,4 +20,5 @@ returns-clause-again c =
     let four : length c.digits.result ≡ 4 = search rules in
     rw (written_after date.new.self time.new.self (omega arith), date.ensures.after, time.ensures.after)
     (stamp_again c.args.self.now c.date_write.result c.digits.result eight
-    (omega (arith, length-append c.date_write.result c.digits.result)) c.date_write.ensures.again c.digits.ensures.again)
+    (omega (arith, length-append c.date_write.result c.digits.result))
+    c.date_write.ensures.again c.digits.ensures.again)

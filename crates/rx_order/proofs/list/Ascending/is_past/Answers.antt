@@ -11,5 +11,6 @@ returns-in-Some g c =
     let last = c.in-Some.last.now in
     let ascends = rw c.self.view_is at c.self.invariant in
     let read = rw (c.deref.ensures.value, c.self.view_is) at c.in-Some.ensures.item.3 in
-    let compared = c.is_lt.ensures ∙ ap is_lt (c.cmp.ensures ∙ ap (λ k. cmp k c.args.key.now) (c.key.ensures ∙ ap key (read.1 last))) in
+    let compared = c.is_lt.ensures ∙ ap is_lt
+    (c.cmp.ensures ∙ ap (λ k. cmp k c.args.key.now) (c.key.ensures ∙ ap key (read.1 last))) in
     compared ∙ sym (is_past-last cmp g.met.T.Key.Ord.total key c.args.self.now c.args.key.now last ascends read.0)

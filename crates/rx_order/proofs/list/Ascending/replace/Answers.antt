@@ -6,14 +6,16 @@ use Rattle.rx_order.proofs.list.Ascending.replace.Goals as goal
 pub invariant_of-self : goal.invariant_of-self
 invariant_of-self g c =
     let at = rw (← c.self.view_is, c.key.ensures) at c.in-Ok.ensures.found in
-    rw c.replace.ensures.after (IsAscending-set g.T.Key.Ord.cmp g.met.T.Key.Ord.total g.T.Keyed.key_of c.self.inside.items.items c.args.item c.in-Ok.at c.self.invariant at)
+    rw c.replace.ensures.after (IsAscending-set g.T.Key.Ord.cmp g.met.T.Key.Ord.total g.T.Keyed.key_of
+    c.self.inside.items.items c.args.item c.in-Ok.at c.self.invariant at)
 
 pub returns-in-Ok-clause-value : goal.returns-in-Ok-clause-value
 returns-in-Ok-clause-value g c =
     let ascends = rw c.self.view_is at c.self.invariant in
     let read = rw c.self.view_is at c.index_mut.ensures.value in
     let at = rw c.key.ensures at c.in-Ok.ensures.found in
-    let there = item_at-at g.T.Key.Ord.cmp g.met.T.Key.Ord.total g.T.Keyed.key_of c.args.self.now (g.T.Keyed.key_of c.args.item) c.in-Ok.at c.index_mut.result.now ascends at in
+    let there = item_at-at g.T.Key.Ord.cmp g.met.T.Key.Ord.total g.T.Keyed.key_of c.args.self.now
+    (g.T.Keyed.key_of c.args.item) c.in-Ok.at c.index_mut.result.now ascends at in
     ap Ok (c.replace.ensures.value ∙ read) ∙ sym (ap (λ o. ok_or o c.args.item) there)
 
 pub returns-in-Ok-clause-ok : goal.returns-in-Ok-clause-ok
@@ -26,4 +28,5 @@ returns-in-Ok-clause-ok g c =
 pub returns-in-Err-clause-value : goal.returns-in-Err-clause-value
 returns-in-Err-clause-value g c =
     let gap = rw c.key.ensures at c.in-Err.ensures.absent in
-    sym (ap (λ o. ok_or o c.args.item) (item_at-gap g.T.Key.Ord.cmp g.met.T.Key.Ord.total g.T.Keyed.key_of c.args.self.now (g.T.Keyed.key_of c.args.item) c.in-Err.field-0 gap))
+    sym (ap (λ o. ok_or o c.args.item) (item_at-gap g.T.Key.Ord.cmp g.met.T.Key.Ord.total g.T.Keyed.key_of
+    c.args.self.now (g.T.Keyed.key_of c.args.item) c.in-Err.field-0 gap))

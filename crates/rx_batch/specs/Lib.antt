@@ -1,0 +1,6 @@
+pub mod Fault
+pub mod Grammar
+pub mod Header
+pub mod Pieces
+pub mod Reading
+pub mod Writing

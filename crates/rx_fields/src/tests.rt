@@ -1,0 +1,5 @@
+mod amounts;
+mod codes;
+mod days;
+mod ids;
+mod numbers;

@@ -1,0 +1,177 @@
+-- A record is answered alike under two plans with the same figures that say the same of the products which it bills.
+use Rattle.std.proofs.Common.{◌≡◌, ℕ, ◌+◌, List, [], ◌∷◌, Option, Some, None, refl, sym, ap, ◌∙◌}
+use Rattle.std.specs.Prelude.{not, ◌||◌, if◌then◌else◌}
+use Rattle.std.specs.Ordering.{is_lt, is_gt}
+use Rattle.rx_fields.specs.Calendar.{Civil, day_cmp}
+use Rattle.rx_fields.specs.Numbered.{LotParts, is_within}
+use Rattle.rx_fields.specs.declared.code.Code.TheVariants as code
+use Rattle.rx_claim.specs.declared.bill.BillParts.{BillParts}
+use Rattle.rx_claim.specs.declared.reply.Answer.{Answer}
+use Rattle.rx_claim.specs.declared.reply.Answer.TheVariants.{Paid, Twice, Approved, Refused}
+use Rattle.rx_claim.specs.declared.reply.Outcome.{Outcome}
+use Rattle.rx_claim.specs.declared.reply.Outcome.TheVariants as outcome
+use Rattle.rx_claim.specs.declared.transaction.Reversal.{Reversal}
+use Rattle.rx_claim.specs.declared.transaction.Transaction.{Transaction}
+use Rattle.rx_claim.specs.declared.transaction.Transaction.TheVariants.{Bill, Reverse, Faulty}
+use Rattle.rx_claim.specs.declared.transmission.Body.{Body}
+use Rattle.rx_claim.specs.declared.transmission.Body.TheVariants.{Rejected, Heard}
+use Rattle.rx_claim.specs.declared.transmission.Heard.{Heard as HeardRecord}
+use Rattle.rx_ledger.specs.declared.drug.Drug.{Drug}
+use Rattle.rx_ledger.specs.declared.figures.Figures.{Figures}
+use Rattle.rx_ledger.specs.declared.member.Member.{Member}
+use Rattle.rx_ledger.specs.declared.row.Row.{Row}
+use Rattle.rx_ledger.specs.declared.sheet.Listed.{Listed}
+use Rattle.rx_ledger.specs.Answers.{Asked, answer, answer_bill, answer_covered, answer_member, answer_new, answer_person, answer_reversal, after, after_bill, after_reversal, key_of, refused}
+use Rattle.rx_ledger.specs.Fold.{answers_from, asked, authorization, ledger_from, ledger_of_body, outcome_of}
+use Rattle.rx_ledger.specs.Ledger.{Ledger, members_of, row_under, rows_of}
+use Rattle.rx_ledger.specs.Members.{person_in}
+use Rattle.rx_ledger.specs.Places.{transactions_of}
+use Rattle.rx_ledger.specs.Plan.{Plan, drug_of}
+
+-- the plans say the same of the product that the transaction bills
+abbrev pub SaysAlike : Plan → Plan → Transaction → Type 0
+SaysAlike p q (Bill b) = drug_of p b.product ≡ drug_of q b.product
+SaysAlike p q (Reverse v) = Unit {0}
+SaysAlike p q (Faulty f) = Unit {0}
+
+-- of each of the transactions
+abbrev pub SayAlike : Plan → Plan → List Transaction → Type 0
+SayAlike p q [] = Unit {0}
+SayAlike p q (t ∷ ts) = SaysAlike p q t × SayAlike p q ts
+
+-- a plan of these figures and drugs
+abbrev pub plan_with : Figures → List Listed → Plan
+plan_with figures drugs = record { figures = figures; drugs = drugs }
+
+-- ---- one transaction
+
+module _
+    (figures : Figures) (ds es : List Listed) (lot : LotParts) (provider : List ℕ) (date : Civil) (number : ℕ) where
+  abbrev one : Asked
+  one = record { lot = lot; plan = plan_with figures ds; provider = provider; date = date; number = number }
+
+  abbrev other : Asked
+  other = record { lot = lot; plan = plan_with figures es; provider = provider; date = date; number = number }
+
+  covered_alike : (b : BillParts) (rows : List Row) (said : Option Drug)
+      → answer_covered one b rows said ≡ answer_covered other b rows said
+  covered_alike b rows None = refl
+  covered_alike b rows (Some drug) = refl
+
+  new_alike : (b : BillParts) (m : Member) (rows : List Row)
+      → drug_of one.plan b.product ≡ drug_of other.plan b.product
+      → answer_new one b m rows ≡ answer_new other b m rows
+  new_alike b m rows same =
+      let last : answer_covered one b rows (drug_of one.plan b.product)
+      ≡ answer_covered other b rows (drug_of other.plan b.product) =
+      covered_alike b rows (drug_of one.plan b.product) ∙ ap (answer_covered other b rows) same in
+      ap (λ (a : Answer).
+      if is_lt (day_cmp date figures.period.first) then refused code.TooOld b.reference
+      else (if is_gt (day_cmp date lot.created) then refused code.PostDated b.reference
+      else (if not (is_within m.coverage date) || is_gt (day_cmp date figures.period.last)
+      then refused code.NotCovered b.reference
+      else a))) last
+
+  member_alike : (b : BillParts) (m : Member) (rows : List Row) (under : Option Row)
+      → drug_of one.plan b.product ≡ drug_of other.plan b.product
+      → answer_member one b m rows under ≡ answer_member other b m rows under
+  member_alike b m rows None same = new_alike b m rows same
+  member_alike b m rows (Some r) same = refl
+
+  person_alike : (b : BillParts) (m : Option Member) (rows : List Row) (under : Option Row)
+      → drug_of one.plan b.product ≡ drug_of other.plan b.product
+      → answer_person one b m rows under ≡ answer_person other b m rows under
+  person_alike b None rows under same = refl
+  person_alike b (Some m) rows under same = member_alike b m rows under same
+
+  bill_alike : (b : BillParts) (ms : List Member) (rows : List Row) (under : Option Row)
+      → drug_of one.plan b.product ≡ drug_of other.plan b.product
+      → answer_bill one b ms rows under ≡ answer_bill other b ms rows under
+  bill_alike b [] rows under same = refl
+  bill_alike b (m ∷ ms) rows under same = person_alike b (person_in (m ∷ ms) b.person) rows under same
+
+  reversal_alike : (v : Reversal) (under : Option Row) → answer_reversal one v under ≡ answer_reversal other v under
+  reversal_alike v None = refl
+  reversal_alike v (Some r) = refl
+
+  pub answer_alike : (L : Ledger) (t : Transaction) → SaysAlike one.plan other.plan t
+      → answer one L t ≡ answer other L t
+  answer_alike L (Bill b) same =
+      bill_alike b (members_of L b.family) (rows_of L b.family) (row_under L (key_of one b.reference)) same
+  answer_alike L (Reverse v) same = reversal_alike v (row_under L (key_of one v.reference))
+  answer_alike L (Faulty f) same = refl
+
+  after_bill_alike : (L : Ledger) (b : BillParts) (given : Answer)
+      → after_bill one L b given ≡ after_bill other L b given
+  after_bill_alike L b (Paid p) = refl
+  after_bill_alike L b (Twice p) = refl
+  after_bill_alike L b (Approved p) = refl
+  after_bill_alike L b (Refused p) = refl
+
+  after_reversal_alike : (L : Ledger) (v : Reversal) (given : Answer)
+      → after_reversal one L v given ≡ after_reversal other L v given
+  after_reversal_alike L v (Paid p) = refl
+  after_reversal_alike L v (Twice p) = refl
+  after_reversal_alike L v (Approved p) = refl
+  after_reversal_alike L v (Refused p) = refl
+
+  pub after_alike : (L : Ledger) (t : Transaction) (given : Answer) → after one L t given ≡ after other L t given
+  after_alike L (Bill b) given = after_bill_alike L b given
+  after_alike L (Reverse v) given = after_reversal_alike L v given
+  after_alike L (Faulty f) given = refl
+
+-- ---- one record
+
+module _ (figures : Figures) (ds es : List Listed) (lot : LotParts) (place : ℕ) (h : HeardRecord) where
+  abbrev p : Plan
+  p = plan_with figures ds
+
+  abbrev q : Plan
+  q = plan_with figures es
+
+  first_alike : (nth : ℕ) (t : Transaction) (L : Ledger) → SaysAlike p q t
+      → answer (asked lot p place h nth) L t ≡ answer (asked lot q place h nth) L t
+  first_alike nth t L same = answer_alike figures ds es lot h.provider h.date (authorization lot place nth) L t same
+
+  next_alike : (nth : ℕ) (t : Transaction) (L : Ledger) → SaysAlike p q t →
+      after (asked lot p place h nth) L t (answer (asked lot p place h nth) L t)
+      ≡ after (asked lot q place h nth) L t (answer (asked lot q place h nth) L t)
+  next_alike nth t L same =
+      after_alike figures ds es lot h.provider h.date (authorization lot place nth) L t
+      (answer (asked lot p place h nth) L t)
+      ∙ ap (after (asked lot q place h nth) L t) (first_alike nth t L same)
+
+  pub answers_alike : (ts : List Transaction) (nth : ℕ) (L : Ledger) → SayAlike p q ts
+      → answers_from lot p place h nth ts L ≡ answers_from lot q place h nth ts L
+  answers_alike [] nth L same = refl
+  answers_alike (t ∷ ts) nth L same =
+      let a : Answer = answer (asked lot p place h nth) L t in
+      let b : Answer = answer (asked lot q place h nth) L t in
+      let after_a : Ledger = after (asked lot p place h nth) L t a in
+      let rest : answers_from lot p place h (nth + 1) ts after_a
+      ≡ answers_from lot q place h (nth + 1) ts (after (asked lot q place h nth) L t b) =
+      answers_alike ts (nth + 1) after_a same.1
+      ∙ ap (answers_from lot q place h (nth + 1) ts) (next_alike nth t L same.0) in
+      ap (λ (x : Answer). x ∷ answers_from lot p place h (nth + 1) ts after_a) (first_alike nth t L same.0)
+      ∙ ap (λ (xs : List Answer). b ∷ xs) rest
+
+  pub ledger_alike : (ts : List Transaction) (nth : ℕ) (L : Ledger) → SayAlike p q ts
+      → ledger_from lot p place h nth ts L ≡ ledger_from lot q place h nth ts L
+  ledger_alike [] nth L same = refl
+  ledger_alike (t ∷ ts) nth L same =
+      let after_a : Ledger = after (asked lot p place h nth) L t (answer (asked lot p place h nth) L t) in
+      ledger_alike ts (nth + 1) after_a same.1 ∙ ap (ledger_from lot q place h (nth + 1) ts) (next_alike nth t L same.0)
+
+-- ---- a header that is heard or rejected
+
+module _ (figures : Figures) (ds es : List Listed) (lot : LotParts) (place : ℕ) (L : Ledger) where
+  pub outcome_alike : (body : Body) → SayAlike (plan_with figures ds) (plan_with figures es) (transactions_of body)
+      → outcome_of lot (plan_with figures ds) place L body ≡ outcome_of lot (plan_with figures es) place L body
+  outcome_alike (Rejected r) same = refl
+  outcome_alike (Heard h) same = ap outcome.Heard (answers_alike figures ds es lot place h h.list 1 L same)
+
+  pub body_alike : (body : Body) → SayAlike (plan_with figures ds) (plan_with figures es) (transactions_of body)
+      → ledger_of_body lot (plan_with figures ds) place L body
+      ≡ ledger_of_body lot (plan_with figures es) place L body
+  body_alike (Rejected r) same = refl
+  body_alike (Heard h) same = ledger_alike figures ds es lot place h h.list 1 L same

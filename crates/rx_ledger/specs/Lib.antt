@@ -1,0 +1,15 @@
+pub mod Answers
+pub mod Claims
+pub mod Fold
+pub mod Keys
+pub mod Ledger
+pub mod Members
+pub mod Places
+pub mod Plan
+pub mod Planned
+pub mod Price
+pub mod Rows
+pub mod SameTerms
+pub mod Share
+pub mod Sums
+pub mod TermList

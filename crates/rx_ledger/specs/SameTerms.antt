@@ -1,0 +1,21 @@
+-- Terms under which a record is adjudicated as under the whole sheet.
+use Rattle.std.specs.Prelude.{◌≡◌, ℕ, Bool, true, false, List, Option, ◌==◌}
+use Rattle.std.specs.List.{list_any}
+use Rattle.rx_fields.specs.Numbered.{LotParts}
+use Rattle.rx_claim.specs.declared.transaction.Transaction.{Transaction}
+use Rattle.rx_claim.specs.declared.transaction.Transaction.TheVariants.{Bill, Reverse, Faulty}
+use Rattle.rx_claim.specs.declared.transmission.Body.{Body}
+use Rattle.rx_claim.specs.declared.transmission.Body.TheVariants.{Rejected, Heard}
+use Rattle.rx_claim.specs.declared.transmission.Transmission.{Transmission}
+use Rattle.rx_ledger.specs.Fold.{ledger_after, reply_to}
+use Rattle.rx_ledger.specs.Ledger.{Ledger}
+use Rattle.rx_ledger.specs.Plan.{Plan}
+use Rattle.rx_ledger.specs.TermList.{TermParts, plan_of}
+
+-- the terms have the lot and the sheet's figures, and the record's reply and ledger are those of the whole sheet
+pub record IsTermsOf (lot : LotParts) (plan : Plan) (t : Transmission) (terms : TermParts) : Type 0 where
+  pub same_lot : terms.lot ≡ lot
+  pub same_figures : terms.figures ≡ plan.figures
+  pub same_reply : (place : ℕ) (L : Ledger) → reply_to terms.lot (plan_of terms) place t L ≡ reply_to lot plan place t L
+  pub same_ledger : (place : ℕ) (L : Ledger) →
+      ledger_after terms.lot (plan_of terms) place t L ≡ ledger_after lot plan place t L

@@ -1,0 +1,72 @@
+use rx_fields::{Door, Period};
+
+/// The figures of a plan sheet (docs/FORMATS.md, "Plan sheet").
+#[derive(Clone, Copy, Debug, PartialEq, Eq)]
+pub struct Figures {
+    /// The BIN, six digits, and the processor control number, printable.
+    pub door: Door,
+    /// The benefit period.
+    pub period: Period,
+    /// The deductible of a member, in cents: at most 99,999,999,999.
+    pub member_deductible: u64,
+    /// The most that a family pays in the period, in cents: at most 99,999,999,999.
+    pub family_maximum: u64,
+    /// The percentage of an earlier fill's days that has to be over before a refill: at most 100.
+    pub refill_percent: u64,
+    /// The most days of one fill: 1 to 999.
+    pub max_days: u64,
+    /// The most that is paid as a dispensing fee, in cents: at most 99,999,999.
+    pub fee: u64,
+    /// The deductible of a family, in cents, where the plan has one: at most 99,999,999,999.
+    pub family_deductible: Option<u64>,
+}
+
+ghost use Rattle.std.specs.Prelude.{◌≡◌};
+ghost use Rattle.rx_ledger.specs.Plan.{wrong_figure, are_digits, are_printable};
+
+use crate::sheet_key::SheetKey;
+
+impl Figures {
+    /// The first figure outside its range, by the keys' numbers.
+    pub fn wrong(&self) -> Option<SheetKey>
+        ensures { result ≡ wrong_figure self.now }
+    {
+        if !are_digits(&self.door.bin) {
+            return Some(SheetKey::Bin);
+        }
+        if !are_printable(&self.door.pcn) {
+            return Some(SheetKey::Pcn);
+        }
+        if self.member_deductible > 99_999_999_999 {
+            return Some(SheetKey::MemberDeductible);
+        }
+        if self.family_maximum > 99_999_999_999 {
+            return Some(SheetKey::FamilyMaximum);
+        }
+        if self.refill_percent > 100 {
+            return Some(SheetKey::RefillPercent);
+        }
+        if self.max_days < 1 || self.max_days > 999 {
+            return Some(SheetKey::MaxDays);
+        }
+        if self.fee > 99_999_999 {
+            return Some(SheetKey::Fee);
+        }
+        match self.family_deductible {
+            Some(cents) if cents > 99_999_999_999 => Some(SheetKey::FamilyDeductible),
+            _ => None,
+        }
+    }
+}
+
+fn are_digits(bytes: &[u8]) -> bool
+    ensures { result ≡ are_digits bytes.now }
+{
+    bytes.iter().all(|b| *b >= b'0' && *b <= b'9')
+}
+
+fn are_printable(bytes: &[u8]) -> bool
+    ensures { result ≡ are_printable bytes.now }
+{
+    bytes.iter().all(|b| *b >= b' ' && *b <= b'~')
+}

@@ -1,0 +1,51 @@
+//! The rules of adjudication over plain lists: the meaning that every faster body is proved to have.
+//!
+//! In come a plan `Sheet`, a `Ledger` of members and standing claims, and a batch's transmissions; out come the
+//! ledger after them and a reply to each, as adjudicating one record after another in file order gives them. What
+//! that is stands in `specs/`: `Ledger`, `Sums`, `Price`, `Share`, `Answers` and `Fold`, a subject each.
+//!
+//! ```rust
+//! let (after, replies) = rx_ledger::plain_run(alloc, lot, &sheet, &before, &transmissions)?;
+//! ```
+//!
+//! `plain_run` sums anew at each transaction and is slow; stored totals and several workers are left to the crates
+//! above.
+#![tactic(auto)]
+
+mod claim;
+mod drug;
+mod family;
+mod figures;
+mod fold;
+mod ledger;
+mod member;
+mod occasion;
+mod price;
+mod reply;
+mod reversal;
+mod row;
+mod share;
+mod sheet;
+mod sheet_key;
+mod step;
+mod sums;
+mod terms;
+
+pub use claim::Claim;
+pub use drug::{Drug, Share};
+pub use figures::Figures;
+pub use fold::plain_run;
+pub use ledger::{AddError, Ledger};
+pub use member::{Member, MemberKey};
+pub use occasion::Occasion;
+pub use price::Allowance;
+pub use reversal::answer_reversal;
+pub use row::Row;
+pub use share::{Used, shared};
+pub use sheet::{AddFault, Listed, Sheet};
+pub use sheet_key::{SheetKey, Wrong};
+pub use sums::used_by;
+pub use terms::Terms;
+
+#[cfg(test)]
+mod tests;

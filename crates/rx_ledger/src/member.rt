@@ -1,0 +1,46 @@
+ghost use Rattle.std.specs.Prelude.{◌≡◌};
+ghost use Rattle.rx_ledger.specs.Members.{member_of};
+
+use rx_fields::{Day, Id, Period, Person};
+use rx_order::Keyed;
+
+/// What a member is known by: the family, and the person within it.
+#[derive(Clone, Copy, Debug, PartialEq, Eq, PartialOrd, Ord)]
+pub struct MemberKey {
+    /// The cardholder id.
+    pub family: Id,
+    /// The person code.
+    pub person: Person,
+}
+
+/// A person whom the plan covers.
+#[derive(Clone, Copy, Debug, PartialEq, Eq)]
+pub struct Member {
+    /// The family and the person.
+    pub key: MemberKey,
+    /// The days on which the member is covered.
+    pub coverage: Period,
+}
+
+impl Member {
+    /// The member; None where the coverage ends before it begins.
+    pub fn new(family: Id, person: Person, first: Day, last: Day) -> Option<Member>
+        ensures { result ≡ member_of family person first last }
+    {
+        let coverage = Period::new(first, last)?;
+        Some(Member {
+            key: MemberKey { family, person },
+            coverage,
+        })
+    }
+}
+
+impl Keyed for Member {
+    type Key = MemberKey;
+
+    ghost key_of = { λ member. member.key };
+
+    fn key(&self) -> MemberKey {
+        self.key
+    }
+}
