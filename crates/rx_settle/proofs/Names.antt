@@ -73,15 +73,15 @@ left_cases : (t : List ℕ) → ((name_left t ≡ t) ⊎ (name_left t ≡ [])) �
 left_cases t = elim (cases_Bool (eqb (length t) 0)) [
   | inl h ↦ rw h (inr refl, λ e. cc)
   | inr h ↦ rw h (elim (cases_Bool (ltb 15 (length t))) [
-      | inl h1 ↦ rw h1 (inr refl, λ e. cc)
-      | inr h1 ↦ rw h1 (elim (cases_Bool (not (list_all is_printable t))) [
-          | inl h2 ↦ rw h2 (inr refl, λ e. cc)
-          | inr h2 ↦ rw h2 (elim (cases_Bool (list_any is_bar t)) [
-              | inl h3 ↦ rw h3 (inr refl, λ e. cc)
-              | inr h3 ↦ rw h3 (inl refl, λ e. refl)
-            ])
-        ])
+    | inl h1 ↦ rw h1 (inr refl, λ e. cc)
+    | inr h1 ↦ rw h1 (elim (cases_Bool (not (list_all is_printable t))) [
+      | inl h2 ↦ rw h2 (inr refl, λ e. cc)
+      | inr h2 ↦ rw h2 (elim (cases_Bool (list_any is_bar t)) [
+        | inl h3 ↦ rw h3 (inr refl, λ e. cc)
+        | inr h3 ↦ rw h3 (inl refl, λ e. refl)
+      ])
     ])
+  ])
 ]
 
 -- nothing is trimmed off a name
@@ -115,7 +115,7 @@ same_fields f g = same_from_decides
     (is_same (field_text (named f)) (field_text (named g)))
     (is_same (named f) (named g))
     (Decides-like (is_same (field_text (named f)) (field_text (named g)))
-      (λ e. sym (trimmed_field f) ∙ ap trimmed e ∙ trimmed_field g)
-      (ap field_text)
-      (bytes_decides (field_text (named f)) (field_text (named g))))
+    (λ e. sym (trimmed_field f) ∙ ap trimmed e ∙ trimmed_field g)
+    (ap field_text)
+    (bytes_decides (field_text (named f)) (field_text (named g))))
     (bytes_decides (named f) (named g))

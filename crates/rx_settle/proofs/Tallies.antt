@@ -56,7 +56,7 @@ weight-filter p (r ∷ rs) =
     elim (cases_Bool (p r)) [
       | inl here ↦ rw here (
           let some : weight (tally_of (r ∷ filter p rs))
-              ≡ weight (tally (answers_in r.outcome)) + weight (tally_of (filter p rs)) =
+          ≡ weight (tally (answers_in r.outcome)) + weight (tally_of (filter p rs)) =
           ap weight (tally-append (answers_in r.outcome) (answers_of (filter p rs)))
           ∙ weight-plus (tally (answers_in r.outcome)) (tally_of (filter p rs)) in
           omega (arith, some, all, rest))

@@ -57,7 +57,14 @@ fn put_counts(alloc: Global, text: &mut Vec<u8>, tally: &Tally) -> Result<(), Al
 fn counts(alloc: Global, tally: &Tally) -> Result<String, AllocError>
     ensures { IfOk result (λ s. string_bytes s ≡ counts_text tally.now) }
 {
-    let Tally { paid, duplicate, approved, rejected, paid_out, taken_back } = *tally;
+    let Tally {
+        paid,
+        duplicate,
+        approved,
+        rejected,
+        paid_out,
+        taken_back,
+    } = *tally;
     if taken_back <= paid_out {
         let net = paid_out - taken_back;
         format!(in alloc; "|{paid}|{duplicate}|{approved}|{rejected}|{net}\n")
