@@ -6,7 +6,7 @@ ghost use Rattle.rx_settle.specs.Settlement.{counts_text, head_line};
 
 use crate::provider::{Field, put_provider};
 use crate::tally::Tally;
-use rx_fields::{Lot, Memory, Stamp, digits_write};
+use rx_fields::{Lot, Stamp, digits_write};
 use std::alloc::{AllocError, Global};
 
 /// The head line: the batch number and the stamp.
