@@ -1,5 +1,6 @@
 -- Each text is the file of one batch, or has one fault.
 use Rattle.std.proofs.Common.{◌≡◌, ◌≢◌, ◌⊎◌, ℕ, Bool, true, false, cond, eqb, List, [], ◌∷◌, ◌++◌, append_assoc, append-nil, refl, sym, ap, ◌∙◌, subst, arith, inl, inr, Result, Ok, Err, Option, Some, None}
+use Rattle.std.specs.Result.{IfOk, IfErr}
 use Rattle.std.proofs.lemmas.Bool.{cases_Bool}
 use Rattle.std.proofs.lemmas.Bool.Decides.{nat_tests}
 use Rattle.std.proofs.lemmas.List.Elements.{All-nil, All-cons}
@@ -12,20 +13,20 @@ use Rattle.rx_batch.specs.declared.front.Stage.{Stage}
 use Rattle.rx_batch.specs.declared.front.Stage.TheVariants.{Start, Headed, Whole}
 use Rattle.rx_batch.specs.declared.head.Head.{Head}
 use Rattle.rx_batch.specs.declared.reader.Reader.{Reader}
-use Rattle.rx_batch.specs.Fault.{◌>>=◌}
+use Rattle.rx_batch.specs.Fault.{Gives, UnlessMemory, ◌>>=◌}
 use Rattle.rx_batch.specs.Grammar.{is_skipped, is_mark, IsInside, past, record_of, no_front, IsFront, IsFile}
 use Rattle.rx_batch.specs.Grammar.IsFront.{empty}
 use Rattle.rx_batch.specs.Reading.{is_whole, ended, stray, begins, batch_from, batch_of, FaultAfter, HasFault}
 use Rattle.rx_batch.specs.Reading.FaultAfter.{no_header, no_trailer, no_record, no_end, second_start, bad_record}
 use Rattle.rx_batch.specs.Pieces.{begun_text, IsRead, IsReadUpTo}
 use Rattle.rx_batch.proofs.Following.{front_of, from_record, from_stray, from_second, from_begun, from_end}
-use Rattle.rx_batch.proofs.Steps.{between, within, one_skipped, begun_read, more_read, closed_read}
+use Rattle.rx_batch.proofs.Steps.{unless_so, between, within, one_skipped, begun_read, more_read, closed_read}
 use Rattle.rx_batch.proofs.Files.{file_reached, shape_of, Shape}
 
-abbrev batch_ok : Batch → Result Batch BatchFault
+abbrev pub batch_ok : Batch → Result Batch BatchFault
 batch_ok b = Ok b
 
-abbrev failed : BatchFault → Result Batch BatchFault
+abbrev pub failed : BatchFault → Result Batch BatchFault
 failed e = Err e
 
 -- ---- what the grammar says is what is read
@@ -144,3 +145,16 @@ fault_by text e (inr (d, h)) is = subst (λ (x : BatchFault). HasFault text x) (
 -- what is read as a fault is that of what follows the longest good front
 pub fault_is_there : (text : List ℕ) (e : BatchFault) → batch_of text ≡ failed e → HasFault text e
 fault_is_there text e is = fault_by text e (text_state text) is
+
+-- ---- what a call says that gives what is read
+
+pub gives_file : (text : List ℕ) (result : Result Batch BatchFault) → Gives result (batch_of text) → IfOk result (λ batch. IsFile text batch.head batch.details)
+gives_file text (Ok batch) is = batch_is_file text batch is
+gives_file text (Err e) is = tt
+
+pub gives_batch : (text : List ℕ) (result : Result Batch BatchFault) (batch : Batch) → Gives result (batch_of text) → IsFile text batch.head batch.details → Gives result (batch_ok batch)
+gives_batch text result batch is file = subst (λ (meant : Result Batch BatchFault). Gives result meant) (file_is_read text batch.head batch.details file) is
+
+pub gives_fault : (text : List ℕ) (result : Result Batch BatchFault) → Gives result (batch_of text) → IfErr result (λ e. UnlessMemory e (HasFault text e))
+gives_fault text (Ok batch) is = tt
+gives_fault text (Err e) is = unless_so e (fault_is_there text e) is

@@ -32,3 +32,6 @@ pub use law::one_reading;
 pub use pieces::Pieces;
 pub use reading::read_batch;
 pub use writing::write_batch;
+
+#[cfg(test)]
+mod tests;

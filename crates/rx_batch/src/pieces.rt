@@ -30,7 +30,8 @@ impl Model for Pieces {
 impl Pieces {
     /// No piece yet.
     pub fn new(alloc: Global) -> Pieces
-        ensures { StandsFor result [] }
+        ensures text { StandsFor result [] }
+        ensures value { result.fault ≡ None }
     {
         Pieces {
             alloc,
@@ -43,7 +44,7 @@ impl Pieces {
     pub fn feed(&mut self, piece: &[u8]) -> Result<(), BatchFault>
         ensures text { (text : List ℕ) → StandsFor self.old text → StandsFor self.new (text ++ piece.now) }
         ensures value { result ≡ answer_of self.new.fault }
-        ensures kept { IfSome self.old.fault (λ f. result ≡ Err f) }
+        ensures same { IfSome self.old.fault (λ f. result ≡ Err f) }
     {
         if let Some(fault) = self.fault {
             return Err(fault);
@@ -56,7 +57,7 @@ impl Pieces {
     /// The batch of the joined pieces, or the first fault.
     pub fn finish(self) -> Result<Batch, BatchFault>
         ensures value { (text : List ℕ) → StandsFor self text → Gives result (batch_of text) }
-        ensures kept { IfSome self.fault (λ f. result ≡ Err f) }
+        ensures same { IfSome self.fault (λ f. result ≡ Err f) }
     {
         let Pieces { alloc: _, reader, fault } = self;
         match fault {

@@ -48,7 +48,7 @@ impl Reader {
     fn advance<'a>(&mut self, alloc: Global, bytes: &'a [u8]) -> Result<&'a [u8], BatchFault>
         requires { 0 < length bytes.now }
         ensures ok { (text : List ℕ) → IsReadUpTo self.old text bytes.now → IfOk result (λ rest. IsReadUpTo self.new text rest.now) }
-        ensures less { IfOk result (λ rest. length rest.now < length bytes.now) }
+        ensures within { IfOk result (λ rest. length rest.now < length bytes.now) }
         ensures err { (text : List ℕ) → IsReadUpTo self.old text bytes.now → IfErr result (λ f. IsFaultOf f text) }
     {
         match self.begun.take() {
@@ -62,7 +62,7 @@ impl Reader {
         requires none { self.old.begun ≡ None }
         requires some { 0 < length bytes.now }
         ensures ok { (text : List ℕ) → IsReadUpTo self.old text bytes.now → IfOk result (λ rest. IsReadUpTo self.new text rest.now) }
-        ensures less { IfOk result (λ rest. length rest.now < length bytes.now) }
+        ensures within { IfOk result (λ rest. length rest.now < length bytes.now) }
         ensures err { (text : List ℕ) → IsReadUpTo self.old text bytes.now → IfErr result (λ f. IsFaultOf f text) }
     {
         let gap = gap(bytes);
@@ -83,7 +83,7 @@ impl Reader {
         requires none { self.old.begun ≡ None }
         requires some { 0 < length bytes.now }
         ensures ok { (text : List ℕ) → IsReadUpTo (record self.old { begun = Some body }) text bytes.now → IfOk result (λ rest. IsReadUpTo self.new text rest.now) }
-        ensures less { IfOk result (λ rest. length rest.now < length bytes.now) }
+        ensures within { IfOk result (λ rest. length rest.now < length bytes.now) }
         ensures err { (text : List ℕ) → IsReadUpTo (record self.old { begun = Some body }) text bytes.now → IfErr result (λ f. IsFaultOf f text) }
     {
         let Some(end) = memchr2(STX, ETX, bytes) else {

@@ -45,36 +45,48 @@ plan_with figures drugs = record { figures = figures; drugs = drugs }
 
 -- ---- one transaction
 
-module _ (figures : Figures) (ds es : List Listed) (lot : LotParts) (provider : List ℕ) (date : Civil) (number : ℕ) where
+module _
+    (figures : Figures) (ds es : List Listed) (lot : LotParts) (provider : List ℕ) (date : Civil) (number : ℕ) where
   abbrev one : Asked
   one = record { lot = lot; plan = plan_with figures ds; provider = provider; date = date; number = number }
 
   abbrev other : Asked
   other = record { lot = lot; plan = plan_with figures es; provider = provider; date = date; number = number }
 
-  covered_alike : (b : BillParts) (rows : List Row) (said : Option Drug) → answer_covered one b rows said ≡ answer_covered other b rows said
+  covered_alike : (b : BillParts) (rows : List Row) (said : Option Drug)
+      → answer_covered one b rows said ≡ answer_covered other b rows said
   covered_alike b rows None = refl
   covered_alike b rows (Some drug) = refl
 
-  new_alike : (b : BillParts) (m : Member) (rows : List Row) → drug_of one.plan b.product ≡ drug_of other.plan b.product → answer_new one b m rows ≡ answer_new other b m rows
+  new_alike : (b : BillParts) (m : Member) (rows : List Row)
+      → drug_of one.plan b.product ≡ drug_of other.plan b.product
+      → answer_new one b m rows ≡ answer_new other b m rows
   new_alike b m rows same =
-      let last : answer_covered one b rows (drug_of one.plan b.product) ≡ answer_covered other b rows (drug_of other.plan b.product) =
+      let last : answer_covered one b rows (drug_of one.plan b.product)
+      ≡ answer_covered other b rows (drug_of other.plan b.product) =
       covered_alike b rows (drug_of one.plan b.product) ∙ ap (answer_covered other b rows) same in
       ap (λ (a : Answer).
       if is_lt (day_cmp date figures.period.first) then refused code.TooOld b.reference
       else (if is_gt (day_cmp date lot.created) then refused code.PostDated b.reference
-      else (if not (is_within m.coverage date) || is_gt (day_cmp date figures.period.last) then refused code.NotCovered b.reference
+      else (if not (is_within m.coverage date) || is_gt (day_cmp date figures.period.last)
+      then refused code.NotCovered b.reference
       else a))) last
 
-  member_alike : (b : BillParts) (m : Member) (rows : List Row) (under : Option Row) → drug_of one.plan b.product ≡ drug_of other.plan b.product → answer_member one b m rows under ≡ answer_member other b m rows under
+  member_alike : (b : BillParts) (m : Member) (rows : List Row) (under : Option Row)
+      → drug_of one.plan b.product ≡ drug_of other.plan b.product
+      → answer_member one b m rows under ≡ answer_member other b m rows under
   member_alike b m rows None same = new_alike b m rows same
   member_alike b m rows (Some r) same = refl
 
-  person_alike : (b : BillParts) (m : Option Member) (rows : List Row) (under : Option Row) → drug_of one.plan b.product ≡ drug_of other.plan b.product → answer_person one b m rows under ≡ answer_person other b m rows under
+  person_alike : (b : BillParts) (m : Option Member) (rows : List Row) (under : Option Row)
+      → drug_of one.plan b.product ≡ drug_of other.plan b.product
+      → answer_person one b m rows under ≡ answer_person other b m rows under
   person_alike b None rows under same = refl
   person_alike b (Some m) rows under same = member_alike b m rows under same
 
-  bill_alike : (b : BillParts) (ms : List Member) (rows : List Row) (under : Option Row) → drug_of one.plan b.product ≡ drug_of other.plan b.product → answer_bill one b ms rows under ≡ answer_bill other b ms rows under
+  bill_alike : (b : BillParts) (ms : List Member) (rows : List Row) (under : Option Row)
+      → drug_of one.plan b.product ≡ drug_of other.plan b.product
+      → answer_bill one b ms rows under ≡ answer_bill other b ms rows under
   bill_alike b [] rows under same = refl
   bill_alike b (m ∷ ms) rows under same = person_alike b (person_in (m ∷ ms) b.person) rows under same
 
@@ -82,18 +94,22 @@ module _ (figures : Figures) (ds es : List Listed) (lot : LotParts) (provider : 
   reversal_alike v None = refl
   reversal_alike v (Some r) = refl
 
-  pub answer_alike : (L : Ledger) (t : Transaction) → SaysAlike one.plan other.plan t → answer one L t ≡ answer other L t
-  answer_alike L (Bill b) same = bill_alike b (members_of L b.family) (rows_of L b.family) (row_under L (key_of one b.reference)) same
+  pub answer_alike : (L : Ledger) (t : Transaction) → SaysAlike one.plan other.plan t
+      → answer one L t ≡ answer other L t
+  answer_alike L (Bill b) same =
+      bill_alike b (members_of L b.family) (rows_of L b.family) (row_under L (key_of one b.reference)) same
   answer_alike L (Reverse v) same = reversal_alike v (row_under L (key_of one v.reference))
   answer_alike L (Faulty f) same = refl
 
-  after_bill_alike : (L : Ledger) (b : BillParts) (given : Answer) → after_bill one L b given ≡ after_bill other L b given
+  after_bill_alike : (L : Ledger) (b : BillParts) (given : Answer)
+      → after_bill one L b given ≡ after_bill other L b given
   after_bill_alike L b (Paid p) = refl
   after_bill_alike L b (Twice p) = refl
   after_bill_alike L b (Approved p) = refl
   after_bill_alike L b (Refused p) = refl
 
-  after_reversal_alike : (L : Ledger) (v : Reversal) (given : Answer) → after_reversal one L v given ≡ after_reversal other L v given
+  after_reversal_alike : (L : Ledger) (v : Reversal) (given : Answer)
+      → after_reversal one L v given ≡ after_reversal other L v given
   after_reversal_alike L v (Paid p) = refl
   after_reversal_alike L v (Twice p) = refl
   after_reversal_alike L v (Approved p) = refl
@@ -113,26 +129,34 @@ module _ (figures : Figures) (ds es : List Listed) (lot : LotParts) (place : ℕ
   abbrev q : Plan
   q = plan_with figures es
 
-  first_alike : (nth : ℕ) (t : Transaction) (L : Ledger) → SaysAlike p q t → answer (asked lot p place h nth) L t ≡ answer (asked lot q place h nth) L t
+  first_alike : (nth : ℕ) (t : Transaction) (L : Ledger) → SaysAlike p q t
+      → answer (asked lot p place h nth) L t ≡ answer (asked lot q place h nth) L t
   first_alike nth t L same = answer_alike figures ds es lot h.provider h.date (authorization lot place nth) L t same
 
   next_alike : (nth : ℕ) (t : Transaction) (L : Ledger) → SaysAlike p q t →
-      after (asked lot p place h nth) L t (answer (asked lot p place h nth) L t) ≡ after (asked lot q place h nth) L t (answer (asked lot q place h nth) L t)
+      after (asked lot p place h nth) L t (answer (asked lot p place h nth) L t)
+      ≡ after (asked lot q place h nth) L t (answer (asked lot q place h nth) L t)
   next_alike nth t L same =
-      after_alike figures ds es lot h.provider h.date (authorization lot place nth) L t (answer (asked lot p place h nth) L t)
+      after_alike figures ds es lot h.provider h.date (authorization lot place nth) L t
+      (answer (asked lot p place h nth) L t)
       ∙ ap (after (asked lot q place h nth) L t) (first_alike nth t L same)
 
-  pub answers_alike : (ts : List Transaction) (nth : ℕ) (L : Ledger) → SayAlike p q ts → answers_from lot p place h nth ts L ≡ answers_from lot q place h nth ts L
+  pub answers_alike : (ts : List Transaction) (nth : ℕ) (L : Ledger) → SayAlike p q ts
+      → answers_from lot p place h nth ts L ≡ answers_from lot q place h nth ts L
   answers_alike [] nth L same = refl
   answers_alike (t ∷ ts) nth L same =
       let a : Answer = answer (asked lot p place h nth) L t in
       let b : Answer = answer (asked lot q place h nth) L t in
       let after_a : Ledger = after (asked lot p place h nth) L t a in
-      let rest : answers_from lot p place h (nth + 1) ts after_a ≡ answers_from lot q place h (nth + 1) ts (after (asked lot q place h nth) L t b) =
-      answers_alike ts (nth + 1) after_a same.1 ∙ ap (answers_from lot q place h (nth + 1) ts) (next_alike nth t L same.0) in
-      ap (λ (x : Answer). x ∷ answers_from lot p place h (nth + 1) ts after_a) (first_alike nth t L same.0) ∙ ap (λ (xs : List Answer). b ∷ xs) rest
+      let rest : answers_from lot p place h (nth + 1) ts after_a
+      ≡ answers_from lot q place h (nth + 1) ts (after (asked lot q place h nth) L t b) =
+      answers_alike ts (nth + 1) after_a same.1
+      ∙ ap (answers_from lot q place h (nth + 1) ts) (next_alike nth t L same.0) in
+      ap (λ (x : Answer). x ∷ answers_from lot p place h (nth + 1) ts after_a) (first_alike nth t L same.0)
+      ∙ ap (λ (xs : List Answer). b ∷ xs) rest
 
-  pub ledger_alike : (ts : List Transaction) (nth : ℕ) (L : Ledger) → SayAlike p q ts → ledger_from lot p place h nth ts L ≡ ledger_from lot q place h nth ts L
+  pub ledger_alike : (ts : List Transaction) (nth : ℕ) (L : Ledger) → SayAlike p q ts
+      → ledger_from lot p place h nth ts L ≡ ledger_from lot q place h nth ts L
   ledger_alike [] nth L same = refl
   ledger_alike (t ∷ ts) nth L same =
       let after_a : Ledger = after (asked lot p place h nth) L t (answer (asked lot p place h nth) L t) in
@@ -141,10 +165,13 @@ module _ (figures : Figures) (ds es : List Listed) (lot : LotParts) (place : ℕ
 -- ---- a header that is heard or rejected
 
 module _ (figures : Figures) (ds es : List Listed) (lot : LotParts) (place : ℕ) (L : Ledger) where
-  pub outcome_alike : (body : Body) → SayAlike (plan_with figures ds) (plan_with figures es) (transactions_of body) → outcome_of lot (plan_with figures ds) place L body ≡ outcome_of lot (plan_with figures es) place L body
+  pub outcome_alike : (body : Body) → SayAlike (plan_with figures ds) (plan_with figures es) (transactions_of body)
+      → outcome_of lot (plan_with figures ds) place L body ≡ outcome_of lot (plan_with figures es) place L body
   outcome_alike (Rejected r) same = refl
   outcome_alike (Heard h) same = ap outcome.Heard (answers_alike figures ds es lot place h h.list 1 L same)
 
-  pub body_alike : (body : Body) → SayAlike (plan_with figures ds) (plan_with figures es) (transactions_of body) → ledger_of_body lot (plan_with figures ds) place L body ≡ ledger_of_body lot (plan_with figures es) place L body
+  pub body_alike : (body : Body) → SayAlike (plan_with figures ds) (plan_with figures es) (transactions_of body)
+      → ledger_of_body lot (plan_with figures ds) place L body
+      ≡ ledger_of_body lot (plan_with figures es) place L body
   body_alike (Rejected r) same = refl
   body_alike (Heard h) same = ledger_alike figures ds es lot place h h.list 1 L same

@@ -30,7 +30,8 @@ use Rattle.rx_ledger.specs.contracts.member.MemberKeyPartialEq.TheImpl.{ghosts a
 use Rattle.rx_ledger.specs.contracts.row.RowPartialEq.TheImpl.{ghosts as row}
 use Rattle.rx_ledger.specs.contracts.sheet.ListedPartialEq.TheImpl.{ghosts as listed}
 
-option_decides : {K : Type 0} {E : K → K → Bool} → ((x y : K) → Decides (E x y) (x ≡ y)) → (o p : Option K) → Decides (option_eq E o p) (o ≡ p)
+option_decides : {K : Type 0} {E : K → K → Bool} → ((x y : K) → Decides (E x y) (x ≡ y)) → (o p : Option K)
+    → Decides (option_eq E o p) (o ≡ p)
 option_decides decides None None = (λ e. refl, λ e. refl)
 option_decides decides None (Some y) = (λ e. cc, λ e. cc)
 option_decides decides (Some x) None = (λ e. cc, λ e. cc)
@@ -44,7 +45,8 @@ day_decides a b =
     (day.eq a b)
     (λ h i. record { year = h.0 i; month = h.1.0 i; day = h.1.1 i })
     (λ e. (cc, (cc, cc)))
-    (Decides-and _ _ (Decides-eqb a.year b.year) (Decides-and _ _ (Decides-eqb a.month b.month) (Decides-eqb a.day b.day)))
+    (Decides-and _ _ (Decides-eqb a.year b.year)
+    (Decides-and _ _ (Decides-eqb a.month b.month) (Decides-eqb a.day b.day)))
 
 pub period_decides : (a b : Span) → Decides (period.eq a b) (a ≡ b)
 period_decides a b =
@@ -76,7 +78,8 @@ key_decides a b =
     (key.eq a b)
     (λ h i. record { provider = h.0 i; reference = h.1.0 i; date = h.1.1 i })
     (λ e. (cc, (cc, cc)))
-    (Decides-and _ _ (bytes_decides a.provider b.provider) (Decides-and _ _ (Decides-eqb a.reference b.reference) (day_decides a.date b.date)))
+    (Decides-and _ _ (bytes_decides a.provider b.provider)
+    (Decides-and _ _ (Decides-eqb a.reference b.reference) (day_decides a.date b.date)))
 
 -- ---- the plan sheet
 
@@ -101,7 +104,8 @@ figures_decides a b =
     (Decides-and _ _ (Decides-eqb a.family_maximum b.family_maximum)
     (Decides-and _ _ (Decides-eqb a.refill_percent b.refill_percent)
     (Decides-and _ _ (Decides-eqb a.max_days b.max_days)
-    (Decides-and _ _ (Decides-eqb a.fee b.fee) (option_decides Decides-eqb a.family_deductible b.family_deductible))))))))
+    (Decides-and _ _ (Decides-eqb a.fee b.fee)
+    (option_decides Decides-eqb a.family_deductible b.family_deductible))))))))
 
 pub share_decides : (a b : Share) → Decides (share.eq a b) (a ≡ b)
 share_decides (Copay m) (Copay n) = Decides-like (m == n) (ap Copay) (λ e. cc) (Decides-eqb m n)

@@ -1,7 +1,12 @@
 pub mod Alike
 pub mod Decided
 pub mod Ledgers
+pub mod Limits
+pub mod OfMember
 pub mod Orders
 pub mod Passed
 pub mod Placed
 pub mod Refusals
+pub mod SameText
+pub mod Steps
+pub mod Summed

@@ -37,10 +37,12 @@ key_total = by_three_total (λ (k : Key). k.provider) (λ k. k.reference) (λ k.
 same_key : (j k : Key) → j.provider ≡ k.provider → j.reference ≡ k.reference → j.date ≡ k.date → j ≡ k
 same_key j k provider reference date =
     let made : List ℕ → ℕ → Civil → Key = λ p r d. record { provider = p; reference = r; date = d } in
-    ap (λ p. made p j.reference j.date) provider ∙ ap (λ r. made k.provider r j.date) reference ∙ ap (λ d. made k.provider k.reference d) date
+    ap (λ p. made p j.reference j.date) provider ∙ ap (λ r. made k.provider r j.date) reference
+    ∙ ap (λ d. made k.provider k.reference d) date
 
 pub key_exact : CmpEqualImpliesEq key_cmp
-key_exact = by_three_exact (λ (k : Key). k.provider) (λ k. k.reference) (λ k. k.date) id_exact number_exact day_exact same_key
+key_exact = by_three_exact (λ (k : Key). k.provider) (λ k. k.reference) (λ k. k.date) id_exact number_exact day_exact
+    same_key
 
 -- ---- members
 

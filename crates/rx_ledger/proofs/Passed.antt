@@ -19,7 +19,8 @@ module _ {X : Type 0} (p : X → Bool) where
         | inr dropped ↦ rw dropped (passed_filter keep xs parts.1)
       ]
 
-  pub passed_put : {K : Type 0} (cmp : K → K → Ordering) (key : X → K) (xs : List X) (x : X) → list_all p xs ≡ true → p x ≡ true → list_all p (put cmp key xs x) ≡ true
+  pub passed_put : {K : Type 0} (cmp : K → K → Ordering) (key : X → K) (xs : List X) (x : X) → list_all p xs ≡ true
+      → p x ≡ true → list_all p (put cmp key xs x) ≡ true
   passed_put cmp key [] x h one = passed_next x [] one refl
   passed_put cmp key (y ∷ ys) x h one =
       let parts = and_parts (p y) (list_all p ys) h in
@@ -30,7 +31,8 @@ module _ {X : Type 0} (p : X → Bool) where
       ]
 
   -- an item that is found is one of the list
-  pub passed_found : {K : Type 0} (cmp : K → K → Ordering) (key : X → K) (xs : List X) (k : K) (x : X) → list_all p xs ≡ true → item_at cmp key xs k ≡ Some x → p x ≡ true
+  pub passed_found : {K : Type 0} (cmp : K → K → Ordering) (key : X → K) (xs : List X) (k : K) (x : X)
+      → list_all p xs ≡ true → item_at cmp key xs k ≡ Some x → p x ≡ true
   passed_found cmp key [] k x h found = absurd (let e : None ≡ Some x = found in cc)
   passed_found cmp key (y ∷ ys) k x h found =
       let parts = and_parts (p y) (list_all p ys) h in
@@ -43,7 +45,8 @@ module _ {X : Type 0} (p : X → Bool) where
       ]
 
 -- a test that passes wherever another does
-pub passed_weaker : {X : Type 0} (p q : X → Bool) → ((x : X) → p x ≡ true → q x ≡ true) → (xs : List X) → list_all p xs ≡ true → list_all q xs ≡ true
+pub passed_weaker : {X : Type 0} (p q : X → Bool) → ((x : X) → p x ≡ true → q x ≡ true) → (xs : List X)
+    → list_all p xs ≡ true → list_all q xs ≡ true
 passed_weaker p q weaker [] h = refl
 passed_weaker p q weaker (x ∷ xs) h =
     let parts = and_parts (p x) (list_all p xs) h in

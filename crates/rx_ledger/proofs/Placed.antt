@@ -24,7 +24,8 @@ use Rattle.rx_ledger.proofs.Passed.{passed_next}
 
 -- ---- drugs within their ranges
 
-pub are_drugs-next : (o : Option Listed) (ps : List (Option Listed)) → IfSome o (λ l. is_drug l.drug ≡ true) → are_drugs (drugs_in ps) ≡ true → are_drugs (drugs_in (o ∷ ps)) ≡ true
+pub are_drugs-next : (o : Option Listed) (ps : List (Option Listed)) → IfSome o (λ l. is_drug l.drug ≡ true)
+    → are_drugs (drugs_in ps) ≡ true → are_drugs (drugs_in (o ∷ ps)) ≡ true
 are_drugs-next None ps fits rest = rest
 are_drugs-next (Some l) ps fits rest = passed_next (λ (d : Listed). is_drug d.drug) l (drugs_in ps) fits rest
 
@@ -66,11 +67,14 @@ module _ (plan : Plan) where
   billed_at_is_said ts i = maybe_billed_is_said (slice_get ts i)
 
   -- the plan says this of the product of a place also where it is met again
-  said_again : (l : Listed) (product : ℕ) → drug_of plan l.product ≡ Some l.drug → has_key nat_cmp listed_product product l ≡ true → drug_of plan product ≡ Some l.drug
-  said_again l product said here = ap (drug_of plan) (sym (number_exact l.product product (Equal-from_is_eq _ here))) ∙ said
+  said_again : (l : Listed) (product : ℕ) → drug_of plan l.product ≡ Some l.drug
+      → has_key nat_cmp listed_product product l ≡ true → drug_of plan product ≡ Some l.drug
+  said_again l product said here = ap (drug_of plan) (sym (number_exact l.product product (Equal-from_is_eq _ here)))
+      ∙ said
 
   -- the places say the same of a product as the plan, or nothing
-  same_or_none : (ps : List (Option Listed)) (product : ℕ) → AreSaid ps → (drug_of (small ps) product ≡ drug_of plan product) ⊎ (drug_of (small ps) product ≡ None)
+  same_or_none : (ps : List (Option Listed)) (product : ℕ) → AreSaid ps
+      → (drug_of (small ps) product ≡ drug_of plan product) ⊎ (drug_of (small ps) product ≡ None)
   same_or_none [] product said = inr refl
   same_or_none (None ∷ ps) product said = same_or_none ps product said.1
   same_or_none (Some l ∷ ps) product said = elim (cases_Bool (has_key nat_cmp listed_product product l)) [
@@ -82,7 +86,8 @@ module _ (plan : Plan) where
   none_listed product None is = refl
   none_listed product (Some drug) is = cc
 
-  listed_product_is : (l : Listed) (product : ℕ) (said : Option Drug) → Some l ≡ listed_as product said → l.product ≡ product
+  listed_product_is : (l : Listed) (product : ℕ) (said : Option Drug) → Some l ≡ listed_as product said
+      → l.product ≡ product
   listed_product_is l product None is = cc
   listed_product_is l product (Some drug) is =
       let made : Listed = record { product = product; drug = drug } in
@@ -90,7 +95,8 @@ module _ (plan : Plan) where
       ap (λ (x : Listed). x.product) same
 
   -- a product that has its place
-  said_in_place : (ps : List (Option Listed)) (product : ℕ) → AreSaid ps → Among (listed_as product (drug_of plan product)) ps → drug_of (small ps) product ≡ drug_of plan product
+  said_in_place : (ps : List (Option Listed)) (product : ℕ) → AreSaid ps
+      → Among (listed_as product (drug_of plan product)) ps → drug_of (small ps) product ≡ drug_of plan product
   said_in_place [] product said among = absurd among
   said_in_place (None ∷ ps) product said (inl is) =
       let none : drug_of plan product ≡ None = none_listed product (drug_of plan product) is in
@@ -98,14 +104,16 @@ module _ (plan : Plan) where
   said_in_place (None ∷ ps) product said (inr among) = said_in_place ps product said.1 among
   said_in_place (Some l ∷ ps) product said (inl is) =
       let here : has_key nat_cmp listed_product product l ≡ true =
-      ap (λ k. has_key nat_cmp listed_product k l) (sym (listed_product_is l product (drug_of plan product) is)) ∙ has_key-itself nat_cmp number_total listed_product l in
+      ap (λ k. has_key nat_cmp listed_product k l) (sym (listed_product_is l product (drug_of plan product) is))
+      ∙ has_key-itself nat_cmp number_total listed_product l in
       rw here (sym (said_again l product said.0 here))
   said_in_place (Some l ∷ ps) product said (inr among) = elim (cases_Bool (has_key nat_cmp listed_product product l)) [
     | inl here ↦ rw here (sym (said_again l product said.0 here))
     | inr apart ↦ rw apart (said_in_place ps product said.1 among)
   ]
 
-  says_alike : (t : Transaction) (ps : List (Option Listed)) → AreSaid ps → Among (billed plan t) ps → SaysAlike (small ps) plan t
+  says_alike : (t : Transaction) (ps : List (Option Listed)) → AreSaid ps → Among (billed plan t) ps
+      → SaysAlike (small ps) plan t
   says_alike (Bill b) ps said among = said_in_place ps b.product said among
   says_alike (Reverse v) ps said among = tt
   says_alike (Faulty f) ps said among = tt
@@ -116,9 +124,13 @@ module _ (plan : Plan) where
   four ts = billed_at plan ts 0 ∷ billed_at plan ts 1 ∷ billed_at plan ts 2 ∷ billed_at plan ts 3 ∷ []
 
   four_are_said : (ts : List Transaction) → AreSaid (four ts)
-  four_are_said ts = (billed_at_is_said ts 0, (billed_at_is_said ts 1, (billed_at_is_said ts 2, (billed_at_is_said ts 3, tt))))
+  four_are_said ts = (
+    billed_at_is_said ts 0,
+    (billed_at_is_said ts 1, (billed_at_is_said ts 2, (billed_at_is_said ts 3, tt))),
+  )
 
-  in_four : (t : Transaction) (ts : List Transaction) → Among (billed plan t) (four ts) → SaysAlike (small (four ts)) plan t
+  in_four : (t : Transaction) (ts : List Transaction) → Among (billed plan t) (four ts)
+      → SaysAlike (small (four ts)) plan t
   in_four t ts among = says_alike t (four ts) (four_are_said ts) among
 
   say_alike : (ts : List Transaction) → length ts ≤ 4 → SayAlike (small (four ts)) plan ts
@@ -129,11 +141,17 @@ module _ (plan : Plan) where
       let ts = a ∷ b ∷ c ∷ [] in
       (in_four a ts (inl refl), (in_four b ts (inr (inl refl)), (in_four c ts (inr (inr (inl refl))), tt)))
   say_alike (a ∷ b ∷ c ∷ d ∷ []) few =
-      let ts = a ∷ b ∷ c ∷ d ∷ [] in
-      (in_four a ts (inl refl), (in_four b ts (inr (inl refl)), (in_four c ts (inr (inr (inl refl))), (in_four d ts (inr (inr (inr (inl refl)))), tt))))
+      let ts = a ∷ b ∷ c ∷ d ∷ [] in (
+        in_four a ts (inl refl),
+        (
+          in_four b ts (inr (inl refl)),
+          (in_four c ts (inr (inr (inl refl))), (in_four d ts (inr (inr (inr (inl refl)))), tt)),
+        ),
+      )
   say_alike (a ∷ b ∷ c ∷ d ∷ e ∷ ts) few = absurd (omega arith)
 
-  four_terms : (lot : LotParts) (t : Transmission) → length (transactions_of t.body) ≤ 4 → IsTermsOf lot plan t (record { lot = lot; figures = plan.figures; places = four (transactions_of t.body) })
+  four_terms : (lot : LotParts) (t : Transmission) → length (transactions_of t.body) ≤ 4
+      → IsTermsOf lot plan t (record { lot = lot; figures = plan.figures; places = four (transactions_of t.body) })
   four_terms lot t few =
       let ts : List Transaction = transactions_of t.body in
       let drugs : List Listed = drugs_in (four ts) in
@@ -148,7 +166,8 @@ module _ (plan : Plan) where
       }
 
 -- these are terms of the record under the plan: its lot and figures, and in four places what its transactions bill
-pub IsTermsOf-placed : (lot : LotParts) (plan : Plan) (t : Transmission) (figures : Figures) (ts : List Transaction) (a b c d : Option Listed)
+pub IsTermsOf-placed : (lot : LotParts) (plan : Plan) (t : Transmission) (figures : Figures) (ts : List Transaction)
+    (a b c d : Option Listed)
     → figures ≡ plan.figures → ts ≡ transactions_of t.body → length ts ≤ 4
     → a ≡ billed_at plan ts 0 → b ≡ billed_at plan ts 1 → c ≡ billed_at plan ts 2 → d ≡ billed_at plan ts 3
     → IsTermsOf lot plan t (record { lot = lot; figures = figures; places = a ∷ b ∷ c ∷ d ∷ [] })

@@ -22,10 +22,13 @@ pub holds : (b : Bool) → b ≡ true → b ≡ false → ⊥
 holds b t f = fails b f t
 
 -- an insert at a free key isn't refused for its key
-pub free_is_not_there : {T X : Type 0} (r : Result T (InsertError X)) (refused : InsertError X) (x : X) (b : Bool) → is_there r ≡ b → b ≡ false → r ≡ Err refused → refused ≡ There x → ⊥
-free_is_not_there r refused x b tells free is there = let e : true ≡ false = sym (ap is_there (is ∙ ap Err there)) ∙ tells ∙ free in cc
+pub free_is_not_there : {T X : Type 0} (r : Result T (InsertError X)) (refused : InsertError X) (x : X) (b : Bool)
+    → is_there r ≡ b → b ≡ false → r ≡ Err refused → refused ≡ There x → ⊥
+free_is_not_there r refused x b tells free is there = let e : true ≡ false =
+    sym (ap is_there (is ∙ ap Err there)) ∙ tells ∙ free in cc
 
 -- what holds of a list that is as it was after a refusal
-pub either_way : {T E X : Type 0} (r : Result T E) (new changed old : X) (P : X → Type 0) → OnOk r (new ≡ changed) → OnErr r (new ≡ old) → P changed → P old → P new
+pub either_way : {T E X : Type 0} (r : Result T E) (new changed old : X) (P : X → Type 0) → OnOk r (new ≡ changed)
+    → OnErr r (new ≡ old) → P changed → P old → P new
 either_way (Ok t) new changed old P ok err after before = rw ok after
 either_way (Err e) new changed old P ok err after before = rw err before

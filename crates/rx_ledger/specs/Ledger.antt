@@ -3,8 +3,9 @@ use Rattle.std.specs.Prelude.{◌≡◌, ℕ, Bool, true, List, [], Option, filt
 use Rattle.std.specs.List.{list_all}
 use Rattle.rx_fields.specs.Order.{key_cmp}
 use Rattle.rx_fields.specs.declared.key.Key.{Key}
-use Rattle.rx_order.specs.Ascending.{IsAscending, contains_key, item_at}
+use Rattle.rx_order.specs.Ascending.{IsAscending, contains_key, item_at, put, without}
 use Rattle.rx_ledger.specs.declared.member.Member.{Member}
+use Rattle.rx_ledger.specs.declared.member.MemberKey.{MemberKey}
 use Rattle.rx_ledger.specs.declared.row.Row.{Row}
 use Rattle.rx_ledger.specs.Members.{member_cmp, member_key, of_family}
 use Rattle.rx_ledger.specs.Rows.{claimed_by, member_of_row, row_key}
@@ -20,6 +21,24 @@ empty = record { members = []; rows = [] }
 -- the row under a fill key
 abbrev pub row_under : Ledger → Key → Option Row
 row_under L key = item_at key_cmp row_key L.rows key
+
+-- a row stands under the fill key
+abbrev pub is_taken : Ledger → Key → Bool
+is_taken L key = contains_key key_cmp row_key L.rows key
+
+-- the member is listed
+abbrev pub is_listed : Ledger → MemberKey → Bool
+is_listed L key = contains_key member_cmp member_key L.members key
+
+-- the ledger with one more member, with one more row, and without the row under a fill key
+abbrev pub with_member : Ledger → Member → Ledger
+with_member L m = record L { members = put member_cmp member_key L.members m }
+
+abbrev pub with_row : Ledger → Row → Ledger
+with_row L r = record L { rows = put key_cmp row_key L.rows r }
+
+abbrev pub without_row : Ledger → Key → Ledger
+without_row L key = record L { rows = without key_cmp row_key L.rows key }
 
 -- the members of a family, and its rows
 abbrev pub members_of : Ledger → List ℕ → List Member

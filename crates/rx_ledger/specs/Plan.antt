@@ -6,7 +6,7 @@ use Rattle.std.specs.Ordering.{is_eq, nat_cmp}
 use Rattle.rx_fields.specs.Digits.{is_digit}
 use Rattle.rx_fields.specs.Text.{is_printable}
 use Rattle.rx_fields.specs.Numbered.{LotParts}
-use Rattle.rx_order.specs.Ascending.{item_at}
+use Rattle.rx_order.specs.Ascending.{contains_key, item_at, put}
 use Rattle.rx_ledger.specs.declared.drug.Drug.{Drug}
 use Rattle.rx_ledger.specs.declared.drug.Share.{Share}
 use Rattle.rx_ledger.specs.declared.drug.Share.TheVariants.{Copay, Percent}
@@ -68,6 +68,15 @@ has_product product l = is_eq (nat_cmp l.product product)
 -- what the plan says of a product, where it lists it
 abbrev pub drug_of : Plan → ℕ → Option Drug
 drug_of plan product = option_map (λ l. l.drug) (item_at nat_cmp listed_product plan.drugs product)
+
+-- the plan lists the product
+abbrev pub lists : Plan → ℕ → Bool
+lists plan product = contains_key nat_cmp listed_product plan.drugs product
+
+-- the plan with one more drug
+abbrev pub with_drug : Plan → ℕ → Drug → Plan
+with_drug plan product drug =
+    record plan { drugs = put nat_cmp listed_product plan.drugs (record { product = product; drug = drug }) }
 
 -- each listed drug is within its ranges
 abbrev pub are_drugs : List Listed → Bool

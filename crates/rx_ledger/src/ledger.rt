@@ -1,8 +1,5 @@
 ghost use Rattle.std.specs.Prelude.{◌≡◌, ◌↔◌, IfOk, OnErr, OnOk, IsErrOf, true, false};
-ghost use Rattle.rx_fields.specs.Order.{key_cmp};
-ghost use Rattle.rx_order.specs.Ascending.{contains_key, put, without};
-ghost use Rattle.rx_ledger.specs.Members.{member_cmp, member_key};
-ghost use Rattle.rx_ledger.specs.Rows.{member_of_row, row_key};
+ghost use Rattle.rx_ledger.specs.Rows.{member_of_row};
 
 use crate::member::Member;
 use crate::row::Row;
@@ -67,7 +64,7 @@ impl Model for Ledger {
     ghost invariant = { λ l. IsLedger (record { members = l.members; rows = l.rows }) };
 }
 
-ghost use Rattle.rx_ledger.specs.Ledger.{IsLedger, empty, row_under};
+ghost use Rattle.rx_ledger.specs.Ledger.{IsLedger, empty, is_listed, is_taken, row_under, with_member, with_row, without_row};
 
 impl Ledger {
     /// A ledger without members and rows.
@@ -98,9 +95,9 @@ impl Ledger {
 
     /// Adds a member. On a refusal the ledger is unchanged.
     pub fn add_member(&mut self, member: Member) -> Result<(), AddError>
-        ensures ok { OnOk result (self.new ≡ record self.old { members = put member_cmp member_key self.old.members member }) }
+        ensures ok { OnOk result (self.new ≡ with_member self.old member) }
         ensures err { OnErr result (self.new ≡ self.old) }
-        ensures there { IsErrOf result AddError.There ↔ (contains_key member_cmp member_key self.old.members member.key ≡ true) }
+        ensures there { IsErrOf result AddError.There ↔ (is_listed self.old member.key ≡ true) }
         ensures known { ¬ IsErrOf result AddError.Unknown }
     {
         match self.members.insert(member) {
@@ -112,10 +109,10 @@ impl Ledger {
 
     /// Adds a standing claim. On a refusal the ledger is unchanged.
     pub fn add_row(&mut self, row: Row) -> Result<(), AddError>
-        ensures ok { OnOk result (self.new ≡ record self.old { rows = put key_cmp row_key self.old.rows row }) }
+        ensures ok { OnOk result (self.new ≡ with_row self.old row) }
         ensures err { OnErr result (self.new ≡ self.old) }
-        ensures there { IsErrOf result AddError.There ↔ (contains_key key_cmp row_key self.old.rows row.key ≡ true) }
-        ensures unknown { IsErrOf result AddError.Unknown ↔ ((contains_key key_cmp row_key self.old.rows row.key ≡ false) × (contains_key member_cmp member_key self.old.members (member_of_row row) ≡ false)) }
+        ensures there { IsErrOf result AddError.There ↔ (is_taken self.old row.key ≡ true) }
+        ensures unknown { IsErrOf result AddError.Unknown ↔ ((is_taken self.old row.key ≡ false) × (is_listed self.old (member_of_row row) ≡ false)) }
     {
         if self.rows.contains_key(&row.key) {
             return Err(AddError::There);
@@ -144,9 +141,9 @@ impl Ledger {
 
     /// Puts a row under its fill key, which is free; its member is listed.
     pub(crate) fn put_row(&mut self, row: Row) -> Result<(), Memory>
-        requires free { contains_key key_cmp row_key self.old.rows row.key ≡ false }
-        requires listed { contains_key member_cmp member_key self.old.members (member_of_row row) ≡ true }
-        ensures ok { OnOk result (self.new ≡ record self.old { rows = put key_cmp row_key self.old.rows row }) }
+        requires free { is_taken self.old row.key ≡ false }
+        requires listed { is_listed self.old (member_of_row row) ≡ true }
+        ensures ok { OnOk result (self.new ≡ with_row self.old row) }
         ensures err { OnErr result (self.new ≡ self.old) }
     {
         match self.rows.insert(row) {
@@ -159,7 +156,7 @@ impl Ledger {
     /// Takes out the row under a fill key.
     pub(crate) fn remove_row(&mut self, key: &Key) -> Option<Row>
         ensures value { result ≡ row_under self.old key.now }
-        ensures rows { self.new ≡ record self.old { rows = without key_cmp row_key self.old.rows key.now } }
+        ensures rows { self.new ≡ without_row self.old key.now }
     {
         self.rows.remove(key)
     }

@@ -12,25 +12,40 @@
 //! above.
 #![tactic(auto)]
 
+mod claim;
 mod drug;
+mod family;
 mod figures;
 mod fold;
 mod ledger;
 mod member;
+mod occasion;
 mod price;
+mod reply;
+mod reversal;
 mod row;
-mod rules;
 mod share;
 mod sheet;
 mod sheet_key;
+mod step;
 mod sums;
 mod terms;
 
+pub use claim::Claim;
 pub use drug::{Drug, Share};
 pub use figures::Figures;
+pub use fold::plain_run;
 pub use ledger::{AddError, Ledger};
 pub use member::{Member, MemberKey};
+pub use occasion::Occasion;
+pub use price::Allowance;
+pub use reversal::answer_reversal;
 pub use row::Row;
+pub use share::{Used, shared};
 pub use sheet::{AddFault, Listed, Sheet};
 pub use sheet_key::{SheetKey, Wrong};
+pub use sums::used_by;
 pub use terms::Terms;
+
+#[cfg(test)]
+mod tests;

@@ -1,0 +1,96 @@
+ghost use Rattle.std.specs.Prelude.{◌≡◌};
+
+use rx_claim::Bill;
+use rx_fields::Quantity;
+use std::marker::Model;
+
+/// What is allowed for a fill before the patient's share: cost and fee together at most 99,999,999 cents
+/// (docs/PRODUCT.md, "Rules of adjudication").
+#[derive(Clone, Copy, Debug, PartialEq, Eq)]
+pub struct Allowance {
+    ingredient_cost: u64,
+    dispensing_fee: u64,
+}
+
+impl Model for Allowance {
+    ghost use Rattle.std.specs.Prelude.{◌≤◌, ◌+◌};
+    ghost use Rattle.rx_ledger.specs.Price.{Allowance as Allowed};
+
+    ghost Value = { Allowed };
+
+    ghost view = { λ a. record { ingredient_cost = a.ingredient_cost; dispensing_fee = a.dispensing_fee } };
+
+    ghost invariant = { λ a. a.ingredient_cost + a.dispensing_fee ≤ 99_999_999 };
+
+    ghost inverse = { λ a. record { ingredient_cost = a.ingredient_cost; dispensing_fee = a.dispensing_fee } };
+}
+
+ghost use Rattle.std.specs.Prelude.{◌≤◌, ◌+◌};
+ghost use Rattle.rx_ledger.specs.Price.{allowance, capped, cost_of};
+
+impl Allowance {
+    /// What is allowed for a billing at a price, in hundredths of a cent per unit, where the plan pays a fee of at
+    /// most `most_fee` cents (docs/PRODUCT.md, "Rules of adjudication").
+    pub fn new(price: u64, most_fee: u64, bill: &Bill) -> Allowance
+        requires { price ≤ 1_000_000_000 }
+        ensures { result ≡ allowance price most_fee bill.now }
+    {
+        let parts = bill.parts();
+        let submitted_fee = parts.dispensing_fee.map_or(0, |fee| fee.get());
+        let ingredient_cost = parts
+            .ingredient_cost
+            .get()
+            .min(cost_of(parts.quantity, price));
+        let dispensing_fee = submitted_fee.min(most_fee);
+        capped(bill.cap().get(), ingredient_cost, dispensing_fee)
+    }
+
+    /// The ingredient cost, in cents.
+    pub fn ingredient_cost(&self) -> u64
+        ensures { result ≡ self.now.ingredient_cost }
+    {
+        self.ingredient_cost
+    }
+
+    /// The dispensing fee, in cents.
+    pub fn dispensing_fee(&self) -> u64
+        ensures { result ≡ self.now.dispensing_fee }
+    {
+        self.dispensing_fee
+    }
+
+    /// Cost and fee together, in cents.
+    pub fn total(&self) -> u64
+        ensures value { result ≡ self.now.ingredient_cost + self.now.dispensing_fee }
+        ensures within { result ≤ 99_999_999 }
+    {
+        self.ingredient_cost + self.dispensing_fee
+    }
+}
+
+// The cost of a quantity at a price, in whole cents.
+fn cost_of(quantity: Quantity, price: u64) -> u64
+    requires { price ≤ 1_000_000_000 }
+    ensures { result ≡ cost_of quantity price }
+{
+    quantity.get() * price / 100_000
+}
+
+// Cost and fee; where they exceed the cap, the fee first.
+fn capped(cap: u64, ingredient_cost: u64, dispensing_fee: u64) -> Allowance
+    requires cap { cap ≤ 99_999_999 }
+    requires fit { ingredient_cost + dispensing_fee ≤ 199_999_998 }
+    ensures { result ≡ capped cap (record { ingredient_cost = ingredient_cost; dispensing_fee = dispensing_fee }) }
+{
+    if ingredient_cost + dispensing_fee <= cap {
+        return Allowance {
+            ingredient_cost,
+            dispensing_fee,
+        };
+    }
+    let fee = dispensing_fee.min(cap);
+    Allowance {
+        ingredient_cost: cap - fee,
+        dispensing_fee: fee,
+    }
+}

@@ -1,4 +1,11 @@
-ghost use Rattle.std.specs.Prelude.{◌≡◌, ◌+◌, ◌≤◌};
+ghost use Rattle.std.specs.Prelude.{◌≡◌, ◌-◌, ◌≤◌, true};
+ghost use Rattle.rx_ledger.specs.Plan.{is_share};
+ghost use Rattle.rx_ledger.specs.Share.{coinsurance_of, copay_of, left, shared, under_deductible, within_family};
+
+use crate::drug::Share;
+use crate::figures::Figures;
+use crate::price::Allowance;
+use rx_claim::{Amounts, Pricing};
 
 /// What is used of a plan's figures in the benefit period, in cents.
 #[derive(Clone, Copy, Debug, PartialEq, Eq)]
@@ -9,4 +16,63 @@ pub struct Used {
     pub out_of_pocket: u128,
     /// The deductible of the family.
     pub family_deductible: u128,
+}
+
+/// How a claim with this allowance is paid: what the member pays of it by deductible and by copay or coinsurance,
+/// given what was used before (docs/PRODUCT.md, "Rules of adjudication").
+pub fn shared(figures: &Figures, share: Share, used: Used, allowance: Allowance) -> Pricing
+    requires { is_share share ≡ true }
+    ensures { result ≡ shared figures.now share used allowance }
+{
+    let allowed = allowance.total();
+    let under = under_deductible(figures, used, allowed);
+    let rest = allowed - under;
+    let room = left(figures.family_maximum, used.out_of_pocket);
+    let deductible = under.min(room);
+    let amounts = Amounts {
+        ingredient_cost: allowance.ingredient_cost(),
+        dispensing_fee: allowance.dispensing_fee(),
+        deductible,
+        copay: copay_of(share, rest, room - deductible),
+        coinsurance: coinsurance_of(share, rest, room - deductible),
+    };
+    Pricing::new(amounts).unwrap()
+}
+
+// The plan's figure less what is used of it, and 0 where that is negative.
+fn left(figure: u64, used: u128) -> u64
+    ensures { result ≡ left figure used }
+{
+    u128::from(figure).saturating_sub(used) as u64
+}
+
+// What falls under the deductible.
+fn under_deductible(figures: &Figures, used: Used, allowed: u64) -> u64
+    ensures value { result ≡ under_deductible figures.now used allowed }
+    ensures within { result ≤ allowed }
+{
+    let of_member = allowed.min(left(figures.member_deductible, used.deductible));
+    match figures.family_deductible {
+        Some(figure) => of_member.min(left(figure, used.family_deductible)),
+        None => of_member,
+    }
+}
+
+fn copay_of(share: Share, rest: u64, room: u64) -> u64
+    ensures value { result ≡ copay_of share rest room }
+{
+    match share {
+        Share::Copay(cents) => rest.min(cents).min(room),
+        Share::Percent(_) => 0,
+    }
+}
+
+fn coinsurance_of(share: Share, rest: u64, room: u64) -> u64
+    requires { rest ≤ 99_999_999 }
+    ensures value { result ≡ coinsurance_of share rest room }
+{
+    match share {
+        Share::Copay(_) => 0,
+        Share::Percent(percent) => (rest * u64::from(percent) / 100).min(room),
+    }
 }

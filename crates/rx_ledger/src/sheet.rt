@@ -72,10 +72,8 @@ impl Model for Sheet {
     ghost invariant = { λ s. IsPlan s.figures s.drugs };
 }
 
-ghost use Rattle.std.specs.Prelude.{◌↔◌, IfErr, IfOk, OnErr, OnOk, IsErrOf, Some, Ok, Err, true, false, is_some, IfSome};
-ghost use Rattle.std.specs.Ordering.{nat_cmp};
-ghost use Rattle.rx_order.specs.Ascending.{contains_key, put};
-ghost use Rattle.rx_ledger.specs.Plan.{AreFigures, are_drugs, drug_of, is_drug, listed_product, wrong_figure};
+ghost use Rattle.std.specs.Prelude.{◌↔◌, OnErr, OnOk, IsErrOf, true, false, IfSome};
+ghost use Rattle.rx_ledger.specs.Plan.{AreFigures, are_drugs, drug_of, is_drug, lists, with_drug};
 ghost use Rattle.rx_ledger.specs.Planned.{sheet_of};
 
 impl Sheet {
@@ -94,10 +92,10 @@ impl Sheet {
 
     /// Adds a drug. On a refusal the sheet is unchanged.
     pub fn add(&mut self, product: Product, drug: Drug) -> Result<(), AddFault>
-        ensures ok { OnOk result (self.new ≡ record self.old { drugs = put nat_cmp listed_product self.old.drugs (record { product = product; drug = drug }) }) }
+        ensures ok { OnOk result (self.new ≡ with_drug self.old product drug) }
         ensures err { OnErr result (self.new ≡ self.old) }
         ensures range { IsErrOf result AddFault.Range ↔ (is_drug drug ≡ false) }
-        ensures there { IsErrOf result AddFault.There ↔ ((is_drug drug ≡ true) × (contains_key nat_cmp listed_product self.old.drugs product ≡ true)) }
+        ensures there { IsErrOf result AddFault.There ↔ ((is_drug drug ≡ true) × (lists self.old product ≡ true)) }
     {
         if !drug.is_in_range() {
             return Err(AddFault::Range);

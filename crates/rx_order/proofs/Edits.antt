@@ -28,10 +28,10 @@ module _ {X K : Type 0} (cmp : K → K → Ordering) (order : IsTotalOrder cmp) 
   same_items [] (y ∷ ys) a b h = absurd (let e : None ≡ Some y = h (key y) ∙ item_at-first y ys in cc)
   same_items (x ∷ xs) [] a b h = absurd (let e : None ≡ Some x = sym (h (key x)) ∙ item_at-first x xs in cc)
   same_items (x ∷ xs) (y ∷ ys) a b h = elim (cases_Ordering (cmp (key x) (key y))) [
-    | inl less ↦ absurd (let e : None ≡ Some x =
-        sym (item_at-below cmp order key (key x) (y ∷ ys)
-        (less, IsBelow-through cmp order key (key x) (key y) ys less b.0)) ∙ sym (h (key x))
-        ∙ item_at-first x xs in cc)
+    | inl less ↦
+        let below = item_at-below cmp order key (key x) (y ∷ ys)
+        (less, IsBelow-through cmp order key (key x) (key y) ys less b.0) in
+        absurd (let e : None ≡ Some x = sym below ∙ sym (h (key x)) ∙ item_at-first x xs in cc)
     | inr (inl tied) ↦
         let first : Some x ≡ Some y = sym (item_at-first x xs) ∙ h (key x)
         ∙ item_at-tied cmp order key (y ∷ ys) (key x) (key y) tied ∙ item_at-first y ys in
@@ -50,8 +50,9 @@ module _ {X K : Type 0} (cmp : K → K → Ordering) (order : IsTotalOrder cmp) 
         cc
     | inr (inr more) ↦
         let less : cmp (key y) (key x) ≡ Less = Less-from_Greater cmp order key (key x) (key y) more in
-        absurd (let e : None ≡ Some y = sym (item_at-below cmp order key (key y) (x ∷ xs)
-        (less, IsBelow-through cmp order key (key y) (key x) xs less a.0)) ∙ h (key y) ∙ item_at-first y ys in cc)
+        let below = item_at-below cmp order key (key y) (x ∷ xs)
+        (less, IsBelow-through cmp order key (key y) (key x) xs less a.0) in
+        absurd (let e : None ≡ Some y = sym below ∙ h (key y) ∙ item_at-first y ys in cc)
   ]
 
   -- ascending lists with the same items are one
@@ -136,6 +137,7 @@ module _ {X K : Type 0} (cmp : K → K → Ordering) (order : IsTotalOrder cmp) 
             ∙ sym (item_at-put_other cmp order key xs x j other))
       ])
 
+  -- an item that is put makes no difference to a list without its key
   pub without-put : (xs : List X) (x : X) (k : K) → IsAscending cmp key xs → has_key cmp key k x ≡ true
       → without cmp key (put cmp key xs x) k ≡ without cmp key xs k
   without-put xs x k a here = same_items _ _
@@ -150,6 +152,7 @@ module _ {X K : Type 0} (cmp : K → K → Ordering) (order : IsTotalOrder cmp) 
 
   -- ---- changes at two keys, in either order
 
+  -- a key that is not the new item's may be taken out before or after
   pub without-put_other : (xs : List X) (x : X) (k : K) → IsAscending cmp key xs → has_key cmp key k x ≡ false
       → without cmp key (put cmp key xs x) k ≡ put cmp key (without cmp key xs k) x
   without-put_other xs x k a other = same_items _ _
@@ -158,13 +161,15 @@ module _ {X K : Type 0} (cmp : K → K → Ordering) (order : IsTotalOrder cmp) 
       item_at-without cmp order key (put cmp key xs x) k j
       ∙ rw (item_at-put cmp order key xs x j) (elim (cases_Bool (has_key cmp key j x)) [
         | inl here ↦
-            let apart : is_eq (cmp k j) ≡ false = is_eq-turned (cmp j k) (cmp k j) (order.antisymm k j)
-            (ap is_eq (sym (order.congr (key x) j k (Equal-from_is_eq _ here))) ∙ other) in
+            let no_tie : is_eq (cmp j k) ≡ false =
+            ap is_eq (sym (order.congr (key x) j k (Equal-from_is_eq _ here))) ∙ other in
+            let apart : is_eq (cmp k j) ≡ false = is_eq-turned (cmp j k) (cmp k j) (order.antisymm k j) no_tie in
             rw (here, apart) (sym (item_at-put cmp order key (without cmp key xs k) x j ∙ rw here))
         | inr f ↦ rw f (sym (item_at-without cmp order key xs k j)
             ∙ sym (item_at-put_other cmp order key (without cmp key xs k) x j f))
       ]))
 
+  -- the later of two items with one key stays
   pub put-put_same : (xs : List X) (x y : X) → IsAscending cmp key xs → cmp (key x) (key y) ≡ Equal
       → put cmp key (put cmp key xs x) y ≡ put cmp key xs y
   put-put_same xs x y a tied = same_items _ _
@@ -177,21 +182,19 @@ module _ {X K : Type 0} (cmp : K → K → Ordering) (order : IsTotalOrder cmp) 
             ∙ sym (item_at-put_other cmp order key xs y j other))
       ])
 
+  -- items with two keys may go in either way round
   pub put-put_other : (xs : List X) (x y : X) → IsAscending cmp key xs → is_eq (cmp (key x) (key y)) ≡ false
       → put cmp key (put cmp key xs x) y ≡ put cmp key (put cmp key xs y) x
   put-put_other xs x y a apart = same_items _ _
       (IsAscending-put cmp order key _ _ (IsAscending-put cmp order key _ _ a))
       (IsAscending-put cmp order key _ _ (IsAscending-put cmp order key _ _ a)) (λ j.
+      let second = item_at-put cmp order key (put cmp key xs y) x j in
       item_at-put cmp order key (put cmp key xs x) y j
-      ∙ rw (
-        item_at-put cmp order key xs x j,
-        item_at-put cmp order key
-            (put cmp key xs y) x j,
-        item_at-put cmp order key xs y j,
-      ) (elim (cases_Bool (has_key cmp key j y)) [
+      ∙ rw (item_at-put cmp order key xs x j, second, item_at-put cmp order key xs y j)
+      (elim (cases_Bool (has_key cmp key j y)) [
         | inl here ↦
-            let too : has_key cmp key j x ≡ false = ap is_eq
-            (sym (alike_right order (key y) j (key x) (Equal-from_is_eq _ here))) ∙ apart in
+            let alike = alike_right order (key y) j (key x) (Equal-from_is_eq _ here) in
+            let too : has_key cmp key j x ≡ false = ap is_eq (sym alike) ∙ apart in
             rw (here, too)
         | inr other ↦ rw other
       ]))
@@ -206,6 +209,7 @@ module _ {X K : Type 0} (cmp : K → K → Ordering) (order : IsTotalOrder cmp) 
       let less : cmp (key y) (key x) ≡ Less = Less-from_is_lt _ parts.0 in
       rw less (ap (λ zs. y ∷ zs) (put-past ys x parts.1))
 
+  -- two lots of items, one after the other
   pub put_all-append : (xs ys zs : List X) → put_all cmp key xs (ys ++ zs) ≡ put_all cmp key (put_all cmp key xs ys) zs
   put_all-append xs ys zs = fold-append (put cmp key) xs ys zs
 
@@ -218,17 +222,14 @@ module _ {X K : Type 0} (cmp : K → K → Ordering) (order : IsTotalOrder cmp) 
       or_none None = refl
       or_none (Some x) = refl
 
+  -- the last of the items may go in by itself
   pub put_all-put : (xs ys : List X) (x : X) → IsAscending cmp key xs → IsAscending cmp key ys
       → put_all cmp key xs (put cmp key ys x) ≡ put cmp key (put_all cmp key xs ys) x
   put_all-put xs ys x a b = same_items _ _ (IsAscending-put_all cmp order key xs (put cmp key ys x) a)
       (IsAscending-put cmp order key (put_all cmp key xs ys) x (IsAscending-put_all cmp order key xs ys a)) (λ j.
+      let second = item_at-put cmp order key (put_all cmp key xs ys) x j in
       item_at-put_all cmp order key xs (put cmp key ys x) j (IsAscending-put cmp order key ys x b)
-      ∙ rw (
-        item_at-put cmp order key ys x j,
-        item_at-put cmp order key
-            (put_all cmp key xs ys) x j,
-        item_at-put_all cmp order key xs ys j b,
-      )
+      ∙ rw (item_at-put cmp order key ys x j, second, item_at-put_all cmp order key xs ys j b)
       (elim (cases_Bool (has_key cmp key j x)) [
         | inl here ↦ rw here
         | inr other ↦ rw other

@@ -21,6 +21,9 @@ use Rattle.rx_order.proofs.Kept.{IsAscending-filter, IsAscending-put, IsAscendin
 use Rattle.rx_order.proofs.LookUps.{item_at-filter, item_at-found, item_at-put_all}
 
 module _ {X K : Type 0} (cmp : K → K → Ordering) (order : IsTotalOrder cmp) (key : X → K) where
+  -- ---- two lists
+
+  -- what p keeps may go in before or after the filter
   pub filter-put_all : (p : X → Bool) (xs ys : List X) → All (λ y. p y ≡ true) ys → IsAscending cmp key xs
       → filter p (put_all cmp key xs ys) ≡ put_all cmp key (filter p xs) ys
   filter-put_all p xs [] h a = refl
@@ -46,8 +49,8 @@ module _ {X K : Type 0} (cmp : K → K → Ordering) (order : IsTotalOrder cmp) 
       ∙ rw (item_at-filter cmp order key p xs k a, item_at-filter cmp order key p ys k b)))
     where
       either : (o q : Option X) → ((x y : X) → o ≡ Some x → q ≡ Some y → p x ≡ p y)
-          → option_and_then (λ x. then_some (p x) x) (option_or q o) ≡ option_or
-          (option_and_then (λ x. then_some (p x) x) q) (option_and_then (λ x. then_some (p x) x) o)
+          → option_and_then (λ x. then_some (p x) x) (option_or q o)
+          ≡ option_or (option_and_then (λ x. then_some (p x) x) q) (option_and_then (λ x. then_some (p x) x) o)
       either o None h = refl
       either None (Some y) h = elim (cases_Bool (p y)) [ inl t ↦ rw t | inr f ↦ rw f ]
       either (Some x) (Some y) h =
@@ -70,9 +73,9 @@ module _ {X K : Type 0} (cmp : K → K → Ordering) (order : IsTotalOrder cmp) 
   put_all-filters p q (x ∷ xs) a =
       let both : put_all cmp key (filter p xs) (filter q xs) ≡ filter (λ y. p y || q y) xs =
       put_all-filters p q xs a.1 in
-      let behind : put_all cmp key (x ∷ filter p xs) (filter q xs) ≡ x ∷ put_all cmp key (filter p xs)
-      (filter q xs) = put_all-behind x (filter p xs) (filter q xs)
-      (IsBelow-filter cmp order key q (key x) xs a.0) in
+      let above = IsBelow-filter cmp order key q (key x) xs a.0 in
+      let behind : put_all cmp key (x ∷ filter p xs) (filter q xs) ≡ x ∷ put_all cmp key (filter p xs) (filter q xs) =
+      put_all-behind x (filter p xs) (filter q xs) above in
       elim (cases_Bool (p x)) [
         | inl t ↦ elim (cases_Bool (q x)) [
           | inl u ↦ simp (t, u) (ap (λ zs. put_all cmp key zs (filter q xs)) (put_again x (filter p xs)) ∙ behind
@@ -100,8 +103,8 @@ module _ {X K : Type 0} (cmp : K → K → Ordering) (order : IsTotalOrder cmp) 
 
   module _ {B : Type 0} (has : B → X → Bool) (xs : List X) (a : IsAscending cmp key xs) where
     filters_onto : (p : X → Bool) (names : List B)
-        → fold (put_all cmp key) (filter p xs) (map (λ b. filter (has b) xs) names) ≡ filter
-        (λ x. p x || list_any (λ b. has b x) names) xs
+        → fold (put_all cmp key) (filter p xs) (map (λ b. filter (has b) xs) names)
+        ≡ filter (λ x. p x || list_any (λ b. has b x) names) xs
     filters_onto p [] = filter_agree p (λ x. p x || false) (λ x. or_false (p x)) xs
       where
         or_false : (t : Bool) → t ≡ (t || false)
@@ -119,8 +122,8 @@ module _ {X K : Type 0} (cmp : K → K → Ordering) (order : IsTotalOrder cmp) 
         either false u v = refl
 
     -- parts of one list, put together: what is in some part
-    pub joined-filters : (names : List B) → joined cmp key (map (λ b. filter (has b) xs) names) ≡ filter
-        (λ x. list_any (λ b. has b x) names) xs
+    pub joined-filters : (names : List B)
+        → joined cmp key (map (λ b. filter (has b) xs) names) ≡ filter (λ x. list_any (λ b. has b x) names) xs
     joined-filters names =
         ap (λ zs. fold (put_all cmp key) zs (map (λ b. filter (has b) xs) names))
         (sym (filter_none (λ x. false) xs (λ k d l. refl)))

@@ -6,8 +6,9 @@ use Rattle.std.specs.List.{All, AllAdjacentBelow, IsAllAdjacentAnswer, filter}
 use Rattle.std.specs.Cmp.{IsTotalOrder}
 use Rattle.std.specs.Ordering.{is_lt, Ordering-set}
 use Rattle.std.specs.declared.cmp.Ordering.{Ordering}
-use Rattle.std.specs.declared.cmp.Ordering.TheVariants.{Less}
+use Rattle.std.specs.declared.cmp.Ordering.TheVariants.{Less, Equal}
 use Rattle.std.proofs.lemmas.Bool.{cases_Bool, and_parts, and_from, and_left, and_right}
+use Rattle.std.proofs.lemmas.Cmp.{tied_back}
 use Rattle.std.proofs.lemmas.List.Elements.{All-head, All-tail}
 use mathlib.Core.HLevel.{×_prop, Unit-prop}
 use Rattle.rx_order.specs.Ascending.{has_key, IsBelow, IsAscending, is_ascending, is_past, put, put_all, without}
@@ -15,6 +16,8 @@ use Rattle.rx_order.proofs.Keys.{cases_Ordering, Less-from_is_lt, Less-from_Grea
 use Rattle.rx_order.proofs.Keys.{IsBelow-filter, IsBelow-append, IsBelow-put, IsBelow-at, IsBelow-from_places}
 
 module _ {X K : Type 0} (cmp : K → K → Ordering) (order : IsTotalOrder cmp) (key : X → K) where
+  -- ---- changes
+
   pub IsAscending-filter : (p : X → Bool) (xs : List X) → IsAscending cmp key xs → IsAscending cmp key (filter p xs)
   IsAscending-filter p [] a = tt
   IsAscending-filter p (x ∷ xs) a = elim (cases_Bool (p x)) [
@@ -29,11 +32,9 @@ module _ {X K : Type 0} (cmp : K → K → Ordering) (order : IsTotalOrder cmp) 
   IsAscending-put [] x a = (tt, tt)
   IsAscending-put (y ∷ ys) x a = elim (cases_Ordering (cmp (key y) (key x))) [
     | inl less ↦ rw less (IsBelow-put cmp order key (key y) ys x less a.0, IsAscending-put ys x a.1)
-    | inr (inl tied) ↦ rw tied (
-      IsBelow-tied cmp order key (key x) (key y) ys
-          (order.antisymm (key x) (key y) ∙ rw tied) a.0,
-      a.1,
-    )
+    | inr (inl tied) ↦
+        let back : cmp (key x) (key y) ≡ Equal = tied_back order (key y) (key x) tied in
+        rw tied (IsBelow-tied cmp order key (key x) (key y) ys back a.0, a.1)
     | inr (inr more) ↦
         let above : cmp (key x) (key y) ≡ Less = Less-from_Greater cmp order key (key y) (key x) more in
         rw more ((above, IsBelow-through cmp order key (key x) (key y) ys above a.0), (a.0, a.1))
@@ -49,11 +50,9 @@ module _ {X K : Type 0} (cmp : K → K → Ordering) (order : IsTotalOrder cmp) 
       → IsAscending cmp key ys → IsAscending cmp key (xs ++ ys)
   IsAscending-append [] ys a below b = b
   IsAscending-append (x ∷ xs) ys a below b =
-      let P : X → Type 0 = λ y. IsBelow cmp key (key y) ys in (
-        IsBelow-append cmp order key (key x) xs ys a.0 (All-head P x xs below),
-        IsAscending-append xs ys a.1
-            (All-tail P x xs below) b,
-      )
+      let P : X → Type 0 = λ y. IsBelow cmp key (key y) ys in
+      let first = IsBelow-append cmp order key (key x) xs ys a.0 (All-head P x xs below) in
+      (first, IsAscending-append xs ys a.1 (All-tail P x xs below) b)
 
   IsBelow-take : (n : ℕ) (k : K) (xs : List X) → IsBelow cmp key k xs → IsBelow cmp key k (take n xs)
   IsBelow-take zero k xs b = tt
@@ -94,11 +93,9 @@ module _ {X K : Type 0} (cmp : K → K → Ordering) (order : IsTotalOrder cmp) 
       → IsAscending cmp key (xs ++ x ∷ [])
   IsAscending-push [] x a past = (tt, tt)
   IsAscending-push (y ∷ ys) x a past =
-      let parts = and_parts _ _ past in (
-        IsBelow-append cmp order key (key y) ys (x ∷ []) a.0
-            (Less-from_is_lt _ parts.0, tt),
-        IsAscending-push ys x a.1 parts.1,
-      )
+      let parts = and_parts _ _ past in
+      let below = IsBelow-append cmp order key (key y) ys (x ∷ []) a.0 (Less-from_is_lt _ parts.0, tt) in
+      (below, IsAscending-push ys x a.1 parts.1)
 
   -- the last item alone tells whether a key is past an ascending list
   pub is_past-last : (xs : List X) (k : K) (d : X) → IsAscending cmp key xs → 0 < length xs

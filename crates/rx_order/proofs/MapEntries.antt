@@ -1,4 +1,5 @@
--- The entries of a `BTreeMap` are a list in the ascending order of their keys, and so are its values, where each has its key.
+-- The entries of a `BTreeMap` are a list in the ascending order of their keys, and so are its values, where each value
+-- has its key.
 use Rattle.std.proofs.Common.{◌≡◌, List, [], ◌∷◌, cond, Some, refl, sym, ap}
 use Rattle.std.proofs.Common.{inl, inr}
 use Rattle.std.specs.BTreeMap.{insert_entry, is_at}

@@ -11,7 +11,7 @@ use Rattle.std.proofs.lemmas.Bool.{cases_Bool}
 use Rattle.std.proofs.lemmas.List.Elements.{All-cons, All-contains, All-contains_itself, All-filter, All-head}
 use Rattle.std.proofs.lemmas.List.Elements.{All-nil, All-tail}
 use Rattle.std.proofs.lemmas.List.Sums.{sum_by-cons}
-use Rattle.rx_order.specs.Ascending.{has_key, IsAscending, item_at, put, put_all, without}
+use Rattle.rx_order.specs.Ascending.{has_key, IsAscending, IsBelow, item_at, put, put_all, without}
 use Rattle.rx_order.proofs.Keys.{cases_Ordering, Equal-from_is_eq, Less-from_Greater, IsBelow-through, item_at-below}
 use Rattle.rx_order.proofs.Edits.{without_absent}
 use Rattle.rx_order.proofs.LookUps.{item_at-tied, item_at-put_same, item_at-put_other, item_at-found}
@@ -25,13 +25,9 @@ module _ {X K : Type 0} (cmp : K → K → Ordering) (order : IsTotalOrder cmp) 
       → sum_by f (put cmp key xs x) ≡ sum_by f xs + f x
   sum_by-put_free f [] x free = refl
   sum_by-put_free f (y ∷ ys) x free = elim (cases_Ordering (cmp (key y) (key x))) [
-    | inl less ↦ rw less (omega (
-      arith,
-      sum_by-cons f y
-          (put cmp key ys x),
-      sum_by-cons f y ys,
-      sum_by-put_free f ys x (rw less at free),
-    ))
+    | inl less ↦
+        let rest = sum_by-put_free f ys x (rw less at free) in
+        rw less (omega (arith, sum_by-cons f y (put cmp key ys x), sum_by-cons f y ys, rest))
     | inr (inl tied) ↦ absurd (let e = rw tied at free in cc)
     | inr (inr more) ↦ rw more (omega (arith, sum_by-cons f x (y ∷ ys)))
   ]
@@ -41,20 +37,17 @@ module _ {X K : Type 0} (cmp : K → K → Ordering) (order : IsTotalOrder cmp) 
       → item_at cmp key xs (key x) ≡ Some y → sum_by f (put cmp key xs x) + f y ≡ sum_by f xs + f x
   sum_by-put_over f [] x y a h = cc
   sum_by-put_over f (z ∷ zs) x y a h = elim (cases_Ordering (cmp (key z) (key x))) [
-    | inl less ↦ rw less (omega (
-      arith,
-      sum_by-cons f z
-          (put cmp key zs x),
-      sum_by-cons f z zs,
-      sum_by-put_over f zs x y a.1 (rw less at h),
-    ))
+    | inl less ↦
+        let rest = sum_by-put_over f zs x y a.1 (rw less at h) in
+        rw less (omega (arith, sum_by-cons f z (put cmp key zs x), sum_by-cons f z zs, rest))
     | inr (inl tied) ↦
         let same : z ≡ y = let e = rw tied at h in cc in
         rw tied (omega (arith, sum_by-cons f x zs, sum_by-cons f z zs, ap f same))
     | inr (inr more) ↦
         let less : cmp (key x) (key z) ≡ Less = Less-from_Greater cmp order key (key z) (key x) more in
-        absurd (let e : None ≡ Some y = sym (item_at-below cmp order key (key x) (z ∷ zs)
-        (less, IsBelow-through cmp order key (key x) (key z) zs less a.0)) ∙ h in cc)
+        let below : IsBelow cmp key (key x) (z ∷ zs) =
+        (less, IsBelow-through cmp order key (key x) (key z) zs less a.0) in
+        absurd (let e : None ≡ Some y = sym (item_at-below cmp order key (key x) (z ∷ zs) below) ∙ h in cc)
   ]
 
   -- an item that is taken out takes its share away
@@ -64,17 +57,14 @@ module _ {X K : Type 0} (cmp : K → K → Ordering) (order : IsTotalOrder cmp) 
   sum_by-without f (y ∷ ys) k x a h = elim (cases_Bool (has_key cmp key k y)) [
     | inl here ↦
         let same : y ≡ x = let e = rw here at h in cc in
-        let rest : without cmp key ys k ≡ ys = without_absent cmp order key ys k
-        (sym (item_at-tied cmp order key ys (key y) k (Equal-from_is_eq _ here))
-        ∙ item_at-below cmp order key (key y) ys a.0) in
+        let none : item_at cmp key ys k ≡ None =
+        sym (item_at-tied cmp order key ys (key y) k (Equal-from_is_eq _ here))
+        ∙ item_at-below cmp order key (key y) ys a.0 in
+        let rest : without cmp key ys k ≡ ys = without_absent cmp order key ys k none in
         rw (here, rest) (omega (arith, sum_by-cons f y ys, ap f same))
-    | inr other ↦ rw other (omega (
-      arith,
-      sum_by-cons f y
-          (without cmp key ys k),
-      sum_by-cons f y ys,
-      sum_by-without f ys k x a.1 (rw other at h),
-    ))
+    | inr other ↦
+        let rest = sum_by-without f ys k x a.1 (rw other at h) in
+        rw other (omega (arith, sum_by-cons f y (without cmp key ys k), sum_by-cons f y ys, rest))
   ]
 
   -- ---- lengths
@@ -90,23 +80,15 @@ module _ {X K : Type 0} (cmp : K → K → Ordering) (order : IsTotalOrder cmp) 
 
   pub length-put_over : (xs : List X) (x y : X) → IsAscending cmp key xs → item_at cmp key xs (key x) ≡ Some y
       → length (put cmp key xs x) ≡ length xs
-  length-put_over xs x y a h = omega (
-    arith,
-    length_as_sum (put cmp key xs x),
-    length_as_sum xs,
-    sum_by-put_over
-        (λ _. 1) xs x y a h,
-  )
+  length-put_over xs x y a h =
+      let sums = sum_by-put_over (λ _. 1) xs x y a h in
+      omega (arith, length_as_sum (put cmp key xs x), length_as_sum xs, sums)
 
   pub length-without : (xs : List X) (k : K) (x : X) → IsAscending cmp key xs → item_at cmp key xs k ≡ Some x
       → length (without cmp key xs k) + 1 ≡ length xs
-  length-without xs k x a h = omega (
-    arith,
-    length_as_sum (without cmp key xs k),
-    length_as_sum xs,
-    sum_by-without
-        (λ _. 1) xs k x a h,
-  )
+  length-without xs k x a h =
+      let sums = sum_by-without (λ _. 1) xs k x a h in
+      omega (arith, length_as_sum (without cmp key xs k), length_as_sum xs, sums)
 
   -- ---- facts on each item
 
@@ -131,15 +113,17 @@ module _ {X K : Type 0} (cmp : K → K → Ordering) (order : IsTotalOrder cmp) 
   -- ---- the items themselves
 
   pub Contains-put : (xs : List X) (x : X) → Contains (put cmp key xs x) x
-  Contains-put xs x = let found = item_at-found cmp order key (put cmp key xs x) (key x) x
-      (item_at-put_same cmp order key xs x) in found.0
+  Contains-put xs x =
+      let found = item_at-found cmp order key (put cmp key xs x) (key x) x (item_at-put_same cmp order key xs x) in
+      found.0
 
   -- an item with another key stays
   pub Contains-put_other : (xs : List X) (x y : X) → IsAscending cmp key xs → Contains xs y
       → is_eq (cmp (key x) (key y)) ≡ false → Contains (put cmp key xs x) y
   Contains-put_other xs x y a among other =
-      let found = item_at-found cmp order key (put cmp key xs x) (key y) y
-      (item_at-put_other cmp order key xs x (key y) other ∙ item_at-from_contains cmp order key xs y a among) in
+      let stays = item_at-put_other cmp order key xs x (key y) other in
+      let there = item_at-from_contains cmp order key xs y a among in
+      let found = item_at-found cmp order key (put cmp key xs x) (key y) y (stays ∙ there) in
       found.0
 
   pub Contains-put_cases : (xs : List X) (x y : X) → Contains (put cmp key xs x) y → (x ≡ y) ⊎ Contains xs y

@@ -50,6 +50,7 @@ impl<T: Keyed> Model for Ascending<T> {
 }
 
 impl<T: Keyed> Ascending<T> {
+    /// The list without items. It takes no memory.
     pub fn new(alloc: Global) -> Self
         ensures { result ≡ [] }
     {
@@ -58,7 +59,7 @@ impl<T: Keyed> Ascending<T> {
         }
     }
 
-    /// Items that are not in order, or of which two have one key, come back. It takes no memory.
+    /// The list of these items. Where they are not in order, or two have one key, they come back. It takes no memory.
     pub fn from_vec(items: Vec<T>) -> Result<Self, Vec<T>>
         ensures ok { is_ok result ≡ is_ascending T.Key.cmp T.key_of items.items }
         ensures value { IfOk result (λ list. list ≡ items.items) }
@@ -81,6 +82,7 @@ impl<T: Keyed> Ascending<T> {
         Ok(Ascending { items })
     }
 
+    /// The items, in order.
     pub fn into_vec(self) -> Vec<T>
         ensures { result.items ≡ self }
     {
@@ -88,6 +90,7 @@ impl<T: Keyed> Ascending<T> {
         items
     }
 
+    /// All items, in order.
     pub fn as_slice(&self) -> &[T]
         ensures value { result.now ≡ self.now }
         ensures ascending { IsAscending T.Key.cmp T.key_of self.now }
@@ -96,6 +99,7 @@ impl<T: Keyed> Ascending<T> {
         self.items.as_slice()
     }
 
+    /// Goes over the items, in order.
     pub fn iter(&self) -> Iter<'_, T>
         ensures rest { iter_rest result ≡ self.now }
         ensures runs { IterYieldsInOrder T }
@@ -103,6 +107,7 @@ impl<T: Keyed> Ascending<T> {
         self.items.iter()
     }
 
+    /// How many items there are.
     pub fn len(&self) -> usize
         ensures value { result ≡ length self.now }
         ensures small { result < 2 ^ 63 }
@@ -110,6 +115,7 @@ impl<T: Keyed> Ascending<T> {
         self.items.len()
     }
 
+    /// Whether there are no items.
     pub fn is_empty(&self) -> bool
         ensures { result ≡ (length self.now == 0) }
     {
@@ -124,6 +130,7 @@ impl<T: Keyed> Ascending<T> {
         place_of(&self.items, key)
     }
 
+    /// The item that has the key.
     pub fn get(&self, key: &T::Key) -> Option<&T>
         ensures { option_copied result ≡ item_at T.Key.cmp T.key_of self.now key.now }
     {
@@ -133,6 +140,7 @@ impl<T: Keyed> Ascending<T> {
         }
     }
 
+    /// Whether an item has the key.
     pub fn contains_key(&self, key: &T::Key) -> bool
         ensures { result ≡ contains_key T.Key.cmp T.key_of self.now key.now }
     {
@@ -149,13 +157,14 @@ impl<T: Keyed> Ascending<T> {
         }
     }
 
-    /// An item whose key is there already is refused, and then memory is not asked for.
+    /// Puts an item with a new key in its place. One whose key is there is refused before memory is asked for.
     pub fn insert(&mut self, item: T) -> Result<(), InsertError<T>>
         ensures ok { OnOk result (self.new ≡ put T.Key.cmp T.key_of self.old item) }
         ensures there { is_there result ≡ contains_key T.Key.cmp T.key_of self.old (T.key_of item) }
         ensures err { OnErr result (self.new ≡ self.old) }
         ensures back { IfErr result (λ refused. refused_item refused ≡ item) }
 
+        // For a caller that keeps totals over the items: how they stood, and that there are few.
         ensures ascending { IsAscending T.Key.cmp T.key_of self.old }
         ensures small { length self.new < 2 ^ 63 }
     {
@@ -165,7 +174,7 @@ impl<T: Keyed> Ascending<T> {
         }
     }
 
-    /// An item past the others goes to the end, which `is_past` tells.
+    /// Puts an item whose key is past the others' at the end. `is_past` tells whether it is.
     pub fn push(&mut self, item: T) -> Result<(), AllocFailed<T>>
         requires { IsTrue (is_past T.Key.cmp T.key_of self.old (T.key_of item)) }
         ensures ok { OnOk result (self.new ≡ self.old ++ item ∷ []) }
@@ -192,6 +201,7 @@ impl<T: Keyed> Ascending<T> {
         }
     }
 
+    /// Takes the item that has the key out of the list. It takes no memory.
     pub fn remove(&mut self, key: &T::Key) -> Option<T>
         ensures value { result ≡ item_at T.Key.cmp T.key_of self.old key.now }
         ensures items { self.new ≡ without T.Key.cmp T.key_of self.old key.now }

@@ -1,12 +1,14 @@
 ghost use Rattle.std.specs.Prelude.{◌≡◌, IfErr, IfOk};
 ghost use Rattle.rx_order.specs.Ascending.{IsAscending, IsAt, IsGap, is_ascending};
 
-/// An item that has a key.
+/// An item that has a key, as a row of a table.
 pub trait Keyed {
+    /// What items are ordered by: mostly a plain struct that derives its order, field by field.
     type Key: Ord + Copy + Drop;
 
     ghost key_of: { Self → Self.Key };
 
+    /// The item's key.
     fn key(&self) -> Self::Key
         ensures { result ≡ key_of self.now };
 }
@@ -18,7 +20,7 @@ pub fn is_ascending<T: Keyed>(items: &[T]) -> bool
     items.is_sorted_by(|a, b| a.key().cmp(&b.key()).is_lt())
 }
 
-/// Where the item with the key is, or where it would go. It takes logarithmic time.
+/// Where the item with the key is, or where it would go, by binary search.
 pub fn place_of<T: Keyed>(items: &[T], key: &T::Key) -> Result<usize, usize>
     requires { IsAscending T.Key.cmp T.key_of items.now }
     ensures found { IfOk result (IsAt T.Key.cmp T.key_of items.now key.now) }

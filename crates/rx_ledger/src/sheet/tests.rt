@@ -106,78 +106,95 @@ fn a_refused_drug_leaves_the_sheet(rt: HostRuntime) -> Result<(), Fail> {
     Ok(())
 }
 
+// Member deductible, family maximum, refill percentage, most days, fee, family deductible.
+const WITHIN: [[u64; 6]; 2] = [
+    [
+        99_999_999_999,
+        99_999_999_999,
+        100,
+        999,
+        99_999_999,
+        99_999_999_999,
+    ],
+    [0, 0, 0, 1, 0, 0],
+];
+
+const OUTSIDE: [([u64; 6], SheetKey); 7] = [
+    (
+        [100_000_000_000, 30_000, 75, 90, 175, 0],
+        SheetKey::MemberDeductible,
+    ),
+    (
+        [10_000, 100_000_000_000, 75, 90, 175, 0],
+        SheetKey::FamilyMaximum,
+    ),
+    ([10_000, 30_000, 101, 90, 175, 0], SheetKey::RefillPercent),
+    ([10_000, 30_000, 75, 0, 100_000_000, 0], SheetKey::MaxDays),
+    ([10_000, 30_000, 75, 1000, 175, 0], SheetKey::MaxDays),
+    (
+        [10_000, 30_000, 75, 90, 100_000_000, 100_000_000_000],
+        SheetKey::Fee,
+    ),
+    (
+        [10_000, 30_000, 75, 90, 175, 100_000_000_000],
+        SheetKey::FamilyDeductible,
+    ),
+];
+
+// The plain sheet's figures with these numbers.
+fn figures_with(numbers: [u64; 6]) -> Result<Figures, Fail> {
+    let [
+        member_deductible,
+        family_maximum,
+        refill_percent,
+        max_days,
+        fee,
+        family,
+    ] = numbers;
+    Ok(Figures {
+        member_deductible,
+        family_maximum,
+        refill_percent,
+        max_days,
+        fee,
+        family_deductible: Some(family),
+        ..figures()?
+    })
+}
+
 #[test]
 fn the_first_figure_outside_its_range_is_told(rt: HostRuntime) -> Result<(), Fail> {
-    let plain = figures()?;
-    let mut bin = plain;
-    bin.door.bin = *b"90000A";
-    bin.fee = 100_000_000;
-    let mut pcn = plain;
-    pcn.door.pcn = *b"RXDEMO\x1f   ";
-    let mut days = plain;
-    days.max_days = 0;
-    days.fee = 100_000_000;
-    let told = [
-        (bin, SheetKey::Bin, 1),
-        (pcn, SheetKey::Pcn, 2),
-        (
-            Figures {
-                member_deductible: 100_000_000_000,
-                ..plain
-            },
-            SheetKey::MemberDeductible,
-            5,
-        ),
-        (
-            Figures {
-                family_maximum: 100_000_000_000,
-                ..plain
-            },
-            SheetKey::FamilyMaximum,
-            6,
-        ),
-        (
-            Figures {
-                refill_percent: 101,
-                ..plain
-            },
-            SheetKey::RefillPercent,
-            7,
-        ),
-        (days, SheetKey::MaxDays, 8),
-        (
-            Figures {
-                max_days: 1000,
-                ..plain
-            },
-            SheetKey::MaxDays,
-            8,
-        ),
-        (
-            Figures {
-                fee: 100_000_000,
-                ..plain
-            },
-            SheetKey::Fee,
-            9,
-        ),
-        (
-            Figures {
-                family_deductible: Some(100_000_000_000),
-                ..plain
-            },
-            SheetKey::FamilyDeductible,
-            14,
-        ),
+    for numbers in WITHIN {
+        let figures = figures_with(numbers)?;
+        let sheet = Sheet::new(rt.alloc(), figures)?;
+        assert_eq!(rt; *sheet.figures(), figures);
+    }
+    for (numbers, key) in OUTSIDE {
+        let wrong = Sheet::new(rt.alloc(), figures_with(numbers)?).err();
+        assert_eq!(rt; wrong, Some(Wrong(key)), "at {numbers:?}");
+    }
+    let doors = [
+        (*b"90000A", *b"RXDEMO    ", SheetKey::Bin),
+        (*b"900001", *b"RXDEMO\x1f   ", SheetKey::Pcn),
     ];
-    for (figures, key, code) in told {
-        match Sheet::new(rt.alloc(), figures) {
-            Ok(_) => assert!(rt; false, "accepted at {code}"),
-            Err(wrong) => {
-                assert_eq!(rt; wrong, Wrong(key));
-                assert_eq!(rt; wrong.code(), code);
-            }
-        }
+    for (bin, pcn, key) in doors {
+        let door = Door { bin, pcn };
+        let figures = Figures {
+            door,
+            fee: 100_000_000,
+            ..figures()?
+        };
+        let wrong = Sheet::new(rt.alloc(), figures).err();
+        assert_eq!(rt; wrong, Some(Wrong(key)));
+    }
+    let numbers = [
+        (SheetKey::Bin, 1),
+        (SheetKey::MemberDeductible, 5),
+        (SheetKey::Fee, 9),
+        (SheetKey::FamilyDeductible, 14),
+    ];
+    for (key, number) in numbers {
+        assert_eq!(rt; Wrong(key).code(), number);
     }
     Ok(())
 }

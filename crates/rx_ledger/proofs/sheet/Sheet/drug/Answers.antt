@@ -12,4 +12,5 @@ returns-clause-within c =
     let listed : Listed = c.in_ok-listed.listed.now in
     let found : item_at nat_cmp listed_product c.self.inside.drugs c.args.product ≡ Some listed =
     sym c.get.ensures ∙ ap option_copied c.in_ok-listed.was in
-    passed_found (λ (l : Listed). is_drug l.drug) nat_cmp listed_product c.self.inside.drugs c.args.product listed c.self.invariant.drugs_fit found
+    passed_found (λ (l : Listed). is_drug l.drug) nat_cmp listed_product c.self.inside.drugs c.args.product listed
+    c.self.invariant.drugs_fit found

@@ -8,5 +8,6 @@ use Rattle.rx_ledger.proofs.terms.Terms.drug.Goals as goal
 
 pub returns-clause-within : goal.returns-clause-within
 returns-clause-within c =
-    passed_found (λ (l : Listed). is_drug l.drug) nat_cmp listed_product (drugs_in c.self.inside.places) c.args.product c.in_ok-listed.listed
+    passed_found (λ (l : Listed). is_drug l.drug) nat_cmp listed_product (drugs_in c.self.inside.places)
+    c.args.product c.in_ok-listed.listed
     c.self.invariant.drugs_fit (sym c.listed_in.ensures ∙ c.in_ok-listed.was)

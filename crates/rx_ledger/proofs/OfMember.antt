@@ -1,0 +1,66 @@
+-- A billing that is paid is of a listed member.
+use Rattle.std.proofs.Common.{◌≡◌, ℕ, true, false, List, [], ◌∷◌, Option, Some, None, IsSome, refl, sym, ap, ◌∙◌, inl, inr}
+use Rattle.std.specs.List.{filter, find}
+use Rattle.std.specs.Ordering.{is_eq, ordering_then}
+use Rattle.std.specs.declared.cmp.Ordering.{Ordering}
+use Rattle.std.specs.declared.cmp.Ordering.TheVariants.{Less, Equal, Greater}
+use Rattle.std.proofs.lemmas.Bool.{cases_Bool}
+use Rattle.rx_claim.specs.declared.bill.BillParts.{BillParts}
+use Rattle.rx_claim.specs.declared.reply.Answer.{Answer}
+use Rattle.rx_claim.specs.declared.reply.Answer.TheVariants.{Paid}
+use Rattle.rx_claim.specs.declared.reply.Paid.{Paid as PaidParts}
+use Rattle.rx_claim.specs.declared.transaction.Transaction.TheVariants.{Bill}
+use Rattle.rx_fields.specs.Order.{id_cmp}
+use Rattle.rx_order.specs.Ascending.{contains_key, has_key}
+use Rattle.rx_ledger.specs.declared.member.Member.{Member}
+use Rattle.rx_ledger.specs.declared.member.MemberKey.{MemberKey}
+use Rattle.rx_ledger.specs.declared.row.Row.{Row}
+use Rattle.rx_ledger.specs.Answers.{Asked, answer, answer_bill, answer_person, key_of}
+use Rattle.rx_ledger.specs.Ledger.{Ledger, members_of, row_under, rows_of}
+use Rattle.rx_ledger.specs.Members.{is_same, member_cmp, member_key, of_family, person_in}
+
+-- two keys tie where their parts do
+tied-both : (p q : Ordering) → is_eq p ≡ true → is_eq q ≡ true → is_eq (ordering_then p q) ≡ true
+tied-both Equal q e f = f
+tied-both Less q e f = cc
+tied-both Greater q e f = cc
+
+-- who has the person code among those of the family is listed under both
+listed_by-person : (ms : List Member) (family person : List ℕ) (m : Member) → person_in (filter (of_family family) ms) person ≡ Some m
+    → contains_key member_cmp member_key ms (record { family = family; person = person }) ≡ true
+listed_by-person [] family person m found = cc
+listed_by-person (x ∷ xs) family person m found =
+    let k : MemberKey = record { family = family; person = person } in
+    elim (cases_Bool (has_key member_cmp member_key k x)) [
+      | inl here ↦ rw here refl
+      | inr other ↦ rw other (elim (cases_Bool (of_family family x)) [
+        | inl own ↦ elim (cases_Bool (is_same x.key.person person)) [
+          | inl same ↦ let tied : has_key member_cmp member_key k x ≡ true = tied-both (id_cmp x.key.family family) (id_cmp x.key.person person) own same in cc
+          | inr different ↦ listed_by-person xs family person m (rw (own, different) at found)
+        ]
+        | inr stranger ↦ listed_by-person xs family person m (rw stranger at found)
+      ])
+    ]
+
+-- a billing that is paid is of a person among the family's members
+person-paid : (a : Asked) (b : BillParts) (found : Option Member) (rows : List Row) (under : Option Row) (p : PaidParts)
+    → answer_person a b found rows under ≡ Paid p → IsSome found
+person-paid a b None rows under p paid = cc
+person-paid a b (Some m) rows under p paid = refl
+
+bill-paid : (a : Asked) (b : BillParts) (members : List Member) (rows : List Row) (under : Option Row) (p : PaidParts)
+    → answer_bill a b members rows under ≡ Paid p → IsSome (person_in members b.person)
+bill-paid a b [] rows under p paid = cc
+bill-paid a b (x ∷ xs) rows under p paid = person-paid a b (person_in (x ∷ xs) b.person) rows under p paid
+
+listed-found : (L : Ledger) (family person : List ℕ) (found : Option Member) → person_in (members_of L family) person ≡ found
+    → IsSome found → contains_key member_cmp member_key L.members (record { family = family; person = person }) ≡ true
+listed-found L family person None e h = cc
+listed-found L family person (Some m) e h = listed_by-person L.members family person m e
+
+pub paid-listed : (a : Asked) (L : Ledger) (b : BillParts) (p : PaidParts) → answer a L (Bill b) ≡ Paid p
+    → contains_key member_cmp member_key L.members (record { family = b.family; person = b.person }) ≡ true
+paid-listed a L b p paid =
+    let members = members_of L b.family in
+    listed-found L b.family b.person (person_in members b.person) refl
+    (bill-paid a b members (rows_of L b.family) (row_under L (key_of a b.reference)) p paid)
