@@ -10,5 +10,4 @@ ghost use Rattle.rx_batch.specs.declared.fault.BatchFault.{BatchFault};
 pub fn one_reading()
     ensures reads { (bytes : List ℕ) → (batch : Batch) → IsFile bytes batch.head batch.details ↔ (batch_of bytes ≡ Ok batch) }
     ensures refuses { (bytes : List ℕ) → (f : BatchFault) → HasFault bytes f ↔ (batch_of bytes ≡ Err f) }
-{
-}
+{}

@@ -13,6 +13,7 @@ use memchr::memchr2;
 use std::alloc::Global;
 
 pub(crate) const STX: u8 = 2;
+
 pub(crate) const ETX: u8 = 3;
 
 /// A good front of a text, and the bytes after the STX of a record that was begun.
@@ -79,7 +80,12 @@ impl Reader {
     }
 
     // Reads on in a record of which these bytes are known, up to its ETX.
-    fn within<'a>(&mut self, alloc: Global, body: Text, bytes: &'a [u8]) -> Result<&'a [u8], BatchFault>
+    fn within<'a>(
+        &mut self,
+        alloc: Global,
+        body: Text,
+        bytes: &'a [u8],
+    ) -> Result<&'a [u8], BatchFault>
         requires none { self.old.begun ≡ None }
         requires some { 0 < length bytes.now }
         ensures ok { (text : List ℕ) → IsReadUpTo (record self.old { begun = Some body }) text bytes.now → IfOk result (λ rest. IsReadUpTo self.new text rest.now) }
@@ -94,7 +100,9 @@ impl Reader {
         };
         let (last, rest) = bytes.split_at(end);
         if rest[0] == STX {
-            return Err(BatchFault::Unclosed { at: self.front.length });
+            return Err(BatchFault::Unclosed {
+                at: self.front.length,
+            });
         }
         self.front.joined_record(alloc, body, last)?;
         Ok(&rest[1..])
