@@ -35,8 +35,10 @@ impl Reader {
 
     // Reads the bytes that come next.
     pub(crate) fn read(&mut self, alloc: Global, piece: &[u8]) -> Result<(), BatchFault>
-        ensures ok { (text : List ℕ) → IsRead self.old text → IfOk result (λ _. IsRead self.new (text ++ piece.now)) }
-        ensures err { (text : List ℕ) → IsRead self.old text → IfErr result (λ f. IsFaultOf f (text ++ piece.now)) }
+        ensures ok { (text : List ℕ) → IsRead self.old text
+            → IfOk result (λ _. IsRead self.new (text ++ piece.now)) }
+        ensures err { (text : List ℕ) → IsRead self.old text
+            → IfErr result (λ f. IsFaultOf f (text ++ piece.now)) }
     {
         let mut rest = piece;
         while !rest.is_empty() {
@@ -48,9 +50,11 @@ impl Reader {
     // Reads some of the bytes that come next, and answers the others.
     fn advance<'a>(&mut self, alloc: Global, bytes: &'a [u8]) -> Result<&'a [u8], BatchFault>
         requires { 0 < length bytes.now }
-        ensures ok { (text : List ℕ) → IsReadUpTo self.old text bytes.now → IfOk result (λ rest. IsReadUpTo self.new text rest.now) }
+        ensures ok { (text : List ℕ) → IsReadUpTo self.old text bytes.now
+            → IfOk result (λ rest. IsReadUpTo self.new text rest.now) }
         ensures within { IfOk result (λ rest. length rest.now < length bytes.now) }
-        ensures err { (text : List ℕ) → IsReadUpTo self.old text bytes.now → IfErr result (λ f. IsFaultOf f text) }
+        ensures err { (text : List ℕ) → IsReadUpTo self.old text bytes.now
+            → IfErr result (λ f. IsFaultOf f text) }
     {
         match self.begun.take() {
             None => self.between(alloc, bytes),
@@ -62,9 +66,11 @@ impl Reader {
     fn between<'a>(&mut self, alloc: Global, bytes: &'a [u8]) -> Result<&'a [u8], BatchFault>
         requires none { self.old.begun ≡ None }
         requires some { 0 < length bytes.now }
-        ensures ok { (text : List ℕ) → IsReadUpTo self.old text bytes.now → IfOk result (λ rest. IsReadUpTo self.new text rest.now) }
+        ensures ok { (text : List ℕ) → IsReadUpTo self.old text bytes.now
+            → IfOk result (λ rest. IsReadUpTo self.new text rest.now) }
         ensures within { IfOk result (λ rest. length rest.now < length bytes.now) }
-        ensures err { (text : List ℕ) → IsReadUpTo self.old text bytes.now → IfErr result (λ f. IsFaultOf f text) }
+        ensures err { (text : List ℕ) → IsReadUpTo self.old text bytes.now
+            → IfErr result (λ f. IsFaultOf f text) }
     {
         let gap = gap(bytes);
         self.front.pass(gap)?;
@@ -88,9 +94,11 @@ impl Reader {
     ) -> Result<&'a [u8], BatchFault>
         requires none { self.old.begun ≡ None }
         requires some { 0 < length bytes.now }
-        ensures ok { (text : List ℕ) → IsReadUpTo (record self.old { begun = Some body }) text bytes.now → IfOk result (λ rest. IsReadUpTo self.new text rest.now) }
+        ensures ok { (text : List ℕ) → IsReadUpTo (record self.old { begun = Some body }) text bytes.now
+            → IfOk result (λ rest. IsReadUpTo self.new text rest.now) }
         ensures within { IfOk result (λ rest. length rest.now < length bytes.now) }
-        ensures err { (text : List ℕ) → IsReadUpTo (record self.old { begun = Some body }) text bytes.now → IfErr result (λ f. IsFaultOf f text) }
+        ensures err { (text : List ℕ) → IsReadUpTo (record self.old { begun = Some body }) text bytes.now
+            → IfErr result (λ f. IsFaultOf f text) }
     {
         let Some(end) = memchr2(STX, ETX, bytes) else {
             let mut body = body;
