@@ -48,12 +48,12 @@ fn run(rt: &HostRuntime) -> Result<(), Failure> {
     let mut words = env::args(rt).map_err(|_error| Failure::Words)?;
     let _program = words.next();
     match words.next() {
-        Some(word) if word.as_str() == "sample" && words.next().is_none() => sample(rt),
+        Some(word) if word.as_str() == "sample" && words.next().is_none() => print_sample(rt),
         _ => Err(Failure::Words),
     }
 }
 
-fn sample(rt: &HostRuntime) -> Result<(), Failure> {
+fn print_sample(rt: &HostRuntime) -> Result<(), Failure> {
     let mut line = sample_line(rt.alloc())?;
     if line.push(b'\n').is_err() {
         return Err(Failure::Memory);

@@ -8,7 +8,8 @@ use rx_ledger::{AddError, AddFault, Drug, Figures, Ledger, Member, Share, Sheet,
 use std::alloc::Global;
 
 /// The base claim (docs/FORMATS.md, "Fixed inputs").
-const BASE_CLAIM: &[u8] = b"900001D0B1RXDEMO    1011234567893     20260228          \x1e\x1cAM04\x1cC2C100\x1cC301\x1d\x1e\x1cAM07\x1cEM1\x1cD2000000000123\x1cE103\x1cD700002000202\x1cE70000030000\x1cD5030\x1cD61\x1e\x1cAM11\x1cD90003000{\x1cDC0000017E\x1cDQ0004000{";
+const BASE_CLAIM: &[u8] =
+    b"900001D0B1RXDEMO    1011234567893     20260228          \x1e\x1cAM04\x1cC2C100\x1cC301\x1d\x1e\x1cAM07\x1cEM1\x1cD2000000000123\x1cE103\x1cD700002000202\x1cE70000030000\x1cD5030\x1cD61\x1e\x1cAM11\x1cD90003000{\x1cDC0000017E\x1cDQ0004000{";
 
 /// Why there is no sample.
 #[derive(Clone, Copy, Debug, PartialEq, Eq)]
@@ -88,7 +89,9 @@ fn opening_books(alloc: Global) -> Result<Ledger, SampleFault> {
 fn enroll(books: &mut Ledger, family: &[u8], person: &[u8]) -> Result<(), SampleFault> {
     let family = Id::new(family, 20).map_err(|_fault| SampleFault::Input)?;
     let person = Person::new(person).map_err(|_fault| SampleFault::Input)?;
-    let member = Member::new(family, person, day(b"20260101")?, day(b"20261231")?).ok_or(SampleFault::Input)?;
+    let member = Member::new(family, person, day(b"20260101")?, day(b"20261231")?).ok_or(
+        SampleFault::Input,
+    )?;
     match books.add_member(member) {
         Ok(()) => Ok(()),
         Err(AddError::Memory) => Err(SampleFault::Memory),
@@ -103,7 +106,12 @@ fn shown(alloc: Global, text: &[u8]) -> Result<Vec<u8>, Memory>
     let mut line = Vec::new(alloc);
     for byte in text {
         if *byte < b' ' {
-            line.extend_from_slice(&[b'<', hexadecimal(*byte / 16), hexadecimal(*byte % 16), b'>'])?;
+            line.extend_from_slice(&[
+                b'<',
+                hexadecimal(*byte / 16),
+                hexadecimal(*byte % 16),
+                b'>',
+            ])?;
         } else {
             line.push(*byte)?;
         }
