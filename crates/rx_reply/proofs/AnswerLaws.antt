@@ -21,7 +21,7 @@ use Rattle.rx_reply.specs.Text.{field, segment, code_field, reference_segment, k
 use Rattle.rx_reply.specs.Limits.{IsNumber, IsReference, AreCodes, IsPaid, IsApproved, IsRefused, IsAnswer}
 use Rattle.rx_reply.specs.Readers.{◌>>=◌, after, labelled, made, times, number_at}
 use Rattle.rx_reply.specs.Reading.{paid_at, amount_at, not_zero, coinsurance_behind, coinsurance_at, price_at, share_at, amounts_of, summed, priced, pricing_at, authorization_at, reference_label, reference_at, reference_behind, known_at, code_at, codes_at, paid_claim_at, approved_at, refused_at, behind_status, answer_at, group_at}
-use Rattle.rx_reply.proofs.Laws.{bind_some, guarded, some_same, chain, after_takes, after_again, Reads, Always, labelled-reads, pair-reads, made-reads, times-reads}
+use Rattle.rx_reply.proofs.Laws.{bind_some, guarded, some_same, chain, after_takes, after_again, Reads, Always, labelled-reads, pair-reads, made-reads, shaped-reads, times-reads}
 use Rattle.rx_reply.proofs.FieldLaws.{bytes-reads, number-reads, paid-reads, reversed-reads, code_is, code_again}
 
 -- nothing, or the next group
@@ -56,7 +56,8 @@ coinsurance_takes bs (Some rest) x is e =
     let spelt : coinsurance_field m.0 ≡ amount_field (codes "4U") m.0 = rw same.1 refl in
     let text : bs ≡ amount_field (codes "4U") m.0 ++ n.0.1 =
     after_takes (field (codes "4U") []) bs rest is
-    ∙ (ap (λ (t : List ℕ). field (codes "4U") [] ++ t) taken.0 ∙ ap (λ (k : ℕ). amount_field (codes "4U") k ++ n.0.1) same.0) in
+    ∙ (ap (λ (t : List ℕ). field (codes "4U") [] ++ t) taken.0
+    ∙ ap (λ (k : ℕ). amount_field (codes "4U") k ++ n.0.1) same.0) in
     subst (λ (y : ℕ × List ℕ). (bs ≡ coinsurance_field y.0 ++ y.1) × IsAmount y.0) (some_same m.2)
     (text ∙ ap (λ (t : List ℕ). t ++ n.0.1) (sym spelt), omega (arith, taken.1, same.0))
 
@@ -65,10 +66,12 @@ unfolding after
 no_coinsurance [] ends = refl
 no_coinsurance (b ∷ bs) ends = rw ends refl
 
-coinsurance_again : (n : ℕ) (rest : List ℕ) → IsAmount n → Ends rest → coinsurance_at (coinsurance_field n ++ rest) ≡ Some (n, rest)
+coinsurance_again : (n : ℕ) (rest : List ℕ) → IsAmount n → Ends rest
+    → coinsurance_at (coinsurance_field n ++ rest) ≡ Some (n, rest)
 unfolding coinsurance_at
 coinsurance_again n rest fits ends = elim (cases_Bool (eqb n 0)) [
-  | inl nothing ↦ rw (eqb-true n 0 nothing) (ap (λ (o : Option (List ℕ)). coinsurance_behind o rest) (no_coinsurance rest ends))
+  | inl nothing ↦ rw (eqb-true n 0 nothing)
+      (ap (λ (o : Option (List ℕ)). coinsurance_behind o rest) (no_coinsurance rest ends))
   | inr something ↦ rw something
       (ap (λ (o : Option (List ℕ)). coinsurance_behind o (amount_field (codes "4U") n ++ rest))
       (after_again (field (codes "4U") []) (signed_text (pos n) ++ rest))
@@ -94,12 +97,15 @@ IsPrice p = ((IsAmount p.patient_pay × IsAmount p.ingredient_cost) × IsAmount 
 price-reads : Reads price_at price_text IsPrice Always
 unfolding price_at
 price-reads =
-    made-reads (λ x. Some (record { patient_pay = x.0.0.0; ingredient_cost = x.0.0.1; dispensing_fee = x.0.1; total_paid = x.1 }))
+    shaped-reads
+    (λ x. record { patient_pay = x.0.0.0; ingredient_cost = x.0.0.1; dispensing_fee = x.0.1; total_paid = x.1 })
     (λ p. (((p.patient_pay, p.ingredient_cost), p.dispensing_fee), p.total_paid)) price_text IsPrice
-    (pair-reads (pair-reads (pair-reads (amount-reads (field (codes "F5") [])) (amount-reads (field (codes "F6") [])))
-    (amount-reads (field (codes "F7") []))) (amount-reads (field (codes "F9") [])))
-    (λ a b fits e. subst (λ (p : Price). (price_text (record { patient_pay = a.0.0.0; ingredient_cost = a.0.0.1; dispensing_fee = a.0.1; total_paid = a.1 }) ≡ price_text p) × IsPrice p) (some_same e) (refl, fits))
-    (λ b fits. (refl, fits, refl))
+    (pair-reads
+    (pair-reads
+    (pair-reads (amount-reads (field (codes "F5") [])) (amount-reads (field (codes "F6") [])))
+    (amount-reads (field (codes "F7") [])))
+    (amount-reads (field (codes "F9") [])))
+    (λ a fits. (refl, fits)) (λ p fits. (refl, fits, refl))
 
 abbrev share_text : Share → List ℕ
 share_text s =
@@ -111,11 +117,12 @@ IsShare s = (IsAmount s.deductible × IsAmount s.copay) × IsAmount s.coinsuranc
 share-reads : Reads share_at share_text IsShare Ends
 unfolding share_at
 share-reads =
-    made-reads (λ x. Some (record { deductible = x.0.0; copay = x.0.1; coinsurance = x.1 }))
+    shaped-reads (λ x. record { deductible = x.0.0; copay = x.0.1; coinsurance = x.1 })
     (λ s. ((s.deductible, s.copay), s.coinsurance)) share_text IsShare
-    (pair-reads (pair-reads (amount-reads (field (codes "FH") [])) (amount-reads (field (codes "FI") []))) coinsurance-reads)
-    (λ a b fits e. subst (λ (s : Share). (share_text (record { deductible = a.0.0; copay = a.0.1; coinsurance = a.1 }) ≡ share_text s) × IsShare s) (some_same e) (refl, fits))
-    (λ b fits. (refl, fits, refl))
+    (pair-reads
+    (pair-reads (amount-reads (field (codes "FH") [])) (amount-reads (field (codes "FI") [])))
+    coinsurance-reads)
+    (λ a fits. (refl, fits)) (λ s fits. (refl, fits, refl))
 
 abbrev pub amounts_text : Amounts → List ℕ
 amounts_text a =
@@ -134,7 +141,8 @@ amounts_text_by : (p : Price) (s : Share) (f5 f9 : ℕ) → p.patient_pay ≡ f5
     ++ amount_field (codes "FH") s.deductible ++ amount_field (codes "FI") s.copay ++ coinsurance_field s.coinsurance
 amounts_text_by p s f5 f9 is5 is9 =
     rw (← is5, ← is9)
-    (regrouped (price_text p) (amount_field (codes "FH") s.deductible) (amount_field (codes "FI") s.copay) (coinsurance_field s.coinsurance))
+    (regrouped (price_text p) (amount_field (codes "FH") s.deductible) (amount_field (codes "FI") s.copay)
+    (coinsurance_field s.coinsurance))
 
 abbrev priced_back : Amounts → Price × Share
 priced_back a = (
@@ -142,11 +150,13 @@ priced_back a = (
   record { deductible = a.deductible; copay = a.copay; coinsurance = a.coinsurance },
 )
 
-priced_is : (x : Price × Share) (a : Amounts) → priced x ≡ Some a → (price_text x.0 ++ share_text x.1 ≡ amounts_text a) × IsPriced a
+priced_is : (x : Price × Share) (a : Amounts) → priced x ≡ Some a
+    → (price_text x.0 ++ share_text x.1 ≡ amounts_text a) × IsPriced a
 priced_is x a e =
     let p = bind_some (pricing_of (amounts_of x)) (summed x.0) a e in
     let within = guarded (is_priced (amounts_of x)) (Some (amounts_of x)) p.0 p.1 in
-    let sums = guarded (nat_eq x.0.patient_pay (patient_pay p.0) && nat_eq x.0.total_paid (total_paid p.0)) (Some p.0) a p.2 in
+    let sums = guarded (nat_eq x.0.patient_pay (patient_pay p.0) && nat_eq x.0.total_paid (total_paid p.0))
+    (Some p.0) a p.2 in
     let parts = and_parts (nat_eq x.0.patient_pay (patient_pay p.0)) (nat_eq x.0.total_paid (total_paid p.0)) sums.0 in
     let is : amounts_of x ≡ p.0 = some_same within.1 in
     let same : amounts_of x ≡ a = is ∙ some_same sums.1 in
@@ -173,13 +183,20 @@ unfolding pricing_at
 pricing-reads =
     made-reads priced priced_back amounts_text IsPriced (pair-reads price-reads share-reads)
     (λ x a fits e. priced_is x a e)
-    (λ a h. (priced_again a h, small_amounts a h, sym (amounts_text_by (priced_back a).0 (priced_back a).1 (patient_pay a) (total_paid a) refl refl)))
+    (λ a h. (
+      priced_again a h,
+      small_amounts a h,
+      sym
+          (amounts_text_by (priced_back a).0 (priced_back a).1 (patient_pay a) (total_paid a) refl refl),
+    ))
 
 -- ---- segments 21 and 22
 
 -- the same limits in other words
-refit : {A : Type 0} {read : List ℕ → Option (A × List ℕ)} {text : A → List ℕ} {Fits : A → Type 0} {Ends : List ℕ → Type 0} (Fits' : A → Type 0)
-    → Reads read text Fits Ends → ((v : A) → Fits v → Fits' v) → ((v : A) → Fits' v → Fits v) → Reads read text Fits' Ends
+refit : {A : Type 0} {read : List ℕ → Option (A × List ℕ)} {text : A → List ℕ} {Fits : A → Type 0}
+    {Ends : List ℕ → Type 0} (Fits' : A → Type 0)
+    → Reads read text Fits Ends → ((v : A) → Fits v → Fits' v) → ((v : A) → Fits' v → Fits v)
+    → Reads read text Fits' Ends
 refit Fits' h forth over = record {
   takes = λ bs x e. let taken = h.takes bs x e in (taken.0, forth x.0 taken.1);
   again = λ v rest fits ends. h.again v rest (over v fits) ends;
@@ -192,7 +209,8 @@ authorization-reads =
     (λ v fits. fits.1) (λ v fits. (omega arith, fits))
 
 number_of_reference : Reads (number_at 0 999999999999 12) (digits_text 12) IsReference Always
-number_of_reference = refit IsReference (number-reads 0 999999999999 12 (lit< tt)) (λ v fits. fits.1) (λ v fits. (omega arith, fits))
+number_of_reference = refit IsReference (number-reads 0 999999999999 12 (lit< tt)) (λ v fits. fits.1)
+    (λ v fits. (omega arith, fits))
 
 reference-reads : Reads reference_at reference_segment IsReference Always
 unfolding reference_at
@@ -201,7 +219,8 @@ reference-reads = labelled-reads reference_label number_of_reference
 known_takes : (bs : List ℕ) (o : Option (List ℕ)) (x : Option ℕ × List ℕ) → after reference_label bs ≡ o
     → reference_behind o bs ≡ Some x → (bs ≡ known_reference x.0 ++ x.1) × IfSome x.0 IsReference
 known_takes bs None x is e =
-    subst (λ (y : Option ℕ × List ℕ). (bs ≡ known_reference y.0 ++ y.1) × IfSome y.0 IsReference) (some_same e) (refl, tt)
+    subst (λ (y : Option ℕ × List ℕ). (bs ≡ known_reference y.0 ++ y.1) × IfSome y.0 IsReference) (some_same e)
+    (refl, tt)
 known_takes bs (Some rest) x is e =
     let n = bind_some (number_at 0 999999999999 12 rest) (λ a. Some (Some a.0, a.1)) x e in
     let taken = number_of_reference.takes rest n.0 n.1 in
@@ -213,11 +232,13 @@ unfolding after
 no_reference [] ends = refl
 no_reference (b ∷ bs) ends = rw ends refl
 
-known_again : (o : Option ℕ) (rest : List ℕ) → IfSome o IsReference → Ends rest → known_at (known_reference o ++ rest) ≡ Some (o, rest)
+known_again : (o : Option ℕ) (rest : List ℕ) → IfSome o IsReference → Ends rest
+    → known_at (known_reference o ++ rest) ≡ Some (o, rest)
 unfolding known_at
 known_again None rest fits ends = ap (λ (o : Option (List ℕ)). reference_behind o rest) (no_reference rest ends)
 known_again (Some r) rest fits ends =
-    ap (λ (o : Option (List ℕ)). reference_behind o (reference_segment r ++ rest)) (after_again reference_label (digits_text 12 r ++ rest))
+    ap (λ (o : Option (List ℕ)). reference_behind o (reference_segment r ++ rest))
+    (after_again reference_label (digits_text 12 r ++ rest))
     ∙ chain (number_at 0 999999999999 12 (digits_text 12 r ++ rest)) (λ a. Some (Some a.0, a.1)) (r, rest)
     (number_of_reference.again r rest fits tt) refl
 
@@ -246,7 +267,8 @@ any_codes (c ∷ cs) = (tt, any_codes cs)
 abbrev Counted : ℕ → List Code → Type 0
 Counted n cs = AreCodes cs × (length cs ≡ n)
 
-codes_is : (n : ℕ) (a b : List Code) → length a ≡ n → codes_of a ≡ Some b → (flat_map code_field a ≡ flat_map code_field b) × Counted n b
+codes_is : (n : ℕ) (a b : List Code) → length a ≡ n → codes_of a ≡ Some b
+    → (flat_map code_field a ≡ flat_map code_field b) × Counted n b
 codes_is n a b len e =
     let g = guarded (nat_le 1 (length a) && nat_le (length a) 5) (Some a) b e in
     let parts = and_parts (nat_le 1 (length a)) (nat_le (length a) 5) g.0 in
@@ -265,23 +287,29 @@ counted-reads n =
 abbrev pub codes_body : List Code → List ℕ
 codes_body cs = field (codes "FA") (digits_text 2 (length cs)) ++ flat_map code_field cs
 
-count-reads : Reads (labelled (field (codes "FA") []) (number_at 1 5 2)) (λ n. field (codes "FA") (digits_text 2 n)) (λ n. (1 ≤ n) × (n ≤ 5)) Always
+count-reads : Reads (labelled (field (codes "FA") []) (number_at 1 5 2))
+    (λ n. field (codes "FA") (digits_text 2 n)) (λ n. (1 ≤ n) × (n ≤ 5)) Always
 count-reads = labelled-reads (field (codes "FA") []) (number-reads 1 5 2 (lit< tt))
 
 pub codes-reads : Reads codes_at codes_body AreCodes Always
 unfolding codes_at
 codes-reads = record {
   takes = λ bs x e.
-      let n = bind_some (labelled (field (codes "FA") []) (number_at 1 5 2) bs) (λ count. made codes_of (times code_at count.0) count.1) x e in
+      let n = bind_some (labelled (field (codes "FA") []) (number_at 1 5 2) bs)
+      (λ count. made codes_of (times code_at count.0) count.1) x e in
       let one = count-reads.takes bs n.0 n.1 in
       let more = (counted-reads n.0.0).takes n.0.1 x n.2 in
       let text : bs ≡ (field (codes "FA") (digits_text 2 n.0.0) ++ flat_map code_field x.0) ++ x.1 =
       one.0 ∙ (ap (λ (t : List ℕ). field (codes "FA") (digits_text 2 n.0.0) ++ t) more.0
-      ∙ sym (append_assoc (field (codes "FA") (digits_text 2 n.0.0)) (flat_map code_field x.0) x.1)) in
-      (text ∙ ap (λ (k : ℕ). (field (codes "FA") (digits_text 2 k) ++ flat_map code_field x.0) ++ x.1) (sym more.1.1), more.1.0);
+      ∙ sym (append_assoc (field (codes "FA") (digits_text 2 n.0.0)) (flat_map code_field x.0) x.1)) in (
+        text ∙ ap (λ (k : ℕ). (field (codes "FA") (digits_text 2 k) ++ flat_map code_field x.0) ++ x.1)
+            (sym more.1.1),
+        more.1.0,
+      );
   again = λ cs rest fits ends.
       ap codes_at (append_assoc (field (codes "FA") (digits_text 2 (length cs))) (flat_map code_field cs) rest)
-      ∙ chain (labelled (field (codes "FA") []) (number_at 1 5 2) (field (codes "FA") (digits_text 2 (length cs)) ++ (flat_map code_field cs ++ rest)))
+      ∙ chain (labelled (field (codes "FA") []) (number_at 1 5 2)
+      (field (codes "FA") (digits_text 2 (length cs)) ++ (flat_map code_field cs ++ rest)))
       (λ count. made codes_of (times code_at count.0) count.1) (length cs, flat_map code_field cs ++ rest)
       (count-reads.again (length cs) (flat_map code_field cs ++ rest) (fits.some, fits.few) tt)
       ((counted-reads (length cs)).again cs rest (fits, refl) tt);
@@ -290,16 +318,19 @@ codes-reads = record {
 -- ---- answers
 
 abbrev paid_body : Paid → List ℕ
-paid_body p = (field (codes "F3") (digits_text 15 p.number) ++ reference_segment p.reference) ++ amounts_segment p.pricing
+paid_body p =
+    (field (codes "F3") (digits_text 15 p.number) ++ reference_segment p.reference) ++ amounts_segment p.pricing
 
 paid_claim-reads : Reads paid_claim_at paid_body IsPaid Ends
 unfolding paid_claim_at
 paid_claim-reads =
-    made-reads (λ x. Some (record { number = x.0.0; reference = x.0.1; pricing = x.1 })) (λ p. ((p.number, p.reference), p.pricing)) paid_body IsPaid
-    (pair-reads (pair-reads authorization-reads reference-reads) (labelled-reads (segment (codes "23") []) pricing-reads))
-    (λ a b fits e. subst (λ (p : Paid). (paid_body (record { number = a.0.0; reference = a.0.1; pricing = a.1 }) ≡ paid_body p) × IsPaid p) (some_same e)
-    (refl, record { number = fits.0.0; reference = fits.0.1; pricing = fits.1 }))
-    (λ b fits. (refl, ((fits.number, fits.reference), fits.pricing), refl))
+    shaped-reads (λ x. record { number = x.0.0; reference = x.0.1; pricing = x.1 })
+    (λ p. ((p.number, p.reference), p.pricing)) paid_body IsPaid
+    (pair-reads
+    (pair-reads authorization-reads reference-reads)
+    (labelled-reads (segment (codes "23") []) pricing-reads))
+    (λ a fits. (refl, record { number = fits.0.0; reference = fits.0.1; pricing = fits.1 }))
+    (λ p fits. (refl, ((fits.number, fits.reference), fits.pricing), refl))
 
 abbrev approved_body : Approved → List ℕ
 approved_body a =
@@ -309,11 +340,13 @@ approved_body a =
 approved-reads : Reads approved_at approved_body IsApproved Always
 unfolding approved_at
 approved-reads =
-    made-reads (λ x. Some (record { number = x.0.0; reference = x.0.1; total_paid = x.1 })) (λ a. ((a.number, a.reference), a.total_paid)) approved_body IsApproved
-    (pair-reads (pair-reads authorization-reads reference-reads) (labelled-reads (segment (codes "23") (field (codes "F9") [])) reversed-reads))
-    (λ a b fits e. subst (λ (p : Approved). (approved_body (record { number = a.0.0; reference = a.0.1; total_paid = a.1 }) ≡ approved_body p) × IsApproved p) (some_same e)
-    (refl, record { number = fits.0.0; reference = fits.0.1; total_paid = fits.1 }))
-    (λ b fits. (refl, ((fits.number, fits.reference), fits.total_paid), refl))
+    shaped-reads (λ x. record { number = x.0.0; reference = x.0.1; total_paid = x.1 })
+    (λ a. ((a.number, a.reference), a.total_paid)) approved_body IsApproved
+    (pair-reads
+    (pair-reads authorization-reads reference-reads)
+    (labelled-reads (segment (codes "23") (field (codes "F9") [])) reversed-reads))
+    (λ a fits. (refl, record { number = fits.0.0; reference = fits.0.1; total_paid = fits.1 }))
+    (λ a fits. (refl, ((fits.number, fits.reference), fits.total_paid), refl))
 
 abbrev refused_body : Refused → List ℕ
 refused_body r = codes_body r.codes ++ known_reference r.reference
@@ -321,11 +354,10 @@ refused_body r = codes_body r.codes ++ known_reference r.reference
 refused-reads : Reads refused_at refused_body IsRefused Ends
 unfolding refused_at
 refused-reads =
-    made-reads (λ x. Some (record { codes = x.0; reference = x.1 })) (λ r. (r.codes, r.reference)) refused_body IsRefused
+    shaped-reads (λ x. record { codes = x.0; reference = x.1 }) (λ r. (r.codes, r.reference)) refused_body IsRefused
     (pair-reads codes-reads known-reads)
-    (λ a b fits e. subst (λ (p : Refused). (refused_body (record { codes = a.0; reference = a.1 }) ≡ refused_body p) × IsRefused p) (some_same e)
-    (refl, record { codes = fits.0; reference = fits.1 }))
-    (λ b fits. (refl, (fits.codes, fits.reference), refl))
+    (λ a fits. (refl, record { codes = fits.0; reference = fits.1 }))
+    (λ r fits. (refl, (fits.codes, fits.reference), refl))
 
 -- what stands behind AN
 abbrev answer_body : Answer → List ℕ
@@ -343,22 +375,27 @@ answer_parts (answer.Twice p) = refl
 answer_parts (answer.Approved a) = refl
 answer_parts (answer.Refused r) = refl
 
-pub chosen : {A : Type 0} (b : Bool) (r s : Option A) (x : A) → cond b r s ≡ Some x → ((b ≡ true) × (r ≡ Some x)) ⊎ ((b ≡ false) × (s ≡ Some x))
+pub chosen : {A : Type 0} (b : Bool) (r s : Option A) (x : A) → cond b r s ≡ Some x
+    → ((b ≡ true) × (r ≡ Some x)) ⊎ ((b ≡ false) × (s ≡ Some x))
 chosen true r s x e = inl (refl, e)
 chosen false r s x e = inr (refl, e)
 
 abbrev IsSpelt : List ℕ → Answer × List ℕ → Type 0
 IsSpelt bs x = (bs ≡ answer_body x.0 ++ x.1) × IsAnswer x.0
 
-wrapped : {A : Type 0} {read : List ℕ → Option (A × List ℕ)} {text : A → List ℕ} {Fits : A → Type 0} {End : List ℕ → Type 0}
-    (wrap : A → Answer) (status : ℕ) → Reads read text Fits End → ((a : A) → answer_body (wrap a) ≡ status ∷ text a) → ((a : A) → Fits a → IsAnswer (wrap a))
-    → (b : ℕ) (bs : List ℕ) (x : Answer × List ℕ) → eqb b status ≡ true → made (λ a. Some (wrap a)) read bs ≡ Some x → IsSpelt (b ∷ bs) x
+wrapped : {A : Type 0} {read : List ℕ → Option (A × List ℕ)} {text : A → List ℕ} {Fits : A → Type 0}
+    {End : List ℕ → Type 0}
+    (wrap : A → Answer) (status : ℕ) → Reads read text Fits End
+    → ((a : A) → answer_body (wrap a) ≡ status ∷ text a) → ((a : A) → Fits a → IsAnswer (wrap a))
+    → (b : ℕ) (bs : List ℕ) (x : Answer × List ℕ) → eqb b status ≡ true
+    → made (λ a. Some (wrap a)) read bs ≡ Some x → IsSpelt (b ∷ bs) x
 wrapped {A} {read} {text} {Fits} {End} wrap status h body fits b bs x is e =
     let a = bind_some (read bs) (λ a. Some (wrap a.0, a.1)) x e in
     let taken = h.takes bs a.0 a.1 in
     let front : b ≡ status = eqb-true b status is in
     subst (IsSpelt (b ∷ bs)) (some_same a.2) (
-      ap (λ (t : List ℕ). b ∷ t) taken.0 ∙ (ap (λ (c : ℕ). c ∷ (text a.0.0 ++ a.0.1)) front ∙ ap (λ (t : List ℕ). t ++ a.0.1) (sym (body a.0.0))),
+      ap (λ (t : List ℕ). b ∷ t) taken.0
+          ∙ (ap (λ (c : ℕ). c ∷ (text a.0.0 ++ a.0.1)) front ∙ ap (λ (t : List ℕ). t ++ a.0.1) (sym (body a.0.0))),
       fits a.0.0 taken.1,
     )
 
@@ -378,21 +415,27 @@ status_takes (b ∷ bs) x e = elim (chosen (eqb b 80) _ _ x e) [
   ]
 ]
 
-status_again : (a : Answer) (rest : List ℕ) → IsAnswer a → Ends rest → behind_status (answer_body a ++ rest) ≡ Some (a, rest)
+status_again : (a : Answer) (rest : List ℕ) → IsAnswer a → Ends rest
+    → behind_status (answer_body a ++ rest) ≡ Some (a, rest)
 status_again (answer.Paid p) rest fits ends =
-    chain (paid_claim_at (paid_body p ++ rest)) (λ a. Some (answer.Paid a.0, a.1)) (p, rest) (paid_claim-reads.again p rest fits ends) refl
+    chain (paid_claim_at (paid_body p ++ rest)) (λ a. Some (answer.Paid a.0, a.1)) (p, rest)
+    (paid_claim-reads.again p rest fits ends) refl
 status_again (answer.Twice p) rest fits ends =
-    chain (paid_claim_at (paid_body p ++ rest)) (λ a. Some (answer.Twice a.0, a.1)) (p, rest) (paid_claim-reads.again p rest fits ends) refl
+    chain (paid_claim_at (paid_body p ++ rest)) (λ a. Some (answer.Twice a.0, a.1)) (p, rest)
+    (paid_claim-reads.again p rest fits ends) refl
 status_again (answer.Approved a) rest fits ends =
-    chain (approved_at (approved_body a ++ rest)) (λ a. Some (answer.Approved a.0, a.1)) (a, rest) (approved-reads.again a rest fits tt) refl
+    chain (approved_at (approved_body a ++ rest)) (λ a. Some (answer.Approved a.0, a.1)) (a, rest)
+    (approved-reads.again a rest fits tt) refl
 status_again (answer.Refused r) rest fits ends =
-    chain (refused_at (refused_body r ++ rest)) (λ a. Some (answer.Refused a.0, a.1)) (r, rest) (refused-reads.again r rest fits ends) refl
+    chain (refused_at (refused_body r ++ rest)) (λ a. Some (answer.Refused a.0, a.1)) (r, rest)
+    (refused-reads.again r rest fits ends) refl
 
 status-reads : Reads behind_status answer_body IsAnswer Ends
 status-reads = record { takes = status_takes; again = status_again }
 
 -- the same text in other words
-respell : {A : Type 0} {read : List ℕ → Option (A × List ℕ)} {text : A → List ℕ} {Fits : A → Type 0} {End : List ℕ → Type 0} (text' : A → List ℕ)
+respell : {A : Type 0} {read : List ℕ → Option (A × List ℕ)} {text : A → List ℕ} {Fits : A → Type 0}
+    {End : List ℕ → Type 0} (text' : A → List ℕ)
     → Reads read text Fits End → ((v : A) → text' v ≡ text v) → Reads read text' Fits End
 respell {A} {read} text' h same = record {
   takes = λ bs x e. let taken = h.takes bs x e in (taken.0 ∙ ap (λ (t : List ℕ). t ++ x.1) (sym (same x.0)), taken.1);

@@ -44,7 +44,8 @@ last_of_list bs n len =
     sym whole ∙ take_more bs n 0 (omega arith)
 
 -- digits are the text of their number
-digits_text-of_number : (bs : List ℕ) (n : ℕ) → length bs ≡ n → all_digits bs ≡ true → (digits_text n (number bs) ≡ bs) × (number bs < 10 ^ n)
+digits_text-of_number : (bs : List ℕ) (n : ℕ) → length bs ≡ n → all_digits bs ≡ true
+    → (digits_text n (number bs) ≡ bs) × (number bs < 10 ^ n)
 unfolding digits_text
 digits_text-of_number [] zero len digits = (refl, omega arith)
 digits_text-of_number (b ∷ bs) zero len digits = absurd (omega arith)
@@ -74,8 +75,16 @@ digits-reads n = record {
       (rw text.0 (sym (take-append-drop n bs)), text.1);
   again = λ v rest lt ends.
       let len = length-digits_text n v in
-      let long : nat_le n (length (digits_text n v ++ rest)) ≡ true = le-leb n _ (omega (arith, length-append (digits_text n v) rest)) in
-      rw (long, take_at (digits_text n v) rest n len, drop_at (digits_text n v) rest n len, digits_text-all n v, digits_text-number n v lt) refl;
+      let long : nat_le n (length (digits_text n v ++ rest)) ≡ true = le-leb n _
+      (omega (arith, length-append (digits_text n v) rest)) in
+      rw (
+        long,
+        take_at (digits_text n v) rest n len,
+        drop_at
+            (digits_text n v) rest n len,
+        digits_text-all n v,
+        digits_text-number n v lt,
+      ) refl;
 }
 
 -- the number is within bounds, and itself
@@ -89,7 +98,8 @@ bounded_is low high n m e =
 pub bounded_again : (low high n : ℕ) → low ≤ n → n ≤ high → bounded low high n ≡ Some n
 bounded_again low high n ge le = rw (le-leb low n ge, le-leb n high le) refl
 
-pub number-reads : (low high n : ℕ) → high < 10 ^ n → Reads (number_at low high n) (digits_text n) (λ v. (low ≤ v) × (v ≤ high)) Always
+pub number-reads : (low high n : ℕ) → high < 10 ^ n
+    → Reads (number_at low high n) (digits_text n) (λ v. (low ≤ v) × (v ≤ high)) Always
 unfolding number_at
 number-reads low high n small =
     made-reads (bounded low high) (λ v. v) (digits_text n) (λ v. (low ≤ v) × (v ≤ high)) (digits-reads n)
@@ -98,7 +108,8 @@ number-reads low high n small =
 
 -- ---- amounts
 
-spelt_takes : (bs : List ℕ) (r : Result ℤ FieldFault) (x : ℤ × List ℕ) → spelt bs r ≡ Some x → bs ≡ signed_text x.0 ++ x.1
+spelt_takes : (bs : List ℕ) (r : Result ℤ FieldFault) (x : ℤ × List ℕ) → spelt bs r ≡ Some x
+    → bs ≡ signed_text x.0 ++ x.1
 spelt_takes bs (Err f) x e = absurd cc
 spelt_takes bs (Ok z) x e =
     let g = guarded (pointwise nat_eq (take 8 bs) (signed_text z)) (Some (z, drop 8 bs)) x e in
@@ -108,7 +119,8 @@ spelt_takes bs (Ok z) x e =
 
 signed_takes : (bs : List ℕ) (x : ℤ × List ℕ) → signed_at bs ≡ Some x → bs ≡ signed_text x.0 ++ x.1
 unfolding signed_at
-signed_takes bs x e = spelt_takes bs (signed_of (take 8 bs)) x (guarded (nat_le 8 (length bs)) (spelt bs (signed_of (take 8 bs))) x e).1
+signed_takes bs x e = spelt_takes bs (signed_of (take 8 bs)) x
+    (guarded (nat_le 8 (length bs)) (spelt bs (signed_of (take 8 bs))) x e).1
 
 length-signed_text : (z : ℤ) → length (signed_text z) ≡ 8
 unfolding signed_text
@@ -119,7 +131,8 @@ length-signed_text z =
       length-digits_text 7 (unsigned_abs z / 10),
     )
 
-signed_at_text : (z : ℤ) (text rest : List ℕ) → length text ≡ 8 → signed_of text ≡ Ok z → text ≡ signed_text z → signed_at (text ++ rest) ≡ Some (z, rest)
+signed_at_text : (z : ℤ) (text rest : List ℕ) → length text ≡ 8 → signed_of text ≡ Ok z → text ≡ signed_text z
+    → signed_at (text ++ rest) ≡ Some (z, rest)
 unfolding signed_at
 signed_at_text z text rest len value is =
     let long : nat_le 8 (length (text ++ rest)) ≡ true = le-leb 8 _ (omega (arith, length-append text rest)) in
@@ -133,7 +146,8 @@ signed_at_text z text rest len value is =
     ∙ ap (λ (t : List ℕ). Some (z, t)) (drop_at text rest 8 len))))
 
 -- amounts of one sign
-signed-reads : (make : ℤ → Option ℕ) (back : ℕ → ℤ) → ((z : ℤ) (n : ℕ) → make z ≡ Some n → (z ≡ back n) × (n ≤ 99999999))
+signed-reads : (make : ℤ → Option ℕ) (back : ℕ → ℤ)
+    → ((z : ℤ) (n : ℕ) → make z ≡ Some n → (z ≡ back n) × (n ≤ 99999999))
     → ((n : ℕ) → n ≤ 99999999 → (make (back n) ≡ Some n) × (unsigned_abs (back n) ≤ 99999999))
     → Reads (made make signed_at) (λ n. signed_text (back n)) (λ n. n ≤ 99999999) Always
 signed-reads make back forth over = record {
@@ -146,7 +160,8 @@ signed-reads make back forth over = record {
   again = λ n rest le ends.
       let from = over n le in
       chain (signed_at (signed_text (back n) ++ rest)) (λ z. make z.0 >>= λ n. Some (n, z.1)) (back n, rest)
-      (signed_at_text (back n) (signed_text (back n)) rest (length-signed_text (back n)) (signed_again (back n) from.1) refl)
+      (signed_at_text (back n) (signed_text (back n)) rest (length-signed_text (back n))
+      (signed_again (back n) from.1) refl)
       (chain (make (back n)) (λ n. Some (n, rest)) n from.0 refl);
 }
 
@@ -165,7 +180,8 @@ reversed_is (pos (suc m)) n e = absurd cc
 reversed_is (negsuc m) n e =
     let is = bounded_is 0 99999999 (suc m) n e in (ap (λ (k : ℕ). neg_ℤ (pos k)) is.0, is.2)
 
-reversed_again : (n : ℕ) → n ≤ 99999999 → (reversed_of (neg_ℤ (pos n)) ≡ Some n) × (unsigned_abs (neg_ℤ (pos n)) ≤ 99999999)
+reversed_again : (n : ℕ) → n ≤ 99999999
+    → (reversed_of (neg_ℤ (pos n)) ≡ Some n) × (unsigned_abs (neg_ℤ (pos n)) ≤ 99999999)
 reversed_again zero le = (refl, le)
 reversed_again (suc n) le = (bounded_again 0 99999999 (suc n) (omega arith) le, le)
 

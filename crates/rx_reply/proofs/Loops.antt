@@ -5,7 +5,8 @@ use Rattle.rx_reply.specs.Readers.{◌>>=◌, after, behind, times}
 
 -- ---- copies of a text
 
-pub behind_goes_on : (text bytes rest : List ℕ) (count i : ℕ) {total : Option (List ℕ)} → i < count → Some rest ≡ after text bytes
+pub behind_goes_on : (text bytes rest : List ℕ) (count i : ℕ) {total : Option (List ℕ)} → i < count
+    → Some rest ≡ after text bytes
     → behind (count - i) text bytes ≡ total → behind (count - (i + 1)) text rest ≡ total
 unfolding behind
 behind_goes_on text bytes rest count i lt read so_far =
@@ -37,9 +38,11 @@ regroup : {A : Type 0} (front : List A) (x : A) (read : Option (List A × List �
 regroup front x None = refl
 regroup {A} front x (Some more) = ap (λ (xs : List A). Some (xs, more.1)) (sym (append_assoc front (x ∷ []) more.0))
 
-pub times_goes_on : {A : Type 0} (read : List ℕ → Option (A × List ℕ)) (front : List A) (bytes : List ℕ) (x : A) (rest : List ℕ)
+pub times_goes_on : {A : Type 0} (read : List ℕ → Option (A × List ℕ)) (front : List A) (bytes : List ℕ) (x : A)
+    (rest : List ℕ)
     (count i : ℕ) {total : Option (List A × List ℕ)} → i < count → Some (x, rest) ≡ read bytes
-    → with_front front (times read (count - i) bytes) ≡ total → with_front (front ++ x ∷ []) (times read (count - (i + 1)) rest) ≡ total
+    → with_front front (times read (count - i) bytes) ≡ total
+    → with_front (front ++ x ∷ []) (times read (count - (i + 1)) rest) ≡ total
 unfolding times
 times_goes_on read front bytes x rest count i lt one so_far =
     let left : count - i ≡ suc (count - (i + 1)) = omega arith in

@@ -24,7 +24,7 @@ use Rattle.rx_reply.specs.Text.{group_text, answers_of, status_of, header_text, 
 use Rattle.rx_reply.specs.Limits.{IsHeader, AreCodes, IsAnswer, IsOutcome, IsReply}
 use Rattle.rx_reply.specs.Readers.{◌>>=◌, after, times, behind}
 use Rattle.rx_reply.specs.Reading.{group_at, status_at, front_at, back_at, header_of, header_at, alone, heard_of, heard_in, refusal_label, refusal_at, is_nothing, are_copies, rejected_in, outcome_in, reply_in}
-use Rattle.rx_reply.proofs.Laws.{bind_some, guarded, some_same, chain, after_takes, after_again, Reads, Always, labelled-reads, pair-reads, made-reads, times-reads}
+use Rattle.rx_reply.proofs.Laws.{bind_some, guarded, some_same, chain, after_takes, after_again, Reads, Always, labelled-reads, pair-reads, made-reads, shaped-reads, times-reads}
 use Rattle.rx_reply.proofs.FieldLaws.{bytes-reads, number-reads}
 use Rattle.rx_reply.proofs.AnswerLaws.{Ends, group-reads, codes_body, codes-reads, chosen, regrouped}
 
@@ -68,11 +68,12 @@ IsFront f = (((length f.version ≡ 2) × (length f.code ≡ 2)) × ((1 ≤ f.co
 front-reads : Reads front_at front_text IsFront Always
 unfolding front_at
 front-reads =
-    made-reads (λ x. Some (record { version = x.0.0.0; code = x.0.0.1; count = x.0.1; status = x.1 }))
+    shaped-reads (λ x. record { version = x.0.0.0; code = x.0.0.1; count = x.0.1; status = x.1 })
     (λ f. (((f.version, f.code), f.count), f.status)) front_text IsFront
-    (pair-reads (pair-reads (pair-reads (bytes-reads 2) (bytes-reads 2)) (number-reads 1 4 1 (lit< tt))) status-reads)
-    (λ a b fits e. subst (λ (f : Front). (front_text (record { version = a.0.0.0; code = a.0.0.1; count = a.0.1; status = a.1 }) ≡ front_text f) × IsFront f) (some_same e) (refl, fits))
-    (λ b fits. (refl, fits, refl))
+    (pair-reads
+    (pair-reads (pair-reads (bytes-reads 2) (bytes-reads 2)) (number-reads 1 4 1 (lit< tt)))
+    status-reads)
+    (λ a fits. (refl, fits)) (λ f fits. (refl, fits, refl))
 
 abbrev back_text : Back → List ℕ
 back_text b = (b.qualifier ++ b.provider) ++ b.date
@@ -83,11 +84,10 @@ IsBack b = ((length b.qualifier ≡ 2) × (length b.provider ≡ 15)) × (length
 back-reads : Reads back_at back_text IsBack Always
 unfolding back_at
 back-reads =
-    made-reads (λ x. Some (record { qualifier = x.0.0; provider = x.0.1; date = x.1 }))
+    shaped-reads (λ x. record { qualifier = x.0.0; provider = x.0.1; date = x.1 })
     (λ b. ((b.qualifier, b.provider), b.date)) back_text IsBack
     (pair-reads (pair-reads (bytes-reads 2) (bytes-reads 15)) (bytes-reads 8))
-    (λ a b fits e. subst (λ (f : Back). (back_text (record { qualifier = a.0.0; provider = a.0.1; date = a.1 }) ≡ back_text f) × IsBack f) (some_same e) (refl, fits))
-    (λ b fits. (refl, fits, refl))
+    (λ a fits. (refl, fits)) (λ b fits. (refl, fits, refl))
 
 abbrev spelt_header : Header → List ℕ
 spelt_header h = header_text h.echo h.count (status_text h.status)
@@ -105,10 +105,12 @@ parts_of x =
 header_is : (x : Front × Back) (h : Header) → IsFront x.0 × IsBack x.1 → header_of x ≡ Some h
     → (front_text x.0 ++ back_text x.1 ≡ spelt_header h) × IsCounted h
 header_is x h fits e =
-    let echo = bind_some (echo_of (parts_of x)) (λ echo. Some (record { echo = echo; count = x.0.count; status = x.0.status })) h e in
+    let echo = bind_some (echo_of (parts_of x))
+    (λ echo. Some (record { echo = echo; count = x.0.count; status = x.0.status })) h e in
     let printable = guarded (is_echo (parts_of x)) (Some (parts_of x)) echo.0 echo.1 in
     let same : record { echo = parts_of x; count = x.0.count; status = x.0.status } ≡ h =
-    ap (λ (p : EchoParts). record { echo = p; count = x.0.count; status = x.0.status }) (some_same printable.1) ∙ some_same echo.2 in
+    ap (λ (p : EchoParts). record { echo = p; count = x.0.count; status = x.0.status }) (some_same printable.1)
+    ∙ some_same echo.2 in
     subst (λ (k : Header). (front_text x.0 ++ back_text x.1 ≡ spelt_header k) × IsCounted k) same (
       regrouped (front_text x.0) x.1.qualifier x.1.provider x.1.date,
       record {
@@ -142,7 +144,10 @@ header-reads =
     made-reads header_of header_back spelt_header IsCounted (pair-reads front-reads back-reads) header_is
     (λ h fits. (
       header_again h fits,
-      ((((fits.echo.version, fits.echo.code), (fits.some, fits.few)), tt), ((fits.echo.qualifier, fits.echo.provider), fits.echo.date)),
+      (
+        (((fits.echo.version, fits.echo.code), (fits.some, fits.few)), tt),
+        ((fits.echo.qualifier, fits.echo.provider), fits.echo.date),
+      ),
       sym (regrouped (front_text (header_back h).0) h.echo.qualifier h.echo.provider h.echo.date),
     ))
 
@@ -160,7 +165,8 @@ is_alone x y e =
     let g = guarded (eqb (length x.1) 0) (Some x.0) y e in
     (some_same g.1, nil_from_length x.1 (eqb-true (length x.1) 0 g.0))
 
-groups-reads : (n : ℕ) → Reads (times group_at n) (flat_map group_text) (λ answers. (length answers ≡ n) × AllByRecursion IsAnswer answers) Ends
+groups-reads : (n : ℕ) → Reads (times group_at n) (flat_map group_text)
+    (λ answers. (length answers ≡ n) × AllByRecursion IsAnswer answers) Ends
 groups-reads n = times-reads group-reads (λ a rest. refl) n
 
 heard_is : (n : ℕ) (bs : List ℕ) (o : Outcome) → heard_in n bs ≡ Some o → IsIn o (codes "A") n bs
@@ -190,7 +196,8 @@ heard_again answers fits =
     ap (times group_at (length answers)) (sym (append-nil (flat_map group_text answers)))
     ∙ (groups-reads (length answers)).again answers [] (refl, fits.1) tt in
     chain (times group_at (length answers) (flat_map group_text answers) >>= alone) heard_of answers
-    (chain (times group_at (length answers) (flat_map group_text answers)) alone (answers, []) read refl) (rw fits.0 refl)
+    (chain (times group_at (length answers) (flat_map group_text answers)) alone (answers, []) read refl)
+    (rw fits.0 refl)
 
 -- ---- a rejected header
 
@@ -215,14 +222,17 @@ behind_takes a (suc n) bs rest e =
     ∙ (sym (append_assoc (group_text a) (flat_map group_text (replicate n a)) rest)
     ∙ ap (λ (t : List ℕ). t ++ rest) (sym (flat_map-cons group_text a (replicate n a)))))
 
-behind_again : (a : Answer) (n : ℕ) (rest : List ℕ) → behind n (group_text a) (flat_map group_text (replicate n a) ++ rest) ≡ Some rest
+behind_again : (a : Answer) (n : ℕ) (rest : List ℕ)
+    → behind n (group_text a) (flat_map group_text (replicate n a) ++ rest) ≡ Some rest
 unfolding behind
 behind_again a zero rest = refl
 behind_again a (suc n) rest =
     ap (behind (suc n) (group_text a)) (ap (λ (t : List ℕ). t ++ rest) (flat_map-cons group_text a (replicate n a))
     ∙ append_assoc (group_text a) (flat_map group_text (replicate n a)) rest)
-    ∙ chain (after (group_text a) (group_text a ++ (flat_map group_text (replicate n a) ++ rest))) (behind n (group_text a))
-    (flat_map group_text (replicate n a) ++ rest) (after_again (group_text a) (flat_map group_text (replicate n a) ++ rest))
+    ∙ chain (after (group_text a) (group_text a ++ (flat_map group_text (replicate n a) ++ rest)))
+    (behind n (group_text a))
+    (flat_map group_text (replicate n a) ++ rest)
+    (after_again (group_text a) (flat_map group_text (replicate n a) ++ rest))
     (behind_again a n rest)
 
 nothing_is : (o : Option (List ℕ)) → is_nothing o ≡ true → o ≡ Some []
@@ -233,10 +243,12 @@ copies_are : (a : Answer) (n : ℕ) (text bs : List ℕ) → text ≡ group_text
     → bs ≡ flat_map group_text (replicate n a)
 unfolding are_copies
 copies_are a n text bs is e =
-    let copies : behind n (group_text a) bs ≡ Some [] = ap (λ (t : List ℕ). behind n t bs) (sym is) ∙ nothing_is (behind n text bs) e in
+    let copies : behind n (group_text a) bs ≡ Some [] = ap (λ (t : List ℕ). behind n t bs) (sym is)
+    ∙ nothing_is (behind n text bs) e in
     behind_takes a n bs [] copies ∙ append-nil (flat_map group_text (replicate n a))
 
-copies_again : (a : Answer) (n : ℕ) (text : List ℕ) → text ≡ group_text a → are_copies n text (flat_map group_text (replicate n a)) ≡ true
+copies_again : (a : Answer) (n : ℕ) (text : List ℕ) → text ≡ group_text a
+    → are_copies n text (flat_map group_text (replicate n a)) ≡ true
 unfolding are_copies
 copies_again a n text is =
     let copies : behind n text (flat_map group_text (replicate n a)) ≡ Some [] =
@@ -263,8 +275,11 @@ rejected_is : (n : ℕ) (bs : List ℕ) (o : Outcome) → 1 ≤ n → n ≤ 4 �
 unfolding rejected_in
 rejected_is zero bs o some few e = absurd (omega arith)
 rejected_is (suc n) bs o some few e =
-    let x = bind_some (refusal_at bs) (λ x. cond (are_copies (suc n - 1) (take (length bs - length x.1) bs) x.1) (Some (rejected x.0 (suc n))) None) o e in
-    let g = guarded (are_copies (suc n - 1) (take (length bs - length x.0.1) bs) x.0.1) (Some (rejected x.0.0 (suc n))) o x.2 in
+    let x = bind_some (refusal_at bs)
+    (λ x. cond (are_copies (suc n - 1) (take (length bs - length x.1) bs) x.1)
+    (Some (rejected x.0 (suc n))) None) o e in
+    let g = guarded (are_copies (suc n - 1) (take (length bs - length x.0.1) bs) x.0.1)
+    (Some (rejected x.0.0 (suc n))) o x.2 in
     let less : suc n - 1 ≡ n = omega arith in
     let a = refusal_of x.0.0 in
     let taken = refusal-reads.takes bs x.0 x.1 in
@@ -272,7 +287,8 @@ rejected_is (suc n) bs o some few e =
     front_of bs (refusal_label ++ codes_body x.0.0) x.0.1 taken.0 ∙ refusal_text x.0.0 in
     let copies : are_copies n (take (length bs - length x.0.1) bs) x.0.1 ≡ true =
     ap (λ (k : ℕ). are_copies k (take (length bs - length x.0.1) bs) x.0.1) (sym less) ∙ g.0 in
-    let others : x.0.1 ≡ flat_map group_text (replicate n a) = copies_are a n (take (length bs - length x.0.1) bs) x.0.1 front copies in
+    let others : x.0.1 ≡ flat_map group_text (replicate n a) = copies_are a n
+    (take (length bs - length x.0.1) bs) x.0.1 front copies in
     let text : bs ≡ flat_map group_text (replicate (suc n) a) =
     taken.0 ∙ (ap (λ (t : List ℕ). t ++ x.0.1) (refusal_text x.0.0)
     ∙ (ap (λ (t : List ℕ). group_text a ++ t) others ∙ sym (flat_map-cons group_text a (replicate n a)))) in
@@ -295,16 +311,19 @@ rejected_again cs (suc n) some fits =
     let text : bs ≡ (refusal_label ++ codes_body cs) ++ rest =
     flat_map-cons group_text a (replicate n a) ∙ ap (λ (t : List ℕ). t ++ rest) (sym (refusal_text cs)) in
     let less : suc n - 1 ≡ n = omega arith in
-    let front : take (length bs - length rest) bs ≡ group_text a = front_of bs (refusal_label ++ codes_body cs) rest text ∙ refusal_text cs in
+    let front : take (length bs - length rest) bs ≡ group_text a = front_of bs
+    (refusal_label ++ codes_body cs) rest text ∙ refusal_text cs in
     let copies : are_copies (suc n - 1) (take (length bs - length rest) bs) rest ≡ true =
     ap (λ (k : ℕ). are_copies k (take (length bs - length rest) bs) rest) less
     ∙ copies_again a n (take (length bs - length rest) bs) front in
-    chain (refusal_at bs) (λ x. cond (are_copies (suc n - 1) (take (length bs - length x.1) bs) x.1) (Some (rejected x.0 (suc n))) None) (cs, rest)
+    chain (refusal_at bs) (λ x. cond (are_copies (suc n - 1) (take (length bs - length x.1) bs) x.1)
+    (Some (rejected x.0 (suc n))) None) (cs, rest)
     (ap refusal_at text ∙ refusal-reads.again cs rest fits tt) (rw copies refl)
 
 -- ---- the reply
 
-outcome_is : (s : Status) (n : ℕ) (bs : List ℕ) (o : Outcome) → 1 ≤ n → n ≤ 4 → outcome_in s n bs ≡ Some o → IsIn o (status_text s) n bs
+outcome_is : (s : Status) (n : ℕ) (bs : List ℕ) (o : Outcome) → 1 ≤ n → n ≤ 4 → outcome_in s n bs ≡ Some o
+    → IsIn o (status_text s) n bs
 outcome_is status.Heard n bs o some few e = heard_is n bs o e
 outcome_is status.Rejected n bs o some few e = rejected_is n bs o some few e
 
@@ -313,12 +332,15 @@ status_in (outcome.Rejected r) = status.Rejected
 status_in (outcome.Heard answers) = status.Heard
 
 outcome_again : (o : Outcome) → IsOutcome o
-    → (outcome_in (status_in o) (length (answers_of o)) (flat_map group_text (answers_of o)) ≡ Some o) × (status_text (status_in o) ≡ status_of o)
+    → (outcome_in (status_in o) (length (answers_of o)) (flat_map group_text (answers_of o)) ≡ Some o) ×
+    (status_text (status_in o) ≡ status_of o)
     × ((1 ≤ length (answers_of o)) × (length (answers_of o) ≤ 4))
 outcome_again (outcome.Rejected r) fits =
     let few = few_is r.groups fits.0 in
-    let len : length (replicate r.groups (refusal_of r.codes)) ≡ r.groups = length-replicate r.groups (refusal_of r.codes) in (
-      ap (λ (k : ℕ). rejected_in k (flat_map group_text (replicate r.groups (refusal_of r.codes)))) len ∙ rejected_again r.codes r.groups few.0 fits.1,
+    let len : length (replicate r.groups (refusal_of r.codes)) ≡ r.groups = length-replicate r.groups
+    (refusal_of r.codes) in (
+      ap (λ (k : ℕ). rejected_in k (flat_map group_text (replicate r.groups (refusal_of r.codes)))) len
+          ∙ rejected_again r.codes r.groups few.0 fits.1,
       refl,
       (omega (arith, len, few.0), omega (arith, len, few.1)),
     )
@@ -341,7 +363,8 @@ text_is bs h o rest header all =
 pub reply_is : (bs : List ℕ) (r : Reply) → reply_in bs ≡ Some r → IsReply r × (bs ≡ reply_text r)
 unfolding reply_in
 reply_is bs r e =
-    let h = bind_some (header_at bs) (λ h. outcome_in h.0.status h.0.count h.1 >>= λ o. Some (made_reply h.0.echo o)) r e in
+    let h = bind_some (header_at bs)
+    (λ h. outcome_in h.0.status h.0.count h.1 >>= λ o. Some (made_reply h.0.echo o)) r e in
     let o = bind_some (outcome_in h.0.0.status h.0.0.count h.0.1) (λ o. Some (made_reply h.0.0.echo o)) r h.2 in
     let header = header-reads.takes bs h.0 h.1 in
     let outcome = outcome_is h.0.0.status h.0.0.count h.0.1 o.0 header.1.some header.1.few o.1 in
@@ -357,7 +380,9 @@ reply_again r fits =
     let rest = flat_map group_text (answers_of r.outcome) in
     let header : Header = record { echo = r.echo; count = count; status = status_in r.outcome } in
     let is_counted : IsCounted header = record { echo = fits.echo; some = o.2.0; few = o.2.1 } in
-    let text : reply_text r ≡ spelt_header header ++ rest = ap (λ (t : List ℕ). header_text r.echo count t ++ rest) (sym o.1) in
-    chain (header_at (reply_text r)) (λ h. outcome_in h.0.status h.0.count h.1 >>= λ o. Some (made_reply h.0.echo o)) (header, rest)
+    let text : reply_text r ≡ spelt_header header ++ rest = ap (λ (t : List ℕ). header_text r.echo count t ++ rest)
+    (sym o.1) in
+    chain (header_at (reply_text r))
+    (λ h. outcome_in h.0.status h.0.count h.1 >>= λ o. Some (made_reply h.0.echo o)) (header, rest)
     (ap header_at text ∙ header-reads.again header rest is_counted tt)
     (chain (outcome_in (status_in r.outcome) count rest) (λ o. Some (made_reply r.echo o)) r.outcome o.0 refl)

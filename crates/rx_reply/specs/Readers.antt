@@ -23,7 +23,8 @@ abbrev pub labelled : {A : Type 0} → List ℕ → (List ℕ → Option (A × L
 labelled text read bs = after text bs >>= read
 
 -- one value after the other
-abbrev pub pair : {A B : Type 0} → (List ℕ → Option (A × List ℕ)) → (List ℕ → Option (B × List ℕ)) → List ℕ → Option ((A × B) × List ℕ)
+abbrev pub pair : {A B : Type 0} → (List ℕ → Option (A × List ℕ)) → (List ℕ → Option (B × List ℕ)) → List ℕ
+    → Option ((A × B) × List ℕ)
 pair first second bs = first bs >>= λ a. second a.1 >>= λ b. Some ((a.0, b.0), b.1)
 
 -- what is made of the value

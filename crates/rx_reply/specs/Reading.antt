@@ -67,7 +67,8 @@ coinsurance_at bs = coinsurance_behind (after (field (codes "4U") []) bs) bs
 unfoldable pub price_at : List ℕ → Option (Price × List ℕ)
 price_at bs =
     made (λ x. Some (record { patient_pay = x.0.0.0; ingredient_cost = x.0.0.1; dispensing_fee = x.0.1; total_paid = x.1 }))
-    (pair (pair (pair (amount_at (field (codes "F5") [])) (amount_at (field (codes "F6") []))) (amount_at (field (codes "F7") [])))
+    (pair (pair (pair (amount_at (field (codes "F5") [])) (amount_at (field (codes "F6") [])))
+    (amount_at (field (codes "F7") [])))
     (amount_at (field (codes "F9") []))) bs
 
 -- FH, FI and 4U
@@ -121,7 +122,8 @@ code_at bs = labelled (field (codes "FB") []) (λ rest. made code_of (bytes_at 2
 
 -- FA and that many codes, 1 to 5
 unfoldable pub codes_at : List ℕ → Option (List Code × List ℕ)
-codes_at bs = labelled (field (codes "FA") []) (number_at 1 5 2) bs >>= λ count. made codes_of (times code_at count.0) count.1
+codes_at bs = labelled (field (codes "FA") []) (number_at 1 5 2) bs >>= λ count. made codes_of
+    (times code_at count.0) count.1
 
 -- ---- answers
 
@@ -215,4 +217,5 @@ outcome_in status.Heard count bs = heard_in count bs
 outcome_in status.Rejected count bs = rejected_in count bs
 
 unfoldable pub reply_in : List ℕ → Option Reply
-reply_in bs = header_at bs >>= λ h. outcome_in h.0.status h.0.count h.1 >>= λ o. Some (record { echo = h.0.echo; outcome = o })
+reply_in bs = header_at bs >>= λ h. outcome_in h.0.status h.0.count h.1 >>= λ o. Some
+    (record { echo = h.0.echo; outcome = o })

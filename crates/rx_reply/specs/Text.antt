@@ -36,7 +36,8 @@ code_field code = field (codes "FB") (code_text code)
 -- of an answer with reject codes
 abbrev pub codes_segment : List Code → List ℕ
 codes_segment cs =
-    segment (codes "21") (field (codes "AN") (codes "R") ++ field (codes "FA") (digits_text 2 (length cs)) ++ flat_map code_field cs)
+    segment (codes "21") (field (codes "AN") (codes "R") ++ field (codes "FA")
+    (digits_text 2 (length cs)) ++ flat_map code_field cs)
 
 -- ---- segment 22
 
@@ -105,4 +106,5 @@ header_text e count status = e.version ++ e.code ++ digits_text 1 count ++ statu
 
 abbrev pub reply_text : Reply → List ℕ
 reply_text r =
-    header_text r.echo (length (answers_of r.outcome)) (status_of r.outcome) ++ flat_map group_text (answers_of r.outcome)
+    header_text r.echo (length (answers_of r.outcome)) (status_of r.outcome) ++ flat_map group_text
+    (answers_of r.outcome)
