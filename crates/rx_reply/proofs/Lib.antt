@@ -1,0 +1,6 @@
+pub mod AnswerLaws
+pub mod FieldLaws
+pub mod Loops
+pub mod Laws
+pub mod ReplyLaws
+pub mod Shapes

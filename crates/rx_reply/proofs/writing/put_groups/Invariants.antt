@@ -1,0 +1,7 @@
+use Rattle.std.proofs.Common.{◌≡◌, ◌++◌, take}
+use Rattle.std.specs.List.{flat_map}
+use Rattle.rx_reply.specs.Text.{group_text}
+use Rattle.rx_reply.proofs.writing.put_groups.Given as goal
+
+abbrev pub invariant-loop-answer : goal.invariant-loop-answer
+invariant-loop-answer l = l.out.items ≡ l.fn.out.items ++ flat_map group_text (take l.answer-index l.answers)

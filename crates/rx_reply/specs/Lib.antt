@@ -1,0 +1,5 @@
+pub mod Fault
+pub mod Limits
+pub mod Readers
+pub mod Reading
+pub mod Text

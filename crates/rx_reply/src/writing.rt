@@ -1,0 +1,104 @@
+//! Writing replies.
+
+ghost use Rattle.std.specs.Prelude.{◌≡◌, ◌≤◌, ◌++◌, ◌∷◌, [], OnOk, IfOk, length};
+ghost use Rattle.std.specs.List.{flat_map};
+ghost use Rattle.rx_reply.specs.Text.{paid_text, answer_text, group_text, header_text, reply_text};
+
+mod amounts;
+mod segments;
+
+use crate::layout::{GROUP, HEADER};
+use amounts::{put_amounts, put_reversed};
+use rx_claim::{Answer, Echo, Outcome, Paid, Refused, Reply};
+use rx_fields::{Memory, digits_write};
+use segments::{put_codes, put_known, put_number, put_reference};
+use std::alloc::{AllocError, Global};
+
+// The most bytes that an answer has, with its GS.
+const MOST: usize = 137;
+
+fn put_paid(out: &mut Vec<u8>, status: u8, paid: &Paid) -> Result<(), AllocError>
+    ensures { OnOk result (out.new.items ≡ out.old.items ++ paid_text (status ∷ []) paid.now) }
+{
+    put_number(out, status, paid.number)?;
+    put_reference(out, paid.reference)?;
+    put_amounts(out, &paid.pricing)
+}
+
+fn put_answer(out: &mut Vec<u8>, answer: &Answer) -> Result<(), AllocError>
+    ensures { OnOk result (out.new.items ≡ out.old.items ++ answer_text answer.now) }
+{
+    match answer {
+        Answer::Paid(paid) => put_paid(out, b'P', paid),
+        Answer::Twice(paid) => put_paid(out, b'D', paid),
+        Answer::Approved(approved) => {
+            put_number(out, b'A', approved.number)?;
+            put_reference(out, approved.reference)?;
+            put_reversed(out, approved.total_paid)
+        }
+        Answer::Refused(refused) => {
+            put_codes(out, &refused.codes)?;
+            put_known(out, refused.reference)
+        }
+    }
+}
+
+// GS and the answer.
+fn put_group(out: &mut Vec<u8>, answer: &Answer) -> Result<(), AllocError>
+    ensures { OnOk result (out.new.items ≡ out.old.items ++ group_text answer.now) }
+{
+    out.push(GROUP)?;
+    put_answer(out, answer)
+}
+
+fn put_groups(out: &mut Vec<u8>, answers: &[Answer]) -> Result<(), AllocError>
+    ensures { OnOk result (out.new.items ≡ out.old.items ++ flat_map group_text answers.now) }
+{
+    for answer in answers {
+        put_group(out, answer)?;
+    }
+    Ok(())
+}
+
+fn put_header(out: &mut Vec<u8>, echo: &Echo, count: u64, status: u8) -> Result<(), AllocError>
+    requires { count ≤ 9 }
+    ensures { OnOk result (out.new.items ≡ out.old.items ++ header_text echo.now count (status ∷ [])) }
+{
+    let echo = echo.parts();
+    let count: [u8; 1] = digits_write(count);
+    out.extend_from_slice(&echo.version)?;
+    out.extend_from_slice(&echo.code)?;
+    out.extend_from_slice(&count)?;
+    out.push(status)?;
+    out.extend_from_slice(&echo.qualifier)?;
+    out.extend_from_slice(&echo.provider)?;
+    out.extend_from_slice(&echo.date)
+}
+
+// The text of a reply with these answers.
+fn text_of(alloc: Global, echo: &Echo, status: u8, answers: &[Answer]) -> Result<Vec<u8>, Memory>
+    requires { length answers.now ≤ 4 }
+    ensures { IfOk result (λ text. text.items ≡ header_text echo.now (length answers.now) (status ∷ []) ++ flat_map group_text answers.now) }
+{
+    let mut text = Vec::with_capacity(alloc, HEADER + MOST * answers.len())?;
+    put_header(&mut text, echo, answers.len() as u64, status)?;
+    put_groups(&mut text, answers)?;
+    Ok(text)
+}
+
+/// The one text of a reply (docs/FORMATS.md, "Reply transmission").
+pub fn encode(alloc: Global, reply: &Reply) -> Result<Vec<u8>, Memory>
+    ensures { IfOk result (λ text. text.items ≡ reply_text reply.now) }
+{
+    match &reply.outcome {
+        Outcome::Rejected(rejected) => {
+            let answer = Answer::Refused(Refused {
+                codes: rejected.codes,
+                reference: None,
+            });
+            let count = rejected.groups.get() as usize;
+            text_of(alloc, &reply.echo, b'R', &[answer; 4][..count])
+        }
+        Outcome::Heard(answers) => text_of(alloc, &reply.echo, b'A', answers.as_slice()),
+    }
+}

@@ -1,0 +1,68 @@
+//! Writing amounts, and the segments that hold them.
+
+ghost use Rattle.std.specs.Prelude.{◌≡◌, ◌≤◌, ◌++◌, OnOk, pos, neg_ℤ};
+ghost use Rattle.rx_fields.specs.Amount.{signed_text};
+ghost use Rattle.rx_reply.specs.Text.{amount_field, coinsurance_field, amounts_segment, reversed_segment};
+
+use crate::layout::FIELD;
+use rx_claim::Pricing;
+use rx_fields::{Cents, signed_write};
+use std::alloc::AllocError;
+
+// An amount as it is paid.
+pub(super) fn paid_text(cents: u64) -> [u8; 8]
+    requires { cents ≤ 99_999_999 }
+    ensures { result ≡ signed_text (pos cents) }
+{
+    signed_write(cents as i64)
+}
+
+// An amount as it is taken back.
+pub(super) fn reversed_text(cents: u64) -> [u8; 8]
+    requires { cents ≤ 99_999_999 }
+    ensures { result ≡ signed_text (neg_ℤ (pos cents)) }
+{
+    signed_write(-(cents as i64))
+}
+
+fn put_amount(out: &mut Vec<u8>, id: [u8; 2], cents: u64) -> Result<(), AllocError>
+    requires { cents ≤ 99_999_999 }
+    ensures { OnOk result (out.new.items ≡ out.old.items ++ amount_field id cents) }
+{
+    out.push(FIELD)?;
+    out.extend_from_slice(&id)?;
+    out.extend_from_slice(&paid_text(cents))
+}
+
+fn put_coinsurance(out: &mut Vec<u8>, cents: u64) -> Result<(), AllocError>
+    requires { cents ≤ 99_999_999 }
+    ensures { OnOk result (out.new.items ≡ out.old.items ++ coinsurance_field cents) }
+{
+    if cents == 0 {
+        return Ok(());
+    }
+    put_amount(out, *b"4U", cents)
+}
+
+// Segment 23 of a paid claim.
+pub(super) fn put_amounts(out: &mut Vec<u8>, pricing: &Pricing) -> Result<(), AllocError>
+    ensures { OnOk result (out.new.items ≡ out.old.items ++ amounts_segment pricing.now) }
+{
+    let amounts = pricing.amounts();
+    out.extend_from_slice(b"\x1E\x1CAM23")?;
+    put_amount(out, *b"F5", pricing.patient_pay())?;
+    put_amount(out, *b"F6", amounts.ingredient_cost)?;
+    put_amount(out, *b"F7", amounts.dispensing_fee)?;
+    put_amount(out, *b"F9", pricing.total_paid())?;
+    put_amount(out, *b"FH", amounts.deductible)?;
+    put_amount(out, *b"FI", amounts.copay)?;
+    put_coinsurance(out, amounts.coinsurance)
+}
+
+// Segment 23 of a reversal.
+pub(super) fn put_reversed(out: &mut Vec<u8>, total_paid: Cents) -> Result<(), AllocError>
+    ensures { OnOk result (out.new.items ≡ out.old.items ++ reversed_segment total_paid) }
+{
+    out.extend_from_slice(b"\x1E\x1CAM23\x1CF9")?;
+    out.extend_from_slice(&reversed_text(total_paid.get()))
+}

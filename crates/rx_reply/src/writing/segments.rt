@@ -1,0 +1,70 @@
+//! Writing the fields and segments of an answer.
+
+ghost use Rattle.std.specs.Prelude.{◌≡◌, ◌++◌, ◌∷◌, [], OnOk};
+ghost use Rattle.std.specs.List.{flat_map};
+ghost use Rattle.rx_reply.specs.Text.{number_segment, reference_segment, known_reference, code_field, codes_segment};
+
+use rx_claim::Codes;
+use rx_fields::{Authorization, Code, Reference, digits_write};
+use std::alloc::AllocError;
+
+// Segment 21 of an answer that has an authorization number.
+pub(super) fn put_number(
+    out: &mut Vec<u8>,
+    status: u8,
+    number: Authorization,
+) -> Result<(), AllocError>
+    ensures { OnOk result (out.new.items ≡ out.old.items ++ number_segment (status ∷ []) number) }
+{
+    out.extend_from_slice(b"\x1E\x1CAM21\x1CAN")?;
+    out.push(status)?;
+    out.extend_from_slice(b"\x1CF3")?;
+    let digits: [u8; 15] = digits_write(number.get());
+    out.extend_from_slice(&digits)
+}
+
+// Segment 22.
+pub(super) fn put_reference(out: &mut Vec<u8>, reference: Reference) -> Result<(), AllocError>
+    ensures { OnOk result (out.new.items ≡ out.old.items ++ reference_segment reference) }
+{
+    out.extend_from_slice(b"\x1E\x1CAM22\x1CEM1\x1CD2")?;
+    let digits: [u8; 12] = digits_write(reference.get());
+    out.extend_from_slice(&digits)
+}
+
+// Segment 22, where the reference is known.
+pub(super) fn put_known(out: &mut Vec<u8>, reference: Option<Reference>) -> Result<(), AllocError>
+    ensures { OnOk result (out.new.items ≡ out.old.items ++ known_reference reference) }
+{
+    match reference {
+        Some(reference) => put_reference(out, reference),
+        None => Ok(()),
+    }
+}
+
+fn put_code(out: &mut Vec<u8>, code: Code) -> Result<(), AllocError>
+    ensures { OnOk result (out.new.items ≡ out.old.items ++ code_field code) }
+{
+    out.extend_from_slice(b"\x1CFB")?;
+    out.extend_from_slice(&code.text())
+}
+
+fn put_each_code(out: &mut Vec<u8>, codes: &[Code]) -> Result<(), AllocError>
+    ensures { OnOk result (out.new.items ≡ out.old.items ++ flat_map code_field codes.now) }
+{
+    for code in codes {
+        put_code(out, *code)?;
+    }
+    Ok(())
+}
+
+// Segment 21 of an answer that has reject codes.
+pub(super) fn put_codes(out: &mut Vec<u8>, codes: &Codes) -> Result<(), AllocError>
+    ensures { OnOk result (out.new.items ≡ out.old.items ++ codes_segment codes.now) }
+{
+    let codes = codes.as_slice();
+    out.extend_from_slice(b"\x1E\x1CAM21\x1CANR\x1CFA")?;
+    let count: [u8; 2] = digits_write(codes.len() as u64);
+    out.extend_from_slice(&count)?;
+    put_each_code(out, codes)
+}

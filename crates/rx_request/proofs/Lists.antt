@@ -1,0 +1,48 @@
+-- The transactions of a list of groups.
+use Rattle.std.proofs.Common.{◌≡◌, ℕ, ◌+◌, Bool, true, false, not, ◌&&◌, ◌||◌, cond, List, [], ◌∷◌, ◌++◌, length, map, Option, Some, None, refl, sym, ap, ◌∙◌, append_assoc}
+use Rattle.std.specs.List.{list_any}
+use Rattle.std.proofs.Math.Bool.{and-false}
+use Rattle.std.proofs.lemmas.List.{length-map}
+use Rattle.rx_claim.specs.declared.transaction.Transaction.{Transaction}
+use Rattle.rx_claim.specs.declared.transaction.Transaction.TheVariants.{Bill, Reverse}
+use Rattle.rx_claim.specs.Listed.{is_bill, is_reversal, is_few, are_transactions}
+use Rattle.rx_request.specs.Bills.{transaction, billing, reversal, bill_parts, reversal_parts, faulty}
+use Rattle.rx_request.specs.Codes.{is_faulty, bill_conditions, reversal_conditions}
+use Rattle.rx_request.specs.Known.{InsuranceTexts, GroupTexts, group_of}
+
+-- what the groups ask
+abbrev pub asked : Bool → InsuranceTexts → List (List ℕ) → List Transaction
+asked is_billing common groups = map (λ group. transaction is_billing common (group_of group)) groups
+
+no_reversal : (common : InsuranceTexts) (group : Option GroupTexts) → is_reversal (transaction true common group) ≡ false
+unfolding billing
+no_reversal common None = refl
+no_reversal common (Some group) = elim (is_faulty (bill_conditions common group)) as (λ b. is_reversal (cond b (faulty (bill_conditions common group) group.claim) (Bill (bill_parts common group))) ≡ false) [ true ↦ refl | false ↦ refl ]
+
+no_bill : (common : InsuranceTexts) (group : Option GroupTexts) → is_bill (transaction false common group) ≡ false
+unfolding reversal
+no_bill common None = refl
+no_bill common (Some group) = elim (is_faulty (reversal_conditions group.claim)) as (λ b. is_bill (cond b (faulty (reversal_conditions group.claim) group.claim) (Reverse (reversal_parts group.claim))) ≡ false) [ true ↦ refl | false ↦ refl ]
+
+no_reversals : (common : InsuranceTexts) (groups : List (List ℕ)) → list_any is_reversal (asked true common groups) ≡ false
+no_reversals common [] = refl
+no_reversals common (group ∷ groups) = rw (no_reversal common (group_of group), no_reversals common groups) refl
+
+no_bills : (common : InsuranceTexts) (groups : List (List ℕ)) → list_any is_bill (asked false common groups) ≡ false
+no_bills common [] = refl
+no_bills common (group ∷ groups) = rw (no_bill common (group_of group), no_bills common groups) refl
+
+-- one to four groups ask one to four transactions, never a billing beside a reversal
+pub are_asked : (is_billing : Bool) (common : InsuranceTexts) (groups : List (List ℕ)) → is_few (length groups) ≡ true → are_transactions (asked is_billing common groups) ≡ true
+are_asked true common groups few =
+    rw (length-map groups (λ group. transaction true common (group_of group)), few, no_reversals common groups, and-false (list_any is_bill (asked true common groups))) refl
+are_asked false common groups few =
+    rw (length-map groups (λ group. transaction false common (group_of group)), few, no_bills common groups) refl
+
+-- one more group was read
+pub asked_more : (is_billing : Bool) (common : InsuranceTexts) (before after : List Transaction) (groups left : List (List ℕ)) (group : List ℕ) (t : Transaction) (total : List Transaction)
+    → groups ≡ group ∷ left → after ≡ before ++ t ∷ [] → t ≡ transaction is_billing common (group_of group)
+    → before ++ asked is_billing common groups ≡ total → after ++ asked is_billing common left ≡ total
+asked_more is_billing common before after groups left group t total e pushed read so_far =
+    let one : after ++ asked is_billing common left ≡ before ++ asked is_billing common groups = rw (pushed, e, read) (append_assoc before (transaction is_billing common (group_of group) ∷ []) (asked is_billing common left)) in
+    one ∙ so_far

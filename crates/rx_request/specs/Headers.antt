@@ -1,0 +1,32 @@
+-- The header of a request (docs/FORMATS.md, "Request header").
+use Rattle.std.specs.Prelude.{ℕ, ◌-◌, Bool, ◌&&◌, nat_le, List, ◌++◌, length, take, replicate, slice_index, slice_range}
+use Rattle.std.specs.List.{list_all}
+use Rattle.rx_fields.specs.Text.{is_printable}
+use Rattle.rx_claim.specs.declared.echo.EchoParts.{EchoParts}
+use Rattle.rx_request.specs.declared.header.Header.{Header}
+
+-- the first 56 bytes, missing ones blanks
+unfoldable pub header_bytes : List ℕ → List ℕ
+header_bytes bytes = take 56 bytes ++ replicate (56 - length bytes) 32
+
+-- its fields, by their lengths 6, 2, 2, 10, 1, 2, 15 and 8; the last 10 bytes, the software vendor's id, are not looked at
+unfoldable pub header_of : List ℕ → Header
+header_of h =
+    record {
+      bin = slice_range h 0 6;
+      version = slice_range h 6 8;
+      code = slice_range h 8 10;
+      pcn = slice_range h 10 20;
+      count = slice_index h 20;
+      qualifier = slice_range h 21 23;
+      provider = slice_range h 23 38;
+      date = slice_range h 38 46;
+    }
+
+-- the 56 bytes are there, and each is printable
+unfoldable pub is_clean : List ℕ → Bool
+is_clean bytes = nat_le 56 (length bytes) && list_all is_printable (header_bytes bytes)
+
+-- what a reply repeats
+abbrev pub echo_parts : Header → EchoParts
+echo_parts h = record { version = h.version; code = h.code; qualifier = h.qualifier; provider = h.provider; date = h.date }

@@ -1,0 +1,10 @@
+pub mod Bills
+pub mod Codes
+pub mod Cut
+pub mod Headers
+pub mod Known
+pub mod Request
+pub mod Slots
+pub mod Steps
+pub mod Values
+pub mod Views

@@ -1,0 +1,113 @@
+ghost use Rattle.std.specs.Prelude.{◌≡◌, ◌+◌, ◌≤◌, ◌-◌, ◌++◌, length, replicate, drop, slice_range};
+ghost use Rattle.std.specs.List.{list_all};
+ghost use Rattle.rx_fields.specs.Text.{is_printable};
+ghost use Rattle.rx_claim.specs.Echoed.{blanked_parts};
+ghost use Rattle.rx_request.specs.Headers.{header_bytes, header_of, is_clean, echo_parts};
+
+use rx_claim::{Echo, EchoParts};
+
+/// How many bytes a header has.
+const LENGTH: usize = 56;
+
+/// The fields of a header, missing bytes being blanks.
+#[derive(Clone, Copy, Debug)]
+pub(crate) struct Header {
+    pub(crate) bin: [u8; 6],
+    pub(crate) version: [u8; 2],
+    pub(crate) code: [u8; 2],
+    pub(crate) pcn: [u8; 10],
+    pub(crate) count: u8,
+    pub(crate) qualifier: [u8; 2],
+    pub(crate) provider: [u8; 15],
+    pub(crate) date: [u8; 8],
+}
+
+// The text, and blanks up to N bytes.
+fn padded<const N: usize>(text: &[u8]) -> [u8; N]
+    requires { length text.now ≤ N }
+    ensures { result ≡ text.now ++ replicate (N - length text.now) 32 }
+{
+    let mut bytes = [b' '; N];
+    bytes[..text.len()].copy_from_slice(text);
+    bytes
+}
+
+/// The first 56 bytes, missing ones blanks.
+#[tactic(auto, unfolding(crate::specs::Headers::header_bytes))]
+pub(crate) fn header_bytes(bytes: &[u8]) -> [u8; 56]
+    ensures { result ≡ header_bytes bytes.now }
+{
+    if bytes.len() < LENGTH {
+        padded(bytes)
+    } else {
+        padded(&bytes[..LENGTH])
+    }
+}
+
+// The N bytes from a place on.
+fn bytes_at<const N: usize>(front: &[u8; 56], at: usize) -> [u8; N]
+    requires { at + N ≤ 56 }
+    ensures { result ≡ slice_range front.now at (at + N) }
+{
+    let mut bytes = [0; N];
+    bytes.copy_from_slice(&front[at..at + N]);
+    bytes
+}
+
+/// What follows the header.
+pub(crate) fn after_header(bytes: &[u8]) -> &[u8]
+    ensures { result.now ≡ drop 56 bytes.now }
+{
+    if bytes.len() < LENGTH {
+        &[]
+    } else {
+        &bytes[LENGTH..]
+    }
+}
+
+impl Header {
+    /// The fields of these bytes.
+    #[tactic(auto, unfolding(crate::specs::Headers::header_of))]
+    pub(crate) fn new(front: &[u8; 56]) -> Header
+        ensures { result ≡ header_of front.now }
+    {
+        Header {
+            bin: bytes_at(front, 0),
+            version: bytes_at(front, 6),
+            code: bytes_at(front, 8),
+            pcn: bytes_at(front, 10),
+            count: front[20],
+            qualifier: bytes_at(front, 21),
+            provider: bytes_at(front, 23),
+            date: bytes_at(front, 38),
+        }
+    }
+
+    /// What a reply repeats.
+    pub(crate) fn echo(&self) -> Echo
+        ensures { result ≡ blanked_parts (echo_parts self.now) }
+    {
+        Echo::blanked(EchoParts {
+            version: self.version,
+            code: self.code,
+            qualifier: self.qualifier,
+            provider: self.provider,
+            date: self.date,
+        })
+    }
+}
+
+fn all_printable(bytes: &[u8]) -> bool
+    ensures { result ≡ list_all is_printable bytes.now }
+{
+    bytes.iter().all(|b| *b >= b' ' && *b <= b'~')
+}
+
+/// Whether the 56 bytes are there, and printable.
+#[tactic(auto, unfolding(crate::specs::Headers::is_clean))]
+pub(crate) fn is_clean(bytes: &[u8], front: &[u8; 56]) -> bool
+    requires { front.now ≡ header_bytes bytes.now }
+    ensures { result ≡ is_clean bytes.now }
+{
+    bytes.len() >= LENGTH && all_printable(front)
+}

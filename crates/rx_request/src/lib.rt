@@ -1,0 +1,26 @@
+//! Requests of the Telecommunication Standard D.0, read from bytes.
+//!
+//! In comes any byte string, and the plan's door, which a request has to name. Out comes the transmission that the
+//! request grammar makes of it: what is asked, or the reject codes. `specs/Request.antt` says which, over the tables
+//! of `specs/Codes.antt`.
+//!
+//! ```rust
+//! let transmission = rx_request::decode(alloc, &sheet.door(), bytes)?;
+//! ```
+//!
+//! No text is refused; the one error is want of memory. What is answered to a request is left to the crates above.
+#![tactic(auto)]
+
+mod bill;
+#[cfg(test)]
+mod cases;
+mod codes;
+mod field;
+mod header;
+mod known;
+mod part;
+mod piece;
+mod request;
+mod value;
+
+pub use request::decode;

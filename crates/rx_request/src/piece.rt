@@ -1,0 +1,81 @@
+ghost use Rattle.std.specs.Prelude.{◌≡◌};
+
+use memchr::memchr;
+use std::marker::Model;
+
+/// The group separator.
+pub(crate) const GS: u8 = 0x1D;
+/// The segment separator.
+pub(crate) const SS: u8 = 0x1E;
+/// The field separator.
+pub(crate) const FS: u8 = 0x1C;
+
+/// The pieces of a text between its separators that are left, in their order.
+#[derive(Drop)]
+pub(crate) struct Pieces<'a> {
+    rest: Option<&'a [u8]>,
+    separator: u8,
+}
+
+impl<'a> Model for Pieces<'a> {
+    ghost use Rattle.std.specs.Prelude.{List, ℕ};
+    ghost use Rattle.rx_request.specs.Slots.{pieces_left};
+
+    ghost Value = { List (List ℕ) };
+
+    ghost view = { λ p. pieces_left p.separator p.rest };
+}
+
+ghost use Rattle.std.specs.Prelude.{◌∷◌, [], if◌then◌else◌, MatchOption, None, Some};
+ghost use Rattle.rx_request.specs.Cut.{cut, begins_empty, first, further};
+
+impl<'a> Pieces<'a> {
+    /// All pieces of a text.
+    pub(crate) fn new(text: &'a [u8], separator: u8) -> Pieces<'a>
+        ensures { result ≡ cut separator text.now }
+    {
+        Pieces {
+            rest: Some(text),
+            separator,
+        }
+    }
+
+    /// The pieces after the first separator. None: there are bytes before it.
+    pub(crate) fn after_first(text: &'a [u8], separator: u8) -> Option<Pieces<'a>>
+        ensures { result
+            ≡ (if begins_empty (cut separator text.now) then Some (further (cut separator text.now)) else None) }
+    {
+        let mut pieces = Pieces::new(text, separator);
+        let front = pieces.next()?;
+        if front.is_empty() { Some(pieces) } else { None }
+    }
+
+    /// The next piece, or an empty one where none is left.
+    pub(crate) fn first(&mut self) -> &'a [u8]
+        ensures value { result.now ≡ first self.old }
+        ensures rest { self.new ≡ further self.old }
+    {
+        match self.next() {
+            Some(piece) => piece,
+            None => &[],
+        }
+    }
+
+    /// The next piece.
+    pub(crate) fn next(&mut self) -> Option<&'a [u8]>
+        ensures value { MatchOption result (self.old ≡ []) (λ piece. self.old ≡ piece.now ∷ self.new) }
+        ensures rest { self.new ≡ further self.old }
+    {
+        let text = self.rest?;
+        match memchr(self.separator, text) {
+            Some(at) => {
+                self.rest = Some(&text[at + 1..]);
+                Some(&text[..at])
+            }
+            None => {
+                self.rest = None;
+                Some(text)
+            }
+        }
+    }
+}

@@ -1,0 +1,4 @@
+pub mod Answers
+pub mod Counting
+pub mod Providers
+pub mod Settlement

@@ -1,0 +1,39 @@
+ghost use Rattle.std.specs.Prelude.{◌≡◌, ◌++◌};
+ghost use Rattle.std.specs.Result.{OnOk};
+ghost use Rattle.rx_settle.specs.Providers.{named, provider_of};
+ghost use Rattle.rx_settle.specs.Counting.{field_text};
+
+use rx_claim::Reply;
+use rx_fields::Provider;
+use std::alloc::AllocError;
+
+/// A provider as a reply's field has it, filled with blanks to 15 bytes; blanks alone stand for all that are no id.
+pub(crate) type Field = [u8; 15];
+
+/// The provider of a reply.
+pub(crate) fn provider_field(reply: &Reply) -> Field
+    ensures { result ≡ field_text (provider_of reply.now) }
+{
+    known_or_blank(reply.echo.parts().provider)
+}
+
+// The field where it names a provider, else blanks.
+fn known_or_blank(field: Field) -> Field
+    ensures { result ≡ field_text (named field) }
+{
+    if Provider::new(&field).is_ok() {
+        field
+    } else {
+        [b' '; 15]
+    }
+}
+
+/// Writes the provider without trailing blanks; nothing for blanks alone.
+pub(crate) fn put_provider(text: &mut Vec<u8>, field: &Field) -> Result<(), AllocError>
+    ensures { OnOk result (text.new.items ≡ text.old.items ++ named field.now) }
+{
+    match Provider::new(field) {
+        Ok(provider) => text.extend_from_slice(provider.bytes()),
+        Err(_) => Ok(()),
+    }
+}

@@ -1,0 +1,73 @@
+ghost use Rattle.std.specs.Prelude.{◌≡◌, ◌+◌, ◌<◌, ◌^◌, ◌++◌};
+ghost use Rattle.std.specs.List.{flat_map};
+ghost use Rattle.std.specs.Result.{IfOk, OnOk};
+ghost use Rattle.rx_settle.specs.Answers.{answers_of, tally, weight};
+ghost use Rattle.rx_settle.specs.Counting.{counted, line, tallies_of, tally_at};
+ghost use Rattle.rx_settle.specs.Settlement.{settlement_text};
+
+use crate::lines::{put_head, put_line, put_total};
+use crate::provider::{Field, provider_field};
+use crate::tally::Tally;
+use indexmap::IndexMap;
+use rx_claim::Reply;
+use rx_fields::{Lot, Memory, Stamp};
+use std::alloc::{AllocError, Global};
+
+// A tally for each provider, in order of first appearance.
+type Tallies = IndexMap<Field, Tally>;
+
+// The tallies of a batch's replies.
+#[derive(Drop)]
+struct Tallied {
+    providers: Tallies,
+    total: Tally,
+}
+
+/// The settlement of a batch's replies: counts of their answers and the net in cents, per provider in order of first
+/// appearance and over all (docs/FORMATS.md, "Settlement file").
+#[tactic(auto, using(crate::proofs::Tallied::lines, std::proofs::Common::append_assoc))]
+pub fn settle(alloc: Global, lot: Lot, stamp: Stamp, replies: &[Reply]) -> Result<Vec<u8>, Memory>
+    ensures { IfOk result (λ text. text.items ≡ settlement_text lot stamp replies.now) }
+{
+    let tallied = tally_replies(alloc, replies)?;
+    let mut text = Vec::new(alloc);
+    put_head(&mut text, lot, stamp)?;
+    put_lines(alloc, &mut text, &tallied.providers)?;
+    put_total(alloc, &mut text, &tallied.total)?;
+    Ok(text)
+}
+
+// Counts each reply's answers once, for its provider and in all.
+fn tally_replies(alloc: Global, replies: &[Reply]) -> Result<Tallied, Memory>
+    ensures providers { IfOk result (λ t. t.providers.entries ≡ tallies_of replies.now) }
+    ensures total { IfOk result (λ t. t.total ≡ tally (answers_of replies.now)) }
+{
+    let mut providers = IndexMap::new(alloc);
+    let mut total = Tally::default();
+    for reply in replies {
+        let more = Tally::of(&reply.outcome);
+        count(&mut providers, provider_field(reply), more)?;
+        total = total.plus(more);
+    }
+    Ok(Tallied { providers, total })
+}
+
+// Adds a reply's counts to its provider's.
+fn count(providers: &mut Tallies, field: Field, more: Tally) -> Result<(), Memory>
+    requires { weight (tally_at field providers.old.entries) + weight more < 2 ^ 128 }
+    ensures { OnOk result (providers.new.entries ≡ counted field more providers.old.entries) }
+{
+    let before = providers.get(&field).copied().unwrap_or_default();
+    providers.insert(field, before.plus(more))?;
+    Ok(())
+}
+
+// The providers' lines.
+fn put_lines(alloc: Global, text: &mut Vec<u8>, providers: &Tallies) -> Result<(), AllocError>
+    ensures { OnOk result (text.new.items ≡ text.old.items ++ flat_map line providers.now.entries) }
+{
+    for (field, tally) in providers {
+        put_line(alloc, text, field, tally)?;
+    }
+    Ok(())
+}
