@@ -1,6 +1,6 @@
 -- Steps down the table of cases.
 use Rattle.std.specs.Prelude.{not, ◌||◌}
-use Rattle.std.proofs.Common.{◌≡◌, false, List, [], ◌∷◌, Option, Some, refl, sym, ap}
+use Rattle.std.proofs.Common.{◌≡◌, false, List, [], ◌∷◌, Option, Some, refl, ap}
 use Rattle.std.specs.Ordering.{is_gt, is_lt}
 use Rattle.rx_claim.specs.declared.bill.BillParts.{BillParts}
 use Rattle.rx_fields.specs.Calendar.{day_cmp}

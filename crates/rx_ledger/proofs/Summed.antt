@@ -1,5 +1,5 @@
 -- What one more row adds to the sums.
-use Rattle.std.proofs.Common.{◌≡◌, ◌<◌, ℕ, ◌+◌, true, false, List, length, take, get_or, refl, sym, add-zero}
+use Rattle.std.proofs.Common.{◌≡◌, ◌<◌, ℕ, ◌+◌, true, false, List, length, take, get_or, refl, add-zero}
 use Rattle.std.proofs.lemmas.List.Sums.{sum_by_more}
 use Rattle.rx_fields.specs.Numbered.{is_within}
 use Rattle.rx_ledger.specs.declared.figures.Figures.{Figures}

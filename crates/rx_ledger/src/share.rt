@@ -1,6 +1,6 @@
-ghost use Rattle.std.specs.Prelude.{◌≡◌, ◌-◌, ◌≤◌, true};
+ghost use Rattle.std.specs.Prelude.{◌≡◌, ◌≤◌, true};
 ghost use Rattle.rx_ledger.specs.Plan.{is_share};
-ghost use Rattle.rx_ledger.specs.Share.{coinsurance_of, copay_of, left, shared, under_deductible, within_family};
+ghost use Rattle.rx_ledger.specs.Share.{coinsurance_of, copay_of, left, shared, under_deductible};
 
 use crate::drug::Share;
 use crate::figures::Figures;

@@ -1,5 +1,5 @@
 -- The first member that the test finds is the one that the rules name.
-use Rattle.std.proofs.Common.{◌≡◌, ◌∙◌, rules, tests}
+use Rattle.std.proofs.Common.{◌∙◌, rules, tests}
 use Rattle.std.proofs.lemmas.Iterator.{YieldsList-from_slice}
 use Rattle.std.proofs.lemmas.Iterator.Search.{find_from_yields_List}
 use Rattle.rx_ledger.specs.declared.member.Member.{Member}

@@ -1,6 +1,5 @@
 -- The claim is made of the sheet's drug and of the sums over its own rows.
-use Rattle.std.proofs.Common.{◌≡◌, ◌∙◌, sym, subst, ap}
-use Rattle.rx_ledger.specs.Answers.{used_by}
+use Rattle.std.proofs.Common.{◌∙◌, sym, subst, ap}
 use Rattle.rx_ledger.specs.Plan.{AreFigures}
 use Rattle.rx_ledger.proofs.Summed.{used_by-same}
 use Rattle.rx_ledger.proofs.step.answer_bill.Goals as goal

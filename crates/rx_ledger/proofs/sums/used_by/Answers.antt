@@ -1,5 +1,5 @@
 -- Each row of the period adds what it counts.
-use Rattle.std.proofs.Common.{◌≡◌, ◌<◌, ◌+◌, length, true, false, sym, ap, ◌∙◌, arith}
+use Rattle.std.proofs.Common.{◌≡◌, ◌<◌, ◌+◌, length, true, false, sym, ◌∙◌, arith}
 use Rattle.rx_fields.specs.Numbered.{is_within}
 use Rattle.rx_ledger.specs.Members.{is_same}
 use Rattle.rx_ledger.proofs.SameText.{same_text}
