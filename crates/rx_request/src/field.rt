@@ -7,7 +7,7 @@ ghost use Rattle.rx_request.specs.Slots.{texts_of, text_of, all_of, put, put_fie
 use crate::piece::{FS, Pieces};
 
 /// The text without the blanks at its end.
-#[tactic(auto, using(rx_fields::proofs::Blanks::trimmed_cut, rx_fields::proofs::Blanks::trimmed_whole))]
+#[tactic(auto, using(rx_fields::proofs::IdLaws::trimmed_cut, rx_fields::proofs::IdLaws::trimmed_whole))]
 pub(crate) fn trimmed(text: &[u8]) -> &[u8]
     ensures { result.now ≡ trimmed text.now }
 {
