@@ -31,7 +31,13 @@ struct Opening<'a> {
 fn count_of(wanted: u8, bytes: &[u8]) -> usize
     ensures { result ≡ count_by (λ byte. byte == wanted) bytes.now }
 {
-    bytes.iter().filter(|byte| **byte == wanted).count()
+    let mut count = 0;
+    for byte in bytes {
+        if *byte == wanted {
+            count += 1;
+        }
+    }
+    count
 }
 
 // How many groups there are: one per separator.
