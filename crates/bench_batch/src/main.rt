@@ -11,8 +11,11 @@ use std::time::{Duration, Instant};
 use std::{env, fs, io};
 
 const PIECE: usize = 65_536;
+
 const ROUNDS: u32 = 5;
-const SMALL: &[u8] = b"\x0200TPHARMSYS                0000042202603010930P12RXSWITCH                \x03\
+
+const SMALL: &[u8] =
+    b"\x0200TPHARMSYS                0000042202603010930P12RXSWITCH                \x03\
 \x02G10000000001one\x03\x02G10000000002two\x03\
 \x029900000420000000002                                   \x03";
 

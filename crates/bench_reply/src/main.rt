@@ -22,10 +22,12 @@ fn main(rt: HostRuntime) -> io::Result<()> {
         Some(word) => word.as_str().parse::<u32>().ok(),
         None => None,
     };
-    match (count, decode_reply(rt.alloc(), ONE_BILLING)) {
-        (Some(count), Ok(reply)) => timed(&rt, &reply, count),
-        (None, Ok(reply)) => println!(rt; "{} bytes", written(rt.alloc(), &reply, 1)),
-        (_, Err(fault)) => println!(rt; "fault {}", fault.code()),
+    let Ok(reply) = decode_reply(rt.alloc(), ONE_BILLING) else {
+        return println!(rt; "the reply is not read");
+    };
+    match count {
+        Some(count) => timed(&rt, &reply, count),
+        None => println!(rt; "{} bytes", written(rt.alloc(), &reply, 1)),
     }
 }
 

@@ -1,6 +1,6 @@
 -- A file of the grammar is a good front with the trailer, and the other way round.
-use Rattle.std.proofs.Common.{◌≡◌, ◌≤◌, ◌<◌, ◌⊎◌, ℕ, zero, suc, ◌+◌, Bool, true, false, not, ◌||◌, cond, eqb, leb, ltb, List, [], ◌∷◌, ◌++◌, codes, length, drop, slice_range, append_assoc, append-nil, length-append, refl, sym, ap, ◌∙◌, subst, arith, inl, inr, Result, Ok, Err, Option, Some, None}
-use Rattle.std.specs.List.{All, AllZip, flat_map}
+use Rattle.std.proofs.Common.{◌≡◌, ◌≤◌, ◌<◌, ◌⊎◌, ℕ, ◌+◌, Bool, true, false, not, ◌||◌, cond, eqb, leb, ltb, List, [], ◌∷◌, ◌++◌, codes, length, append_assoc, append-nil, length-append, refl, sym, ap, ◌∙◌, subst, arith, inl, inr, Result, Ok, Err, Option, Some, None}
+use Rattle.std.specs.List.{AllZip, flat_map}
 use Rattle.std.specs.Option.{ok_or}
 use Rattle.std.proofs.lemmas.Bool.{cases_Bool}
 use Rattle.std.proofs.lemmas.Bool.Decides.{nat_tests}
@@ -16,9 +16,8 @@ use Rattle.rx_batch.specs.declared.head.Head.{Head}
 use Rattle.rx_batch.specs.declared.trailer.Trailer.{Trailer}
 use Rattle.rx_batch.specs.Fault.{◌>>=◌}
 use Rattle.rx_batch.specs.Header.{is_kind, head_of, trailer_of}
-use Rattle.rx_batch.specs.Grammar.{is_skipped, IsInside, record_text, past, with_record, header, detail, agreeing, trailer, with_header, with_detail, with_trailer, record_of, record_at, no_front, IsFront, Spaced, spaced_text, IsGap, IsSpaced, IsHeader, IsDetail, IsTrailer, IsFile}
+use Rattle.rx_batch.specs.Grammar.{is_skipped, IsInside, record_text, with_record, header, detail, agreeing, trailer, with_detail, with_trailer, record_of, record_at, IsFront, Spaced, spaced_text, IsGap, IsSpaced, IsHeader, IsDetail, IsTrailer, IsFile}
 use Rattle.rx_batch.specs.Grammar.IsFront.{empty, skipped, good}
-use Rattle.rx_batch.proofs.Following.{past_none, past_more}
 
 -- ---- from the grammar to good fronts
 
@@ -245,8 +244,8 @@ detail_shape bytes body head ds d h inside is few =
       records = h.records ++ r ∷ [];
       gap = [];
       whole = ap (λ (bs : List ℕ). bs ++ record_text body) h.whole ∙ one_more (spaced_text h.header) h.gap body h.records
-      ∙ ap (λ (bs : List ℕ). spaced_text h.header ++ (flat_map spaced_text h.records ++ bs)) (sym (append-nil (spaced_text r)))
-      ∙ ap (λ (bs : List ℕ). spaced_text h.header ++ bs) (sym (flat_map-append spaced_text h.records (r ∷ [])) ∙ sym (append-nil (flat_map spaced_text (h.records ++ r ∷ []))));
+          ∙ ap (λ (bs : List ℕ). spaced_text h.header ++ (flat_map spaced_text h.records ++ bs)) (sym (append-nil (spaced_text r)))
+          ∙ ap (λ (bs : List ℕ). spaced_text h.header ++ bs) (sym (flat_map-append spaced_text h.records (r ∷ [])) ∙ sym (append-nil (flat_map spaced_text (h.records ++ r ∷ []))));
       header_is = h.header_is;
       details_are = details_push h.records ds r d h.details_are ((h.gap_is, inside), is);
       few = omega (arith, length-append ds (d ∷ []));
@@ -260,7 +259,7 @@ trailer_shape bytes body head ds h inside is = record {
   trailer = record { gap = h.gap; body = body };
   gap = [];
   whole = ap (λ (bs : List ℕ). bs ++ record_text body) h.whole ∙ one_more (spaced_text h.header) h.gap body h.records
-  ∙ ap (λ (bs : List ℕ). spaced_text h.header ++ (flat_map spaced_text h.records ++ bs)) (sym (append-nil (h.gap ++ record_text body)));
+      ∙ ap (λ (bs : List ℕ). spaced_text h.header ++ (flat_map spaced_text h.records ++ bs)) (sym (append-nil (h.gap ++ record_text body)));
   header_is = h.header_is;
   details_are = h.details_are;
   few = h.few;

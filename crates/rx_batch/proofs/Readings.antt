@@ -1,5 +1,5 @@
 -- Each text is the file of one batch, or has one fault.
-use Rattle.std.proofs.Common.{◌≡◌, ◌≢◌, ◌⊎◌, ℕ, Bool, true, false, cond, eqb, List, [], ◌∷◌, ◌++◌, append_assoc, append-nil, refl, sym, ap, ◌∙◌, subst, arith, inl, inr, Result, Ok, Err, Option, Some, None}
+use Rattle.std.proofs.Common.{◌≡◌, ◌⊎◌, ℕ, Bool, true, false, cond, eqb, List, [], ◌∷◌, ◌++◌, append_assoc, append-nil, refl, sym, ap, ◌∙◌, subst, arith, inl, inr, Result, Ok, Err, Option, Some, None}
 use Rattle.std.specs.Result.{IfOk, IfErr}
 use Rattle.std.proofs.lemmas.Bool.{cases_Bool}
 use Rattle.std.proofs.lemmas.Bool.Decides.{nat_tests}
@@ -12,13 +12,12 @@ use Rattle.rx_batch.specs.declared.front.Front.{Front}
 use Rattle.rx_batch.specs.declared.front.Stage.{Stage}
 use Rattle.rx_batch.specs.declared.front.Stage.TheVariants.{Start, Headed, Whole}
 use Rattle.rx_batch.specs.declared.head.Head.{Head}
-use Rattle.rx_batch.specs.declared.reader.Reader.{Reader}
 use Rattle.rx_batch.specs.Fault.{Gives, UnlessMemory, ◌>>=◌}
-use Rattle.rx_batch.specs.Grammar.{is_skipped, is_mark, IsInside, past, record_of, no_front, IsFront, IsFile}
+use Rattle.rx_batch.specs.Grammar.{is_skipped, is_mark, past, record_of, no_front, IsFile}
 use Rattle.rx_batch.specs.Grammar.IsFront.{empty}
-use Rattle.rx_batch.specs.Reading.{is_whole, ended, stray, begins, batch_from, batch_of, FaultAfter, HasFault}
+use Rattle.rx_batch.specs.Reading.{is_whole, stray, begins, batch_from, batch_of, FaultAfter, HasFault}
 use Rattle.rx_batch.specs.Reading.FaultAfter.{no_header, no_trailer, no_record, no_end, second_start, bad_record}
-use Rattle.rx_batch.specs.Pieces.{begun_text, IsRead, IsReadUpTo}
+use Rattle.rx_batch.specs.Pieces.{begun_text, IsReadUpTo}
 use Rattle.rx_batch.proofs.Following.{front_of, from_record, from_stray, from_second, from_begun, from_end}
 use Rattle.rx_batch.proofs.Steps.{unless_so, between, within, one_skipped, begun_read, more_read, closed_read}
 use Rattle.rx_batch.proofs.Files.{file_reached, shape_of, Shape}
@@ -56,14 +55,17 @@ abbrev State : List ℕ → Type 0
 State text = ((head : Head) × (details : List Detail) × IsFile text head details) ⊎ ((e : BatchFault) × HasFault text e)
 
 fault_read : (f : Front) (o : Option (List ℕ)) (text rest : List ℕ) (e : BatchFault) → IsReadUpTo (record { front = f; begun = o }) text rest → FaultAfter f (begun_text o ++ rest) e → State text
-fault_read f o text rest e h is = inr (e, record {
-  front = h.is_read.bytes;
-  rest = begun_text o ++ rest;
-  read = f;
-  whole = h.whole ∙ ap (λ (bs : List ℕ). bs ++ rest) h.is_read.whole ∙ append_assoc h.is_read.bytes (begun_text o) rest;
-  good = h.is_read.good;
-  fault_is = is;
-})
+fault_read f o text rest e h is = inr (
+  e,
+  record {
+    front = h.is_read.bytes;
+    rest = begun_text o ++ rest;
+    read = f;
+    whole = h.whole ∙ ap (λ (bs : List ℕ). bs ++ rest) h.is_read.whole ∙ append_assoc h.is_read.bytes (begun_text o) rest;
+    good = h.is_read.good;
+    fault_is = is;
+  },
+)
 
 -- the end between records
 ended_state : (f : Front) (s : Stage) (text : List ℕ) → f.stage ≡ s → IsReadUpTo (between f) text [] → State text

@@ -1,14 +1,12 @@
 -- Records are read as they were written.
-use Rattle.std.proofs.Common.{◌≡◌, ◌≤◌, ◌<◌, ◌⊎◌, ℕ, zero, suc, ◌+◌, Bool, true, false, ◌&&◌, cond, eqb, leb, ltb, List, [], ◌∷◌, ◌++◌, codes, length, take, drop, get_or, slice_range, replicate, map, append_assoc, append-nil, add-zero, length-append, refl, sym, ap, ◌∙◌, subst, arith, inl, inr, Result, Ok, Err, Option, Some, None}
-use Rattle.std.specs.List.{All, AllZip, flat_map, list_all}
+use Rattle.std.proofs.Common.{◌≡◌, ◌≤◌, ◌<◌, ℕ, ◌+◌, Bool, true, false, ◌&&◌, eqb, ltb, List, [], ◌∷◌, ◌++◌, codes, length, take, drop, get_or, slice_range, replicate, map, append_assoc, append-nil, length-append, refl, sym, ap, ◌∙◌, subst, arith, inr, Result, Ok, Err, Option, Some}
+use Rattle.std.specs.List.{All, AllZip, flat_map}
 use Rattle.std.specs.Result.{OnOk}
 use Rattle.std.proofs.Math.Seq.{drop-append-add}
 use Rattle.std.proofs.lemmas.Bool.Decides.{nat_tests}
 use Rattle.std.proofs.lemmas.List.{flat_map_more, take_all, take_more, take_at, drop_at, get_or-drop, length-replicate}
 use Rattle.std.proofs.lemmas.List.Elements.{All-nil, All-cons, All-head, All-tail, All-append, All-push, All-replicate}
 use Rattle.std.proofs.lemmas.List.Folds.{flat_map-map}
-use Rattle.rx_fields.specs.declared.lot.Lot.{Lot}
-use Rattle.rx_fields.specs.declared.time.Time.{Time}
 use Rattle.rx_fields.specs.Digits.{is_digit, all_digits, number_of, digits_text}
 use Rattle.rx_fields.specs.Calendar.{Civil, date_of, date_text}
 use Rattle.rx_fields.specs.Clock.{time_of, time_text}
@@ -21,9 +19,8 @@ use Rattle.rx_batch.specs.declared.head.FileType.TheVariants.{Production, Test}
 use Rattle.rx_batch.specs.declared.head.Head.{Head}
 use Rattle.rx_batch.specs.declared.head.Kind.{Kind}
 use Rattle.rx_batch.specs.declared.head.Kind.TheVariants.{Transmission, Response}
-use Rattle.rx_batch.specs.declared.trailer.Trailer.{Trailer}
-use Rattle.rx_batch.specs.Header.{byte_of_kind, byte_of_file, file_of, is_kind, lot_in, head_of, trailer_of}
-use Rattle.rx_batch.specs.Grammar.{is_skipped, is_mark, IsInside, record_text, Spaced, spaced_text, IsGap, IsSpaced, IsHeader, IsDetail, IsTrailer, IsFile}
+use Rattle.rx_batch.specs.Header.{byte_of_kind, byte_of_file, file_of, lot_in, head_of, trailer_of}
+use Rattle.rx_batch.specs.Grammar.{is_skipped, is_mark, IsInside, record_text, Spaced, spaced_text, IsGap, IsSpaced, IsHeader, IsDetail, IsFile}
 use Rattle.rx_batch.specs.Writing.{lot_text, header_text, detail_text, trailer_text, file_text, IsPlain, IsLotSpelled}
 
 -- ---- fields of known lengths
@@ -154,10 +151,12 @@ here head = Some head
 
 -- a header is read as its head
 pub header_again : (head : Head) → head.kind ≡ Transmission → length head.sender ≡ 24 → length head.receiver ≡ 24 → IsLotSpelled head → IsHeader (header_text head) head
-header_again head kind sender receiver is =
-    (refl, ap head_of (header_joined head kind)
-    ∙ head_read head.sender (digits_text 7 head.lot.number) (date_text head.lot.created) (time_text head.time) head.receiver (byte_of_file head.file) sender (length-digits_text 7 head.lot.number) (length-date_text head.lot.created) (length-time_text head.time) receiver head.lot head.time head.file is.lot is.time (file_again head.file)
-    ∙ ap (λ (h : Head). here h) (head_same head kind))
+header_again head kind sender receiver is = (
+  refl,
+  ap head_of (header_joined head kind)
+      ∙ head_read head.sender (digits_text 7 head.lot.number) (date_text head.lot.created) (time_text head.time) head.receiver (byte_of_file head.file) sender (length-digits_text 7 head.lot.number) (length-date_text head.lot.created) (length-time_text head.time) receiver head.lot head.time head.file is.lot is.time (file_again head.file)
+      ∙ ap (λ (h : Head). here h) (head_same head kind),
+)
 
 -- ---- a detail
 
@@ -291,18 +290,21 @@ file_again_is text head details is few fields header are trailer = record {
   trailer = plain (trailer_text head.lot.number (length details + 2));
   gap = [];
   whole = is ∙ ap (λ (bs : List ℕ). record_text (header_text head) ++ bs) (
-    ap (λ (bs : List ℕ). bs ++ record_text (trailer_text head.lot.number (length details + 2))) (sym (flat_map-map spaced_text (λ (d : Detail). plain (detail_text d)) details))
-    ∙ ap (λ (bs : List ℕ). flat_map spaced_text (map (λ d. plain (detail_text d)) details) ++ bs) (sym (append-nil (record_text (trailer_text head.lot.number (length details + 2))))));
+      ap (λ (bs : List ℕ). bs ++ record_text (trailer_text head.lot.number (length details + 2))) (sym (flat_map-map spaced_text (λ (d : Detail). plain (detail_text d)) details))
+      ∙ ap (λ (bs : List ℕ). flat_map spaced_text (map (λ d. plain (detail_text d)) details) ++ bs) (sym (append-nil (record_text (trailer_text head.lot.number (length details + 2))))));
   header_is = ((no_gap, header_inside head fields.sender fields.receiver), header);
   details_are = details_again details fields.each are;
   few = few;
-  trailer_is = ((no_gap, trailer_inside head.lot.number (length details + 2)), record {
-    kind = refl;
-    trailer = record { number = head.lot.number; count = length details + 2 };
-    is = trailer;
-    number = refl;
-    count = inr refl;
-  });
+  trailer_is = (
+    (no_gap, trailer_inside head.lot.number (length details + 2)),
+    record {
+      kind = refl;
+      trailer = record { number = head.lot.number; count = length details + 2 };
+      is = trailer;
+      number = refl;
+      count = inr refl;
+    },
+  );
   gap_is = no_gap;
 }
 

@@ -1,22 +1,21 @@
 -- What a reader's steps make of the text that it has read so far.
-use Rattle.std.proofs.Common.{◌≡◌, ◌≢◌, cond, eqb, add-zero, ℕ, zero, suc, ◌+◌, Bool, true, false, List, [], ◌∷◌, ◌++◌, length, drop, append_assoc, append-nil, refl, sym, ap, ◌∙◌, subst, arith, take, get_or, take_all, length-drop, ◌-◌, ◌<◌, inl, inr, Result, Ok, Err, Option, Some, None, MatchOption}
-use Rattle.std.specs.List.{All, prefix_len}
+use Rattle.std.proofs.Common.{◌≡◌, ◌≢◌, cond, eqb, add-zero, ℕ, suc, Bool, true, false, List, [], ◌∷◌, ◌++◌, length, drop, append_assoc, append-nil, refl, sym, ap, ◌∙◌, subst, arith, take, get_or, take_all, length-drop, ◌-◌, ◌<◌, inl, inr, Result, Ok, Err, Option, Some, None, MatchOption}
+use Rattle.std.specs.List.{prefix_len}
 use Rattle.std.proofs.lemmas.Bool.{cases_Bool, ne_eqb}
 use Rattle.std.proofs.lemmas.Bool.Decides.{nat_tests}
 use Rattle.std.proofs.lemmas.List.{get_or-take, get_or-drop, take-append-drop, length-take}
 use Rattle.std.proofs.lemmas.List.Elements.{All-nil, All-append, All-from_get_or}
 use Rattle.memchr.specs.Find.{IsFirstByte, is_byte2}
-use Rattle.rx_batch.specs.declared.batch.Batch.{Batch}
 use Rattle.rx_batch.specs.declared.fault.BatchFault.{BatchFault}
 use Rattle.rx_batch.specs.declared.fault.BatchFault.TheVariants as fault
 use Rattle.rx_batch.specs.declared.front.Front.{Front}
 use Rattle.rx_batch.specs.declared.reader.Reader.{Reader}
 use Rattle.rx_batch.specs.Fault.{UnlessMemory, Gives, ◌>>=◌}
-use Rattle.rx_batch.specs.Grammar.{is_skipped, is_mark, IsInside, record_text, past, record_of, no_front, IsFront}
+use Rattle.rx_batch.specs.Grammar.{is_skipped, is_mark, IsInside, record_text, past, record_of, no_front}
 use Rattle.rx_batch.specs.Grammar.IsFront.{empty, skipped, good}
 use Rattle.rx_batch.specs.Reading.{is_whole, ended, stray, begins, batch_from, batch_of}
-use Rattle.rx_batch.specs.Pieces.{begun_text, IsRead, IsReadUpTo, IsFaultOf, Fed, StandsFor, answer_of}
-use Rattle.rx_batch.proofs.Following.{past_none, past_more, not_whole, front_of, from_record, from_stray, from_second, from_begun, from_end}
+use Rattle.rx_batch.specs.Pieces.{IsRead, IsReadUpTo, IsFaultOf, Fed, StandsFor, answer_of}
+use Rattle.rx_batch.proofs.Following.{past_none, past_more, front_of, from_record, from_stray, from_second, from_begun, from_end}
 
 -- ---- want of memory
 

@@ -1,5 +1,5 @@
 -- The records of a batch file in their order, and which bytes are a file (NCPDP Batch Standard 1.2).
-use Rattle.std.specs.Prelude.{◌≡◌, ◌≤◌, ◌⊎◌, ℕ, ◌+◌, Bool, true, false, not, ◌&&◌, ◌||◌, nat_lt, nat_le, ◌==◌, if◌then◌else◌, List, [], ◌∷◌, ◌++◌, codes, length, drop, slice_range, All, Option, Some, None, Result, Ok, Err}
+use Rattle.std.specs.Prelude.{◌≡◌, ◌≤◌, ◌⊎◌, ℕ, ◌+◌, Bool, true, false, not, ◌||◌, nat_lt, nat_le, ◌==◌, if◌then◌else◌, List, [], ◌∷◌, ◌++◌, codes, length, drop, slice_range, All, Some, Result, Ok, Err}
 use Rattle.std.specs.List.{flat_map, AllZip}
 use Rattle.std.specs.Option.{ok_or}
 use Rattle.rx_batch.specs.declared.detail.Detail.{Detail}
@@ -94,8 +94,10 @@ no_front = record { stage = Start; details = []; length = 0 }
 -- the bytes are a good front: made of skipped bytes and of whole good records
 pub data IsFront : List ℕ → Front → Type 0 where
   empty : IsFront [] no_front
-  skipped : {bytes : List ℕ} {f : Front} (b : ℕ) → IsFront bytes f → is_skipped b ≡ true → IsFront (bytes ++ b ∷ []) (past 1 f)
-  good : {bytes : List ℕ} {f : Front} (body : List ℕ) (g : Front) → IsFront bytes f → IsInside body → record_of f body ≡ Ok g → IsFront (bytes ++ record_text body) g
+  skipped : {bytes : List ℕ} {f : Front} (b : ℕ)
+      → IsFront bytes f → is_skipped b ≡ true → IsFront (bytes ++ b ∷ []) (past 1 f)
+  good : {bytes : List ℕ} {f : Front} (body : List ℕ) (g : Front)
+      → IsFront bytes f → IsInside body → record_of f body ≡ Ok g → IsFront (bytes ++ record_text body) g
 
 -- ---- a whole file
 
@@ -120,7 +122,8 @@ IsHeader body head = (is_kind (codes "00") body ≡ true) × (head_of body ≡ S
 -- the body of this detail: G1, ten bytes of reference, and the transmission
 abbrev pub IsDetail : List ℕ → Detail → Type 0
 IsDetail body d =
-    (is_kind (codes "G1") body ≡ true) × (12 ≤ length body) × (d ≡ record { reference = slice_range body 2 12; text = drop 12 body })
+    (is_kind (codes "G1") body ≡ true) × (12 ≤ length body)
+    × (d ≡ record { reference = slice_range body 2 12; text = drop 12 body })
 
 -- the body of a trailer with the batch number of the head, and the count of the details or two more
 pub record IsTrailer (body : List ℕ) (head : Head) (details : List Detail) : Type 0 where

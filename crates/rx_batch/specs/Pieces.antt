@@ -1,8 +1,6 @@
 -- What a batch that comes in pieces stands for.
 use Rattle.std.specs.Prelude.{◌≡◌, ℕ, false, List, [], ◌∷◌, ◌++◌, Option, Some, None, Result, Ok, Err, MatchOption}
-use Rattle.rx_batch.specs.declared.batch.Batch.{Batch}
 use Rattle.rx_batch.specs.declared.fault.BatchFault.{BatchFault}
-use Rattle.rx_batch.specs.declared.fault.BatchFault.TheVariants as fault
 use Rattle.rx_batch.specs.declared.front.Front.{Front}
 use Rattle.rx_batch.specs.declared.reader.Reader.{Reader}
 use Rattle.rx_batch.specs.Fault.{UnlessMemory}

@@ -1,5 +1,5 @@
 -- What a text is read as: its batch, or its first fault with the place.
-use Rattle.std.specs.Prelude.{◌≡◌, ℕ, Bool, true, false, ◌&&◌, ◌==◌, if◌then◌else◌, List, [], ◌∷◌, ◌++◌, drop, Result, Ok, Err}
+use Rattle.std.specs.Prelude.{◌≡◌, ℕ, Bool, true, false, ◌==◌, if◌then◌else◌, List, [], ◌∷◌, ◌++◌, drop, Result, Ok, Err}
 use Rattle.std.specs.List.{prefix_len, slice_split, list_any}
 use Rattle.rx_batch.specs.declared.batch.Batch.{Batch}
 use Rattle.rx_batch.specs.declared.fault.BatchFault.{BatchFault}
@@ -50,10 +50,14 @@ last f (b ∷ body) = if begins f b then Err (fault.Unclosed f.length) else Err 
 pub data FaultAfter (f : Front) : List ℕ → BatchFault → Type 0 where
   no_header : f.stage ≡ Start → FaultAfter f [] (fault.NoHeader f.length)
   no_trailer : (head : Head) → f.stage ≡ Headed head → FaultAfter f [] (fault.NoTrailer f.length)
-  no_record : (b : ℕ) (rest : List ℕ) → is_skipped b ≡ false → begins f b ≡ false → FaultAfter f (b ∷ rest) (stray f)
-  no_end : (body : List ℕ) → is_whole f.stage ≡ false → IsInside body → FaultAfter f (2 ∷ body) (fault.Unclosed f.length)
-  second_start : (body rest : List ℕ) → is_whole f.stage ≡ false → IsInside body → FaultAfter f (2 ∷ (body ++ 2 ∷ rest)) (fault.Unclosed f.length)
-  bad_record : (body rest : List ℕ) (e : BatchFault) → is_whole f.stage ≡ false → IsInside body → record_of f body ≡ Err e → FaultAfter f (2 ∷ (body ++ 3 ∷ rest)) e
+  no_record : (b : ℕ) (rest : List ℕ)
+      → is_skipped b ≡ false → begins f b ≡ false → FaultAfter f (b ∷ rest) (stray f)
+  no_end : (body : List ℕ)
+      → is_whole f.stage ≡ false → IsInside body → FaultAfter f (2 ∷ body) (fault.Unclosed f.length)
+  second_start : (body rest : List ℕ)
+      → is_whole f.stage ≡ false → IsInside body → FaultAfter f (2 ∷ (body ++ 2 ∷ rest)) (fault.Unclosed f.length)
+  bad_record : (body rest : List ℕ) (e : BatchFault)
+      → is_whole f.stage ≡ false → IsInside body → record_of f body ≡ Err e → FaultAfter f (2 ∷ (body ++ 3 ∷ rest)) e
 
 -- the bytes are no file, and have this fault
 pub record HasFault (bytes : List ℕ) (e : BatchFault) : Type 0 where

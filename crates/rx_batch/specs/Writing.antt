@@ -1,5 +1,5 @@
 -- The one text of a batch file.
-use Rattle.std.specs.Prelude.{◌≡◌, ℕ, ◌+◌, All, Some, List, [], ◌∷◌, ◌++◌, codes, length, replicate}
+use Rattle.std.specs.Prelude.{◌≡◌, ℕ, ◌+◌, All, Some, List, ◌∷◌, ◌++◌, codes, length, replicate}
 use Rattle.std.specs.List.{flat_map}
 use Rattle.rx_fields.specs.Digits.{digits_text}
 use Rattle.rx_fields.specs.Calendar.{date_text}

@@ -4,6 +4,8 @@ use crate::head::Head;
 /// A batch: its head, and its details in file order.
 #[derive(Debug, Drop)]
 pub struct Batch {
+    /// The header's fields.
     pub head: Head,
+    /// The details; a batch that was read has at most 100,000.
     pub details: Details,
 }

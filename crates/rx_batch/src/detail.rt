@@ -2,10 +2,12 @@ ghost use Rattle.std.specs.Prelude.{◌≡◌};
 
 use std::marker::Model;
 
-/// One detail of a batch: a reference of the sender's, and the text of one transmission.
+/// One detail of a batch (docs/FORMATS.md, "Batch file").
 #[derive(Debug, Drop)]
 pub struct Detail {
+    /// The sender's name for the detail: any bytes but STX and ETX.
     pub reference: [u8; 10],
+    /// The transmission, of any length: any bytes but STX and ETX.
     pub text: Text,
 }
 
@@ -43,24 +45,28 @@ ghost use Rattle.std.specs.Prelude.{[], ◌∷◌, ◌++◌, ◌==◌, length, O
 use std::alloc::{AllocError, AllocFailed};
 
 impl Text {
+    /// The text of these bytes, without taking memory.
     pub fn new(bytes: Vec<u8>) -> Text
         ensures { result ≡ bytes.items }
     {
         Text { bytes }
     }
 
+    /// The bytes of the text.
     pub fn bytes(&self) -> &[u8]
         ensures { result.now ≡ self.now }
     {
         self.bytes.as_slice()
     }
 
+    /// Whether the text has no byte.
     pub fn is_empty(&self) -> bool
         ensures { result ≡ (length self.now == 0) }
     {
         self.bytes.is_empty()
     }
 
+    /// The bytes back, without taking memory.
     pub fn into_vec(self) -> Vec<u8>
         ensures { result.items ≡ self }
     {
@@ -78,18 +84,21 @@ impl Text {
 }
 
 impl Details {
+    /// The list of these details, without taking memory.
     pub fn new(details: Vec<Detail>) -> Details
         ensures { result ≡ details.items }
     {
         Details { details }
     }
 
+    /// The details, in file order.
     pub fn as_slice(&self) -> &[Detail]
         ensures { result.now ≡ self.now }
     {
         self.details.as_slice()
     }
 
+    /// The details back, without taking memory.
     pub fn into_vec(self) -> Vec<Detail>
         ensures { result.items ≡ self }
     {
@@ -97,6 +106,7 @@ impl Details {
         details
     }
 
+    /// The number of details.
     pub fn len(&self) -> usize
         ensures { result ≡ length self.now }
     {

@@ -64,7 +64,11 @@ impl Front {
     pub(crate) fn end(self) -> Result<Batch, BatchFault>
         ensures { result ≡ ended self }
     {
-        let Front { stage, details, length } = self;
+        let Front {
+            stage,
+            details,
+            length,
+        } = self;
         match stage {
             Stage::Start => Err(BatchFault::NoHeader { at: length }),
             Stage::Headed(_) => Err(BatchFault::NoTrailer { at: length }),
@@ -105,7 +109,12 @@ impl Front {
     }
 
     // Takes the record whose bytes between STX and ETX came in two parts.
-    pub(crate) fn joined_record(&mut self, alloc: Global, mut body: Text, end: &[u8]) -> Result<(), BatchFault>
+    pub(crate) fn joined_record(
+        &mut self,
+        alloc: Global,
+        mut body: Text,
+        end: &[u8],
+    ) -> Result<(), BatchFault>
         ensures { Takes result self.new (record_of self.old (body ++ end.now)) }
     {
         if body.is_empty() {

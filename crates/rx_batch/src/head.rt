@@ -6,6 +6,7 @@ use rx_fields::{Lot, Time};
 /// The header of a batch file (docs/FORMATS.md, "Batch file").
 #[derive(Clone, Copy, Debug, PartialEq, Eq)]
 pub struct Head {
+    /// What the records are; `read_batch` reads requests alone.
     pub kind: Kind,
     /// Who sends the batch: 24 bytes, filled with blanks.
     pub sender: [u8; 24],
@@ -13,6 +14,7 @@ pub struct Head {
     pub lot: Lot,
     /// The creation time.
     pub time: Time,
+    /// Production or test.
     pub file: FileType,
     /// To whom the batch goes: 24 bytes, filled with blanks.
     pub receiver: [u8; 24],
@@ -30,7 +32,9 @@ impl Head {
 /// What the records of a file are: requests, or the replies to them.
 #[derive(Clone, Copy, Debug, PartialEq, Eq)]
 pub enum Kind {
+    /// Requests: `T`.
     Transmission,
+    /// Replies: `R`.
     Response,
 }
 
@@ -49,7 +53,9 @@ impl Kind {
 /// Whether a file is meant in earnest or as a test.
 #[derive(Clone, Copy, Debug, PartialEq, Eq)]
 pub enum FileType {
+    /// In earnest: `P`.
     Production,
+    /// A test: `T`.
     Test,
 }
 

@@ -59,7 +59,11 @@ impl Pieces {
         ensures value { (text : List ℕ) → StandsFor self text → Gives result (batch_of text) }
         ensures same { IfSome self.fault (λ f. result ≡ Err f) }
     {
-        let Pieces { alloc: _, reader, fault } = self;
+        let Pieces {
+            alloc: _,
+            reader,
+            fault,
+        } = self;
         match fault {
             Some(fault) => Err(fault),
             None => reader.end(),

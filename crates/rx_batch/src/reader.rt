@@ -13,6 +13,7 @@ use memchr::memchr2;
 use std::alloc::Global;
 
 pub(crate) const STX: u8 = 2;
+
 pub(crate) const ETX: u8 = 3;
 
 /// A good front of a text, and the bytes after the STX of a record that was begun.
@@ -34,8 +35,10 @@ impl Reader {
 
     // Reads the bytes that come next.
     pub(crate) fn read(&mut self, alloc: Global, piece: &[u8]) -> Result<(), BatchFault>
-        ensures ok { (text : List ℕ) → IsRead self.old text → IfOk result (λ _. IsRead self.new (text ++ piece.now)) }
-        ensures err { (text : List ℕ) → IsRead self.old text → IfErr result (λ f. IsFaultOf f (text ++ piece.now)) }
+        ensures ok { (text : List ℕ) → IsRead self.old text
+            → IfOk result (λ _. IsRead self.new (text ++ piece.now)) }
+        ensures err { (text : List ℕ) → IsRead self.old text
+            → IfErr result (λ f. IsFaultOf f (text ++ piece.now)) }
     {
         let mut rest = piece;
         while !rest.is_empty() {
@@ -47,9 +50,11 @@ impl Reader {
     // Reads some of the bytes that come next, and answers the others.
     fn advance<'a>(&mut self, alloc: Global, bytes: &'a [u8]) -> Result<&'a [u8], BatchFault>
         requires { 0 < length bytes.now }
-        ensures ok { (text : List ℕ) → IsReadUpTo self.old text bytes.now → IfOk result (λ rest. IsReadUpTo self.new text rest.now) }
+        ensures ok { (text : List ℕ) → IsReadUpTo self.old text bytes.now
+            → IfOk result (λ rest. IsReadUpTo self.new text rest.now) }
         ensures within { IfOk result (λ rest. length rest.now < length bytes.now) }
-        ensures err { (text : List ℕ) → IsReadUpTo self.old text bytes.now → IfErr result (λ f. IsFaultOf f text) }
+        ensures err { (text : List ℕ) → IsReadUpTo self.old text bytes.now
+            → IfErr result (λ f. IsFaultOf f text) }
     {
         match self.begun.take() {
             None => self.between(alloc, bytes),
@@ -61,9 +66,11 @@ impl Reader {
     fn between<'a>(&mut self, alloc: Global, bytes: &'a [u8]) -> Result<&'a [u8], BatchFault>
         requires none { self.old.begun ≡ None }
         requires some { 0 < length bytes.now }
-        ensures ok { (text : List ℕ) → IsReadUpTo self.old text bytes.now → IfOk result (λ rest. IsReadUpTo self.new text rest.now) }
+        ensures ok { (text : List ℕ) → IsReadUpTo self.old text bytes.now
+            → IfOk result (λ rest. IsReadUpTo self.new text rest.now) }
         ensures within { IfOk result (λ rest. length rest.now < length bytes.now) }
-        ensures err { (text : List ℕ) → IsReadUpTo self.old text bytes.now → IfErr result (λ f. IsFaultOf f text) }
+        ensures err { (text : List ℕ) → IsReadUpTo self.old text bytes.now
+            → IfErr result (λ f. IsFaultOf f text) }
     {
         let gap = gap(bytes);
         self.front.pass(gap)?;
@@ -79,12 +86,19 @@ impl Reader {
     }
 
     // Reads on in a record of which these bytes are known, up to its ETX.
-    fn within<'a>(&mut self, alloc: Global, body: Text, bytes: &'a [u8]) -> Result<&'a [u8], BatchFault>
+    fn within<'a>(
+        &mut self,
+        alloc: Global,
+        body: Text,
+        bytes: &'a [u8],
+    ) -> Result<&'a [u8], BatchFault>
         requires none { self.old.begun ≡ None }
         requires some { 0 < length bytes.now }
-        ensures ok { (text : List ℕ) → IsReadUpTo (record self.old { begun = Some body }) text bytes.now → IfOk result (λ rest. IsReadUpTo self.new text rest.now) }
+        ensures ok { (text : List ℕ) → IsReadUpTo (record self.old { begun = Some body }) text bytes.now
+            → IfOk result (λ rest. IsReadUpTo self.new text rest.now) }
         ensures within { IfOk result (λ rest. length rest.now < length bytes.now) }
-        ensures err { (text : List ℕ) → IsReadUpTo (record self.old { begun = Some body }) text bytes.now → IfErr result (λ f. IsFaultOf f text) }
+        ensures err { (text : List ℕ) → IsReadUpTo (record self.old { begun = Some body }) text bytes.now
+            → IfErr result (λ f. IsFaultOf f text) }
     {
         let Some(end) = memchr2(STX, ETX, bytes) else {
             let mut body = body;
@@ -94,7 +108,9 @@ impl Reader {
         };
         let (last, rest) = bytes.split_at(end);
         if rest[0] == STX {
-            return Err(BatchFault::Unclosed { at: self.front.length });
+            return Err(BatchFault::Unclosed {
+                at: self.front.length,
+            });
         }
         self.front.joined_record(alloc, body, last)?;
         Ok(&rest[1..])

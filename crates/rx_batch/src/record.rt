@@ -52,7 +52,12 @@ fn lot(number: &[u8], created: &[u8]) -> Option<Lot>
 }
 
 // The detail that stands at this place behind the details so far.
-pub(crate) fn detail(alloc: Global, at: u64, details: &[Detail], body: &[u8]) -> Result<Detail, BatchFault>
+pub(crate) fn detail(
+    alloc: Global,
+    at: u64,
+    details: &[Detail],
+    body: &[u8],
+) -> Result<Detail, BatchFault>
     ensures { Gives result (detail at details.now body.now) }
 {
     if body.len() < 12 {
@@ -69,7 +74,12 @@ pub(crate) fn detail(alloc: Global, at: u64, details: &[Detail], body: &[u8]) ->
 }
 
 // The trailer that stands at this place behind the head and all details.
-pub(crate) fn trailer(at: u64, head: &Head, details: &[Detail], body: &[u8]) -> Result<Trailer, BatchFault>
+pub(crate) fn trailer(
+    at: u64,
+    head: &Head,
+    details: &[Detail],
+    body: &[u8],
+) -> Result<Trailer, BatchFault>
     ensures { result ≡ trailer at head.now details.now body.now }
 {
     let trailer = Trailer::of(body).ok_or(BatchFault::TrailerShape { at })?;

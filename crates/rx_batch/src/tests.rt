@@ -1,12 +1,17 @@
-use crate::{Batch, BatchFault, Detail, FileType, Kind, Pieces, Text, one_reading, read_batch, write_batch};
+use crate::{
+    Batch, BatchFault, Detail, FileType, Kind, Pieces, Text, one_reading, read_batch, write_batch,
+};
 use std::alloc::{AllocError, Global};
 use std::test::Fail;
 
-const HEADER: &[u8] = b"\x0200TPHARMSYS                0000042202603010930P12RXSWITCH                \x03";
+const HEADER: &[u8] =
+    b"\x0200TPHARMSYS                0000042202603010930P12RXSWITCH                \x03";
+
 const CLAIM: &[u8] = b"900001D0B1RXDEMO    1011234567893     20260228          \
 \x1e\x1cAM04\x1cC2C100\x1cC301\
 \x1d\x1e\x1cAM07\x1cEM1\x1cD2000000000123\x1cE103\x1cD700002000202\x1cE70000030000\x1cD5030\x1cD61\
 \x1e\x1cAM11\x1cD90003000{\x1cDC0000017E\x1cDQ0004000{";
+
 const TRAILER: &[u8] = b"\x029900000420000000001                                   \x03";
 
 fn joined(alloc: Global, parts: &[&[u8]]) -> Result<Vec<u8>, AllocError> {
@@ -19,7 +24,10 @@ fn joined(alloc: Global, parts: &[&[u8]]) -> Result<Vec<u8>, AllocError> {
 
 // The file of one billing, of 326 bytes.
 fn one_billing(alloc: Global) -> Result<Vec<u8>, AllocError> {
-    joined(alloc, &[HEADER, b"\x02G10000000001", CLAIM, b"\x03", TRAILER])
+    joined(
+        alloc,
+        &[HEADER, b"\x02G10000000001", CLAIM, b"\x03", TRAILER],
+    )
 }
 
 // A file with another byte at one place.
@@ -41,14 +49,14 @@ fn told(outcome: &Result<Batch, BatchFault>) -> (u32, u64) {
 
 fn same_details(a: &[Detail], b: &[Detail]) -> bool {
     a.len() == b.len()
-        && a.iter()
-            .zip(b)
-            .all(|(x, y)| x.reference == y.reference && x.text.bytes() == y.text.bytes())
+        && a.iter().zip(b).all(|(x, y)| x.reference == y.reference
+            && x.text.bytes() == y.text.bytes())
 }
 
 fn same(a: &Result<Batch, BatchFault>, b: &Result<Batch, BatchFault>) -> bool {
     match (a, b) {
-        (Ok(a), Ok(b)) => a.head == b.head && same_details(a.details.as_slice(), b.details.as_slice()),
+        (Ok(a), Ok(b)) => a.head == b.head
+            && same_details(a.details.as_slice(), b.details.as_slice()),
         (Err(a), Err(b)) => *a == *b,
         _ => false,
     }
@@ -76,13 +84,19 @@ fn reads_and_writes_one_billing(rt: HostRuntime) -> Result<(), Fail> {
     assert_eq!(rt; file.len(), 326);
     let batch = read_batch(rt.alloc(), &file)?;
     assert!(rt; batch.head.kind == Kind::Transmission && batch.head.file == FileType::Production);
-    assert!(rt; batch.head.sender.starts_with(b"PHARMSYS  ") && batch.head.receiver.starts_with(b"RXSWITCH  "));
+    assert!(rt;
+        batch.head.sender.starts_with(b"PHARMSYS  ")
+            && batch.head.receiver.starts_with(b"RXSWITCH  ")
+    );
     assert_eq!(rt; batch.head.lot().number(), 42);
     assert_eq!(rt; batch.head.lot().created().number(), 20513);
     assert_eq!(rt; (batch.head.time.hour(), batch.head.time.minute()), (9, 30));
     let claim = Text::new(Vec::from_slice(rt.alloc(), CLAIM)?);
     let mut wanted = Vec::new(rt.alloc());
-    wanted.push(Detail { reference: *b"0000000001", text: claim })?;
+    wanted.push(Detail {
+        reference: *b"0000000001",
+        text: claim,
+    })?;
     assert!(rt; same_details(batch.details.as_slice(), &wanted));
     let text = write_batch(rt.alloc(), &batch.head, batch.details.as_slice())?;
     assert!(rt; text.as_slice() == changed(rt.alloc(), &file, 289, b'3')?.as_slice());
@@ -91,10 +105,19 @@ fn reads_and_writes_one_billing(rt: HostRuntime) -> Result<(), Fail> {
 
 #[test]
 fn counts_an_empty_batch(rt: HostRuntime) -> Result<(), Fail> {
-    for (count, wanted) in [(b'0', (0, 0)), (b'2', (0, 0)), (b'1', (10, 75)), (b'3', (10, 75))] {
+    for (count, wanted) in [
+        (b'0', (0, 0)),
+        (b'2', (0, 0)),
+        (b'1', (10, 75)),
+        (b'3', (10, 75)),
+    ] {
         let file = joined(rt.alloc(), &[HEADER, TRAILER])?;
         let file = changed(rt.alloc(), &file, 94, count)?;
-        assert_eq!(rt; told(&read_batch(rt.alloc(), &file)), wanted, "count {count}");
+        assert_eq!(rt;
+            told(&read_batch(rt.alloc(), &file)),
+            wanted,
+            "count {count}"
+        );
     }
     Ok(())
 }
@@ -112,7 +135,11 @@ fn names_the_fault_of_a_cut_file(rt: HostRuntime) -> Result<(), Fail> {
             _ => (4, 270),
         };
         let cut = file.get(..length).unwrap_or(&[]);
-        assert_eq!(rt; told(&read_batch(rt.alloc(), cut)), wanted, "cut to {length}");
+        assert_eq!(rt;
+            told(&read_batch(rt.alloc(), cut)),
+            wanted,
+            "cut to {length}"
+        );
     }
     Ok(())
 }
@@ -136,7 +163,11 @@ fn names_the_fault_of_a_damaged_file(rt: HostRuntime) -> Result<(), Fail> {
     ];
     for (at, byte, wanted) in changes {
         let damaged = changed(rt.alloc(), &file, at, byte)?;
-        assert_eq!(rt; told(&read_batch(rt.alloc(), &damaged)), wanted, "{byte} at {at}");
+        assert_eq!(rt;
+            told(&read_batch(rt.alloc(), &damaged)),
+            wanted,
+            "{byte} at {at}"
+        );
     }
     let texts: [(&[&[u8]], (u32, u64)); 6] = [
         (&[file.as_slice(), b"X"], (11, 326)),
@@ -158,7 +189,17 @@ fn reads_pieces_as_the_whole(rt: HostRuntime) -> Result<(), Fail> {
     let file = one_billing(rt.alloc())?;
     let spaced = joined(
         rt.alloc(),
-        &[b"\r\n", HEADER, b"\r\n", b"\x02G10000000001", CLAIM, b"\x03", b"\r\n", TRAILER, b"\r\n"],
+        &[
+            b"\r\n",
+            HEADER,
+            b"\r\n",
+            b"\x02G10000000001",
+            CLAIM,
+            b"\x03",
+            b"\r\n",
+            TRAILER,
+            b"\r\n",
+        ],
     )?;
     let after = joined(rt.alloc(), &[&file, b"X"])?;
     let before = joined(rt.alloc(), &[b"X", &file])?;
@@ -170,7 +211,10 @@ fn reads_pieces_as_the_whole(rt: HostRuntime) -> Result<(), Fail> {
         assert!(rt; same(&by_bytes(rt.alloc(), text), &whole));
         for at in 0..=text.len() {
             let (front, back) = text.split_at(at);
-            assert!(rt; same(&in_two(rt.alloc(), front, back), &whole), "cut at {at}");
+            assert!(rt;
+                same(&in_two(rt.alloc(), front, back), &whole),
+                "cut at {at}"
+            );
         }
     }
     Ok(())
@@ -184,7 +228,10 @@ fn keeps_its_first_fault(rt: HostRuntime) -> Result<(), Fail> {
         pieces.feed(&[*byte])?;
     }
     for _ in 0..3u8 {
-        assert_eq!(rt; pieces.feed(b"X"), Err(BatchFault::AfterTrailer { at: 326 }));
+        assert_eq!(rt;
+            pieces.feed(b"X"),
+            Err(BatchFault::AfterTrailer { at: 326 })
+        );
     }
     assert_eq!(rt; told(&pieces.finish()), (11, 326));
     Ok(())

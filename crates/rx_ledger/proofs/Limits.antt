@@ -22,10 +22,12 @@ within_family-within (Some figure) used amount = omega arith
 
 pub under_deductible-within : (f : Figures) (used : Used) (allowed : ℕ) → under_deductible f used allowed ≤ allowed
 under_deductible-within f used allowed =
-    omega (arith, within_family-within f.family_deductible used.family_deductible (min allowed (left f.member_deductible used.deductible)))
+    let of_member = min allowed (left f.member_deductible used.deductible) in
+    omega (arith, within_family-within f.family_deductible used.family_deductible of_member)
 
 -- copay and coinsurance together are no more than what is left after the deductible
-share-within : (s : Share) (rest room : ℕ) → is_share s ≡ true → copay_of s rest room + coinsurance_of s rest room ≤ rest
+share-within : (s : Share) (rest room : ℕ) → is_share s ≡ true
+    → copay_of s rest room + coinsurance_of s rest room ≤ rest
 share-within (Copay cents) rest room h = omega arith
 share-within (Percent percent) rest room h = omega (arith, part-within rest percent (leb-true percent 100 h))
 

@@ -26,7 +26,8 @@ tied-both Less q e f = cc
 tied-both Greater q e f = cc
 
 -- who has the person code among those of the family is listed under both
-listed_by-person : (ms : List Member) (family person : List ℕ) (m : Member) → person_in (filter (of_family family) ms) person ≡ Some m
+listed_by-person : (ms : List Member) (family person : List ℕ) (m : Member)
+    → person_in (filter (of_family family) ms) person ≡ Some m
     → contains_key member_cmp member_key ms (record { family = family; person = person }) ≡ true
 listed_by-person [] family person m found = cc
 listed_by-person (x ∷ xs) family person m found =
@@ -35,7 +36,9 @@ listed_by-person (x ∷ xs) family person m found =
       | inl here ↦ rw here refl
       | inr other ↦ rw other (elim (cases_Bool (of_family family x)) [
         | inl own ↦ elim (cases_Bool (is_same x.key.person person)) [
-          | inl same ↦ let tied : has_key member_cmp member_key k x ≡ true = tied-both (id_cmp x.key.family family) (id_cmp x.key.person person) own same in cc
+          | inl same ↦
+              let tied : has_key member_cmp member_key k x ≡ true = tied-both _ _ own same in
+              cc
           | inr different ↦ listed_by-person xs family person m (rw (own, different) at found)
         ]
         | inr stranger ↦ listed_by-person xs family person m (rw stranger at found)
@@ -53,7 +56,8 @@ bill-paid : (a : Asked) (b : BillParts) (members : List Member) (rows : List Row
 bill-paid a b [] rows under p paid = cc
 bill-paid a b (x ∷ xs) rows under p paid = person-paid a b (person_in (x ∷ xs) b.person) rows under p paid
 
-listed-found : (L : Ledger) (family person : List ℕ) (found : Option Member) → person_in (members_of L family) person ≡ found
+listed-found : (L : Ledger) (family person : List ℕ) (found : Option Member)
+    → person_in (members_of L family) person ≡ found
     → IsSome found → contains_key member_cmp member_key L.members (record { family = family; person = person }) ≡ true
 listed-found L family person None e h = cc
 listed-found L family person (Some m) e h = listed_by-person L.members family person m e

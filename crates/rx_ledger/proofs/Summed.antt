@@ -27,16 +27,27 @@ used_by-more f person rows i d h =
       sum_by_more (counted f.period deductible_paid) rows i d h,
     ) refl
 
-module _ (f : Figures) (person : List ℕ) (rows : List Row) (i : ℕ) (r : Row) (in_range : i < length rows) (is : r ≡ get_or rows i r) where
+module _ (f : Figures) (person : List ℕ) (rows : List Row) (i : ℕ) (r : Row) (in_range : i < length rows)
+    (is : r ≡ get_or rows i r) where
   -- a row of the period, of the person or of another in the family
   pub used_by-own : is_within f.period r.key.date ≡ true → is_same r.person person ≡ true
-      → used_by f person (take (i + 1) rows) ≡ (let used = used_by f person (take i rows) in record { deductible = used.deductible + deductible_paid r; out_of_pocket = used.out_of_pocket + paid_by_patient r; family_deductible = used.family_deductible + deductible_paid r })
+      → used_by f person (take (i + 1) rows) ≡ (let used = used_by f person (take i rows) in
+      record {
+        deductible = used.deductible + deductible_paid r;
+        out_of_pocket = used.out_of_pocket + paid_by_patient r;
+        family_deductible = used.family_deductible + deductible_paid r;
+      })
   used_by-own within own =
       let more = used_by-more f person rows i r in_range in
       rw (more, ← is, within, own) refl
 
   pub used_by-other : is_within f.period r.key.date ≡ true → is_same r.person person ≡ false
-      → used_by f person (take (i + 1) rows) ≡ (let used = used_by f person (take i rows) in record { deductible = used.deductible; out_of_pocket = used.out_of_pocket + paid_by_patient r; family_deductible = used.family_deductible + deductible_paid r })
+      → used_by f person (take (i + 1) rows) ≡ (let used = used_by f person (take i rows) in
+      record {
+        deductible = used.deductible;
+        out_of_pocket = used.out_of_pocket + paid_by_patient r;
+        family_deductible = used.family_deductible + deductible_paid r;
+      })
   used_by-other within other =
       let more = used_by-more f person rows i r in_range in
       rw (more, ← is, within, other) (simp add-zero)

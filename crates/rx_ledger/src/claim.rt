@@ -17,7 +17,8 @@ use crate::share::{Used, shared};
 use rx_claim::{Answer, Bill, Codes, Paid, Refused};
 use rx_fields::{Code, Day, Person, Reference};
 
-/// A billing with what it is answered by, beside the members of its family and the row under its fill key.
+/// A billing with what it is answered by, beside the members of its family and the row under its fill key. What is
+/// used may come from stored totals: it has to be the sum over the rows, and figures and drug within their ranges.
 #[derive(Clone, Copy, Debug)]
 pub struct Claim<'a> {
     /// What it is asked under.
@@ -33,7 +34,8 @@ pub struct Claim<'a> {
 }
 
 impl Claim<'_> {
-    /// The answer, by the table of cases in its order (docs/PRODUCT.md, "Rules of adjudication").
+    /// The answer, by the table of cases in its order (docs/PRODUCT.md, "Rules of adjudication"). It is that of any
+    /// plan with the occasion's figures whose drugs say the same of the billing's product.
     pub fn answer(&self, members: &[Member], under: Option<Row>) -> Answer
         requires { IsClaim self.now }
         ensures { (drugs : List Listed) → IsListed self.now drugs

@@ -8,8 +8,8 @@
 //! let (after, replies) = rx_ledger::plain_run(alloc, lot, &sheet, &before, &transmissions)?;
 //! ```
 //!
-//! `plain_run` sums anew at each transaction and is slow; stored totals and several workers are left to the crates
-//! above.
+//! `plain_run` sums anew at each transaction and is slow. Stored totals and several workers are left to the crates
+//! above, which answer by the same calls: `Claim::answer` a billing, `answer_reversal` a reversal, under an `Occasion`.
 #![tactic(auto)]
 
 mod claim;

@@ -4,7 +4,6 @@ use Rattle.rx_fields.specs.declared.code.Code.{Code}
 use Rattle.rx_fields.specs.Amount.{is_negative}
 use Rattle.rx_fields.specs.Bounds.{bounded}
 use Rattle.rx_fields.specs.Codes.{code_of}
-use Rattle.rx_claim.specs.declared.echo.EchoParts.{EchoParts}
 use Rattle.rx_claim.specs.declared.pricing.Amounts.{Amounts}
 use Rattle.rx_claim.specs.declared.reply.Answer.{Answer}
 use Rattle.rx_claim.specs.declared.reply.Answer.TheVariants as answer

@@ -68,19 +68,19 @@ module _ {X : Type 0} (same : X → X → Bool) where
     firsts-push [] x = refl
     firsts-push (r ∷ rs) x = elim (cases_Bool (same x r)) [
       | inl here ↦ rw (firsts-push rs x, here) (elim (cases_Bool (seen x (firsts rs))) [
-          | inl old ↦ rw old refl
-          | inr new ↦
-              let gone : others r (x ∷ []) ≡ [] = rw (laws.symm r x ∙ here) refl in
-              rw new (ap (λ ys. r ∷ ys) (filter-append (λ y. not (same r y)) (firsts rs) (x ∷ [])
-              ∙ ap (λ ys. others r (firsts rs) ++ ys) gone ∙ append-nil (others r (firsts rs))))
-        ])
+        | inl old ↦ rw old refl
+        | inr new ↦
+            let gone : others r (x ∷ []) ≡ [] = rw (laws.symm r x ∙ here) refl in
+            rw new (ap (λ ys. r ∷ ys) (filter-append (λ y. not (same r y)) (firsts rs) (x ∷ [])
+            ∙ ap (λ ys. others r (firsts rs) ++ ys) gone ∙ append-nil (others r (firsts rs))))
+      ])
       | inr other ↦ rw (firsts-push rs x, other, seen-others x r (firsts rs) other) (elim (cases_Bool (seen x (firsts rs))) [
-          | inl old ↦ rw old refl
-          | inr new ↦
-              let kept : others r (x ∷ []) ≡ x ∷ [] = rw (laws.symm r x ∙ other) refl in
-              rw new (ap (λ ys. r ∷ ys) (filter-append (λ y. not (same r y)) (firsts rs) (x ∷ [])
-              ∙ ap (λ ys. others r (firsts rs) ++ ys) kept))
-        ])
+        | inl old ↦ rw old refl
+        | inr new ↦
+            let kept : others r (x ∷ []) ≡ x ∷ [] = rw (laws.symm r x ∙ other) refl in
+            rw new (ap (λ ys. r ∷ ys) (filter-append (λ y. not (same r y)) (firsts rs) (x ∷ [])
+            ∙ ap (λ ys. others r (firsts rs) ++ ys) kept))
+      ])
     ]
 
     -- where no first is of the kind of x, nothing is

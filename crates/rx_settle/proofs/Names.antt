@@ -1,18 +1,17 @@
 -- Providers, and the fields of 15 bytes that stand for them.
-use Rattle.std.proofs.Common.{◌≡◌, ℕ, zero, suc, ◌+◌, ◌-◌, ◌≤◌, Bool, true, false, ◌&&◌, not, cond, eqb, ltb, List, [], ◌∷◌}
+use Rattle.std.proofs.Common.{◌≡◌, ℕ, zero, suc, ◌-◌, Bool, true, false, ◌&&◌, not, cond, eqb, ltb, List, [], ◌∷◌}
 use Rattle.std.proofs.Common.{◌++◌, ◌⊎◌, length, replicate, Result, Ok, Err, refl, sym, ap, ◌∙◌, inl, inr, arith}
 use Rattle.std.specs.List.{list_all, list_any}
 use Rattle.std.specs.Option.{unwrap_or}
 use Rattle.std.specs.Result.{result_ok, is_ok}
-use Rattle.std.specs.Cmp.Lexicographic.{pointwise, bytes_decides}
+use Rattle.std.specs.Cmp.Lexicographic.{bytes_decides}
 use Rattle.std.proofs.lemmas.Bool.{cases_Bool}
 use Rattle.std.proofs.lemmas.Bool.Decides.{nat_tests, Decides-like, same_from_decides}
-use Rattle.rx_claim.specs.declared.reply.Reply.{Reply}
 use Rattle.rx_fields.specs.declared.fault.IdFault.{IdFault}
 use Rattle.rx_fields.specs.declared.fault.IdFault.TheVariants as fault
 use Rattle.rx_fields.specs.Text.{trimmed, id_of, is_printable, is_bar}
 use Rattle.rx_settle.specs.Counting.{field_text}
-use Rattle.rx_settle.specs.Providers.{named, is_same, provider_of}
+use Rattle.rx_settle.specs.Providers.{named, is_same}
 
 -- ---- blanks at the end
 
@@ -73,15 +72,15 @@ left_cases : (t : List ℕ) → ((name_left t ≡ t) ⊎ (name_left t ≡ [])) �
 left_cases t = elim (cases_Bool (eqb (length t) 0)) [
   | inl h ↦ rw h (inr refl, λ e. cc)
   | inr h ↦ rw h (elim (cases_Bool (ltb 15 (length t))) [
-      | inl h1 ↦ rw h1 (inr refl, λ e. cc)
-      | inr h1 ↦ rw h1 (elim (cases_Bool (not (list_all is_printable t))) [
-          | inl h2 ↦ rw h2 (inr refl, λ e. cc)
-          | inr h2 ↦ rw h2 (elim (cases_Bool (list_any is_bar t)) [
-              | inl h3 ↦ rw h3 (inr refl, λ e. cc)
-              | inr h3 ↦ rw h3 (inl refl, λ e. refl)
-            ])
-        ])
+    | inl h1 ↦ rw h1 (inr refl, λ e. cc)
+    | inr h1 ↦ rw h1 (elim (cases_Bool (not (list_all is_printable t))) [
+      | inl h2 ↦ rw h2 (inr refl, λ e. cc)
+      | inr h2 ↦ rw h2 (elim (cases_Bool (list_any is_bar t)) [
+        | inl h3 ↦ rw h3 (inr refl, λ e. cc)
+        | inr h3 ↦ rw h3 (inl refl, λ e. refl)
+      ])
     ])
+  ])
 ]
 
 -- nothing is trimmed off a name
@@ -115,7 +114,7 @@ same_fields f g = same_from_decides
     (is_same (field_text (named f)) (field_text (named g)))
     (is_same (named f) (named g))
     (Decides-like (is_same (field_text (named f)) (field_text (named g)))
-      (λ e. sym (trimmed_field f) ∙ ap trimmed e ∙ trimmed_field g)
-      (ap field_text)
-      (bytes_decides (field_text (named f)) (field_text (named g))))
+    (λ e. sym (trimmed_field f) ∙ ap trimmed e ∙ trimmed_field g)
+    (ap field_text)
+    (bytes_decides (field_text (named f)) (field_text (named g))))
     (bytes_decides (named f) (named g))

@@ -102,7 +102,7 @@ entries-other rs (f ∷ fs) x none = elim (cases_Bool (same x f)) [
 -- and one to the same adds to its entry
 entry-same : (rs : List Reply) (x r : Reply) → same x r ≡ true
     → entry (rs ++ x ∷ []) r
-      ≡ (field_text (provider_of r), plus (tally_of (replies_to (provider_of r) rs)) (tally (answers_in x.outcome)))
+    ≡ (field_text (provider_of r), plus (tally_of (replies_to (provider_of r) rs)) (tally (answers_in x.outcome)))
 entry-same rs x r here =
     let one : replies_to (provider_of r) (x ∷ []) ≡ x ∷ [] = rw (laws.symm r x ∙ here) refl in
     let replies : replies_to (provider_of r) (rs ++ x ∷ []) ≡ replies_to (provider_of r) rs ++ x ∷ [] =
@@ -112,15 +112,15 @@ entry-same rs x r here =
 
 counted_among : (rs fs : List Reply) (x : Reply) → Distinct same fs
     → counted (field_text (provider_of x)) (tally (answers_in x.outcome)) (map (entry rs) fs)
-      ≡ cond (seen same x fs) (map (entry (rs ++ x ∷ [])) fs)
-          (map (entry (rs ++ x ∷ [])) fs ++ (field_text (provider_of x), tally (answers_in x.outcome)) ∷ [])
+    ≡ cond (seen same x fs) (map (entry (rs ++ x ∷ [])) fs)
+    (map (entry (rs ++ x ∷ [])) fs ++ (field_text (provider_of x), tally (answers_in x.outcome)) ∷ [])
 counted_among rs [] x d = refl
 counted_among rs (f ∷ fs) x d = elim (cases_Bool (same x f)) [
   | inl here ↦
       let rest : seen same x fs ≡ false = seen_alike same laws x f fs here ∙ d.0 in
       rw (same_fields x.echo.provider f.echo.provider, here, entry-same rs x f here, entries-other rs fs x rest) refl
   | inr other ↦ rw (same_fields x.echo.provider f.echo.provider, other, entry-other rs x f other, counted_among rs fs x d.1)
-      (elim (cases_Bool (seen same x fs)) [ | inl old ↦ rw old refl | inr new ↦ rw new refl ])
+      (elim (cases_Bool (seen same x fs)) [ inl old ↦ rw old refl | inr new ↦ rw new refl ])
 ]
 
 -- counting a reply leads from the entries before it to those after it

@@ -1,7 +1,6 @@
 -- Tallies of answers that are joined, and of replies.
-use Rattle.std.proofs.Common.{◌≡◌, ℕ, ◌+◌, ◌≤◌, Bool, true, false, cond, List, [], ◌∷◌, ◌++◌, refl, ap, ◌∙◌, inl, inr, arith}
-use Rattle.std.proofs.Common.{add_assoc, append_assoc}
-use Rattle.std.specs.List.{count_by, sum_by, filter}
+use Rattle.std.proofs.Common.{◌≡◌, ◌+◌, ◌≤◌, Bool, cond, List, [], ◌∷◌, ◌++◌, ap, ◌∙◌, inl, inr, arith}
+use Rattle.std.specs.List.{count_by, filter}
 use Rattle.std.proofs.lemmas.Bool.{cases_Bool}
 use Rattle.std.proofs.lemmas.List.{append-nil}
 use Rattle.std.proofs.lemmas.List.Sums.{sum_by-append}
@@ -56,7 +55,7 @@ weight-filter p (r ∷ rs) =
     elim (cases_Bool (p r)) [
       | inl here ↦ rw here (
           let some : weight (tally_of (r ∷ filter p rs))
-              ≡ weight (tally (answers_in r.outcome)) + weight (tally_of (filter p rs)) =
+          ≡ weight (tally (answers_in r.outcome)) + weight (tally_of (filter p rs)) =
           ap weight (tally-append (answers_in r.outcome) (answers_of (filter p rs)))
           ∙ weight-plus (tally (answers_in r.outcome)) (tally_of (filter p rs)) in
           omega (arith, some, all, rest))

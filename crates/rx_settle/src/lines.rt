@@ -6,7 +6,7 @@ ghost use Rattle.rx_settle.specs.Settlement.{counts_text, head_line};
 
 use crate::provider::{Field, put_provider};
 use crate::tally::Tally;
-use rx_fields::{Lot, Memory, Stamp, digits_write};
+use rx_fields::{Lot, Stamp, digits_write};
 use std::alloc::{AllocError, Global};
 
 /// The head line: the batch number and the stamp.
@@ -57,7 +57,14 @@ fn put_counts(alloc: Global, text: &mut Vec<u8>, tally: &Tally) -> Result<(), Al
 fn counts(alloc: Global, tally: &Tally) -> Result<String, AllocError>
     ensures { IfOk result (λ s. string_bytes s ≡ counts_text tally.now) }
 {
-    let Tally { paid, duplicate, approved, rejected, paid_out, taken_back } = *tally;
+    let Tally {
+        paid,
+        duplicate,
+        approved,
+        rejected,
+        paid_out,
+        taken_back,
+    } = *tally;
     if taken_back <= paid_out {
         let net = paid_out - taken_back;
         format!(in alloc; "|{paid}|{duplicate}|{approved}|{rejected}|{net}\n")

@@ -1,5 +1,5 @@
 use Rattle.std.proofs.lemmas.Result.{err_from_is_err_and}
-use Rattle.std.proofs.Common.{[], Err}
+use Rattle.std.proofs.Common.{[]}
 use Rattle.rx_batch.proofs.Readings.{gives_file, gives_batch, gives_fault, failed}
 use Rattle.rx_batch.proofs.Steps.{fed_fault}
 use Rattle.rx_batch.proofs.reading.read_batch.Goals as goal

@@ -8,12 +8,15 @@ use Rattle.rx_ledger.proofs.claim.has_days_left.Goals as goal
 
 pub returns : goal.returns
 returns c =
-    let passed = (day_number c.args.date -ℤ day_number c.args.row.now.key.date) *ℤ pos 100 in
-    let needed = pos (c.args.row.now.days * c.args.percent) in
+    let since = day_number c.args.row.now.key.date in
+    let days = day_number c.args.date -ℤ since in
     let from : to_z w64 (of_z w64 c.from.result) ≡ day_number c.args.date = omega (arith, ints) in
-    let since : to_z w64 (of_z w64 c.from-2.result) ≡ day_number c.args.row.now.key.date = omega (arith, ints) in
-    let left : to_z w64 (of_z w64 (to_z w64 (of_z w64 (to_z w64 (of_z w64 c.from.result) -ℤ to_z w64 (of_z w64 c.from-2.result))) *ℤ pos 100)) ≡ passed = omega (arith, ints) in
-    let days : c.get.result * c.args.percent ≡ c.args.row.now.days * c.args.percent = ap (λ n. n * c.args.percent) c.get.ensures.value in
+    let to : to_z w64 (of_z w64 c.from-2.result) ≡ since = omega (arith, ints) in
+    let gone = to_z w64 (of_z w64 (to_z w64 (of_z w64 c.from.result) -ℤ to_z w64 (of_z w64 c.from-2.result))) in
+    let passed : to_z w64 (of_z w64 (gone *ℤ pos 100)) ≡ days *ℤ pos 100 = omega (arith, ints) in
+    let same : c.get.result * c.args.percent ≡ c.args.row.now.days * c.args.percent =
+    ap (λ n. n * c.args.percent) c.get.ensures.value in
     let few = mul-le-mul_left c.get.result c.requires in
-    let right : to_z w64 (c.get.result * c.args.percent) ≡ needed = omega (arith, ints, few) in
-    ap (λ x. int_lt x (to_z w64 (c.get.result * c.args.percent))) left ∙ ap (int_lt passed) right
+    let needed : to_z w64 (c.get.result * c.args.percent) ≡ pos (c.args.row.now.days * c.args.percent) =
+    omega (arith, ints, few) in
+    ap (λ x. int_lt x (to_z w64 (c.get.result * c.args.percent))) passed ∙ ap (int_lt (days *ℤ pos 100)) needed

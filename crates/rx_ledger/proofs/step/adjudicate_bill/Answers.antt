@@ -10,5 +10,6 @@ use Rattle.rx_ledger.proofs.step.adjudicate_bill.Goals as goal
 pub put_row-requires-clause-listed : goal.put_row-requires-clause-listed
 put_row-requires-clause-listed c =
     let a = asked_on c.args.occasion.now c.args.sheet.now.drugs in
-    let paid : answer a c.args.ledger.now (Bill c.args.bill.now) ≡ Paid c.in-Paid.paid = sym c.in_ok-answer.ensures ∙ c.in-Paid.is in
+    let paid : answer a c.args.ledger.now (Bill c.args.bill.now) ≡ Paid c.in-Paid.paid =
+    sym c.in_ok-answer.ensures ∙ c.in-Paid.is in
     rw c.row.ensures (paid-listed a c.args.ledger.now c.args.bill.now c.in-Paid.paid paid)

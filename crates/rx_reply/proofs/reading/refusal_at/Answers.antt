@@ -1,8 +1,7 @@
-use Rattle.std.proofs.Common.{◌≡◌, ◌≤◌, List, ℕ, length, length-append, arith, ap, sym}
-use Rattle.rx_reply.specs.Text.{segment, field}
+use Rattle.std.proofs.Common.{◌≤◌, length, length-append, arith, ap, sym}
 use Rattle.rx_reply.specs.Reading.{refusal_label}
 use Rattle.rx_reply.proofs.Laws.{after_takes}
-use Rattle.rx_reply.proofs.AnswerLaws.{group-reads, left_within}
+use Rattle.rx_reply.proofs.AnswerLaws.{left_within}
 use Rattle.rx_reply.proofs.reading.refusal_at.Goals as goal
 
 pub returns-clause-within : goal.returns-clause-within

@@ -1,5 +1,5 @@
 -- a field that names a provider is its name and blanks
-use Rattle.std.proofs.Common.{rules, ◌≡◌, length, sym, ap, ◌∙◌, arith}
+use Rattle.std.proofs.Common.{rules, ◌≡◌, length, sym, ap, ◌∙◌}
 use Rattle.std.specs.Result.{is_ok}
 use Rattle.rx_settle.proofs.Names.{field_known}
 use Rattle.rx_settle.proofs.provider.known_or_blank.Goals as goal

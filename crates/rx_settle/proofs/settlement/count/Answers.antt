@@ -1,9 +1,9 @@
 -- what was there and more is put back
-use Rattle.std.proofs.Common.{rules, ◌≡◌, ap, ◌∙◌, nat_eq, arith}
+use Rattle.std.proofs.Common.{rules, ◌≡◌, ap, ◌∙◌, nat_eq}
 use Rattle.std.specs.Cmp.Lexicographic.{pointwise}
 use Rattle.indexmap.specs.IndexMap.{insert_entry}
 use Rattle.rx_settle.specs.Answers.{plus}
-use Rattle.rx_settle.specs.Counting.{tally_at, counted}
+use Rattle.rx_settle.specs.Counting.{tally_at}
 use Rattle.rx_settle.proofs.Tallied.{insert_entry-counted}
 use Rattle.rx_settle.proofs.settlement.count.Goals as goal
 

@@ -1,5 +1,4 @@
-use Rattle.std.proofs.Common.{◌≡◌, ◌<◌, ◌∙◌, sym, ℕ, false, List, length, get_or}
-use Rattle.rx_batch.specs.Grammar.{is_skipped}
+use Rattle.std.proofs.Common.{◌≡◌, ◌<◌, ◌∙◌, sym, false, length, get_or}
 use Rattle.rx_batch.specs.Reading.{begins}
 use Rattle.rx_batch.proofs.Steps.{gap_passed, gap_ended, stray_passed, begun_passed, filled, early_whole, early_other}
 use Rattle.rx_batch.proofs.reader.Reader.between.Goals as goal

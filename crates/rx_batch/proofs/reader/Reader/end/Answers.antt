@@ -1,4 +1,3 @@
-use Rattle.std.proofs.Common.{sym}
 use Rattle.rx_batch.proofs.Steps.{as_between, as_within, gives_same, end_read, begun_end_read}
 use Rattle.rx_batch.proofs.reader.Reader.end.Goals as goal
 

@@ -1,4 +1,4 @@
-use Rattle.std.proofs.Common.{◌≡◌, ℕ, ◌++◌, List, length}
+use Rattle.std.proofs.Common.{ℕ, List, length}
 use Rattle.rx_batch.specs.Pieces.{IsReadUpTo}
 use Rattle.rx_batch.proofs.reader.Reader.read.Given as goal
 

@@ -1,6 +1,5 @@
-use Rattle.std.proofs.Common.{◌≡◌, ◌∙◌, sym, ℕ, List, [], ◌++◌, take, drop, append-nil, subst}
+use Rattle.std.proofs.Common.{[], append-nil}
 use Rattle.std.proofs.lemmas.Result.{err_from_is_err_and}
-use Rattle.rx_batch.specs.Pieces.{IsReadUpTo}
 use Rattle.rx_batch.proofs.Steps.{inside_all, more_read, second_passed, bad_passed, closed_passed}
 use Rattle.rx_batch.proofs.reader.Reader.within.Goals as goal
 

@@ -1,6 +1,5 @@
-use Rattle.std.proofs.Common.{◌≡◌, ◌<◌, ℕ, length, take, set, arith, subst, sym, Some}
+use Rattle.std.proofs.Common.{◌≡◌, ◌<◌, ℕ, length, take, arith, subst, Some}
 use Rattle.std.proofs.lemmas.List.{take_more_set, length-set}
-use Rattle.rx_fields.specs.declared.code.Code.{Code}
 use Rattle.rx_reply.specs.Readers.{times}
 use Rattle.rx_reply.specs.Reading.{code_at}
 use Rattle.rx_reply.proofs.Loops.{times_goes_on, times_ends, times_is_done}

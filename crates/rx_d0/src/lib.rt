@@ -1,0 +1,16 @@
+//! The Telecommunication Standard D.0 as this product's profile has it: requests in, replies out.
+//!
+//! `decode` reads any byte string as a request; `encode` writes a reply and `decode_reply` reads it back. What they
+//! speak of are the values of `rx_claim`.
+//!
+//! ```rust
+//! let transmission = rx_d0::decode(alloc, &door, detail)?;
+//! let text = rx_d0::encode(alloc, &reply)?;
+//! ```
+#![tactic(auto)]
+
+pub use rx_claim::{Amounts, Answer, Answers, Approved, Bill, BillParts, Body, Codes, Echo, EchoParts};
+pub use rx_claim::{Faulty, Heard, Outcome, Paid, Pricing, Refused, Rejected, Reply, Reversal};
+pub use rx_claim::{Transaction, Transactions, Transmission};
+pub use rx_reply::{ReplyFault, decode_reply, encode};
+pub use rx_request::decode;
