@@ -104,7 +104,8 @@ fn transactions(
 ) -> Result<Transactions, Memory>
     requires { is_few (length pieces) ≡ true }
     ensures { IfOk result
-        (λ list. list ≡ map (λ group. transaction is_billing (insurance_texts common.now) (group_of group)) pieces.entry) }
+        (λ list. list
+        ≡ map (λ group. transaction is_billing (insurance_texts common.now) (group_of group)) pieces.entry) }
 {
     let mut list: Vec<Transaction> = Vec::with_capacity(alloc, groups)?;
     while let Some(group) = pieces.next() {
