@@ -1,9 +1,8 @@
 -- What follows the echo, out of what was read.
-use Rattle.std.proofs.Common.{◌≡◌, ℕ, Bool, true, false, ◌&&◌, cond, List, length, drop, Option, Some, None, refl, sym, ap, ◌∙◌}
+use Rattle.std.proofs.Common.{◌≡◌, ℕ, Bool, true, false, ◌&&◌, List, length, drop, Option, Some, None, refl, sym, ap, ◌∙◌}
 use Rattle.std.specs.Prelude.{option_map, is_some}
 use Rattle.rx_fields.specs.declared.code.Code.{Code}
 use Rattle.rx_fields.specs.declared.door.Door.{Door}
-use Rattle.rx_claim.specs.declared.transmission.Body.{Body}
 use Rattle.rx_claim.specs.declared.transmission.Body.TheVariants.{Rejected, Heard}
 use Rattle.rx_request.specs.declared.header.Header.{Header}
 use Rattle.rx_request.specs.Codes.{is_faulty, header_conditions}

@@ -1,5 +1,5 @@
 -- When some condition of a table holds.
-use Rattle.std.proofs.Common.{◌≡◌, ℕ, suc, ◌+◌, ◌<◌, ◌≤◌, Bool, true, false, not, ◌&&◌, ◌||◌, cond, List, [], ◌∷◌, ◌++◌, length, get_or, set, map, take, Option, Some, None, refl, sym, ap, ◌∙◌, arith}
+use Rattle.std.proofs.Common.{◌≡◌, ℕ, ◌+◌, ◌<◌, ◌≤◌, Bool, true, false, not, ◌&&◌, ◌||◌, cond, List, [], ◌∷◌, ◌++◌, length, get_or, set, map, take, Option, Some, None, refl, ap, ◌∙◌, arith}
 use Rattle.std.specs.Prelude.{filter, is_some, is_none, nat_le, codes}
 use Rattle.std.specs.List.{list_any}
 use Rattle.std.proofs.lemmas.Bool.Decides.{nat_tests}
@@ -15,7 +15,7 @@ use Rattle.rx_claim.specs.Listed.{is_few}
 use Rattle.rx_request.specs.declared.header.Header.{Header}
 use Rattle.rx_request.specs.Codes.{is_faulty, first_five, is_count, has_no_charge, header_conditions, bill_conditions, reversal_conditions}
 use Rattle.rx_request.specs.Cut.{same}
-use Rattle.rx_request.specs.Known.{InsuranceTexts, ClaimTexts, PricingTexts, GroupTexts}
+use Rattle.rx_request.specs.Known.{InsuranceTexts, PricingTexts, GroupTexts}
 use Rattle.rx_request.specs.Steps.{patient_conditions, supply_conditions, charge_conditions, is_addressed}
 use Rattle.rx_request.specs.Values.{amount_in, is_no_amount, provider_in, date_in}
 

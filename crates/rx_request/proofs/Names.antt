@@ -1,12 +1,9 @@
 -- The name of a segment, read off its pieces.
-use Rattle.std.proofs.Common.{◌≡◌, ℕ, suc, ◌+◌, ◌<◌, ◌≤◌, Bool, true, false, not, ◌&&◌, cond, eqb, leb, List, [], ◌∷◌, length, get_or, take, drop, map, Option, Some, None, refl, sym, ap, ◌∙◌, arith}
+use Rattle.std.proofs.Common.{◌≡◌, ℕ, Bool, true, false, ◌&&◌, cond, List, ◌∷◌, map, Option, Some, None, refl, sym, ap, ◌∙◌}
 use Rattle.std.specs.Prelude.{filter}
 use Rattle.std.specs.List.{list_all}
-use Rattle.std.proofs.lemmas.Bool.Decides.{nat_tests}
-use Rattle.std.specs.Prelude.{codes}
-use Rattle.rx_fields.specs.Text.{trimmed}
-use Rattle.rx_request.specs.Cut.{same, is_nonempty, has_id, is_name, is_named, Field, field_of, fields, filled, is_segment, cut, begins_empty, further}
-use Rattle.rx_request.specs.Slots.{name_of, put_named, put_segment}
+use Rattle.rx_request.specs.Cut.{is_nonempty, has_id, is_name, is_named, field_of, fields, filled, is_segment, cut, begins_empty, further}
+use Rattle.rx_request.specs.Slots.{name_of, put_named}
 
 -- what pieces that follow the empty one say
 abbrev pub named_by : List (List ℕ) → Option (Option (List ℕ))

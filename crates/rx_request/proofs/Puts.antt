@@ -1,12 +1,12 @@
 -- A text comes into the slot of its key.
-use Rattle.std.proofs.Common.{◌≡◌, ℕ, zero, suc, ◌+◌, ◌<◌, ◌≤◌, Bool, true, false, cond, List, [], ◌∷◌, ◌++◌, length, get_or, take, drop, map, Option, Some, None, refl, sym, ap, ◌∙◌, arith, Bor, append_assoc, drop-cons, add-one}
-use Rattle.std.specs.Prelude.{option_map, is_some}
-use Rattle.std.proofs.Math.ListN.{set, drop_of_length-le, length-set}
+use Rattle.std.proofs.Common.{◌≡◌, ℕ, ◌+◌, ◌<◌, ◌≤◌, true, false, List, [], ◌∷◌, ◌++◌, length, get_or, take, drop, Option, Some, None, refl, sym, ap, ◌∙◌, arith, Bor, append_assoc, drop-cons, add-one}
+use Rattle.std.specs.Prelude.{is_some}
+use Rattle.std.proofs.Math.ListN.{set, drop_of_length-le}
 use Rattle.std.proofs.lemmas.Grind.{common_steps}
-use Rattle.std.proofs.lemmas.List.{take_more, map-append, append-nil, take-append-drop}
+use Rattle.std.proofs.lemmas.List.{take_more, append-nil}
 use Rattle.rx_request.specs.Cut.{same}
 use Rattle.rx_request.specs.Known.{◌>>=◌}
-use Rattle.rx_request.specs.Slots.{text_of, texts_of, filled_slot, each_slot, put}
+use Rattle.rx_request.specs.Slots.{text_of, filled_slot, put}
 
 abbrev Slot : Type 0
 Slot = Option (List ℕ)

@@ -1,5 +1,5 @@
 -- The known values of a part, out of the slots of its table.
-use Rattle.std.proofs.Common.{◌≡◌, ℕ, Bool, true, false, cond, List, [], ◌∷◌, get_or, map, Option, Some, None, refl, sym, ap, ◌∙◌, Bor}
+use Rattle.std.proofs.Common.{◌≡◌, ℕ, Bool, true, false, cond, List, [], ◌∷◌, get_or, Option, Some, None, refl, sym, Bor}
 use Rattle.std.proofs.Math.ListN.{get_or-map}
 use Rattle.std.specs.Prelude.{codes}
 use Rattle.rx_request.specs.Known.{◌>>=◌, field, InsuranceTexts, ClaimTexts, PricingTexts, insurance_of, claim_of, pricing_of, insurance_in, group_in, common_of, group_of, segment, GroupTexts}

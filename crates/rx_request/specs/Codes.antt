@@ -1,5 +1,5 @@
 -- Reject codes, each with its condition, in the order of docs/FORMATS.md, "Request transmission".
-use Rattle.std.specs.Prelude.{ℕ, ◌+◌, Bool, not, ◌||◌, ◌&&◌, nat_le, ◌==◌, List, [], ◌∷◌, map, filter, take, Option, is_none, codes}
+use Rattle.std.specs.Prelude.{ℕ, ◌+◌, Bool, not, ◌||◌, ◌&&◌, ◌==◌, List, [], ◌∷◌, map, filter, take, is_none, codes}
 use Rattle.std.specs.List.{list_any}
 use Rattle.rx_fields.specs.declared.code.Code.{Code}
 use Rattle.rx_fields.specs.declared.code.Code.TheVariants as code

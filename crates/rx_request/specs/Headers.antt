@@ -9,7 +9,7 @@ use Rattle.rx_request.specs.declared.header.Header.{Header}
 unfoldable pub header_bytes : List ℕ → List ℕ
 header_bytes bytes = take 56 bytes ++ replicate (56 - length bytes) 32
 
--- its fields, by their lengths 6, 2, 2, 10, 1, 2, 15 and 8; the last 10 bytes, the software vendor's id, are not looked at
+-- its fields, of 6, 2, 2, 10, 1, 2, 15 and 8 bytes; the last 10 bytes, the software vendor's id, are not looked at
 unfoldable pub header_of : List ℕ → Header
 header_of h =
     record {
@@ -29,4 +29,11 @@ is_clean bytes = nat_le 56 (length bytes) && list_all is_printable (header_bytes
 
 -- what a reply repeats
 abbrev pub echo_parts : Header → EchoParts
-echo_parts h = record { version = h.version; code = h.code; qualifier = h.qualifier; provider = h.provider; date = h.date }
+echo_parts h =
+    record {
+      version = h.version;
+      code = h.code;
+      qualifier = h.qualifier;
+      provider = h.provider;
+      date = h.date;
+    }

@@ -1,12 +1,11 @@
 -- What a request transmission is, for every byte string (docs/FORMATS.md, "Request transmission").
-use Rattle.std.specs.Prelude.{ℕ, Bool, ◌&&◌, is_some, min, max, if◌then◌else◌, List, [], ◌∷◌, length, drop, map, Option, None, unwrap_or, codes}
+use Rattle.std.specs.Prelude.{ℕ, Bool, ◌&&◌, is_some, min, max, if◌then◌else◌, List, [], length, drop, map, Option, unwrap_or, codes}
 use Rattle.rx_fields.specs.declared.code.Code.{Code}
 use Rattle.rx_fields.specs.declared.door.Door.{Door}
 use Rattle.rx_fields.specs.Calendar.{civil_of}
 use Rattle.rx_claim.specs.declared.transmission.Transmission.{Transmission}
 use Rattle.rx_claim.specs.declared.transmission.Body.{Body}
 use Rattle.rx_claim.specs.declared.transmission.Body.TheVariants.{Rejected, Heard}
-use Rattle.rx_claim.specs.declared.transaction.Transaction.{Transaction}
 use Rattle.rx_claim.specs.Echoed.{blanked_parts}
 use Rattle.rx_request.specs.Bills.{transaction}
 use Rattle.rx_request.specs.Codes.{is_faulty, first_five, header_conditions}
@@ -29,15 +28,19 @@ groups bytes = further (parts bytes)
 
 abbrev pub conditions : Door → List ℕ → List (Code × Bool)
 conditions door bytes =
-    header_conditions door (header_of (header_bytes bytes)) (is_clean bytes && is_some (common bytes)) (length (groups bytes))
+    header_conditions door (header_of (header_bytes bytes)) (is_clean bytes && is_some (common bytes))
+    (length (groups bytes))
 
--- the header is heard where no condition holds
+-- the header is heard where no condition holds; its provider and date are there then
 unfoldable pub body : Door → List ℕ → Body
 body door bytes =
     let h = header_of (header_bytes bytes) in
     let insurance = unwrap_or (common bytes) no_insurance in
     if is_faulty (conditions door bytes)
-    then Rejected (record { codes = first_five (conditions door bytes); groups = max 1 (min (length (groups bytes)) 4) })
+    then Rejected (record {
+      codes = first_five (conditions door bytes);
+      groups = max 1 (min (length (groups bytes)) 4);
+    })
     else Heard (record {
       provider = unwrap_or (provider_in h.provider) [];
       date = unwrap_or (date_in h.date) (civil_of h.date);

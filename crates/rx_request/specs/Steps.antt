@@ -1,5 +1,5 @@
 -- The parts of the tables that one reading step answers for.
-use Rattle.std.specs.Prelude.{ℕ, Bool, not, ◌||◌, ◌&&◌, List, [], ◌∷◌, Option, Some, None, is_none, unwrap_or, codes, map, max, min}
+use Rattle.std.specs.Prelude.{ℕ, Bool, not, ◌||◌, ◌&&◌, List, [], ◌∷◌, Option, is_none, unwrap_or, codes, map, max, min}
 use Rattle.rx_fields.specs.declared.code.Code.{Code}
 use Rattle.rx_fields.specs.declared.code.Code.TheVariants as code
 use Rattle.rx_fields.specs.declared.door.Door.{Door}
@@ -35,7 +35,8 @@ supply_conditions claim =
     ∷ []
 
 unfoldable pub supply_parts : ClaimTexts → Supply
-supply_parts claim = record { quantity = or_zero (positive_in 10 claim.quantity); days = or_zero (positive_in 3 claim.days) }
+supply_parts claim =
+    record { quantity = or_zero (positive_in 10 claim.quantity); days = or_zero (positive_in 3 claim.days) }
 
 -- the codes of the amounts
 abbrev pub charge_conditions : PricingTexts → List (Code × Bool)

@@ -42,7 +42,8 @@ pub(crate) fn put<'a>(
 // Puts the value of a field into the slot of its id, where it has a value. None: the slot is taken.
 fn put_field<'a>(slots: &mut [Option<&'a [u8]>], ids: &[[u8; 2]], piece: &'a [u8]) -> Option<()>
     requires { length slots.old ≡ length ids.now }
-    ensures { option_map (λ _. texts_of slots.new) result ≡ put_field ids.now (field_of piece.entry.now) (texts_of slots.old) }
+    ensures { option_map (λ _. texts_of slots.new) result
+        ≡ put_field ids.now (field_of piece.entry.now) (texts_of slots.old) }
 {
     if piece.len() < 2 {
         return Some(());
@@ -58,7 +59,8 @@ fn put_field<'a>(slots: &mut [Option<&'a [u8]>], ids: &[[u8; 2]], piece: &'a [u8
 // Puts the values of a segment under these ids into their slots. None: an id has two.
 fn put_fields<'a>(slots: &mut [Option<&'a [u8]>], ids: &[[u8; 2]], segment: &'a [u8]) -> Option<()>
     requires { texts_of slots.old ≡ map (λ _. None) ids.now }
-    ensures { option_map (λ _. texts_of slots.new) result ≡ all_of (λ id. field id (Some segment.entry.now)) ids.now }
+    ensures { option_map (λ _. texts_of slots.new) result
+        ≡ all_of (λ id. field id (Some segment.entry.now)) ids.now }
 {
     let mut pieces = Pieces::new(segment, FS);
     let _front = pieces.next();
@@ -75,7 +77,8 @@ pub(crate) fn put_values<'a>(
     segment: Option<&'a [u8]>,
 ) -> Option<()>
     requires { texts_of slots.old ≡ map (λ _. None) ids.now }
-    ensures { option_map (λ _. texts_of slots.new) result ≡ all_of (λ id. field id (text_of segment.entry)) ids.now }
+    ensures { option_map (λ _. texts_of slots.new) result
+        ≡ all_of (λ id. field id (text_of segment.entry)) ids.now }
 {
     match segment {
         Some(segment) => put_fields(slots, ids, segment),

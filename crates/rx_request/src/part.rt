@@ -12,7 +12,8 @@ const AM: &[u8] = b"AM";
 
 // The name that a first field gives. None: it gives none.
 fn name_in(piece: &[u8]) -> Option<[u8; 2]>
-    ensures { result ≡ (if has_id piece.now && is_name (field_of piece.now) then Some (field_of piece.now).value else None) }
+    ensures { result
+        ≡ (if has_id piece.now && is_name (field_of piece.now) then Some (field_of piece.now).value else None) }
 {
     if piece.len() < 2 {
         return None;
@@ -63,7 +64,8 @@ fn put_segment<'a>(
     segment: &'a [u8],
 ) -> Option<()>
     requires { length slots.old ≡ length names.now }
-    ensures { option_map (λ _. texts_of slots.new) result ≡ put_segment names.now segment.entry.now (texts_of slots.old) }
+    ensures { option_map (λ _. texts_of slots.new) result
+        ≡ put_segment names.now segment.entry.now (texts_of slots.old) }
 {
     match segment_name(segment)? {
         Some(name) => put(slots, names, name, segment),

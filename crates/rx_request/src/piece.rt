@@ -62,6 +62,7 @@ impl<'a> Pieces<'a> {
     }
 
     /// The next piece.
+    #[inline(always)]
     pub(crate) fn next(&mut self) -> Option<&'a [u8]>
         ensures value { MatchOption result (self.old ≡ []) (λ piece. self.old ≡ piece.now ∷ self.new) }
         ensures rest { self.new ≡ further self.old }

@@ -31,7 +31,13 @@ struct Opening<'a> {
 fn count_of(wanted: u8, bytes: &[u8]) -> usize
     ensures { result ≡ count_by (λ byte. byte == wanted) bytes.now }
 {
-    bytes.iter().filter(|byte| **byte == wanted).count()
+    let mut count = 0;
+    for byte in bytes {
+        if *byte == wanted {
+            count += 1;
+        }
+    }
+    count
 }
 
 // How many groups there are: one per separator.
@@ -98,7 +104,8 @@ fn transactions(
 ) -> Result<Transactions, Memory>
     requires { is_few (length pieces) ≡ true }
     ensures { IfOk result
-        (λ list. list ≡ map (λ group. transaction is_billing (insurance_texts common.now) (group_of group)) pieces.entry) }
+        (λ list. list
+        ≡ map (λ group. transaction is_billing (insurance_texts common.now) (group_of group)) pieces.entry) }
 {
     let mut list: Vec<Transaction> = Vec::with_capacity(alloc, groups)?;
     while let Some(group) = pieces.next() {

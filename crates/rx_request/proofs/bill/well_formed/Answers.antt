@@ -1,9 +1,8 @@
-use Rattle.std.proofs.Common.{◌≡◌, Bool, true, false, cond, ◌||◌, Option, Some, None, refl, sym, ap, ◌∙◌}
-use Rattle.rx_claim.specs.Billed.{is_charged}
+use Rattle.std.proofs.Common.{◌≡◌, true, false, refl}
 use Rattle.rx_request.specs.Bills.{bill_parts, reversal_parts}
 use Rattle.rx_request.specs.Codes.{is_faulty, bill_conditions, reversal_conditions}
 use Rattle.rx_request.specs.Steps.{patient_conditions, patient_parts, supply_conditions, supply_parts, charge_conditions, charge_parts}
-use Rattle.rx_request.specs.Views.{insurance_texts, claim_texts, pricing_texts, group_texts}
+use Rattle.rx_request.specs.Views.{insurance_texts, group_texts}
 use Rattle.rx_request.proofs.Faults.{bill_parts_faulty, fault_of, no_fault_of, value_of, first_faulty, second_faulty, third_faulty, fourth_faulty, none_faulty, is_charged_by}
 use Rattle.rx_request.proofs.bill.well_formed.Goals as goal
 

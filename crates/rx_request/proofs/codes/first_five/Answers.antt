@@ -1,12 +1,10 @@
-use Rattle.std.proofs.Common.{◌≡◌, ◌+◌, ◌<◌, ◌≤◌, ◌++◌, ◌∷◌, [], List, length, take, get_or, set, true, false, Some, None, sym, ap, ◌∙◌, arith, refl}
-use Rattle.std.proofs.lemmas.Grind.{common_steps}
+use Rattle.std.proofs.Common.{◌≡◌, ◌≤◌, length, take, get_or, false, ap, ◌∙◌, arith, refl}
 use Rattle.std.proofs.lemmas.List.{length-take, take_all}
-use Rattle.rx_fields.specs.declared.code.Code.{Code}
 use Rattle.rx_fields.specs.declared.code.Code.TheVariants.{Bin}
 use Rattle.std.proofs.Math.ListN.{length-set}
 use Rattle.rx_claim.specs.CodeList.{codes_of}
 use Rattle.rx_request.specs.Codes.{first_five}
-use Rattle.rx_request.proofs.Faults.{Row, first_five_codes, five_same, five_full, five_more, take_set}
+use Rattle.rx_request.proofs.Faults.{first_five_codes, five_same, five_full, five_more, take_set}
 use Rattle.rx_request.proofs.codes.first_five.Goals as goal
 use Rattle.rx_request.proofs.codes.first_five.Goals.{then-row+then-count-lt5, else-row, else-row-via-then-row+else-count-lt5, else-row-via-else-row}
 

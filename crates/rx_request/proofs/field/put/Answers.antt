@@ -1,4 +1,4 @@
-use Rattle.std.proofs.Common.{◌≡◌, ◌<◌, length, get_or, true, false, None, Some, sym, ap, ◌∙◌, arith, set, map}
+use Rattle.std.proofs.Common.{◌≡◌, ◌<◌, length, get_or, true, false, None, sym, ap, ◌∙◌, arith}
 use Rattle.std.specs.Prelude.{is_some}
 use Rattle.std.proofs.lemmas.List.{get_or-map, length-map, map-set}
 use Rattle.rx_request.specs.Slots.{text_of, texts_of}

@@ -1,4 +1,4 @@
-use Rattle.std.proofs.Common.{◌≡◌, take, drop, length}
+use Rattle.std.proofs.Common.{◌≡◌, take, drop}
 use Rattle.rx_request.specs.Slots.{texts_of, put}
 use Rattle.rx_request.proofs.Puts.{with_front}
 use Rattle.rx_request.proofs.field.put.Given as goal

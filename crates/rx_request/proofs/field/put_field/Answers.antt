@@ -1,4 +1,4 @@
-use Rattle.std.proofs.Common.{◌≡◌, ◌∷◌, [], List, ℕ, get_or, take, drop, eqb, length, true, false, sym, ap, ◌∙◌, arith}
+use Rattle.std.proofs.Common.{List, ℕ, take, eqb, length, sym, ap, ◌∙◌, arith}
 use Rattle.rx_fields.specs.Text.{trimmed}
 use Rattle.rx_request.specs.Slots.{texts_of, put}
 use Rattle.rx_request.proofs.Fields.{two_bytes, put_field_short, put_field_empty, put_field_full}

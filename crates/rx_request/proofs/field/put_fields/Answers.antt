@@ -1,5 +1,5 @@
-use Rattle.std.proofs.Common.{◌≡◌, ◌∷◌, [], length, List, ℕ, map, Option, None, Some, sym, ap, ◌∙◌, arith}
-use Rattle.rx_request.specs.Cut.{field_of, cut, further}
+use Rattle.std.proofs.Common.{List, ℕ, map, sym, ap, ◌∙◌, arith}
+use Rattle.rx_request.specs.Cut.{field_of, further}
 use Rattle.rx_request.specs.Slots.{texts_of}
 use Rattle.rx_request.proofs.Runs.{run_fields, run_on, run_off, fields_total, empty_length}
 use Rattle.rx_request.proofs.field.put_fields.Goals as goal

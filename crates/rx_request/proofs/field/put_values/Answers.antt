@@ -1,5 +1,4 @@
 use Rattle.std.proofs.Common.{sym, ap, ◌∙◌, Some, Option, List, ℕ}
-use Rattle.rx_request.specs.Known.{field}
 use Rattle.rx_request.proofs.Runs.{absent_values}
 use Rattle.rx_request.proofs.field.put_values.Goals as goal
 

@@ -1,4 +1,4 @@
-use Rattle.std.proofs.Common.{arith, ◌∙◌, sym, ◌≡◌, ◌<◌, ◌≤◌, length}
+use Rattle.std.proofs.Common.{arith, ◌∙◌, sym, ◌<◌, length}
 use Rattle.std.proofs.lemmas.Bool.{eqb-true, eqb-false}
 use Rattle.rx_fields.proofs.IdLaws.{trimmed_cut, trimmed_whole}
 use Rattle.rx_request.proofs.field.trimmed.Goals as goal

@@ -1,4 +1,4 @@
-use Rattle.std.proofs.Common.{◌≡◌, ◌<◌, ◌≤◌, ◌-◌, ◌++◌, length, take, replicate, ap, ◌∙◌, sym, arith, ℕ}
+use Rattle.std.proofs.Common.{◌≡◌, ◌-◌, ◌++◌, length, take, replicate, ap, ◌∙◌, sym, arith, ℕ}
 use Rattle.std.proofs.lemmas.List.{take_all, length-take}
 use Rattle.rx_request.specs.Headers.{header_bytes}
 use Rattle.rx_request.proofs.header.header_bytes.Goals as goal

@@ -1,6 +1,6 @@
-use Rattle.std.proofs.Common.{◌≡◌, get_or, Option, Some, None, List, ℕ, sym, ap, ◌∙◌}
+use Rattle.std.proofs.Common.{ap, ◌∙◌}
 use Rattle.rx_request.specs.Known.{insurance_of}
-use Rattle.rx_request.specs.Slots.{text_of, texts_of}
+use Rattle.rx_request.specs.Slots.{texts_of}
 use Rattle.rx_request.proofs.Tables.{common_off, common_on, at_slot}
 use Rattle.rx_request.proofs.known.common_read.Goals as goal
 

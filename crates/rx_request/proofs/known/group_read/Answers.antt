@@ -1,6 +1,6 @@
-use Rattle.std.proofs.Common.{◌≡◌, get_or, Option, Some, None, List, ℕ, sym, ap, ◌∙◌}
+use Rattle.std.proofs.Common.{◌≡◌, get_or, Option, Some, None, sym, ap, ◌∙◌}
 use Rattle.rx_request.specs.Known.{claim_of, pricing_of, ClaimTexts, PricingTexts}
-use Rattle.rx_request.specs.Slots.{text_of, texts_of}
+use Rattle.rx_request.specs.Slots.{texts_of}
 use Rattle.rx_request.specs.Views.{claim_texts, pricing_texts}
 use Rattle.rx_request.proofs.Tables.{group_off, group_on, group_by, group_no_pricing, at_slot}
 use Rattle.rx_request.proofs.known.group_read.Goals as goal

@@ -1,4 +1,3 @@
-use Rattle.std.proofs.Common.{◌≡◌, get_or, Option, Some, None, List, ℕ, map, sym, ap, ◌∙◌}
 use Rattle.rx_request.specs.Slots.{text_of, texts_of}
 use Rattle.rx_request.proofs.Tables.{pricing_off, pricing_on, at_slot}
 use Rattle.rx_request.proofs.known.pricing_read.Goals as goal

@@ -1,4 +1,4 @@
-use Rattle.std.proofs.Common.{◌≡◌, [], Option, Some, None, List, ℕ, length, cond, sym, ap, ◌∙◌, arith}
+use Rattle.std.proofs.Common.{List, ℕ, sym, ap, ◌∙◌, arith}
 use Rattle.rx_request.specs.Cut.{cut, begins_empty, further}
 use Rattle.rx_request.specs.Slots.{texts_of}
 use Rattle.rx_request.proofs.Names.{closed, opened}

@@ -1,4 +1,4 @@
-use Rattle.std.proofs.Common.{◌≡◌, [], Option, Some, None, List, ℕ, cond, true, false, sym, ap, ◌∙◌}
+use Rattle.std.proofs.Common.{true, false, sym, ap, ◌∙◌}
 use Rattle.rx_request.specs.Cut.{cut, begins_empty, further}
 use Rattle.rx_request.proofs.Fields.{nonempty_by}
 use Rattle.rx_request.proofs.Names.{named_by, named_total, named_nothing, named_name, closed, opened}

@@ -1,6 +1,5 @@
-use Rattle.std.proofs.Common.{◌≡◌, Bool, true, false, ◌&&◌, length, List, ℕ, Option, Some, None, sym, ap, ◌∙◌, refl}
+use Rattle.std.proofs.Common.{◌≡◌, true, ◌&&◌, length, List, ℕ, sym, ap, ◌∙◌}
 use Rattle.std.specs.Prelude.{option_map, is_some}
-use Rattle.std.proofs.lemmas.Result.{err_from_is_err_and}
 use Rattle.rx_claim.specs.Listed.{is_few}
 use Rattle.rx_claim.specs.declared.transmission.Heard as heard_type
 use Rattle.rx_claim.specs.declared.transmission.Body.TheVariants.{Heard}

@@ -1,8 +1,8 @@
-use Rattle.std.proofs.Common.{◌≡◌, Bool, true, false, not, refl, sym, ap, ◌∙◌, ◌&&◌}
+use Rattle.std.proofs.Common.{◌≡◌, true, false, refl, sym, ◌∙◌, ◌&&◌}
 use Rattle.std.specs.Prelude.{is_some}
 use Rattle.std.proofs.Math.Bool.{and-false}
 use Rattle.rx_request.specs.Codes.{is_faulty, header_conditions}
-use Rattle.rx_request.proofs.Faults.{header_unsound, header_elsewhere, header_miscounted, not_true}
+use Rattle.rx_request.proofs.Faults.{header_unsound, header_elsewhere, header_miscounted}
 use Rattle.rx_request.proofs.request.opening_read.Goals as goal
 use Rattle.rx_request.proofs.request.opening_read.Goals.{then-not-is_clean-via-then-not-is_clean, then-not-is_clean-via-else-not-is_clean+then-not-is_addressed, then-not-is_clean-via-else-not-is_clean+else-not-is_addressed+then-not-is_count}
 

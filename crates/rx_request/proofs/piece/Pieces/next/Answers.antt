@@ -1,4 +1,4 @@
-use Rattle.std.proofs.Common.{◌≡◌, ◌+◌, ◌∷◌, [], List, ℕ, take, sym, ap, ◌∙◌}
+use Rattle.std.proofs.Common.{◌≡◌, ◌+◌, ◌∷◌, List, ℕ, take, sym, ap, ◌∙◌}
 use Rattle.rx_request.specs.Cut.{cut, further}
 use Rattle.rx_request.specs.Slots.{pieces_left}
 use Rattle.rx_request.proofs.Cuts.{cut_none, cut_at, to_end}
