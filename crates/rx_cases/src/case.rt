@@ -1,6 +1,7 @@
 use rx_d0::{Amounts, Transmission, decode, decode_reply, encode};
 use rx_fields::{
-    Authorization, Day, Days, Door, Id, Key, Lot, Period, Person, Product, Provider, Quantity, Reference, date_read,
+    Authorization, Day, Days, Door, Id, Key, Lot, Period, Person, Product, Provider, Quantity,
+    Reference, date_read,
 };
 use rx_ledger::{Drug, Figures, Ledger, Member, Row, Share, Sheet, plain_run};
 use std::process::Abort;
@@ -30,7 +31,8 @@ pub struct Standing {
 }
 
 /// The base claim of docs/FORMATS.md, "Fixed inputs".
-pub const BASE_CLAIM: &[u8] = b"900001D0B1RXDEMO    1011234567893     20260228          \x1e\x1cAM04\x1cC2C100\x1cC301\x1d\x1e\x1cAM07\x1cEM1\x1cD2000000000123\x1cE103\x1cD700002000202\x1cE70000030000\x1cD5030\x1cD61\x1e\x1cAM11\x1cD90003000{\x1cDC0000017E\x1cDQ0004000{";
+pub const BASE_CLAIM: &[u8] =
+    b"900001D0B1RXDEMO    1011234567893     20260228          \x1e\x1cAM04\x1cC2C100\x1cC301\x1d\x1e\x1cAM07\x1cEM1\x1cD2000000000123\x1cE103\x1cD700002000202\x1cE70000030000\x1cD5030\x1cD61\x1e\x1cAM11\x1cD90003000{\x1cDC0000017E\x1cDQ0004000{";
 
 /// A batch of a case: what comes in, and what has to come out.
 pub struct Case<'a> {
@@ -125,7 +127,13 @@ fn row(rt: &impl Abort, s: &Standing) -> Row {
         reference: Reference::new(s.reference).expect(rt, "a reference"),
         date: day(rt, s.date),
     };
-    let [ingredient_cost, dispensing_fee, deductible, copay, coinsurance] = s.amounts;
+    let [
+        ingredient_cost,
+        dispensing_fee,
+        deductible,
+        copay,
+        coinsurance,
+    ] = s.amounts;
     let amounts = Amounts {
         ingredient_cost,
         dispensing_fee,
@@ -146,7 +154,11 @@ fn row(rt: &impl Abort, s: &Standing) -> Row {
     .expect(rt, "a row")
 }
 
-fn ledger(rt: &(impl Abort + AllocGlobal), until: &[u8], rows: &[Standing]) -> Result<Ledger, Fail> {
+fn ledger(
+    rt: &(impl Abort + AllocGlobal),
+    until: &[u8],
+    rows: &[Standing],
+) -> Result<Ledger, Fail> {
     let mut ledger = Ledger::new(rt.alloc());
     for person in [b"01", b"02", b"03"] {
         ledger

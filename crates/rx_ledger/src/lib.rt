@@ -46,6 +46,3 @@ pub use sheet::{AddFault, Listed, Sheet};
 pub use sheet_key::{SheetKey, Wrong};
 pub use sums::used_by;
 pub use terms::Terms;
-
-#[cfg(test)]
-mod tests;
