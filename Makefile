@@ -4,4 +4,4 @@ test:
 	rt ci
 
 demo:
-	@echo "The program comes with the adjudication rules; make test proves and tests what stands."
+	cd crates/rxbatch && rt run -- sample

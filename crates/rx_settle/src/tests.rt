@@ -79,52 +79,50 @@ const PHARMACY: &[u8; 15] = b"1234567893     ";
 
 #[test]
 fn settlements_of_the_worked_cases(rt: HostRuntime) -> Result<(), Fail> {
-    let (p, a, r) = (Answer::Paid(paid(17175)?), taken_back(17175)?, refused());
-    let free = Answer::Paid(paid(0)?);
-    let cases: [(u32, &[(&[u8; 15], Told)], &[u8]); 6] = [
-        // one-billing
-        (
-            42,
-            &[(PHARMACY, Told::Answers(&[p]))],
-            b"SETTLE|1|0000042|202603020600\nP|1234567893|1|0|0|0|17175\nTOTAL|1|0|0|0|17175\n",
-        ),
-        // empty-batch
-        (42, &[], b"SETTLE|1|0000042|202603020600\nTOTAL|0|0|0|0|0\n"),
-        // reversal-of-last-years-claim
-        (
-            42,
-            &[(PHARMACY, Told::Answers(&[a]))],
-            b"SETTLE|1|0000042|202603020600\nP|1234567893|0|0|1|0|-17175\nTOTAL|0|0|1|0|-17175\n",
-        ),
-        // reverse-twice-and-bill-again
-        (
-            44,
-            &[
-                (PHARMACY, Told::Answers(&[a])),
-                (PHARMACY, Told::Answers(&[r])),
-                (PHARMACY, Told::Answers(&[p])),
-            ],
-            b"SETTLE|1|0000044|202603020600\nP|1234567893|1|0|1|1|0\nTOTAL|1|0|1|1|0\n",
-        ),
-        // empty-transmission
-        (
-            42,
-            &[(b"               ", Told::Header(1))],
-            b"SETTLE|1|0000042|202603020600\nP||0|0|0|1|0\nTOTAL|0|0|0|1|0\n",
-        ),
-        // family-deductible-after-a-reversal
-        (
-            47,
-            &[
-                (PHARMACY, Told::Answers(&[a])),
-                (PHARMACY, Told::Answers(&[free])),
-            ],
-            b"SETTLE|1|0000047|202603020600\nP|1234567893|1|0|1|0|-17175\nTOTAL|1|0|1|0|-17175\n",
-        ),
+    let one_billing = [(PHARMACY, Told::Answers(&[Answer::Paid(paid(17175)?)]))];
+    let text = "SETTLE|1|0000042|202603020600\nP|1234567893|1|0|0|0|17175\nTOTAL|1|0|0|0|17175\n";
+    assert_eq!(rt;
+        settled(rt.alloc(), 42, &one_billing)?.as_slice(),
+        text.as_bytes()
+    );
+    let text = "SETTLE|1|0000042|202603020600\nTOTAL|0|0|0|0|0\n";
+    assert_eq!(rt; settled(rt.alloc(), 42, &[])?.as_slice(), text.as_bytes());
+    let empty_transmission = [(b"               ", Told::Header(1))];
+    let text = "SETTLE|1|0000042|202603020600\nP||0|0|0|1|0\nTOTAL|0|0|0|1|0\n";
+    assert_eq!(rt;
+        settled(rt.alloc(), 42, &empty_transmission)?.as_slice(),
+        text.as_bytes()
+    );
+    Ok(())
+}
+
+#[test]
+fn settlements_of_the_worked_reversals(rt: HostRuntime) -> Result<(), Fail> {
+    let last_years = [(PHARMACY, Told::Answers(&[taken_back(17175)?]))];
+    let text = "SETTLE|1|0000042|202603020600\nP|1234567893|0|0|1|0|-17175\nTOTAL|0|0|1|0|-17175\n";
+    assert_eq!(rt;
+        settled(rt.alloc(), 42, &last_years)?.as_slice(),
+        text.as_bytes()
+    );
+    let twice_and_again = [
+        (PHARMACY, Told::Answers(&[taken_back(17175)?])),
+        (PHARMACY, Told::Answers(&[refused()])),
+        (PHARMACY, Told::Answers(&[Answer::Paid(paid(17175)?)])),
     ];
-    for (number, told, text) in cases {
-        assert_eq!(rt; settled(rt.alloc(), number, told)?.as_slice(), text);
-    }
+    let text = "SETTLE|1|0000044|202603020600\nP|1234567893|1|0|1|1|0\nTOTAL|1|0|1|1|0\n";
+    assert_eq!(rt;
+        settled(rt.alloc(), 44, &twice_and_again)?.as_slice(),
+        text.as_bytes()
+    );
+    let family_deductible = [
+        (PHARMACY, Told::Answers(&[taken_back(17175)?])),
+        (PHARMACY, Told::Answers(&[Answer::Paid(paid(0)?)])),
+    ];
+    let text = "SETTLE|1|0000047|202603020600\nP|1234567893|1|0|1|0|-17175\nTOTAL|1|0|1|0|-17175\n";
+    assert_eq!(rt;
+        settled(rt.alloc(), 47, &family_deductible)?.as_slice(),
+        text.as_bytes()
+    );
     Ok(())
 }
 

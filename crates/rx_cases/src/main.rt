@@ -1,0 +1,33 @@
+//! The worked cases of docs/CASES.md that cross crates: requests decoded, adjudicated over plain lists, and the
+//! replies encoded, against bytes that were made by another program.
+//!
+//! `data/cases.txt` has the cases, a word and its value a line: what differs of the plain sheet and the opening books,
+//! the rows that stand before, each record with its reply in hexadecimal, and the rows that stand after. A line is
+//! printed for each case that holds, and the first that doesn't ends the program.
+#![tactic(auto)]
+
+mod case;
+mod inputs;
+
+use anyhow::{Context, Result, bail};
+use case::Case;
+use std::fs;
+
+fn main(rt: HostRuntime) -> Result<()> {
+    let text = fs::read_to_string(&rt, "cases.txt").context("reading the cases")?;
+    let mut case = Case::new(rt.alloc());
+    let mut held = 0u64;
+    for line in text.lines() {
+        let (word, value) = line.split_once(' ').unwrap_or((line, ""));
+        if word == "end" {
+            case.hold(rt.alloc())?;
+            println!(rt; "{} holds", case.name.as_str())?;
+            held = held.saturating_add(1);
+            case = Case::new(rt.alloc());
+        } else {
+            case.take(rt.alloc(), word, value)?;
+        }
+    }
+    println!(rt; "{held} cases hold")?;
+    Ok(())
+}
