@@ -9,8 +9,10 @@
 //! ```
 #![tactic(auto)]
 
-pub use rx_claim::{Amounts, Answer, Answers, Approved, Bill, BillParts, Body, Codes, Echo, EchoParts};
-pub use rx_claim::{Faulty, Heard, Outcome, Paid, Pricing, Refused, Rejected, Reply, Reversal};
-pub use rx_claim::{Transaction, Transactions, Transmission};
+pub use rx_claim::{
+    Amounts, Answer, Answers, Approved, Bill, BillParts, Body, Codes, Echo, EchoParts, Faulty,
+    Heard, Outcome, Paid, Pricing, Refused, Rejected, Reply, Reversal, Transaction, Transactions,
+    Transmission,
+};
 pub use rx_reply::{ReplyFault, decode_reply, encode};
 pub use rx_request::decode;
