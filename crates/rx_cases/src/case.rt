@@ -1,9 +1,9 @@
 use crate::inputs;
 use crate::miss::Miss;
 use crate::row::row;
-use rx_d0::{Reply, Transmission, decode, decode_reply, encode};
+use rx_d0::{Body, Reply, Transaction, Transmission, decode, decode_reply, encode};
 use rx_fields::{Door, Lot};
-use rx_ledger::{Figures, Ledger, Sheet, plain_run};
+use rx_ledger::{Figures, Ledger, Sheet, Terms, plain_run};
 use std::alloc::Global;
 
 /// A batch of a case, by its lines: what comes in, and what has to come out.
@@ -23,7 +23,8 @@ impl<'a> Case<'a> {
         self.value("case", 0).unwrap_or("")
     }
 
-    /// Fails where the batch isn't answered so, where a reply doesn't read back as itself, or where other rows are left.
+    /// Fails where a record has other terms, where the batch isn't answered so, where a reply doesn't read back as
+    /// itself, or where other rows are left.
     pub fn hold(&self, alloc: Global) -> Result<(), Miss> {
         let sheet = self.sheet(alloc)?;
         let before = self.ledger(alloc, "before")?;
@@ -41,7 +42,11 @@ impl<'a> Case<'a> {
         if asked.len() > 100_000 {
             return Err(Miss::Line);
         }
-        let (after, replies) = plain_run(alloc, self.lot()?, sheet, before, asked)?;
+        let lot = self.lot()?;
+        for transmission in asked {
+            compare_terms(lot, sheet, transmission)?;
+        }
+        let (after, replies) = plain_run(alloc, lot, sheet, before, asked)?;
         self.compare_replies(alloc, replies.as_slice())?;
         self.compare_rows(alloc, &after)
     }
@@ -126,6 +131,30 @@ impl<'a> Case<'a> {
             Err(Miss::Rows)
         }
     }
+}
+
+// Fails where the terms of a record aren't of the lot and the sheet.
+fn compare_terms(lot: Lot, sheet: &Sheet, transmission: &Transmission) -> Result<(), Miss> {
+    let terms = sheet.terms(lot, transmission);
+    if terms.lot() != lot || *terms.figures() != *sheet.figures() {
+        return Err(Miss::Terms);
+    }
+    match &transmission.body {
+        Body::Rejected(_) => Ok(()),
+        Body::Heard(heard) => compare_drugs(sheet, &terms, heard.list.as_slice()),
+    }
+}
+
+fn compare_drugs(sheet: &Sheet, terms: &Terms, list: &[Transaction]) -> Result<(), Miss> {
+    for transaction in list {
+        if let Transaction::Bill(bill) = transaction {
+            let product = bill.parts().product;
+            if terms.drug(product) != sheet.drug(product) {
+                return Err(Miss::Terms);
+            }
+        }
+    }
+    Ok(())
 }
 
 // What follows the word, where the line begins with it.

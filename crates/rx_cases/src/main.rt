@@ -3,7 +3,11 @@
 //!
 //! `data/cases.txt` has the cases, a word and its value a line: what differs of the plain sheet and the opening books,
 //! the rows that stand before, each record with its reply in hexadecimal, and the rows that stand after. A line is
-//! printed for each case that holds, and the first that doesn't ends the program.
+//! printed for each case that holds, and the first that doesn't ends the program, which is run in `data/`:
+//!
+//! ```text
+//! cd data && ../out/rx_cases
+//! ```
 #![tactic(auto)]
 
 mod case;

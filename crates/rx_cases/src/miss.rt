@@ -9,6 +9,8 @@ pub enum Miss {
     Line,
     /// Memory was wanting.
     Memory,
+    /// The terms of a record aren't of the lot and the sheet.
+    Terms,
     /// There are more replies than wanted, or fewer.
     Count,
     /// A reply has other bytes.
