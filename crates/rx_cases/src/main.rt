@@ -3,10 +3,10 @@
 //!
 //! `data/cases.txt` has the cases, a word and its value a line: what differs of the plain sheet and the opening books,
 //! the rows that stand before, each record with its reply in hexadecimal, and the rows that stand after. A line is
-//! printed for each case that holds, and the first that doesn't ends the program, which is run in `data/`:
+//! printed for each case that holds, and the first that doesn't ends the program.
 //!
 //! ```text
-//! cd data && ../out/rx_cases
+//! rt run -- data/cases.txt
 //! ```
 #![tactic(auto)]
 
@@ -17,19 +17,26 @@ mod row;
 
 use anyhow::{Context, Result, bail};
 use case::Case;
-use std::fs;
+use std::{env, fs};
 
 fn main(rt: HostRuntime) -> Result<()> {
-    let text = fs::read_to_string(&rt, "cases.txt").context("reading the cases")?;
+    let path = env::args(&rt)?.nth(1).context("no file of cases is named")?;
+    let text = fs::read_to_string(&rt, path.as_str()).context("reading the cases")?;
+    let held = report_all(&rt, text.as_str())?;
+    println!(rt; "{held} cases hold")?;
+    Ok(())
+}
+
+// How many cases hold: each, or the program ends.
+fn report_all(rt: &HostRuntime, text: &str) -> Result<u64> {
     let mut held = 0u64;
-    for lines in text.as_str().split("\nend\n") {
+    for lines in text.split("\nend\n") {
         if !lines.is_empty() {
-            report(&rt, Case::new(lines))?;
+            report(rt, Case::new(lines))?;
             held = held.saturating_add(1);
         }
     }
-    println!(rt; "{held} cases hold")?;
-    Ok(())
+    Ok(held)
 }
 
 fn report(rt: &HostRuntime, case: Case) -> Result<()> {
