@@ -1,5 +1,5 @@
 -- Drugs that are added in ascending order go in one after another, each behind those before it.
-use Rattle.std.proofs.Common.{◌≡◌, ℕ, ◌+◌, ◌<◌, List, [], ◌∷◌, ◌++◌, take, drop, get_or, length, Option, Some, None, Ok, Err, true, false, ◌&&◌, refl, sym, ap, ◌∙◌}
+use Rattle.std.proofs.Common.{◌≡◌, ℕ, ◌+◌, ◌<◌, List, [], ◌∷◌, ◌++◌, take, drop, get_or, length, Option, Some, None, Ok, true, false, ◌&&◌, refl, sym, ap, ◌∙◌}
 use Rattle.std.proofs.lemmas.Bool.{and_parts}
 use Rattle.std.proofs.lemmas.List.{drop_more, take_more}
 use Rattle.std.proofs.lemmas.List.Folds.{list_all-append}

@@ -4,3 +4,4 @@ pub mod Documents
 pub mod DrugLists
 pub mod Products
 pub mod Shares
+mod WorkedSheets

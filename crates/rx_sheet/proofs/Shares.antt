@@ -1,5 +1,5 @@
 -- What a tier of each kind says.
-use Rattle.std.proofs.Common.{◌≡◌, Option, Some, None, refl, ap}
+use Rattle.std.proofs.Common.{◌≡◌, Some, None, ap}
 use Rattle.std.specs.Option.{option_map}
 use Rattle.toml.specs.Data.{Data, string, integer, float, boolean, datetime, array, table, Members, as_table}
 use Rattle.rx_ledger.specs.declared.drug.Share.TheVariants.{Percent}

@@ -1,5 +1,5 @@
 -- The figures of a sheet: keys 1 to 9, one after another by their numbers, and key 14.
-use Rattle.std.specs.Prelude.{ℕ, Option, Some, None, Result, Ok, Err}
+use Rattle.std.specs.Prelude.{ℕ, Option, None, Result, Ok}
 use Rattle.std.specs.Option.{option_and_then}
 use Rattle.toml.specs.Data.{Data, Members}
 use Rattle.rx_fields.specs.Calendar.{Civil}

@@ -1,8 +1,7 @@
-use Rattle.std.proofs.Common.{◌≡◌, ◌++◌, ◌∷◌, [], List, Err, Ok, ap, sym, ◌∙◌, string_bytes}
+use Rattle.std.proofs.Common.{◌≡◌, Err, Ok, ap, sym, ◌∙◌, string_bytes}
 use Rattle.std.proofs.lemmas.Result.{err_from_is_err_and}
 use Rattle.toml.specs.View.{view, members_view, table_view}
-use Rattle.rx_ledger.specs.declared.sheet.Listed.{Listed}
-use Rattle.rx_sheet.specs.Drugs.{drugs_of, listed_in}
+use Rattle.rx_sheet.specs.Drugs.{drugs_of}
 use Rattle.rx_sheet.proofs.DrugLists.{with_front, goes_on, ends, is_done, are_drugs-last, unless_memory}
 use Rattle.rx_sheet.proofs.Products.{listed_ascending}
 use Rattle.rx_sheet.proofs.drugs.drugs_of.Goals as goal
