@@ -3,10 +3,11 @@ use Rattle.std.proofs.Common.{◌≡◌, ℕ, ℤ, List, [], ◌∷◌, Option, 
 use Rattle.std.specs.Prelude.{codes, pos, negsuc}
 use Rattle.toml.specs.Data.{Data, string, integer, table, Members, no_members, member}
 use Rattle.rx_ledger.specs.Plan.{Plan}
-use Rattle.rx_ledger.specs.declared.drug.Share.TheVariants.{Copay}
+use Rattle.rx_ledger.specs.declared.drug.Share.TheVariants.{Copay, Percent}
+use Rattle.rx_ledger.specs.declared.figures.Figures.{Figures}
 use Rattle.rx_ledger.specs.declared.sheet.Listed.{Listed}
 use Rattle.rx_ledger.specs.declared.sheet_key.SheetKey.TheVariants as key
-use Rattle.rx_sheet.specs.Drugs.{drug_in, drugs_in, drugs_of, listed_in}
+use Rattle.rx_sheet.specs.Drugs.{drug_in, drugs_in, drugs_of, listed_in, share_in, tiers_in}
 use Rattle.rx_sheet.specs.Figures.{door_in, period_in, figures_in, family_deductible_in}
 use Rattle.rx_sheet.specs.Names.{name_of}
 use Rattle.rx_sheet.specs.SheetText.{sheet_in}
@@ -71,6 +72,8 @@ plan family =
       drugs = listed 1000101 1000 2500 ∷ listed 2000202 3000 100000 ∷ listed 3000303 1000 5000 ∷ [];
     }
 
+-- ---- the worked cases
+
 plain : sheet_in (tree (codes "2") no_members none fee 75) ≡ Ok (plan None)
 unfolding sheet_in figures_in door_in period_in drugs_in drugs_of listed_in drug_in family_deductible_in name_of drug
 plain = refl
@@ -99,3 +102,56 @@ negative_family_deductible : sheet_in (tree (codes "2") no_members (family_deduc
     ≡ Err (fault.Wrong key.FamilyDeductible)
 unfolding sheet_in figures_in door_in period_in drugs_in drugs_of listed_in drug_in family_deductible_in name_of drug
 negative_family_deductible = refl
+
+-- ---- the ends of the ranges
+
+-- the figures' keys, their numbers in the order of the keys' numbers
+abbrev numbers : ℕ → ℕ → ℕ → ℕ → ℕ → Members
+numbers member_deductible family_maximum refill_percent max_days cents =
+    member (codes "bin") (string (codes "900001"))
+    (member (codes "family_maximum") (integer (pos family_maximum))
+    (member (codes "fee") (integer (pos cents))
+    (member (codes "max_days") (integer (pos max_days))
+    (member (codes "member_deductible") (integer (pos member_deductible))
+    (member (codes "pcn") (string (codes "RXDEMO"))
+    (member (codes "period_first") (string (codes "20260101"))
+    (member (codes "period_last") (string (codes "20261231"))
+    (member (codes "refill_percent") (integer (pos refill_percent)) no_members))))))))
+
+abbrev with_numbers : ℕ → ℕ → ℕ → ℕ → ℕ → Figures
+with_numbers member_deductible family_maximum refill_percent max_days cents =
+    record (plan None).figures {
+      member_deductible = member_deductible;
+      family_maximum = family_maximum;
+      refill_percent = refill_percent;
+      max_days = max_days;
+      fee = cents;
+    }
+
+least : figures_in (numbers 0 0 0 1 0) ≡ Ok (with_numbers 0 0 0 1 0)
+unfolding figures_in door_in period_in name_of
+least = refl
+
+largest : figures_in (numbers 99_999_999_999 99_999_999_999 100 999 99_999_999)
+    ≡ Ok (with_numbers 99_999_999_999 99_999_999_999 100 999 99_999_999)
+unfolding figures_in door_in period_in name_of
+largest = refl
+
+no_days : figures_in (numbers 0 0 0 0 0) ≡ Err (fault.Wrong key.MaxDays)
+unfolding figures_in door_in period_in name_of
+no_days = refl
+
+largest_family_deductible : family_deductible_in (family_deductible (pos 99_999_999_999) no_members) ≡ Ok (Some 99_999_999_999)
+unfolding family_deductible_in name_of
+largest_family_deductible = refl
+
+largest_copay : share_in (integer (pos 99_999_999)) ≡ Some (Copay 99_999_999)
+largest_copay = refl
+
+largest_percentage : tiers_in (table (percent 100)) ≡ Some (percent 100)
+largest_percentage = refl
+
+largest_price : drug_in (percent 100) (drug (codes "4") 1_000_000_000)
+    ≡ Ok (record { share = Percent 100; price = 1_000_000_000 })
+unfolding drug_in name_of drug
+largest_price = refl
