@@ -5,3 +5,4 @@ pub mod DrugLists
 pub mod Products
 pub mod Shares
 mod WorkedSheets
+mod WorkedText

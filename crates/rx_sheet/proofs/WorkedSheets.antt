@@ -14,11 +14,11 @@ use Rattle.rx_sheet.specs.SheetText.{sheet_in}
 use Rattle.rx_sheet.specs.declared.fault.SheetFault.TheVariants as fault
 
 -- a drug's table
-drug : List ℕ → ℕ → Data
+abbrev pub drug : List ℕ → ℕ → Data
 drug tier price = table (member (codes "price") (integer (pos price)) (member (codes "tier") (string tier) no_members))
 
 -- a sheet's tree, its keys in the order of their bytes, with what the cases change
-abbrev tree : (tier : List ℕ) (fourth : Members) (family fee : Members → Members) (refill : ℕ) → Members
+abbrev pub tree : (tier : List ℕ) (fourth : Members) (family fee : Members → Members) (refill : ℕ) → Members
 tree tier fourth family fee refill =
     member (codes "bin") (string (codes "900001"))
     (member (codes "drugs") (table
@@ -38,10 +38,10 @@ tree tier fourth family fee refill =
     (member (codes "1") (integer (pos 1000))
     (member (codes "2") (integer (pos 3000)) fourth))) no_members)))))))))))
 
-abbrev none : Members → Members
+abbrev pub none : Members → Members
 none rest = rest
 
-abbrev fee : Members → Members
+abbrev pub fee : Members → Members
 fee rest = member (codes "fee") (integer (pos 175)) rest
 
 abbrev family_deductible : ℤ → Members → Members
@@ -75,32 +75,32 @@ plan family =
 -- ---- the worked cases
 
 plain : sheet_in (tree (codes "2") no_members none fee 75) ≡ Ok (plan None)
-unfolding sheet_in figures_in door_in period_in drugs_in drugs_of listed_in drug_in family_deductible_in name_of drug
+unfolding sheet_in figures_in door_in period_in drugs_in drugs_of listed_in drug_in family_deductible_in name_of
 plain = refl
 
 with_family_deductible : sheet_in (tree (codes "2") no_members (family_deductible (pos 15000)) fee 75) ≡ Ok (plan (Some 15000))
-unfolding sheet_in figures_in door_in period_in drugs_in drugs_of listed_in drug_in family_deductible_in name_of drug
+unfolding sheet_in figures_in door_in period_in drugs_in drugs_of listed_in drug_in family_deductible_in name_of
 with_family_deductible = refl
 
 without_fee : sheet_in (tree (codes "2") no_members none none 75) ≡ Err (fault.Missing key.Fee)
-unfolding sheet_in figures_in door_in period_in drugs_in drugs_of listed_in drug_in family_deductible_in name_of drug
+unfolding sheet_in figures_in door_in period_in drugs_in drugs_of listed_in drug_in family_deductible_in name_of
 without_fee = refl
 
 refill_percent_of_101 : sheet_in (tree (codes "2") no_members none fee 101) ≡ Err (fault.Wrong key.RefillPercent)
-unfolding sheet_in figures_in door_in period_in drugs_in drugs_of listed_in drug_in family_deductible_in name_of drug
+unfolding sheet_in figures_in door_in period_in drugs_in drugs_of listed_in drug_in family_deductible_in name_of
 refill_percent_of_101 = refl
 
 unknown_tier : sheet_in (tree (codes "9") no_members none fee 75) ≡ Err (fault.Wrong key.Tier)
-unfolding sheet_in figures_in door_in period_in drugs_in drugs_of listed_in drug_in family_deductible_in name_of drug
+unfolding sheet_in figures_in door_in period_in drugs_in drugs_of listed_in drug_in family_deductible_in name_of
 unknown_tier = refl
 
 percent_of_101 : sheet_in (tree (codes "2") (percent 101) none fee 75) ≡ Err (fault.Wrong key.Tiers)
-unfolding sheet_in figures_in door_in period_in drugs_in drugs_of listed_in drug_in family_deductible_in name_of drug
+unfolding sheet_in figures_in door_in period_in drugs_in drugs_of listed_in drug_in family_deductible_in name_of
 percent_of_101 = refl
 
 negative_family_deductible : sheet_in (tree (codes "2") no_members (family_deductible (negsuc 0)) fee 75)
     ≡ Err (fault.Wrong key.FamilyDeductible)
-unfolding sheet_in figures_in door_in period_in drugs_in drugs_of listed_in drug_in family_deductible_in name_of drug
+unfolding sheet_in figures_in door_in period_in drugs_in drugs_of listed_in drug_in family_deductible_in name_of
 negative_family_deductible = refl
 
 -- ---- the ends of the ranges
@@ -153,5 +153,5 @@ largest_percentage = refl
 
 largest_price : drug_in (percent 100) (drug (codes "4") 1_000_000_000)
     ≡ Ok (record { share = Percent 100; price = 1_000_000_000 })
-unfolding drug_in name_of drug
+unfolding drug_in name_of
 largest_price = refl
