@@ -84,6 +84,11 @@ fn response_of_one_billing(rt: HostRuntime) -> Result<(), Fail> {
     Ok(())
 }
 
+// Each seventh is refused.
+fn text_of_reply(number: u64) -> &'static [u8] {
+    if number % 7 == 0 { REFUSED } else { PAID }
+}
+
 // So many details go to several threads.
 #[test]
 fn replies_stand_in_file_order(rt: HostRuntime) -> Result<(), Fail> {
@@ -93,7 +98,7 @@ fn replies_stand_in_file_order(rt: HostRuntime) -> Result<(), Fail> {
     put(&mut wanted, &[HEADER])?;
     for number in 0..3000u64 {
         let reference: [u8; 10] = digits_write(number);
-        let reply = if number % 7 == 0 { REFUSED } else { PAID };
+        let reply = text_of_reply(number);
         details.push(detail(rt.alloc(), reference))?;
         replies.push(decode_reply(rt.alloc(), reply)?)?;
         put(&mut wanted, &[b"\x02G1", &reference, reply, b"\x03"])?;
