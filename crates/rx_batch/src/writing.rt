@@ -42,8 +42,9 @@ fn file_len(details: &[Detail]) -> usize {
     len
 }
 
+/// Puts a header at the end of a text.
 #[tactic(auto, using(std::proofs::Common::append_assoc))]
-fn put_header(text: &mut Vec<u8>, head: &Head) -> Result<(), AllocError>
+pub fn put_header(text: &mut Vec<u8>, head: &Head) -> Result<(), AllocError>
     ensures text { OnOk result (text.new.items ≡ text.old.items ++ record_text (header_text head.now)) }
     ensures again { head.now.kind ≡ Kind.Transmission → OnOk result (IsHeader (header_text head.now) head.now) }
 {
@@ -67,8 +68,9 @@ fn put_lot(text: &mut Vec<u8>, head: &Head) -> Result<(), AllocError>
     text.extend_from_slice(&[head.file.byte(), b'1', b'2'])
 }
 
+/// Puts a detail at the end of a text.
 #[tactic(auto, using(std::proofs::Common::append_assoc))]
-fn put_detail(text: &mut Vec<u8>, detail: &Detail) -> Result<(), AllocError>
+pub fn put_detail(text: &mut Vec<u8>, detail: &Detail) -> Result<(), AllocError>
     ensures text { OnOk result (text.new.items ≡ text.old.items ++ record_text (detail_text detail.now)) }
     ensures again { OnOk result (IsDetail (detail_text detail.now) detail.now) }
 {
@@ -78,8 +80,9 @@ fn put_detail(text: &mut Vec<u8>, detail: &Detail) -> Result<(), AllocError>
     text.extend_from_slice(&[ETX])
 }
 
+/// Puts a trailer at the end of a text, with a blank message: the batch number, and the number of details plus two.
 #[tactic(auto, using(std::proofs::Common::append_assoc))]
-fn put_trailer(text: &mut Vec<u8>, number: u32, count: u64) -> Result<(), AllocError>
+pub fn put_trailer(text: &mut Vec<u8>, number: u32, count: u64) -> Result<(), AllocError>
     requires number { number < 10_000_000 }
     requires count { count < 10 ^ 10 }
     ensures text { OnOk result (text.new.items ≡ text.old.items ++ record_text (trailer_text number count)) }
