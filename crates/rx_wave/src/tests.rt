@@ -43,9 +43,13 @@ fn decodes_in_order(rt: HostRuntime) -> Result<(), Fail> {
             Code::TransactionCode,
             Code::ProcessorControlNumber,
             Code::TransactionCount,
-        ].as_slice()
+        ]
+        .as_slice()
     );
-    assert_eq!(rt; codes(&all[1]), [Code::TransactionCount, Code::Syntax].as_slice());
+    assert_eq!(rt;
+        codes(&all[1]),
+        [Code::TransactionCount, Code::Syntax].as_slice()
+    );
     Ok(())
 }
 
