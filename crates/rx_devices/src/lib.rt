@@ -14,7 +14,7 @@
 
 mod consumer;
 mod fault;
-//mod memory;
+mod memory;
 mod reading;
 mod sink;
 mod source;
@@ -24,6 +24,7 @@ mod wrapped;
 
 pub use consumer::Consumer;
 pub use fault::{Failed, ReadFault};
+pub use memory::{SliceSource, VecSink};
 pub use reading::{read_all, read_each};
 pub use sink::{Sink, write_all};
 pub use source::Source;

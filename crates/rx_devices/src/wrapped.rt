@@ -59,6 +59,14 @@ impl<W: Write> WriterSink<W> {
             failed: false,
         }
     }
+
+    /// The writer back.
+    pub fn into_inner(self) -> W
+        ensures { result ≡ self.writer }
+    {
+        let WriterSink { writer, failed: _ } = self;
+        writer
+    }
 }
 
 impl<W: Write> Sink for WriterSink<W> {
