@@ -21,7 +21,8 @@ pub struct ReaderSource<R> {
 impl<R: Read> ReaderSource<R> {
     /// The reader as a source, which hasn't failed.
     pub fn new(reader: R) -> ReaderSource<R>
-        ensures { result.failed ≡ false }
+        ensures bytes { ⟦<ReaderSource<R> as Source>⟧.left result ≡ R.remaining reader }
+        ensures failed { ⟦<ReaderSource<R> as Source>⟧.failed result ≡ false }
     {
         ReaderSource {
             reader,
@@ -71,7 +72,8 @@ pub struct WriterSink<W> {
 impl<W: Write> WriterSink<W> {
     /// The writer as a sink, which hasn't failed.
     pub fn new(writer: W) -> WriterSink<W>
-        ensures { result.failed ≡ false }
+        ensures bytes { ⟦<WriterSink<W> as Sink>⟧.written result ≡ W.contents writer }
+        ensures failed { ⟦<WriterSink<W> as Sink>⟧.failed result ≡ false }
     {
         WriterSink {
             writer,
@@ -81,7 +83,7 @@ impl<W: Write> WriterSink<W> {
 
     /// The writer back.
     pub fn into_inner(self) -> W
-        ensures { result ≡ self.writer }
+        ensures { W.contents result ≡ ⟦<WriterSink<W> as Sink>⟧.written self }
     {
         let WriterSink { writer, failed: _ } = self;
         writer
