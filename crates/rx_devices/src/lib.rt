@@ -14,6 +14,7 @@
 
 mod consumer;
 mod fault;
+mod feeding;
 mod memory;
 mod reading;
 mod sink;
@@ -24,6 +25,7 @@ mod wrapped;
 
 pub use consumer::Consumer;
 pub use fault::{Failed, ReadFault};
+pub use feeding::feed_all;
 pub use memory::{SliceSource, VecSink};
 pub use reading::{read_all, read_each};
 pub use sink::{Sink, write_all};
