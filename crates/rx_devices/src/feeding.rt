@@ -1,5 +1,6 @@
-ghost use Rattle.std.specs.Prelude.{◌≡◌, ◌≤◌, false, length, Err, IfOk, IfSome};
-ghost use Rattle.rx_devices.specs.Reading.{has_failed, most_reads};
+ghost use Rattle.std.specs.Prelude.{◌≡◌, ◌≤◌, false, length, Err, IfOk, IfSome, IsOk};
+ghost use Rattle.rx_batch.specs.Pieces.{StandsFor};
+ghost use Rattle.rx_devices.specs.Reading.{TakesOn, has_failed, most_reads};
 ghost use Rattle.rx_devices.specs.Feeding.{IsFed};
 
 use crate::consumer::Consumer;
@@ -15,11 +16,13 @@ use std::alloc::Global;
 struct Fed(Pieces);
 
 impl Consumer for Fed {
-    ghost use Rattle.rx_batch.specs.Pieces.{StandsFor};
-
     ghost stands_for = { λ fed text. StandsFor fed.0 text };
 
-    fn take(&mut self, piece: &[u8]) -> Result<(), Memory> {
+    // It takes every piece: what `Pieces` refuses, want of memory too, they keep.
+    fn take(&mut self, piece: &[u8]) -> Result<(), Memory>
+        ensures ok { IsOk result }
+        ensures takes { TakesOn (StandsFor self.old.0) (StandsFor self.new.0) piece.now }
+    {
         let _ = self.0.feed(piece);
         Ok(())
     }

@@ -1,4 +1,4 @@
-ghost use Rattle.std.specs.Prelude.{◌≡◌, ◌≤◌, ◌||◌, Some, [], false, is_err};
+ghost use Rattle.std.specs.Prelude.{◌≡◌, ◌≤◌, ◌||◌, Some, None, [], false, is_err};
 
 use crate::fault::Failed;
 use crate::sink::Sink;
@@ -17,8 +17,7 @@ struct Calls {
 
 impl Calls {
     fn new(most: usize) -> Calls
-        ensures most { result.most ≡ most }
-        ensures failed { result.failed ≡ false }
+        ensures { result ≡ record { most = most; good = None; failed = false } }
     {
         Calls {
             most,
@@ -29,9 +28,7 @@ impl Calls {
 
     // The same, with a failure after so many calls more.
     fn failing_after(self, calls: usize) -> Calls
-        ensures most { result.most ≡ self.most }
-        ensures good { result.good ≡ Some calls }
-        ensures failed { result.failed ≡ self.failed }
+        ensures { result ≡ record self { good = Some calls } }
     {
         Calls {
             good: Some(calls),
@@ -72,6 +69,8 @@ impl<'a> SliceSource<'a> {
         requires { 1 ≤ most }
         ensures bytes { ⟦<SliceSource<'a> as Source>⟧.left result ≡ Some bytes.now }
         ensures failed { ⟦<SliceSource<'a> as Source>⟧.failed result ≡ false }
+        ensures most { result.calls.most ≡ most }
+        ensures never { result.calls.good ≡ None }
     {
         SliceSource {
             left: bytes,
@@ -83,7 +82,7 @@ impl<'a> SliceSource<'a> {
     pub fn failing_after(self, calls: usize) -> SliceSource<'a>
         ensures bytes { ⟦<SliceSource<'a> as Source>⟧.left result ≡ ⟦<SliceSource<'a> as Source>⟧.left self.entry }
         ensures failed { ⟦<SliceSource<'a> as Source>⟧.failed result ≡ ⟦<SliceSource<'a> as Source>⟧.failed self.entry }
-        ensures calls { result.calls.good ≡ Some calls }
+        ensures calls { result.calls ≡ record self.entry.calls { good = Some calls } }
     {
         SliceSource {
             left: self.left,
@@ -119,6 +118,8 @@ impl VecSink {
     pub fn new(alloc: Global, most: usize) -> VecSink
         ensures bytes { ⟦<VecSink as Sink>⟧.written result ≡ Some [] }
         ensures failed { ⟦<VecSink as Sink>⟧.failed result ≡ false }
+        ensures most { result.calls.most ≡ most }
+        ensures never { result.calls.good ≡ None }
     {
         VecSink {
             written: Vec::new(alloc),
@@ -130,7 +131,7 @@ impl VecSink {
     pub fn failing_after(self, calls: usize) -> VecSink
         ensures bytes { ⟦<VecSink as Sink>⟧.written result ≡ ⟦<VecSink as Sink>⟧.written self }
         ensures failed { ⟦<VecSink as Sink>⟧.failed result ≡ ⟦<VecSink as Sink>⟧.failed self }
-        ensures calls { result.calls.good ≡ Some calls }
+        ensures calls { result.calls ≡ record self.calls { good = Some calls } }
     {
         VecSink {
             written: self.written,
