@@ -67,6 +67,23 @@ impl Write for Broken {
     }
 }
 
+// A text whose first read a signal interrupts.
+#[derive(Drop)]
+struct Signalled {
+    is_over: bool,
+    text: &'static [u8],
+}
+
+impl Read for Signalled {
+    fn read(&mut self, buffer: &mut [u8]) -> io::Result<usize> {
+        if self.is_over {
+            return self.text.read(buffer);
+        }
+        self.is_over = true;
+        Err(io::Error::from(ErrorKind::Interrupted))
+    }
+}
+
 #[test]
 fn reads_pieces_of_any_size(rt: HostRuntime) -> Result<(), Fail> {
     for most in [1usize, 7, 4096] {
@@ -143,6 +160,26 @@ fn reads_and_writes_what_std_does(rt: HostRuntime) -> Result<(), Fail> {
     assert_eq!(rt; write_all(&mut copy, text.as_slice()), Ok(()));
     assert_eq!(rt; copy.into_inner().as_slice(), TEXT);
     Ok(())
+}
+
+#[test]
+fn reads_again_where_a_signal_interrupts(rt: HostRuntime) -> Result<(), Fail> {
+    let signalled = Signalled {
+        is_over: false,
+        text: TEXT,
+    };
+    let text = read_all(rt.alloc(), &mut ReaderSource::new(signalled))?;
+    assert_eq!(rt; text.as_slice(), TEXT);
+    Ok(())
+}
+
+// It has room for four of nine bytes.
+#[test]
+fn takes_a_full_buffer_for_failed(rt: HostRuntime) {
+    let mut room = [0u8; 4];
+    let written = write_all(&mut WriterSink::new(room.as_mut_slice()), TEXT);
+    assert_eq!(rt; written, Err(Failed));
+    assert_eq!(rt; room, *b"SETT");
 }
 
 #[test]
