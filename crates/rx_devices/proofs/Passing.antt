@@ -3,7 +3,7 @@ use Rattle.std.proofs.Common.{◌≡◌, ◌≤◌, ◌<◌, ◌+◌, ◌-◌, �
 use Rattle.std.proofs.lemmas.List.{append-nil, length-append, length-drop, take_all}
 use Rattle.std.proofs.Math.Seq.{take-add}
 use Rattle.std.specs.Io.KnownBytes.{Appends, Consumes, IsAtEnd}
-use Rattle.rx_devices.specs.Reading.{IsRead, IsWhole, PassesAll, PassesPiece, TakesOn, most_bytes, most_reads}
+use Rattle.rx_devices.specs.Reading.{IsWhole, PassesAll, PassesPiece, most_bytes, most_reads}
 
 -- no byte was read yet
 pub Consumes-nothing : (left : Option (List ℕ)) → Consumes left left []

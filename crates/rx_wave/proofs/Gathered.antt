@@ -1,5 +1,5 @@
 -- What holds of a list of results that are all Ok.
-use Rattle.std.proofs.Common.{◌≡◌, List, [], ◌∷◌, map, Result, Ok, Err}
+use Rattle.std.proofs.Common.{List, [], ◌∷◌, map, Result, Ok, Err}
 use Rattle.std.specs.Prelude.{IfOk, MatchResult}
 use Rattle.std.specs.List.{AllZip}
 

@@ -1,6 +1,4 @@
 use Rattle.std.proofs.Common.{[]}
-use Rattle.rx_devices.specs.Feeding.{IsFed}
-use Rattle.rx_devices.specs.Reading.{PassesAll}
 use Rattle.rx_devices.proofs.feeding.feed_all.Goals as goal
 
 -- The pieces that stood for nothing stand for what they were fed.

@@ -1,5 +1,5 @@
-use Rattle.std.proofs.Common.{◌≡◌, ℕ, List, [], sym, subst}
-use Rattle.rx_devices.specs.Reading.{IsRead, PassesAll}
+use Rattle.std.proofs.Common.{ℕ, List, [], sym, subst}
+use Rattle.rx_devices.specs.Reading.{IsRead}
 use Rattle.rx_devices.proofs.reading.read_all.Goals as goal
 
 -- The text that was empty has the bytes that it took.

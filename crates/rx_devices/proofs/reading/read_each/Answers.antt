@@ -1,5 +1,4 @@
-use Rattle.std.proofs.Common.{rules, ◌≡◌, ◌≤◌, ◌+◌, refl, arith}
-use Rattle.rx_devices.specs.Reading.{PassesPiece, has_failed, most_bytes}
+use Rattle.std.proofs.Common.{rules}
 use Rattle.rx_devices.proofs.Passing.{PassesPiece-on}
 use Rattle.rx_devices.proofs.reading.read_each.Goals as goal
 

@@ -1,4 +1,4 @@
-use Rattle.std.proofs.Common.{◌≡◌, ◌≤◌, ℕ, false, vec_len}
+use Rattle.std.proofs.Common.{◌≡◌, ◌≤◌, false, vec_len}
 use Rattle.rx_devices.specs.Reading.{PassesPiece, most_bytes}
 use Rattle.rx_devices.proofs.reading.read_each.Given as goal
 

@@ -1,6 +1,5 @@
-use Rattle.std.proofs.Common.{rules, ◌≡◌, ◌||◌, ◌&&◌, false, refl, subst, take}
+use Rattle.std.proofs.Common.{rules, refl, subst, take}
 use Rattle.std.specs.Io.KnownBytes.{Appends}
-use Rattle.rx_devices.specs.Writing.{is_failed_write}
 use Rattle.rx_devices.proofs.Passing.{Appends-on, rest-is}
 use Rattle.rx_devices.proofs.sink.write_all.Goals as goal
 

@@ -1,4 +1,4 @@
-use Rattle.std.proofs.Common.{length, ◌-◌, ◌≡◌, ℕ, false, ◌≤◌, take}
+use Rattle.std.proofs.Common.{length, ◌-◌, ◌≡◌, false, ◌≤◌, take}
 use Rattle.std.specs.Io.KnownBytes.{Appends}
 use Rattle.rx_devices.proofs.sink.write_all.Given as goal
 
