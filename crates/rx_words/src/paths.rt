@@ -6,8 +6,9 @@ ghost use Rattle.rx_words.specs.Paths.{has_twice};
 pub(crate) fn names_one_twice(paths: &[&str]) -> bool
     ensures { result ≡ has_twice (map (λ p. p.now) paths.now) }
 {
-    match paths {
-        [] => false,
-        [first, rest @ ..] => rest.contains(first) || names_one_twice(rest),
+    if paths.is_empty() {
+        return false;
     }
+    let (first, rest) = (paths[0], &paths[1..]);
+    rest.contains(&first) || names_one_twice(rest)
 }

@@ -36,6 +36,6 @@ returns-in-Some-sample-default c =
     let parse = c.in-Ok-try_get_matches_from in
     let met = c.in-Some-sample-default in
     let named : met.field-0-0.now ≡ codes "sample" = search rules in
-    let is = subcommand_met parse.matches _ (map (λ w. w.now) c.args.words.now) (codes "sample") (rows_of (found_of met.field-1.now))
+    let is = subcommand_met parse.matches _ (map (λ w. w.now) c.args.words.now) (codes "sample") (rows_of (found_of met.field-0-1.now))
     c.in-Ok.ensures parse.ensures.matches (ap (λ (t : Text). Some t) (sym named) ∙ met.ensures.name) met.ensures.rows in
-    (rows_of (found_of met.field-1.now), is, tt)
+    (rows_of (found_of met.field-0-1.now), is, tt)
