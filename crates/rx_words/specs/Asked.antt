@@ -1,5 +1,5 @@
 -- What a command holds of the words' matches: the subcommand's name and its options' values.
-use Rattle.std.specs.Prelude.{◌≡◌, ℕ, Bool, true, false, List, [], ◌∷◌, Option, Some, None, codes, ⊤}
+use Rattle.std.specs.Prelude.{◌≡◌, ◌≤◌, ℕ, Bool, true, false, List, [], ◌∷◌, Option, Some, None, codes, ⊥}
 use Rattle.std.specs.Option.{option_map_or}
 use Rattle.std.specs.Str.{bytes_eq}
 use Rattle.std.specs.Str.Parse.{IsNumeral, digits_value}
@@ -20,9 +20,10 @@ HasText rows name text = first_of name rows ≡ Some text
 abbrev pub is_set : Text → List Row → Bool
 is_set name rows = option_map_or (λ text. bytes_eq text (codes "true")) (first_of name rows) false
 
--- the option's value is the number, written in digits
+-- the option's value is the number, 0 to 65535, in digits alone
 abbrev pub HasNumber : List Row → Text → ℕ → Type 0
 HasNumber rows name n = (text : Text) × HasText rows name text × IsNumeral 10 text × (n ≡ digits_value 10 text)
+    × (n ≤ 65535)
 
 -- the input files are the values of their options
 abbrev pub HoldsInputs : List Row → Inputs → Type 0
@@ -46,13 +47,22 @@ pub record HoldsRun (rows : List Row) (r : RunWords) : Type 0 where
   pub workers : HasNumber rows (codes "workers") r.workers
   pub plain : r.plain ≡ is_set (codes "plain") rows
 
--- the subcommand that was found has this name, and its options' values are as said
-abbrev pub Found : Text → (List Row → Type 0) → Option (Text × List Row) → Type 0
-Found name Values found = (rows : List Row) × (found ≡ Some (name, rows)) × Values rows
+-- what `run` takes is the values of its options, and its six paths differ
+abbrev pub HoldsRunApart : List Row → RunWords → Type 0
+HoldsRunApart rows r = HoldsRun rows r × (has_twice (paths_of r) ≡ false)
 
--- the command is the subcommand that was found, with the values of its options; the paths of `run` differ
+-- the command has the name of this subcommand, and the values of its options
+abbrev pub HoldsNamed : Text → List Row → Command → Type 0
+HoldsNamed name rows (Run r) = (name ≡ codes "run") × HoldsRunApart rows r
+HoldsNamed name rows (Show s) = (name ≡ codes "show") × HoldsShow rows s
+HoldsNamed name rows (Plan i) = (name ≡ codes "plan") × HoldsInputs rows i
+HoldsNamed name rows Sample = name ≡ codes "sample"
+
+-- the command is the subcommand that was found, with the values of its options
 abbrev pub Holds : Option (Text × List Row) → Command → Type 0
-Holds found (Run r) = Found (codes "run") (λ rows. HoldsRun rows r) found × (has_twice (paths_of r) ≡ false)
-Holds found (Show s) = Found (codes "show") (λ rows. HoldsShow rows s) found
-Holds found (Plan i) = Found (codes "plan") (λ rows. HoldsInputs rows i) found
-Holds found Sample = Found (codes "sample") (λ rows. ⊤) found
+Holds None c = ⊥
+Holds (Some found) c = HoldsNamed found.0 found.1 c
+
+-- nothing has the values that are asked for
+abbrev pub NoneHolds : {X : Type 0} → (X → Type 0) → Type 0
+NoneHolds {X} P = (x : X) → P x → ⊥

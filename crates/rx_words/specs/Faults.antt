@@ -1,5 +1,5 @@
 -- The faults of the command words.
-use Rattle.std.specs.Prelude.{ℕ}
+use Rattle.std.specs.Prelude.{ℕ, ⊤, ⊥}
 use Rattle.rx_words.specs.declared.fault.WordsFault.{WordsFault}
 use Rattle.rx_words.specs.declared.fault.WordsFault.TheVariants.{Words, Memory}
 
@@ -7,3 +7,8 @@ use Rattle.rx_words.specs.declared.fault.WordsFault.TheVariants.{Words, Memory}
 abbrev pub number_of : WordsFault → ℕ
 number_of (Words text) = 1
 number_of Memory = 2
+
+-- the words aren't understood
+abbrev pub IsWords : WordsFault → Type 0
+IsWords (Words text) = ⊤
+IsWords Memory = ⊥

@@ -1,9 +1,10 @@
 //! The words read.
-ghost use Rattle.std.specs.Prelude.{◌≡◌, false, IfOk, IfSome, map, option_map};
-ghost use Rattle.clap.specs.Words.{first_of, found_of, rows_of, subcommand_of};
+ghost use Rattle.std.specs.Prelude.{◌≡◌, true, IfErr, IfNone, IfOk, IfSome, map, option_map};
+ghost use Rattle.clap.specs.Words.{first_of, found_of, rows_of, subcommand_of, takes};
 ghost use Rattle.rx_words.specs.Syntax.{whole_line};
-ghost use Rattle.rx_words.specs.Asked.{HasNumber, Holds, HoldsInputs, HoldsOutputs, HoldsRun, HoldsShow, is_set};
-ghost use Rattle.rx_words.specs.Paths.{has_twice, paths_of};
+ghost use Rattle.rx_words.specs.Asked.{HasNumber, Holds, HoldsInputs, HoldsNamed, HoldsOutputs, HoldsRun, HoldsRunApart};
+ghost use Rattle.rx_words.specs.Asked.{HoldsShow, NoneHolds, is_set};
+ghost use Rattle.rx_words.specs.Faults.{IsWords};
 
 use crate::asked::{Command, Inputs, Outputs, RunWords, ShowWords};
 use crate::fault::WordsFault;
@@ -29,7 +30,8 @@ fn flag(found: &ArgMatches<'_>, name: &str) -> bool
 
 /// The number of an option that is written in digits alone: `clap`'s numbers may have a sign.
 fn number(found: &ArgMatches<'_>, name: &str) -> Option<u16>
-    ensures { IfSome result (HasNumber (rows_of (found_of found.now)) name.now) }
+    ensures some { IfSome result (HasNumber (rows_of (found_of found.now)) name.now) }
+    ensures none { IfNone result (NoneHolds (HasNumber (rows_of (found_of found.now)) name.now)) }
 {
     let written = text(found, name)?;
     if matches!(written.as_bytes(), [b'+', ..]) {
@@ -39,7 +41,8 @@ fn number(found: &ArgMatches<'_>, name: &str) -> Option<u16>
 }
 
 fn inputs<'a>(found: &ArgMatches<'a>) -> Option<Inputs<'a>>
-    ensures { IfSome result (HoldsInputs (rows_of (found_of found.now))) }
+    ensures some { IfSome result (HoldsInputs (rows_of (found_of found.now))) }
+    ensures none { IfNone result (NoneHolds (HoldsInputs (rows_of (found_of found.now)))) }
 {
     let sheet = text(found, "sheet")?;
     let books = text(found, "books")?;
@@ -52,7 +55,8 @@ fn inputs<'a>(found: &ArgMatches<'a>) -> Option<Inputs<'a>>
 }
 
 fn outputs<'a>(found: &ArgMatches<'a>) -> Option<Outputs<'a>>
-    ensures { IfSome result (HoldsOutputs (rows_of (found_of found.now))) }
+    ensures some { IfSome result (HoldsOutputs (rows_of (found_of found.now))) }
+    ensures none { IfNone result (NoneHolds (HoldsOutputs (rows_of (found_of found.now)))) }
 {
     let response = text(found, "response")?;
     let books = text(found, "books-out")?;
@@ -65,7 +69,8 @@ fn outputs<'a>(found: &ArgMatches<'a>) -> Option<Outputs<'a>>
 }
 
 fn show<'a>(found: &ArgMatches<'a>) -> Option<ShowWords<'a>>
-    ensures { IfSome result (HoldsShow (rows_of (found_of found.now))) }
+    ensures some { IfSome result (HoldsShow (rows_of (found_of found.now))) }
+    ensures none { IfNone result (NoneHolds (HoldsShow (rows_of (found_of found.now)))) }
 {
     let sheet = text(found, "sheet")?;
     let batch = text(found, "batch")?;
@@ -73,7 +78,8 @@ fn show<'a>(found: &ArgMatches<'a>) -> Option<ShowWords<'a>>
 }
 
 fn run<'a>(found: &ArgMatches<'a>) -> Option<RunWords<'a>>
-    ensures { IfSome result (HoldsRun (rows_of (found_of found.now))) }
+    ensures some { IfSome result (HoldsRun (rows_of (found_of found.now))) }
+    ensures none { IfNone result (NoneHolds (HoldsRun (rows_of (found_of found.now)))) }
 {
     let inputs = inputs(found)?;
     let outputs = outputs(found)?;
@@ -91,8 +97,8 @@ fn run<'a>(found: &ArgMatches<'a>) -> Option<RunWords<'a>>
 
 /// `run` of which no path stands twice.
 fn run_apart<'a>(alloc: Global, found: &ArgMatches<'a>) -> Result<RunWords<'a>, WordsFault>
-    ensures held { IfOk result (HoldsRun (rows_of (found_of found.now))) }
-    ensures apart { IfOk result (λ r. has_twice (paths_of r) ≡ false) }
+    ensures ok { IfOk result (HoldsRunApart (rows_of (found_of found.now))) }
+    ensures words { IfErr result (λ e. IsWords e → NoneHolds (HoldsRunApart (rows_of (found_of found.now)))) }
 {
     let Some(run) = run(found) else {
         return Err(misread(alloc));
@@ -101,6 +107,26 @@ fn run_apart<'a>(alloc: Global, found: &ArgMatches<'a>) -> Result<RunWords<'a>, 
         return Err(WordsFault::Words(None));
     }
     Ok(run)
+}
+
+/// The command of this name.
+fn named<'a>(alloc: Global, name: &str, found: &ArgMatches<'a>) -> Result<Command<'a>, WordsFault>
+    ensures ok { IfOk result (HoldsNamed name.now (rows_of (found_of found.now))) }
+    ensures words { IfErr result (λ e. IsWords e → NoneHolds (HoldsNamed name.now (rows_of (found_of found.now)))) }
+{
+    match name {
+        "run" => Ok(Command::Run(run_apart(alloc, found)?)),
+        "show" => match show(found) {
+            Some(show) => Ok(Command::Show(show)),
+            None => Err(misread(alloc)),
+        },
+        "plan" => match inputs(found) {
+            Some(inputs) => Ok(Command::Plan(inputs)),
+            None => Err(misread(alloc)),
+        },
+        "sample" => Ok(Command::Sample),
+        _ => Err(misread(alloc)),
+    }
 }
 
 /// The fault of words that `clap` lets through, with the usage: a number with a sign.
@@ -124,7 +150,9 @@ fn misread(alloc: Global) -> WordsFault {
 /// `Words` where `clap` doesn't take the words, help being asked for too, where the workers aren't digits alone, and
 /// where `run` names one path twice; `Memory` where memory was wanting.
 pub fn command<'a>(alloc: Global, words: &'a [&'a str]) -> Result<Command<'a>, WordsFault>
-    ensures { IfOk result (Holds (subcommand_of whole_line (map (λ w. w.now) words.now))) }
+    ensures ok { IfOk result (Holds (subcommand_of whole_line (map (λ w. w.now) words.now))) }
+    ensures words { IfErr result (λ e. IsWords e → takes whole_line (map (λ w. w.now) words.now) ≡ true
+        → NoneHolds (Holds (subcommand_of whole_line (map (λ w. w.now) words.now)))) }
 {
     let Ok(line) = line(alloc) else {
         return Err(WordsFault::Memory);
@@ -135,16 +163,7 @@ pub fn command<'a>(alloc: Global, words: &'a [&'a str]) -> Result<Command<'a>, W
         Err(told) => return Err(WordsFault::Words(Some(told))),
     };
     match matches.subcommand() {
-        Some(("run", found)) => Ok(Command::Run(run_apart(alloc, found)?)),
-        Some(("show", found)) => match show(found) {
-            Some(show) => Ok(Command::Show(show)),
-            None => Err(misread(alloc)),
-        },
-        Some(("plan", found)) => match inputs(found) {
-            Some(inputs) => Ok(Command::Plan(inputs)),
-            None => Err(misread(alloc)),
-        },
-        Some(("sample", _)) => Ok(Command::Sample),
-        _ => Err(misread(alloc)),
+        Some((name, found)) => named(alloc, name, found),
+        None => Err(misread(alloc)),
     }
 }
