@@ -1,7 +1,10 @@
 //! Why there is no command.
-ghost use Rattle.std.specs.Prelude.{◌≡◌};
-ghost use Rattle.rx_words.specs.Faults.{number_of};
+ghost use Rattle.std.specs.Prelude.{◌≡◌, ◌≢◌};
+ghost use Rattle.clap.specs.Words.{kind_of};
+ghost use Rattle.rx_words.specs.Faults.{IsWords, memory_fault, number_of, out_of_memory};
 
+use clap::error::ErrorKind;
+use std::alloc::AllocError;
 use std::fmt;
 
 /// Why the words give no command (docs/PRODUCT.md, "The program rxbatch"). Its `Display` is the text for standard
@@ -23,6 +26,25 @@ impl WordsFault {
         match self {
             WordsFault::Words(_) => 1,
             WordsFault::Memory => 2,
+        }
+    }
+}
+
+impl From<AllocError> for WordsFault {
+    ghost from_gives = { λ _ fault. fault ≡ memory_fault };
+
+    fn from(_error: AllocError) -> WordsFault {
+        WordsFault::Memory
+    }
+}
+
+impl From<clap::Error> for WordsFault {
+    ghost from_gives = { λ told fault. IsWords fault → kind_of told ≢ out_of_memory };
+
+    fn from(told: clap::Error) -> WordsFault {
+        match told.kind() {
+            ErrorKind::OutOfMemory => WordsFault::Memory,
+            _ => WordsFault::Words(Some(told)),
         }
     }
 }

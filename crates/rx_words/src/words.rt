@@ -154,14 +154,7 @@ pub fn command<'a>(alloc: Global, words: &'a [&'a str]) -> Result<Command<'a>, W
     ensures words { IfErr result (λ e. IsWords e → takes whole_line (map (λ w. w.now) words.now) ≡ true
         → NoneHolds (Holds (subcommand_of whole_line (map (λ w. w.now) words.now)))) }
 {
-    let Ok(line) = line(alloc) else {
-        return Err(WordsFault::Memory);
-    };
-    let matches = match line.try_get_matches_from(words) {
-        Ok(matches) => matches,
-        Err(told) if told.kind() == ErrorKind::OutOfMemory => return Err(WordsFault::Memory),
-        Err(told) => return Err(WordsFault::Words(Some(told))),
-    };
+    let matches = line(alloc)?.try_get_matches_from(words)?;
     match matches.subcommand() {
         Some((name, found)) => named(alloc, name, found),
         None => Err(misread(alloc)),
