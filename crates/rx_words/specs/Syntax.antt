@@ -7,20 +7,12 @@ use Rattle.clap.specs.declared.builder.action.ArgAction.TheVariants.{SetTrue}
 use Rattle.clap.specs.declared.builder.value_parser.ValueParser.TheVariants as vp
 
 -- `--name VALUE`, which has to stand
-abbrev pub option : Text → Rule
-option name = record (new_rule name) { long = Some name; value_names = 1; required = true }
-
--- `--name FILE`
-abbrev pub file_option : Text → Rule
-file_option name = option name
-
--- `--stamp STAMP`
-abbrev pub stamp_option : Rule
-stamp_option = option (codes "stamp")
+abbrev pub required_option : Text → Rule
+required_option name = record (new_rule name) { long = Some name; value_names = 1; required = true }
 
 -- `--workers N`, a number from 0 to 65535
 abbrev pub workers_option : Rule
-workers_option = record (option (codes "workers")) { parser = Some (vp.Signed (pos 0) (pos 65535)) }
+workers_option = record (required_option (codes "workers")) { parser = Some (vp.Signed (pos 0) (pos 65535)) }
 
 -- `--plain`, which may stand
 abbrev pub plain_flag : Rule
@@ -28,17 +20,17 @@ plain_flag = record (new_rule (codes "plain")) { long = Some (codes "plain"); ac
 
 -- the line with the three input files
 abbrev pub with_inputs : App → App
-with_inputs line = with_rule (with_rule (with_rule line (file_option (codes "sheet")))
-    (file_option (codes "books"))) (file_option (codes "batch"))
+with_inputs line = with_rule (with_rule (with_rule line (required_option (codes "sheet")))
+    (required_option (codes "books"))) (required_option (codes "batch"))
 
 -- the line with the three output files
 abbrev pub with_outputs : App → App
-with_outputs line = with_rule (with_rule (with_rule line (file_option (codes "response")))
-    (file_option (codes "books-out"))) (file_option (codes "settlement"))
+with_outputs line = with_rule (with_rule (with_rule line (required_option (codes "response")))
+    (required_option (codes "books-out"))) (required_option (codes "settlement"))
 
 -- the line with the options of `run` that are no files
 abbrev pub with_run_options : App → App
-with_run_options line = with_rule (with_rule (with_rule line stamp_option) workers_option) plain_flag
+with_run_options line = with_rule (with_rule (with_rule line (required_option (codes "stamp"))) workers_option) plain_flag
 
 -- `run --sheet F --books F --batch F --response F --books-out F --settlement F --stamp S --workers N [--plain]`
 abbrev pub run_line : App
@@ -46,7 +38,7 @@ run_line = with_run_options (with_outputs (with_inputs (new_app (codes "run"))))
 
 -- `show --sheet F --batch F`
 abbrev pub show_line : App
-show_line = with_rule (with_rule (new_app (codes "show")) (file_option (codes "sheet"))) (file_option (codes "batch"))
+show_line = with_rule (with_rule (new_app (codes "show")) (required_option (codes "sheet"))) (required_option (codes "batch"))
 
 -- `plan --sheet F --books F --batch F`
 abbrev pub plan_line : App

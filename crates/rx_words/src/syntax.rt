@@ -1,35 +1,31 @@
 //! The command line as `clap` reads it.
 ghost use Rattle.std.specs.Prelude.{◌≡◌, false, IfOk};
-ghost use Rattle.clap.specs.Words.{app_of, rule_of};
-ghost use Rattle.rx_words.specs.Syntax.{IsLocal, file_option, plain_flag, stamp_option, workers_option};
+ghost use Rattle.clap.specs.Words.{app_of, new_app, rule_of};
+ghost use Rattle.rx_words.specs.Syntax.{IsLocal, plain_flag, required_option, workers_option};
 ghost use Rattle.rx_words.specs.Syntax.{with_inputs, with_outputs, with_run_options};
-ghost use Rattle.rx_words.specs.Syntax.{plan_line, run_line, sample_line, show_line, whole_line};
+ghost use Rattle.rx_words.specs.Syntax.{plan_line, run_line, show_line, whole_line};
 
 use clap::{Arg, ArgAction, Command as Line, value_parser};
 use std::alloc::{AllocError, Global};
 
-/// The option `--name FILE`.
-fn file<'a>(alloc: Global, name: &'a str, help: &'a str) -> Arg<'a>
-    ensures rule { rule_of result ≡ file_option name.entry.now }
+/// The option `--name VALUE`.
+fn option<'a>(alloc: Global, name: &'a str, value: &'a str, help: &'a str) -> Arg<'a>
+    ensures rule { rule_of result ≡ required_option name.entry.now }
     ensures local { result.global ≡ false }
 {
     Arg::new(alloc, name)
         .long(name)
-        .value_name("FILE")
+        .value_name(value)
         .required(true)
         .help(help)
 }
 
-/// The option `--stamp STAMP`.
-fn stamp<'a>(alloc: Global) -> Arg<'a>
-    ensures rule { rule_of result ≡ stamp_option }
+/// The option `--name FILE`.
+fn file<'a>(alloc: Global, name: &'a str, help: &'a str) -> Arg<'a>
+    ensures rule { rule_of result ≡ required_option name.entry.now }
     ensures local { result.global ≡ false }
 {
-    Arg::new(alloc, "stamp")
-        .long("stamp")
-        .value_name("STAMP")
-        .required(true)
-        .help("Date and time, CCYYMMDDHHMM")
+    option(alloc, name, "FILE", help)
 }
 
 /// The option `--workers N`.
@@ -37,12 +33,7 @@ fn workers<'a>(alloc: Global) -> Arg<'a>
     ensures rule { rule_of result ≡ workers_option }
     ensures local { result.global ≡ false }
 {
-    Arg::new(alloc, "workers")
-        .long("workers")
-        .value_name("N")
-        .required(true)
-        .help("Number of threads, 1 to 64")
-        .value_parser(value_parser!(u16))
+    option(alloc, "workers", "N", "Number of threads, 1 to 64").value_parser(value_parser!(u16))
 }
 
 /// The flag `--plain`.
@@ -54,6 +45,14 @@ fn plain<'a>(alloc: Global) -> Arg<'a>
         .long("plain")
         .action(ArgAction::SetTrue)
         .help("Work over plain lists, one record after another")
+}
+
+/// The line of this name, as yet without an option.
+fn named<'a>(alloc: Global, name: &'a str, about: &'a str) -> Line<'a>
+    ensures shape { app_of result ≡ new_app name.entry.now }
+    ensures local { IsLocal result }
+{
+    Line::new(alloc, name).about(about)
 }
 
 /// A line with the three input files.
@@ -86,9 +85,8 @@ fn takes_run_options<'a>(alloc: Global, line: Line<'a>) -> Result<Line<'a>, Allo
     ensures shape { IfOk result (λ l. app_of l ≡ with_run_options (app_of line.entry)) }
     ensures local { IfOk result IsLocal }
 {
-    line.arg(stamp(alloc))?
-        .arg(workers(alloc))?
-        .arg(plain(alloc))
+    let stamp = option(alloc, "stamp", "STAMP", "Date and time, CCYYMMDDHHMM");
+    line.arg(stamp)?.arg(workers(alloc))?.arg(plain(alloc))
 }
 
 /// The subcommand `run`.
@@ -96,8 +94,8 @@ fn run<'a>(alloc: Global) -> Result<Line<'a>, AllocError>
     ensures shape { IfOk result (λ l. app_of l ≡ run_line) }
     ensures local { IfOk result IsLocal }
 {
-    let named = Line::new(alloc, "run");
-    let inputs = takes_inputs(alloc, named)?;
+    let run = named(alloc, "run", "Adjudicates a batch file");
+    let inputs = takes_inputs(alloc, run)?;
     let files = takes_outputs(alloc, inputs)?;
     takes_run_options(alloc, files)
 }
@@ -109,7 +107,8 @@ fn show<'a>(alloc: Global) -> Result<Line<'a>, AllocError>
 {
     let sheet = file(alloc, "sheet", "Plan sheet");
     let batch = file(alloc, "batch", "Batch file");
-    Line::new(alloc, "show").arg(sheet)?.arg(batch)
+    let show = named(alloc, "show", "Shows the transactions, a line each");
+    show.arg(sheet)?.arg(batch)
 }
 
 /// The subcommand `plan`.
@@ -117,7 +116,8 @@ fn plan<'a>(alloc: Global) -> Result<Line<'a>, AllocError>
     ensures shape { IfOk result (λ l. app_of l ≡ plan_line) }
     ensures local { IfOk result IsLocal }
 {
-    takes_inputs(alloc, Line::new(alloc, "plan"))
+    let plan = named(alloc, "plan", "Shows the waves and the chain");
+    takes_inputs(alloc, plan)
 }
 
 /// The command line of the program.
@@ -127,8 +127,8 @@ pub(crate) fn line<'a>(alloc: Global) -> Result<Line<'a>, AllocError>
     let run = run(alloc)?;
     let show = show(alloc)?;
     let plan = plan(alloc)?;
-    let sample = Line::new(alloc, "sample");
-    let top = Line::new(alloc, "rxbatch").subcommand_required(true);
+    let sample = named(alloc, "sample", "Shows the reply to the base claim");
+    let top = named(alloc, "rxbatch", "Adjudicates pharmacy batch files").subcommand_required(true);
     top.subcommand(run)?
         .subcommand(show)?
         .subcommand(plan)?

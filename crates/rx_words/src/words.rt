@@ -129,12 +129,16 @@ fn named<'a>(alloc: Global, name: &str, found: &ArgMatches<'a>) -> Result<Comman
     }
 }
 
-/// The fault of words that `clap` lets through, with the usage: a number with a sign.
+/// The fault of words that `clap` lets through, with the usage. Of them only a number with a sign comes here, since
+/// `clap` lets no option be absent that a command wants.
 fn misread(alloc: Global) -> WordsFault {
     let Ok(mut line) = line(alloc) else {
         return WordsFault::Memory;
     };
-    match line.error(ErrorKind::ValueValidation, "a number is digits alone") {
+    match line.error(
+        ErrorKind::ValueValidation,
+        "invalid value for '--workers <N>': a number is digits alone",
+    ) {
         Ok(told) => WordsFault::Words(Some(told)),
         Err(_) => WordsFault::Memory,
     }
