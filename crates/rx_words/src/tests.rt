@@ -152,3 +152,14 @@ fn the_text_is_claps(rt: HostRuntime) -> Result<(), Fail> {
     );
     Ok(())
 }
+
+#[test]
+fn owned_words_are_read(rt: HostRuntime) -> Result<(), Fail> {
+    let alloc = rt.alloc();
+    let words = [
+        String::from_str(alloc, "rxbatch")?,
+        String::from_str(alloc, "sample")?,
+    ];
+    assert!(rt; matches!(command(alloc, words.as_slice()), Ok(Command::Sample)));
+    Ok(())
+}

@@ -13,6 +13,7 @@ use crate::syntax::line;
 use clap::ArgMatches;
 use clap::error::ErrorKind;
 use std::alloc::Global;
+use std::convert::AsStr;
 
 /// The text of an option.
 fn text<'a>(found: &ArgMatches<'a>, name: &str) -> Option<&'a str>
@@ -153,10 +154,10 @@ fn misread(alloc: Global) -> WordsFault {
 ///
 /// `Words` where `clap` doesn't take the words, help being asked for too, where the workers aren't digits alone, and
 /// where `run` names one path twice; `Memory` where memory was wanting.
-pub fn command<'a>(alloc: Global, words: &'a [&'a str]) -> Result<Command<'a>, WordsFault>
-    ensures ok { IfOk result (Holds (subcommand_of whole_line (map (λ w. w.now) words.now))) }
-    ensures words { IfErr result (λ e. IsWords e → takes whole_line (map (λ w. w.now) words.now) ≡ true
-        → NoneHolds (Holds (subcommand_of whole_line (map (λ w. w.now) words.now)))) }
+pub fn command<'a, S: AsStr>(alloc: Global, words: &'a [S]) -> Result<Command<'a>, WordsFault>
+    ensures ok { IfOk result (Holds (subcommand_of whole_line (map S.text words.now))) }
+    ensures words { IfErr result (λ e. IsWords e → takes whole_line (map S.text words.now) ≡ true
+        → NoneHolds (Holds (subcommand_of whole_line (map S.text words.now)))) }
 {
     let matches = line(alloc)?.try_get_matches_from(words)?;
     match matches.subcommand() {
