@@ -19,20 +19,20 @@ pub ok_of : {X E : Type 0} (r : Result X E) (P Q : X → Type 0) (S : E → Type
 ok_of (Ok x) P Q S h f = f x h
 ok_of (Err e) P Q S h f = tt
 
-module _ {X Z : Type 0} (E : Type 0) (rec : X → List ℕ) where
+module _ {X Z : Type 0} (E : Type 0) (record_of : X → List ℕ) where
   -- a piece has the records of these items, where it was made
   abbrev IsPiece : List X → Result (Vec ℕ Z) E → Type 0
-  IsPiece xs r = IfOk r (λ (t : Vec ℕ Z). t.items ≡ flat_map rec xs)
+  IsPiece xs r = IfOk r (λ (t : Vec ℕ Z). t.items ≡ flat_map record_of xs)
 
   -- one record more
   abbrev pub AddsOne : Result (Vec ℕ Z) E → X → Result (Vec ℕ Z) E → Type 0
-  AddsOne a x r = IfOk r (λ (new : Vec ℕ Z). IsOkAnd a (λ (old : Vec ℕ Z). new.items ≡ old.items ++ rec x))
+  AddsOne a x r = IfOk r (λ (new : Vec ℕ Z). IsOkAnd a (λ (old : Vec ℕ Z). new.items ≡ old.items ++ record_of x))
 
   one_more : (xs : List X) (a : Result (Vec ℕ Z) E) (x : X) (r : Result (Vec ℕ Z) E)
       → IsPiece xs a → AddsOne a x r → IsPiece (xs ++ x ∷ []) r
   one_more xs (Ok old) x (Ok new) m h =
-      h ∙ ap (λ l. l ++ rec x) m ∙ ap (λ l. flat_map rec xs ++ l) (sym (append-nil (rec x)))
-      ∙ sym (flat_map-append rec xs (x ∷ []))
+      h ∙ ap (λ l. l ++ record_of x) m ∙ ap (λ l. flat_map record_of xs ++ l) (sym (append-nil (record_of x)))
+      ∙ sym (flat_map-append record_of xs (x ∷ []))
   one_more xs (Err e) x (Ok new) m h = absurd h
   one_more xs a x (Err e) m h = tt
 
@@ -42,13 +42,13 @@ module _ {X Z : Type 0} (E : Type 0) (rec : X → List ℕ) where
   -- the pieces that a fold gives, where each was made, have the records of all items
   pub joined : (pieces : List (List X)) (ys : List (Vec ℕ Z))
       → AllZip (λ xs (r : Result (Vec ℕ Z) E). (e : Result (Vec ℕ Z) E) × IfOk e (λ (t : Vec ℕ Z). t.items ≡ []) × Folds AddsOne e xs r) pieces (map Ok ys)
-      → pieces_text ys ≡ flat_map rec (flat_map (λ l. l) pieces)
+      → pieces_text ys ≡ flat_map record_of (flat_map (λ l. l) pieces)
   joined [] [] h = refl
   joined [] (y ∷ ys) h = absurd h
   joined (xs ∷ rest) [] h = absurd h
   joined (xs ∷ rest) (y ∷ ys) h =
       (λ j. piece xs h.0.0 (Ok y) h.0.1 h.0.2 j ++ joined rest ys h.1 j)
-      ∙ sym (flat_map-append rec xs (flat_map (λ l. l) rest))
+      ∙ sym (flat_map-append record_of xs (flat_map (λ l. l) rest))
 
 -- there is an answer for each detail
 pub as_many : (details : List Detail) (replies : List Reply) → length details ≡ length replies
