@@ -99,21 +99,28 @@ def write(folder, files):
             file.write(text)
 
 
+def read(folder, name):
+    """The bytes of a file, None where it wasn't made."""
+    try:
+        with open(os.path.join(folder, name), "rb") as file:
+            return file.read()
+    except FileNotFoundError:
+        return None
+
+
 def answer_of(program, folder, number, plain):
     """Status, standard output, standard error and the output files of one run."""
     words = ["run", "--stamp", make_job.STAMP, "--workers", number] + ["--plain"] * plain
     words += [word for pair in {**INPUTS, **OUTPUTS}.items() for word in pair]
     ended = subprocess.run(program + words, cwd=folder, stdin=subprocess.DEVNULL, capture_output=True, timeout=60)
-    texts = []
-    for name in OUTPUTS.values():
-        with open(os.path.join(folder, name), "rb") as file:
-            texts.append(file.read())
-    return [ended.returncode, ended.stdout, ended.stderr] + texts
+    return [ended.returncode, ended.stdout, ended.stderr] + [read(folder, name) for name in OUTPUTS.values()]
 
 
 def difference(program, folder):
     """Which run differs from the first one, None where all are the same."""
     wanted = answer_of(program, folder, *RUNS[0])
+    if wanted[0] not in (0, 1):
+        return f"status {wanted[0]}"
     for number, plain in RUNS[1:]:
         got = answer_of(program, folder, number, plain)
         if got != wanted:

@@ -33,7 +33,8 @@ ANSWERS = ("status", "show", "show-refused", "plan", "plan-refused", "sample")
 
 
 class Answer(NamedTuple):
-    """What a run answers; as what is wanted, None leaves a part open. An output that isn't there is empty."""
+    """What a run answers; as what is wanted, None leaves a part open. An output that isn't there is None; it may be
+    away where a file couldn't be opened."""
     status: Optional[int]
     stdout: Optional[bytes]
     stderr: Optional[bytes]
@@ -86,7 +87,8 @@ def wanted_of_run(folder):
         return None
     if int(status) == 0:
         return Answer(0, b"", b"", {name: read(folder, name) for name in OUTPUTS.values()})
-    return Answer(int(status), b"", read(folder, "refused"), dict.fromkeys(OUTPUTS.values(), b""))
+    outputs = dict.fromkeys(OUTPUTS.values(), b"") if int(status) == 1 else {}
+    return Answer(int(status), b"", read(folder, "refused"), outputs)
 
 
 def wanted_of_text(folder, name):
@@ -120,7 +122,7 @@ def answer_of(settings, words, folder):
     """What the program answers in the folder."""
     ended = subprocess.run(settings.program + words, cwd=folder, stdin=subprocess.DEVNULL, capture_output=True,
                            timeout=settings.seconds)
-    outputs = {name: read(folder, name) or b"" for name in OUTPUTS.values()}
+    outputs = {name: read(folder, name) for name in OUTPUTS.values()}
     return Answer(ended.returncode, ended.stdout, ended.stderr, outputs)
 
 
@@ -128,6 +130,8 @@ def difference(what, wanted, got):
     """How two texts differ, in a few words; None where they don't."""
     if wanted is None or wanted == got:
         return None
+    if got is None:
+        return f"{what} wasn't made"
     at = next((i for i, (a, b) in enumerate(zip(wanted, got)) if a != b), min(len(wanted), len(got)))
     front = max(at - 12, 0)
     return f"{what} differs at byte {at}: {got[front:at + 24]!r}, wanted {wanted[front:at + 24]!r}"
