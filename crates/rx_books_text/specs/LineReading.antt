@@ -1,7 +1,7 @@
 -- What the text of a line is read as (docs/FORMATS.md, "Books file").
 use Rattle.std.specs.Prelude.{ℕ, Bool, true, false, not, ◌&&◌, ◌||◌, nat_eq, ◌==◌, if◌then◌else◌, List, [], ◌∷◌, codes, length, Option, Some, None}
 use Rattle.std.specs.Cmp.Lexicographic.{pointwise}
-use Rattle.std.specs.List.{slice_split, starts_with}
+use Rattle.std.specs.List.{starts_with}
 use Rattle.std.specs.Option.{option_map}
 use Rattle.std.specs.Prelude.{drop}
 use Rattle.std.specs.Result.{result_ok}
@@ -36,9 +36,10 @@ None >>= f = None
 abbrev pub same : List ℕ → List ℕ → Bool
 same a b = pointwise nat_eq a b
 
--- the fields that bars separate
-abbrev pub cut : List ℕ → List (List ℕ)
-cut bytes = slice_split (λ b. b == 124) bytes
+-- the field before the first bar, and what follows the bar
+unfoldable pub split : List ℕ → Option (List ℕ × List ℕ)
+split [] = None
+split (b ∷ bs) = if b == 124 then Some ([], bs) else (split bs >>= λ x. Some (b ∷ x.0, x.1))
 
 -- an id of at most max bytes, with no blank at its end
 unfoldable pub id_in : ℕ → List ℕ → Option (List ℕ)
@@ -75,84 +76,111 @@ version_in bs =
 unfoldable pub period_in : List ℕ → List ℕ → Option Span
 period_in first last = day_in first >>= λ a. day_in last >>= λ b. period_of a b
 
-abbrev pub head_in : List (List ℕ) → Option Head
-head_in (version ∷ first ∷ last ∷ []) =
-    version_in version >>= λ v. period_in first last >>= λ p. Some (record { version = v; period = p })
-head_in other = None
+-- the head behind its label
+unfoldable pub head_in : List ℕ → Option Head
+head_in bs =
+    split bs >>= λ version. split version.1 >>= λ first. version_in version.0 >>= λ v. period_in first.0 first.1 >>= λ p.
+    Some (record { version = v; period = p })
 
+-- the head of a text without its line feed
 unfoldable pub head_of : List ℕ → Option Head
-head_of bs = if starts_with nat_eq bs (codes "BOOKS|") then head_in (cut (drop 6 bs)) else None
+head_of bs = if starts_with nat_eq bs (codes "BOOKS|") then head_in (drop 6 bs) else None
 
 -- ---- lines
 
 unfoldable pub member_key_in : List ℕ → List ℕ → Option MemberKey
 member_key_in family person = id_in 20 family >>= λ f. id_in 3 person >>= λ p. Some (record { family = f; person = p })
 
-abbrev pub member_in : List (List ℕ) → Option MemberLine
-member_in (family ∷ person ∷ first ∷ last ∷ deductible ∷ []) =
-    member_key_in family person >>= λ key. period_in first last >>= λ coverage. number_in 20 deductible >>= λ n. Some
-    (record { member = record { key = key; coverage = coverage }; deductible = n })
-member_in other = None
+-- a family and a person, and what follows
+unfoldable pub member_key_at : List ℕ → Option (MemberKey × List ℕ)
+member_key_at bs =
+    split bs >>= λ family. split family.1 >>= λ person. member_key_in family.0 person.0 >>= λ key. Some (key, person.1)
+
+-- the member line of these bytes behind its kind
+unfoldable pub member_in : List ℕ → Option MemberLine
+member_in bs =
+    member_key_at bs >>= λ key. split key.1 >>= λ first. split first.1 >>= λ last. period_in first.0 last.0 >>= λ coverage.
+    number_in 20 last.1 >>= λ n. Some
+    (record { member = record { key = key.0; coverage = coverage }; deductible = n })
 
 unfoldable pub key_in : List ℕ → List ℕ → List ℕ → Option Key
 key_in provider reference date =
     id_in 15 provider >>= λ p. count_in 0 999_999_999_999 reference >>= λ r. day_in date >>= λ d. Some
     (record { provider = p; reference = r; date = d })
 
+-- a fill key, and what follows
+unfoldable pub key_at : List ℕ → Option (Key × List ℕ)
+key_at bs =
+    split bs >>= λ provider. split provider.1 >>= λ reference. split reference.1 >>= λ date.
+    key_in provider.0 reference.0 date.0 >>= λ key. Some (key, date.1)
+
 unfoldable pub dispensed_in : List ℕ → List ℕ → List ℕ → Option Dispensed
 dispensed_in product quantity days =
     product_of product >>= λ p. count_in 1 9_999_999_999 quantity >>= λ q. count_in 1 999 days >>= λ d. Some
     (record { product = p; quantity = q; days = d })
 
-unfoldable pub amounts_in : List ℕ → List ℕ → List ℕ → List ℕ → List ℕ → Option Amounts
-amounts_in cost fee deductible copay coinsurance =
-    number_in 19 cost >>= λ c. number_in 19 fee >>= λ f. number_in 19 deductible >>= λ d. number_in 19 copay >>= λ y.
-    number_in 19 coinsurance >>= λ u. Some
-    (record { ingredient_cost = c; dispensing_fee = f; deductible = d; copay = y; coinsurance = u })
+-- what was dispensed, and what follows
+unfoldable pub dispensed_at : List ℕ → Option (Dispensed × List ℕ)
+dispensed_at bs =
+    split bs >>= λ product. split product.1 >>= λ quantity. split quantity.1 >>= λ days.
+    dispensed_in product.0 quantity.0 days.0 >>= λ what. Some (what, days.1)
 
--- the fields of a claim line as version 2 has them: version 1 has no coinsurance, which is 0 there
-abbrev pub with_coinsurance : Version → List (List ℕ) → List (List ℕ)
-with_coinsurance One (a ∷ b ∷ c ∷ d ∷ e ∷ f ∷ g ∷ h ∷ i ∷ j ∷ k ∷ l ∷ number ∷ []) =
-    a ∷ b ∷ c ∷ d ∷ e ∷ f ∷ g ∷ h ∷ i ∷ j ∷ k ∷ l ∷ codes "0" ∷ number ∷ []
-with_coinsurance One other = []
-with_coinsurance Two fields = fields
-with_coinsurance Three fields = fields
+-- F6 and F7, or FH and FI, and what follows
+unfoldable pub two_numbers_at : List ℕ → Option ((ℕ × ℕ) × List ℕ)
+two_numbers_at bs =
+    split bs >>= λ first. split first.1 >>= λ second. number_in 19 first.0 >>= λ a. number_in 19 second.0 >>= λ b. Some
+    ((a, b), second.1)
 
-abbrev pub claim_in : List (List ℕ) → Option Row
-claim_in (provider ∷ reference ∷ date ∷ family ∷ person ∷ product ∷ quantity ∷ days ∷ cost ∷ fee ∷ deductible ∷ copay
-    ∷ coinsurance ∷ number ∷ []) =
-    key_in provider reference date >>= λ key. member_key_in family person >>= λ member.
-    dispensed_in product quantity days >>= λ what. amounts_in cost fee deductible copay coinsurance >>= λ amounts.
-    authorization_in number >>= λ authorization. row_of key member.family member.person what.product what.quantity
-    what.days amounts authorization
-claim_in other = None
+-- 4U, which is 0 where version 1 has no field for it, and what follows
+abbrev pub coinsurance_at : Version → List ℕ → Option (ℕ × List ℕ)
+coinsurance_at One bs = Some (0, bs)
+coinsurance_at Two bs = split bs >>= λ x. number_in 19 x.0 >>= λ n. Some (n, x.1)
+coinsurance_at Three bs = split bs >>= λ x. number_in 19 x.0 >>= λ n. Some (n, x.1)
 
-abbrev pub whole_total_in : List (List ℕ) → Option TotalLine
-whole_total_in (family ∷ out_of_pocket ∷ deductible ∷ []) =
-    id_in 20 family >>= λ f. number_in 20 out_of_pocket >>= λ o. number_in 20 deductible >>= λ d. Some
-    (record { family = f; out_of_pocket = o; deductible = Some d })
-whole_total_in other = None
+-- F6, F7, FH, FI and 4U, and what follows
+unfoldable pub amounts_at : Version → List ℕ → Option (Amounts × List ℕ)
+amounts_at v bs =
+    two_numbers_at bs >>= λ price. two_numbers_at price.1 >>= λ share. coinsurance_at v share.1 >>= λ rest. Some
+    (record {
+      ingredient_cost = price.0.0;
+      dispensing_fee = price.0.1;
+      deductible = share.0.0;
+      copay = share.0.1;
+      coinsurance = rest.0;
+    }, rest.1)
 
-abbrev pub short_total_in : List (List ℕ) → Option TotalLine
-short_total_in (family ∷ out_of_pocket ∷ []) =
-    id_in 20 family >>= λ f. number_in 20 out_of_pocket >>= λ o. Some
+-- the claim of these bytes behind its kind
+unfoldable pub claim_in : Version → List ℕ → Option Row
+claim_in v bs =
+    key_at bs >>= λ key. member_key_at key.1 >>= λ member. dispensed_at member.1 >>= λ what.
+    amounts_at v what.1 >>= λ amounts. authorization_in amounts.1 >>= λ number. row_of key.0 member.0.family member.0.person
+    what.0.product what.0.quantity what.0.days amounts.0 number
+
+-- the total line of these bytes behind its kind, with the family's deductible and without it
+unfoldable pub whole_total_in : List ℕ → Option TotalLine
+whole_total_in bs =
+    split bs >>= λ family. split family.1 >>= λ out. id_in 20 family.0 >>= λ f. number_in 20 out.0 >>= λ o.
+    number_in 20 out.1 >>= λ d. Some (record { family = f; out_of_pocket = o; deductible = Some d })
+
+unfoldable pub short_total_in : List ℕ → Option TotalLine
+short_total_in bs =
+    split bs >>= λ family. id_in 20 family.0 >>= λ f. number_in 20 family.1 >>= λ o. Some
     (record { family = f; out_of_pocket = o; deductible = None })
-short_total_in other = None
 
-abbrev pub total_in : Version → List (List ℕ) → Option TotalLine
-total_in One fields = short_total_in fields
-total_in Two fields = short_total_in fields
-total_in Three fields = whole_total_in fields
+abbrev pub total_in : Version → List ℕ → Option TotalLine
+total_in One bs = short_total_in bs
+total_in Two bs = short_total_in bs
+total_in Three bs = whole_total_in bs
 
 -- the line of a kind, M, C or T, with these fields
-abbrev pub line_in : Version → ℕ → List (List ℕ) → Option Line
-line_in v kind fields =
-    if kind == 77 then option_map (λ m. line.Member m) (member_in fields)
-    else (if kind == 67 then option_map (λ r. line.Claim r) (claim_in (with_coinsurance v fields))
-    else (if kind == 84 then option_map (λ t. line.Total t) (total_in v fields) else None))
+abbrev pub line_in : Version → ℕ → List ℕ → Option Line
+line_in v kind bs =
+    if kind == 77 then option_map (λ m. line.Member m) (member_in bs)
+    else (if kind == 67 then option_map (λ r. line.Claim r) (claim_in v bs)
+    else (if kind == 84 then option_map (λ t. line.Total t) (total_in v bs) else None))
 
 -- the line of a text without its line feed
 unfoldable pub line_of : Version → List ℕ → Option Line
 line_of v [] = None
 line_of v (kind ∷ []) = None
-line_of v (kind ∷ bar ∷ fields) = if bar == 124 then line_in v kind (cut fields) else None
+line_of v (kind ∷ bar ∷ bs) = if bar == 124 then line_in v kind bs else None

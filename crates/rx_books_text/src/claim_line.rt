@@ -1,9 +1,9 @@
-ghost use Rattle.std.specs.Prelude.{◌≡◌, ◌==◌, if◌then◌else◌, length, map, option_map, Some, None};
-ghost use Rattle.rx_books_text.specs.LineReading.{amounts_in, claim_in, cut, dispensed_in, key_in, with_coinsurance};
+ghost use Rattle.std.specs.Prelude.{◌≡◌, option_map};
+ghost use Rattle.rx_books_text.specs.LineReading.{amounts_at, claim_in, coinsurance_at, dispensed_at, dispensed_in, key_at, key_in, two_numbers_at};
 
-use crate::cut::cut;
+use crate::cut::split;
 use crate::field::{authorization_in, count_in, day_in, id_in, number_in};
-use crate::member_line::member_key_in;
+use crate::member_line::member_key_at;
 use crate::version::Version;
 use rx_claim::Amounts;
 use rx_fields::{Days, Key, Product, Quantity};
@@ -17,30 +17,21 @@ pub struct Dispensed {
     pub days: Days,
 }
 
-/// The claim of these fields.
-pub(crate) fn claim_line(version: Version, fields: &[u8]) -> Option<Row>
-    ensures { result ≡ claim_in (with_coinsurance version (cut fields.now)) }
+/// The claim of these bytes behind its kind.
+#[tactic(auto, unfolding(crate::specs::LineReading::claim_in))]
+pub(crate) fn claim_line(version: Version, bytes: &[u8]) -> Option<Row>
+    ensures { result ≡ claim_in version bytes.now }
 {
-    let [
-        provider,
-        reference,
-        date,
-        family,
-        person,
-        product,
-        quantity,
-        days,
-        cost,
-        fee,
-        deductible,
-        copay,
-        coinsurance,
-        number,
-    ] = claim_fields(version, fields)?;
-    let key = key_in(provider, reference, date)?;
-    let member = member_key_in(family, person)?;
-    let dispensed = dispensed_in(product, quantity, days)?;
-    let amounts = amounts_in(cost, fee, deductible, copay, coinsurance)?;
+    let Some((key, rest)) = key_at(bytes) else {
+        return None;
+    };
+    let Some((member, rest)) = member_key_at(rest) else {
+        return None;
+    };
+    let Some((dispensed, rest)) = dispensed_at(rest) else {
+        return None;
+    };
+    let (amounts, number) = amounts_at(version, rest)?;
     let number = authorization_in(number)?;
     Row::new(
         key,
@@ -54,19 +45,16 @@ pub(crate) fn claim_line(version: Version, fields: &[u8]) -> Option<Row>
     )
 }
 
-// The fields of a claim as version 2 has them.
-fn claim_fields(version: Version, fields: &[u8]) -> Option<[&[u8]; 14]>
-    ensures { option_map (λ found. map (λ f. f.now) found) result
-        ≡ (let all = with_coinsurance version (cut fields.now) in if length all == 14 then Some all else None) }
+// A fill key, and what follows.
+#[tactic(auto, unfolding(crate::specs::LineReading::key_at))]
+fn key_at(bytes: &[u8]) -> Option<(Key, &[u8])>
+    ensures { option_map (λ x. (x.0, x.1.now)) result ≡ key_at bytes.now }
 {
-    match version {
-        Version::One => {
-            let [a, b, c, d, e, f, g, h, i, j, k, l, number]: [&[u8]; 13] = cut(fields)?;
-            Some([a, b, c, d, e, f, g, h, i, j, k, l, b"0", number])
-        }
-        Version::Two => cut(fields),
-        Version::Three => cut(fields),
-    }
+    let (provider, rest) = split(bytes)?;
+    let (reference, rest) = split(rest)?;
+    let (date, rest) = split(rest)?;
+    let key = key_in(provider, reference, date)?;
+    Some((key, rest))
 }
 
 // The fill key of three fields.
@@ -84,6 +72,18 @@ fn key_in(provider: &[u8], reference: &[u8], date: &[u8]) -> Option<Key>
     })
 }
 
+// What was dispensed, and what follows.
+#[tactic(auto, unfolding(crate::specs::LineReading::dispensed_at))]
+fn dispensed_at(bytes: &[u8]) -> Option<(Dispensed, &[u8])>
+    ensures { option_map (λ x. (x.0, x.1.now)) result ≡ dispensed_at bytes.now }
+{
+    let (product, rest) = split(bytes)?;
+    let (quantity, rest) = split(rest)?;
+    let (days, rest) = split(rest)?;
+    let dispensed = dispensed_in(product, quantity, days)?;
+    Some((dispensed, rest))
+}
+
 // What three fields say was dispensed.
 #[tactic(auto, unfolding(crate::specs::LineReading::dispensed_in))]
 fn dispensed_in(product: &[u8], quantity: &[u8], days: &[u8]) -> Option<Dispensed>
@@ -99,27 +99,44 @@ fn dispensed_in(product: &[u8], quantity: &[u8], days: &[u8]) -> Option<Dispense
     })
 }
 
-// The amounts of five fields.
-#[tactic(auto, unfolding(crate::specs::LineReading::amounts_in))]
-fn amounts_in(
-    cost: &[u8],
-    fee: &[u8],
-    deductible: &[u8],
-    copay: &[u8],
-    coinsurance: &[u8],
-) -> Option<Amounts>
-    ensures { result ≡ amounts_in cost.now fee.now deductible.now copay.now coinsurance.now }
+// F6, F7, FH, FI and 4U, and what follows.
+#[tactic(auto, unfolding(crate::specs::LineReading::amounts_at))]
+fn amounts_at(version: Version, bytes: &[u8]) -> Option<(Amounts, &[u8])>
+    ensures { option_map (λ x. (x.0, x.1.now)) result ≡ amounts_at version bytes.now }
 {
-    let ingredient_cost = number_in(cost)?;
-    let dispensing_fee = number_in(fee)?;
-    let deductible = number_in(deductible)?;
-    let copay = number_in(copay)?;
-    let coinsurance = number_in(coinsurance)?;
-    Some(Amounts {
+    let ((ingredient_cost, dispensing_fee), rest) = two_numbers_at(bytes)?;
+    let ((deductible, copay), rest) = two_numbers_at(rest)?;
+    let (coinsurance, rest) = coinsurance_at(version, rest)?;
+    let amounts = Amounts {
         ingredient_cost,
         dispensing_fee,
         deductible,
         copay,
         coinsurance,
-    })
+    };
+    Some((amounts, rest))
+}
+
+// Two numbers, and what follows.
+#[tactic(auto, unfolding(crate::specs::LineReading::two_numbers_at))]
+fn two_numbers_at(bytes: &[u8]) -> Option<((u64, u64), &[u8])>
+    ensures { option_map (λ x. (x.0, x.1.now)) result ≡ two_numbers_at bytes.now }
+{
+    let (first, rest) = split(bytes)?;
+    let (second, rest) = split(rest)?;
+    let first = number_in(first)?;
+    let second = number_in(second)?;
+    Some(((first, second), rest))
+}
+
+// 4U, which is 0 where the version has no field for it, and what follows.
+fn coinsurance_at(version: Version, bytes: &[u8]) -> Option<(u64, &[u8])>
+    ensures { option_map (λ x. (x.0, x.1.now)) result ≡ coinsurance_at version bytes.now }
+{
+    if version == Version::One {
+        return Some((0, bytes));
+    }
+    let (field, rest) = split(bytes)?;
+    let coinsurance = number_in(field)?;
+    Some((coinsurance, rest))
 }

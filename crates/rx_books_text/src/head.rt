@@ -1,9 +1,9 @@
 ghost use Rattle.std.specs.Prelude.{◌≡◌, Some, IfSome};
 ghost use Rattle.rx_books_text.specs.LineFits.{IsPeriod};
-ghost use Rattle.rx_books_text.specs.LineReading.{head_of, version_in};
+ghost use Rattle.rx_books_text.specs.LineReading.{head_in, head_of, version_in};
 ghost use Rattle.rx_books_text.specs.LineText.{head_text};
 
-use crate::cut::cut;
+use crate::cut::split;
 use crate::field::period_in;
 use crate::version::Version;
 use rx_fields::Period;
@@ -27,7 +27,16 @@ pub fn read_head(text: &[u8]) -> Option<Head>
     if !text.starts_with(b"BOOKS|") {
         return None;
     }
-    let [version, first, last]: [&[u8]; 3] = cut(&text[6..])?;
+    head_in(&text[6..])
+}
+
+// The head behind its label.
+#[tactic(auto, unfolding(crate::specs::LineReading::head_in))]
+fn head_in(bytes: &[u8]) -> Option<Head>
+    ensures { result ≡ head_in bytes.now }
+{
+    let (version, rest) = split(bytes)?;
+    let (first, last) = split(rest)?;
     let version = version_in(version)?;
     let period = period_in(first, last)?;
     Some(Head { version, period })
