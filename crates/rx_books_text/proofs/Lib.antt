@@ -2,3 +2,5 @@
 pub mod Cuts
 pub mod Numbers
 pub mod Passed
+pub mod Added
+pub mod Families

@@ -1,5 +1,7 @@
 -- The numbers and lines of the faults, and what a call answers that may want memory.
 use Rattle.std.specs.Prelude.{◌≡◌, ℕ, Option, Some, None, Result, Ok, Err, MatchResult}
+use Rattle.rx_ledger.specs.declared.ledger.AddError.{AddError}
+use Rattle.rx_ledger.specs.declared.ledger.AddError.TheVariants as error
 use Rattle.rx_books_text.specs.declared.fault.BooksFault.{BooksFault}
 use Rattle.rx_books_text.specs.declared.fault.BooksFault.TheVariants as fault
 
@@ -22,6 +24,12 @@ line_of_fault (fault.UnknownMember n) = Some n
 line_of_fault (fault.Totals n) = Some n
 line_of_fault fault.TooMuch = None
 line_of_fault fault.Memory = None
+
+-- the fault of line n that a ledger refused
+abbrev pub refused : ℕ → AddError → BooksFault
+refused n error.There = fault.Order n
+refused n error.Unknown = fault.UnknownMember n
+refused n error.Memory = fault.Memory
 
 -- the fact, unless the fault is want of memory
 abbrev pub UnlessMemory : BooksFault → Type 0 → Type 0

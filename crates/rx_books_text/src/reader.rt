@@ -2,7 +2,7 @@ ghost use Rattle.std.specs.Prelude.{◌≡◌, IfOk, IfErr};
 ghost use Rattle.std.specs.List.{list_any};
 ghost use Rattle.rx_order.specs.Ascending.{IsAscending, is_past};
 ghost use Rattle.rx_ledger.specs.Members.{member_cmp, member_key, of_family};
-ghost use Rattle.rx_books_text.specs.Fault.{Gives, Takes, UnlessMemory};
+ghost use Rattle.rx_books_text.specs.Fault.{Gives, Takes, UnlessMemory, refused};
 ghost use Rattle.rx_books_text.specs.Printed.{IsPrinted, line_feeds, printed_text};
 ghost use Rattle.rx_books_text.specs.TextFault.{HasFault, is_next};
 ghost use Rattle.rx_books_text.specs.TextReading.{line_added, line_read, printed_of};
@@ -90,12 +90,10 @@ impl Printed {
         if !self.member_is_next(&line) {
             return Err(BooksFault::Order(number));
         }
-        match self.ledger.add_member(line.member) {
-            Ok(()) => Ok(self.deductibles.push(line.deductible)?),
-            Err(AddError::There) => Err(BooksFault::Order(number)),
-            Err(AddError::Unknown) => Err(BooksFault::UnknownMember(number)),
-            Err(AddError::Memory) => Err(BooksFault::Memory),
+        if let Err(error) = self.ledger.add_member(line.member) {
+            return Err(refused(number, error));
         }
+        Ok(self.deductibles.push(line.deductible)?)
     }
 
     // Whether a claim line may follow.
@@ -111,12 +109,10 @@ impl Printed {
         if !self.claim_is_next(&row) {
             return Err(BooksFault::Order(number));
         }
-        match self.ledger.add_row(row) {
-            Ok(()) => Ok(()),
-            Err(AddError::There) => Err(BooksFault::Order(number)),
-            Err(AddError::Unknown) => Err(BooksFault::UnknownMember(number)),
-            Err(AddError::Memory) => Err(BooksFault::Memory),
+        if let Err(error) = self.ledger.add_row(row) {
+            return Err(refused(number, error));
         }
+        Ok(())
     }
 
     fn add_total(&mut self, number: u64, line: TotalLine) -> Result<(), BooksFault>
@@ -129,6 +125,17 @@ impl Printed {
             return Err(BooksFault::UnknownMember(number));
         }
         Ok(self.totals.push(line)?)
+    }
+}
+
+// The fault of a line that the ledger refused.
+fn refused(number: u64, error: AddError) -> BooksFault
+    ensures { result ≡ refused number error }
+{
+    match error {
+        AddError::There => BooksFault::Order(number),
+        AddError::Unknown => BooksFault::UnknownMember(number),
+        AddError::Memory => BooksFault::Memory,
     }
 }
 
