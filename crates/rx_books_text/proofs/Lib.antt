@@ -4,3 +4,4 @@ pub mod Numbers
 pub mod Passed
 pub mod Added
 pub mod Families
+pub mod TextSteps

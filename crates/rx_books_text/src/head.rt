@@ -20,8 +20,6 @@ pub struct Head {
 /// The head that the text of a line is, without its line feed (docs/FORMATS.md, "Books file").
 pub fn read_head(text: &[u8]) -> Option<Head>
     ensures value { result ≡ head_of text.now }
-    ensures found { IfSome result (λ head. IsPeriod head.period × (text.now ≡ head_text head)) }
-    ensures only { (head : Head) → IsPeriod head.period → text.now ≡ head_text head → result ≡ Some head }
 {
     head_of(text)
 }

@@ -5,8 +5,8 @@ ghost use Rattle.rx_ledger.specs.Members.{member_cmp, member_key, of_family};
 ghost use Rattle.rx_books_text.specs.Fault.{Gives, Takes, UnlessMemory, refused};
 ghost use Rattle.rx_books_text.specs.Printed.{IsPrinted, line_feeds, printed_text};
 ghost use Rattle.rx_books_text.specs.TextFault.{HasFault, is_next};
-ghost use Rattle.rx_books_text.specs.TextReading.{line_added, line_read, printed_of};
-ghost use Rattle.rx_books_text.specs.declared.line.Line.TheVariants as lines;
+ghost use Rattle.rx_books_text.specs.TextReading.{line_added, line_read, lines, lines_read, printed_of};
+ghost use Rattle.rx_books_text.specs.declared.line.Line.TheVariants as kinds;
 
 use crate::fault::BooksFault;
 use crate::head::read_head;
@@ -25,9 +25,6 @@ const MOST_LINE_FEEDS: usize = 1_000_000;
 /// What a books file prints, or its first fault (docs/FORMATS.md, "Books file"). No figure is compared with a sum, so
 /// Totals is never answered.
 pub fn read_printed(alloc: Global, text: &[u8]) -> Result<Printed, BooksFault>
-    ensures ok { IfOk result (λ p. (text.now ≡ printed_text p) × IsPrinted p) }
-    ensures refuses { IfErr result (λ f. UnlessMemory f (HasFault text.now f)) }
-    // The same, computed.
     ensures value { Gives result (printed_of text.now) }
 {
     if line_feeds(text) > MOST_LINE_FEEDS {
@@ -40,18 +37,8 @@ pub fn read_printed(alloc: Global, text: &[u8]) -> Result<Printed, BooksFault>
         return Err(BooksFault::Head);
     };
     let mut printed = Printed::new(alloc, head);
-    let mut rest = &text[end + 1..];
-    let mut number = 2;
-    while let Some(end) = memchr(LINE_FEED, rest) {
-        printed.read_line(number, &rest[..end])?;
-        rest = &rest[end + 1..];
-        number += 1;
-    }
-    if rest.is_empty() {
-        Ok(printed)
-    } else {
-        Err(BooksFault::Line(number))
-    }
+    printed.read_lines(&text[end + 1..])?;
+    Ok(printed)
 }
 
 // How many line feeds there are.
@@ -62,6 +49,24 @@ fn line_feeds(text: &[u8]) -> usize
 }
 
 impl Printed {
+    // Takes the lines behind the head line.
+    fn read_lines(&mut self, text: &[u8]) -> Result<(), BooksFault>
+        ensures { Takes result self.new (lines_read 2 self.old (lines text.now)) }
+    {
+        let mut rest = text;
+        let mut number = 2;
+        while let Some(end) = memchr(LINE_FEED, rest) {
+            self.read_line(number, &rest[..end])?;
+            rest = &rest[end + 1..];
+            number += 1;
+        }
+        if rest.is_empty() {
+            Ok(())
+        } else {
+            Err(BooksFault::Line(number))
+        }
+    }
+
     // Takes the line of this number.
     #[tactic(auto, unfolding(crate::specs::TextReading::line_read))]
     fn read_line(&mut self, number: u64, text: &[u8]) -> Result<(), BooksFault>
@@ -77,7 +82,7 @@ impl Printed {
 
     // Whether a member line may follow.
     fn member_is_next(&self, line: &MemberLine) -> bool
-        ensures { result ≡ is_next self.now (lines.Member line.now) }
+        ensures { result ≡ is_next self.now (kinds.Member line.now) }
     {
         self.ledger.rows().is_empty()
             && self.totals.is_empty()
@@ -85,7 +90,7 @@ impl Printed {
     }
 
     fn add_member(&mut self, number: u64, line: MemberLine) -> Result<(), BooksFault>
-        ensures { Takes result self.new (line_added number self.old (lines.Member line)) }
+        ensures { Takes result self.new (line_added number self.old (kinds.Member line)) }
     {
         if !self.member_is_next(&line) {
             return Err(BooksFault::Order(number));
@@ -98,13 +103,13 @@ impl Printed {
 
     // Whether a claim line may follow.
     fn claim_is_next(&self, row: &Row) -> bool
-        ensures { result ≡ is_next self.now (lines.Claim row.now) }
+        ensures { result ≡ is_next self.now (kinds.Claim row.now) }
     {
         self.totals.is_empty() && is_past(self.ledger.rows(), &row.key)
     }
 
     fn add_claim(&mut self, number: u64, row: Row) -> Result<(), BooksFault>
-        ensures { Takes result self.new (line_added number self.old (lines.Claim row)) }
+        ensures { Takes result self.new (line_added number self.old (kinds.Claim row)) }
     {
         if !self.claim_is_next(&row) {
             return Err(BooksFault::Order(number));
@@ -116,7 +121,7 @@ impl Printed {
     }
 
     fn add_total(&mut self, number: u64, line: TotalLine) -> Result<(), BooksFault>
-        ensures { Takes result self.new (line_added number self.old (lines.Total line)) }
+        ensures { Takes result self.new (line_added number self.old (kinds.Total line)) }
     {
         if !self.totals.is_past(&line.family) {
             return Err(BooksFault::Order(number));
