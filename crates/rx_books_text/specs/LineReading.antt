@@ -145,14 +145,16 @@ coinsurance_at Three bs = split bs >>= λ x. number_in 19 x.0 >>= λ n. Some (n,
 -- F6, F7, FH, FI and 4U, and what follows
 unfoldable pub amounts_at : Version → List ℕ → Option (Amounts × List ℕ)
 amounts_at v bs =
-    two_numbers_at bs >>= λ price. two_numbers_at price.1 >>= λ share. coinsurance_at v share.1 >>= λ rest. Some
-    (record {
-      ingredient_cost = price.0.0;
-      dispensing_fee = price.0.1;
-      deductible = share.0.0;
-      copay = share.0.1;
-      coinsurance = rest.0;
-    }, rest.1)
+    two_numbers_at bs >>= λ price. two_numbers_at price.1 >>= λ share. coinsurance_at v share.1 >>= λ rest. Some (
+      record {
+        ingredient_cost = price.0.0;
+        dispensing_fee = price.0.1;
+        deductible = share.0.0;
+        copay = share.0.1;
+        coinsurance = rest.0;
+      },
+      rest.1,
+    )
 
 -- the claim of these bytes behind its kind
 unfoldable pub claim_in : Version → List ℕ → Option Row

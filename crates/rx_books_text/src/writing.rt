@@ -9,7 +9,9 @@ ghost use Rattle.rx_books_text.specs.LineText.{barred, ended, head_text, joined,
 use crate::line::{MemberLine, TotalLine};
 use itoa::{Buffer, Integer};
 use rx_claim::Amounts;
-use rx_fields::{Authorization, Days, Key, Memory, Period, Product, Quantity, date_write, digits_write};
+use rx_fields::{
+    Authorization, Days, Key, Memory, Period, Product, Quantity, date_write, digits_write,
+};
 use rx_ledger::{MemberKey, Row};
 use std::alloc::AllocError;
 
