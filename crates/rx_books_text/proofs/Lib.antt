@@ -5,3 +5,5 @@ pub mod Passed
 pub mod Added
 pub mod Families
 pub mod TextSteps
+pub mod FieldLaws
+pub mod LineLaws
