@@ -7,3 +7,4 @@ pub mod Families
 pub mod TextSteps
 pub mod FieldLaws
 pub mod LineLaws
+pub mod HeadLaws

@@ -34,13 +34,13 @@ abbrev pub before : List ℕ → List ℕ → List ℕ
 before field rest = field ++ 124 ∷ rest
 
 -- where the field is cut off, it may be spelled otherwise
-spelled : (bs field text rest : List ℕ) → bs ≡ before field rest → field ≡ text → bs ≡ before text rest
+pub spelled : (bs field text rest : List ℕ) → bs ≡ before field rest → field ≡ text → bs ≡ before text rest
 spelled bs field text rest cut is = cut ∙ ap (λ (t : List ℕ). before t rest) is
 
-followed : (bs field rest more : List ℕ) → bs ≡ before field rest → rest ≡ more → bs ≡ before field more
+pub followed : (bs field rest more : List ℕ) → bs ≡ before field rest → rest ≡ more → bs ≡ before field more
 followed bs field rest more cut is = cut ∙ ap (before field) is
 
-inside_over : (field rest : List ℕ) → IsInside field → split (before field rest) ≡ Some (field, rest)
+pub inside_over : (field rest : List ℕ) → IsInside field → split (before field rest) ≡ Some (field, rest)
 inside_over field rest inside = split_over field rest (without_bar field inside)
 
 wrapped : {A B : Type 0} (f : A → B) (o : Option A) (y : B) → option_map f o ≡ Some y → (x : A) × (o ≡ Some x) × (f x ≡ y)

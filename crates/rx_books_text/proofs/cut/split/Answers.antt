@@ -1,4 +1,3 @@
-use Rattle.rx_books_text.proofs.LineLaws.{member_again}
 use Rattle.std.proofs.Common.{◌≡◌, ◌+◌, List, ℕ, Option, take, Some, None, sym, ap, ◌∙◌}
 use Rattle.std.specs.Option.{option_map}
 use Rattle.rx_books_text.proofs.Cuts.{split_none, split_at, to_end}
