@@ -1,8 +1,8 @@
 -- The head line is read as what its spelling says.
-use Rattle.std.proofs.Common.{◌≡◌, ℕ, Bool, true, false, cond, List, [], ◌∷◌, ◌++◌, Option, Some, None, refl, sym, ap, subst, ◌∙◌, inl, inr, codes, drop, take, length}
+use Rattle.std.proofs.Common.{◌≡◌, ℕ, Bool, true, false, not, eqb, cond, List, [], ◌∷◌, ◌++◌, Option, Some, None, refl, sym, ap, subst, ◌∙◌, inl, inr, codes, drop, take, length}
 use Rattle.std.specs.Prelude.{nat_eq, IfSome}
 use Rattle.std.specs.Cmp.Lexicographic.{same_text}
-use Rattle.std.specs.List.{starts_with}
+use Rattle.std.specs.List.{starts_with, list_all}
 use Rattle.std.proofs.lemmas.Bool.{cases_Bool}
 use Rattle.std.proofs.lemmas.List.{take-append-drop}
 use Rattle.rx_fields.specs.Calendar.{date_text}
@@ -14,9 +14,9 @@ use Rattle.rx_books_text.specs.declared.version.Version.TheVariants.{One, Two, T
 use Rattle.rx_books_text.specs.LineFits.{IsPeriod, IsLine}
 use Rattle.rx_books_text.specs.LineReading.{◌>>=◌, same, split, version_in, period_in, head_in, head_of, line_of}
 use Rattle.rx_books_text.specs.LineText.{joined, version_text, head_text, line_text}
-use Rattle.rx_books_text.proofs.Cuts.{split_takes}
+use Rattle.rx_books_text.proofs.Cuts.{Without, split_takes}
 use Rattle.rx_books_text.proofs.FieldLaws.{bind_some, guarded, some_same, day_inside}
-use Rattle.rx_books_text.proofs.LineLaws.{before, spelled, followed, inside_over, period_takes, period_again, line_takes, line_again}
+use Rattle.rx_books_text.proofs.LineLaws.{before, spelled, followed, inside_over, period_takes, period_again, line_takes, line_again, without_feed, dates_feedless}
 
 version_takes : (bs : List ℕ) (v : Version) → version_in bs ≡ Some v → bs ≡ version_text v
 version_takes bs v e = elim (cases_Bool (same bs (codes "1"))) [
@@ -91,6 +91,14 @@ head_takes bs h e =
 pub head_again : (h : Head) → IsPeriod h.period → head_of (head_text h) ≡ Some h
 unfolding head_of
 head_again h is = head_in_again h is
+
+pub head_feedless : (h : Head) → Without 10 (head_text h)
+head_feedless h = without_feed (head_text h) (by_version h.version h.period)
+  where
+    by_version : (v : Version) (p : Span) → list_all (λ b. not (eqb b 10)) (head_text (record { version = v; period = p })) ≡ true
+    by_version One p = dates_feedless p.first p.last
+    by_version Two p = dates_feedless p.first p.last
+    by_version Three p = dates_feedless p.first p.last
 
 -- ---- as clauses
 
