@@ -94,6 +94,7 @@ split_takes (b ∷ bs) x e = elim (cases_Bool (eqb b 124)) [
   where
     pair_same : (y z : List ℕ × List ℕ) → pair y ≡ pair z → y ≡ z
     pair_same y z e = cc
+
     later : (o : Option (List ℕ × List ℕ)) (b : ℕ) (x : List ℕ × List ℕ) → (o >>= λ y. Some (b ∷ y.0, y.1)) ≡ Some x
         → (y : List ℕ × List ℕ) × (o ≡ Some y) × ((b ∷ y.0, y.1) ≡ x)
     later None b x e = absurd cc

@@ -146,6 +146,7 @@ id_inside max t is =
   where
     same_ok : (x y : List ℕ) → id_fine x ≡ id_fine y → x ≡ y
     same_ok x y e = cc
+
     unnot : (b : Bool) → not b ≡ false → b ≡ true
     unnot true e = refl
     unnot false e = absurd cc
@@ -233,6 +234,7 @@ decimal_is = decimal_by_steps_wide IsDecimal one more
       first = last_false (begins_zero ((48 + n) ∷ []));
       high = λ pos. grind (arith, nat_tests);
     }
+
     more : (n : ℕ) (ds : List ℕ) → 10 ≤ n → IsDecimal (n / 10) ds → IsDecimal n (ds ++ (48 + n % 10) ∷ [])
     more n [] le is = absurd (omega (arith, is.some))
     more n (b ∷ ds) le is =
@@ -351,8 +353,7 @@ day_takes bs c e =
     let digits = held (all_digits bs) field.NotDigit _ c short.1 in
     let there = held (eqb (length bs) 8 && is_civil (civil_of bs)) field.NotDate (Ok (civil_of bs)) c digits.1 in
     let parts = and_parts (eqb (length bs) 8) (is_civil (civil_of bs)) there.0 in
-    let is : civil_of bs ≡ c = ok_same (civil_of bs) c there.1 in
-    (
+    let is : civil_of bs ≡ c = ok_same (civil_of bs) c there.1 in (
       date_back bs (eqb-true (length bs) 8 parts.0) digits.0 ∙ ap date_text is,
       subst IsCivil is parts.1,
     )

@@ -8,3 +8,5 @@ pub mod TextSteps
 pub mod FieldLaws
 pub mod LineLaws
 pub mod HeadLaws
+pub mod TextLaws
+pub mod Fronts

@@ -346,11 +346,11 @@ amounts_takes : (v : Version) (bs : List ℕ) (x : Amounts × List ℕ) → amou
 unfolding amounts_at
 amounts_takes v bs x e =
     let price' = bind_some (two_numbers_at bs)
-    (λ price. two_numbers_at price.1 >>= λ share. coinsurance_at v share.1 >>= λ rest. Some (record { ingredient_cost = price.0.0; dispensing_fee = price.0.1; deductible = share.0.0; copay = share.0.1; coinsurance = rest.0; }, rest.1)) x e in
+    (λ price. two_numbers_at price.1 >>= λ share. coinsurance_at v share.1 >>= λ rest. Some (record { ingredient_cost = price.0.0; dispensing_fee = price.0.1; deductible = share.0.0; copay = share.0.1; coinsurance = rest.0 }, rest.1)) x e in
     let share' = bind_some (two_numbers_at price'.0.1)
-    (λ share. coinsurance_at v share.1 >>= λ rest. Some (record { ingredient_cost = price'.0.0.0; dispensing_fee = price'.0.0.1; deductible = share.0.0; copay = share.0.1; coinsurance = rest.0; }, rest.1)) x price'.2 in
+    (λ share. coinsurance_at v share.1 >>= λ rest. Some (record { ingredient_cost = price'.0.0.0; dispensing_fee = price'.0.0.1; deductible = share.0.0; copay = share.0.1; coinsurance = rest.0 }, rest.1)) x price'.2 in
     let rest' = bind_some (coinsurance_at v share'.0.1)
-    (λ rest. Some (record { ingredient_cost = price'.0.0.0; dispensing_fee = price'.0.0.1; deductible = share'.0.0.0; copay = share'.0.0.1; coinsurance = rest.0; }, rest.1)) x share'.2 in
+    (λ rest. Some (record { ingredient_cost = price'.0.0.0; dispensing_fee = price'.0.0.1; deductible = share'.0.0.0; copay = share'.0.0.1; coinsurance = rest.0 }, rest.1)) x share'.2 in
     let c = coinsurance_takes v share'.0.1 rest'.0 rest'.1 in
     let text = two_takes bs price'.0 price'.1 ∙ ap (two_text price'.0.0)
     (two_takes price'.0.1 share'.0 share'.1 ∙ ap (two_text share'.0.0) c.0) in
@@ -423,20 +423,22 @@ claim_takes v bs r e =
     let text : bs ≡ claim_text v made =
     k.0 ∙ ap (key_text key'.0.0) (m.0 ∙ ap (member_key_text member'.0.0) (w.0 ∙ ap (dispensed_text what'.0.0)
     (a.0 ∙ ap (amounts_text v amounts'.0.0) n.0))) in
-    subst (λ (s : Row). (bs ≡ joined (claim_fields v s)) × IsClaimLine v s) row.1
-    (text ∙ claim_text_is v made, record {
-      provider = k.1.provider;
-      reference = k.1.reference;
-      date = k.1.date;
-      family = m.1.0;
-      person = m.1.1;
-      product = w.1.product;
-      quantity = w.1.quantity;
-      days = w.1.days;
-      pricing = row.0;
-      coinsurance = a.1;
-      number = n.1;
-    })
+    subst (λ (s : Row). (bs ≡ joined (claim_fields v s)) × IsClaimLine v s) row.1 (
+      text ∙ claim_text_is v made,
+      record {
+        provider = k.1.provider;
+        reference = k.1.reference;
+        date = k.1.date;
+        family = m.1.0;
+        person = m.1.1;
+        product = w.1.product;
+        quantity = w.1.quantity;
+        days = w.1.days;
+        pricing = row.0;
+        coinsurance = a.1;
+        number = n.1;
+      },
+    )
 
 pub claim_again : (v : Version) (r : Row) → IsClaimLine v r → claim_in v (joined (claim_fields v r)) ≡ Some r
 unfolding claim_in

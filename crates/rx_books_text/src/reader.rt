@@ -25,7 +25,17 @@ const MOST_LINE_FEEDS: usize = 1_000_000;
 /// What a books file prints, or its first fault (docs/FORMATS.md, "Books file"). No figure is compared with a sum, so
 /// Totals is never answered.
 pub fn read_printed(alloc: Global, text: &[u8]) -> Result<Printed, BooksFault>
+    ensures ok { IfOk result (λ p. (text.now ≡ printed_text p) × IsPrinted p) }
+    // A fault is that of what follows the longest front of good lines.
+    ensures refuses { IfErr result (λ f. UnlessMemory f (HasFault text.now f)) }
+    // The same, computed.
     ensures value { Gives result (printed_of text.now) }
+{
+    read_text(alloc, text)
+}
+
+fn read_text(alloc: Global, text: &[u8]) -> Result<Printed, BooksFault>
+    ensures { Gives result (printed_of text.now) }
 {
     if line_feeds(text) > MOST_LINE_FEEDS {
         return Err(BooksFault::TooMuch);
