@@ -1,8 +1,7 @@
 use crate::{
-    BooksFault, Head, Line, MemberLine, TotalLine, Version, put_claim, put_head, put_member,
-    put_total, read_head, read_line, read_printed,
+    BooksFault, Line, Version, put_claim, put_head, put_member, put_total, read_head, read_line,
+    read_printed,
 };
-use rx_fields::Memory;
 use std::alloc::Global;
 use std::test::Fail;
 
