@@ -9,7 +9,7 @@ use Rattle.std.proofs.lemmas.List.{take_more}
 use Rattle.std.proofs.lemmas.List.Elements.{All-contains_itself}
 use Rattle.rx_order.specs.Ascending.{IsAscending, has_key, is_past, item_at, put}
 use Rattle.rx_order.proofs.Edits.{put-past}
-use Rattle.rx_order.proofs.Keys.{IsBelow-at}
+use Rattle.rx_order.proofs.Keys.{IsBelow-at, Less-from_is_lt}
 use Rattle.rx_order.proofs.Kept.{IsAscending-put}
 use Rattle.rx_order.proofs.LookUps.{item_at-found, item_at-from_contains, item_at-put}
 
@@ -22,6 +22,13 @@ module _ {X K : Type 0} (cmp : K → K → Ordering) (order : IsTotalOrder cmp) 
   past-take (x ∷ xs) (suc i) d a in_range =
       and_from _ _ (ap is_lt (IsBelow-at cmp order key (key x) xs i d a.0 (omega arith)))
       (past-take xs i d a.1 (omega arith))
+
+  -- no item has a key that is past each
+  pub past_no_item : (xs : List X) (k : K) → is_past cmp key xs k ≡ true → item_at cmp key xs k ≡ None
+  past_no_item [] k past = refl
+  past_no_item (x ∷ xs) k past =
+      let parts = and_parts _ _ past in
+      rw (Less-from_is_lt _ parts.0) (past_no_item xs k parts.1)
 
   -- the next item, put in
   pub put-take : (xs : List X) (i : ℕ) (d : X) → IsAscending cmp key xs → i < length xs

@@ -1,5 +1,5 @@
 -- Maps whose values have their keys: what an insert, and a write in place, do to the list of values.
-use Rattle.std.proofs.Common.{◌≡◌, List, [], ◌∷◌, Bool, true, false, cond, Option, Some, None, refl, sym, ap, ◌∙◌, inl, inr}
+use Rattle.std.proofs.Common.{◌≡◌, List, [], ◌∷◌, Bool, true, false, cond, Option, Some, None, Result, Ok, Err, OnOk, refl, sym, ap, ◌∙◌, inl, inr}
 use Rattle.std.specs.BTreeMap.{insert_entry, is_at}
 use Rattle.std.specs.Cmp.{IsTotalOrder}
 use Rattle.std.specs.List.{All}
@@ -12,6 +12,7 @@ use Rattle.std.proofs.lemmas.List.Elements.{All-head, All-tail}
 use Rattle.std.proofs.lemmas.Map.Lookups.{CmpEqualImpliesEq}
 use Rattle.rx_order.specs.Ascending.{IsAscending, item_at, put}
 use Rattle.rx_order.proofs.Keys.{Greater-from_Less, IsBelow-through, Less-from_Greater, cases_Ordering, item_at-below}
+use Rattle.rx_order.proofs.LookUps.{item_at-found}
 use Rattle.rx_order.proofs.MapEntries.{IsAscending-entries, insert_entry-put, lookup-entries, lookup-values}
 use Rattle.rx_order.proofs.Totals.{All-put}
 
@@ -73,3 +74,15 @@ module _ {K X : Type 0} (cmp : K → K → Ordering) (order : IsTotalOrder cmp) 
 
     pub values-write : values_of (set_value (is_at (cmp k)) es x) ≡ put cmp key (values_of es) x
     values-write = ap values_of is_put ∙ ap (λ j. values_of (put cmp first es (j, x))) (sym same) ∙ values-put es x keyed
+
+  -- what is found under a key has it
+  pub found_family : (es : List (K × X)) (k : K) (x : X) → All Keyed es → lookup (is_at (cmp k)) es ≡ Some x → key x ≡ k
+  found_family es k x keyed there =
+      let at : item_at cmp key (values_of es) k ≡ Some x = sym (lookup-values cmp order key es k keyed) ∙ there in
+      let found = item_at-found cmp order key (values_of es) k x at in
+      exact (key x) k found.1
+
+-- what follows from what an Ok brings
+pub on_ok : {T E : Type 0} {P Q : Type 0} (r : Result T E) → OnOk r P → (P → Q) → OnOk r Q
+on_ok (Ok t) p f = f p
+on_ok (Err e) p f = p
