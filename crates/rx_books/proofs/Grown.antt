@@ -4,6 +4,7 @@ use Rattle.std.specs.Cmp.{IsTotalOrder}
 use Rattle.std.specs.List.{All, Contains, filter}
 use Rattle.std.specs.Ordering.{is_lt}
 use Rattle.std.specs.declared.cmp.Ordering.{Ordering}
+use Rattle.std.specs.declared.cmp.Ordering.TheVariants.{Less}
 use Rattle.std.proofs.lemmas.Bool.{and_from, and_parts, cases_Bool}
 use Rattle.std.proofs.lemmas.List.{take_more}
 use Rattle.std.proofs.lemmas.List.Elements.{All-contains_itself}
@@ -28,7 +29,8 @@ module _ {X K : Type 0} (cmp : K → K → Ordering) (order : IsTotalOrder cmp) 
   past_no_item [] k past = refl
   past_no_item (x ∷ xs) k past =
       let parts = and_parts _ _ past in
-      rw (Less-from_is_lt _ parts.0) (past_no_item xs k parts.1)
+      let less : cmp (key x) k ≡ Less = Less-from_is_lt _ parts.0 in
+      rw less (past_no_item xs k parts.1)
 
   -- the next item, put in
   pub put-take : (xs : List X) (i : ℕ) (d : X) → IsAscending cmp key xs → i < length xs

@@ -89,6 +89,28 @@ module _ (p : Span) (L : Ledger) (fs : List FamilyBook) (are : AreFamilies p L f
           let somebody : has_members L family ≡ true = some_pass (of_family family) L.members (rw members at some) in
           is ∙ rw somebody (ap Some whole)
 
+  -- what a look-up tells of the ledger
+  pub found-none : (family : List ℕ) → book_at fs family ≡ None → has_members L family ≡ false
+  found-none family none = by_members (has_members L family) refl
+    where
+      by_members : (b : Bool) → has_members L family ≡ b → b ≡ false
+      by_members false is = refl
+      by_members true is =
+          let e : Some (book_of p L family) ≡ None = sym (book_at-families family ∙ rw is refl) ∙ none in
+          cc
+
+  pub found-some : (family : List ℕ) (b : FamilyBook) → book_at fs family ≡ Some b
+      → (has_members L family ≡ true) × (b ≡ book_of p L family)
+  found-some family b some = by_members (has_members L family) refl
+    where
+      by_members : (t : Bool) → has_members L family ≡ t → (t ≡ true) × (b ≡ book_of p L family)
+      by_members true is =
+          let e : Some b ≡ Some (book_of p L family) = sym some ∙ book_at-families family ∙ rw is refl in
+          (refl, cc)
+      by_members false is =
+          let e : Some b ≡ None = sym some ∙ book_at-families family ∙ rw is refl in
+          absurd (cc e)
+
 -- who is listed in a family's book is listed in the ledger
 pub listed-book : (p : Span) (L : Ledger) → IsLedger L → (family person : List ℕ)
     → is_listed (own_ledger (book_of p L family)) (record { family = family; person = person })
@@ -122,6 +144,16 @@ listed-has_members L k = by_member (item_at member_cmp member_key L.members k) r
         let at = item_at-found member_cmp member_total member_key L.members k m found in
         let same : m.key ≡ k = member_exact m.key k at.1 in
         use_place L.members m at.0 (ap (λ (j : MemberKey). is_same j.family k.family) same ∙ ap is_eq (tied_itself id_total k.family))
+
+pub nobody-listed : (L : Ledger) (family person : List ℕ) → has_members L family ≡ false
+    → is_listed L (record { family = family; person = person }) ≡ false
+nobody-listed L family person none = by_test (is_listed L k) refl
+  where
+    k : MemberKey
+    k = record { family = family; person = person }
+    by_test : (t : Bool) → is_listed L k ≡ t → t ≡ false
+    by_test false is = refl
+    by_test true is = sym (listed-has_members L k is) ∙ none
 
 -- ---- one member more, past the others
 
@@ -276,14 +308,14 @@ module _ (p : Span) (ms : List Member) (fs : List FamilyBook) where
           some;
     })
       where
+        Contains-last : (xs : List Member) (x : Member) → Contains (xs ++ x ∷ []) x
+        Contains-last [] x = (0, omega arith, refl)
+        Contains-last (y ∷ ys) x = let rest = Contains-last ys x in (suc rest.0, omega (arith, rest.1), rest.2)
         some : 0 < length (filter (of_family family) (ms ++ m ∷ []))
         some =
             let theirs : of_family family m ≡ true = ap is_eq (tied_itself id_total family) in
             let kept = Contains-filter_kept (of_family family) (ms ++ m ∷ []) m (Contains-last ms m) theirs in
             omega (arith, kept.1)
-        Contains-last : (xs : List Member) (x : Member) → Contains (xs ++ x ∷ []) x
-        Contains-last [] x = (0, omega arith, refl)
-        Contains-last (y ∷ ys) x = let rest = Contains-last ys x in (suc rest.0, omega (arith, rest.1), rest.2)
 
 -- ---- one row more, past the others
 
