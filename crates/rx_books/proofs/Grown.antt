@@ -38,6 +38,17 @@ module _ {X K : Type 0} (cmp : K → K → Ordering) (order : IsTotalOrder cmp) 
   put-take xs i d a in_range = put-past cmp order key (take i xs) (get_or xs i d) (past-take xs i d a in_range)
       ∙ sym (take_more xs i d in_range)
 
+  -- the same of an item that a loop comes to
+  module _ (xs : List X) (i : ℕ) (x : X) (a : IsAscending cmp key xs) (in_range : i < length xs) (is : x ≡ get_or xs i x) where
+    pub past-item : is_past cmp key (take i xs) (key x) ≡ true
+    past-item = subst (λ y. is_past cmp key (take i xs) (key y) ≡ true) (sym is) (past-take xs i x a in_range)
+
+    pub put-item : put cmp key (take i xs) x ≡ take (i + 1) xs
+    put-item = ap (put cmp key (take i xs)) is ∙ put-take xs i x a in_range
+
+    pub more-item : take (i + 1) xs ≡ take i xs ++ x ∷ []
+    more-item = take_more xs i x in_range ∙ ap (λ y. take i xs ++ y ∷ []) (sym is)
+
   pub past-filter : (p : X → Bool) (xs : List X) (k : K) → is_past cmp key xs k ≡ true
       → is_past cmp key (filter p xs) k ≡ true
   past-filter p [] k past = refl

@@ -1,11 +1,11 @@
 -- A ledger split by family: what the books of its families find, and what one member or one row more does to them.
-use Rattle.std.proofs.Common.{◌≡◌, ℕ, suc, ◌<◌, ◌+◌, List, [], ◌∷◌, ◌++◌, length, get_or, Bool, true, false, cond, Option, Some, None, refl, sym, subst, ap, ◌∙◌, inl, inr, arith, append_assoc}
+use Rattle.std.proofs.Common.{◌≡◌, ℕ, zero, suc, take, ◌<◌, ◌+◌, List, [], ◌∷◌, ◌++◌, length, get_or, Bool, true, false, cond, Option, Some, None, refl, sym, subst, ap, ◌∙◌, inl, inr, arith, append_assoc}
 use Rattle.std.specs.Prelude.{unwrap_or}
-use Rattle.std.specs.List.{All, Contains, filter, flat_map, list_any}
+use Rattle.std.specs.List.{All, Contains, filter, flat_map, list_all, list_any}
 use Rattle.std.specs.Option.{is_some, option_map}
 use Rattle.std.specs.Ordering.{is_eq, ordering_then}
 use Rattle.std.specs.declared.cmp.Ordering.TheVariants.{Less, Equal, Greater}
-use Rattle.std.proofs.lemmas.Bool.{and_parts, cases_Bool}
+use Rattle.std.proofs.lemmas.Bool.{and_from, and_parts, cases_Bool}
 use Rattle.std.proofs.lemmas.Cmp.{tied_itself}
 use Rattle.std.proofs.lemmas.List.{append-nil}
 use Rattle.std.proofs.lemmas.List.Elements.{All-contains, All-contains_itself, All-head, All-tail, filter-append, filter_passes}
@@ -16,7 +16,7 @@ use Rattle.rx_order.specs.Ascending.{IsAscending, IsBelow, contains_key, has_key
 use Rattle.rx_order.proofs.Edits.{put-past, put-put_same}
 use Rattle.rx_order.proofs.Filters.{Contains-filter_kept, filter_all, filter_none}
 use Rattle.rx_order.proofs.Keys.{Equal-from_is_eq, Greater-from_Less, IsBelow-through, Less-from_Greater, Less-from_is_lt, cases_Ordering, item_at-below}
-use Rattle.rx_order.proofs.Kept.{IsAscending-put}
+use Rattle.rx_order.proofs.Kept.{IsAscending-put, IsAscending-take}
 use Rattle.rx_order.proofs.LookUps.{item_at-filter_kept, item_at-filter_none, item_at-found, item_at-none, item_at-put_same, none_has}
 use Rattle.rx_order.proofs.Totals.{All-put}
 use Rattle.rx_ledger.specs.declared.member.Member.{Member}
@@ -387,3 +387,19 @@ module _ (p : Span) (L : Ledger) (fs : List FamilyBook) (are : AreFamilies p L f
         inhabited = All-put id_cmp id_total family_of (λ b. 0 < length b.members) fs (book_of p grown r.family)
             are.inhabited (All-contains (λ (c : FamilyBook). 0 < length c.members) fs (book_of p L r.family) are.inhabited found.0);
       })
+
+-- the ledger of the first rows
+pub IsLedger-take : (L : Ledger) (n : ℕ) → IsLedger L → IsLedger (record L { rows = take n L.rows })
+IsLedger-take L n is = record {
+  members_rise = is.members_rise;
+  rows_rise = IsAscending-take key_cmp key_total row_key n L.rows is.rows_rise;
+  whole = first n L.rows is.whole;
+}
+  where
+    first : (k : ℕ) (rows : List Row) → list_all (λ (r : Row). is_listed L (member_of_row r)) rows ≡ true
+        → list_all (λ (r : Row). is_listed L (member_of_row r)) (take k rows) ≡ true
+    first zero rows h = refl
+    first (suc k) [] h = refl
+    first (suc k) (r ∷ rows) h =
+        let parts = and_parts _ _ h in
+        and_from _ _ parts.0 (first k rows parts.1)
