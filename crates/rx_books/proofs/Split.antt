@@ -119,6 +119,7 @@ listed-book p L is family person = by_member (item_at member_cmp member_key L.me
   where
     k : MemberKey
     k = record { family = family; person = person }
+
     by_member : (o : Option Member) → item_at member_cmp member_key L.members k ≡ o
         → is_listed (own_ledger (book_of p L family)) k ≡ is_listed L k
     by_member None found = ap is_some (item_at-filter_none member_cmp member_total member_key (of_family family) L.members k
@@ -138,6 +139,7 @@ listed-has_members L k = by_member (item_at member_cmp member_key L.members k) r
     use_place : (ms : List Member) (m : Member) → Contains ms m → of_family k.family m ≡ true → list_any (of_family k.family) ms ≡ true
     use_place ms m among theirs = some_pass (of_family k.family) ms
         (let kept = Contains-filter_kept (of_family k.family) ms m among theirs in omega (arith, kept.1))
+
     by_member : (o : Option Member) → item_at member_cmp member_key L.members k ≡ o → is_listed L k ≡ true → has_members L k.family ≡ true
     by_member None found listed = absurd (let e : false ≡ true = sym (ap is_some found) ∙ listed in cc)
     by_member (Some m) found listed =
@@ -151,6 +153,7 @@ nobody-listed L family person none = by_test (is_listed L k) refl
   where
     k : MemberKey
     k = record { family = family; person = person }
+
     by_test : (t : Bool) → is_listed L k ≡ t → t ≡ false
     by_test false is = refl
     by_test true is = sym (listed-has_members L k is) ∙ none
@@ -211,8 +214,10 @@ module _ (m : Member) where
             let one_family : c.family ≡ family = id_exact c.family b.family tied ∙ same in
             let all : filter (of_family family) (c.members ++ m ∷ []) ≡ c.members ++ m ∷ [] =
             filter-append (of_family family) c.members (m ∷ [])
-            ∙ rw (filter_all (of_family family) c.members (subst (λ f. All (λ n. of_family f n ≡ true) c.members) one_family own_c),
-            ap is_eq (tied_itself id_total family)) refl in
+            ∙ rw (
+              filter_all (of_family family) c.members (subst (λ f. All (λ n. of_family f n ≡ true) c.members) one_family own_c),
+              ap is_eq (tied_itself id_total family),
+            ) refl in
             let flat : members_in (c ∷ fs) ≡ c.members = rw last (append-nil c.members) in
             rw (tied, last) (append-nil b.members ∙ made ∙ ap (λ ms. filter (of_family family) (ms ++ m ∷ [])) flat ∙ all
             ∙ ap (λ ms. ms ++ m ∷ []) (sym (append-nil c.members)))
@@ -251,6 +256,7 @@ module _ (p : Span) (ms : List Member) (fs : List FamilyBook) where
           | inl t ↦ absurd (let e : true ≡ false = sym (rw t refl) ∙ none in cc)
           | inr f ↦ rw f (nobody xs (rw f at none))
         ]
+
         by_members : (b : Bool) → has_members before family ≡ b → book_at (opened p fs family) family ≡ Some (book_of p before family)
         by_members true is =
             let there : book_at fs family ≡ Some (book_of p before family) = book_at-families p before fs are family ∙ rw is refl in
@@ -311,6 +317,7 @@ module _ (p : Span) (ms : List Member) (fs : List FamilyBook) where
         Contains-last : (xs : List Member) (x : Member) → Contains (xs ++ x ∷ []) x
         Contains-last [] x = (0, omega arith, refl)
         Contains-last (y ∷ ys) x = let rest = Contains-last ys x in (suc rest.0, omega (arith, rest.1), rest.2)
+
         some : 0 < length (filter (of_family family) (ms ++ m ∷ []))
         some =
             let theirs : of_family family m ≡ true = ap is_eq (tied_itself id_total family) in

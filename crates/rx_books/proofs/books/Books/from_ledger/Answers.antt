@@ -2,6 +2,7 @@ use Rattle.std.proofs.Common.{◌≡◌, ◌<◌, [], ◌∷◌, ◌++◌, lengt
 use Rattle.std.specs.Prelude.{IsTrue}
 use Rattle.std.specs.List.{list_all}
 use Rattle.std.specs.Option.{is_some}
+use Rattle.std.proofs.lemmas.List.{take_all}
 use Rattle.std.proofs.lemmas.List.Sums.{AllPass-from_list_all}
 use Rattle.rx_fields.specs.Order.{id_cmp, key_cmp}
 use Rattle.rx_order.specs.Ascending.{IsAscending, is_past}
@@ -142,7 +143,8 @@ pub invariant_of-result : goal.invariant_of-result
 invariant_of-result c =
     let L = c.args.ledger.now in
     let fs = c.rows.families in
-    let all : take c.rows.row-index c.rows-row-items.result.now ≡ L.rows = ? in
+    let all : take c.rows.row-index c.rows-row-items.result.now ≡ L.rows =
+    take_all c.rows.row-index c.rows-row-items.result.now c.rows-test.false ∙ c.rows-row-items.ensures.value in
     let rows : c.in_ok-rows.rows ≡ L.rows = c.in_ok-rows.ensures ∙ c.rows-2.ensures.value in
     let one : ledger_of fs c.in_ok-rows.rows ≡ L = λ i. record { members = c.rows.invariant.members i; rows = rows i } in
     let of_all : AreFamilies c.args.period L fs = rw all at c.rows.invariant in
