@@ -1,5 +1,5 @@
 -- Maps whose values have their keys: what an insert, and a write in place, do to the list of values.
-use Rattle.std.proofs.Common.{◌≡◌, List, [], ◌∷◌, Bool, true, false, cond, Option, Some, None, Result, Ok, Err, OnOk, refl, sym, ap, ◌∙◌, inl, inr}
+use Rattle.std.proofs.Common.{◌≡◌, Decides, map, List, [], ◌∷◌, Bool, true, false, cond, Option, Some, None, Result, Ok, Err, OnOk, refl, sym, ap, ◌∙◌, inl, inr}
 use Rattle.std.specs.BTreeMap.{insert_entry, is_at}
 use Rattle.std.specs.Cmp.{IsTotalOrder}
 use Rattle.std.specs.List.{All}
@@ -7,6 +7,7 @@ use Rattle.std.specs.List.Sorted.{IsStrictlySortedBy}
 use Rattle.std.specs.Map.{keys_of, lookup, set_value, values_of}
 use Rattle.std.specs.declared.cmp.Ordering.{Ordering}
 use Rattle.std.specs.declared.cmp.Ordering.TheVariants.{Less, Equal, Greater}
+use Rattle.std.proofs.lemmas.Bool.Decides.{Decides-like}
 use Rattle.std.proofs.lemmas.Cmp.{tied_back}
 use Rattle.std.proofs.lemmas.List.Elements.{All-head, All-tail}
 use Rattle.std.proofs.lemmas.Map.Lookups.{CmpEqualImpliesEq}
@@ -74,6 +75,18 @@ module _ {K X : Type 0} (cmp : K → K → Ordering) (order : IsTotalOrder cmp) 
 
     pub values-write : values_of (set_value (is_at (cmp k)) es x) ≡ put cmp key (values_of es) x
     values-write = ap values_of is_put ∙ ap (λ j. values_of (put cmp first es (j, x))) (sym same) ∙ values-put es x keyed
+
+  -- the values tell the entries
+  entries-values : (es : List (K × X)) → All Keyed es → es ≡ map (λ x. (key x, x)) (values_of es)
+  entries-values [] keyed = refl
+  entries-values (e ∷ es) keyed =
+      let same : key e.1 ≡ e.0 = All-head Keyed e es keyed in
+      rw same (ap (λ fs. e ∷ fs) (entries-values es (All-tail Keyed e es keyed)))
+
+  pub entries_decide : (es fs : List (K × X)) (r : Bool) → All Keyed es → All Keyed fs → Decides r (es ≡ fs)
+      → Decides r (values_of es ≡ values_of fs)
+  entries_decide es fs r keyed other decides = Decides-like r (ap values_of)
+      (λ same. entries-values es keyed ∙ ap (map (λ x. (key x, x))) same ∙ sym (entries-values fs other)) decides
 
   -- what is found under a key has it
   pub found_family : (es : List (K × X)) (k : K) (x : X) → All Keyed es → lookup (is_at (cmp k)) es ≡ Some x → key x ≡ k

@@ -13,7 +13,7 @@ use Rattle.std.proofs.lemmas.List.Folds.{list_any-append, list_any_none}
 use Rattle.rx_fields.specs.Numbered.{Span}
 use Rattle.rx_fields.specs.Order.{id_cmp, key_cmp}
 use Rattle.rx_order.specs.Ascending.{IsAscending, IsBelow, contains_key, has_key, is_past, item_at, put}
-use Rattle.rx_order.proofs.Edits.{put-past, put-put_same}
+use Rattle.rx_order.proofs.Edits.{put-past, put-put_same, same_items}
 use Rattle.rx_order.proofs.Filters.{Contains-filter_kept, filter_all, filter_none}
 use Rattle.rx_order.proofs.Keys.{Equal-from_is_eq, Greater-from_Less, IsBelow-through, Less-from_Greater, Less-from_is_lt, cases_Ordering, item_at-below}
 use Rattle.rx_order.proofs.Kept.{IsAscending-put, IsAscending-take}
@@ -410,3 +410,8 @@ IsLedger-take L n is = record {
     first (suc k) (r ∷ rows) h =
         let parts = and_parts _ _ h in
         and_from _ _ parts.0 (first k rows parts.1)
+
+-- the books of a ledger's families are told by the ledger
+pub families-same : (p : Span) (L : Ledger) (fs gs : List FamilyBook) → AreFamilies p L fs → AreFamilies p L gs → fs ≡ gs
+families-same p L fs gs are too = same_items id_cmp id_total family_of fs gs are.rise too.rise
+    (λ family. book_at-families p L fs are family ∙ sym (book_at-families p L gs too family))

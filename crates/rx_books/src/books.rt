@@ -1,4 +1,4 @@
-ghost use Rattle.std.specs.Prelude.{◌≡◌, IfOk};
+ghost use Rattle.std.specs.Prelude.{◌≡◌, ◌↔◌, IfOk, IsTrue};
 ghost use Rattle.std.specs.Option.{option_copied};
 ghost use Rattle.rx_ledger.specs.Ledger.{row_under};
 ghost use Rattle.rx_books.specs.LedgerBooks.{deductible_of_family, deductible_of_member, out_of_pocket_of_family};
@@ -103,3 +103,27 @@ impl Books {
         Some(self.families.get(family)?.family_deductible())
     }
 }
+
+ghost use Rattle.rx_claim.specs.Same.{same, same_laws, same_equivalence};
+ghost use Rattle.rx_books.specs.contracts.books.Books.{the_row as books_row};
+
+impl PartialEq for Books {
+    ghost eq = { same books_row.coded };
+
+    ghost laws = { same_laws books_row.coded };
+
+    fn eq(&self, other: &Books) -> bool
+        ensures { IsTrue result ↔ (self.now ≡ other.now) }
+    {
+        self.period == other.period
+            && self.rows.is_same(&other.rows)
+            && self.families.is_same(&other.families)
+    }
+}
+
+impl Eq for Books {
+    ghost laws = { same_equivalence books_row.coded };
+}
+
+#[cfg(test)]
+mod tests;

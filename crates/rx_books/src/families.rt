@@ -1,4 +1,4 @@
-ghost use Rattle.std.specs.Prelude.{◌≡◌, [], IfOk, IsTrue, OnErr, OnOk, true, false};
+ghost use Rattle.std.specs.Prelude.{◌≡◌, ◌↔◌, [], IfOk, IsTrue, OnErr, OnOk, true, false};
 ghost use Rattle.std.specs.Option.{ForSome, option_copied};
 ghost use Rattle.rx_fields.specs.Order.{id_cmp};
 ghost use Rattle.rx_order.specs.Ascending.{contains_key, is_past};
@@ -84,6 +84,13 @@ impl FamilyBooks {
             Some(family) => family.add(row),
             None => unreachable!(),
         }
+    }
+
+    /// Whether these are the same books.
+    pub(crate) fn is_same(&self, other: &FamilyBooks) -> bool
+        ensures { IsTrue result ↔ (self.now ≡ other.now) }
+    {
+        self.map == other.map
     }
 
     /// All members, in order.

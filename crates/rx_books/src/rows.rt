@@ -49,6 +49,13 @@ impl RowBooks {
         self.map.get(key)
     }
 
+    /// Whether these are the same rows.
+    pub(crate) fn is_same(&self, other: &RowBooks) -> bool
+        ensures { IsTrue result ↔ (self.now ≡ other.now) }
+    {
+        self.map == other.map
+    }
+
     /// All rows, in order.
     pub(crate) fn to_list(&self, alloc: Global) -> Result<Vec<Row>, Memory>
         ensures { IfOk result (λ list. list.items ≡ self.now) }
