@@ -1,5 +1,5 @@
 -- Maps whose values have their keys: what an insert, and a write in place, do to the list of values.
-use Rattle.std.proofs.Common.{◌≡◌, Decides, map, List, [], ◌∷◌, Bool, true, false, cond, Option, Some, None, Result, Ok, Err, OnOk, refl, sym, ap, ◌∙◌, inl, inr}
+use Rattle.std.proofs.Common.{◌≡◌, Decides, map, List, [], ◌∷◌, Bool, Some, None, Result, Ok, Err, OnOk, refl, sym, ap, ◌∙◌, inl, inr}
 use Rattle.std.specs.BTreeMap.{insert_entry, is_at}
 use Rattle.std.specs.Cmp.{IsTotalOrder}
 use Rattle.std.specs.List.{All}

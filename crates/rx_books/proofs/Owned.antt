@@ -1,10 +1,9 @@
 -- What a change of a family's rows and members does to its totals.
-use Rattle.std.proofs.Common.{◌≡◌, ◌≢◌, ℕ, ◌+◌, ◌-◌, ◌^◌, ◌<◌, ◌≤◌, List, [], ◌∷◌, ◌++◌, length, get_or, map, set, true, false, Bool, Option, Some, None, refl, sym, ap, ◌∙◌, inl, inr, arith}
-use Rattle.std.specs.List.{All, Contains, sum_by}
+use Rattle.std.proofs.Common.{◌≡◌, ◌≢◌, ℕ, ◌+◌, ◌-◌, ◌^◌, ◌<◌, ◌≤◌, List, [], ◌∷◌, ◌++◌, length, get_or, map, set, true, false, Option, Some, None, refl, sym, ap, ◌∙◌, inl, inr, arith}
+use Rattle.std.specs.List.{All, sum_by}
 use Rattle.std.specs.Cmp.{eq_by_cmp_equiv}
 use Rattle.std.specs.Option.{is_some}
-use Rattle.std.specs.Ordering.{is_eq, is_lt, ordering_then}
-use Rattle.std.specs.declared.cmp.Ordering.TheVariants.{Less, Equal, Greater}
+use Rattle.std.specs.Ordering.{is_eq}
 use Rattle.std.proofs.lemmas.Bool.{cases_Bool, and_parts}
 use Rattle.std.proofs.lemmas.Cmp.{tied_itself}
 use Rattle.std.proofs.lemmas.List.{get_or-map, get_or_default, length-map, map-append}
@@ -12,11 +11,10 @@ use Rattle.std.proofs.lemmas.List.Elements.{All-cons, All-contains, All-nil}
 use Rattle.std.proofs.lemmas.List.Sums.{AllPass-from_list_all, sum_by-le}
 use Rattle.rx_fields.specs.Calendar.{Civil}
 use Rattle.rx_fields.specs.Numbered.{Span, is_within}
-use Rattle.rx_fields.specs.Order.{id_cmp, key_cmp}
+use Rattle.rx_fields.specs.Order.{key_cmp}
 use Rattle.rx_fields.specs.declared.key.Key.{Key}
-use Rattle.rx_claim.specs.Priced.{patient_pay}
-use Rattle.rx_order.specs.Ascending.{IsAscending, IsAt, contains_key, has_key, is_past, item_at, put, without}
-use Rattle.rx_order.proofs.Edits.{put-past, without_absent}
+use Rattle.rx_order.specs.Ascending.{IsAt, has_key, is_past, item_at, put, without}
+use Rattle.rx_order.proofs.Edits.{put-past}
 use Rattle.rx_order.proofs.Keys.{Equal-from_is_eq, Less-from_is_lt}
 use Rattle.rx_order.proofs.LookUps.{item_at-found, item_at-none}
 use Rattle.rx_order.proofs.Places.{has_key-elsewhere}
@@ -24,14 +22,14 @@ use Rattle.rx_order.proofs.Totals.{All-put, All-without, length-without, sum_by-
 use Rattle.rx_ledger.specs.declared.member.Member.{Member}
 use Rattle.rx_ledger.specs.declared.member.MemberKey.{MemberKey}
 use Rattle.rx_ledger.specs.declared.row.Row.{Row}
-use Rattle.rx_ledger.specs.Ledger.{Ledger, IsLedger, is_listed}
+use Rattle.rx_ledger.specs.Ledger.{is_listed}
 use Rattle.rx_ledger.specs.Members.{is_same, member_cmp, member_key}
 use Rattle.rx_ledger.specs.Rows.{member_of_row, row_key}
-use Rattle.rx_ledger.specs.Sums.{counted, deductible_in, deductible_paid, family_deductible_in, out_of_pocket_in, paid_by_patient, persons_deductible_paid}
+use Rattle.rx_ledger.specs.Sums.{counted, deductible_in, deductible_paid, paid_by_patient, persons_deductible_paid}
 use Rattle.rx_ledger.proofs.Ledgers.{IsLedger-with_member, IsLedger-with_row, IsLedger-without_row}
 use Rattle.rx_ledger.proofs.Passed.{passed_found}
 use Rattle.rx_ledger.proofs.Orders.{id_exact, id_total, key_total, member_exact, member_total}
-use Rattle.rx_books.specs.FamilyBook.{FamilyBook, IsOwn, AreTotals, IsFamilyBook, book_with_member, book_with_row, book_without_row, deductibles_over, own_ledger}
+use Rattle.rx_books.specs.FamilyBook.{FamilyBook, IsOwn, AreTotals, book_with_member, book_with_row, book_without_row, own_ledger}
 use Rattle.rx_books.proofs.Changed.{set-map, sum_by-nothing}
 
 -- a member that no list need have, where a read past the end is spoken of

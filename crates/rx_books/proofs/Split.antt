@@ -1,23 +1,22 @@
 -- A ledger split by family: what the books of its families find, and what one member or one row more does to them.
-use Rattle.std.proofs.Common.{◌≡◌, ℕ, zero, suc, take, ◌<◌, ◌+◌, List, [], ◌∷◌, ◌++◌, length, get_or, Bool, true, false, cond, Option, Some, None, refl, sym, subst, ap, ◌∙◌, inl, inr, arith, append_assoc}
-use Rattle.std.specs.Prelude.{unwrap_or}
-use Rattle.std.specs.List.{All, Contains, filter, flat_map, list_all, list_any}
-use Rattle.std.specs.Option.{is_some, option_map}
+use Rattle.std.proofs.Common.{◌≡◌, ℕ, zero, suc, take, ◌<◌, List, [], ◌∷◌, ◌++◌, length, get_or, Bool, true, false, cond, Option, Some, None, refl, sym, subst, ap, ◌∙◌, inl, inr, arith, append_assoc}
+use Rattle.std.specs.List.{All, Contains, filter, list_all, list_any}
+use Rattle.std.specs.Option.{is_some}
 use Rattle.std.specs.Ordering.{is_eq, ordering_then}
 use Rattle.std.specs.declared.cmp.Ordering.TheVariants.{Less, Equal, Greater}
 use Rattle.std.proofs.lemmas.Bool.{and_from, and_parts, cases_Bool}
 use Rattle.std.proofs.lemmas.Cmp.{tied_itself}
 use Rattle.std.proofs.lemmas.List.{append-nil}
-use Rattle.std.proofs.lemmas.List.Elements.{All-contains, All-contains_itself, All-head, All-tail, filter-append, filter_passes}
+use Rattle.std.proofs.lemmas.List.Elements.{All-contains, All-head, All-tail, filter-append, filter_passes}
 use Rattle.std.proofs.lemmas.List.Folds.{list_any-append, list_any_none}
 use Rattle.rx_fields.specs.Numbered.{Span}
 use Rattle.rx_fields.specs.Order.{id_cmp, key_cmp}
-use Rattle.rx_order.specs.Ascending.{IsAscending, IsBelow, contains_key, has_key, is_past, item_at, put}
+use Rattle.rx_order.specs.Ascending.{IsAscending, IsBelow, contains_key, has_key, is_past, item_at}
 use Rattle.rx_order.proofs.Edits.{put-past, put-put_same, same_items}
 use Rattle.rx_order.proofs.Filters.{Contains-filter_kept, filter_all, filter_none}
 use Rattle.rx_order.proofs.Keys.{Equal-from_is_eq, Greater-from_Less, IsBelow-through, Less-from_Greater, Less-from_is_lt, cases_Ordering, item_at-below}
 use Rattle.rx_order.proofs.Kept.{IsAscending-put, IsAscending-take}
-use Rattle.rx_order.proofs.LookUps.{item_at-filter_kept, item_at-filter_none, item_at-found, item_at-none, item_at-put_same, none_has}
+use Rattle.rx_order.proofs.LookUps.{item_at-filter_kept, item_at-filter_none, item_at-found, item_at-put_same, none_has}
 use Rattle.rx_order.proofs.Totals.{All-put}
 use Rattle.rx_ledger.specs.declared.member.Member.{Member}
 use Rattle.rx_ledger.specs.declared.member.MemberKey.{MemberKey}

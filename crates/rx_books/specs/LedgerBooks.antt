@@ -1,5 +1,5 @@
 -- All books: the ledger, split by family.
-use Rattle.std.specs.Prelude.{◌≡◌, ℕ, ◌<◌, Bool, false, List, Option, Some, None, if◌then◌else◌, length, unwrap_or}
+use Rattle.std.specs.Prelude.{◌≡◌, ℕ, ◌<◌, Bool, List, Option, Some, None, if◌then◌else◌, length, unwrap_or}
 use Rattle.std.specs.List.{All, flat_map, list_any}
 use Rattle.std.specs.Option.{option_map}
 use Rattle.rx_fields.specs.Numbered.{Span}

@@ -1,4 +1,4 @@
-use Rattle.std.proofs.Common.{◌≡◌, Err, false, true, sym, ap, ◌∙◌}
+use Rattle.std.proofs.Common.{Err, ap, ◌∙◌}
 use Rattle.rx_ledger.proofs.Refusals.{fails}
 use Rattle.rx_books.proofs.plain.list_member.Goals as goal
 

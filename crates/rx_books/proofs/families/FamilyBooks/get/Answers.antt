@@ -3,7 +3,6 @@ use Rattle.rx_fields.specs.Order.{id_cmp}
 use Rattle.rx_ledger.proofs.Orders.{id_total}
 use Rattle.rx_order.proofs.MapEntries.{lookup-values}
 use Rattle.rx_books.specs.FamilyBook.{family_of}
-use Rattle.rx_books.proofs.Split.{book_at-families}
 use Rattle.rx_books.proofs.families.FamilyBooks.get.Goals as goal
 
 pub returns : goal.returns

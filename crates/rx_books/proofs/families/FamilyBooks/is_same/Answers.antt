@@ -1,4 +1,3 @@
-use Rattle.std.proofs.Common.{Decides}
 use Rattle.std.specs.Cmp.Lexicographic.{bytes_decides, pointwise_decides}
 use Rattle.rx_fields.specs.Order.{id_cmp}
 use Rattle.rx_claim.specs.Same.{same_decides}

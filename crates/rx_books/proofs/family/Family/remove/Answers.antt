@@ -1,8 +1,8 @@
-use Rattle.std.proofs.Common.{◌≡◌, None, Some, refl, sym, ap, ◌∙◌, arith}
+use Rattle.std.proofs.Common.{◌≡◌, None, Some, refl, sym, ◌∙◌}
 use Rattle.rx_fields.specs.Order.{key_cmp}
 use Rattle.rx_ledger.specs.Rows.{row_key}
 use Rattle.rx_ledger.proofs.Orders.{key_total}
-use Rattle.rx_order.specs.Ascending.{item_at, without}
+use Rattle.rx_order.specs.Ascending.{item_at}
 use Rattle.rx_order.proofs.Edits.{without_absent}
 use Rattle.rx_books.specs.FamilyBook.{FamilyBook}
 use Rattle.rx_books.proofs.Owned.{deductible_enough, family_enough, no_member, own-removed, pocket_enough, row_listed, stored, totals-removed}

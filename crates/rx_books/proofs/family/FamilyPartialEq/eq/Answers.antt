@@ -1,4 +1,4 @@
-use Rattle.std.proofs.Common.{◌≡◌, true, false, Bool, Decides, sym, ◌∙◌}
+use Rattle.std.proofs.Common.{◌≡◌, Decides}
 use Rattle.std.specs.Cmp.Lexicographic.{bytes_decides, pointwise_decides}
 use Rattle.std.proofs.lemmas.Bool.Decides.{Decides-at}
 use Rattle.rx_ledger.proofs.Decided.{member_decides, period_decides, row_decides}

@@ -1,4 +1,3 @@
-use Rattle.std.proofs.Common.{Decides}
 use Rattle.std.specs.Cmp.Lexicographic.{pointwise_decides}
 use Rattle.rx_fields.specs.Order.{key_cmp}
 use Rattle.rx_ledger.specs.Rows.{row_key}

@@ -1,4 +1,4 @@
-use Rattle.std.proofs.Common.{◌≡◌, refl, sym, ap, ◌∙◌}
+use Rattle.std.proofs.Common.{refl, ap, ◌∙◌}
 use Rattle.std.specs.Map.{values_of}
 use Rattle.rx_fields.specs.Order.{key_cmp}
 use Rattle.rx_order.specs.Ascending.{put}
