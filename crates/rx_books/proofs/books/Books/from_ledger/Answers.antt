@@ -14,7 +14,8 @@ use Rattle.rx_ledger.proofs.Orders.{key_total, member_total}
 use Rattle.rx_books.specs.FamilyBook.{FamilyBook, own_ledger}
 use Rattle.rx_books.specs.LedgerBooks.{AreFamilies, book_at, book_of, ledger_of}
 use Rattle.rx_books.proofs.Grown.{more-item, past-item}
-use Rattle.rx_books.proofs.Split.{IsLedger-take, families-member, families-row, into, into_past, row_free, row_into, row_is_listed}
+use Rattle.rx_books.proofs.OneMember.{families-member, into, into_past}
+use Rattle.rx_books.proofs.OneRow.{IsLedger-take, families-row, row_free, row_into, row_is_listed}
 use Rattle.rx_books.proofs.books.Books.from_ledger.Goals as goal
 
 -- ---- the members
