@@ -1,0 +1,7 @@
+-- Laws of the definitions in `specs/`.
+pub mod Cuts
+pub mod Numbers
+pub mod Passed
+pub mod Added
+pub mod Families
+pub mod TextSteps
