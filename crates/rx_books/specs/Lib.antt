@@ -1,2 +1,3 @@
+pub mod BooksText
 pub mod FamilyBook
 pub mod LedgerBooks

@@ -1,11 +1,13 @@
 ghost use Rattle.std.specs.Prelude.{◌≡◌, ◌↔◌, IfOk, IsTrue};
 ghost use Rattle.std.specs.Option.{option_copied};
 ghost use Rattle.rx_ledger.specs.Ledger.{row_under};
+ghost use Rattle.rx_books.specs.BooksText.{books_text};
 ghost use Rattle.rx_books.specs.LedgerBooks.{deductible_of_family, deductible_of_member, out_of_pocket_of_family};
 
 use crate::families::FamilyBooks;
 use crate::plain::ledger_of;
 use crate::rows::RowBooks;
+use rx_books_text::{Version, put_head};
 use rx_fields::{Id, Key, Memory, Period, Person};
 use rx_ledger::{Ledger, Row};
 use std::alloc::Global;
@@ -66,6 +68,18 @@ impl Books {
     {
         let ledger = self.ledger(alloc)?;
         Books::from_ledger(alloc, &ledger, period)
+    }
+
+    /// The text of the books, in version 3 (docs/FORMATS.md, "Books file").
+    pub fn write(&self, alloc: Global) -> Result<Vec<u8>, Memory>
+        ensures { IfOk result (λ text. text.items ≡ books_text Version.Three self.now.period self.now.ledger) }
+    {
+        let mut text = Vec::new(alloc);
+        put_head(&mut text, self.period)?;
+        self.families.put_members(&mut text)?;
+        self.rows.put_claims(&mut text)?;
+        self.families.put_totals(&mut text)?;
+        Ok(text)
     }
 
     /// The period that the totals are of.

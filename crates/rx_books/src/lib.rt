@@ -18,6 +18,7 @@ mod family;
 mod plain;
 mod rows;
 mod totals;
+mod writing;
 
 pub use books::Books;
 pub use family::Family;
