@@ -6,3 +6,4 @@ pub mod OneRow
 pub mod Owned
 pub mod Same
 pub mod Split
+pub mod Written

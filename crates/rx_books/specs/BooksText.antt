@@ -1,5 +1,5 @@
 -- The text of the books: the one text of a ledger with its sums (docs/FORMATS.md, "Books file").
-use Rattle.std.specs.Prelude.{ℕ, not, List, [], ◌∷◌, ◌++◌, Option, Some, None, filter, map}
+use Rattle.std.specs.Prelude.{ℕ, not, List, [], ◌∷◌, Option, Some, None, filter, map}
 use Rattle.std.specs.List.{flat_map}
 use Rattle.rx_fields.specs.Numbered.{Span}
 use Rattle.rx_ledger.specs.declared.member.Member.{Member}
