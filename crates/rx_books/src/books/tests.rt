@@ -109,6 +109,29 @@ fn the_ledger_comes_back(rt: HostRuntime) -> Result<(), Fail> {
     Ok(())
 }
 
+// The end books of case one-billing.
+#[test]
+fn the_text_has_each_line_once(rt: HostRuntime) -> Result<(), Fail> {
+    let books = Books::from_ledger(rt.alloc(), &after_one_billing(rt.alloc())?, this_year()?)?;
+    let text = books.write(rt.alloc())?;
+    let lines = [
+        b"BOOKS|3|20260101|20261231\n".as_slice(),
+        b"M|C100|01|20260101|20261231|10000\n",
+        b"M|C100|02|20260101|20261231|0\n",
+        b"M|C100|03|20260101|20261231|0\n",
+        b"M|C200|01|20260101|20261231|0\n",
+        b"C|1234567893|123|20260228|C100|01|00002000202|30000|30|30000|175|10000|3000|0|000004200000011\n",
+        b"T|C100|13000|10000\n",
+        b"T|C200|0|0\n",
+    ];
+    let mut rest = text.as_slice();
+    for line in lines {
+        rest = rest.strip_prefix(line).ok_or("the line")?;
+    }
+    assert!(rt; rest.is_empty());
+    Ok(())
+}
+
 // Case reversal-of-last-years-claim: the totals are 0 before and after; and a reversal takes back what was counted.
 #[test]
 fn a_reversal_takes_back_what_was_counted(rt: HostRuntime) -> Result<(), Fail> {
