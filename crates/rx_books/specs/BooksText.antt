@@ -41,8 +41,8 @@ total_of version period L family =
     }
 
 -- what the books print: the ledger, with each sum
-abbrev pub printed_of : Version → Span → Ledger → PrintedParts
-printed_of version period L =
+abbrev pub parts_of : Version → Span → Ledger → PrintedParts
+parts_of version period L =
     record {
       head = record { version = version; period = period };
       ledger = L;
@@ -52,7 +52,7 @@ printed_of version period L =
 
 -- the text of the books in a version
 abbrev pub books_text : Version → Span → Ledger → List ℕ
-books_text version period L = printed_text (printed_of version period L)
+books_text version period L = printed_text (parts_of version period L)
 
 -- ---- the parts of version 3, book by book
 

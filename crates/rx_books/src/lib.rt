@@ -15,6 +15,7 @@
 mod books;
 mod families;
 mod family;
+mod figures;
 mod plain;
 mod rows;
 mod totals;
