@@ -93,7 +93,7 @@ filter_above k (g ∷ gs) below =
     let greater : id_cmp g.family k ≡ Greater = Greater-from_Less id_cmp id_total family_of k g.family below.0 in
     rw greater (ap (λ fs. g.family ∷ fs) (filter_above k gs below.1))
 
-families_in : (gs : List FamilyBook) → IsAscending id_cmp family_of gs → All (λ b. 0 < length b.members) gs
+pub families_in : (gs : List FamilyBook) → IsAscending id_cmp family_of gs → All (λ b. 0 < length b.members) gs
     → All OwnMembers gs → families_of (members_in gs) ≡ map family_of gs
 families_in [] rise some own = refl
 families_in (b ∷ gs) rise some own =
