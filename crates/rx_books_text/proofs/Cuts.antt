@@ -76,3 +76,26 @@ pub lines_at : (bytes : List ℕ) (at : ℕ) → at < length bytes → NoneBefor
     → lines bytes ≡ take at bytes ∷ lines (drop (at + 1) bytes)
 lines_at bytes at lt none here =
     ap lines (whole_at 10 bytes at lt here) ∙ lines_over (take at bytes) (drop (at + 1) bytes) (front_without 10 bytes at lt none)
+
+abbrev pair : List ℕ × List ℕ → Option (List ℕ × List ℕ)
+pair y = Some y
+
+pub split_takes : (bs : List ℕ) (x : List ℕ × List ℕ) → split bs ≡ Some x → bs ≡ x.0 ++ 124 ∷ x.1
+unfolding split
+split_takes [] x e = absurd cc
+split_takes (b ∷ bs) x e = elim (cases_Bool (eqb b 124)) [
+  | inl bar ↦
+      let is : ([], bs) ≡ x = pair_same ([], bs) x (rw bar at e) in
+      rw (eqb-true b 124 bar, ← is) refl
+  | inr other ↦
+      let more = later (split bs) b x (rw other at e) in
+      rw (← more.2) (ap (λ (t : List ℕ). b ∷ t) (split_takes bs more.0 more.1))
+]
+  where
+    pair_same : (y z : List ℕ × List ℕ) → pair y ≡ pair z → y ≡ z
+    pair_same y z e = cc
+
+    later : (o : Option (List ℕ × List ℕ)) (b : ℕ) (x : List ℕ × List ℕ) → (o >>= λ y. Some (b ∷ y.0, y.1)) ≡ Some x
+        → (y : List ℕ × List ℕ) × (o ≡ Some y) × ((b ∷ y.0, y.1) ≡ x)
+    later None b x e = absurd cc
+    later (Some y) b x e = (y, refl, pair_same (b ∷ y.0, y.1) x e)

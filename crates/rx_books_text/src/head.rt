@@ -1,4 +1,5 @@
 ghost use Rattle.std.specs.Prelude.{◌≡◌, Some, IfSome};
+ghost use Rattle.rx_books_text.specs.declared.head.Head.{Head};
 ghost use Rattle.rx_books_text.specs.LineFits.{IsPeriod};
 ghost use Rattle.rx_books_text.specs.LineReading.{head_in, head_of, version_in};
 ghost use Rattle.rx_books_text.specs.LineText.{head_text};
@@ -20,6 +21,8 @@ pub struct Head {
 /// The head that the text of a line is, without its line feed (docs/FORMATS.md, "Books file").
 pub fn read_head(text: &[u8]) -> Option<Head>
     ensures value { result ≡ head_of text.now }
+    ensures found { IfSome result (λ head. IsPeriod head.period × (text.now ≡ head_text head)) }
+    ensures only { (head : Head) → IsPeriod head.period → text.now ≡ head_text head → result ≡ Some head }
 {
     head_of(text)
 }

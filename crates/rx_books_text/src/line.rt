@@ -45,6 +45,8 @@ pub enum Line {
 /// The line that a text is in this version, without its line feed (docs/FORMATS.md, "Books file").
 pub fn read_line(version: Version, text: &[u8]) -> Option<Line>
     ensures value { result ≡ line_of version text.now }
+    ensures found { IfSome result (λ line. IsLine version line × (text.now ≡ line_text version line)) }
+    ensures only { (line : Line) → IsLine version line → text.now ≡ line_text version line → result ≡ Some line }
 {
     line_of(version, text)
 }
