@@ -1,8 +1,12 @@
 pub mod Changed
 pub mod Grown
+pub mod Limits
 pub mod Mapped
+pub mod Missing
 pub mod OneMember
 pub mod OneRow
 pub mod Owned
 pub mod Same
 pub mod Split
+pub mod Written
+pub mod Wrong

@@ -1,2 +1,4 @@
+pub mod BooksText
 pub mod FamilyBook
+pub mod Figures
 pub mod LedgerBooks

@@ -1,11 +1,16 @@
-ghost use Rattle.std.specs.Prelude.{◌≡◌, ◌↔◌, IfOk, IsTrue};
+ghost use Rattle.std.specs.Prelude.{◌≡◌, ◌↔◌, ◌<◌, ◌^◌, IfOk, IsTrue, length};
 ghost use Rattle.std.specs.Option.{option_copied};
 ghost use Rattle.rx_ledger.specs.Ledger.{row_under};
+ghost use Rattle.rx_books.specs.BooksText.{books_text};
+ghost use Rattle.rx_books_text.specs.Fault.{Gives};
+ghost use Rattle.rx_books_text.specs.Printed.{lines_of};
+ghost use Rattle.rx_books.specs.Figures.{books_of, unsummed, wrong_line};
 ghost use Rattle.rx_books.specs.LedgerBooks.{deductible_of_family, deductible_of_member, out_of_pocket_of_family};
 
 use crate::families::FamilyBooks;
 use crate::plain::ledger_of;
 use crate::rows::RowBooks;
+use rx_books_text::{BooksFault, Printed, Version, put_head, read_printed};
 use rx_fields::{Id, Key, Memory, Period, Person};
 use rx_ledger::{Ledger, Row};
 use std::alloc::Global;
@@ -51,6 +56,39 @@ impl Books {
         })
     }
 
+    /// The books of a text, or its first fault (docs/FORMATS.md, "Books file").
+    pub fn read(alloc: Global, text: &[u8]) -> Result<Books, BooksFault>
+        ensures { Gives result (books_of text.now) }
+    {
+        let printed = read_printed(alloc, text)?;
+        let books = Books::from_ledger(alloc, printed.ledger(), printed.head().period)?;
+        match books.wrong_line(&printed) {
+            Some(line) => Err(BooksFault::Totals(line)),
+            None => Ok(books),
+        }
+    }
+
+    // The number of the first line of which a figure isn't the sum, or of a missing total line.
+    fn wrong_line(&self, printed: &Printed) -> Option<u64>
+        requires own { self.now ≡ unsummed printed.now }
+        requires one_each { length printed.now.deductibles ≡ length printed.now.ledger.members }
+        requires few { length (lines_of printed.now) < 2 ^ 32 }
+        ensures { result ≡ wrong_line printed.now }
+    {
+        let (members, rows) = (printed.ledger().members(), printed.ledger().rows());
+        if let Some(at) = self.wrong_member(members, printed.deductibles()) {
+            return Some(at as u64 + 2);
+        }
+        let above = (members.len() + rows.len() + 2) as u64;
+        if let Some(at) = self.wrong_total(printed.totals()) {
+            return Some(above + at as u64);
+        }
+        if self.families.all_have_totals(printed.totals()) {
+            return None;
+        }
+        Some(above + printed.totals().len() as u64)
+    }
+
     /// The plain ledger: all members and rows.
     pub fn ledger(&self, alloc: Global) -> Result<Ledger, Memory>
         ensures { IfOk result (λ ledger. ledger ≡ self.now.ledger) }
@@ -66,6 +104,18 @@ impl Books {
     {
         let ledger = self.ledger(alloc)?;
         Books::from_ledger(alloc, &ledger, period)
+    }
+
+    /// The text of the books, in version 3 (docs/FORMATS.md, "Books file").
+    pub fn write(&self, alloc: Global) -> Result<Vec<u8>, Memory>
+        ensures { IfOk result (λ text. text.items ≡ books_text Version.Three self.now.period self.now.ledger) }
+    {
+        let mut text = Vec::new(alloc);
+        put_head(&mut text, self.period)?;
+        self.families.put_members(&mut text)?;
+        self.rows.put_claims(&mut text)?;
+        self.families.put_totals(&mut text)?;
+        Ok(text)
     }
 
     /// The period that the totals are of.

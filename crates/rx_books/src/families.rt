@@ -1,14 +1,20 @@
-ghost use Rattle.std.specs.Prelude.{◌≡◌, ◌↔◌, [], IfOk, IsTrue, OnErr, OnOk, true, false};
+ghost use Rattle.std.specs.Prelude.{◌≡◌, ◌↔◌, ◌++◌, [], IfOk, IsTrue, OnErr, OnOk, true, false};
+ghost use Rattle.std.specs.List.{list_all};
 ghost use Rattle.std.specs.Option.{ForSome, option_copied};
 ghost use Rattle.rx_fields.specs.Order.{id_cmp};
-ghost use Rattle.rx_order.specs.Ascending.{contains_key, is_past};
+ghost use Rattle.rx_order.specs.Ascending.{IsAscending, contains_key, is_past};
 ghost use Rattle.rx_ledger.specs.Ledger.{is_listed, is_taken};
 ghost use Rattle.rx_ledger.specs.Members.{member_cmp, member_key};
 ghost use Rattle.rx_ledger.specs.Rows.{member_of_row};
+ghost use Rattle.rx_books.specs.BooksText.{members_text, totals_text};
+ghost use Rattle.rx_books_text.specs.Printed.{total_family};
+ghost use Rattle.rx_books.specs.Figures.{has_total};
 ghost use Rattle.rx_books.specs.FamilyBook.{family_of, own_ledger};
 ghost use Rattle.rx_books.specs.LedgerBooks.{book_at, members_in, opened, with_member_in, with_row_in};
 
 use crate::family::Family;
+use crate::figures::has_total;
+use rx_books_text::{TotalLine, put_total};
 use rx_fields::{Id, Memory, Period};
 use rx_ledger::{Member, Row};
 use std::alloc::Global;
@@ -102,5 +108,35 @@ impl FamilyBooks {
             list.extend_from_slice(family.members())?;
         }
         Ok(list)
+    }
+
+    /// Puts the lines of all members.
+    pub(crate) fn put_members(&self, text: &mut Vec<u8>) -> Result<(), Memory>
+        ensures { OnOk result (text.new.items ≡ text.old.items ++ members_text self.now) }
+    {
+        for family in self.map.values() {
+            family.put_members(text)?;
+        }
+        Ok(())
+    }
+
+    /// Puts the total line of each family.
+    pub(crate) fn put_totals(&self, text: &mut Vec<u8>) -> Result<(), Memory>
+        ensures { OnOk result (text.new.items ≡ text.old.items ++ totals_text self.now) }
+    {
+        for family in self.map.values() {
+            put_total(text, &family.total_line())?;
+        }
+        Ok(())
+    }
+
+    /// Whether each family has its total line among these, which ascend.
+    pub(crate) fn all_have_totals(&self, totals: &[TotalLine]) -> bool
+        requires { IsAscending id_cmp total_family totals.now }
+        ensures { result ≡ list_all (λ b. has_total totals.now b.family) self.now }
+    {
+        self.map
+            .values()
+            .all(|family| has_total(totals, &family.family()))
     }
 }

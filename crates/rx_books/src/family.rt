@@ -1,12 +1,15 @@
-ghost use Rattle.std.specs.Prelude.{◌≡◌, ◌↔◌, IfOk, IsTrue, OnErr, OnOk, true, false};
+ghost use Rattle.std.specs.Prelude.{◌≡◌, ◌↔◌, ◌++◌, IfOk, IsTrue, OnErr, OnOk, true, false};
 ghost use Rattle.rx_order.specs.Ascending.{is_past};
 ghost use Rattle.rx_ledger.specs.Ledger.{is_listed, is_taken, row_under};
 ghost use Rattle.rx_ledger.specs.Members.{member_cmp, member_key};
 ghost use Rattle.rx_ledger.specs.Rows.{member_of_row};
 ghost use Rattle.rx_ledger.specs.Sums.{family_deductible_in, out_of_pocket_in};
+ghost use Rattle.rx_books.specs.BooksText.{lines_text, member_lines_of, total_line_of};
 ghost use Rattle.rx_books.specs.FamilyBook.{book_with_member, book_with_row, book_without_row, deductible_at, empty_book, own_ledger};
 
 use crate::totals::{counted_in, place_of_member};
+use crate::writing::put_members;
+use rx_books_text::TotalLine;
 use rx_fields::{Id, Key, Memory, Period, Person};
 use rx_ledger::{Member, MemberKey, Row};
 use rx_order::{Ascending, InsertError};
@@ -163,6 +166,24 @@ impl Family {
         self.out_of_pocket -= counted.out_of_pocket;
         self.deductible -= counted.deductible;
         Some(row)
+    }
+
+    /// Puts the members' lines, each with the member's deductible.
+    pub(crate) fn put_members(&self, text: &mut Vec<u8>) -> Result<(), Memory>
+        ensures { OnOk result (text.new.items ≡ text.old.items ++ lines_text (member_lines_of self.now)) }
+    {
+        put_members(text, self.members.as_slice(), &self.deductibles)
+    }
+
+    /// The family's total line.
+    pub(crate) fn total_line(&self) -> TotalLine
+        ensures { result ≡ total_line_of self.now }
+    {
+        TotalLine {
+            family: self.family,
+            out_of_pocket: self.out_of_pocket,
+            deductible: Some(self.deductible),
+        }
     }
 
     /// An equal book.

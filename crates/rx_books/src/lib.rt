@@ -1,23 +1,27 @@
 //! Books that keep their totals: a ledger split by family, in which each deductible and each out of pocket is stored
 //! beside the rows that it is the sum of (docs/PRODUCT.md, "Accumulators").
 //!
-//! In comes a plain `Ledger`, with the period that the totals are of; out come the row under a fill key and the totals
-//! of a member and a family, by look-ups that walk no rows, and the plain ledger again.
+//! In comes the text of a books file, or a plain `Ledger` with the period that the totals are of; out come the row
+//! under a fill key and the totals of a member and a family, by look-ups that walk no rows, the plain ledger again, and
+//! the one text of version 3.
 //!
 //! ```rust
-//! let books = Books::from_ledger(alloc, &ledger, period)?;
+//! let books = Books::read(alloc, bytes)?;
 //! let used = books.deductible(&family, &person);
 //! ```
 //!
-//! What a total is stands in `rx_ledger`'s `specs/Sums.antt`. A `Family` takes rows in and out and keeps its totals.
+//! What a total is stands in `rx_ledger`'s `specs/Sums.antt`, what a line is in `rx_books_text`'s `specs/`. A `Family`
+//! takes rows in and out and keeps its totals; which claims those are is left to the crates above.
 #![tactic(auto)]
 
 mod books;
 mod families;
 mod family;
+mod figures;
 mod plain;
 mod rows;
 mod totals;
+mod writing;
 
 pub use books::Books;
 pub use family::Family;

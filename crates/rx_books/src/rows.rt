@@ -1,9 +1,11 @@
-ghost use Rattle.std.specs.Prelude.{◌≡◌, ◌↔◌, IfOk, IsTrue};
+ghost use Rattle.std.specs.Prelude.{◌≡◌, ◌↔◌, ◌++◌, IfOk, IsTrue, OnOk};
+ghost use Rattle.rx_books.specs.BooksText.{claims_text};
 ghost use Rattle.std.specs.Option.{option_copied};
 ghost use Rattle.rx_fields.specs.Order.{key_cmp};
 ghost use Rattle.rx_order.specs.Ascending.{IsAscending, item_at};
 ghost use Rattle.rx_ledger.specs.Rows.{row_key};
 
+use rx_books_text::put_claim;
 use rx_fields::{Key, Memory};
 use rx_ledger::Row;
 use std::alloc::Global;
@@ -65,5 +67,15 @@ impl RowBooks {
             list.push(*row)?;
         }
         Ok(list)
+    }
+
+    /// Puts the lines of all rows.
+    pub(crate) fn put_claims(&self, text: &mut Vec<u8>) -> Result<(), Memory>
+        ensures { OnOk result (text.new.items ≡ text.old.items ++ claims_text self.now) }
+    {
+        for row in self.map.values() {
+            put_claim(text, row)?;
+        }
+        Ok(())
     }
 }

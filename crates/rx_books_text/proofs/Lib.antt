@@ -10,3 +10,4 @@ pub mod LineLaws
 pub mod HeadLaws
 pub mod TextLaws
 pub mod Fronts
+pub mod Printing

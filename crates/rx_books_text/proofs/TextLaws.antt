@@ -56,7 +56,7 @@ find_feed (b ∷ bs) = elim (cases_Bool (eqb b 10)) [
   ]
 ]
 
-ended_on : (text rest : List ℕ) → ended text ++ rest ≡ text ++ 10 ∷ rest
+pub ended_on : (text rest : List ℕ) → ended text ++ rest ≡ text ++ 10 ∷ rest
 ended_on text rest = append_assoc text (10 ∷ []) rest
 
 abbrev first_of : List (List ℕ) → List ℕ

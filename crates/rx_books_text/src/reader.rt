@@ -1,9 +1,9 @@
-ghost use Rattle.std.specs.Prelude.{◌≡◌, IfOk, IfErr};
+ghost use Rattle.std.specs.Prelude.{◌≡◌, IfOk, IfErr, Ok};
 ghost use Rattle.std.specs.List.{list_any};
 ghost use Rattle.rx_order.specs.Ascending.{IsAscending, is_past};
 ghost use Rattle.rx_ledger.specs.Members.{member_cmp, member_key, of_family};
 ghost use Rattle.rx_books_text.specs.Fault.{Gives, Takes, UnlessMemory, refused};
-ghost use Rattle.rx_books_text.specs.Printed.{IsPrinted, line_feeds, printed_text};
+ghost use Rattle.rx_books_text.specs.Printed.{IsPrinted, PrintedParts, line_feeds, printed_text};
 ghost use Rattle.rx_books_text.specs.TextFault.{HasFault, is_next};
 ghost use Rattle.rx_books_text.specs.TextReading.{line_added, line_read, lines, lines_read, printed_of};
 ghost use Rattle.rx_books_text.specs.declared.line.Line.TheVariants as kinds;
@@ -26,6 +26,8 @@ const MOST_LINE_FEEDS: usize = 1_000_000;
 /// Totals is never answered.
 pub fn read_printed(alloc: Global, text: &[u8]) -> Result<Printed, BooksFault>
     ensures ok { IfOk result (λ p. (text.now ≡ printed_text p) × IsPrinted p) }
+    // What can be printed is read again, unless memory was wanting.
+    ensures reads { (p : PrintedParts) → IsPrinted p → text.now ≡ printed_text p → Gives result (Ok p) }
     // A fault is that of what follows the longest front of good lines.
     ensures refuses { IfErr result (λ f. UnlessMemory f (HasFault text.now f)) }
     // The same, computed.

@@ -1,4 +1,5 @@
 use crate::{Books, Family};
+use rx_books_text::BooksFault;
 use rx_claim::Amounts;
 use rx_fields::{
     Authorization, Days, Id, Key, Period, Person, Product, Provider, Quantity, Reference, date_read,
@@ -61,20 +62,38 @@ fn after_one_billing(alloc: Global) -> Result<Ledger, Fail> {
     Ok(ledger)
 }
 
+fn after(alloc: Global, year: Period) -> Result<Books, Fail> {
+    Ok(Books::from_ledger(alloc, &after_one_billing(alloc)?, year)?)
+}
+
+// The person's deductible, and the family's out of pocket and deductible.
+fn totals(books: &Books, family: &[u8], person: &[u8]) -> Result<[Option<u128>; 3], Fail> {
+    let family = Id::new(family, 20)?;
+    Ok([
+        books.deductible(&family, &Person::new(person)?),
+        books.out_of_pocket(&family),
+        books.family_deductible(&family),
+    ])
+}
+
 #[test]
 fn one_billing_is_counted(rt: HostRuntime) -> Result<(), Fail> {
-    let books = Books::from_ledger(rt.alloc(), &after_one_billing(rt.alloc())?, this_year()?)?;
-    let (family, other) = (Id::new(b"C100", 20)?, Id::new(b"C200", 20)?);
+    let books = after(rt.alloc(), this_year()?)?;
     assert_eq!(rt;
-        books.deductible(&family, &Person::new(b"01")?),
-        Some(10_000)
+        totals(&books, b"C100", b"01")?,
+        [Some(10_000), Some(13_000), Some(10_000)]
     );
-    assert_eq!(rt; books.deductible(&family, &Person::new(b"02")?), Some(0));
-    assert_eq!(rt; books.deductible(&family, &Person::new(b"04")?), None);
-    assert_eq!(rt; books.out_of_pocket(&family), Some(13_000));
-    assert_eq!(rt; books.family_deductible(&family), Some(10_000));
-    assert_eq!(rt; books.out_of_pocket(&other), Some(0));
-    assert_eq!(rt; books.family_deductible(&Id::new(b"C300", 20)?), None);
+    assert_eq!(rt;
+        totals(&books, b"C100", b"04")?,
+        [None, Some(13_000), Some(10_000)]
+    );
+    assert_eq!(rt; totals(&books, b"C300", b"01")?, [None; 3]);
+    Ok(())
+}
+
+#[test]
+fn a_row_is_found(rt: HostRuntime) -> Result<(), Fail> {
+    let books = after(rt.alloc(), this_year()?)?;
     assert_eq!(rt;
         books.row(&key(b"20260228")?).copied(),
         Some(billed(b"20260228")?)
@@ -83,53 +102,88 @@ fn one_billing_is_counted(rt: HostRuntime) -> Result<(), Fail> {
     Ok(())
 }
 
-// Case next-year: the rows stay, and all totals are 0.
+// Case next-year: all totals are 0.
 #[test]
 fn next_year_counts_nothing(rt: HostRuntime) -> Result<(), Fail> {
-    let ledger = after_one_billing(rt.alloc())?;
-    let books = Books::from_ledger(rt.alloc(), &ledger, this_year()?)?;
+    let books = after(rt.alloc(), this_year()?)?;
     let next = books.copy(rt.alloc(), period(b"20270101", b"20271231")?)?;
-    let family = Id::new(b"C100", 20)?;
-    assert_eq!(rt; next.period(), period(b"20270101", b"20271231")?);
-    assert_eq!(rt; next.deductible(&family, &Person::new(b"01")?), Some(0));
-    assert_eq!(rt; next.out_of_pocket(&family), Some(0));
-    assert_eq!(rt; next.family_deductible(&family), Some(0));
+    assert_eq!(rt; totals(&next, b"C100", b"01")?, [Some(0); 3]);
+    assert!(rt; books.period() != next.period());
     assert!(rt; books != next);
-    assert!(rt; books == next.copy(rt.alloc(), this_year()?)?);
     Ok(())
 }
 
 #[test]
 fn the_ledger_comes_back(rt: HostRuntime) -> Result<(), Fail> {
     let ledger = after_one_billing(rt.alloc())?;
-    let books = Books::from_ledger(rt.alloc(), &ledger, this_year()?)?;
-    let back = books.ledger(rt.alloc())?;
+    let back = after(rt.alloc(), this_year()?)?.ledger(rt.alloc())?;
     assert_eq!(rt; back.members(), ledger.members());
     assert_eq!(rt; back.rows(), ledger.rows());
     Ok(())
 }
 
-// Case reversal-of-last-years-claim: the totals are 0 before and after; and a reversal takes back what was counted.
+// The end books of case one-billing.
 #[test]
-fn a_reversal_takes_back_what_was_counted(rt: HostRuntime) -> Result<(), Fail> {
+fn the_text_is_that_of_one_billing(rt: HostRuntime) -> Result<(), Fail> {
+    let text = after(rt.alloc(), this_year()?)?.write(rt.alloc())?;
+    assert_eq!(rt; text.len(), 274);
+    assert!(rt;
+        text.starts_with(b"BOOKS|3|20260101|20261231\nM|C100|01|20260101|20261231|10000\n")
+    );
+    assert!(rt; text.ends_with(b"|10000|3000|0|000004200000011\nT|C100|13000|10000\nT|C200|0|0\n"));
+    Ok(())
+}
+
+#[test]
+fn what_is_written_is_read(rt: HostRuntime) -> Result<(), Fail> {
+    let books = after(rt.alloc(), this_year()?)?;
+    let text = books.write(rt.alloc())?;
+    assert!(rt; Books::read(rt.alloc(), &text)? == books);
+    Ok(())
+}
+
+// Case damaged-books, with one member: a total that differs, a deductible that differs, no total line.
+#[test]
+fn a_figure_that_is_no_sum_is_told(rt: HostRuntime) -> Result<(), Fail> {
+    let total = b"BOOKS|1|20260101|20261231\nM|C100|01|20260101|20261231|0\nT|C100|5\n";
+    assert_eq!(rt;
+        Books::read(rt.alloc(), total).err(),
+        Some(BooksFault::Totals(3))
+    );
+    let deductible = b"BOOKS|1|20260101|20261231\nM|C100|01|20260101|20261231|1\nT|C100|0\n";
+    assert_eq!(rt;
+        Books::read(rt.alloc(), deductible).err(),
+        Some(BooksFault::Totals(2))
+    );
+    let missing = b"BOOKS|1|20260101|20261231\nM|C100|01|20260101|20261231|0\n";
+    assert_eq!(rt;
+        Books::read(rt.alloc(), missing).err(),
+        Some(BooksFault::Totals(3))
+    );
+    Ok(())
+}
+
+// Case reversal-of-last-years-claim: the totals are 0 before and after.
+#[test]
+fn last_years_claim_counts_nothing(rt: HostRuntime) -> Result<(), Fail> {
     let mut family = Family::new(rt.alloc(), Id::new(b"C100", 20)?, this_year()?);
     family.add_member(member(b"C100", b"01")?)?;
     family.add(billed(b"20251230")?)?;
     assert_eq!(rt; family.out_of_pocket(), 0);
+    assert!(rt; family.remove(&key(b"20251230")?).is_some());
+    assert_eq!(rt; family.out_of_pocket(), 0);
+    Ok(())
+}
+
+// A claim of the period's last day.
+#[test]
+fn a_reversal_takes_back_what_was_counted(rt: HostRuntime) -> Result<(), Fail> {
+    let mut family = Family::new(rt.alloc(), Id::new(b"C100", 20)?, this_year()?);
+    family.add_member(member(b"C100", b"01")?)?;
     family.add(billed(b"20261231")?)?;
     assert_eq!(rt; family.deductible(&Person::new(b"01")?), Some(10_000));
-    let copy = family.copy(rt.alloc())?;
-    assert!(rt; copy == family);
-    assert_eq!(rt;
-        family.remove(&key(b"20251230")?),
-        Some(billed(b"20251230")?)
-    );
-    assert_eq!(rt; family.out_of_pocket(), 13_000);
-    assert_eq!(rt;
-        family.remove(&key(b"20261231")?),
-        Some(billed(b"20261231")?)
-    );
+    assert!(rt; family.copy(rt.alloc())? == family);
+    assert!(rt; family.remove(&key(b"20261231")?).is_some());
     assert_eq!(rt; family.family_deductible(), 0);
-    assert!(rt; copy != family);
     Ok(())
 }
