@@ -1,14 +1,14 @@
 -- Numbers of at most twenty digits.
-use Rattle.std.proofs.Common.{◌≡◌, ℕ, ◌+◌, ◌-◌, ◌*◌, ◌<◌, ◌≤◌, Bool, true, false, cond, eqb, ltb, List, [], ◌∷◌, ◌++◌, length, get_or, take, drop, Option, Some, None, refl, sym, ap, ◌∙◌, arith, inl, inr, length-take}
+use Rattle.std.proofs.Common.{◌≡◌, ℕ, ◌+◌, true, false, ltb, List, [], ◌∷◌, ◌++◌, length, get_or, take, drop, Some, None, refl, sym, ap, ◌∙◌, arith, inl, inr, length-take}
 use Rattle.std.specs.Result.{result_ok}
 use Rattle.std.proofs.lemmas.Bool.{cases_Bool}
 use Rattle.std.proofs.lemmas.Bool.Decides.{nat_tests}
 use Rattle.std.proofs.lemmas.Grind.{common_steps}
 use Rattle.std.proofs.lemmas.List.Folds.{list_all-append}
-use Rattle.std.proofs.lemmas.List.{take_more, take_at, drop_at}
-use Rattle.rx_fields.specs.Digits.{is_digit, all_digits, number, number_of}
+use Rattle.std.proofs.lemmas.List.{take_more, drop_at}
+use Rattle.rx_fields.specs.Digits.{is_digit, all_digits, number_of}
 use Rattle.rx_fields.proofs.DigitLaws.{number_push}
-use Rattle.rx_books_text.specs.LineReading.{◌>>=◌, begins_zero, joined_number, number_in}
+use Rattle.rx_books_text.specs.LineReading.{begins_zero, joined_number, number_in}
 
 -- a text that isn't twenty bytes long has at most nineteen digits
 pub narrower : (bs : List ℕ) → (length bs ≡ 20 → ⊥) → number_in 19 bs ≡ number_in 20 bs
