@@ -130,3 +130,25 @@ fn writes_a_claim(rt: HostRuntime) -> Result<(), Fail> {
     assert_eq!(rt; claim.len(), 94);
     Ok(())
 }
+
+#[test]
+fn shows_what_is_printed(rt: HostRuntime) -> Result<(), Fail> {
+    let text = text(
+        rt.alloc(),
+        &[
+            b"BOOKS|3|20260101|20261231\n",
+            b"M|C100|01|20260101|20261231|10000\n",
+            b"T|C100|13000|10000\n",
+        ],
+    )?;
+    let printed = read_printed(rt.alloc(), text.as_slice())
+        .ok()
+        .ok_or("books")?;
+    assert_eq!(rt; printed.head().version, Version::Three);
+    assert_eq!(rt; printed.deductibles(), [10_000].as_slice());
+    assert_eq!(rt; printed.totals().len(), 1);
+    assert_eq!(rt; printed.totals()[0].out_of_pocket, 13_000);
+    assert_eq!(rt; printed.totals()[0].deductible, Some(10_000));
+    assert_eq!(rt; printed.into_ledger().members().len(), 1);
+    Ok(())
+}
