@@ -9,6 +9,12 @@ use crate::reader::{ETX, STX};
 use rx_fields::{Memory, date_write, digits_write};
 use std::alloc::{AllocError, Global};
 
+// The bytes of the header and of the trailer.
+const ENDS: usize = 75 + 56;
+
+// The bytes of a detail beside its text: STX, `G1`, the reference and ETX.
+const FRONT: usize = 14;
+
 /// The one text of a batch file: nothing between records, the number of details plus two as the count, a blank
 /// message (docs/FORMATS.md, "Batch file").
 pub fn write_batch(alloc: Global, head: &Head, details: &[Detail]) -> Result<Vec<u8>, Memory>
@@ -17,13 +23,23 @@ pub fn write_batch(alloc: Global, head: &Head, details: &[Detail]) -> Result<Vec
     // What is written is read again.
     ensures again { IsPlain head.now details.now → IfOk result (λ text. IsFile text.items head.now details.now) }
 {
-    let mut text = Vec::new(alloc);
+    let mut text = Vec::with_capacity(alloc, file_len(details))?;
     put_header(&mut text, head)?;
     for detail in details {
         put_detail(&mut text, detail)?;
     }
     put_trailer(&mut text, head.lot.number(), details.len() as u64 + 2)?;
     Ok(text)
+}
+
+// How many bytes the file of these details has, so that its text grows once.
+fn file_len(details: &[Detail]) -> usize {
+    let mut len = ENDS;
+    for detail in details {
+        let record = detail.text.bytes().len().saturating_add(FRONT);
+        len = len.saturating_add(record);
+    }
+    len
 }
 
 #[tactic(auto, using(std::proofs::Common::append_assoc))]
