@@ -1,0 +1,43 @@
+-- The numbers and lines of the faults, and what a call answers that may want memory.
+use Rattle.std.specs.Prelude.{◌≡◌, ℕ, Option, Some, None, Result, Ok, Err, MatchResult}
+use Rattle.rx_books_text.specs.declared.fault.BooksFault.{BooksFault}
+use Rattle.rx_books_text.specs.declared.fault.BooksFault.TheVariants as fault
+
+-- the number of a fault
+abbrev pub code_of : BooksFault → ℕ
+code_of fault.Head = 1
+code_of (fault.Line n) = 2
+code_of (fault.Order n) = 3
+code_of (fault.UnknownMember n) = 4
+code_of (fault.Totals n) = 5
+code_of fault.TooMuch = 6
+code_of fault.Memory = 7
+
+-- the line of a fault that has one
+abbrev pub line_of_fault : BooksFault → Option ℕ
+line_of_fault fault.Head = None
+line_of_fault (fault.Line n) = Some n
+line_of_fault (fault.Order n) = Some n
+line_of_fault (fault.UnknownMember n) = Some n
+line_of_fault (fault.Totals n) = Some n
+line_of_fault fault.TooMuch = None
+line_of_fault fault.Memory = None
+
+-- the fact, unless the fault is want of memory
+abbrev pub UnlessMemory : BooksFault → Type 0 → Type 0
+UnlessMemory fault.Memory P = Unit {0}
+UnlessMemory other P = P
+
+-- what a call answered is what the definition has, unless memory was wanting
+abbrev pub Gives : {X : Type 0} → Result X BooksFault → Result X BooksFault → Type 0
+Gives result meant = MatchResult result (λ x. meant ≡ Ok x) (λ f. UnlessMemory f (meant ≡ Err f))
+
+-- the value that a call put in place is the one that the definition has, unless memory was wanting
+abbrev pub Takes : {X : Type 0} → Result Unit BooksFault → X → Result X BooksFault → Type 0
+Takes result new meant = MatchResult result (λ _. meant ≡ Ok new) (λ f. UnlessMemory f (meant ≡ Err f))
+
+-- the first step, and where it has no fault the next
+infixl 10 ◌>>=◌
+abbrev pub ◌>>=◌ : {A B : Type 0} → Result A BooksFault → (A → Result B BooksFault) → Result B BooksFault
+(Ok x) >>= f = f x
+(Err e) >>= f = Err e

@@ -1,0 +1,7 @@
+pub mod Fault
+pub mod LineFits
+pub mod LineReading
+pub mod LineText
+pub mod Printed
+pub mod TextFault
+pub mod TextReading

@@ -1,0 +1,142 @@
+ghost use Rattle.std.specs.Prelude.{◌≡◌, IfOk, IfErr};
+ghost use Rattle.std.specs.List.{list_any};
+ghost use Rattle.rx_order.specs.Ascending.{IsAscending, is_past};
+ghost use Rattle.rx_ledger.specs.Members.{member_cmp, member_key, of_family};
+ghost use Rattle.rx_books_text.specs.Fault.{Gives, Takes, UnlessMemory};
+ghost use Rattle.rx_books_text.specs.Printed.{IsPrinted, line_feeds, printed_text};
+ghost use Rattle.rx_books_text.specs.TextFault.{HasFault};
+ghost use Rattle.rx_books_text.specs.TextReading.{line_added, line_read, printed_of};
+ghost use Rattle.rx_books_text.specs.declared.line.Line.TheVariants as lines;
+
+use crate::fault::BooksFault;
+use crate::head::read_head;
+use crate::line::{Line, MemberLine, TotalLine, read_line};
+use crate::printed::Printed;
+use memchr::{memchr, memchr_iter};
+use rx_fields::Id;
+use rx_ledger::{AddError, Member, Row};
+use rx_order::Keyed;
+use std::alloc::Global;
+
+const LINE_FEED: u8 = b'\n';
+
+const MOST_LINE_FEEDS: usize = 1_000_000;
+
+/// What a books file prints, or its first fault (docs/FORMATS.md, "Books file"). No figure is compared with a sum, so
+/// Totals is never answered.
+pub fn read_printed(alloc: Global, text: &[u8]) -> Result<Printed, BooksFault>
+    ensures ok { IfOk result (λ p. (text.now ≡ printed_text p) × IsPrinted p) }
+    ensures refuses { IfErr result (λ f. UnlessMemory f (HasFault text.now f)) }
+    // The same, computed.
+    ensures value { Gives result (printed_of text.now) }
+{
+    if line_feeds(text) > MOST_LINE_FEEDS {
+        return Err(BooksFault::TooMuch);
+    }
+    let Some(end) = memchr(LINE_FEED, text) else {
+        return Err(BooksFault::Head);
+    };
+    let Some(head) = read_head(&text[..end]) else {
+        return Err(BooksFault::Head);
+    };
+    let mut printed = Printed::new(alloc, head);
+    let mut rest = &text[end + 1..];
+    let mut number = 2;
+    while let Some(end) = memchr(LINE_FEED, rest) {
+        printed.read_line(number, &rest[..end])?;
+        rest = &rest[end + 1..];
+        number += 1;
+    }
+    if rest.is_empty() {
+        Ok(printed)
+    } else {
+        Err(BooksFault::Line(number))
+    }
+}
+
+// How many line feeds there are.
+fn line_feeds(text: &[u8]) -> usize
+    ensures { result ≡ line_feeds text.now }
+{
+    memchr_iter(LINE_FEED, text).count()
+}
+
+impl Printed {
+    // Takes the line of this number.
+    #[tactic(auto, unfolding(crate::specs::TextReading::line_read))]
+    fn read_line(&mut self, number: u64, text: &[u8]) -> Result<(), BooksFault>
+        ensures { Takes result self.new (line_read number self.old text.now) }
+    {
+        match read_line(self.head.version, text) {
+            Some(Line::Member(line)) => self.add_member(number, line),
+            Some(Line::Claim(row)) => self.add_claim(number, row),
+            Some(Line::Total(line)) => self.add_total(number, line),
+            None => Err(BooksFault::Line(number)),
+        }
+    }
+
+    fn add_member(&mut self, number: u64, line: MemberLine) -> Result<(), BooksFault>
+        ensures { Takes result self.new (line_added number self.old (lines.Member line)) }
+    {
+        let is_next = self.ledger.rows().is_empty()
+            && self.totals.is_empty()
+            && is_past(self.ledger.members(), &line.member.key);
+        if !is_next {
+            return Err(BooksFault::Order(number));
+        }
+        match self.ledger.add_member(line.member) {
+            Ok(()) => Ok(self.deductibles.push(line.deductible)?),
+            Err(AddError::There) => Err(BooksFault::Order(number)),
+            Err(_) => Err(BooksFault::Memory),
+        }
+    }
+
+    fn add_claim(&mut self, number: u64, row: Row) -> Result<(), BooksFault>
+        ensures { Takes result self.new (line_added number self.old (lines.Claim row)) }
+    {
+        if !self.totals.is_empty() || !is_past(self.ledger.rows(), &row.key) {
+            return Err(BooksFault::Order(number));
+        }
+        match self.ledger.add_row(row) {
+            Ok(()) => Ok(()),
+            Err(AddError::There) => Err(BooksFault::Order(number)),
+            Err(AddError::Unknown) => Err(BooksFault::UnknownMember(number)),
+            Err(AddError::Memory) => Err(BooksFault::Memory),
+        }
+    }
+
+    fn add_total(&mut self, number: u64, line: TotalLine) -> Result<(), BooksFault>
+        ensures { Takes result self.new (line_added number self.old (lines.Total line)) }
+    {
+        if !self.totals.is_past(&line.family) {
+            return Err(BooksFault::Order(number));
+        }
+        if !has_member(self.ledger.members(), &line.family) {
+            return Err(BooksFault::UnknownMember(number));
+        }
+        Ok(self.totals.push(line)?)
+    }
+}
+
+// Whether each item's key is less than this one, of which the last item alone tells.
+fn is_past<T: Keyed>(items: &[T], key: &T::Key) -> bool
+    requires { IsAscending T.Key.cmp T.key_of items.now }
+    ensures { result ≡ is_past T.Key.cmp T.key_of items.now key.now }
+{
+    match items.last() {
+        Some(last) => last.key().cmp(key).is_lt(),
+        None => true,
+    }
+}
+
+// Whether one of these members is of the family.
+fn has_member(members: &[Member], family: &Id) -> bool
+    requires { IsAscending member_cmp member_key members.now }
+    ensures { result ≡ list_any (of_family family.now) members.now }
+{
+    let at = members.partition_point(|member| member.key.family < *family);
+    match members.get(at) {
+        Some(member) => member.key.family == *family,
+        None => false,
+    }
+}
