@@ -1,0 +1,2 @@
+pub mod FamilyBook
+pub mod LedgerBooks
