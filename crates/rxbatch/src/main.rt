@@ -7,7 +7,8 @@
 
 mod sample;
 
-use sample::{SampleFault, sample_line};
+use rx_fields::Memory;
+use sample::sample_line;
 use std::io::Write;
 use std::process::ExitCode;
 use std::{env, io};
@@ -23,8 +24,8 @@ enum Failure {
     Output,
 }
 
-impl From<SampleFault> for Failure {
-    fn from(_fault: SampleFault) -> Failure {
+impl From<Memory> for Failure {
+    fn from(_refused: Memory) -> Failure {
         Failure::Memory
     }
 }
