@@ -1,0 +1,6 @@
+pub mod Added
+pub mod Blanks
+pub mod Documents
+pub mod DrugLists
+pub mod Products
+pub mod Shares
