@@ -1,5 +1,5 @@
 -- What the text of a line is read as (docs/FORMATS.md, "Books file").
-use Rattle.std.specs.Prelude.{ℕ, Bool, true, false, not, ◌&&◌, ◌||◌, nat_eq, ◌==◌, if◌then◌else◌, List, [], ◌∷◌, codes, length, Option, Some, None}
+use Rattle.std.specs.Prelude.{ℕ, ◌+◌, ◌*◌, Bool, true, false, not, ◌&&◌, ◌||◌, nat_eq, ◌==◌, if◌then◌else◌, List, [], ◌∷◌, codes, length, Option, Some, None}
 use Rattle.std.specs.Cmp.Lexicographic.{pointwise}
 use Rattle.std.specs.List.{starts_with}
 use Rattle.std.specs.Option.{option_map}
@@ -57,6 +57,11 @@ begins_zero (b ∷ bs) = b == 48
 -- a number of at most max digits, without leading zeros
 unfoldable pub number_in : ℕ → List ℕ → Option ℕ
 number_in max bs = if begins_zero bs && not (length bs == 1) then None else result_ok (number_of max bs)
+
+-- the number of at most nineteen digits and one more
+abbrev pub joined_number : List ℕ → List ℕ → Option ℕ
+joined_number front last =
+    result_ok (number_of 19 front) >>= λ a. result_ok (number_of 1 last) >>= λ b. Some (a * 10 + b)
 
 -- one from low to high
 unfoldable pub count_in : ℕ → ℕ → List ℕ → Option ℕ

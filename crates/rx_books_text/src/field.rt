@@ -1,5 +1,5 @@
-ghost use Rattle.std.specs.Prelude.{◌≡◌, ◌≤◌, ◌<◌, ◌^◌, IfSome};
-ghost use Rattle.rx_books_text.specs.LineReading.{authorization_in, begins_zero, count_in, day_in, id_in, number_in, period_in};
+ghost use Rattle.std.specs.Prelude.{◌≡◌, ◌≤◌};
+ghost use Rattle.rx_books_text.specs.LineReading.{authorization_in, begins_zero, count_in, day_in, id_in, joined_number, number_in, period_in};
 
 use rx_fields::{Authorization, Bounded, Day, Id, Period, ShortId, date_read, number_read};
 
@@ -54,16 +54,25 @@ pub(crate) fn number_in(field: &[u8]) -> Option<u64>
 
 /// The number of at most 20 digits that a field is, without leading zeros.
 pub(crate) fn wide_number_in(field: &[u8]) -> Option<u128>
-    ensures value { result ≡ number_in 20 field.now }
+    ensures { result ≡ number_in 20 field.now }
 {
     if field.len() != 20 {
-        return number_in(field).map(u128::from);
+        let number = number_in(field)?;
+        return Some(u128::from(number));
     }
     if begins_zero(field) {
         return None;
     }
-    let front = number_read(&field[..19], 19).ok()?;
-    let last = number_read(&field[19..], 1).ok()?;
+    let (front, last) = field.split_at(19);
+    joined_number(front, last)
+}
+
+// The number of nineteen digits and one more.
+fn joined_number(front: &[u8], last: &[u8]) -> Option<u128>
+    ensures { result ≡ joined_number front.now last.now }
+{
+    let front = number_read(front, 19).ok()?;
+    let last = number_read(last, 1).ok()?;
     Some(u128::from(front) * 10 + u128::from(last))
 }
 

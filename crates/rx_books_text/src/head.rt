@@ -18,11 +18,18 @@ pub struct Head {
 }
 
 /// The head that the text of a line is, without its line feed (docs/FORMATS.md, "Books file").
-#[tactic(auto, unfolding(crate::specs::LineReading::head_of))]
 pub fn read_head(text: &[u8]) -> Option<Head>
     ensures value { result ≡ head_of text.now }
     ensures found { IfSome result (λ head. IsPeriod head.period × (text.now ≡ head_text head)) }
     ensures only { (head : Head) → IsPeriod head.period → text.now ≡ head_text head → result ≡ Some head }
+{
+    head_of(text)
+}
+
+// The head that a text is read as.
+#[tactic(auto, unfolding(crate::specs::LineReading::head_of))]
+fn head_of(text: &[u8]) -> Option<Head>
+    ensures { result ≡ head_of text.now }
 {
     if !text.starts_with(b"BOOKS|") {
         return None;

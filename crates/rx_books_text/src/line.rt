@@ -1,4 +1,5 @@
 ghost use Rattle.std.specs.Prelude.{◌≡◌, Some, IfSome};
+ghost use Rattle.rx_books_text.specs.declared.line.Line.{Line};
 ghost use Rattle.rx_books_text.specs.LineFits.{IsLine};
 ghost use Rattle.rx_books_text.specs.LineReading.{line_of};
 ghost use Rattle.rx_books_text.specs.LineText.{line_text};
@@ -42,11 +43,18 @@ pub enum Line {
 }
 
 /// The line that a text is in this version, without its line feed (docs/FORMATS.md, "Books file").
-#[tactic(auto, unfolding(crate::specs::LineReading::line_of))]
 pub fn read_line(version: Version, text: &[u8]) -> Option<Line>
     ensures value { result ≡ line_of version text.now }
     ensures found { IfSome result (λ line. IsLine version line × (text.now ≡ line_text version line)) }
     ensures only { (line : Line) → IsLine version line → text.now ≡ line_text version line → result ≡ Some line }
+{
+    line_of(version, text)
+}
+
+// The line that a text is read as.
+#[tactic(auto, unfolding(crate::specs::LineReading::line_of))]
+fn line_of(version: Version, text: &[u8]) -> Option<Line>
+    ensures { result ≡ line_of version text.now }
 {
     let [kind, b'|', fields @ ..] = text else {
         return None;

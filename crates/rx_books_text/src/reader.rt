@@ -4,7 +4,7 @@ ghost use Rattle.rx_order.specs.Ascending.{IsAscending, is_past};
 ghost use Rattle.rx_ledger.specs.Members.{member_cmp, member_key, of_family};
 ghost use Rattle.rx_books_text.specs.Fault.{Gives, Takes, UnlessMemory};
 ghost use Rattle.rx_books_text.specs.Printed.{IsPrinted, line_feeds, printed_text};
-ghost use Rattle.rx_books_text.specs.TextFault.{HasFault};
+ghost use Rattle.rx_books_text.specs.TextFault.{HasFault, is_next};
 ghost use Rattle.rx_books_text.specs.TextReading.{line_added, line_read, printed_of};
 ghost use Rattle.rx_books_text.specs.declared.line.Line.TheVariants as lines;
 
@@ -12,7 +12,7 @@ use crate::fault::BooksFault;
 use crate::head::read_head;
 use crate::line::{Line, MemberLine, TotalLine, read_line};
 use crate::printed::Printed;
-use memchr::{memchr, memchr_iter};
+use memchr::memchr;
 use rx_fields::Id;
 use rx_ledger::{AddError, Member, Row};
 use rx_order::Keyed;
@@ -58,7 +58,7 @@ pub fn read_printed(alloc: Global, text: &[u8]) -> Result<Printed, BooksFault>
 fn line_feeds(text: &[u8]) -> usize
     ensures { result ≡ line_feeds text.now }
 {
-    memchr_iter(LINE_FEED, text).count()
+    text.iter().filter(|b| **b == LINE_FEED).count()
 }
 
 impl Printed {
@@ -75,26 +75,40 @@ impl Printed {
         }
     }
 
+    // Whether a member line may follow.
+    fn member_is_next(&self, line: &MemberLine) -> bool
+        ensures { result ≡ is_next self.now (lines.Member line.now) }
+    {
+        self.ledger.rows().is_empty()
+            && self.totals.is_empty()
+            && is_past(self.ledger.members(), &line.member.key)
+    }
+
     fn add_member(&mut self, number: u64, line: MemberLine) -> Result<(), BooksFault>
         ensures { Takes result self.new (line_added number self.old (lines.Member line)) }
     {
-        let is_next = self.ledger.rows().is_empty()
-            && self.totals.is_empty()
-            && is_past(self.ledger.members(), &line.member.key);
-        if !is_next {
+        if !self.member_is_next(&line) {
             return Err(BooksFault::Order(number));
         }
         match self.ledger.add_member(line.member) {
             Ok(()) => Ok(self.deductibles.push(line.deductible)?),
             Err(AddError::There) => Err(BooksFault::Order(number)),
-            Err(_) => Err(BooksFault::Memory),
+            Err(AddError::Unknown) => Err(BooksFault::UnknownMember(number)),
+            Err(AddError::Memory) => Err(BooksFault::Memory),
         }
+    }
+
+    // Whether a claim line may follow.
+    fn claim_is_next(&self, row: &Row) -> bool
+        ensures { result ≡ is_next self.now (lines.Claim row.now) }
+    {
+        self.totals.is_empty() && is_past(self.ledger.rows(), &row.key)
     }
 
     fn add_claim(&mut self, number: u64, row: Row) -> Result<(), BooksFault>
         ensures { Takes result self.new (line_added number self.old (lines.Claim row)) }
     {
-        if !self.totals.is_empty() || !is_past(self.ledger.rows(), &row.key) {
+        if !self.claim_is_next(&row) {
             return Err(BooksFault::Order(number));
         }
         match self.ledger.add_row(row) {

@@ -9,7 +9,7 @@ ghost use Rattle.rx_books_text.specs.LineText.{barred, ended, head_text, joined,
 use crate::line::{MemberLine, TotalLine};
 use itoa::{Buffer, Integer};
 use rx_claim::Amounts;
-use rx_fields::{Days, Key, Memory, Period, Product, Quantity, date_write, digits_write};
+use rx_fields::{Authorization, Days, Key, Memory, Period, Product, Quantity, date_write, digits_write};
 use rx_ledger::{MemberKey, Row};
 use std::alloc::AllocError;
 
@@ -45,13 +45,9 @@ pub fn put_claim(text: &mut Vec<u8>, row: &Row) -> Result<(), Memory>
     ensures { OnOk result (text.new.items ≡ text.old.items ++ ended (line_text versions.Three (lines.Claim row.now))) }
 {
     text.extend_from_slice(b"C|")?;
-    put_key(text, &row.key)?;
-    put_member_key(text, &row.member())?;
-    put_dispensed(text, row.product, row.quantity, row.days)?;
+    put_fill(text, row)?;
     put_amounts(text, row.pricing.amounts())?;
-    let number: [u8; 15] = digits_write(row.number.get());
-    text.extend_from_slice(&number)?;
-    text.extend_from_slice(b"\n")?;
+    put_authorization(text, row.number)?;
     Ok(())
 }
 
@@ -96,6 +92,29 @@ fn put_text(text: &mut Vec<u8>, field: &[u8]) -> Result<(), AllocError>
 {
     text.extend_from_slice(field)?;
     text.extend_from_slice(b"|")
+}
+
+// The authorization number, and the line feed.
+#[tactic(auto, using(std::proofs::Common::append_assoc))]
+fn put_authorization(text: &mut Vec<u8>, number: Authorization) -> Result<(), AllocError>
+    ensures { OnOk result (text.new.items ≡ text.old.items ++ ended (digits_text 15 number)) }
+{
+    let digits: [u8; 15] = digits_write(number.get());
+    text.extend_from_slice(&digits)?;
+    text.extend_from_slice(b"\n")
+}
+
+// The fill key, the member and what was dispensed.
+#[tactic(auto, using(std::proofs::Common::append_assoc))]
+fn put_fill(text: &mut Vec<u8>, row: &Row) -> Result<(), AllocError>
+    ensures { OnOk result (text.new.items
+        ≡ text.old.items ++ barred (row.now.key.provider ∷ decimal row.now.key.reference ∷ date_text row.now.key.date
+        ∷ row.now.family ∷ row.now.person
+        ∷ digits_text 11 row.now.product ∷ decimal row.now.quantity ∷ decimal row.now.days ∷ [])) }
+{
+    put_key(text, &row.key)?;
+    put_member_key(text, &row.member())?;
+    put_dispensed(text, row.product, row.quantity, row.days)
 }
 
 // The two dates, with a bar between them.
