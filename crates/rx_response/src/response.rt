@@ -9,12 +9,9 @@ use rx_reply::encode;
 use std::alloc::Global;
 use std::thread::Threads;
 
-// The least number of replies that is worth a thread of its own.
-const LEAST: usize = 256;
-
 /// The text of the response file: the batch's header with sender and receiver exchanged and the run's stamp as date and
-/// time, and each detail's reference with the reply at its place (docs/FORMATS.md, "Response file"). Any number of
-/// processors gives the same bytes.
+/// time, and each detail's reference with the reply at its place (docs/FORMATS.md, "Response file"). The batch is within
+/// the limits of docs/PRODUCT.md. Any number of processors gives the same bytes. Err where memory was wanting.
 pub fn response_file<R: Threads + Sync>(
     rt: &R,
     alloc: Global,
@@ -57,7 +54,6 @@ fn answer_all<R: Threads + Sync>(
     details
         .par_iter()
         .zip(replies)
-        .with_min_len(LEAST)
         .map(
             move |p: (&Detail, &Reply)| -> Result<Detail, Memory>
                 ensures { IfOk result (λ d. d ≡ response_detail p.entry.0.now p.entry.1.now) }
