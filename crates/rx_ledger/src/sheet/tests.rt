@@ -82,8 +82,13 @@ fn a_refused_drug_leaves_the_sheet(rt: HostRuntime) -> Result<(), Fail> {
 #[test]
 fn the_first_figure_outside_its_range_is_told(rt: HostRuntime) -> Result<(), Fail> {
     let plain = figures()?;
-    let mut pcn = plain;
-    pcn.door.pcn = *b"RXDEMO\x1f   ";
+    let pcn = Figures {
+        door: Door {
+            bin: *b"900001",
+            pcn: *b"RXDEMO\x1f   ",
+        },
+        ..plain
+    };
     let days = Figures {
         max_days: 0,
         fee: 100_000_000,
