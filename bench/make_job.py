@@ -20,7 +20,7 @@ STAMP, CREATED, BATCH_NUMBER = "202607010600", "202606302130", 1000
 FIRST, LAST = datetime.date(2026, 1, 1), datetime.date(2026, 12, 31)
 BATCH_DAY = datetime.date(2026, 6, 30)
 FEE, MEMBER_DEDUCTIBLE, FAMILY_DEDUCTIBLE, FAMILY_MAXIMUM = 175, 25_000, 60_000, 300_000
-COPAYS = {"generic": 1000, "brand": 4000}
+TIERS = {"generic": "1000", "brand": "4000", "specialty": "{ percent = 20 }"}
 
 
 def day_text(day):
@@ -38,7 +38,7 @@ class Job:
 
     def __init__(self, options):
         self.options, self.rng = options, random.Random(options.seed)
-        self.drugs = [(f"7{place:010d}", self.rng.choice(list(COPAYS)), self.rng.randrange(200, 200_000))
+        self.drugs = [(f"7{place:010d}", self.rng.choice(list(TIERS)), self.rng.randrange(200, 200_000))
                       for place in range(1, options.drugs + 1)]
         self.families = [f"F{place:07d}" for place in range(1, options.families + 1)]
         self.providers = [f"8{place:09d}" for place in range(1, options.providers + 1)]
@@ -65,7 +65,7 @@ def sheet_text(job):
              f'period_last = "{day_text(LAST)}"', f"member_deductible = {MEMBER_DEDUCTIBLE}",
              f"family_maximum = {FAMILY_MAXIMUM}", "refill_percent = 75", "max_days = 90", f"fee = {FEE}",
              f"family_deductible = {FAMILY_DEDUCTIBLE}", "[tiers]"]
-    lines += [f"{name} = {copay}" for name, copay in COPAYS.items()]
+    lines += [f"{name} = {share}" for name, share in TIERS.items()]
     for product, tier, price in job.drugs:
         lines += [f"[drugs.{product}]", f'tier = "{tier}"', f"price = {price}"]
     return "".join(line + "\n" for line in lines)

@@ -16,7 +16,8 @@ whole_line_simple = refl
 
 both : {Z : Type 0} (o : Option (Box SubCommand Z)) (name : Text) (rows : List Row)
     → Some name ≡ option_map (λ b. (out-SubCommand (box_value b)).name.now) o
-    → Some rows ≡ option_map (λ p. p.1) (subcommand_rows o) → subcommand_rows o ≡ Some (name, rows)
+    → Some rows ≡ option_map (λ p. p.1) (subcommand_rows o)
+    → subcommand_rows o ≡ Some (name, rows)
 both None name rows named held = absurd cc
 both (Some b) name rows named held = cc
 
@@ -24,8 +25,8 @@ both (Some b) name rows named held = cc
 pub subcommand_met : (m : ArgMatches) (line : App) (words : List Text) (name : Text) (rows : List Row)
     → line ≡ whole_line → HasMatchesOf line words m → Some name ≡ subcommand_name_of m
     → Some rows ≡ option_map (λ p. p.1) (subcommand_rows_of m)
-    → subcommand_of whole_line words ≡ Some (name, rows)
+    → Some (name, rows) ≡ subcommand_of whole_line words
 subcommand_met m line words name rows is matches named held =
     let given = matches (ap is_simple is ∙ whole_line_simple) in
     let same = given.1 ∙ ap (λ (a : App). subcommand_of a words) is in
-    sym same ∙ both (out-ArgMatches m).subcommand name rows named held
+    sym (sym same ∙ both (out-ArgMatches m).subcommand name rows named held)

@@ -1,5 +1,5 @@
 -- The faults of the command words.
-use Rattle.std.specs.Prelude.{ℕ, ⊤, ⊥}
+use Rattle.std.specs.Prelude.{ℕ, ⊤}
 use Rattle.rx_words.specs.declared.fault.WordsFault.{WordsFault}
 use Rattle.rx_words.specs.declared.fault.WordsFault.TheVariants.{Words, Memory}
 
