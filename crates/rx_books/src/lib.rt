@@ -12,7 +12,12 @@
 //! What a total is stands in `rx_ledger`'s `specs/Sums.antt`. A `Family` takes rows in and out and keeps its totals.
 #![tactic(auto)]
 
+mod books;
+mod families;
 mod family;
+mod plain;
+mod rows;
 mod totals;
 
+pub use books::Books;
 pub use family::Family;

@@ -1,0 +1,1 @@
+-- A ledger split by family: look-ups, one member more, one row more.
