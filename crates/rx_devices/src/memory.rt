@@ -70,8 +70,8 @@ impl<'a> SliceSource<'a> {
     /// A source of these bytes, which gives at most that many of them a call, and doesn't fail.
     pub fn new(bytes: &'a [u8], most: usize) -> SliceSource<'a>
         requires { 1 ≤ most }
-        ensures bytes { result.left.now ≡ bytes.now }
-        ensures failed { result.calls.failed ≡ false }
+        ensures bytes { ⟦<SliceSource<'a> as Source>⟧.left result ≡ Some bytes.now }
+        ensures failed { ⟦<SliceSource<'a> as Source>⟧.failed result ≡ false }
     {
         SliceSource {
             left: bytes,
@@ -81,8 +81,9 @@ impl<'a> SliceSource<'a> {
 
     /// The source, which fails after so many calls more.
     pub fn failing_after(self, calls: usize) -> SliceSource<'a>
-        ensures bytes { result.left.now ≡ self.entry.left.now }
-        ensures failed { result.calls.failed ≡ self.entry.calls.failed }
+        ensures bytes { ⟦<SliceSource<'a> as Source>⟧.left result ≡ ⟦<SliceSource<'a> as Source>⟧.left self.entry }
+        ensures failed { ⟦<SliceSource<'a> as Source>⟧.failed result ≡ ⟦<SliceSource<'a> as Source>⟧.failed self.entry }
+        ensures calls { result.calls.good ≡ Some calls }
     {
         SliceSource {
             left: self.left,
@@ -116,8 +117,8 @@ pub struct VecSink {
 impl VecSink {
     /// An empty sink, which takes at most that many bytes a call, and doesn't fail.
     pub fn new(alloc: Global, most: usize) -> VecSink
-        ensures bytes { result.written.items ≡ [] }
-        ensures failed { result.calls.failed ≡ false }
+        ensures bytes { ⟦<VecSink as Sink>⟧.written result ≡ Some [] }
+        ensures failed { ⟦<VecSink as Sink>⟧.failed result ≡ false }
     {
         VecSink {
             written: Vec::new(alloc),
@@ -127,8 +128,9 @@ impl VecSink {
 
     /// The sink, which fails after so many calls more.
     pub fn failing_after(self, calls: usize) -> VecSink
-        ensures bytes { result.written.items ≡ self.written.items }
-        ensures failed { result.calls.failed ≡ self.calls.failed }
+        ensures bytes { ⟦<VecSink as Sink>⟧.written result ≡ ⟦<VecSink as Sink>⟧.written self }
+        ensures failed { ⟦<VecSink as Sink>⟧.failed result ≡ ⟦<VecSink as Sink>⟧.failed self }
+        ensures calls { result.calls.good ≡ Some calls }
     {
         VecSink {
             written: self.written,
@@ -138,7 +140,7 @@ impl VecSink {
 
     /// The bytes that were written.
     pub fn bytes(&self) -> &[u8]
-        ensures { result.now ≡ self.now.written.items }
+        ensures { ⟦<VecSink as Sink>⟧.written self.now ≡ Some result.now }
     {
         self.written.as_slice()
     }

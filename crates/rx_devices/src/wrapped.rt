@@ -1,9 +1,14 @@
-ghost use Rattle.std.specs.Prelude.{◌≡◌, false, OnOk, IfOk};
+ghost use Rattle.std.specs.Prelude.{◌≡◌, false};
+ghost use Rattle.std.specs.Io.{ReadsAtMost, WritesAtMost};
+ghost use Rattle.std.specs.Io.KnownBytes.{ReadConsumes, WriteAppends};
 
 use crate::fault::Failed;
 use crate::sink::Sink;
 use crate::source::Source;
-use std::io::{Read, Write};
+use std::io::{ErrorKind, Read, Write};
+
+// How often a call that a signal interrupts is made, before it counts as failed.
+const TRIES: u32 = 64;
 
 /// A source that is one of std's readers. It tells the bytes that its reader tells: those of a text in memory, and
 /// none of a file.
@@ -16,7 +21,8 @@ pub struct ReaderSource<R> {
 impl<R: Read> ReaderSource<R> {
     /// The reader as a source, which hasn't failed.
     pub fn new(reader: R) -> ReaderSource<R>
-        ensures { result.failed ≡ false }
+        ensures bytes { ⟦<ReaderSource<R> as Source>⟧.left result ≡ R.remaining reader }
+        ensures failed { ⟦<ReaderSource<R> as Source>⟧.failed result ≡ false }
     {
         ReaderSource {
             reader,
@@ -31,14 +37,28 @@ impl<R: Read> Source for ReaderSource<R> {
     ghost failed = { λ s. s.failed };
 
     fn read(&mut self, buffer: &mut [u8]) -> Result<usize, Failed> {
-        match self.reader.read(buffer) {
-            Ok(count) => Ok(count),
-            Err(_) => {
-                self.failed = true;
-                Err(Failed)
+        let result = read_through(&mut self.reader, buffer);
+        self.failed |= result.is_err();
+        result
+    }
+}
+
+// A read, made again where a signal interrupts it.
+fn read_through<R: Read>(reader: &mut R, buffer: &mut [u8]) -> Result<usize, Failed>
+    ensures bound { ReadsAtMost result buffer.new }
+    ensures bytes { ReadConsumes (R.remaining reader.old) (R.remaining reader.new) result buffer.new }
+{
+    'by_try: for _ in 0..TRIES {
+        match reader.read(buffer) {
+            Ok(count) => return Ok(count),
+            Err(error) => {
+                if error.kind() != ErrorKind::Interrupted {
+                    return Err(Failed);
+                }
             }
         }
     }
+    Err(Failed)
 }
 
 /// A sink that is one of std's writers. It tells the bytes that its writer tells. A writer that keeps bytes back, as a
@@ -52,7 +72,8 @@ pub struct WriterSink<W> {
 impl<W: Write> WriterSink<W> {
     /// The writer as a sink, which hasn't failed.
     pub fn new(writer: W) -> WriterSink<W>
-        ensures { result.failed ≡ false }
+        ensures bytes { ⟦<WriterSink<W> as Sink>⟧.written result ≡ W.contents writer }
+        ensures failed { ⟦<WriterSink<W> as Sink>⟧.failed result ≡ false }
     {
         WriterSink {
             writer,
@@ -62,7 +83,7 @@ impl<W: Write> WriterSink<W> {
 
     /// The writer back.
     pub fn into_inner(self) -> W
-        ensures { result ≡ self.writer }
+        ensures { W.contents result ≡ ⟦<WriterSink<W> as Sink>⟧.written self }
     {
         let WriterSink { writer, failed: _ } = self;
         writer
@@ -75,17 +96,26 @@ impl<W: Write> Sink for WriterSink<W> {
     ghost failed = { λ s. s.failed };
 
     fn write(&mut self, piece: &[u8]) -> Result<usize, Failed> {
-        match self.writer.write(piece) {
-            Ok(count) => {
-                if count == 0 && !piece.is_empty() {
-                    self.failed = true;
+        let result = write_through(&mut self.writer, piece);
+        self.failed |= result.map_or(true, |count| count == 0 && !piece.is_empty());
+        result
+    }
+}
+
+// A write, made again where a signal interrupts it.
+fn write_through<W: Write>(writer: &mut W, piece: &[u8]) -> Result<usize, Failed>
+    ensures bound { WritesAtMost result piece.now }
+    ensures bytes { WriteAppends (W.contents writer.old) (W.contents writer.new) result piece.now }
+{
+    'by_try: for _ in 0..TRIES {
+        match writer.write(piece) {
+            Ok(count) => return Ok(count),
+            Err(error) => {
+                if error.kind() != ErrorKind::Interrupted {
+                    return Err(Failed);
                 }
-                Ok(count)
-            }
-            Err(_) => {
-                self.failed = true;
-                Err(Failed)
             }
         }
     }
+    Err(Failed)
 }

@@ -29,7 +29,7 @@ pub fn decode_all<R: Threads + Sync>(
 {
     details
         .par_iter()
-        .with_min_len(FEWEST_DETAILS).rev()
+        .with_min_len(FEWEST_DETAILS)
         .map(
             move |detail: &Detail| -> Result<Transmission, Memory>
                 ensures { IfOk result (λ t. t ≡ transmission_of door.entry.now detail.now.text) }
