@@ -1,0 +1,3 @@
+pub mod NoThread
+pub mod Refusals
+pub mod Replied

@@ -1,0 +1,5 @@
+pub mod Fault
+pub mod Job
+pub mod Output
+pub mod Shown
+pub mod Told
