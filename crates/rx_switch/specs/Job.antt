@@ -1,4 +1,5 @@
 -- A job as what it gives a run, and an output as its texts.
+use Rattle.std.specs.Prelude.{ℕ, List}
 use Rattle.rx_batch.specs.declared.batch.Batch.{Batch}
 use Rattle.rx_books.specs.LedgerBooks.{LedgerBooks}
 use Rattle.rx_fields.specs.declared.stamp.Stamp.{Stamp}
@@ -16,6 +17,11 @@ given_by job =
       stamp = job.stamp.now;
       workers = job.workers;
     }
+
+-- the same of texts that were read
+abbrev pub given_read : List ℕ → ℕ → List ℕ → List ℕ → List ℕ → Given
+given_read stamp workers sheet books batch =
+    record { sheet = sheet; books = books; batch = batch; stamp = stamp; workers = workers }
 
 abbrev pub texts_in : Output → Texts
 texts_in output =

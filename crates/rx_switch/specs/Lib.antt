@@ -1,3 +1,4 @@
+pub mod Devices
 pub mod Fault
 pub mod Job
 pub mod Output

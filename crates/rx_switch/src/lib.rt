@@ -2,12 +2,15 @@
 #![tactic(auto)]
 
 mod fault;
+mod inputs;
 mod job;
+mod outputs;
 mod running;
 mod show;
 mod telling;
 
 pub use fault::{Device, IoFault, SwitchFault, Told};
+pub use inputs::read_all;
 pub use job::{Job, Output};
 pub use running::run;
 pub use show::show_text;
