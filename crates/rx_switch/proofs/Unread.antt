@@ -1,11 +1,10 @@
 -- How reading an input breaks off, and which devices failed then.
-use Rattle.std.proofs.Common.{◌≡◌, ◌≤◌, ℕ, false, List, length, Option, IfSome, Result, Err, refl}
+use Rattle.std.proofs.Common.{◌≡◌, ◌≤◌, ℕ, List, length, Option, IfSome, Result, Err, refl}
 use Rattle.rx_batch.specs.Pieces.{Fed}
 use Rattle.rx_devices.specs.Reading.{most_reads}
 use Rattle.rx_devices.specs.declared.fault.ReadFault.{ReadFault}
 use Rattle.rx_devices.specs.declared.fault.ReadFault.TheVariants as reading
 use Rattle.rx_switch.specs.declared.fault.Device.{Device}
-use Rattle.rx_switch.specs.declared.fault.Device.TheVariants as device
 use Rattle.rx_switch.specs.declared.fault.IoFault.{IoFault}
 use Rattle.rx_switch.specs.declared.fault.IoFault.TheVariants as io
 use Rattle.rx_switch.specs.declared.fault.SwitchFault.TheVariants as fault
@@ -32,10 +31,11 @@ no_thread_at failed e = cc
 no_thread_at (long is_long) e = cc
 no_thread_at memory e = cc
 
-pub unread_without_thread : {inputs : Left} {f : IoFault} → IsUnread inputs f → f ≡ io.Switch fault.Thread → ⊥
-unread_without_thread (sheet h) e = no_thread_at h e
-unread_without_thread (books h) e = no_thread_at h e
-unread_without_thread (batch h) e = no_thread_at h e
+pub unread_without_thread : {before after : Left} {f : IoFault} → IsUnread before after f
+    → f ≡ io.Switch fault.Thread → ⊥
+unread_without_thread (sheet h later last) e = no_thread_at h e
+unread_without_thread (books s first h last) e = no_thread_at h e
+unread_without_thread (batch s b first second h) e = no_thread_at h e
 
 -- what was read is what the run is given
 pub given_is : (stamp : List ℕ) (workers : ℕ) (before after : Left) (s b : List ℕ) (fed : Fed)

@@ -29,7 +29,7 @@ pub record Written : Type 0 where
   pub books : Option (List ℕ)
   pub settlement : Option (List ℕ)
 
--- all six
+-- both
 pub record Devices : Type 0 where
   pub inputs : Left
   pub outputs : Written
@@ -40,8 +40,10 @@ left sheet books batch = record { sheet = sheet; books = books; batch = batch }
 abbrev pub written : Option (List ℕ) → Option (List ℕ) → Option (List ℕ) → Written
 written response books settlement = record { response = response; books = books; settlement = settlement }
 
-abbrev pub devices : Left → Written → Devices
-devices inputs outputs = record { inputs = inputs; outputs = outputs }
+-- all six, in the order of their numbers
+abbrev pub devices : Option (List ℕ) → Option (List ℕ) → Option (List ℕ) → Option (List ℕ) → Option (List ℕ) → Option (List ℕ) → Devices
+devices sheet books batch response end_books settlement =
+    record { inputs = left sheet books batch; outputs = written response end_books settlement }
 
 -- whether a call of this device failed, by the answer
 abbrev pub has_failed : {X : Type 0} → Device → Result X IoFault → Bool
@@ -65,11 +67,14 @@ pub data IsUnreadAt (d : Device) (bytes : Option (List ℕ)) : IoFault → Type 
   long : IfSome bytes (λ bytes. most_reads ≤ length bytes) → IsUnreadAt d bytes (io.Long d)
   memory : IsUnreadAt d bytes (io.Switch fault.Memory)
 
--- reading one of the inputs broke off
-pub data IsUnread (inputs : Left) (f : IoFault) : Type 0 where
-  sheet : IsUnreadAt device.Sheet inputs.sheet f → IsUnread inputs f
-  books : IsUnreadAt device.Books inputs.books f → IsUnread inputs f
-  batch : IsUnreadAt device.Batch inputs.batch f → IsUnread inputs f
+-- reading broke off at an input: those before it were read to their ends, of the later ones nothing was read
+pub data IsUnread (before after : Left) (f : IoFault) : Type 0 where
+  sheet : IsUnreadAt device.Sheet before.sheet f → after.books ≡ before.books → after.batch ≡ before.batch
+      → IsUnread before after f
+  books : (s : List ℕ) → IsRead before.sheet after.sheet s → IsUnreadAt device.Books before.books f
+      → after.batch ≡ before.batch → IsUnread before after f
+  batch : (s b : List ℕ) → IsRead before.sheet after.sheet s → IsRead before.books after.books b
+      → IsUnreadAt device.Batch before.batch f → IsUnread before after f
 
 -- an input's whole text was fed to the pieces of a batch
 pub record IsFed (left rest : Option (List ℕ)) (fed : Fed) : Type 0 where
@@ -122,7 +127,7 @@ pub record IsDone (stamp : List ℕ) (workers : ℕ) (before after : Devices) : 
 
 -- the run broke off: reading did, or the run is refused, and nothing was written; or writing did
 pub data IsBroken (stamp : List ℕ) (workers : ℕ) (before after : Devices) : IoFault → Type 0 where
-  unread : (f : IoFault) → IsUnread before.inputs f → after.outputs ≡ before.outputs
+  unread : (f : IoFault) → IsUnread before.inputs after.inputs f → after.outputs ≡ before.outputs
       → IsBroken stamp workers before after f
   refused : (g : Given) (f : SwitchFault) → IsGiven stamp workers before.inputs after.inputs g → IsRefused g f
       → after.outputs ≡ before.outputs → IsBroken stamp workers before after (io.Switch f)

@@ -1,5 +1,5 @@
 -- What a fault is told as: the exit status, and the numbers of the line on standard error.
-use Rattle.std.specs.Prelude.{ℕ, List, [], ◌∷◌}
+use Rattle.std.specs.Prelude.{ℕ, [], ◌∷◌}
 use Rattle.std.specs.Option.{option_map, unwrap_or}
 use Rattle.rx_batch.specs.Fault.{code_of as batch_code, place_of}
 use Rattle.rx_books_text.specs.Fault.{code_of as books_code, line_of_fault}

@@ -3,7 +3,7 @@ ghost use Rattle.rx_batch.specs.Fault.{UnlessMemory};
 ghost use Rattle.rx_batch.specs.Grammar.{IsFile};
 ghost use Rattle.rx_batch.specs.Pieces.{StandsFor};
 ghost use Rattle.rx_batch.specs.Reading.{HasFault};
-ghost use Rattle.rx_switch.specs.Devices.{IsBroken, IsDone, devices, has_failed, left, written};
+ghost use Rattle.rx_switch.specs.Devices.{IsBroken, IsDone, devices, has_failed};
 ghost use Rattle.rx_switch.specs.Job.{given_read, texts_in};
 ghost use Rattle.rx_switch.specs.Output.{IsOutput, IsRefused, RefusesOne};
 ghost use Rattle.rx_switch.specs.declared.fault.Device.TheVariants as device;
@@ -63,15 +63,11 @@ pub fn run_io<
     requires end_books { E.failed end_books.old ≡ false }
     requires settlement { F.failed settlement.old ≡ false }
     ensures done { OnOk result (IsDone stamp.now workers
-        (devices (left (A.left sheet.old) (B.left books.old) (C.left batch.old))
-        (written (D.written response.old) (E.written end_books.old) (F.written settlement.old)))
-        (devices (left (A.left sheet.new) (B.left books.new) (C.left batch.new))
-        (written (D.written response.new) (E.written end_books.new) (F.written settlement.new)))) }
+        (devices (A.left sheet.old) (B.left books.old) (C.left batch.old) (D.written response.old) (E.written end_books.old) (F.written settlement.old))
+        (devices (A.left sheet.new) (B.left books.new) (C.left batch.new) (D.written response.new) (E.written end_books.new) (F.written settlement.new))) }
     ensures broken { IfErr result (IsBroken stamp.now workers
-        (devices (left (A.left sheet.old) (B.left books.old) (C.left batch.old))
-        (written (D.written response.old) (E.written end_books.old) (F.written settlement.old)))
-        (devices (left (A.left sheet.new) (B.left books.new) (C.left batch.new))
-        (written (D.written response.new) (E.written end_books.new) (F.written settlement.new)))) }
+        (devices (A.left sheet.old) (B.left books.old) (C.left batch.old) (D.written response.old) (E.written end_books.old) (F.written settlement.old))
+        (devices (A.left sheet.new) (B.left books.new) (C.left batch.new) (D.written response.new) (E.written end_books.new) (F.written settlement.new))) }
     // A device failed in the run exactly where the answer tells it.
     ensures sheet { A.failed sheet.new ≡ has_failed device.Sheet result }
     ensures books { B.failed books.new ≡ has_failed device.Books result }

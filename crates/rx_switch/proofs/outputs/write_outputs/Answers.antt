@@ -1,8 +1,6 @@
 use Rattle.std.proofs.Common.{refl}
 use Rattle.std.proofs.lemmas.Result.{err_from_is_err_and}
-use Rattle.rx_switch.specs.Devices.{IsUnwritten, written}
 use Rattle.rx_switch.specs.Devices.IsUnwritten.{response, books, settlement}
-use Rattle.rx_switch.specs.Job.{texts_in}
 use Rattle.rx_switch.specs.declared.fault.Device.TheVariants as device
 use Rattle.rx_switch.specs.declared.fault.IoFault.TheVariants as io
 use Rattle.rx_switch.proofs.Unwritten.{at_only_fault}

@@ -1,4 +1,4 @@
-use Rattle.std.proofs.Common.{◌≡◌, length, ap, sym, ◌∙◌}
+use Rattle.std.proofs.Common.{length, ap, sym, ◌∙◌}
 use Rattle.rx_switch.proofs.Replied.{replied}
 use Rattle.rx_switch.proofs.running.adjudicate.Goals as goal
 

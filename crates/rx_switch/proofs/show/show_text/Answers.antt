@@ -1,4 +1,3 @@
-use Rattle.std.proofs.Common.{◌≡◌}
 use Rattle.std.proofs.lemmas.Result.{err_from_is_err_and}
 use Rattle.rx_switch.specs.Shown.IsNotShown.{memory}
 use Rattle.rx_switch.proofs.Refusals.{batch_not_shown, sheet_not_shown}
