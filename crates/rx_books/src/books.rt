@@ -58,7 +58,10 @@ impl Books {
 
     /// The books of a text, or its first fault (docs/FORMATS.md, "Books file").
     pub fn read(alloc: Global, text: &[u8]) -> Result<Books, BooksFault>
-        ensures { Gives result (books_of text.now) }
+        ensures ok { IfOk result (λ books. IsBooksText text.now books.period books.ledger) }
+        ensures refuses { IfErr result (λ fault. UnlessMemory fault (HasBooksFault text.now fault)) }
+        // The same, computed.
+        ensures value { Gives result (books_of text.now) }
     {
         let printed = read_printed(alloc, text)?;
         let books = Books::from_ledger(alloc, printed.ledger(), printed.head().period)?;
