@@ -1,10 +1,10 @@
-ghost use Rattle.std.specs.Prelude.{◌≡◌, ◌↔◌, ◌<◌, ◌^◌, IfOk, IsTrue, length};
+ghost use Rattle.std.specs.Prelude.{◌≡◌, ◌↔◌, ◌<◌, ◌^◌, IfErr, IfOk, IsTrue, length};
 ghost use Rattle.std.specs.Option.{option_copied};
 ghost use Rattle.rx_ledger.specs.Ledger.{row_under};
 ghost use Rattle.rx_books.specs.BooksText.{books_text};
-ghost use Rattle.rx_books_text.specs.Fault.{Gives};
+ghost use Rattle.rx_books_text.specs.Fault.{Gives, UnlessMemory};
 ghost use Rattle.rx_books_text.specs.Printed.{lines_of};
-ghost use Rattle.rx_books.specs.Figures.{books_of, unsummed, wrong_line};
+ghost use Rattle.rx_books.specs.Figures.{HasBooksFault, IsBooksText, books_of, unsummed, wrong_line};
 ghost use Rattle.rx_books.specs.LedgerBooks.{deductible_of_family, deductible_of_member, out_of_pocket_of_family};
 
 use crate::families::FamilyBooks;
