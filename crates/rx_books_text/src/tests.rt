@@ -123,11 +123,11 @@ fn writes_each_kind_of_line(rt: HostRuntime) -> Result<(), Fail> {
 
 #[test]
 fn writes_a_claim(rt: HostRuntime) -> Result<(), Fail> {
-    let claim = again(
-        rt.alloc(),
-        b"C|1234567893|123|20260228|C100|01|00002000202|30000|30|30000|175|10000|3000|0|000004200000011",
-    )?;
-    assert_eq!(rt; claim.len(), 94);
+    let line =
+        b"C|1234567893|123|20260228|C100|01|00002000202|30000|30|30000|175|10000|3000|0|000004200000011";
+    let claim = again(rt.alloc(), line)?;
+    assert!(rt; claim.as_slice().starts_with(line));
+    assert_eq!(rt; claim.len(), line.len() + 1);
     Ok(())
 }
 
