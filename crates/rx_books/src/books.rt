@@ -58,7 +58,10 @@ impl Books {
 
     /// The books of a text, or its first fault (docs/FORMATS.md, "Books file").
     pub fn read(alloc: Global, text: &[u8]) -> Result<Books, BooksFault>
-        ensures { Gives result (books_of text.now) }
+        // The text is that of the books in some version, which is what its head says.
+        ensures ok { IfOk result (λ books. (v : Version) × (text.now ≡ books_text v books.period books.ledger)) }
+        // The same, computed; a fault is the first of the text, or that of a figure.
+        ensures value { Gives result (books_of text.now) }
     {
         let printed = read_printed(alloc, text)?;
         let books = Books::from_ledger(alloc, printed.ledger(), printed.head().period)?;
