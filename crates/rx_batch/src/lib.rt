@@ -31,7 +31,7 @@ pub use head::{FileType, Head, Kind};
 pub use law::one_reading;
 pub use pieces::Pieces;
 pub use reading::read_batch;
-pub use writing::write_batch;
+pub use writing::{put_detail, put_header, put_trailer, write_batch};
 
 #[cfg(test)]
 mod tests;

@@ -77,6 +77,18 @@ fn by_bytes(alloc: Global, file: &[u8]) -> Result<Batch, BatchFault> {
     pieces.finish()
 }
 
+// Whether a text is read byte by byte, and cut at each one place, as it is read whole.
+fn reads_alike(alloc: Global, text: &[u8]) -> bool {
+    let whole = read_batch(alloc, text);
+    for at in 0..=text.len() {
+        let (front, back) = text.split_at(at);
+        if !same(&in_two(alloc, front, back), &whole) {
+            return false;
+        }
+    }
+    same(&by_bytes(alloc, text), &whole)
+}
+
 #[test]
 fn reads_and_writes_one_billing(rt: HostRuntime) -> Result<(), Fail> {
     one_reading();
@@ -119,6 +131,16 @@ fn counts_an_empty_batch(rt: HostRuntime) -> Result<(), Fail> {
             "count {count}"
         );
     }
+    Ok(())
+}
+
+#[test]
+fn writes_an_empty_batch(rt: HostRuntime) -> Result<(), Fail> {
+    let file = joined(rt.alloc(), &[HEADER, TRAILER])?;
+    let without = changed(rt.alloc(), &file, 94, b'0')?;
+    let batch = read_batch(rt.alloc(), &without)?;
+    let text = write_batch(rt.alloc(), &batch.head, batch.details.as_slice())?;
+    assert!(rt; text.as_slice() == changed(rt.alloc(), &file, 94, b'2')?.as_slice());
     Ok(())
 }
 
@@ -204,18 +226,20 @@ fn reads_pieces_as_the_whole(rt: HostRuntime) -> Result<(), Fail> {
     let after = joined(rt.alloc(), &[&file, b"X"])?;
     let before = joined(rt.alloc(), &[b"X", &file])?;
     let miscounted = changed(rt.alloc(), &file, 289, b'2')?;
-    let cut = file.get(..269).unwrap_or(&[]);
-    let files: [&[u8]; 6] = [&file, &spaced, &after, &before, &miscounted, cut];
+    let files: [&[u8]; 5] = [&file, &spaced, &after, &before, &miscounted];
     for text in files {
-        let whole = read_batch(rt.alloc(), text);
-        assert!(rt; same(&by_bytes(rt.alloc(), text), &whole));
-        for at in 0..=text.len() {
-            let (front, back) = text.split_at(at);
-            assert!(rt;
-                same(&in_two(rt.alloc(), front, back), &whole),
-                "cut at {at}"
-            );
-        }
+        assert!(rt; reads_alike(rt.alloc(), text));
+    }
+    assert_eq!(rt; told(&read_batch(rt.alloc(), &spaced)), (0, 1));
+    Ok(())
+}
+
+#[test]
+fn reads_pieces_of_a_cut_file_as_the_whole(rt: HostRuntime) -> Result<(), Fail> {
+    let file = one_billing(rt.alloc())?;
+    for length in [0usize, 1, 74, 75, 76, 269, 270, 271, 325] {
+        let cut = file.get(..length).unwrap_or(&[]);
+        assert!(rt; reads_alike(rt.alloc(), cut), "cut to {length}");
     }
     Ok(())
 }

@@ -9,6 +9,12 @@ use crate::reader::{ETX, STX};
 use rx_fields::{Memory, date_write, digits_write};
 use std::alloc::{AllocError, Global};
 
+// The bytes of the header and of the trailer.
+const ENDS: usize = 75 + 56;
+
+// The bytes of a detail beside its text: STX, `G1`, the reference and ETX.
+const FRONT: usize = 14;
+
 /// The one text of a batch file: nothing between records, the number of details plus two as the count, a blank
 /// message (docs/FORMATS.md, "Batch file").
 pub fn write_batch(alloc: Global, head: &Head, details: &[Detail]) -> Result<Vec<u8>, Memory>
@@ -17,7 +23,7 @@ pub fn write_batch(alloc: Global, head: &Head, details: &[Detail]) -> Result<Vec
     // What is written is read again.
     ensures again { IsPlain head.now details.now → IfOk result (λ text. IsFile text.items head.now details.now) }
 {
-    let mut text = Vec::new(alloc);
+    let mut text = Vec::with_capacity(alloc, file_len(details))?;
     put_header(&mut text, head)?;
     for detail in details {
         put_detail(&mut text, detail)?;
@@ -26,8 +32,19 @@ pub fn write_batch(alloc: Global, head: &Head, details: &[Detail]) -> Result<Vec
     Ok(text)
 }
 
+// How many bytes the file of these details has, so that its text grows once.
+fn file_len(details: &[Detail]) -> usize {
+    let mut len = ENDS;
+    for detail in details {
+        let record = detail.text.bytes().len().saturating_add(FRONT);
+        len = len.saturating_add(record);
+    }
+    len
+}
+
+/// Puts a header at the end of a text.
 #[tactic(auto, using(std::proofs::Common::append_assoc))]
-fn put_header(text: &mut Vec<u8>, head: &Head) -> Result<(), AllocError>
+pub fn put_header(text: &mut Vec<u8>, head: &Head) -> Result<(), AllocError>
     ensures text { OnOk result (text.new.items ≡ text.old.items ++ record_text (header_text head.now)) }
     ensures again { head.now.kind ≡ Kind.Transmission → OnOk result (IsHeader (header_text head.now) head.now) }
 {
@@ -51,8 +68,9 @@ fn put_lot(text: &mut Vec<u8>, head: &Head) -> Result<(), AllocError>
     text.extend_from_slice(&[head.file.byte(), b'1', b'2'])
 }
 
+/// Puts a detail at the end of a text.
 #[tactic(auto, using(std::proofs::Common::append_assoc))]
-fn put_detail(text: &mut Vec<u8>, detail: &Detail) -> Result<(), AllocError>
+pub fn put_detail(text: &mut Vec<u8>, detail: &Detail) -> Result<(), AllocError>
     ensures text { OnOk result (text.new.items ≡ text.old.items ++ record_text (detail_text detail.now)) }
     ensures again { OnOk result (IsDetail (detail_text detail.now) detail.now) }
 {
@@ -62,8 +80,9 @@ fn put_detail(text: &mut Vec<u8>, detail: &Detail) -> Result<(), AllocError>
     text.extend_from_slice(&[ETX])
 }
 
+/// Puts a trailer at the end of a text, with a blank message: the batch number, and the number of details plus two.
 #[tactic(auto, using(std::proofs::Common::append_assoc))]
-fn put_trailer(text: &mut Vec<u8>, number: u32, count: u64) -> Result<(), AllocError>
+pub fn put_trailer(text: &mut Vec<u8>, number: u32, count: u64) -> Result<(), AllocError>
     requires number { number < 10_000_000 }
     requires count { count < 10 ^ 10 }
     ensures text { OnOk result (text.new.items ≡ text.old.items ++ record_text (trailer_text number count)) }

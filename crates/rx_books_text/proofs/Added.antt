@@ -1,20 +1,19 @@
 -- What a ledger answers of the next line decides what the line is.
-use Rattle.std.proofs.Common.{◌≡◌, ℕ, Bool, true, false, List, ◌++◌, ◌∷◌, [], Result, Ok, Err, refl, sym, ap, ◌∙◌, inl, inr}
+use Rattle.std.proofs.Common.{◌≡◌, ℕ, Bool, true, false, Result, Ok, Err, refl, sym, ◌∙◌, inl, inr}
 use Rattle.std.specs.Prelude.{◌↔◌}
 use Rattle.std.proofs.lemmas.Bool.{and_parts, cases_Bool}
 use Rattle.rx_fields.specs.Order.{key_cmp}
 use Rattle.rx_ledger.specs.declared.ledger.AddError.{AddError}
 use Rattle.rx_ledger.specs.declared.ledger.AddError.TheVariants as error
 use Rattle.rx_ledger.specs.declared.row.Row.{Row}
-use Rattle.rx_ledger.specs.Ledger.{Ledger, is_listed, is_taken}
+use Rattle.rx_ledger.specs.Ledger.{is_listed, is_taken}
 use Rattle.rx_ledger.specs.Members.{member_cmp, member_key}
 use Rattle.rx_ledger.specs.Rows.{member_of_row, row_key}
-use Rattle.rx_books_text.specs.declared.fault.BooksFault.{BooksFault}
 use Rattle.rx_books_text.specs.declared.line.Line.TheVariants as line
 use Rattle.rx_books_text.specs.declared.line.MemberLine.{MemberLine}
 use Rattle.rx_books_text.specs.Fault.{UnlessMemory, refused}
 use Rattle.rx_books_text.specs.Printed.{PrintedParts}
-use Rattle.rx_books_text.specs.TextFault.{is_next, is_nil, with_line}
+use Rattle.rx_books_text.specs.TextFault.{is_next}
 use Rattle.rx_books_text.specs.TextReading.{line_added}
 use Rattle.rx_books_text.proofs.Passed.{free_past}
 

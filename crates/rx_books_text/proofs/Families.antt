@@ -1,10 +1,8 @@
 -- Members ascend by family: those of earlier families stand in front.
-use Rattle.std.proofs.Common.{◌≡◌, ℕ, ◌+◌, ◌-◌, ◌<◌, ◌≤◌, Bool, true, false, List, length, get_or, refl, sym, ap, ◌∙◌, inl, inr, arith}
-use Rattle.std.specs.Prelude.{nat_eq}
+use Rattle.std.proofs.Common.{◌≡◌, ℕ, ◌<◌, ◌≤◌, Bool, true, false, List, length, get_or, refl, sym, ap, ◌∙◌, inl, inr, arith}
 use Rattle.std.specs.List.{All, list_any}
 use Rattle.std.specs.List.Sorted.{IsPartitionedBy, IsPartitionPoint}
 use Rattle.std.specs.Ordering.{is_eq, is_lt, ordering_then}
-use Rattle.std.specs.Cmp.Lexicographic.{pointwise}
 use Rattle.std.specs.declared.cmp.Ordering.{Ordering}
 use Rattle.std.specs.declared.cmp.Ordering.TheVariants.{Less, Equal, Greater}
 use Rattle.std.proofs.lemmas.Bool.{cases_Bool, cases_lt}
@@ -16,9 +14,8 @@ use Rattle.rx_order.proofs.Keys.{cases_Ordering, Less-from_is_lt, Greater-from_L
 use Rattle.rx_order.proofs.Kept.{IsAscending-at}
 use Rattle.rx_fields.specs.Order.{id_cmp}
 use Rattle.rx_ledger.specs.declared.member.Member.{Member}
-use Rattle.rx_ledger.specs.Members.{is_same, member_cmp, member_key, of_family}
+use Rattle.rx_ledger.specs.Members.{member_cmp, member_key, of_family}
 use Rattle.rx_ledger.proofs.Orders.{id_total, member_total}
-use Rattle.rx_ledger.proofs.SameText.{same_text}
 
 abbrev family_at : List Member → ℕ → Member → List ℕ
 family_at ms i d = (get_or ms i d).key.family

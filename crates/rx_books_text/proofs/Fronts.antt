@@ -1,5 +1,5 @@
 -- A front of a text is the text of its parts, which can be printed.
-use Rattle.std.proofs.Common.{◌≡◌, ℕ, ◌+◌, ◌≤◌, Bool, true, false, eqb, ltb, inl, inr, List, [], ◌∷◌, ◌++◌, length, map, refl, sym, ap, subst, ◌∙◌, arith, append_assoc, append-nil, length-append, Result, Ok, Err}
+use Rattle.std.proofs.Common.{◌≡◌, ℕ, ◌+◌, ◌≤◌, true, ltb, inl, inr, List, [], ◌∷◌, ◌++◌, length, map, refl, sym, ap, subst, ◌∙◌, arith, append_assoc, append-nil, length-append, Result, Ok, Err}
 use Rattle.std.specs.Prelude.{IfOk, IfErr, ◌&&◌}
 use Rattle.std.specs.List.{All, flat_map, list_all}
 use Rattle.std.proofs.lemmas.Bool.{and_parts, cases_Bool, eqb-true, ltb-false}
@@ -24,12 +24,11 @@ use Rattle.rx_books_text.specs.declared.line.Line.{Line}
 use Rattle.rx_books_text.specs.declared.line.Line.TheVariants as line
 use Rattle.rx_books_text.specs.declared.line.MemberLine.{MemberLine}
 use Rattle.rx_books_text.specs.declared.line.TotalLine.{TotalLine}
-use Rattle.rx_books_text.specs.declared.version.Version.{Version}
 use Rattle.rx_books_text.specs.Fault.{UnlessMemory, Gives}
 use Rattle.rx_books_text.specs.LineFits.{IsLine, IsPeriod}
 use Rattle.rx_books_text.specs.LineText.{ended, head_text, line_text}
 use Rattle.rx_books_text.specs.Printed.{PrintedParts, IsPrinted, has_member, line_feeds, lines_of, member_lines, printed_text, total_family}
-use Rattle.rx_books_text.specs.TextFault.{is_nil, is_next, is_known, with_line, no_lines, IsFront, HasFault}
+use Rattle.rx_books_text.specs.TextFault.{is_nil, is_next, is_known, with_line, IsFront, HasFault}
 use Rattle.rx_books_text.specs.TextFault.IsFront.{headed, longer}
 use Rattle.rx_books_text.specs.TextReading.{printed_of}
 use Rattle.rx_books_text.proofs.TextLaws.{IsReading, reading}

@@ -1,5 +1,5 @@
 -- The head line is read as what its spelling says.
-use Rattle.std.proofs.Common.{◌≡◌, ℕ, Bool, true, false, not, eqb, cond, List, [], ◌∷◌, ◌++◌, Option, Some, None, refl, sym, ap, subst, ◌∙◌, inl, inr, codes, drop, take, length}
+use Rattle.std.proofs.Common.{◌≡◌, ℕ, true, not, eqb, List, [], ◌∷◌, ◌++◌, Option, Some, None, refl, sym, ap, subst, ◌∙◌, inl, inr, codes, drop, take, length}
 use Rattle.std.specs.Prelude.{nat_eq, IfSome}
 use Rattle.std.specs.Cmp.Lexicographic.{same_text}
 use Rattle.std.specs.List.{starts_with, list_all}
@@ -15,8 +15,12 @@ use Rattle.rx_books_text.specs.LineFits.{IsPeriod, IsLine}
 use Rattle.rx_books_text.specs.LineReading.{◌>>=◌, same, split, version_in, period_in, head_in, head_of, line_of}
 use Rattle.rx_books_text.specs.LineText.{joined, version_text, head_text, line_text}
 use Rattle.rx_books_text.proofs.Cuts.{Without, split_takes}
-use Rattle.rx_books_text.proofs.FieldLaws.{bind_some, guarded, some_same, day_inside}
-use Rattle.rx_books_text.proofs.LineLaws.{before, spelled, followed, inside_over, period_takes, period_again, line_takes, line_again, without_feed, dates_feedless}
+use Rattle.rx_books_text.proofs.Steps.{bind_some, guarded, some_same}
+use Rattle.rx_books_text.proofs.DayLaws.{day_inside}
+use Rattle.rx_books_text.proofs.Befores.{before, spelled, followed, inside_over}
+use Rattle.rx_books_text.proofs.MemberLaws.{period_takes, period_again}
+use Rattle.rx_books_text.proofs.LineLaws.{line_takes}
+use Rattle.rx_books_text.proofs.Feedless.{without_feed, dates_feedless}
 
 version_takes : (bs : List ℕ) (v : Version) → version_in bs ≡ Some v → bs ≡ version_text v
 version_takes bs v e = elim (cases_Bool (same bs (codes "1"))) [

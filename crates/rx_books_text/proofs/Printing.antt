@@ -1,40 +1,37 @@
 -- What can be printed is read again.
-use Rattle.std.proofs.Common.{◌≡◌, ℕ, ◌+◌, ◌≤◌, Bool, true, false, eqb, ltb, List, [], ◌∷◌, ◌++◌, length, map, Some, refl, sym, ap, subst, ◌∙◌, arith, append_assoc, append-nil, length-append, Result, Ok, Err}
-use Rattle.std.specs.Prelude.{◌&&◌}
+use Rattle.std.proofs.Common.{◌≡◌, ℕ, ◌+◌, true, List, [], ◌∷◌, ◌++◌, length, map, refl, sym, ap, subst, ◌∙◌, arith, append_assoc, append-nil, Result, Ok}
 use Rattle.std.specs.List.{All, flat_map, list_all}
 use Rattle.std.specs.Ordering.{is_lt}
 use Rattle.std.specs.declared.cmp.Ordering.{Ordering}
 use Rattle.std.specs.declared.cmp.Ordering.TheVariants.{Less}
-use Rattle.std.proofs.lemmas.Bool.{and_parts, le-ltb}
-use Rattle.std.proofs.lemmas.List.{map-append}
+use Rattle.std.proofs.lemmas.Bool.{and_parts}
 use Rattle.std.proofs.lemmas.List.Elements.{All-nil, All-cons, All-head, All-tail}
 use Rattle.std.proofs.lemmas.Grind.{flat_map-append}
-use Rattle.rx_order.specs.Ascending.{IsAscending, IsBelow, is_past, put}
+use Rattle.rx_order.specs.Ascending.{IsAscending, IsBelow, is_past}
 use Rattle.rx_order.proofs.Edits.{put-past}
 use Rattle.rx_fields.specs.Order.{id_cmp, key_cmp}
 use Rattle.rx_ledger.specs.declared.member.Member.{Member}
 use Rattle.rx_ledger.specs.declared.row.Row.{Row}
-use Rattle.rx_ledger.specs.Ledger.{Ledger, is_listed}
+use Rattle.rx_ledger.specs.Ledger.{is_listed}
 use Rattle.rx_ledger.specs.Members.{member_cmp, member_key}
 use Rattle.rx_ledger.specs.Rows.{member_of_row, row_key}
-use Rattle.rx_ledger.proofs.Orders.{id_total, key_total, member_total}
+use Rattle.rx_ledger.proofs.Orders.{key_total, member_total}
 use Rattle.rx_books_text.specs.declared.fault.BooksFault.{BooksFault}
 use Rattle.rx_books_text.specs.declared.head.Head.{Head}
 use Rattle.rx_books_text.specs.declared.line.Line.{Line}
 use Rattle.rx_books_text.specs.declared.line.Line.TheVariants as line
-use Rattle.rx_books_text.specs.declared.line.MemberLine.{MemberLine}
 use Rattle.rx_books_text.specs.declared.line.TotalLine.{TotalLine}
 use Rattle.rx_books_text.specs.Fault.{Gives}
-use Rattle.rx_books_text.specs.LineFits.{IsLine, IsPeriod}
-use Rattle.rx_books_text.specs.LineReading.{line_of}
+use Rattle.rx_books_text.specs.LineFits.{IsLine}
 use Rattle.rx_books_text.specs.LineText.{ended, head_text, line_text}
-use Rattle.rx_books_text.specs.Printed.{PrintedParts, IsPrinted, has_member, line_feeds, lines_of, member_lines, printed_text, total_family}
-use Rattle.rx_books_text.specs.TextFault.{is_next, is_known, with_line, no_lines, IsFront}
+use Rattle.rx_books_text.specs.Printed.{PrintedParts, IsPrinted, has_member, member_lines, printed_text, total_family}
+use Rattle.rx_books_text.specs.TextFault.{is_next, is_known, with_line, IsFront}
 use Rattle.rx_books_text.specs.TextFault.IsFront.{headed, longer}
-use Rattle.rx_books_text.specs.TextReading.{behind_head, found_line, lines, line_added, line_read, lines_read, printed_of, text_read}
+use Rattle.rx_books_text.specs.TextReading.{behind_head, found_line, lines, line_read, lines_read, printed_of, text_read}
 use Rattle.rx_books_text.proofs.Cuts.{lines_over}
 use Rattle.rx_books_text.proofs.HeadLaws.{head_again, head_feedless}
-use Rattle.rx_books_text.proofs.LineLaws.{line_again, line_feedless}
+use Rattle.rx_books_text.proofs.LineLaws.{line_again}
+use Rattle.rx_books_text.proofs.Feedless.{line_feedless}
 use Rattle.rx_books_text.proofs.TextLaws.{ended_on}
 use Rattle.rx_books_text.proofs.TextSteps.{few_read, head_step, lines_step}
 use Rattle.rx_books_text.proofs.TextSteps as steps

@@ -1,7 +1,6 @@
 -- A text is read as what its lines say, and its fault is the first one of its lines.
-use Rattle.std.proofs.Common.{◌≡◌, ℕ, zero, suc, ◌+◌, ◌<◌, ◌≤◌, Bool, true, false, cond, eqb, ltb, List, [], ◌∷◌, ◌++◌, length, Option, Some, None, Result, Ok, Err, refl, sym, ap, subst, ◌∙◌, inl, inr, arith, append_assoc, append-nil, length-append}
+use Rattle.std.proofs.Common.{◌≡◌, ℕ, zero, suc, ◌+◌, ◌<◌, ◌≤◌, true, false, eqb, ltb, List, [], ◌∷◌, ◌++◌, length, Option, Some, None, Result, Ok, Err, refl, sym, ap, subst, ◌∙◌, inl, inr, arith, append_assoc, append-nil, length-append}
 use Rattle.std.specs.Prelude.{◌⊎◌}
-use Rattle.std.specs.List.{All}
 use Rattle.std.proofs.lemmas.Bool.{cases_Bool, eqb-true, ltb-true, ltb-false}
 use Rattle.std.proofs.lemmas.Bool.Decides.{nat_tests}
 use Rattle.std.proofs.lemmas.List.Elements.{All-nil, All-cons}
@@ -11,8 +10,7 @@ use Rattle.rx_books_text.specs.declared.fault.BooksFault.{BooksFault}
 use Rattle.rx_books_text.specs.declared.fault.BooksFault.TheVariants as fault
 use Rattle.rx_books_text.specs.declared.head.Head.{Head}
 use Rattle.rx_books_text.specs.declared.line.Line.{Line}
-use Rattle.rx_books_text.specs.Fault.{◌>>=◌, UnlessMemory}
-use Rattle.rx_books_text.specs.LineFits.{IsLine, IsPeriod}
+use Rattle.rx_books_text.specs.LineFits.{IsLine}
 use Rattle.rx_books_text.specs.LineReading.{head_of, line_of}
 use Rattle.rx_books_text.specs.LineText.{ended, head_text, line_text}
 use Rattle.rx_books_text.specs.Printed.{PrintedParts, line_feeds}
@@ -20,10 +18,11 @@ use Rattle.rx_books_text.specs.TextFault.{is_next, is_known, with_line, no_lines
 use Rattle.rx_books_text.specs.TextFault.IsFront.{headed, longer}
 use Rattle.rx_books_text.specs.TextFault.FaultBehind.{no_line, out_of_order, unknown}
 use Rattle.rx_books_text.specs.TextFault.HasFault.{too_much, no_head, behind}
-use Rattle.rx_books_text.specs.TextReading.{lines, line_added, found_line, line_read, lines_read, printed_of}
+use Rattle.rx_books_text.specs.TextReading.{lines, found_line, line_read, lines_read, printed_of}
 use Rattle.rx_books_text.proofs.Cuts.{Without, lines_over}
 use Rattle.rx_books_text.proofs.HeadLaws.{head_takes, head_again, head_feedless}
-use Rattle.rx_books_text.proofs.LineLaws.{line_takes, line_again, line_feedless}
+use Rattle.rx_books_text.proofs.LineLaws.{line_takes, line_again}
+use Rattle.rx_books_text.proofs.Feedless.{line_feedless}
 use Rattle.rx_books_text.proofs.TextSteps.{lines_cons, lines_step, lines_fault, headless, read_behind}
 use Rattle.rx_books_text.proofs.TextSteps as steps
 

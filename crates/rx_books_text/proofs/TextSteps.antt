@@ -1,10 +1,10 @@
 -- A text's lines are read one after another.
-use Rattle.std.proofs.Common.{◌≡◌, ℕ, ◌+◌, ◌≤◌, ltb, Option, Bool, true, false, cond, eqb, List, [], ◌∷◌, ◌++◌, length, Result, Ok, Err, refl, sym, ap, ◌∙◌, inl, inr}
+use Rattle.std.proofs.Common.{◌≡◌, ℕ, ◌+◌, ◌≤◌, ltb, Option, false, cond, eqb, List, [], ◌∷◌, length, Ok, Err, refl, sym, ap, ◌∙◌, inl, inr}
 use Rattle.std.specs.List.{onto_first}
 use Rattle.std.proofs.lemmas.Bool.{cases_Bool, le-ltb}
 use Rattle.rx_books_text.specs.declared.fault.BooksFault.{BooksFault}
 use Rattle.rx_books_text.specs.declared.fault.BooksFault.TheVariants as fault
-use Rattle.rx_books_text.specs.Fault.{◌>>=◌, UnlessMemory}
+use Rattle.rx_books_text.specs.Fault.{UnlessMemory}
 use Rattle.rx_books_text.specs.declared.head.Head.{Head}
 use Rattle.rx_books_text.specs.LineReading.{head_of}
 use Rattle.rx_books_text.specs.Printed.{PrintedParts, line_feeds}

@@ -1,5 +1,5 @@
 -- What the text of a line is read as (docs/FORMATS.md, "Books file").
-use Rattle.std.specs.Prelude.{ℕ, ◌+◌, ◌*◌, Bool, true, false, not, ◌&&◌, ◌||◌, nat_eq, ◌==◌, if◌then◌else◌, List, [], ◌∷◌, codes, length, Option, Some, None}
+use Rattle.std.specs.Prelude.{ℕ, ◌+◌, ◌*◌, Bool, false, not, ◌&&◌, nat_eq, ◌==◌, if◌then◌else◌, List, [], ◌∷◌, codes, length, Option, Some, None}
 use Rattle.std.specs.Cmp.Lexicographic.{pointwise}
 use Rattle.std.specs.List.{starts_with}
 use Rattle.std.specs.Option.{option_map}
@@ -14,7 +14,6 @@ use Rattle.rx_fields.specs.Text.{id_of}
 use Rattle.rx_claim.specs.declared.pricing.Amounts.{Amounts}
 use Rattle.rx_ledger.specs.declared.member.MemberKey.{MemberKey}
 use Rattle.rx_ledger.specs.declared.row.Row.{Row}
-use Rattle.rx_ledger.specs.Members.{member_of}
 use Rattle.rx_ledger.specs.Rows.{row_of}
 use Rattle.rx_books_text.specs.declared.claim_line.Dispensed.{Dispensed}
 use Rattle.rx_books_text.specs.declared.head.Head.{Head}

@@ -61,9 +61,10 @@ impl Id {
     }
 }
 
-// The text without the blanks at its end.
+/// The text without the blanks at its end, as the value of a field is read (docs/FORMATS.md, "Parts, segments and
+/// fields").
 #[tactic(auto, using(crate::proofs::IdLaws::trimmed_cut, crate::proofs::IdLaws::trimmed_whole))]
-fn trimmed(text: &[u8]) -> &[u8]
+pub fn trimmed(text: &[u8]) -> &[u8]
     ensures { result.now ≡ trimmed text.now }
 {
     let mut rest = text;

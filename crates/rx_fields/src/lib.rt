@@ -36,7 +36,7 @@ pub use day::{Day, date_read, date_write};
 pub use digits::{digits_write, number_read};
 pub use door::Door;
 pub use fault::{FieldFault, IdFault};
-pub use id::Id;
+pub use id::{Id, trimmed};
 pub use key::Key;
 pub use lot::Lot;
 pub use memory::Memory;

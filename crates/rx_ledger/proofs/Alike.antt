@@ -1,5 +1,5 @@
 -- A record is answered alike under two plans with the same figures that say the same of the products which it bills.
-use Rattle.std.proofs.Common.{◌≡◌, ℕ, ◌+◌, List, [], ◌∷◌, Option, Some, None, refl, sym, ap, ◌∙◌}
+use Rattle.std.proofs.Common.{◌≡◌, ℕ, ◌+◌, List, [], ◌∷◌, Option, Some, None, refl, ap, ◌∙◌}
 use Rattle.std.specs.Prelude.{not, ◌||◌, if◌then◌else◌}
 use Rattle.std.specs.Ordering.{is_lt, is_gt}
 use Rattle.rx_fields.specs.Calendar.{Civil, day_cmp}
@@ -8,7 +8,6 @@ use Rattle.rx_fields.specs.declared.code.Code.TheVariants as code
 use Rattle.rx_claim.specs.declared.bill.BillParts.{BillParts}
 use Rattle.rx_claim.specs.declared.reply.Answer.{Answer}
 use Rattle.rx_claim.specs.declared.reply.Answer.TheVariants.{Paid, Twice, Approved, Refused}
-use Rattle.rx_claim.specs.declared.reply.Outcome.{Outcome}
 use Rattle.rx_claim.specs.declared.reply.Outcome.TheVariants as outcome
 use Rattle.rx_claim.specs.declared.transaction.Reversal.{Reversal}
 use Rattle.rx_claim.specs.declared.transaction.Transaction.{Transaction}

@@ -1,7 +1,6 @@
 -- The orders of days, fill keys, members and products are total, and keys that tie in them are one.
 use Rattle.std.proofs.Common.{◌≡◌, ℕ, List, ap, ◌∙◌}
 use Rattle.std.specs.Cmp.{IsTotalOrder}
-use Rattle.std.specs.Ordering.{nat_cmp}
 use Rattle.std.proofs.lemmas.Map.Lookups.{CmpEqualImpliesEq}
 use Rattle.rx_fields.specs.Calendar.{Civil, day_cmp}
 use Rattle.rx_fields.specs.Order.{id_cmp, key_cmp}

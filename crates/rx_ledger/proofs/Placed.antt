@@ -1,7 +1,7 @@
 -- The places of a record's terms say of each product that the record bills what the whole plan says.
-use Rattle.std.proofs.Common.{◌≡◌, ℕ, ◌≤◌, List, [], ◌∷◌, length, true, false, Bool, Option, Some, None, refl, sym, ap, ◌∙◌, inl, inr, arith}
+use Rattle.std.proofs.Common.{◌≡◌, ℕ, ◌≤◌, List, [], ◌∷◌, length, true, Option, Some, None, refl, sym, ap, ◌∙◌, inl, inr, arith}
 use Rattle.std.specs.Prelude.{◌⊎◌, IfSome, slice_get, option_and_then}
-use Rattle.std.specs.Ordering.{is_eq, nat_cmp}
+use Rattle.std.specs.Ordering.{nat_cmp}
 use Rattle.std.proofs.lemmas.Bool.{cases_Bool}
 use Rattle.rx_fields.specs.Numbered.{LotParts}
 use Rattle.rx_order.specs.Ascending.{has_key}
@@ -18,7 +18,7 @@ use Rattle.rx_ledger.specs.declared.sheet.Listed.{Listed}
 use Rattle.rx_ledger.specs.Places.{billed, billed_at, listed_as, transactions_of}
 use Rattle.rx_ledger.specs.Plan.{Plan, are_drugs, drug_of, is_drug, listed_product}
 use Rattle.rx_ledger.specs.SameTerms.{IsTermsOf}
-use Rattle.rx_ledger.specs.TermList.{TermParts, drugs_in}
+use Rattle.rx_ledger.specs.TermList.{drugs_in}
 use Rattle.rx_ledger.proofs.Alike.{SaysAlike, SayAlike, body_alike, outcome_alike}
 use Rattle.rx_ledger.proofs.Passed.{passed_next}
 

@@ -53,7 +53,7 @@ is_same_claim b r =
     is_same r.family b.family && is_same r.person b.person && (r.product == b.product)
     && (r.quantity == b.quantity) && (r.days == b.days)
 
--- an earlier fill of the person's with the product is not used up to the percentage: of its days too few have passed
+-- a fill of the person's with the product, dated no later, isn't used up to the percentage: too few of its days are over
 abbrev pub is_too_soon : Figures → Civil → BillParts → Row → Bool
 is_too_soon f date b r =
     is_same r.person b.person && (r.product == b.product) && is_le (day_cmp r.key.date date)

@@ -1,5 +1,5 @@
 -- Members, and the order in which they are listed: by family, then person.
-use Rattle.std.specs.Prelude.{ℕ, Bool, List, Option, Some, None, find}
+use Rattle.std.specs.Prelude.{ℕ, Bool, List, Option, find}
 use Rattle.std.specs.Option.{option_map}
 use Rattle.std.specs.Ordering.{is_eq, ordering_then}
 use Rattle.std.specs.declared.cmp.Ordering.{Ordering}

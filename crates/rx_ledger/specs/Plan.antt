@@ -1,11 +1,10 @@
 -- What a plan sheet says, and the ranges of its figures.
-use Rattle.std.specs.Prelude.{◌≡◌, ◌≤◌, ℕ, Bool, true, false, not, ◌&&◌, ◌||◌, nat_lt, nat_le, if◌then◌else◌, List, Option, Some, None, option_and_then, find}
+use Rattle.std.specs.Prelude.{◌≡◌, ℕ, Bool, true, not, ◌&&◌, nat_le, if◌then◌else◌, List, Option, Some, None}
 use Rattle.std.specs.List.{list_all}
 use Rattle.std.specs.Option.{option_map}
 use Rattle.std.specs.Ordering.{is_eq, nat_cmp}
 use Rattle.rx_fields.specs.Digits.{is_digit}
 use Rattle.rx_fields.specs.Text.{is_printable}
-use Rattle.rx_fields.specs.Numbered.{LotParts}
 use Rattle.rx_order.specs.Ascending.{contains_key, item_at, put}
 use Rattle.rx_ledger.specs.declared.drug.Drug.{Drug}
 use Rattle.rx_ledger.specs.declared.drug.Share.{Share}

@@ -1,11 +1,6 @@
 -- Terms under which a record is adjudicated as under the whole sheet.
-use Rattle.std.specs.Prelude.{◌≡◌, ℕ, Bool, true, false, List, Option, ◌==◌}
-use Rattle.std.specs.List.{list_any}
+use Rattle.std.specs.Prelude.{◌≡◌, ℕ}
 use Rattle.rx_fields.specs.Numbered.{LotParts}
-use Rattle.rx_claim.specs.declared.transaction.Transaction.{Transaction}
-use Rattle.rx_claim.specs.declared.transaction.Transaction.TheVariants.{Bill, Reverse, Faulty}
-use Rattle.rx_claim.specs.declared.transmission.Body.{Body}
-use Rattle.rx_claim.specs.declared.transmission.Body.TheVariants.{Rejected, Heard}
 use Rattle.rx_claim.specs.declared.transmission.Transmission.{Transmission}
 use Rattle.rx_ledger.specs.Fold.{ledger_after, reply_to}
 use Rattle.rx_ledger.specs.Ledger.{Ledger}

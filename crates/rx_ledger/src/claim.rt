@@ -152,7 +152,7 @@ impl Claim<'_> {
         self.rows.iter().any(|row| self.is_too_soon(row))
     }
 
-    // Whether the row is an earlier fill of the person's with the product, of whose days too few have passed.
+    // Whether the row is a fill of the person's with the product, dated no later, of whose days too few have passed.
     #[tactic(auto, using(crate::proofs::SameText::same_text))]
     fn is_too_soon(&self, row: &Row) -> bool
         requires { IsClaim self.now }

@@ -1,22 +1,10 @@
 ghost use Rattle.std.specs.Prelude.{◌≡◌, length, map, option_map, None};
-ghost use Rattle.rx_fields.specs.Text.{trimmed};
 ghost use Rattle.rx_request.specs.Cut.{field_of};
 ghost use Rattle.rx_request.specs.Known.{field};
 ghost use Rattle.rx_request.specs.Slots.{texts_of, text_of, all_of, put, put_field};
 
 use crate::piece::{FS, Pieces};
-
-/// The text without the blanks at its end.
-#[tactic(auto, using(rx_fields::proofs::IdLaws::trimmed_cut, rx_fields::proofs::IdLaws::trimmed_whole))]
-pub(crate) fn trimmed(text: &[u8]) -> &[u8]
-    ensures { result.now ≡ trimmed text.now }
-{
-    let mut rest = text;
-    while !rest.is_empty() && rest[rest.len() - 1] == b' ' {
-        rest = &rest[..rest.len() - 1];
-    }
-    rest
-}
+use rx_fields::trimmed;
 
 /// Puts a text into the slot of its key. None: the slot is taken.
 pub(crate) fn put<'a>(

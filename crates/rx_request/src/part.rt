@@ -4,8 +4,9 @@ ghost use Rattle.rx_request.specs.Cut.{field_of, fields, has_id, is_name, is_non
 ghost use Rattle.rx_request.specs.Known.{segment};
 ghost use Rattle.rx_request.specs.Slots.{texts_of, all_of, name_of, put_segment};
 
-use crate::field::{put, trimmed};
+use crate::field::put;
 use crate::piece::{FS, Pieces, SS};
+use rx_fields::trimmed;
 
 /// The id of the field that names a segment.
 const AM: &[u8] = b"AM";

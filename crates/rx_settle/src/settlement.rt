@@ -13,6 +13,11 @@ use rx_claim::Reply;
 use rx_fields::{Lot, Memory, Stamp};
 use std::alloc::{AllocError, Global};
 
+// Room for a pharmacy's line, and for the head and the total; where a line is longer, the text grows.
+const LINE: usize = 48;
+
+const ENDS: usize = 96;
+
 // A tally for each provider, in order of first appearance.
 type Tallies = IndexMap<Field, Tally>;
 
@@ -30,7 +35,8 @@ pub fn settle(alloc: Global, lot: Lot, stamp: Stamp, replies: &[Reply]) -> Resul
     ensures { IfOk result (λ text. text.items ≡ settlement_text lot stamp replies.now) }
 {
     let tallied = tally_replies(alloc, replies)?;
-    let mut text = Vec::new(alloc);
+    let lines = tallied.providers.len().saturating_mul(LINE);
+    let mut text = Vec::with_capacity(alloc, lines.saturating_add(ENDS))?;
     put_head(&mut text, lot, stamp)?;
     put_lines(alloc, &mut text, &tallied.providers)?;
     put_total(alloc, &mut text, &tallied.total)?;

@@ -7,7 +7,8 @@
 
 mod sample;
 
-use sample::{SampleFault, sample_line};
+use rx_fields::Memory;
+use sample::sample_line;
 use std::io::Write;
 use std::process::ExitCode;
 use std::{env, io};
@@ -23,8 +24,8 @@ enum Failure {
     Output,
 }
 
-impl From<SampleFault> for Failure {
-    fn from(_fault: SampleFault) -> Failure {
+impl From<Memory> for Failure {
+    fn from(_refused: Memory) -> Failure {
         Failure::Memory
     }
 }
@@ -45,11 +46,19 @@ fn main(rt: HostRuntime) -> ExitCode {
 }
 
 fn run(rt: &HostRuntime) -> Result<(), Failure> {
-    let mut words = env::args(rt).map_err(|_error| Failure::Words)?;
+    let mut words = env::args(rt).map_err(|error| unread(&error))?;
     let _program = words.next();
     match words.next() {
         Some(word) if word.as_str() == "sample" && words.next().is_none() => print_sample(rt),
         _ => Err(Failure::Words),
+    }
+}
+
+// Why the words can't be had.
+fn unread(error: &io::Error) -> Failure {
+    match error.kind() {
+        io::ErrorKind::OutOfMemory => Failure::Memory,
+        _ => Failure::Words,
     }
 }
 

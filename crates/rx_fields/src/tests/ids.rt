@@ -1,4 +1,4 @@
-use crate::{Id, IdFault, Key, Person, Provider, Reference, date_read};
+use crate::{Id, IdFault, Key, Person, Provider, Reference, date_read, trimmed};
 use std::cmp::Ordering;
 use std::test::Fail;
 
@@ -41,6 +41,16 @@ fn ids_are_trimmed_texts(rt: HostRuntime) -> Result<(), Fail> {
         assert!(rt; max <= 20);
         assert_eq!(rt; Id::new(text, max), Err(fault));
     }
+    Ok(())
+}
+
+#[test]
+fn texts_lose_the_blanks_at_their_end(rt: HostRuntime) -> Result<(), Fail> {
+    assert_eq!(rt; trimmed(b"C2C100   "), b"C2C100".as_slice());
+    assert_eq!(rt; trimmed(b" A B"), b" A B".as_slice());
+    assert_eq!(rt; trimmed(b"A\t "), b"A\t".as_slice());
+    assert_eq!(rt; trimmed(b"   "), b"".as_slice());
+    assert_eq!(rt; trimmed(b""), b"".as_slice());
     Ok(())
 }
 

@@ -1,4 +1,4 @@
-use crate::{AddFault, Drug, Figures, Share, Sheet};
+use crate::{AddFault, Drug, Figures, Share, Sheet, SheetKey, Wrong};
 use rx_fields::{Door, Period, Product, date_read};
 use std::alloc::Global;
 use std::test::Fail;
@@ -76,5 +76,56 @@ fn a_refused_drug_leaves_the_sheet(rt: HostRuntime) -> Result<(), Fail> {
     };
     assert_eq!(rt; sheet.add(product(b"00004000404")?, most), Ok(()));
     assert_eq!(rt; sheet.drug(product(b"00004000404")?), Some(most));
+    Ok(())
+}
+
+#[test]
+fn the_first_figure_outside_its_range_is_told(rt: HostRuntime) -> Result<(), Fail> {
+    let plain = figures()?;
+    let pcn = Figures {
+        door: Door {
+            bin: *b"900001",
+            pcn: *b"RXDEMO\x1f   ",
+        },
+        ..plain
+    };
+    let days = Figures {
+        max_days: 0,
+        fee: 100_000_000,
+        ..plain
+    };
+    let family = Figures {
+        family_deductible: Some(100_000_000_000),
+        ..plain
+    };
+    let told = [
+        (pcn, SheetKey::Pcn, 2),
+        (days, SheetKey::MaxDays, 8),
+        (family, SheetKey::FamilyDeductible, 14),
+    ];
+    for (figures, key, code) in told {
+        assert_eq!(rt; Sheet::new(rt.alloc(), figures).err(), Some(Wrong(key)));
+        assert_eq!(rt; Wrong(key).code(), code);
+    }
+    assert_eq!(rt; plain.wrong(), None);
+    Ok(())
+}
+
+#[test]
+fn a_sheet_shows_its_figures(rt: HostRuntime) -> Result<(), Fail> {
+    let sheet = plain_sheet(rt.alloc())?;
+    assert_eq!(rt; *sheet.figures(), figures()?);
+    assert_eq!(rt; sheet.door().bin, *b"900001");
+    assert_eq!(rt; sheet.period().last(), date_read(b"20261231")?);
+    assert_eq!(rt; sheet.drugs().len(), 3);
+    assert_eq!(rt; sheet.drug(product(b"00004000404")?), None);
+    assert_eq!(rt;
+        [
+            AddFault::Range.code(),
+            AddFault::There.code(),
+            AddFault::Memory.code()
+        ],
+        [1, 2, 3]
+    );
     Ok(())
 }

@@ -1,5 +1,4 @@
-use Rattle.std.proofs.Common.{◌≡◌, ◌+◌, List, ℕ, Option, take, Some, None, sym, ap, ◌∙◌}
-use Rattle.std.specs.Option.{option_map}
+use Rattle.std.proofs.Common.{◌+◌, List, ℕ, take, Some, sym, ap, ◌∙◌}
 use Rattle.rx_books_text.proofs.Cuts.{split_none, split_at, to_end}
 use Rattle.rx_books_text.proofs.cut.split.Goals as goal
 

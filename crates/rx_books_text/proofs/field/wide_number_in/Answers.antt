@@ -1,6 +1,5 @@
-use Rattle.std.proofs.Common.{◌≡◌, ℕ, List, Option, Some, length, ◌∙◌, sym, ap}
-use Rattle.rx_books_text.specs.LineReading.{joined_number}
-use Rattle.rx_books_text.proofs.Numbers.{narrower, twenty, leading}
+use Rattle.std.proofs.Common.{Some, ◌∙◌, sym, ap}
+use Rattle.rx_books_text.proofs.TwentyDigits.{narrower, twenty, leading}
 use Rattle.rx_books_text.proofs.field.wide_number_in.Goals as goal
 
 pub returns-in_err-number : goal.returns-in_err-number

@@ -1,4 +1,4 @@
-use Rattle.std.proofs.Common.{◌≡◌, ℕ, List, get_or, rules, sym, ap, ◌∙◌}
+use Rattle.std.proofs.Common.{ℕ, List, rules, sym, ap, ◌∙◌}
 use Rattle.std.proofs.lemmas.Bool.{ltb-true, ltb-false}
 use Rattle.std.proofs.lemmas.List.Sorted.{IsPartitionPoint-from_clause}
 use Rattle.rx_ledger.specs.declared.member.Member.{Member}

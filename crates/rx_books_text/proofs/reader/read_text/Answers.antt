@@ -1,7 +1,5 @@
-use Rattle.std.proofs.Common.{◌≡◌, ◌+◌, ◌-◌, ◌≤◌, ℕ, List, length, take, drop, Some, None, sym, ap, ◌∙◌}
+use Rattle.std.proofs.Common.{◌+◌, ℕ, List, take, drop, Some, None, ◌∙◌}
 use Rattle.std.proofs.lemmas.Result.{err_from_is_err_and}
-use Rattle.rx_books_text.specs.Printed.{PrintedParts, line_feeds}
-use Rattle.rx_books_text.specs.TextReading.{lines, lines_read}
 use Rattle.rx_books_text.proofs.Cuts.{lines_at, lines_none, to_end}
 use Rattle.rx_books_text.proofs.TextSteps.{headless, read_behind, unless_so}
 use Rattle.rx_books_text.proofs.reader.read_text.Goals as goal

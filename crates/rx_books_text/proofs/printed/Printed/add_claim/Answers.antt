@@ -1,9 +1,6 @@
-use Rattle.std.proofs.Common.{◌≡◌, Bool, true, sym, ap, subst, Ok, ◌∙◌}
-use Rattle.rx_ledger.specs.Ledger.{Ledger, is_listed, with_row}
-use Rattle.rx_ledger.specs.Rows.{member_of_row}
-use Rattle.rx_books_text.specs.declared.fault.BooksFault.{BooksFault}
+use Rattle.std.proofs.Common.{◌≡◌, true, sym, ap, Ok, ◌∙◌}
+use Rattle.rx_ledger.specs.Ledger.{with_row}
 use Rattle.rx_books_text.specs.declared.line.Line.TheVariants as lines
-use Rattle.rx_books_text.specs.Fault.{UnlessMemory}
 use Rattle.rx_books_text.specs.Printed.{PrintedParts}
 use Rattle.rx_books_text.specs.TextFault.{is_next}
 use Rattle.rx_books_text.proofs.Added.{claim_refused, claim_listed}

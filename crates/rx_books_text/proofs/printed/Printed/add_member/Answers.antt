@@ -1,5 +1,4 @@
 use Rattle.std.proofs.Common.{◌≡◌, true, sym, ap, ◌∙◌}
-use Rattle.rx_ledger.specs.Ledger.{Ledger}
 use Rattle.rx_books_text.specs.declared.line.Line.TheVariants as lines
 use Rattle.rx_books_text.specs.Printed.{PrintedParts}
 use Rattle.rx_books_text.specs.TextFault.{is_next}

@@ -1,4 +1,4 @@
-use Rattle.std.proofs.Common.{◌≡◌, ◌+◌, ◌-◌, ◌≤◌, ℕ, List, Bool, ◌∷◌, length, take, drop, Ok, Err, sym, ap, ◌∙◌, arith, cond, eqb, length-drop, true, false, refl}
+use Rattle.std.proofs.Common.{◌≡◌, ◌+◌, ℕ, List, length, take, drop, sym, ap, ◌∙◌, arith, eqb, length-drop, true, false, refl}
 use Rattle.std.proofs.lemmas.Result.{err_from_is_err_and}
 use Rattle.rx_books_text.specs.Printed.{PrintedParts}
 use Rattle.rx_books_text.specs.TextReading.{lines, lines_read}

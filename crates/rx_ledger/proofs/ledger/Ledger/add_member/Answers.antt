@@ -1,4 +1,4 @@
-use Rattle.std.proofs.Common.{◌≡◌, refl, true, false, Err, sym, ap, ◌∙◌}
+use Rattle.std.proofs.Common.{◌≡◌, refl, true, Err, sym, ap, ◌∙◌}
 use Rattle.std.specs.Prelude.{List}
 use Rattle.rx_order.specs.Ascending.{put}
 use Rattle.rx_order.specs.InsertError.{is_there}

@@ -1,4 +1,4 @@
-use Rattle.std.proofs.Common.{◌≡◌, refl, true}
+use Rattle.std.proofs.Common.{refl}
 use Rattle.rx_fields.specs.Order.{key_cmp}
 use Rattle.rx_order.specs.Ascending.{contains_key, put}
 use Rattle.rx_ledger.specs.Ledger.{Ledger, IsLedger}

@@ -1,0 +1,79 @@
+#!/usr/bin/env python3
+"""Times `run` on the inputs that make_job.py wrote, and prints a table.
+
+    bench/time_run.py PROGRAM DIR [--workers LIST] [--rounds R] [--plain]
+
+PROGRAM is a path or a command line. For each number of workers it runs R rounds and prints the best and the middle of
+their times, the processor time of the best and its records a second; with `--plain` it times `--plain` too. Every run
+has to end with status 0 and to write the bytes that the first one wrote.
+"""
+
+import argparse
+import hashlib
+import os
+import resource
+import shlex
+import statistics
+import subprocess
+import sys
+import tempfile
+import time
+
+INPUTS = {"--sheet": "sheet.toml", "--books": "books.txt", "--batch": "batch.bin"}
+OUTPUTS = {"--response": "response.bin", "--books-out": "books-out.txt", "--settlement": "settlement.txt"}
+DETAIL = b"\x02G1"
+
+
+def processor_seconds():
+    used = resource.getrusage(resource.RUSAGE_CHILDREN)
+    return used.ru_utime + used.ru_stime
+
+
+def one_run(program, folder, into, number, plain):
+    """Seconds by the clock, seconds of processor time, and a digest of what was written."""
+    with open(os.path.join(folder, "stamp"), encoding="ascii") as file:
+        stamp = file.read()
+    words = ["run", "--stamp", stamp, "--workers", str(number)] + ["--plain"] * plain
+    for files, place in ((INPUTS, folder), (OUTPUTS, into)):
+        for option, name in files.items():
+            words += [option, os.path.join(place, name)]
+    used, begun = processor_seconds(), time.perf_counter()
+    ended = subprocess.run(program + words, stdin=subprocess.DEVNULL, capture_output=True)
+    seconds, used = time.perf_counter() - begun, processor_seconds() - used
+    if ended.returncode != 0:
+        sys.exit(f"status {ended.returncode}: {ended.stderr.decode(errors='replace').strip()}")
+    digest = hashlib.sha256()
+    for name in OUTPUTS.values():
+        with open(os.path.join(into, name), "rb") as file:
+            digest.update(file.read())
+    return seconds, used, digest.hexdigest()
+
+
+def main(words):
+    parser = argparse.ArgumentParser(description=__doc__, formatter_class=argparse.RawDescriptionHelpFormatter)
+    parser.add_argument("program", metavar="PROGRAM")
+    parser.add_argument("folder", metavar="DIR")
+    parser.add_argument("--workers", default="1,2,4", help="numbers of workers; default: 1,2,4")
+    parser.add_argument("--rounds", type=int, default=3)
+    parser.add_argument("--plain", action="store_true", help="time --plain with one worker too")
+    options = parser.parse_args(words)
+    program = [os.path.abspath(word) if os.path.exists(word) else word for word in shlex.split(options.program)]
+    with open(os.path.join(options.folder, "batch.bin"), "rb") as file:
+        records = file.read().count(DETAIL)
+    kinds = [(number, False) for number in options.workers.split(",")] + [("1", True)] * options.plain
+    first = None
+    print("| Workers | Best | Middle | Processor time | Records a second |\n|---|---|---|---|---|")
+    with tempfile.TemporaryDirectory(prefix="rxbatch-bench-") as into:
+        for number, plain in kinds:
+            rounds = [one_run(program, options.folder, into, number, plain) for _ in range(options.rounds)]
+            first = first or rounds[0][2]
+            if any(digest != first for _, _, digest in rounds):
+                sys.exit(f"{number} workers wrote other bytes")
+            best = min(rounds)
+            middle = statistics.median(seconds for seconds, _, _ in rounds)
+            print(f"| {number}{', plain' * plain} | {best[0]:.3f} s | {middle:.3f} s | {best[1]:.3f} s "
+                  f"| {records / best[0]:,.0f} |", flush=True)
+
+
+if __name__ == "__main__":
+    main(sys.argv[1:])

@@ -1,0 +1,2 @@
+-- Laws of what goes from a source to a consumer, and to a sink.
+pub mod Passing

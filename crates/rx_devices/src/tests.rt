@@ -1,0 +1,218 @@
+// What no clause says: that a reading succeeds, which call of a device fails, and devices that don't tell their bytes.
+use crate::{
+    Consumer, Failed, ReadFault, ReaderSource, SliceSource, Source, VecSink, WriterSink, feed_all,
+    read_all, read_each, write_all,
+};
+use rx_batch::BatchFault;
+use rx_fields::Memory;
+use std::io;
+use std::io::{ErrorKind, Read, Write};
+use std::test::Fail;
+
+const TEXT: &[u8] = b"SETTLE|1|";
+
+// A batch file without details.
+const BATCH: &[u8] =
+    b"\x0200TPHARMSYS                0000042202603010930P12RXSWITCH                \x03\
+\x029900000420000000000                                   \x03";
+
+// It never ends, and gives that many bytes a call.
+#[derive(Drop)]
+struct Endless(usize);
+
+impl Source for Endless {
+    ghost use Rattle.std.specs.Prelude.{None, false};
+
+    ghost left = { λ _. None };
+
+    ghost failed = { λ _. false };
+
+    fn read(&mut self, buffer: &mut [u8]) -> Result<usize, Failed> {
+        Ok(self.0.min(buffer.len()))
+    }
+}
+
+// It counts the bytes, and keeps none.
+#[derive(Drop)]
+struct Counted(u64);
+
+impl Consumer for Counted {
+    ghost use Rattle.std.specs.Prelude.{⊤};
+
+    ghost stands_for = { λ _ _. ⊤ };
+
+    fn take(&mut self, piece: &[u8]) -> Result<(), Memory> {
+        self.0 = self.0.saturating_add(piece.len() as u64);
+        Ok(())
+    }
+}
+
+// A file that can't be read or written.
+#[derive(Drop)]
+struct Broken;
+
+impl Read for Broken {
+    fn read(&mut self, _buffer: &mut [u8]) -> io::Result<usize> {
+        Err(io::Error::from(ErrorKind::Other))
+    }
+}
+
+impl Write for Broken {
+    fn write(&mut self, _piece: &[u8]) -> io::Result<usize> {
+        Err(io::Error::from(ErrorKind::Other))
+    }
+
+    fn flush(&mut self) -> io::Result<()> {
+        Ok(())
+    }
+}
+
+// A text whose first read a signal interrupts.
+#[derive(Drop)]
+struct Signalled {
+    is_over: bool,
+    text: &'static [u8],
+}
+
+impl Read for Signalled {
+    fn read(&mut self, buffer: &mut [u8]) -> io::Result<usize> {
+        if self.is_over {
+            return self.text.read(buffer);
+        }
+        self.is_over = true;
+        Err(io::Error::from(ErrorKind::Interrupted))
+    }
+}
+
+#[test]
+fn reads_pieces_of_any_size(rt: HostRuntime) -> Result<(), Fail> {
+    for most in [1usize, 7, 4096] {
+        let text = read_all(rt.alloc(), &mut SliceSource::new(TEXT, most))?;
+        assert_eq!(rt; text.as_slice(), TEXT, "{most} bytes a call");
+    }
+    Ok(())
+}
+
+// Nine bytes by seven a call take three reads, the last of which finds the end.
+#[test]
+fn takes_no_failure_for_the_end(rt: HostRuntime) {
+    for calls in 0..3usize {
+        let mut source = SliceSource::new(TEXT, 7).failing_after(calls);
+        let read = read_all(rt.alloc(), &mut source);
+        assert!(rt;
+            matches!(read, Err(ReadFault::Failed)),
+            "after {calls} reads"
+        );
+    }
+    let read = read_all(rt.alloc(), &mut SliceSource::new(TEXT, 7).failing_after(3));
+    assert!(rt; read.is_ok());
+}
+
+#[test]
+fn refuses_too_many_reads(rt: HostRuntime) {
+    let mut taken = Counted(0);
+    let read = read_each(rt.alloc(), &mut Endless(1), &mut taken);
+    assert_eq!(rt; read, Err(ReadFault::Long));
+    assert_eq!(rt; taken.0, 4_194_304);
+}
+
+#[test]
+fn refuses_too_many_bytes(rt: HostRuntime) {
+    let mut taken = Counted(0);
+    let read = read_each(rt.alloc(), &mut Endless(usize::MAX), &mut taken);
+    assert_eq!(rt; read, Err(ReadFault::Long));
+    assert_eq!(rt; taken.0, 268_435_456);
+}
+
+#[test]
+fn writes_pieces_of_any_size(rt: HostRuntime) {
+    for most in [1usize, 7, 4096] {
+        let mut sink = VecSink::new(rt.alloc(), most);
+        assert_eq!(rt; write_all(&mut sink, TEXT), Ok(()), "{most} bytes a call");
+        assert_eq!(rt; sink.bytes(), TEXT);
+    }
+}
+
+#[test]
+fn leaves_a_front_after_a_failure(rt: HostRuntime) {
+    for calls in 0..3usize {
+        let mut sink = VecSink::new(rt.alloc(), 4).failing_after(calls);
+        assert_eq!(rt;
+            write_all(&mut sink, TEXT),
+            Err(Failed),
+            "after {calls} writes"
+        );
+        assert_eq!(rt; sink.bytes(), &TEXT[..4 * calls]);
+    }
+}
+
+#[test]
+fn takes_a_sink_that_takes_nothing_for_failed(rt: HostRuntime) {
+    let mut sink = VecSink::new(rt.alloc(), 0);
+    assert_eq!(rt; write_all(&mut sink, TEXT), Err(Failed));
+    assert_eq!(rt; write_all(&mut VecSink::new(rt.alloc(), 0), b""), Ok(()));
+}
+
+#[test]
+fn reads_and_writes_what_std_does(rt: HostRuntime) -> Result<(), Fail> {
+    let text = read_all(rt.alloc(), &mut ReaderSource::new(TEXT))?;
+    let mut copy = WriterSink::new(Vec::new(rt.alloc()));
+    assert_eq!(rt; write_all(&mut copy, text.as_slice()), Ok(()));
+    assert_eq!(rt; copy.into_inner().as_slice(), TEXT);
+    Ok(())
+}
+
+#[test]
+fn reads_again_where_a_signal_interrupts(rt: HostRuntime) -> Result<(), Fail> {
+    let signalled = Signalled {
+        is_over: false,
+        text: TEXT,
+    };
+    let text = read_all(rt.alloc(), &mut ReaderSource::new(signalled))?;
+    assert_eq!(rt; text.as_slice(), TEXT);
+    Ok(())
+}
+
+// It has room for four of nine bytes.
+#[test]
+fn takes_a_full_buffer_for_failed(rt: HostRuntime) {
+    let mut room = [0u8; 4];
+    let written = write_all(&mut WriterSink::new(room.as_mut_slice()), TEXT);
+    assert_eq!(rt; written, Err(Failed));
+    assert_eq!(rt; room, *b"SETT");
+}
+
+#[test]
+fn tells_that_a_file_failed(rt: HostRuntime) {
+    let read = read_all(rt.alloc(), &mut ReaderSource::new(Broken));
+    assert!(rt; matches!(read, Err(ReadFault::Failed)));
+    assert_eq!(rt; write_all(&mut WriterSink::new(Broken), TEXT), Err(Failed));
+}
+
+#[test]
+fn feeds_a_batch_in_pieces_of_any_size(rt: HostRuntime) -> Result<(), Fail> {
+    for most in [1usize, 7, 4096] {
+        let pieces = feed_all(rt.alloc(), &mut SliceSource::new(BATCH, most))?;
+        let batch = pieces.finish()?;
+        assert_eq!(rt;
+            batch.head.sender,
+            *b"PHARMSYS                ",
+            "{most} bytes a call"
+        );
+        assert_eq!(rt; batch.details.len(), 0);
+    }
+    Ok(())
+}
+
+// Two bytes by one a call take three reads; the first byte is no batch's.
+#[test]
+fn feeds_on_after_a_fault_of_the_batch(rt: HostRuntime) -> Result<(), Fail> {
+    let pieces = feed_all(rt.alloc(), &mut SliceSource::new(b"X\x02", 1))?;
+    assert!(rt; matches!(pieces.finish(), Err(BatchFault::Outside { at: 0 })));
+    let read = feed_all(
+        rt.alloc(),
+        &mut SliceSource::new(b"X\x02", 1).failing_after(2),
+    );
+    assert!(rt; matches!(read, Err(ReadFault::Failed)));
+    Ok(())
+}

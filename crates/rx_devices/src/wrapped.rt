@@ -1,0 +1,121 @@
+ghost use Rattle.std.specs.Prelude.{◌≡◌, false};
+ghost use Rattle.std.specs.Io.{ReadsAtMost, WritesAtMost};
+ghost use Rattle.std.specs.Io.KnownBytes.{ReadConsumes, WriteAppends};
+
+use crate::fault::Failed;
+use crate::sink::Sink;
+use crate::source::Source;
+use std::io::{ErrorKind, Read, Write};
+
+// How often a call that a signal interrupts is made, before it counts as failed.
+const TRIES: u32 = 64;
+
+/// A source that is one of std's readers. It tells the bytes that its reader tells: those of a text in memory, and
+/// none of a file.
+#[derive(Debug, Drop)]
+pub struct ReaderSource<R> {
+    reader: R,
+    failed: bool,
+}
+
+impl<R: Read> ReaderSource<R> {
+    /// The reader as a source, which hasn't failed.
+    pub fn new(reader: R) -> ReaderSource<R>
+        ensures bytes { ⟦<ReaderSource<R> as Source>⟧.left result ≡ R.remaining reader }
+        ensures failed { ⟦<ReaderSource<R> as Source>⟧.failed result ≡ false }
+    {
+        ReaderSource {
+            reader,
+            failed: false,
+        }
+    }
+}
+
+impl<R: Read> Source for ReaderSource<R> {
+    ghost left = { λ s. R.remaining s.reader };
+
+    ghost failed = { λ s. s.failed };
+
+    fn read(&mut self, buffer: &mut [u8]) -> Result<usize, Failed> {
+        let result = read_through(&mut self.reader, buffer);
+        self.failed |= result.is_err();
+        result
+    }
+}
+
+// A read, made again where a signal interrupts it.
+fn read_through<R: Read>(reader: &mut R, buffer: &mut [u8]) -> Result<usize, Failed>
+    ensures bound { ReadsAtMost result buffer.new }
+    ensures bytes { ReadConsumes (R.remaining reader.old) (R.remaining reader.new) result buffer.new }
+{
+    'by_try: for _ in 0..TRIES {
+        match reader.read(buffer) {
+            Ok(count) => return Ok(count),
+            Err(error) => {
+                if error.kind() != ErrorKind::Interrupted {
+                    return Err(Failed);
+                }
+            }
+        }
+    }
+    Err(Failed)
+}
+
+/// A sink that is one of std's writers. It tells the bytes that its writer tells. A writer that keeps bytes back, as a
+/// `BufWriter`, isn't flushed.
+#[derive(Debug, Drop)]
+pub struct WriterSink<W> {
+    writer: W,
+    failed: bool,
+}
+
+impl<W: Write> WriterSink<W> {
+    /// The writer as a sink, which hasn't failed.
+    pub fn new(writer: W) -> WriterSink<W>
+        ensures bytes { ⟦<WriterSink<W> as Sink>⟧.written result ≡ W.contents writer }
+        ensures failed { ⟦<WriterSink<W> as Sink>⟧.failed result ≡ false }
+    {
+        WriterSink {
+            writer,
+            failed: false,
+        }
+    }
+
+    /// The writer back.
+    pub fn into_inner(self) -> W
+        ensures { W.contents result ≡ ⟦<WriterSink<W> as Sink>⟧.written self }
+    {
+        let WriterSink { writer, failed: _ } = self;
+        writer
+    }
+}
+
+impl<W: Write> Sink for WriterSink<W> {
+    ghost written = { λ s. W.contents s.writer };
+
+    ghost failed = { λ s. s.failed };
+
+    fn write(&mut self, piece: &[u8]) -> Result<usize, Failed> {
+        let result = write_through(&mut self.writer, piece);
+        self.failed |= result.map_or(true, |count| count == 0 && !piece.is_empty());
+        result
+    }
+}
+
+// A write, made again where a signal interrupts it.
+fn write_through<W: Write>(writer: &mut W, piece: &[u8]) -> Result<usize, Failed>
+    ensures bound { WritesAtMost result piece.now }
+    ensures bytes { WriteAppends (W.contents writer.old) (W.contents writer.new) result piece.now }
+{
+    'by_try: for _ in 0..TRIES {
+        match writer.write(piece) {
+            Ok(count) => return Ok(count),
+            Err(error) => {
+                if error.kind() != ErrorKind::Interrupted {
+                    return Err(Failed);
+                }
+            }
+        }
+    }
+    Err(Failed)
+}

@@ -1,0 +1,8 @@
+pub mod Added
+pub mod Blanks
+pub mod Documents
+pub mod DrugLists
+pub mod Products
+pub mod Shares
+mod WorkedSheets
+mod WorkedText

@@ -1,0 +1,38 @@
+-- The numbers of the faults, and what a call answers that may want memory.
+use Rattle.std.specs.Prelude.{◌≡◌, ℕ, Option, Some, None, Result, Ok, Err, MatchResult}
+use Rattle.rx_ledger.specs.declared.sheet_key.SheetKey.{SheetKey}
+use Rattle.rx_sheet.specs.declared.fault.SheetFault.{SheetFault}
+use Rattle.rx_sheet.specs.declared.fault.SheetFault.TheVariants as fault
+
+-- the number of a fault
+abbrev pub code_of : SheetFault → ℕ
+code_of fault.NotToml = 1
+code_of (fault.Missing key) = 2
+code_of (fault.Wrong key) = 3
+code_of fault.Memory = 4
+
+-- the key that a fault names
+abbrev pub key_of : SheetFault → Option SheetKey
+key_of fault.NotToml = None
+key_of (fault.Missing key) = Some key
+key_of (fault.Wrong key) = Some key
+key_of fault.Memory = None
+
+-- the fact, unless the fault is want of memory
+abbrev pub UnlessMemory : SheetFault → Type 0 → Type 0
+UnlessMemory fault.Memory P = Unit {0}
+UnlessMemory other P = P
+
+-- what a call answered, seen by `view`, is what the definition has, unless memory was wanting
+abbrev pub GivesAs : {X Y : Type 0} → (X → Y) → Result X SheetFault → Result Y SheetFault → Type 0
+GivesAs view result meant = MatchResult result (λ x. meant ≡ Ok (view x)) (λ f. UnlessMemory f (meant ≡ Err f))
+
+-- what a call answered is what the definition has, unless memory was wanting
+abbrev pub Gives : {X : Type 0} → Result X SheetFault → Result X SheetFault → Type 0
+Gives result meant = GivesAs (λ x. x) result meant
+
+-- the first step, and where it has no fault the next
+infixl 10 ◌>>=◌
+abbrev pub ◌>>=◌ : {A B : Type 0} → Result A SheetFault → (A → Result B SheetFault) → Result B SheetFault
+(Ok x) >>= f = f x
+(Err e) >>= f = Err e

@@ -1,0 +1,6 @@
+pub mod Drugs
+pub mod Fault
+pub mod Figures
+pub mod Names
+pub mod SheetText
+pub mod Values

@@ -1,0 +1,20 @@
+//! Transmissions as a person reads them: the lines of the command `show`, and bytes on one line.
+//!
+//! In come a batch's decoded transmissions, in file order; out comes a line for each of their transactions, as
+//! `specs/Lines.antt` has it. `shown` writes the separators of a D.0 text as two digits in angle brackets.
+//!
+//! ```rust
+//! let text = rx_show::show_lines(alloc, &transmissions)?;
+//! ```
+//!
+//! Reading the batch and decoding its details is left to the caller.
+#![tactic(auto)]
+
+mod bytes;
+mod lines;
+
+pub use bytes::shown;
+pub use lines::show_lines;
+
+#[cfg(test)]
+mod tests;

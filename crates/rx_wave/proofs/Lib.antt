@@ -1,0 +1,2 @@
+-- Laws of lists of results.
+pub mod Gathered

@@ -1,0 +1,39 @@
+ghost use Rattle.std.specs.Prelude.{◌≡◌, IfOk};
+ghost use Rattle.rx_request.specs.Request.{transmission_of};
+ghost use Rattle.rx_wave.specs.Decoding.{transmissions_of};
+
+use rayon::prelude::*;
+use rx_batch::Detail;
+use rx_claim::Transmission;
+use rx_fields::{Door, Memory};
+use rx_request::decode;
+use std::alloc::Global;
+use std::thread::Threads;
+
+// The fewest details that are worth a thread.
+const FEWEST_DETAILS: usize = 16;
+
+/// The transmission of each detail, in order, at a plan's door, decoded by as many threads as there are processors
+/// (docs/FORMATS.md, "Request transmission").
+///
+/// # Errors
+///
+/// `Memory` where a growth was refused, or where `rayon` gave up, which tells no more.
+pub fn decode_all<R: Threads + Sync>(
+    rt: &R,
+    alloc: Global,
+    door: &Door,
+    details: &[Detail],
+) -> Result<Vec<Transmission>, Memory>
+    ensures { IfOk result (λ transmissions. transmissions.items ≡ transmissions_of door.now details.now) }
+{
+    details
+        .par_iter()
+        .with_min_len(FEWEST_DETAILS)
+        .map(
+            move |detail: &Detail| -> Result<Transmission, Memory>
+                ensures { IfOk result (λ t. t ≡ transmission_of door.entry.now detail.now.text) }
+            { decode(alloc, door, detail.text.bytes()) },
+        )
+        .collect::<Result<Vec<Transmission>, Memory>>(rt, alloc)?
+}

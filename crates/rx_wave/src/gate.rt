@@ -1,0 +1,33 @@
+ghost use Rattle.std.specs.Prelude.{◌≡◌, ℕ, Bool, true};
+
+/// What a run passes on its way. Several threads use it at once, and no lock is held while they do.
+pub trait Gate {
+    /// Whether each worker may start; workers are numbered from 1.
+    ghost starts: { Self → ℕ → Bool };
+
+    /// Whether the worker may start. It is asked before its thread is started; false refuses the thread.
+    fn start(&self, worker: usize) -> bool
+        ensures { result ≡ starts self.now worker };
+
+    /// Passed after a record's parcel was taken, and before its adjudication; places are counted from 1.
+    fn enter(&self, place: usize);
+
+    /// Passed after a record's adjudication, and before its parcel is given.
+    fn leave(&self, place: usize);
+}
+
+/// The gate that starts every worker, and does nothing.
+#[derive(Clone, Copy, Debug, PartialEq, Eq)]
+pub struct NoGate;
+
+impl Gate for NoGate {
+    ghost starts = { λ _ _. true };
+
+    fn start(&self, _worker: usize) -> bool {
+        true
+    }
+
+    fn enter(&self, _place: usize) {}
+
+    fn leave(&self, _place: usize) {}
+}

@@ -1,0 +1,30 @@
+use Rattle.std.proofs.Common.{◌≡◌, ◌∙◌, ap, sym, subst, rules, map, true, false, Option, List, Some}
+use Rattle.std.specs.Prelude.{IfOk, IfErr}
+use Rattle.std.proofs.lemmas.Result.{IfErr-weaker, err_from_is_err_and}
+use Rattle.clap.specs.Words.{App, Row, Text, found_of, rows_of, takes}
+use Rattle.rx_words.specs.Asked.{Holds, NoneHolds}
+use Rattle.rx_words.specs.Faults.{IsWords}
+use Rattle.rx_words.proofs.SubcommandMet.{subcommand_met}
+use Rattle.rx_words.proofs.words.command.Goals as goal
+
+pub returns-in_err-matches-clause-words : goal.returns-in_err-matches-clause-words
+returns-in_err-matches-clause-words o c =
+    let words = map o.S.AsStr.text c.args.words.now in
+    let told = err_from_is_err_and c.from_residual-in_err-matches.result c.from_residual-in_err-matches.ensures.1 in
+    rw told.1 (λ is taken. absurd (told.2 is (c.in_err-matches.ensures.passes
+    (ap (λ (a : App). takes a words) c.in_ok-line.ensures ∙ taken))))
+
+pub returns-in-Some-clause-ok : goal.returns-in-Some-clause-ok
+returns-in-Some-clause-ok o c =
+    let words = map o.S.AsStr.text c.args.words.now in
+    let met = subcommand_met c.in_ok-matches.matches _ words c.in-Some.name.now (rows_of (found_of c.in-Some.found.now))
+    c.in_ok-line.ensures c.in_ok-matches.ensures.matches c.in-Some.ensures.name c.in-Some.ensures.rows in
+    subst (λ (o : Option (Text × List Row)). IfOk c.named.result (Holds o)) met c.named.ensures.ok
+
+pub returns-in-Some-clause-words : goal.returns-in-Some-clause-words
+returns-in-Some-clause-words o c =
+    let words = map o.S.AsStr.text c.args.words.now in
+    let met = subcommand_met c.in_ok-matches.matches _ words c.in-Some.name.now (rows_of (found_of c.in-Some.found.now))
+    c.in_ok-line.ensures c.in_ok-matches.ensures.matches c.in-Some.ensures.name c.in-Some.ensures.rows in
+    IfErr-weaker c.named.result _ _ (λ e h is _. subst (λ (o : Option (Text × List Row)). NoneHolds (Holds o)) met (h is))
+    c.named.ensures.words

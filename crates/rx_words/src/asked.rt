@@ -1,0 +1,77 @@
+//! What the program is asked to do.
+ghost use Rattle.std.specs.Prelude.{◌≡◌, map};
+ghost use Rattle.rx_words.specs.Paths.{paths_of};
+
+/// The input files of `run` and `plan` (docs/PRODUCT.md, "The program rxbatch").
+#[derive(Clone, Copy, Debug, PartialEq, Eq)]
+pub struct Inputs<'a> {
+    /// `--sheet`: the plan sheet.
+    pub sheet: &'a str,
+    /// `--books`: the opening books.
+    pub books: &'a str,
+    /// `--batch`: the batch file.
+    pub batch: &'a str,
+}
+
+/// The output files of `run`.
+#[derive(Clone, Copy, Debug, PartialEq, Eq)]
+pub struct Outputs<'a> {
+    /// `--response`: the response file.
+    pub response: &'a str,
+    /// `--books-out`: the end books.
+    pub books: &'a str,
+    /// `--settlement`: the settlement.
+    pub settlement: &'a str,
+}
+
+/// The words of `run`. Its six paths are different texts.
+#[derive(Clone, Copy, Debug, PartialEq, Eq)]
+pub struct RunWords<'a> {
+    pub inputs: Inputs<'a>,
+    pub outputs: Outputs<'a>,
+    /// `--stamp`, as it was written; whether it is a stamp is the run's to say.
+    pub stamp: &'a str,
+    /// `--workers`, 0 to 65535; whether so many can work is the run's to say.
+    pub workers: u16,
+    /// `--plain`: adjudicate over plain lists, one record after another.
+    pub plain: bool,
+}
+
+impl<'a> RunWords<'a> {
+    /// The six paths, inputs before outputs.
+    pub(crate) fn paths(&self) -> [&'a str; 6]
+        ensures { map (λ p. p.now) result ≡ paths_of self.now }
+    {
+        let (inputs, outputs) = (self.inputs, self.outputs);
+        [
+            inputs.sheet,
+            inputs.books,
+            inputs.batch,
+            outputs.response,
+            outputs.books,
+            outputs.settlement,
+        ]
+    }
+}
+
+/// The words of `show`.
+#[derive(Clone, Copy, Debug, PartialEq, Eq)]
+pub struct ShowWords<'a> {
+    /// `--sheet`: the plan sheet.
+    pub sheet: &'a str,
+    /// `--batch`: the batch file.
+    pub batch: &'a str,
+}
+
+/// One of the four subcommands, with the values of its options (docs/PRODUCT.md, "The program rxbatch").
+#[derive(Clone, Copy, Debug, PartialEq, Eq)]
+pub enum Command<'a> {
+    /// `run`: adjudicates a batch file.
+    Run(RunWords<'a>),
+    /// `show`: one line per transaction.
+    Show(ShowWords<'a>),
+    /// `plan`: the waves and the chain.
+    Plan(Inputs<'a>),
+    /// `sample`: the reply to the base claim.
+    Sample,
+}

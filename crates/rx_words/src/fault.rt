@@ -1,0 +1,60 @@
+//! Why there is no command.
+ghost use Rattle.std.specs.Prelude.{◌≡◌, ◌≢◌};
+ghost use Rattle.clap.specs.Words.{kind_of};
+ghost use Rattle.rx_words.specs.Faults.{IsWords, memory_fault, number_of, out_of_memory};
+
+use clap::error::ErrorKind;
+use std::alloc::AllocError;
+use std::fmt;
+
+/// Why the words give no command (docs/PRODUCT.md, "The program rxbatch"). Its `Display` is the text for standard
+/// error.
+#[derive(Debug, Drop)]
+pub enum WordsFault {
+    /// The words aren't understood, or ask for help: the text is `clap`'s. Without a text where `run` names one path
+    /// twice.
+    Words(Option<clap::Error>),
+    /// Memory was wanting.
+    Memory,
+}
+
+impl WordsFault {
+    /// The fault's number: 1 Words, 2 Memory (docs/CALLS.md, "rxbatch").
+    pub fn code(&self) -> u8
+        ensures { result ≡ number_of self.now }
+    {
+        match self {
+            WordsFault::Words(_) => 1,
+            WordsFault::Memory => 2,
+        }
+    }
+}
+
+impl From<AllocError> for WordsFault {
+    ghost from_gives = { λ _ fault. fault ≡ memory_fault };
+
+    fn from(_error: AllocError) -> WordsFault {
+        WordsFault::Memory
+    }
+}
+
+impl From<clap::Error> for WordsFault {
+    ghost from_gives = { λ told fault. IsWords fault → kind_of told ≢ out_of_memory };
+
+    fn from(told: clap::Error) -> WordsFault {
+        match told.kind() {
+            ErrorKind::OutOfMemory => WordsFault::Memory,
+            _ => WordsFault::Words(Some(told)),
+        }
+    }
+}
+
+impl fmt::Display for WordsFault {
+    fn fmt<W: fmt::Write>(&self, f: &mut fmt::Formatter<W>) -> fmt::Result {
+        match self {
+            WordsFault::Words(Some(told)) => told.fmt(f),
+            WordsFault::Words(None) => Ok(()),
+            WordsFault::Memory => f.write_str("refused 6 0 0\n"),
+        }
+    }
+}

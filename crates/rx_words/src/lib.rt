@@ -1,0 +1,30 @@
+//! Command words: what the program `rxbatch` is asked to do.
+//!
+//! In come the words of the command line, the program's name first; out comes a `Command`, one of the four
+//! subcommands with the values of its options, or a `WordsFault`, whose `Display` is the text for standard error.
+//! The words are read by `clap`; what they hold is defined in `specs/` over `clap`'s own matches: `Syntax` has the
+//! command line, `Asked` what a command holds of the matches.
+//!
+//! ```rust
+//! let words = ["rxbatch", "show", "--sheet", "sheet.toml", "--batch", "batch.bin"];
+//! match rx_words::command(alloc, words.as_slice()) {
+//!     Ok(Command::Show(show)) => ..,
+//!     Err(fault) => eprint!(rt; "{fault}")?,
+//!     ..
+//! }
+//! ```
+//!
+//! No file is opened here, and what a path names isn't looked at: paths are compared as texts.
+#![tactic(auto)]
+
+mod asked;
+mod fault;
+mod paths;
+mod syntax;
+#[cfg(test)]
+mod tests;
+mod words;
+
+pub use asked::{Command, Inputs, Outputs, RunWords, ShowWords};
+pub use fault::WordsFault;
+pub use words::command;

@@ -1,0 +1,165 @@
+use super::*;
+use std::alloc::Global;
+use std::test::*;
+
+/// A whole line of `run`, as docs/CASES.md has it for told-refusals, with the end books under this path and so many
+/// workers.
+fn run_words<'a>(books_out: &'a str, workers: &'a str) -> [&'a str; 18] {
+    [
+        "rxbatch",
+        "run",
+        "--sheet",
+        "sheet.toml",
+        "--books",
+        "books.txt",
+        "--batch",
+        "batch.bin",
+        "--stamp",
+        "202603020600",
+        "--workers",
+        workers,
+        "--response",
+        "response.bin",
+        "--books-out",
+        books_out,
+        "--settlement",
+        "settlement.txt",
+    ]
+}
+
+#[test]
+fn run_has_each_option(rt: HostRuntime) -> Result<(), Fail> {
+    let words = run_words("books-out.txt", "65535");
+    let Ok(Command::Run(run)) = command(rt.alloc(), words.as_slice()) else {
+        return Err(Fail::from("no run"));
+    };
+    assert!(rt;
+        run.inputs
+            == Inputs {
+                sheet: "sheet.toml",
+                books: "books.txt",
+                batch: "batch.bin"
+            }
+    );
+    let files = Outputs {
+        response: "response.bin",
+        books: "books-out.txt",
+        settlement: "settlement.txt",
+    };
+    assert!(rt; run.outputs == files);
+    assert_eq!(rt; run.stamp, "202603020600");
+    assert_eq!(rt; run.workers, 65535);
+    assert!(rt; !run.plain);
+    Ok(())
+}
+
+#[test]
+fn plain_may_stand_anywhere(rt: HostRuntime) -> Result<(), Fail> {
+    let words = [
+        "rxbatch",
+        "run",
+        "--plain",
+        "--sheet=s",
+        "--books=b",
+        "--batch=c",
+        "--stamp=d",
+        "--workers=007",
+        "--response=e",
+        "--books-out=f",
+        "--settlement=g",
+    ];
+    let Ok(Command::Run(run)) = command(rt.alloc(), words.as_slice()) else {
+        return Err(Fail::from("no run"));
+    };
+    assert!(rt; run.plain);
+    assert_eq!(rt; run.workers, 7);
+    Ok(())
+}
+
+#[test]
+fn the_other_three(rt: HostRuntime) -> Result<(), Fail> {
+    let alloc = rt.alloc();
+    let show = ["rxbatch", "show", "--sheet", "s", "--batch", "c"];
+    let plan = [
+        "rxbatch", "plan", "--batch", "c", "--books", "b", "--sheet", "s",
+    ];
+    let sample = ["rxbatch", "sample"];
+    let shown = ShowWords {
+        sheet: "s",
+        batch: "c",
+    };
+    assert!(rt;
+        matches!(command(alloc, show.as_slice()), Ok(Command::Show(words)) if words == shown)
+    );
+    let planned = Inputs {
+        sheet: "s",
+        books: "b",
+        batch: "c",
+    };
+    assert!(rt;
+        matches!(command(alloc, plan.as_slice()), Ok(Command::Plan(words)) if words == planned)
+    );
+    assert!(rt; matches!(command(alloc, sample.as_slice()), Ok(Command::Sample)));
+    Ok(())
+}
+
+/// Whether the words are refused as Words, with a text or without.
+fn is_refused(alloc: Global, words: &[&str], with_text: bool) -> bool {
+    match command(alloc, words) {
+        Err(WordsFault::Words(told)) => told.is_some() == with_text,
+        _ => false,
+    }
+}
+
+#[test]
+fn one_path_twice_has_no_text(rt: HostRuntime) -> Result<(), Fail> {
+    let words = run_words("books.txt", "1");
+    assert!(rt; is_refused(rt.alloc(), words.as_slice(), false));
+    Ok(())
+}
+
+#[test]
+fn misunderstood_words_have_claps_text(rt: HostRuntime) -> Result<(), Fail> {
+    let alloc = rt.alloc();
+    assert!(rt; is_refused(alloc, &["rxbatch"], true));
+    assert!(rt; is_refused(alloc, &["rxbatch", "--help"], true));
+    assert!(rt; is_refused(alloc, &["rxbatch", "sample", "more"], true));
+    assert!(rt; is_refused(alloc, &["rxbatch", "show", "--sheet", "s"], true));
+    Ok(())
+}
+
+#[test]
+fn workers_are_digits_up_to_65535(rt: HostRuntime) -> Result<(), Fail> {
+    let alloc = rt.alloc();
+    assert!(rt; is_refused(alloc, run_words("o", "65536").as_slice(), true));
+    assert!(rt; is_refused(alloc, run_words("o", "+5").as_slice(), true));
+    assert!(rt; is_refused(alloc, run_words("o", "").as_slice(), true));
+    Ok(())
+}
+
+#[test]
+fn the_text_is_claps(rt: HostRuntime) -> Result<(), Fail> {
+    let alloc = rt.alloc();
+    let Err(fault) = command(alloc, &["rxbatch", "pay"]) else {
+        return Err(Fail::from("it was understood"));
+    };
+    assert_eq!(rt; fault.code(), 1);
+    let text = format!(in alloc; "{fault}")?;
+    assert!(rt;
+        text.as_str()
+            .starts_with("error: unrecognized subcommand 'pay'"),
+        "{text}"
+    );
+    Ok(())
+}
+
+#[test]
+fn owned_words_are_read(rt: HostRuntime) -> Result<(), Fail> {
+    let alloc = rt.alloc();
+    let words = [
+        String::from_str(alloc, "rxbatch")?,
+        String::from_str(alloc, "sample")?,
+    ];
+    assert!(rt; matches!(command(alloc, words.as_slice()), Ok(Command::Sample)));
+    Ok(())
+}

@@ -1,0 +1,167 @@
+//! The words read.
+ghost use Rattle.std.specs.Prelude.{◌≡◌, true, IfErr, IfNone, IfOk, IfSome, map, option_map};
+ghost use Rattle.clap.specs.Words.{first_of, found_of, rows_of, subcommand_of, takes};
+ghost use Rattle.rx_words.specs.Syntax.{whole_line};
+ghost use Rattle.rx_words.specs.Asked.{HasNumber, Holds, HoldsInputs, HoldsNamed, HoldsOutputs, HoldsRun, HoldsRunApart};
+ghost use Rattle.rx_words.specs.Asked.{HoldsShow, NoneHolds, is_set};
+ghost use Rattle.rx_words.specs.Faults.{IsWords};
+
+use crate::asked::{Command, Inputs, Outputs, RunWords, ShowWords};
+use crate::fault::WordsFault;
+use crate::paths::names_one_twice;
+use crate::syntax::line;
+use clap::ArgMatches;
+use clap::error::ErrorKind;
+use std::alloc::Global;
+use std::convert::AsStr;
+
+/// The text of an option.
+fn text<'a>(found: &ArgMatches<'a>, name: &str) -> Option<&'a str>
+    ensures { option_map (λ t. t.now) result ≡ first_of name.now (rows_of (found_of found.now)) }
+{
+    found.get_str(name)
+}
+
+/// Whether a flag stands.
+fn flag(found: &ArgMatches<'_>, name: &str) -> bool
+    ensures { result ≡ is_set name.now (rows_of (found_of found.now)) }
+{
+    matches!(text(found, name), Some("true"))
+}
+
+/// The number of an option that is written in digits alone: `clap`'s numbers may have a sign.
+fn number(found: &ArgMatches<'_>, name: &str) -> Option<u16>
+    ensures some { IfSome result (HasNumber (rows_of (found_of found.now)) name.now) }
+    ensures none { IfNone result (NoneHolds (HasNumber (rows_of (found_of found.now)) name.now)) }
+{
+    let written = text(found, name)?;
+    if matches!(written.as_bytes(), [b'+', ..]) {
+        return None;
+    }
+    written.parse().ok()
+}
+
+fn inputs<'a>(found: &ArgMatches<'a>) -> Option<Inputs<'a>>
+    ensures some { IfSome result (HoldsInputs (rows_of (found_of found.now))) }
+    ensures none { IfNone result (NoneHolds (HoldsInputs (rows_of (found_of found.now)))) }
+{
+    let sheet = text(found, "sheet")?;
+    let books = text(found, "books")?;
+    let batch = text(found, "batch")?;
+    Some(Inputs {
+        sheet,
+        books,
+        batch,
+    })
+}
+
+fn outputs<'a>(found: &ArgMatches<'a>) -> Option<Outputs<'a>>
+    ensures some { IfSome result (HoldsOutputs (rows_of (found_of found.now))) }
+    ensures none { IfNone result (NoneHolds (HoldsOutputs (rows_of (found_of found.now)))) }
+{
+    let response = text(found, "response")?;
+    let books = text(found, "books-out")?;
+    let settlement = text(found, "settlement")?;
+    Some(Outputs {
+        response,
+        books,
+        settlement,
+    })
+}
+
+fn show<'a>(found: &ArgMatches<'a>) -> Option<ShowWords<'a>>
+    ensures some { IfSome result (HoldsShow (rows_of (found_of found.now))) }
+    ensures none { IfNone result (NoneHolds (HoldsShow (rows_of (found_of found.now)))) }
+{
+    let sheet = text(found, "sheet")?;
+    let batch = text(found, "batch")?;
+    Some(ShowWords { sheet, batch })
+}
+
+fn run<'a>(found: &ArgMatches<'a>) -> Option<RunWords<'a>>
+    ensures some { IfSome result (HoldsRun (rows_of (found_of found.now))) }
+    ensures none { IfNone result (NoneHolds (HoldsRun (rows_of (found_of found.now)))) }
+{
+    let inputs = inputs(found)?;
+    let outputs = outputs(found)?;
+    let stamp = text(found, "stamp")?;
+    let workers = number(found, "workers")?;
+    let plain = flag(found, "plain");
+    Some(RunWords {
+        inputs,
+        outputs,
+        stamp,
+        workers,
+        plain,
+    })
+}
+
+/// `run` of which no path stands twice.
+fn run_apart<'a>(alloc: Global, found: &ArgMatches<'a>) -> Result<RunWords<'a>, WordsFault>
+    ensures ok { IfOk result (HoldsRunApart (rows_of (found_of found.now))) }
+    ensures words { IfErr result (λ e. IsWords e → NoneHolds (HoldsRunApart (rows_of (found_of found.now)))) }
+{
+    let Some(run) = run(found) else {
+        return Err(misread(alloc));
+    };
+    if names_one_twice(run.paths().as_slice()) {
+        return Err(WordsFault::Words(None));
+    }
+    Ok(run)
+}
+
+/// The command of this name.
+fn named<'a>(alloc: Global, name: &str, found: &ArgMatches<'a>) -> Result<Command<'a>, WordsFault>
+    ensures ok { IfOk result (HoldsNamed name.now (rows_of (found_of found.now))) }
+    ensures words { IfErr result (λ e. IsWords e → NoneHolds (HoldsNamed name.now (rows_of (found_of found.now)))) }
+{
+    match name {
+        "run" => Ok(Command::Run(run_apart(alloc, found)?)),
+        "show" => match show(found) {
+            Some(show) => Ok(Command::Show(show)),
+            None => Err(misread(alloc)),
+        },
+        "plan" => match inputs(found) {
+            Some(inputs) => Ok(Command::Plan(inputs)),
+            None => Err(misread(alloc)),
+        },
+        "sample" => Ok(Command::Sample),
+        _ => Err(misread(alloc)),
+    }
+}
+
+/// The fault of words that `clap` lets through, with the usage. Of them only a number with a sign comes here, since
+/// `clap` lets no option be absent that a command wants.
+fn misread(alloc: Global) -> WordsFault {
+    let Ok(mut line) = line(alloc) else {
+        return WordsFault::Memory;
+    };
+    match line.error(
+        ErrorKind::ValueValidation,
+        "invalid value for '--workers <N>': a number is digits alone",
+    ) {
+        Ok(told) => WordsFault::Words(Some(told)),
+        Err(_) => WordsFault::Memory,
+    }
+}
+
+/// What the words ask for, the program's name being the first (docs/PRODUCT.md, "The program rxbatch").
+///
+/// At `Ok` the command holds the subcommand and the option values that `clap`'s matches of the words hold; the
+/// workers are 0 to 65535, and the six paths of `run` are different texts.
+///
+/// # Errors
+///
+/// `Words` where `clap` doesn't take the words, help being asked for too, where the workers aren't digits alone, and
+/// where `run` names one path twice; `Memory` where memory was wanting.
+pub fn command<'a, S: AsStr>(alloc: Global, words: &'a [S]) -> Result<Command<'a>, WordsFault>
+    ensures ok { IfOk result (Holds (subcommand_of whole_line (map S.text words.now))) }
+    ensures words { IfErr result (λ e. IsWords e → takes whole_line (map S.text words.now) ≡ true
+        → NoneHolds (Holds (subcommand_of whole_line (map S.text words.now)))) }
+{
+    let matches = line(alloc)?.try_get_matches_from(words)?;
+    match matches.subcommand() {
+        Some((name, found)) => named(alloc, name, found),
+        None => Err(misread(alloc)),
+    }
+}
