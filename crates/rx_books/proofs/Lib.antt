@@ -1,3 +1,4 @@
+pub mod AllRight
 pub mod Changed
 pub mod Grown
 pub mod Limits

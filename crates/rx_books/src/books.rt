@@ -60,7 +60,9 @@ impl Books {
     pub fn read(alloc: Global, text: &[u8]) -> Result<Books, BooksFault>
         ensures ok { IfOk result (λ books. IsBooksText text.now books.period books.ledger) }
         ensures refuses { IfErr result (λ fault. UnlessMemory fault (HasBooksFault text.now fault)) }
-        // The same, computed.
+        // The text is that of the books in some version, which is what its head says.
+        ensures text { IfOk result (λ books. (v : Version) × (text.now ≡ books_text v books.period books.ledger)) }
+        // The same, computed; a fault is the first of the text, or that of a figure.
         ensures value { Gives result (books_of text.now) }
     {
         let printed = read_printed(alloc, text)?;
