@@ -42,7 +42,7 @@ fn of_reading(device: Device, fault: ReadFault) -> IoFault
 }
 
 // The pieces of the batch file, which are read to the end even after a fault: the pieces keep it.
-#[derive(Debug, Drop)]
+#[derive(Drop)]
 struct FedBatch {
     pieces: Pieces,
 }
@@ -75,7 +75,7 @@ fn read_pieces<S: Source>(alloc: Global, source: &mut S) -> Result<Pieces, IoFau
 }
 
 // What was read of the inputs.
-#[derive(Debug, Drop)]
+#[derive(Drop)]
 pub(crate) struct ReadInputs {
     pub(crate) sheet: Vec<u8>,
     pub(crate) books: Vec<u8>,
