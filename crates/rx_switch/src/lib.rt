@@ -28,6 +28,7 @@ pub use inputs::read_all;
 pub use job::{Job, Output};
 pub use on_devices::run_io;
 pub use running::run;
+pub use rx_devices::{ReaderSource, Sink, Source, WriterSink};
 pub use rx_sample::sample_line;
 pub use show::show_text;
 pub use telling::told;
