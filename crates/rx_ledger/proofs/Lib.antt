@@ -2,6 +2,7 @@ pub mod Alike
 pub mod Decided
 pub mod Ledgers
 pub mod Limits
+pub mod NamedKeys
 pub mod OfMember
 pub mod Orders
 pub mod Passed

@@ -4,6 +4,7 @@ pub mod Fold
 pub mod Keys
 pub mod Ledger
 pub mod Members
+pub mod Named
 pub mod Places
 pub mod Plan
 pub mod Planned
