@@ -1,4 +1,7 @@
+pub mod BooksFile
 pub mod Changed
+pub mod FamilyOrder
+pub mod Figured
 pub mod Grown
 pub mod Limits
 pub mod Mapped
@@ -10,3 +13,4 @@ pub mod Same
 pub mod Split
 pub mod Written
 pub mod Wrong
+pub mod WrongLine

@@ -1,9 +1,9 @@
 -- A file that was read has one figure for each member, and no more lines than line feeds.
-use Rattle.std.proofs.Common.{◌≡◌, ℕ, zero, suc, ◌+◌, ◌<◌, ◌≤◌, ltb, List, [], ◌∷◌, ◌++◌, length, eqb, Bool, true, false, cond, Option, Some, None, Result, Ok, Err, refl, sym, subst, ap, ◌∙◌, inl, inr, arith, length-append}
+use Rattle.std.proofs.Common.{◌≡◌, ℕ, suc, ◌+◌, ◌≤◌, ltb, List, [], ◌∷◌, ◌++◌, length, eqb, true, Option, Some, None, Result, Ok, Err, refl, subst, ap, ◌∙◌, inl, inr, arith, length-append}
 use Rattle.std.specs.Prelude.{◌&&◌}
 use Rattle.std.proofs.lemmas.Bool.{and_parts, cases_Bool, ltb-false}
 use Rattle.std.proofs.lemmas.List.Splits.{length-slice_split}
-use Rattle.rx_fields.specs.Order.{id_cmp, key_cmp}
+use Rattle.rx_fields.specs.Order.{key_cmp}
 use Rattle.rx_order.specs.Ascending.{is_past, put}
 use Rattle.rx_order.proofs.Edits.{put-past}
 use Rattle.rx_ledger.specs.Members.{member_cmp, member_key}
@@ -13,7 +13,6 @@ use Rattle.rx_books_text.specs.declared.fault.BooksFault.{BooksFault}
 use Rattle.rx_books_text.specs.declared.head.Head.{Head}
 use Rattle.rx_books_text.specs.declared.line.Line.{Line}
 use Rattle.rx_books_text.specs.declared.line.Line.TheVariants as line
-use Rattle.rx_books_text.specs.Fault.{◌>>=◌}
 use Rattle.rx_books_text.specs.LineReading.{head_of, line_of}
 use Rattle.rx_books_text.specs.Printed.{PrintedParts, line_feeds, lines_of}
 use Rattle.rx_books_text.specs.TextFault.{is_known, is_next, is_nil, no_lines, with_line}

@@ -1,6 +1,6 @@
 -- The first wrong line of a books file: among the member lines, else among the total lines.
 use Rattle.std.proofs.Common.{◌≡◌, ℕ, zero, suc, ◌+◌, ◌<◌, List, [], ◌∷◌, ◌++◌, length, get_or, take, map, Bool, true, false, not, cond, Option, Some, None, refl, sym, subst, ap, ◌∙◌, inl, inr, arith}
-use Rattle.std.specs.List.{list_all, position, position_from}
+use Rattle.std.specs.List.{position, position_from}
 use Rattle.std.specs.Option.{option_eq}
 use Rattle.std.proofs.lemmas.Bool.{cases_Bool}
 use Rattle.std.proofs.lemmas.Iterator.Adapters.{position_from-zero}
@@ -10,7 +10,6 @@ use Rattle.rx_ledger.specs.declared.member.Member.{Member}
 use Rattle.rx_ledger.specs.declared.row.Row.{Row}
 use Rattle.rx_books_text.specs.declared.line.Line.{Line}
 use Rattle.rx_books_text.specs.declared.line.Line.TheVariants as line
-use Rattle.rx_books_text.specs.declared.line.TotalLine.{TotalLine}
 use Rattle.rx_books_text.specs.Printed.{PrintedParts, lines_of, member_lines}
 use Rattle.rx_books.specs.Figures.{are_sums, first_wrong, has_all_totals, is_figure, unsummed, wrong_from, wrong_line}
 use Rattle.rx_books.proofs.Written.{member_lines-more}

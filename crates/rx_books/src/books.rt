@@ -1,8 +1,10 @@
-ghost use Rattle.std.specs.Prelude.{◌≡◌, ◌↔◌, ◌<◌, ◌^◌, IfOk, IsTrue, length};
+ghost use Rattle.std.specs.Prelude.{◌≡◌, ◌↔◌, ◌<◌, ◌^◌, IfErr, IfOk, IsTrue, Ok, length};
 ghost use Rattle.std.specs.Option.{option_copied};
-ghost use Rattle.rx_ledger.specs.Ledger.{row_under};
+ghost use Rattle.rx_fields.specs.Numbered.{Span};
+ghost use Rattle.rx_ledger.specs.Ledger.{Ledger, row_under};
+ghost use Rattle.rx_books.specs.BooksFile.{HasBooksFault, IsBooksText};
 ghost use Rattle.rx_books.specs.BooksText.{books_text};
-ghost use Rattle.rx_books_text.specs.Fault.{Gives};
+ghost use Rattle.rx_books_text.specs.Fault.{Gives, UnlessMemory};
 ghost use Rattle.rx_books_text.specs.Printed.{lines_of};
 ghost use Rattle.rx_books.specs.Figures.{books_of, unsummed, wrong_line};
 ghost use Rattle.rx_books.specs.LedgerBooks.{deductible_of_family, deductible_of_member, out_of_pocket_of_family};
@@ -56,8 +58,22 @@ impl Books {
         })
     }
 
-    /// The books of a text, or its first fault (docs/FORMATS.md, "Books file").
+    /// The books of a text, or its first fault (docs/FORMATS.md, "Books file"). A text is accepted exactly where it is the
+    /// one text of these books in a version.
     pub fn read(alloc: Global, text: &[u8]) -> Result<Books, BooksFault>
+        ensures ok { IfOk result (λ books. IsBooksText text.now books.period books.ledger) }
+        // The text of books is read as those books, unless memory was wanting.
+        ensures reads { (period : Span) → (L : Ledger) → IsBooksText text.now period L
+            → Gives result (Ok (record { period = period; ledger = L })) }
+        ensures refuses { IfErr result (λ fault. UnlessMemory fault (HasBooksFault text.now fault)) }
+        // The same, computed.
+        ensures value { Gives result (books_of text.now) }
+    {
+        Books::read_summed(alloc, text)
+    }
+
+    // The books that are printed, where each figure is the sum.
+    fn read_summed(alloc: Global, text: &[u8]) -> Result<Books, BooksFault>
         ensures { Gives result (books_of text.now) }
     {
         let printed = read_printed(alloc, text)?;

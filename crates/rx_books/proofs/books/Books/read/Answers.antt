@@ -1,13 +1,12 @@
-use Rattle.std.proofs.Common.{◌≡◌, arith}
-use Rattle.rx_books.proofs.Limits.{lines_few, printed_holds}
+use Rattle.rx_books.proofs.BooksFile.{accepted, reads, refused}
 use Rattle.rx_books.proofs.books.Books.read.Goals as goal
 
-pub wrong_line-requires-clause-one_each : goal.wrong_line-requires-clause-one_each
-wrong_line-requires-clause-one_each c =
-    (printed_holds c.args.text.now c.in_ok-printed.printed c.in_ok-printed.ensures.value).one_each
+pub returns-clause-ok : goal.returns-clause-ok
+returns-clause-ok c = accepted c.args.text.now c.read_summed.result c.read_summed.ensures
 
-pub wrong_line-requires-clause-few : goal.wrong_line-requires-clause-few
-wrong_line-requires-clause-few c =
-    let few = lines_few c.in_ok-printed.printed 1_000_001
-    (printed_holds c.args.text.now c.in_ok-printed.printed c.in_ok-printed.ensures.value) in
-    omega arith
+pub returns-clause-reads : goal.returns-clause-reads
+returns-clause-reads c period L books =
+    reads c.args.text.now c.read_summed.result c.read_summed.ensures period L books
+
+pub returns-clause-refuses : goal.returns-clause-refuses
+returns-clause-refuses c = refused c.args.text.now c.read_summed.result c.read_summed.ensures

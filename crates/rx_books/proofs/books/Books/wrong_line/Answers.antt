@@ -1,18 +1,16 @@
-use Rattle.std.proofs.Common.{arith, ◌≡◌, ◌+◌, ℕ, Bool, List, length, None, not, Option, Some, true, false, refl, sym, ap, ◌∙◌}
+use Rattle.std.proofs.Common.{arith, ◌≡◌, ◌+◌, ℕ, List, length, not, Option, Some, sym, ap, ◌∙◌}
 use Rattle.std.specs.List.{list_all, position}
 use Rattle.rx_ledger.specs.declared.member.Member.{Member}
-use Rattle.rx_ledger.specs.declared.row.Row.{Row}
 use Rattle.rx_ledger.specs.Ledger.{Ledger}
-use Rattle.rx_books_text.specs.declared.line.Line.{Line}
 use Rattle.rx_books_text.specs.declared.line.Line.TheVariants as line
 use Rattle.rx_books_text.specs.declared.line.TotalLine.{TotalLine}
 use Rattle.rx_books_text.specs.Printed.{PrintedParts, member_lines}
 use Rattle.rx_books.specs.BooksText.{families_of}
 use Rattle.rx_books.specs.FamilyBook.{FamilyBook}
-use Rattle.rx_books.specs.Figures.{are_sums, has_all_totals, has_total, unsummed, wrong_line}
+use Rattle.rx_books.specs.Figures.{are_sums, has_all_totals, has_total, unsummed}
 use Rattle.rx_books.specs.LedgerBooks.{LedgerBooks, ledger_of}
 use Rattle.rx_books.proofs.Missing.{all_totals}
-use Rattle.rx_books.proofs.Wrong.{none-wrong, one-missing, wrong, wrong-member, wrong-total}
+use Rattle.rx_books.proofs.Wrong.{none-wrong, one-missing, wrong-member, wrong-total}
 use Rattle.rx_books.proofs.books.Books.wrong_line.Goals as goal
 
 -- what the search among the member lines and among the total lines answered, in the file's own words

@@ -1,11 +1,9 @@
-use Rattle.std.proofs.Common.{◌≡◌, ◌∷◌, add-one, zero-add, Some, false, get_or, Bool, None, not, suc, take, true, refl, sym, ap, ◌∙◌, arith}
-use Rattle.std.specs.List.{position_from}
+use Rattle.std.proofs.Common.{◌≡◌, add-one, zero-add, Some, false, get_or, Bool, not, suc, take, true, sym, ap, ◌∙◌, arith}
 use Rattle.std.proofs.lemmas.Iterator.Adapters.{position_from-zero}
 use Rattle.rx_books_text.specs.declared.line.Line.{Line}
 use Rattle.rx_books_text.specs.declared.line.Line.TheVariants as line
 use Rattle.rx_books_text.specs.Printed.{member_lines}
 use Rattle.rx_books.specs.Figures.{are_sums, is_figure}
-use Rattle.rx_books.specs.LedgerBooks.{deductible_of_member}
 use Rattle.rx_books.proofs.Wrong.{figure_tested, member-right, member-wrong}
 use Rattle.rx_books.proofs.books.Books.wrong_member.Goals as goal
 
