@@ -17,6 +17,7 @@ use Rattle.rx_books_text.specs.declared.fault.BooksFault.{BooksFault}
 use Rattle.rx_books_text.specs.declared.line.Line.TheVariants as line
 use Rattle.rx_books_text.specs.declared.line.TotalLine.{TotalLine}
 use Rattle.rx_books_text.specs.declared.version.Version.{Version}
+use Rattle.rx_books_text.specs.declared.version.Version.TheVariants.{Three}
 use Rattle.rx_books_text.specs.Fault.{◌>>=◌, Gives, UnlessMemory}
 use Rattle.rx_books_text.specs.LineFits.{IsLine, PrintsDeductible}
 use Rattle.rx_books_text.specs.Printed.{IsPrinted, PrintedParts, has_member, lines_of, member_lines, printed_text, total_family}
@@ -27,11 +28,12 @@ use Rattle.rx_books_text.proofs.TextLaws.{IsReading, reading}
 use Rattle.rx_books_text.proofs.TextSteps.{unless_so}
 use Rattle.rx_books.specs.BooksFile.{HasBooksFault, IsBooksText}
 use Rattle.rx_books.specs.BooksFile.HasBooksFault.{of_figures, of_lines}
-use Rattle.rx_books.specs.BooksText.{families_of, parts_of, total_of}
+use Rattle.rx_books.specs.BooksText.{books_text, families_of, parts_of, total_of}
 use Rattle.rx_books.specs.Figures.{are_sums, books_of, books_of_parts, first_wrong, has_all_totals, has_total, unless_wrong, unsummed, wrong_from, wrong_line}
 use Rattle.rx_books.specs.LedgerBooks.{LedgerBooks}
 use Rattle.rx_books.proofs.FamilyOrder.{families_rise, family_among, itself}
 use Rattle.rx_books.proofs.Figured.{IsRight, all_back, all_behind, all_front, all_inhabited, all_listed, all_right, claims_right, contains_map, deductibles_are, figure, members_right, nothing_wrong, passes, passing, totals_are, totals_right}
+use Rattle.rx_books.proofs.VersionThree.{three}
 use Rattle.rx_books.proofs.WrongLine.{wrong_line_is}
 
 -- ---- the families of the total lines
@@ -146,6 +148,12 @@ pub accepted : (text : List ℕ) (r : Result LedgerBooks BooksFault) → Gives r
     → IfOk r (λ b. IsBooksText text b.period b.ledger)
 accepted text (Ok b) is = subst (Says text) is (says text)
 accepted text (Err f) is = tt
+
+-- what was read, written in version 3, is a text of the same books
+pub accepted_again : (text : List ℕ) (r : Result LedgerBooks BooksFault) → Gives r (books_of text)
+    → IfOk r (λ b. IsBooksText (books_text Three b.period b.ledger) b.period b.ledger)
+accepted_again text (Ok b) is = three text b.period b.ledger (accepted text (Ok b) is)
+accepted_again text (Err f) is = tt
 
 pub refused : (text : List ℕ) (r : Result LedgerBooks BooksFault) → Gives r (books_of text)
     → IfErr r (λ f. UnlessMemory f (HasBooksFault text f))

@@ -11,6 +11,7 @@ pub mod OneRow
 pub mod Owned
 pub mod Same
 pub mod Split
+pub mod VersionThree
 pub mod Written
 pub mod Wrong
 pub mod WrongLine

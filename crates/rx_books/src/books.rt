@@ -65,6 +65,9 @@ impl Books {
         // The text of books is read as those books, unless memory was wanting.
         ensures reads { (period : Span) → (L : Ledger) → IsBooksText text.now period L
             → Gives result (Ok (record { period = period; ledger = L })) }
+        // What was read, written in version 3, is a text of the same books.
+        ensures again { IfOk result (λ books. IsBooksText
+            (books_text Version.Three books.period books.ledger) books.period books.ledger) }
         ensures refuses { IfErr result (λ fault. UnlessMemory fault (HasBooksFault text.now fault)) }
         // The same, computed.
         ensures value { Gives result (books_of text.now) }

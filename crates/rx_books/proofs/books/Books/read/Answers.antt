@@ -1,4 +1,4 @@
-use Rattle.rx_books.proofs.BooksFile.{accepted, reads, refused}
+use Rattle.rx_books.proofs.BooksFile.{accepted, accepted_again, reads, refused}
 use Rattle.rx_books.proofs.books.Books.read.Goals as goal
 
 pub returns-clause-ok : goal.returns-clause-ok
@@ -10,3 +10,6 @@ returns-clause-reads c period L books =
 
 pub returns-clause-refuses : goal.returns-clause-refuses
 returns-clause-refuses c = refused c.args.text.now c.read_summed.result c.read_summed.ensures
+
+pub returns-clause-again : goal.returns-clause-again
+returns-clause-again c = accepted_again c.args.text.now c.read_summed.result c.read_summed.ensures
