@@ -119,8 +119,8 @@ def answer_of(program, folder, number, plain):
 def difference(program, folder):
     """Which run differs from the first one, None where all are the same."""
     wanted = answer_of(program, folder, *RUNS[0])
-    if wanted[0] not in (0, 1):
-        return f"status {wanted[0]}"
+    if wanted[0] != 0 and not (wanted[0] == 1 and wanted[2].startswith(b"refused ")):
+        return f"status {wanted[0]}: {wanted[2][:60]!r}"
     for number, plain in RUNS[1:]:
         got = answer_of(program, folder, number, plain)
         if got != wanted:

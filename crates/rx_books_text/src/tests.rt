@@ -123,10 +123,32 @@ fn writes_each_kind_of_line(rt: HostRuntime) -> Result<(), Fail> {
 
 #[test]
 fn writes_a_claim(rt: HostRuntime) -> Result<(), Fail> {
-    let claim = again(
+    let line =
+        b"C|1234567893|123|20260228|C100|01|00002000202|30000|30|30000|175|10000|3000|0|000004200000011";
+    let claim = again(rt.alloc(), line)?;
+    assert!(rt; claim.as_slice().starts_with(line));
+    assert_eq!(rt; claim.len(), line.len() + 1);
+    Ok(())
+}
+
+#[test]
+fn shows_what_is_printed(rt: HostRuntime) -> Result<(), Fail> {
+    let text = text(
         rt.alloc(),
-        b"C|1234567893|123|20260228|C100|01|00002000202|30000|30|30000|175|10000|3000|0|000004200000011",
+        &[
+            b"BOOKS|3|20260101|20261231\n",
+            b"M|C100|01|20260101|20261231|10000\n",
+            b"T|C100|13000|10000\n",
+        ],
     )?;
-    assert_eq!(rt; claim.len(), 94);
+    let printed = read_printed(rt.alloc(), text.as_slice())
+        .ok()
+        .ok_or("books")?;
+    assert_eq!(rt; printed.head().version, Version::Three);
+    assert_eq!(rt; printed.deductibles(), [10_000].as_slice());
+    assert_eq!(rt; printed.totals().len(), 1);
+    assert_eq!(rt; printed.totals()[0].out_of_pocket, 13_000);
+    assert_eq!(rt; printed.totals()[0].deductible, Some(10_000));
+    assert_eq!(rt; printed.into_ledger().members().len(), 1);
     Ok(())
 }

@@ -1,11 +1,12 @@
 //! Devices that a run is lent: sources that bytes are read from, sinks that bytes are written to.
 //!
-//! In comes a device; out come all the bytes that it had left, or a text is written to its end. No failed call is
-//! taken for the end, and an endless input is refused. What an input may have is in `specs/Reading.antt`, what a
-//! write did in `specs/Writing.antt`.
+//! In comes a device; out come all the bytes that it had left, or the pieces of a batch that were fed them, or a text
+//! is written to its end. No failed call is taken for the end, and an endless input is refused. What an input may have
+//! is in `specs/Reading.antt`, what a batch was fed in `specs/Feeding.antt`, what a write did in `specs/Writing.antt`.
 //!
 //! ```rust
 //! let text = rx_devices::read_all(alloc, &mut ReaderSource::new(file))?;
+//! let pieces = rx_devices::feed_all(alloc, &mut ReaderSource::new(batch))?;
 //! rx_devices::write_all(&mut WriterSink::new(copy), text.as_slice())?;
 //! ```
 //!

@@ -1,5 +1,5 @@
 -- A list of paths and the rest after its first.
-use Rattle.std.proofs.Common.{◌≡◌, ℕ, ◌<◌, ◌-◌, Bool, ◌||◌, List, [], ◌∷◌, length, map, take, drop, ap, sym, arith, true, false, ◌∙◌}
+use Rattle.std.proofs.Common.{◌≡◌, ◌<◌, ◌-◌, Bool, ◌||◌, List, [], ◌∷◌, length, map, take, drop, ap, sym, arith, true, false, ◌∙◌}
 use Rattle.std.proofs.lemmas.List.{take_all}
 use Rattle.std.specs.List.{list_any, slice_index_or}
 use Rattle.std.specs.Str.{bytes_eq}

@@ -1,73 +1,64 @@
 //! The program `rxbatch`: a pharmacy batch adjudicator (docs/PRODUCT.md, "The program").
 //!
 //! ```text
-//! rxbatch sample      the reply to the base claim, on one line
+//! rxbatch run --sheet F --books F --batch F --stamp S --workers N --response F --books-out F --settlement F [--plain]
+//! rxbatch show --sheet F --batch F      a line for each transaction
+//! rxbatch sample                        the reply to the base claim, on one line
 //! ```
+//!
+//! Words are read by `rx_words`, batches adjudicated by `rx_switch`; here files are opened, and refusals told.
 #![tactic(auto)]
 
-mod sample;
+mod ending;
+mod files;
+mod printing;
+mod running;
 
-use rx_fields::Memory;
-use sample::sample_line;
-use std::io::Write;
+use ending::Ending;
+use rx_words::{Command, WordsFault, command};
 use std::process::ExitCode;
+use std::sync::Wait;
+use std::thread::Threads;
 use std::{env, io};
 
-/// Why the program ends without its work done.
-#[derive(Clone, Copy, Debug, PartialEq, Eq)]
-enum Failure {
-    /// The words aren't understood.
-    Words,
-    /// Memory was wanting.
-    Memory,
-    /// Standard output failed.
-    Output,
-}
-
-impl From<Memory> for Failure {
-    fn from(_refused: Memory) -> Failure {
-        Failure::Memory
-    }
-}
-
 fn main(rt: HostRuntime) -> ExitCode {
-    match run(&rt) {
+    match perform(&rt, &rt) {
         Ok(()) => ExitCode::SUCCESS,
-        Err(Failure::Words) => ExitCode::from(2),
-        Err(Failure::Memory) => {
-            let _ = eprintln!(rt; "refused 6 0 0");
-            ExitCode::from(1)
-        }
-        Err(Failure::Output) => {
-            let _ = eprintln!(rt; "file 0");
-            ExitCode::from(3)
+        Err(ending) => {
+            ending.tell(&rt);
+            ExitCode::from(ending.status())
         }
     }
 }
 
-fn run(rt: &HostRuntime) -> Result<(), Failure> {
-    let mut words = env::args(rt).map_err(|error| unread(&error))?;
-    let _program = words.next();
-    match words.next() {
-        Some(word) if word.as_str() == "sample" && words.next().is_none() => print_sample(rt),
-        _ => Err(Failure::Words),
+// Does what the words ask for; a run starts its threads with the second handle.
+fn perform<R: Threads + Wait + Sync>(rt: &HostRuntime, threads: &R) -> Result<(), Ending> {
+    let words = words(rt)?;
+    match command(rt.alloc(), words.as_slice()) {
+        Ok(Command::Run(words)) => running::run(rt, threads, &words),
+        Ok(Command::Show(words)) => printing::show(rt, &words),
+        Ok(Command::Sample) => printing::sample(rt),
+        Ok(Command::Plan(_)) => Err(Ending::Unknown),
+        Err(fault) => Err(Ending::Words(fault)),
     }
+}
+
+// The words of the command line, the program's name first.
+fn words(rt: &HostRuntime) -> Result<Vec<String>, Ending> {
+    let given = env::args(rt).map_err(|error| unread(&error))?;
+    let mut words = Vec::new(rt.alloc());
+    for word in given {
+        if words.push(word).is_err() {
+            return Err(Ending::Words(WordsFault::Memory));
+        }
+    }
+    Ok(words)
 }
 
 // Why the words can't be had.
-fn unread(error: &io::Error) -> Failure {
+fn unread(error: &io::Error) -> Ending {
     match error.kind() {
-        io::ErrorKind::OutOfMemory => Failure::Memory,
-        _ => Failure::Words,
+        io::ErrorKind::OutOfMemory => Ending::Words(WordsFault::Memory),
+        _ => Ending::Unknown,
     }
-}
-
-fn print_sample(rt: &HostRuntime) -> Result<(), Failure> {
-    let mut line = sample_line(rt.alloc())?;
-    if line.push(b'\n').is_err() {
-        return Err(Failure::Memory);
-    }
-    let mut out = io::writer(rt);
-    out.write_all(&line).map_err(|_error| Failure::Output)?;
-    out.flush().map_err(|_error| Failure::Output)
 }

@@ -1,4 +1,4 @@
-use crate::{Books, Family};
+use crate::Books;
 use rx_books_text::BooksFault;
 use rx_claim::Amounts;
 use rx_fields::{
@@ -160,30 +160,5 @@ fn a_figure_that_is_no_sum_is_told(rt: HostRuntime) -> Result<(), Fail> {
         Books::read(rt.alloc(), missing).err(),
         Some(BooksFault::Totals(3))
     );
-    Ok(())
-}
-
-// Case reversal-of-last-years-claim: the totals are 0 before and after.
-#[test]
-fn last_years_claim_counts_nothing(rt: HostRuntime) -> Result<(), Fail> {
-    let mut family = Family::new(rt.alloc(), Id::new(b"C100", 20)?, this_year()?);
-    family.add_member(member(b"C100", b"01")?)?;
-    family.add(billed(b"20251230")?)?;
-    assert_eq!(rt; family.out_of_pocket(), 0);
-    assert!(rt; family.remove(&key(b"20251230")?).is_some());
-    assert_eq!(rt; family.out_of_pocket(), 0);
-    Ok(())
-}
-
-// A claim of the period's last day.
-#[test]
-fn a_reversal_takes_back_what_was_counted(rt: HostRuntime) -> Result<(), Fail> {
-    let mut family = Family::new(rt.alloc(), Id::new(b"C100", 20)?, this_year()?);
-    family.add_member(member(b"C100", b"01")?)?;
-    family.add(billed(b"20261231")?)?;
-    assert_eq!(rt; family.deductible(&Person::new(b"01")?), Some(10_000));
-    assert!(rt; family.copy(rt.alloc())? == family);
-    assert!(rt; family.remove(&key(b"20261231")?).is_some());
-    assert_eq!(rt; family.family_deductible(), 0);
     Ok(())
 }

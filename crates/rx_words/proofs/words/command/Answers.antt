@@ -1,9 +1,8 @@
-use Rattle.std.proofs.Common.{◌≡◌, ◌∙◌, ap, sym, subst, rules, map, true, false, Option, List, Some}
-use Rattle.std.specs.Prelude.{IfOk, IfErr}
+use Rattle.std.proofs.Common.{◌∙◌, ap, subst, map, Option, List}
+use Rattle.std.specs.Prelude.{IfOk}
 use Rattle.std.proofs.lemmas.Result.{IfErr-weaker, err_from_is_err_and}
 use Rattle.clap.specs.Words.{App, Row, Text, found_of, rows_of, takes}
 use Rattle.rx_words.specs.Asked.{Holds, NoneHolds}
-use Rattle.rx_words.specs.Faults.{IsWords}
 use Rattle.rx_words.proofs.SubcommandMet.{subcommand_met}
 use Rattle.rx_words.proofs.words.command.Goals as goal
 

@@ -1,4 +1,4 @@
-use Rattle.std.proofs.Common.{codes, rules, ◌≡◌}
+use Rattle.std.proofs.Common.{codes, rules}
 use Rattle.clap.specs.Words.{found_of, rows_of}
 use Rattle.rx_words.specs.Asked.{HasNumber, HoldsRun, NoneHolds}
 use Rattle.rx_words.proofs.words.run.Goals as goal

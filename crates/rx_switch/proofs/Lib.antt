@@ -1,0 +1,5 @@
+pub mod NoThread
+pub mod Refusals
+pub mod Replied
+pub mod Unread
+pub mod Unwritten

@@ -1,0 +1,32 @@
+-- Want of a thread is no answer to the number of workers or the stamp.
+use Rattle.std.proofs.Common.{◌≡◌, ℕ, Bool, true, false, List, Option, Some, None, Result, Ok, Err, refl, sym, ap, ◌∙◌, inl, inr}
+use Rattle.std.specs.Option.{ok_or}
+use Rattle.std.proofs.lemmas.Bool.{cases_Bool, false≢true}
+use Rattle.rx_fields.specs.Clock.{stamp_of}
+use Rattle.rx_fields.specs.declared.stamp.Stamp.{Stamp}
+use Rattle.rx_switch.specs.declared.fault.SwitchFault.{SwitchFault}
+use Rattle.rx_switch.specs.declared.fault.SwitchFault.TheVariants as fault
+use Rattle.rx_switch.specs.Output.{are_workers, stamp_for}
+
+abbrev is_thread : Result Stamp SwitchFault → Bool
+is_thread (Ok s) = false
+is_thread (Err fault.Workers) = false
+is_thread (Err fault.Stamp) = false
+is_thread (Err (fault.Sheet f)) = false
+is_thread (Err (fault.Books f)) = false
+is_thread (Err (fault.Batch f)) = false
+is_thread (Err fault.Memory) = false
+is_thread (Err fault.Thread) = true
+
+not_of_stamp : (o : Option Stamp) → is_thread (ok_or o fault.Stamp) ≡ false
+not_of_stamp None = refl
+not_of_stamp (Some s) = refl
+
+is_never_thread : (workers : ℕ) (stamp : List ℕ) → is_thread (stamp_for workers stamp) ≡ false
+is_never_thread workers stamp = elim (cases_Bool (are_workers workers)) [
+  | inl good ↦ rw good (not_of_stamp (stamp_of stamp))
+  | inr bad ↦ rw bad refl
+]
+
+pub never_thread : (workers : ℕ) (stamp : List ℕ) → ¬ (stamp_for workers stamp ≡ Err fault.Thread)
+never_thread workers stamp e = false≢true (sym (is_never_thread workers stamp) ∙ ap is_thread e)

@@ -1,0 +1,7 @@
+use Rattle.rx_switch.proofs.Unread.{unread_at}
+use Rattle.rx_switch.proofs.inputs.read_all.Goals as goal
+
+pub returns-in-Err-clause-unread : goal.returns-in-Err-clause-unread
+returns-in-Err-clause-unread g c =
+    rw c.of_reading.ensures
+    (unread_at c.args.device (g.S.Source.left c.args.source.now) c.in-Err.fault c.in-Err.ensures.long)

@@ -1,0 +1,6 @@
+use Rattle.std.proofs.Common.{◌≡◌, take}
+use Rattle.rx_wave.specs.Decoding.{transmissions_of}
+use Rattle.rx_switch.proofs.show.decode_each.Given as goal
+
+abbrev pub invariant-loop-detail : goal.invariant-loop-detail
+invariant-loop-detail l = l.transmissions.items ≡ transmissions_of l.door (take l.detail-index l.details)

@@ -1,0 +1,6 @@
+pub mod Devices
+pub mod Fault
+pub mod Job
+pub mod Output
+pub mod Shown
+pub mod Told

@@ -1,0 +1,33 @@
+//! The whole run of a batch: from plan sheet, opening books and batch file to response file, end books and settlement.
+//!
+//! In come the three texts, as bytes or from devices that are read to their ends; out come the texts of adjudicating
+//! the records one after another in file order, or the first refusal. What a run gives is in `specs/Output.antt`, what
+//! a run on devices read and wrote in `specs/Devices.antt`.
+//!
+//! ```rust
+//! let output = rx_switch::run(rt, alloc, &NoGate, &job)?;
+//! let line = rx_switch::told(&fault).numbers;
+//! ```
+//!
+//! The words of a command line and the files themselves are left to the program.
+#![tactic(auto)]
+
+mod fault;
+mod inputs;
+mod job;
+mod on_devices;
+mod outputs;
+mod running;
+mod show;
+mod telling;
+#[cfg(test)]
+mod tests;
+
+pub use fault::{Device, IoFault, SwitchFault, Told};
+pub use inputs::read_all;
+pub use job::{Job, Output};
+pub use on_devices::run_io;
+pub use running::run;
+pub use rx_sample::sample_line;
+pub use show::show_text;
+pub use telling::told;
