@@ -1,3 +1,2 @@
-pub mod Feeding
 pub mod Reading
 pub mod Writing

@@ -1,12 +1,11 @@
 //! Devices that a run is lent: sources that bytes are read from, sinks that bytes are written to.
 //!
-//! In comes a device; out come all the bytes that it had left, or the pieces of a batch that were fed them, or a text
-//! is written to its end. No failed call is taken for the end, and an endless input is refused. What an input may have
-//! is in `specs/Reading.antt`, what a batch was fed in `specs/Feeding.antt`, what a write did in `specs/Writing.antt`.
+//! In comes a device; out come all the bytes that it had left, at once or piece by piece to a consumer, or a text is
+//! written to its end. No failed call is taken for the end, and an endless input is refused. What an input may have is
+//! in `specs/Reading.antt`, what a write did in `specs/Writing.antt`.
 //!
 //! ```rust
 //! let text = rx_devices::read_all(alloc, &mut ReaderSource::new(file))?;
-//! let pieces = rx_devices::feed_all(alloc, &mut ReaderSource::new(batch))?;
 //! rx_devices::write_all(&mut WriterSink::new(copy), text.as_slice())?;
 //! ```
 //!
@@ -15,7 +14,6 @@
 
 mod consumer;
 mod fault;
-mod feeding;
 mod memory;
 mod reading;
 mod sink;
@@ -26,7 +24,6 @@ mod wrapped;
 
 pub use consumer::Consumer;
 pub use fault::{Failed, ReadFault};
-pub use feeding::feed_all;
 pub use memory::{SliceSource, VecSink};
 pub use reading::{read_all, read_each};
 pub use sink::{Sink, write_all};

@@ -1,20 +1,14 @@
 // What no clause says: that a reading succeeds, which call of a device fails, and devices that don't tell their bytes.
 use crate::{
-    Consumer, Failed, ReadFault, ReaderSource, SliceSource, Source, VecSink, WriterSink, feed_all,
-    read_all, read_each, write_all,
+    Consumer, Failed, ReadFault, ReaderSource, SliceSource, Source, VecSink, WriterSink, read_all,
+    read_each, write_all,
 };
-use rx_batch::BatchFault;
 use rx_fields::Memory;
 use std::io;
 use std::io::{ErrorKind, Read, Write};
 use std::test::Fail;
 
 const TEXT: &[u8] = b"SETTLE|1|";
-
-// A batch file without details.
-const BATCH: &[u8] =
-    b"\x0200TPHARMSYS                0000042202603010930P12RXSWITCH                \x03\
-\x029900000420000000000                                   \x03";
 
 // It never ends, and gives that many bytes a call.
 #[derive(Drop)]
@@ -187,32 +181,4 @@ fn tells_that_a_file_failed(rt: HostRuntime) {
     let read = read_all(rt.alloc(), &mut ReaderSource::new(Broken));
     assert!(rt; matches!(read, Err(ReadFault::Failed)));
     assert_eq!(rt; write_all(&mut WriterSink::new(Broken), TEXT), Err(Failed));
-}
-
-#[test]
-fn feeds_a_batch_in_pieces_of_any_size(rt: HostRuntime) -> Result<(), Fail> {
-    for most in [1usize, 7, 4096] {
-        let pieces = feed_all(rt.alloc(), &mut SliceSource::new(BATCH, most))?;
-        let batch = pieces.finish()?;
-        assert_eq!(rt;
-            batch.head.sender,
-            *b"PHARMSYS                ",
-            "{most} bytes a call"
-        );
-        assert_eq!(rt; batch.details.len(), 0);
-    }
-    Ok(())
-}
-
-// Two bytes by one a call take three reads; the first byte is no batch's.
-#[test]
-fn feeds_on_after_a_fault_of_the_batch(rt: HostRuntime) -> Result<(), Fail> {
-    let pieces = feed_all(rt.alloc(), &mut SliceSource::new(b"X\x02", 1))?;
-    assert!(rt; matches!(pieces.finish(), Err(BatchFault::Outside { at: 0 })));
-    let read = feed_all(
-        rt.alloc(),
-        &mut SliceSource::new(b"X\x02", 1).failing_after(2),
-    );
-    assert!(rt; matches!(read, Err(ReadFault::Failed)));
-    Ok(())
 }

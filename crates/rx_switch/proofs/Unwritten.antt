@@ -26,7 +26,8 @@ unwritten_without_thread (settlement one two three) e = cc
 abbrev answer : IoFault → Result Unit IoFault
 answer f = Err f
 
-module _ (d : Device) (a : (4 == device_number d) ≡ false) (b : (5 == device_number d) ≡ false) (c : (6 == device_number d) ≡ false) where
+module _ (d : Device)
+    (a : (4 == device_number d) ≡ false) (b : (5 == device_number d) ≡ false) (c : (6 == device_number d) ≡ false) where
   at_fault : {before after : Written} {t : Texts} {f : IoFault} → IsUnwritten before after t f
       → has_failed d (answer f) ≡ false
   at_fault (response one two three) = a

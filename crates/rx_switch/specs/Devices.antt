@@ -29,7 +29,7 @@ pub record Written : Type 0 where
   pub books : Option (List ℕ)
   pub settlement : Option (List ℕ)
 
--- both
+-- the inputs and the outputs
 pub record Devices : Type 0 where
   pub inputs : Left
   pub outputs : Written
@@ -41,7 +41,8 @@ abbrev pub written : Option (List ℕ) → Option (List ℕ) → Option (List �
 written response books settlement = record { response = response; books = books; settlement = settlement }
 
 -- all six, in the order of their numbers
-abbrev pub devices : Option (List ℕ) → Option (List ℕ) → Option (List ℕ) → Option (List ℕ) → Option (List ℕ) → Option (List ℕ) → Devices
+abbrev pub devices : Option (List ℕ) → Option (List ℕ) → Option (List ℕ)
+    → Option (List ℕ) → Option (List ℕ) → Option (List ℕ) → Devices
 devices sheet books batch response end_books settlement =
     record { inputs = left sheet books batch; outputs = written response end_books settlement }
 

@@ -42,7 +42,7 @@ fn of_reading(device: Device, fault: ReadFault) -> IoFault
 }
 
 // The pieces of the batch file, which are read to the end even after a fault: the pieces keep it.
-#[derive(Debug, Drop)]
+#[derive(Drop)]
 struct FedBatch {
     pieces: Pieces,
 }
@@ -75,7 +75,7 @@ fn read_pieces<S: Source>(alloc: Global, source: &mut S) -> Result<Pieces, IoFau
 }
 
 // What was read of the inputs.
-#[derive(Debug, Drop)]
+#[derive(Drop)]
 pub(crate) struct ReadInputs {
     pub(crate) sheet: Vec<u8>,
     pub(crate) books: Vec<u8>,
@@ -92,8 +92,13 @@ pub(crate) fn read_inputs<A: Source, B: Source, C: Source>(
     requires sheet { A.failed sheet.old ≡ false }
     requires books { B.failed books.old ≡ false }
     requires batch { C.failed batch.old ≡ false }
-    ensures read { IfOk result (λ read. AreRead (left (A.left sheet.old) (B.left books.old) (C.left batch.old)) (left (A.left sheet.new) (B.left books.new) (C.left batch.new)) read.sheet.items read.books.items read.batch) }
-    ensures unread { IfErr result (IsUnread (left (A.left sheet.old) (B.left books.old) (C.left batch.old)) (left (A.left sheet.new) (B.left books.new) (C.left batch.new))) }
+    ensures read { IfOk result (λ read. AreRead
+        (left (A.left sheet.old) (B.left books.old) (C.left batch.old))
+        (left (A.left sheet.new) (B.left books.new) (C.left batch.new))
+        read.sheet.items read.books.items read.batch) }
+    ensures unread { IfErr result (IsUnread
+        (left (A.left sheet.old) (B.left books.old) (C.left batch.old))
+        (left (A.left sheet.new) (B.left books.new) (C.left batch.new))) }
     ensures sheet { A.failed sheet.new ≡ has_failed Device.Sheet result }
     ensures books { B.failed books.new ≡ has_failed Device.Books result }
     ensures batch { C.failed batch.new ≡ has_failed Device.Batch result }

@@ -63,11 +63,15 @@ pub fn run_io<
     requires end_books { E.failed end_books.old ≡ false }
     requires settlement { F.failed settlement.old ≡ false }
     ensures done { OnOk result (IsDone stamp.now workers
-        (devices (A.left sheet.old) (B.left books.old) (C.left batch.old) (D.written response.old) (E.written end_books.old) (F.written settlement.old))
-        (devices (A.left sheet.new) (B.left books.new) (C.left batch.new) (D.written response.new) (E.written end_books.new) (F.written settlement.new))) }
+        (devices (A.left sheet.old) (B.left books.old) (C.left batch.old)
+        (D.written response.old) (E.written end_books.old) (F.written settlement.old))
+        (devices (A.left sheet.new) (B.left books.new) (C.left batch.new)
+        (D.written response.new) (E.written end_books.new) (F.written settlement.new))) }
     ensures broken { IfErr result (IsBroken stamp.now workers
-        (devices (A.left sheet.old) (B.left books.old) (C.left batch.old) (D.written response.old) (E.written end_books.old) (F.written settlement.old))
-        (devices (A.left sheet.new) (B.left books.new) (C.left batch.new) (D.written response.new) (E.written end_books.new) (F.written settlement.new))) }
+        (devices (A.left sheet.old) (B.left books.old) (C.left batch.old)
+        (D.written response.old) (E.written end_books.old) (F.written settlement.old))
+        (devices (A.left sheet.new) (B.left books.new) (C.left batch.new)
+        (D.written response.new) (E.written end_books.new) (F.written settlement.new))) }
     // A device failed in the run exactly where the answer tells it.
     ensures sheet { A.failed sheet.new ≡ has_failed device.Sheet result }
     ensures books { B.failed books.new ≡ has_failed device.Books result }
@@ -93,8 +97,10 @@ fn output_of<R: Threads + Wait + Sync, G: Gate + Sync>(
     read: ReadInputs,
 ) -> Result<Output, SwitchFault>
     requires { (batch : List ℕ) × StandsFor read.batch batch }
-    ensures output { (batch : List ℕ) → StandsFor read.batch batch → IfOk result (λ output. IsOutput (given_read stamp.now workers read.sheet.items read.books.items batch) (texts_in output)) }
-    ensures refused { (batch : List ℕ) → StandsFor read.batch batch → IfErr result (λ fault. IsRefused (given_read stamp.now workers read.sheet.items read.books.items batch) fault) }
+    ensures output { (batch : List ℕ) → StandsFor read.batch batch
+        → IfOk result (λ output. IsOutput (given_read stamp.now workers read.sheet.items read.books.items batch) (texts_in output)) }
+    ensures refused { (batch : List ℕ) → StandsFor read.batch batch
+        → IfErr result (λ fault. IsRefused (given_read stamp.now workers read.sheet.items read.books.items batch) fault) }
     ensures thread { result ≡ Err SwitchFault.Thread → RefusesOne _plain (G.starts _gate.now) workers }
 {
     let ReadInputs {
@@ -111,8 +117,10 @@ fn output_of<R: Threads + Wait + Sync, G: Gate + Sync>(
 
 // The batch of the pieces.
 fn finished(pieces: Pieces) -> Result<Batch, BatchFault>
-    ensures ok { (text : List ℕ) → StandsFor pieces text → IfOk result (λ batch. IsFile text batch.head batch.details) }
-    ensures refuses { (text : List ℕ) → StandsFor pieces text → IfErr result (λ fault. UnlessMemory fault (HasFault text fault)) }
+    ensures ok { (text : List ℕ) → StandsFor pieces text
+        → IfOk result (λ batch. IsFile text batch.head batch.details) }
+    ensures refuses { (text : List ℕ) → StandsFor pieces text
+        → IfErr result (λ fault. UnlessMemory fault (HasFault text fault)) }
 {
     pieces.finish()
 }

@@ -19,8 +19,14 @@ pub(crate) fn write_outputs<D: Sink, E: Sink, F: Sink>(
     requires response { D.failed response.old ≡ false }
     requires end_books { E.failed end_books.old ≡ false }
     requires settlement { F.failed settlement.old ≡ false }
-    ensures done { OnOk result (AreWritten (written (D.written response.old) (E.written end_books.old) (F.written settlement.old)) (written (D.written response.new) (E.written end_books.new) (F.written settlement.new)) (texts_in output.now)) }
-    ensures unwritten { IfErr result (IsUnwritten (written (D.written response.old) (E.written end_books.old) (F.written settlement.old)) (written (D.written response.new) (E.written end_books.new) (F.written settlement.new)) (texts_in output.now)) }
+    ensures done { OnOk result (AreWritten
+        (written (D.written response.old) (E.written end_books.old) (F.written settlement.old))
+        (written (D.written response.new) (E.written end_books.new) (F.written settlement.new))
+        (texts_in output.now)) }
+    ensures unwritten { IfErr result (IsUnwritten
+        (written (D.written response.old) (E.written end_books.old) (F.written settlement.old))
+        (written (D.written response.new) (E.written end_books.new) (F.written settlement.new))
+        (texts_in output.now)) }
     ensures response { D.failed response.new ≡ has_failed Device.Response result }
     ensures end_books { E.failed end_books.new ≡ has_failed Device.EndBooks result }
     ensures settlement { F.failed settlement.new ≡ has_failed Device.Settlement result }
@@ -30,7 +36,7 @@ pub(crate) fn write_outputs<D: Sink, E: Sink, F: Sink>(
     write_text(settlement, output.settlement.as_slice(), Device::Settlement)
 }
 
-// Writes a text to the device's end.
+// Writes a text to its end.
 fn write_text<S: Sink>(sink: &mut S, text: &[u8], device: Device) -> Result<(), IoFault>
     requires { S.failed sink.old ≡ false }
     ensures whole { OnOk result (Appends (S.written sink.old) (S.written sink.new) text.now) }

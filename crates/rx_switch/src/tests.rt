@@ -1,5 +1,6 @@
 // What no clause says: which refusal a run on devices answers.
-use crate::{Device, IoFault, SwitchFault, read_all, run_io};
+use crate::outputs::write_outputs;
+use crate::{Device, IoFault, Output, SwitchFault, read_all, run_io};
 use rx_devices::{SliceSource, VecSink};
 use rx_wave::NoGate;
 use std::test::Fail;
@@ -71,4 +72,42 @@ fn refuses_sixty_five_workers(rt: HostRuntime) {
         &mut VecSink::new(rt.alloc(), 7),
     );
     assert_eq!(rt; run, Err(IoFault::Switch(SwitchFault::Workers)));
+}
+
+// One byte a read: the first is no batch's, the third read fails.
+#[test]
+fn reads_on_after_a_fault_of_the_batch(rt: HostRuntime) {
+    let run = run_io(
+        &rt,
+        rt.alloc(),
+        &NoGate,
+        STAMP,
+        1,
+        false,
+        &mut SliceSource::new(b"", 1),
+        &mut SliceSource::new(b"", 1),
+        &mut SliceSource::new(b"X\x02", 1).failing_after(2),
+        &mut VecSink::new(rt.alloc(), 7),
+        &mut VecSink::new(rt.alloc(), 7),
+        &mut VecSink::new(rt.alloc(), 7),
+    );
+    assert_eq!(rt; run, Err(IoFault::Read(Device::Batch)));
+}
+
+#[test]
+fn tells_which_output_broke_off(rt: HostRuntime) -> Result<(), Fail> {
+    let output = Output {
+        response: b"RS".to_vec(rt.alloc())?,
+        books: b"BK".to_vec(rt.alloc())?,
+        settlement: b"ST".to_vec(rt.alloc())?,
+    };
+    let mut response = VecSink::new(rt.alloc(), 1);
+    let mut end_books = VecSink::new(rt.alloc(), 1).failing_after(1);
+    let mut settlement = VecSink::new(rt.alloc(), 1);
+    let written = write_outputs(&output, &mut response, &mut end_books, &mut settlement);
+    assert_eq!(rt; written, Err(IoFault::Write(Device::EndBooks)));
+    assert_eq!(rt; response.bytes(), b"RS".as_slice());
+    assert_eq!(rt; end_books.bytes(), b"B".as_slice());
+    assert!(rt; settlement.bytes().is_empty());
+    Ok(())
 }
