@@ -1,5 +1,7 @@
-pub mod AllRight
+pub mod BooksFile
 pub mod Changed
+pub mod FamilyOrder
+pub mod Figured
 pub mod Grown
 pub mod Limits
 pub mod Mapped
@@ -9,5 +11,7 @@ pub mod OneRow
 pub mod Owned
 pub mod Same
 pub mod Split
+pub mod VersionThree
 pub mod Written
 pub mod Wrong
+pub mod WrongLine

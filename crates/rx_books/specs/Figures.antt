@@ -1,10 +1,8 @@
 -- A books file whose figures are the sums of its claims (docs/FORMATS.md, "Books file", Totals).
-use Rattle.std.specs.Prelude.{◌≡◌, ℕ, ◌+◌, ◌==◌, Bool, true, false, not, ◌&&◌, if◌then◌else◌, List, length, Option, Some, None, Result, Ok, Err, position}
+use Rattle.std.specs.Prelude.{ℕ, ◌+◌, ◌==◌, Bool, true, false, not, ◌&&◌, if◌then◌else◌, List, length, Option, Some, None, Result, Ok, Err, position}
 use Rattle.std.specs.List.{list_all}
-use Rattle.rx_fields.specs.Numbered.{Span}
 use Rattle.rx_fields.specs.Order.{id_cmp}
 use Rattle.rx_order.specs.Ascending.{contains_key}
-use Rattle.rx_ledger.specs.Ledger.{Ledger}
 use Rattle.rx_books_text.specs.declared.fault.BooksFault.{BooksFault}
 use Rattle.rx_books_text.specs.declared.fault.BooksFault.TheVariants as fault
 use Rattle.rx_books_text.specs.declared.line.Line.{Line}
@@ -69,11 +67,3 @@ books_of_parts p = unless_wrong (unsummed p) (wrong_line p)
 -- the books of a text, or its first fault
 abbrev pub books_of : List ℕ → Result LedgerBooks BooksFault
 books_of text = printed_of text >>= books_of_parts
-
--- the text is the books file of this ledger with the sums of this period, in one of the versions
-abbrev pub IsBooksText : List ℕ → Span → Ledger → Type 0
-IsBooksText text period L = books_of text ≡ Ok (record { period = period; ledger = L })
-
--- the text is no books file, and this is its first fault
-abbrev pub HasBooksFault : List ℕ → BooksFault → Type 0
-HasBooksFault text f = books_of text ≡ Err f

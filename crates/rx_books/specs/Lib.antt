@@ -1,3 +1,4 @@
+pub mod BooksFile
 pub mod BooksText
 pub mod FamilyBook
 pub mod Figures

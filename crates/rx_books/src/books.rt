@@ -1,10 +1,12 @@
-ghost use Rattle.std.specs.Prelude.{◌≡◌, ◌↔◌, ◌<◌, ◌^◌, IfErr, IfOk, IsTrue, length};
+ghost use Rattle.std.specs.Prelude.{◌≡◌, ◌↔◌, ◌<◌, ◌^◌, IfErr, IfOk, IsTrue, Ok, length};
 ghost use Rattle.std.specs.Option.{option_copied};
-ghost use Rattle.rx_ledger.specs.Ledger.{row_under};
+ghost use Rattle.rx_fields.specs.Numbered.{Span};
+ghost use Rattle.rx_ledger.specs.Ledger.{Ledger, row_under};
+ghost use Rattle.rx_books.specs.BooksFile.{HasBooksFault, IsBooksText};
 ghost use Rattle.rx_books.specs.BooksText.{books_text};
 ghost use Rattle.rx_books_text.specs.Fault.{Gives, UnlessMemory};
 ghost use Rattle.rx_books_text.specs.Printed.{lines_of};
-ghost use Rattle.rx_books.specs.Figures.{HasBooksFault, IsBooksText, books_of, unsummed, wrong_line};
+ghost use Rattle.rx_books.specs.Figures.{books_of, unsummed, wrong_line};
 ghost use Rattle.rx_books.specs.LedgerBooks.{deductible_of_family, deductible_of_member, out_of_pocket_of_family};
 
 use crate::families::FamilyBooks;
@@ -56,14 +58,26 @@ impl Books {
         })
     }
 
-    /// The books of a text, or its first fault (docs/FORMATS.md, "Books file").
+    /// The books of a text, or its first fault (docs/FORMATS.md, "Books file"). A text is accepted exactly where it is the
+    /// one text of these books in a version.
     pub fn read(alloc: Global, text: &[u8]) -> Result<Books, BooksFault>
         ensures ok { IfOk result (λ books. IsBooksText text.now books.period books.ledger) }
+        // The text of books is read as those books, unless memory was wanting.
+        ensures reads { (period : Span) → (L : Ledger) → IsBooksText text.now period L
+            → Gives result (Ok (record { period = period; ledger = L })) }
+        // What was read, written in version 3, is a text of the same books.
+        ensures again { IfOk result (λ books. IsBooksText
+            (books_text Version.Three books.period books.ledger) books.period books.ledger) }
         ensures refuses { IfErr result (λ fault. UnlessMemory fault (HasBooksFault text.now fault)) }
-        // The text is that of the books in some version, which is what its head says.
-        ensures text { IfOk result (λ books. (v : Version) × (text.now ≡ books_text v books.period books.ledger)) }
-        // The same, computed; a fault is the first of the text, or that of a figure.
+        // The same, computed.
         ensures value { Gives result (books_of text.now) }
+    {
+        Books::read_summed(alloc, text)
+    }
+
+    // The books that are printed, where each figure is the sum.
+    fn read_summed(alloc: Global, text: &[u8]) -> Result<Books, BooksFault>
+        ensures { Gives result (books_of text.now) }
     {
         let printed = read_printed(alloc, text)?;
         let books = Books::from_ledger(alloc, printed.ledger(), printed.head().period)?;

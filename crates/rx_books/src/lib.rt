@@ -10,8 +10,9 @@
 //! let used = books.deductible(&family, &person);
 //! ```
 //!
-//! What a total is stands in `rx_ledger`'s `specs/Sums.antt`, what a line is in `rx_books_text`'s `specs/`. A `Family`
-//! takes rows in and out and keeps its totals; which claims those are is left to the crates above.
+//! What a books file is, and which fault a text has that is none, stands in `specs/BooksFile.antt`; what a total is in
+//! `rx_ledger`'s `specs/Sums.antt`, what a line is in `rx_books_text`'s `specs/`. A `Family` takes rows in and out and
+//! keeps its totals; which claims those are is left to the crates above.
 #![tactic(auto)]
 
 mod books;
