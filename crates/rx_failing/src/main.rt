@@ -2,8 +2,8 @@
 //!
 //! In come one-billing's inputs and wanted outputs, six files of `data/`. The devices pass 1, 7 or 4,096 bytes a call.
 //! A run without a failure writes the wanted outputs; then each device fails at its first call, at its second, and on
-//! until a run meets no failure. A line is printed for each device, by its number, with how many of its calls can fail;
-//! the first run that differs ends the program.
+//! until a run meets no failure. A line is printed for each device, by its number, with how many of its calls can fail.
+//! At last the sheet has no end. The first run that differs ends the program.
 //!
 //! ```text
 //! rt run -- data
@@ -11,6 +11,7 @@
 #![tactic(auto)]
 
 mod case;
+mod endless;
 mod ran;
 mod report;
 mod trial;

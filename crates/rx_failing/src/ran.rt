@@ -34,6 +34,11 @@ impl Ran {
         }
     }
 
+    /// Whether the sheet is told as too long, and nothing was written.
+    pub fn is_too_long(&self) -> bool {
+        self.answer == Err(IoFault::Long(Device::Sheet)) && self.is_unwritten()
+    }
+
     fn is_unwritten(&self) -> bool {
         self.response.bytes().is_empty()
             && self.books.bytes().is_empty()

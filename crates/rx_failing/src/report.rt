@@ -1,6 +1,7 @@
 ghost use Rattle.std.specs.Prelude.{◌≤◌};
 
 use crate::case::Case;
+use crate::endless::Endless;
 use crate::trial::{Flaw, Trial};
 use anyhow::{Result, bail};
 use rx_switch::Device;
@@ -11,11 +12,34 @@ use std::thread::Threads;
 // The calls of a device that are tried at most; one-billing's longest text has 334 bytes.
 const MOST_CALLS: usize = 1_000;
 
-/// Tries devices of each size, and prints a line for each device.
+/// Tries devices of each size, and prints a line for each device; then a sheet without an end.
 pub fn report<R: Threads + Wait + Sync>(rt: &HostRuntime, threads: &R, case: &Case) -> Result<()> {
     report_size(rt, threads, case, 1)?;
     report_size(rt, threads, case, 7)?;
-    report_size(rt, threads, case, 4_096)
+    report_size(rt, threads, case, 4_096)?;
+    report_endless(rt, threads, case)
+}
+
+fn report_endless<R: Threads + Wait + Sync>(
+    rt: &HostRuntime,
+    threads: &R,
+    case: &Case,
+) -> Result<()> {
+    if !is_too_long(threads, rt.alloc(), case) {
+        bail!("sheet without an end: differs");
+    }
+    println!(rt; "sheet without an end: ok")?;
+    Ok(())
+}
+
+// Whether a sheet without an end is told as too long.
+fn is_too_long<R: Threads + Wait + Sync>(threads: &R, alloc: Global, case: &Case) -> bool {
+    let trial = Trial {
+        most: 1,
+        flaw: Flaw::None,
+    };
+    let ran = trial.run_on_sheet(threads, alloc, case, &mut Endless);
+    ran.is_too_long()
 }
 
 fn report_size<R: Threads + Wait + Sync>(

@@ -35,6 +35,20 @@ pub struct Trial {
 impl Trial {
     /// Runs the case on such devices.
     pub fn run<R: Threads + Wait + Sync>(self, threads: &R, alloc: Global, case: &Case) -> Ran {
+        let mut sheet = self.source(case.inputs.sheet.as_slice(), Device::Sheet);
+        self.run_on_sheet(threads, alloc, case, &mut sheet)
+    }
+
+    /// Runs the case on such devices, and this one for the sheet.
+    pub fn run_on_sheet<R: Threads + Wait + Sync, S: Source>(
+        self,
+        threads: &R,
+        alloc: Global,
+        case: &Case,
+        sheet: &mut S,
+    ) -> Ran
+        requires { S.failed sheet.old ≡ false }
+    {
         let inputs = &case.inputs;
         let mut response = self.sink(alloc, Device::Response);
         let mut books = self.sink(alloc, Device::EndBooks);
@@ -46,7 +60,7 @@ impl Trial {
             STAMP,
             1,
             false,
-            &mut self.source(inputs.sheet.as_slice(), Device::Sheet),
+            sheet,
             &mut self.source(inputs.books.as_slice(), Device::Books),
             &mut self.source(inputs.batch.as_slice(), Device::Batch),
             &mut response,
