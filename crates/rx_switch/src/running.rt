@@ -40,8 +40,8 @@ pub fn run<R: Threads + Wait + Sync, G: Gate + Sync>(
     ensures thread { result ≡ Err SwitchFault.Thread → RefusesOne job.now.plain (G.starts _gate.now) job.now.workers }
 {
     let stamp = stamp_for(job.workers, job.stamp)?;
-    let sheet = read_sheet(alloc, job.sheet)?;
-    let books = Books::read(alloc, job.books)?;
+    let opened = Books::read(alloc, job.books)?;
+    let sheet = read_sheet(alloc, job.sheet)?; let books = opened;
     let batch = read_batch(alloc, job.batch)?;
     Ok(adjudicate(rt, alloc, stamp, &sheet, &books, &batch)?)
 }
