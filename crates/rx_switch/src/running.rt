@@ -40,8 +40,8 @@ pub fn run<R: Threads + Wait + Sync, G: Gate + Sync>(
     ensures thread { result ≡ Err SwitchFault.Thread → RefusesOne job.now.plain (G.starts _gate.now) job.now.workers }
 {
     let stamp = stamp_for(job.workers, job.stamp)?;
-    let opened = Books::read(alloc, job.books)?;
-    let sheet = read_sheet(alloc, job.sheet)?; let books = opened;
+    let sheet = read_sheet(alloc, job.sheet)?;
+    let books = Books::read(alloc, job.books)?;
     let batch = read_batch(alloc, job.batch)?;
     Ok(adjudicate(rt, alloc, stamp, &sheet, &books, &batch)?)
 }
@@ -74,7 +74,7 @@ pub(crate) fn adjudicate<R: Threads + Sync>(
     let opening = books.ledger(alloc)?;
     let (after, replies) = plain_run(alloc, batch.head.lot(), sheet, &opening, &asked)?;
     let response = response_file(rt, alloc, &batch.head, stamp, details, &replies)?;
-    let books = Books::from_ledger(alloc, &after, sheet.period())?.write(alloc)?;
+    let books = Books::from_ledger(alloc, &after, books.period())?.write(alloc)?;
     let settlement = settle(alloc, batch.head.lot(), stamp, &replies)?;
     Ok(Output {
         response,

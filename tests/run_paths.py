@@ -1,0 +1,86 @@
+#!/usr/bin/env python3
+"""Runs a program with rxbatch's words where two of the six paths of `run` lead to one file: it has to end with 2, write
+nothing to either output, and leave the files as they were (docs/PRODUCT.md, "The program").
+
+    run_paths.py PROGRAM
+"""
+import pathlib
+import shutil
+import subprocess
+import sys
+import tempfile
+
+JOB = pathlib.Path(__file__).parent / "cases" / "one-billing"
+PATHS = {
+    "--sheet": "sheet.toml", "--books": "books.txt", "--batch": "batch.bin",
+    "--response": "response.bin", "--books-out": "books-out.txt", "--settlement": "settlement.txt",
+}
+
+
+def one_text(folder):
+    """One path twice."""
+    return {"--books-out": "books.txt"}
+
+
+def another_text(folder):
+    """One file under two texts."""
+    return {"--books-out": "./books.txt"}
+
+
+def hard_link(folder):
+    """One file under two names."""
+    (folder / "again.txt").hardlink_to(folder / "books.txt")
+    return {"--books-out": "again.txt"}
+
+
+def symbolic_link(folder):
+    """A name that leads to another."""
+    (folder / "again.txt").symlink_to("batch.bin")
+    return {"--response": "again.txt"}
+
+
+def two_outputs(folder):
+    """Two outputs that are one file."""
+    (folder / "kept.txt").write_bytes(b"kept\n")
+    (folder / "again.txt").symlink_to("kept.txt")
+    return {"--response": "kept.txt", "--settlement": "again.txt"}
+
+
+def texts_in(folder):
+    return {path.name: path.read_bytes() for path in folder.iterdir()}
+
+
+def fault_of(program, arrange):
+    """What is wrong with the program's answer, or None."""
+    with tempfile.TemporaryDirectory() as name:
+        folder = pathlib.Path(name)
+        for file in ("sheet.toml", "books.txt", "batch.bin"):
+            shutil.copy(JOB / file, folder)
+        paths = PATHS | arrange(folder)
+        before = texts_in(folder)
+        words = [word for pair in paths.items() for word in pair] + ["--stamp", "202603020600", "--workers", "1"]
+        ended = subprocess.run([program, "run"] + words, cwd=folder, stdin=subprocess.DEVNULL, capture_output=True)
+        if ended.returncode != 2:
+            return f"status {ended.returncode} and not 2"
+        if ended.stdout or ended.stderr:
+            return "a text, where none is wanted"
+        return None if texts_in(folder) == before else "files were made or changed"
+
+
+def main(words):
+    if len(words) != 1:
+        sys.exit(__doc__)
+    program = str(pathlib.Path(words[0]).resolve())
+    failed = 0
+    ways = (one_text, another_text, hard_link, symbolic_link, two_outputs)
+    for arrange in ways:
+        fault = fault_of(program, arrange)
+        if fault:
+            failed += 1
+            print(f"{arrange.__doc__} {fault}")
+    print(f"{len(ways) - failed} passed, {failed} failed")
+    sys.exit(1 if failed else 0)
+
+
+if __name__ == "__main__":
+    main(sys.argv[1:])
