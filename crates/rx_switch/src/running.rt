@@ -74,7 +74,7 @@ pub(crate) fn adjudicate<R: Threads + Sync>(
     let opening = books.ledger(alloc)?;
     let (after, replies) = plain_run(alloc, batch.head.lot(), sheet, &opening, &asked)?;
     let response = response_file(rt, alloc, &batch.head, stamp, details, &replies)?;
-    let books = Books::from_ledger(alloc, &after, books.period())?.write(alloc)?;
+    let books = Books::from_ledger(alloc, &after, sheet.period())?.write(alloc)?;
     let settlement = settle(alloc, batch.head.lot(), stamp, &replies)?;
     Ok(Output {
         response,
