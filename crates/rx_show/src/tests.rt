@@ -21,9 +21,7 @@ fn asked(body: Body) -> Transmission {
     Transmission { echo, body }
 }
 
-fn heard(alloc: Global, date: &[u8], transaction: Transaction) -> Result<Transmission, Fail> {
-    let items = [transaction].to_vec(alloc)?;
-    let list = Transactions::new(items).ok().ok_or("one transaction")?;
+fn heard(date: &[u8], list: Transactions) -> Result<Transmission, Fail> {
     let provider = Provider::new(b"1234567893").ok().ok_or("an id")?;
     let date = date_read(date).ok().ok_or("a date")?;
     Ok(asked(Body::Heard(Heard {
@@ -33,7 +31,7 @@ fn heard(alloc: Global, date: &[u8], transaction: Transaction) -> Result<Transmi
     })))
 }
 
-fn base_claim() -> Result<Transaction, Fail> {
+fn base_claim(alloc: Global) -> Result<Transactions, Fail> {
     let parts = BillParts {
         reference: Reference::new(123).ok_or("a reference")?,
         family: Id::new(b"C100", 20).ok().ok_or("an id")?,
@@ -46,20 +44,33 @@ fn base_claim() -> Result<Transaction, Fail> {
         usual_charge: Cents::new(40_000),
         gross_amount: None,
     };
-    Ok(Transaction::Bill(Bill::new(parts).ok_or("a charge")?))
+    let bill = Bill::new(parts).ok_or("a charge")?;
+    let items = [Transaction::Bill(bill)].to_vec(alloc)?;
+    Ok(Transactions::new(items).ok().ok_or("one")?)
 }
 
-fn reversal() -> Result<Transaction, Fail> {
-    Ok(Transaction::Reverse(Reversal {
+fn reversal(alloc: Global) -> Result<Transactions, Fail> {
+    let reversal = Reversal {
         reference: Reference::new(90).ok_or("a reference")?,
         product: Product::new(b"00002000202").ok_or("a product")?,
-    }))
+    };
+    let items = [Transaction::Reverse(reversal)].to_vec(alloc)?;
+    Ok(Transactions::new(items).ok().ok_or("one")?)
+}
+
+fn faulty(alloc: Global) -> Result<Transactions, Fail> {
+    let faulty = Faulty {
+        codes: Codes::new(&[Code::ReferenceQualifier, Code::Reference]).ok_or("codes")?,
+        reference: None,
+    };
+    let items = [Transaction::Faulty(faulty)].to_vec(alloc)?;
+    Ok(Transactions::new(items).ok().ok_or("one")?)
 }
 
 #[test]
 fn billings_and_reversals_are_shown(rt: HostRuntime) -> Result<(), Fail> {
-    let billing = heard(rt.alloc(), b"20260228", base_claim()?)?;
-    let taken_back = heard(rt.alloc(), b"20251230", reversal()?)?;
+    let billing = heard(b"20260228", base_claim(rt.alloc())?)?;
+    let taken_back = heard(b"20251230", reversal(rt.alloc())?)?;
     let text = show_lines(rt.alloc(), &[billing, taken_back])?;
     let wanted = "1 1 bill 1234567893 123 20260228 C100 01\n2 1 reverse 1234567893 90 20251230\n";
     assert_eq!(rt; text.as_slice(), wanted.as_bytes());
@@ -72,19 +83,18 @@ fn codes_are_shown(rt: HostRuntime) -> Result<(), Fail> {
         codes: Codes::new(&[Code::Bin, Code::TransactionCount]).ok_or("codes")?,
         groups: Count::new(1).ok_or("a count")?,
     }));
-    let faulty = Transaction::Faulty(Faulty {
-        codes: Codes::new(&[Code::ReferenceQualifier, Code::Reference]).ok_or("codes")?,
-        reference: None,
-    });
-    let group = heard(rt.alloc(), b"20260228", faulty)?;
+    let group = heard(b"20260228", faulty(rt.alloc())?)?;
     let text = show_lines(rt.alloc(), &[header, group])?;
-    assert_eq!(rt; text.as_slice(), b"1 0 rejected 01,A9\n2 1 faulty EM,16\n");
+    assert_eq!(rt;
+        text.as_slice(),
+        b"1 0 rejected 01,A9\n2 1 faulty EM,16\n".as_slice()
+    );
     Ok(())
 }
 
 #[test]
 fn separators_are_shown_in_brackets(rt: HostRuntime) -> Result<(), Fail> {
     let line = shown(rt.alloc(), b"\x1d\x1e\x1cAM21")?;
-    assert_eq!(rt; line.as_slice(), b"<1D><1E><1C>AM21");
+    assert_eq!(rt; line.as_slice(), b"<1D><1E><1C>AM21".as_slice());
     Ok(())
 }
