@@ -5,9 +5,11 @@ pub mod Limits
 pub mod NamedKeys
 pub mod OfMember
 pub mod Orders
+pub mod PaidShape
 pub mod Passed
 pub mod Placed
 pub mod Refusals
 pub mod SameText
 pub mod Steps
 pub mod Summed
+pub mod Within

@@ -12,6 +12,7 @@
 //! above, which answer by the same calls: `Claim::answer` a billing, `answer_reversal` a reversal, under an `Occasion`.
 #![tactic(auto)]
 
+mod bounds;
 mod claim;
 mod drug;
 mod family;
@@ -32,6 +33,7 @@ mod step;
 mod sums;
 mod terms;
 
+pub use bounds::accumulators_stay_within;
 pub use claim::Claim;
 pub use drug::{Drug, Share};
 pub use figures::Figures;
