@@ -4,8 +4,12 @@ use rx_words::WordsFault;
 /// How the program ends where its work isn't done (docs/PRODUCT.md, "The program").
 #[derive(Debug, Drop)]
 pub enum Ending {
-    /// The words are no text, name one file twice, or ask for what isn't there; no word of it.
+    /// The words ask for what isn't there; no word of it.
     Unknown,
+    /// A word of the command line is no text.
+    NoText,
+    /// The files of these two options are one plain file, as far as the system tells.
+    OneFile(&'static str, &'static str),
     /// The words aren't understood, or memory was wanting while they were read.
     Words(WordsFault),
     /// The run is refused, or a file failed.
@@ -18,7 +22,7 @@ impl Ending {
     /// The exit status: 1 for a refused run, 2 for words, 3 for a file.
     pub fn status(&self) -> u8 {
         match self {
-            Ending::Unknown => 2,
+            Ending::Unknown | Ending::NoText | Ending::OneFile(..) => 2,
             Ending::Words(WordsFault::Words(_)) => 2,
             Ending::Words(WordsFault::Memory) => 1,
             Ending::Io(fault) => told(fault).status,
@@ -30,6 +34,8 @@ impl Ending {
     pub fn tell(&self, rt: &HostRuntime) {
         let _ = match self {
             Ending::Unknown => Ok(()),
+            Ending::NoText => eprintln!(rt; "rxbatch: a word of the command line is no text"),
+            Ending::OneFile(one, other) => eprintln!(rt; "rxbatch: {one} and {other} are one file"),
             Ending::Words(fault) => eprint!(rt; "{fault}"),
             Ending::Io(fault) => {
                 let [first, second, third] = told(fault).numbers;

@@ -59,6 +59,6 @@ fn words(rt: &HostRuntime) -> Result<Vec<String>, Ending> {
 fn unread(error: &io::Error) -> Ending {
     match error.kind() {
         io::ErrorKind::OutOfMemory => Ending::Words(WordsFault::Memory),
-        _ => Ending::Unknown,
+        _ => Ending::NoText,
     }
 }

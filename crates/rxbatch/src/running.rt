@@ -1,26 +1,40 @@
 use crate::ending::Ending;
-use crate::files::{has_one_file_twice, sink, source};
+use crate::files::{InputFiles, OutputFiles, close, one_file_twice};
+use rx_devices::{ReaderSource, WriterSink};
 use rx_switch::{Device, run_io};
 use rx_wave::NoGate;
 use rx_words::RunWords;
 use std::sync::Wait;
 use std::thread::Threads;
 
-/// Adjudicates a batch file: the inputs are opened, then the outputs are made, empty, and then the run begins.
+/// Adjudicates a batch file: the inputs are opened, then the outputs, and only where no output is another of the six
+/// files are the outputs emptied and the run begun.
 pub fn run<R: Threads + Wait + Sync>(
     rt: &HostRuntime,
     threads: &R,
     words: &RunWords<'_>,
 ) -> Result<(), Ending> {
-    if has_one_file_twice(rt, words) {
-        return Err(Ending::Unknown);
+    let inputs = InputFiles::open(rt, &words.inputs)?;
+    let outputs = OutputFiles::open(rt, &words.outputs)?;
+    if let Some((one, other)) = one_file_twice(&inputs, &outputs) {
+        outputs.remove_made(rt, &words.outputs);
+        return Err(Ending::OneFile(one, other));
     }
-    let mut sheet = source(rt, words.inputs.sheet, Device::Sheet)?;
-    let mut books = source(rt, words.inputs.books, Device::Books)?;
-    let mut batch = source(rt, words.inputs.batch, Device::Batch)?;
-    let mut response = sink(rt, words.outputs.response, Device::Response)?;
-    let mut end_books = sink(rt, words.outputs.books, Device::EndBooks)?;
-    let mut settlement = sink(rt, words.outputs.settlement, Device::Settlement)?;
+    outputs.empty()?;
+    on_files(rt, threads, words, inputs, outputs)
+}
+
+// The run on its files. Of one that is done each output is closed with its error heard.
+fn on_files<R: Threads + Wait + Sync>(
+    rt: &HostRuntime,
+    threads: &R,
+    words: &RunWords<'_>,
+    inputs: InputFiles,
+    outputs: OutputFiles,
+) -> Result<(), Ending> {
+    let mut response = WriterSink::new(outputs.response.file);
+    let mut end_books = WriterSink::new(outputs.books.file);
+    let mut settlement = WriterSink::new(outputs.settlement.file);
     let done = run_io(
         threads,
         rt.alloc(),
@@ -28,12 +42,15 @@ pub fn run<R: Threads + Wait + Sync>(
         words.stamp.as_bytes(),
         words.workers,
         words.plain,
-        &mut sheet,
-        &mut books,
-        &mut batch,
+        &mut ReaderSource::new(inputs.sheet),
+        &mut ReaderSource::new(inputs.books),
+        &mut ReaderSource::new(inputs.batch),
         &mut response,
         &mut end_books,
         &mut settlement,
     );
-    done.map_err(Ending::Io)
+    done.map_err(Ending::Io)?;
+    close(response, Device::Response)?;
+    close(end_books, Device::EndBooks)?;
+    close(settlement, Device::Settlement)
 }
