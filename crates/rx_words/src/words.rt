@@ -1,6 +1,6 @@
 //! The words read.
-ghost use Rattle.std.specs.Prelude.{◌≡◌, true, IfErr, IfNone, IfOk, IfSome, map, option_map};
-ghost use Rattle.clap.specs.Words.{first_of, found_of, rows_of, subcommand_of, takes};
+ghost use Rattle.std.specs.Prelude.{◌≡◌, [], true, IfErr, IfNone, IfOk, IfSome, map, option_map};
+ghost use Rattle.clap.specs.Words.{fault_of, first_of, found_of, rows_of, subcommand_of, takes};
 ghost use Rattle.rx_words.specs.Syntax.{whole_line};
 ghost use Rattle.rx_words.specs.Asked.{HasNumber, Holds, HoldsInputs, HoldsNamed, HoldsOutputs, HoldsRun, HoldsRunApart};
 ghost use Rattle.rx_words.specs.Asked.{HoldsShow, NoneHolds, is_set};
@@ -147,8 +147,8 @@ fn misread(alloc: Global) -> WordsFault {
 
 /// What the words ask for, the program's name being the first (docs/PRODUCT.md, "The program rxbatch").
 ///
-/// At `Ok` the command holds the subcommand and the option values that `clap`'s matches of the words hold; the
-/// workers are 0 to 65535, and the six paths of `run` are different texts.
+/// At `Ok` `clap` finds no fault in the words, and the command holds the subcommand and the option values that `clap`'s
+/// matches of them hold; the workers are 0 to 65535, and the six paths of `run` are different texts.
 ///
 /// # Errors
 ///
@@ -156,6 +156,7 @@ fn misread(alloc: Global) -> WordsFault {
 /// where `run` names one path twice; `Memory` where memory was wanting.
 pub fn command<'a, S: AsStr>(alloc: Global, words: &'a [S]) -> Result<Command<'a>, WordsFault>
     ensures ok { IfOk result (Holds (subcommand_of whole_line (map S.text words.now))) }
+    ensures taken { IfOk result (λ _. fault_of whole_line (map S.text words.now) ≡ []) }
     ensures words { IfErr result (λ e. IsWords e → takes whole_line (map S.text words.now) ≡ true
         → NoneHolds (Holds (subcommand_of whole_line (map S.text words.now)))) }
 {
