@@ -2,11 +2,14 @@
 """Writes the inputs of a large run: sheet.toml, books.txt (version 3), batch.bin and stamp, the same for the same words.
 
     bench/make_job.py DIR [--records N] [--families F] [--members M] [--providers P] [--claims C] [--drugs D]
-                          [--transactions T] [--reversals PERCENT] [--hot PERCENT] [--seed S]
+                          [--transactions T] [--reversals PERCENT] [--hot PERCENT] [--billed N] [--billed-claims K]
+                          [--again N] [--seed S]
 
 The books have F families of M members and C standing claims. The batch has N records of 1 to T transactions, most of
 them billings and PERCENT of them reversals of standing claims; `--hot` sends so many percent of the records to the
-first hundredth of the families, so that records share. Layouts are those of docs/FORMATS.md.
+first hundredth of the families, so that records share. `--billed` bills, and takes back from, the first N families
+alone, of whose members K claims stand, if K is given. `--again` lets N claims of one member, product and date stand,
+which the first N records take back and the next N bill again. Layouts are those of docs/FORMATS.md.
 """
 
 import argparse
@@ -20,6 +23,7 @@ STAMP, CREATED, BATCH_NUMBER = "202607010600", "202606302130", 1000
 FIRST, LAST = datetime.date(2026, 1, 1), datetime.date(2026, 12, 31)
 BATCH_DAY = datetime.date(2026, 6, 30)
 FEE, MEMBER_DEDUCTIBLE, FAMILY_DEDUCTIBLE, FAMILY_MAXIMUM = 175, 25_000, 60_000, 300_000
+AGAIN = 900_000_000_000
 TIERS = {"generic": "1000", "brand": "4000", "specialty": "{ percent = 20 }"}
 
 
@@ -42,7 +46,11 @@ class Job:
                       for place in range(1, options.drugs + 1)]
         self.families = [f"F{place:07d}" for place in range(1, options.families + 1)]
         self.providers = [f"8{place:09d}" for place in range(1, options.providers + 1)]
-        self.claims = sorted(self.standing_claims())
+        self.billed = self.families[:options.billed or options.families]
+        self.claims = sorted([*self.standing_claims(), *self.claims_again()])
+        named = set(self.billed)
+        self.reversible = [claim for claim in self.claims if claim[3] in named and claim[1] < AGAIN]
+        self.again = [claim for claim in self.claims if claim[1] >= AGAIN]
 
     def quantity_and_days(self):
         return self.rng.choice((14, 30, 60, 90)) * 1000, self.rng.choice((7, 14, 30))
@@ -50,7 +58,7 @@ class Job:
     def standing_claims(self):
         """Claims of the months before the batch, each the one of its key: all paid under the deductible."""
         for place in range(1, self.options.claims + 1):
-            family = self.rng.choice(self.families)
+            family = self.rng.choice(self.families_of_claim(place))
             person = self.rng.randrange(1, self.options.members + 1)
             product, _, price = self.rng.choice(self.drugs)
             quantity, days = self.quantity_and_days()
@@ -58,6 +66,22 @@ class Job:
             cost = min(quantity * price // 100_000, MEMBER_DEDUCTIBLE // 100)
             yield (self.rng.choice(self.providers), place, day_text(day), family, person, product, quantity, days,
                    cost, FEE, cost + FEE, f"{1:07d}{place % 10_000_000:07d}1")
+
+
+    def families_of_claim(self, place):
+        """The families of which one has the claim: the billed ones for the first K claims, and the others then."""
+        most = self.options.billed_claims
+        if most is None:
+            return self.families
+        return self.billed if place <= most else self.families[len(self.billed):] or self.billed
+
+    def claims_again(self):
+        """Claims of one member, product and date, under reference numbers of their own."""
+        product, _, price = self.drugs[0]
+        cost = min(30_000 * price // 100_000, MEMBER_DEDUCTIBLE // 100)
+        for place in range(1, self.options.again + 1):
+            yield (self.providers[0], AGAIN + place, day_text(BATCH_DAY - datetime.timedelta(2)), self.families[0], 1,
+                   product, 30_000, 7 + place % 24, cost, FEE, cost + FEE, f"{1:07d}{place % 10_000_000:07d}2")
 
 
 def sheet_text(job):
@@ -102,7 +126,7 @@ def billing(job, reference):
     """A record of 1 to T fills of one member."""
     rng, options = job.rng, job.options
     hot = rng.randrange(100) < options.hot
-    family = rng.choice(job.families[:max(len(job.families) // 100, 1)] if hot else job.families)
+    family = rng.choice(job.billed[:max(len(job.billed) // 100, 1)] if hot else job.billed)
     day = day_text(BATCH_DAY - datetime.timedelta(rng.randrange(0, 5)))
     count, groups = rng.randrange(1, options.transactions + 1), ""
     for place in range(count):
@@ -117,19 +141,38 @@ def billing(job, reference):
     return header("B1", rng.choice(job.providers), day, count) + insured + groups
 
 
-def reversal(job):
-    claim = job.rng.choice(job.claims)
+def reversal(job, claim):
     fields = segment("07", "EM1", f"D2{claim[1]:012d}", "E103", f"D7{claim[5]}")
     return header("B2", claim[0], claim[2], 1) + GS + fields
+
+
+def billing_again(job, claim):
+    provider, reference, day, family, person, product, quantity, days = claim[:8]
+    price = job.drugs[0][2]
+    cost = quantity * price // 100_000
+    insured = segment("04", f"C2{family}", f"C3{person:02d}")
+    group = GS + segment("07", "EM1", f"D2{reference:012d}", "E103", f"D7{product}", f"E7{quantity:010d}",
+                         f"D5{days:03d}", "D61")
+    group += segment("11", f"D9{amount(cost)}", f"DC{amount(FEE)}", f"DQ{amount(cost + FEE)}")
+    return header("B1", provider, day, 1) + insured + group
+
+
+def text_of_record(job, place):
+    options = job.options
+    if place <= options.again:
+        return reversal(job, job.again[place - 1])
+    if place <= 2 * options.again:
+        return billing_again(job, job.again[place - options.again - 1])
+    if job.reversible and job.rng.randrange(100) < options.reversals:
+        return reversal(job, job.rng.choice(job.reversible))
+    return billing(job, 100_000_000 + 4 * place)
 
 
 def batch_records(job):
     options = job.options
     yield f"{STX}00T{'PHARMSYS':24s}{BATCH_NUMBER:07d}{CREATED}P12{'RXSWITCH':24s}{ETX}"
     for place in range(1, options.records + 1):
-        is_reversal = job.claims and job.rng.randrange(100) < options.reversals
-        text = reversal(job) if is_reversal else billing(job, 100_000_000 + 4 * place)
-        yield f"{STX}G1{place:010d}{text}{ETX}"
+        yield f"{STX}G1{place:010d}{text_of_record(job, place)}{ETX}"
     yield f"{STX}99{BATCH_NUMBER:07d}{options.records:010d}{'':35s}{ETX}"
 
 
@@ -138,16 +181,19 @@ def main(words):
     parser.add_argument("folder", metavar="DIR")
     parser.add_argument("--records", type=int, default=100_000, help="at most 100,000")
     parser.add_argument("--families", type=int, default=30_000)
-    parser.add_argument("--members", type=int, default=3, help="of each family, at most 99")
+    parser.add_argument("--members", type=int, default=3, help="of each family, at most 999")
     parser.add_argument("--providers", type=int, default=500)
     parser.add_argument("--claims", type=int, default=200_000, help="standing claims")
     parser.add_argument("--drugs", type=int, default=200)
     parser.add_argument("--transactions", type=int, default=2, help="of a record at most, 1 to 4")
     parser.add_argument("--reversals", type=int, default=5, help="percent of the records")
     parser.add_argument("--hot", type=int, default=10, help="percent of the records")
+    parser.add_argument("--billed", type=int, help="families; default: all")
+    parser.add_argument("--billed-claims", type=int, help="standing claims of these; default: by chance")
+    parser.add_argument("--again", type=int, default=0, help="claims; at most half of the records")
     parser.add_argument("--seed", default="1")
     options = parser.parse_args(words)
-    if options.families * (options.members + 1) + options.claims + 1 > 1_000_000:
+    if options.families * (options.members + 1) + options.claims + options.again + 1 > 1_000_000:
         parser.error("the books would have more than 1,000,000 lines")
     job = Job(options)
     os.makedirs(options.folder, exist_ok=True)
