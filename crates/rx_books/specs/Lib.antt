@@ -3,3 +3,4 @@ pub mod BooksText
 pub mod FamilyBook
 pub mod Figures
 pub mod LedgerBooks
+pub mod OpenBooks

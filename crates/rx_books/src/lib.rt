@@ -19,10 +19,14 @@ mod books;
 mod families;
 mod family;
 mod figures;
+mod open_books;
 mod plain;
 mod rows;
+mod standing;
 mod totals;
 mod writing;
 
 pub use books::Books;
 pub use family::Family;
+pub use open_books::OpenBooks;
+pub use standing::Standing;
