@@ -4,3 +4,5 @@ pub mod FamilyBook
 pub mod Figures
 pub mod LedgerBooks
 pub mod OpenBooks
+pub mod Opening
+pub mod Store
