@@ -1,0 +1,28 @@
+-- Whether two values are one, where their parts are compared one after another.
+use Rattle.std.proofs.Common.{◌≡◌, Bool, true, false, Decides, sym, ap, ◌∙◌}
+use Rattle.std.proofs.lemmas.Bool.Decides.{Decides-at, Decides-like}
+use Rattle.rx_parcels.specs.Footprints.{FootprintParts}
+
+-- both tests, the second made only where the first holds
+pub both_hold : {P Q : Type 0} (a b v : Bool) → Decides a P → a ≡ true → Decides b Q → v ≡ b → Decides v (P × Q)
+both_hold {P} {Q} a b v first holds second is =
+    Decides-like v (λ q. (first.0 holds, q)) (λ pq. pq.1) (Decides-at v b is second)
+
+pub first_fails : {P Q : Type 0} (a v : Bool) → Decides a P → a ≡ false → v ≡ a → Decides v (P × Q)
+first_fails {P} {Q} a v first fails is =
+    (λ t. absurd (let e : false ≡ true = sym fails ∙ sym is ∙ t in cc), λ pq. absurd (let e : false ≡ true = sym fails ∙ first.1 pq.0 in cc))
+
+-- two footprints whose keys were compared first, and then their families
+pub same_footprint : (a b : FootprintParts) (keys families : Bool) → Decides keys (a.keys ≡ b.keys) → keys ≡ true
+    → Decides families (a.families ≡ b.families) → Decides families (a ≡ b)
+same_footprint a b keys families same holds decides =
+    let k = same.0 holds in
+    Decides-like families (λ f i. record { keys = k i; families = f i }) (λ e. ap (λ (F : FootprintParts). F.families) e)
+    decides
+
+pub other_footprint : (a b : FootprintParts) (keys : Bool) → Decides keys (a.keys ≡ b.keys) → keys ≡ false
+    → Decides keys (a ≡ b)
+other_footprint a b keys same fails = (
+  λ t. absurd (let e : false ≡ true = sym fails ∙ t in cc),
+  λ e. same.1 (ap (λ (F : FootprintParts). F.keys) e),
+)

@@ -1,0 +1,9 @@
+//! Books split into parcels: the books that a record names, moved out of the ledger, hold all that the record needs.
+//!
+//! In come footprints, the fill keys and families that a record names; what their books are of a ledger, and when they
+//! are enough for a record, stands in `specs/Books.antt` and `specs/Footprints.antt`.
+#![tactic(auto)]
+
+mod footprint;
+
+pub use footprint::Footprint;
