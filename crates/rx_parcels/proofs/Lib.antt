@@ -1,3 +1,6 @@
+pub mod Changed
+pub mod Families
 pub mod Locality
+pub mod Owned
 pub mod Parts
 pub mod Same

@@ -1,6 +1,7 @@
 -- Whether two values are one, where their parts are compared one after another.
 use Rattle.std.proofs.Common.{◌≡◌, Bool, true, false, Decides, sym, ap, ◌∙◌}
 use Rattle.std.proofs.lemmas.Bool.Decides.{Decides-at, Decides-like}
+use Rattle.rx_parcels.specs.FamilyBook.{FamilyBook}
 use Rattle.rx_parcels.specs.Footprints.{FootprintParts}
 
 -- both tests, the second made only where the first holds
@@ -25,4 +26,23 @@ pub other_footprint : (a b : FootprintParts) (keys : Bool) → Decides keys (a.k
 other_footprint a b keys same fails = (
   λ t. absurd (let e : false ≡ true = sym fails ∙ t in cc),
   λ e. same.1 (ap (λ (F : FootprintParts). F.keys) e),
+)
+
+-- two books whose heads and members were compared first, and then their rows
+abbrev SameHeads : FamilyBook → FamilyBook → Type 0
+SameHeads a b = ((a.family ≡ b.family) × (a.period ≡ b.period)) × (a.members ≡ b.members)
+
+pub same_book : (a b : FamilyBook) (heads rows : Bool) → Decides heads (SameHeads a b) → heads ≡ true
+    → Decides rows (a.rows ≡ b.rows) → Decides rows (a ≡ b)
+same_book a b heads rows same holds decides =
+    let h = same.0 holds in
+    Decides-like rows
+    (λ r i. record { family = h.0.0 i; period = h.0.1 i; members = h.1 i; rows = r i })
+    (λ e. ap (λ (x : FamilyBook). x.rows) e)
+    decides
+
+pub other_book : (a b : FamilyBook) (heads : Bool) → Decides heads (SameHeads a b) → heads ≡ false → Decides heads (a ≡ b)
+other_book a b heads same fails = (
+  λ t. absurd (let e : false ≡ true = sym fails ∙ t in cc),
+  λ e. same.1 ((ap (λ (x : FamilyBook). x.family) e, ap (λ (x : FamilyBook). x.period) e), ap (λ (x : FamilyBook). x.members) e),
 )

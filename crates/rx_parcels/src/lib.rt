@@ -4,8 +4,11 @@
 //! are enough for a record, stands in `specs/Books.antt` and `specs/Footprints.antt`.
 #![tactic(auto)]
 
+mod family;
 mod footprint;
 mod law;
+mod totals;
 
+pub use family::Family;
 pub use footprint::Footprint;
 pub use law::law_of_locality;

@@ -2,7 +2,7 @@ use Rattle.std.proofs.Common.{◌≡◌, false, true, sym, ◌∙◌}
 use Rattle.rx_ledger.specs.Members.{member_cmp, member_key}
 use Rattle.rx_ledger.proofs.Orders.{member_total}
 use Rattle.rx_order.proofs.Places.{contains_key-gap}
-use Rattle.rx_books.proofs.totals.place_of_member.Goals as goal
+use Rattle.rx_parcels.proofs.totals.place_of_member.Goals as goal
 
 pub unreachable-requires : goal.unreachable-requires
 unreachable-requires c =

@@ -6,9 +6,9 @@ use Rattle.rx_ledger.proofs.Orders.{key_total}
 use Rattle.rx_ledger.proofs.Refusals.{free_is_not_there}
 use Rattle.rx_order.specs.Ascending.{contains_key}
 use Rattle.rx_order.proofs.LookUps.{item_at-free}
-use Rattle.rx_books.specs.FamilyBook.{FamilyBook, own_ledger}
-use Rattle.rx_books.proofs.Owned.{counted-small, counted_deductible-small, deductible_room, family_room, no_member, own-added, pocket_room, stored, totals-added}
-use Rattle.rx_books.proofs.family.Family.add.Goals as goal
+use Rattle.rx_parcels.specs.FamilyBook.{FamilyBook, own_ledger}
+use Rattle.rx_parcels.proofs.Owned.{counted-small, counted_deductible-small, deductible_room, family_room, no_member, own-added, pocket_room, stored, totals-added}
+use Rattle.rx_parcels.proofs.family.Family.add.Goals as goal
 
 pub unreachable-requires : goal.unreachable-requires
 unreachable-requires c =

@@ -29,8 +29,8 @@ use Rattle.rx_ledger.specs.Sums.{counted, deductible_in, deductible_paid, paid_b
 use Rattle.rx_ledger.proofs.Ledgers.{IsLedger-with_member, IsLedger-with_row, IsLedger-without_row}
 use Rattle.rx_ledger.proofs.Passed.{passed_found}
 use Rattle.rx_ledger.proofs.Orders.{id_exact, id_total, key_total, member_exact, member_total}
-use Rattle.rx_books.specs.FamilyBook.{FamilyBook, IsOwn, AreTotals, book_with_member, book_with_row, book_without_row, own_ledger}
-use Rattle.rx_books.proofs.Changed.{set-map, sum_by-nothing}
+use Rattle.rx_parcels.specs.FamilyBook.{FamilyBook, IsOwn, AreTotals, book_with_member, book_with_row, book_without_row, own_ledger}
+use Rattle.rx_parcels.proofs.Changed.{set-map, sum_by-nothing}
 
 -- a member that no list need have, where a read past the end is spoken of
 abbrev no_day : Civil
@@ -52,7 +52,7 @@ has_person-row m r own =
     rw own (rw (tied_itself id_total r.family) (same_turned m.key.person r.person))
 
 -- what is listed is one of the members, who are of the family
-listed_own : (b : FamilyBook) → IsOwn b → (k : MemberKey) → is_listed (own_ledger b) k ≡ true → k.family ≡ b.family
+pub listed_own : (b : FamilyBook) → IsOwn b → (k : MemberKey) → is_listed (own_ledger b) k ≡ true → k.family ≡ b.family
 listed_own b own k listed = found (item_at member_cmp member_key b.members k) refl listed
   where
     found : (o : Option Member) → item_at member_cmp member_key b.members k ≡ o → is_some o ≡ true → k.family ≡ b.family

@@ -2,9 +2,9 @@ use Rattle.std.proofs.Common.{◌≡◌, Some, true, false, refl, ap, ◌∙◌}
 use Rattle.rx_ledger.specs.Members.{member_cmp, member_key}
 use Rattle.rx_ledger.proofs.Orders.{member_total}
 use Rattle.rx_order.proofs.Places.{contains_key-at, contains_key-gap}
-use Rattle.rx_books.specs.FamilyBook.{FamilyBook, has_person}
-use Rattle.rx_books.proofs.Owned.{deductible_read, stored}
-use Rattle.rx_books.proofs.family.Family.deductible.Goals as goal
+use Rattle.rx_parcels.specs.FamilyBook.{FamilyBook, has_person}
+use Rattle.rx_parcels.proofs.Owned.{deductible_read, stored}
+use Rattle.rx_parcels.proofs.family.Family.deductible.Goals as goal
 
 pub returns-in-Ok : goal.returns-in-Ok
 returns-in-Ok c =

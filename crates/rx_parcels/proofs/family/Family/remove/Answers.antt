@@ -4,9 +4,9 @@ use Rattle.rx_ledger.specs.Rows.{row_key}
 use Rattle.rx_ledger.proofs.Orders.{key_total}
 use Rattle.rx_order.specs.Ascending.{item_at}
 use Rattle.rx_order.proofs.Edits.{without_absent}
-use Rattle.rx_books.specs.FamilyBook.{FamilyBook}
-use Rattle.rx_books.proofs.Owned.{deductible_enough, family_enough, no_member, own-removed, pocket_enough, row_listed, stored, totals-removed}
-use Rattle.rx_books.proofs.family.Family.remove.Goals as goal
+use Rattle.rx_parcels.specs.FamilyBook.{FamilyBook}
+use Rattle.rx_parcels.proofs.Owned.{deductible_enough, family_enough, no_member, own-removed, pocket_enough, row_listed, stored, totals-removed}
+use Rattle.rx_parcels.proofs.family.Family.remove.Goals as goal
 
 -- ---- no row stands under the key
 

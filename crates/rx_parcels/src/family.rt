@@ -1,18 +1,15 @@
-ghost use Rattle.std.specs.Prelude.{◌≡◌, ◌↔◌, ◌++◌, IfOk, IsTrue, OnErr, OnOk, true, false};
+ghost use Rattle.std.specs.Prelude.{◌≡◌, ◌↔◌, IfOk, IsTrue, OnErr, OnOk, true, false};
 ghost use Rattle.rx_order.specs.Ascending.{is_past};
 ghost use Rattle.rx_ledger.specs.Ledger.{is_listed, is_taken, row_under};
-ghost use Rattle.rx_ledger.specs.Members.{member_cmp, member_key};
+ghost use Rattle.rx_ledger.specs.Members.{member_cmp, member_key, person_in};
 ghost use Rattle.rx_ledger.specs.Rows.{member_of_row};
 ghost use Rattle.rx_ledger.specs.Sums.{family_deductible_in, out_of_pocket_in};
-ghost use Rattle.rx_books.specs.BooksText.{lines_text, member_lines_of, total_line_of};
-ghost use Rattle.rx_books.specs.FamilyBook.{book_with_member, book_with_row, book_without_row, deductible_at, empty_book, own_ledger};
+ghost use Rattle.rx_parcels.specs.FamilyBook.{IsOwn, book_with_member, book_with_row, book_without_row, deductible_at, empty_book, own_ledger};
 
 use crate::totals::{counted_in, place_of_member};
-use crate::writing::put_members;
-use rx_books_text::TotalLine;
 use rx_fields::{Id, Key, Memory, Period, Person};
 use rx_ledger::{Member, MemberKey, Row};
-use rx_order::{Ascending, InsertError};
+use rx_order::{Ascending, InsertError, Keyed};
 use std::alloc::Global;
 use std::marker::Model;
 
@@ -32,13 +29,23 @@ pub struct Family {
 }
 
 impl Model for Family {
-    ghost use Rattle.rx_books.specs.FamilyBook.{FamilyBook, IsFamilyBook};
+    ghost use Rattle.rx_parcels.specs.FamilyBook.{FamilyBook, IsFamilyBook};
 
     ghost Value = { FamilyBook };
 
     ghost view = { λ f. record { family = f.family; period = f.period; members = f.members; rows = f.rows } };
 
     ghost invariant = { λ f. IsFamilyBook (record { family = f.family; period = f.period; members = f.members; rows = f.rows }) f.deductibles.items f.out_of_pocket f.deductible };
+}
+
+impl Keyed for Family {
+    type Key = Id;
+
+    ghost key_of = { λ book. book.family };
+
+    fn key(&self) -> Id {
+        self.family
+    }
 }
 
 impl Family {
@@ -73,16 +80,29 @@ impl Family {
 
     /// The members, ascending by person.
     pub fn members(&self) -> &[Member]
-        ensures { result.now ≡ self.now.members }
+        ensures value { result.now ≡ self.now.members }
+        ensures within { IsOwn self.now }
     {
         self.members.as_slice()
     }
 
     /// The standing claims, ascending by fill key.
     pub fn rows(&self) -> &[Row]
-        ensures { result.now ≡ self.now.rows }
+        ensures value { result.now ≡ self.now.rows }
+        ensures within { IsOwn self.now }
     {
         self.rows.as_slice()
+    }
+
+    /// The member with the person code.
+    pub fn member(&self, person: &Person) -> Option<Member>
+        ensures { result ≡ person_in self.now.members person.now }
+    {
+        let key = MemberKey {
+            family: self.family,
+            person: *person,
+        };
+        self.members.get(&key).copied()
     }
 
     /// The row under a fill key.
@@ -168,24 +188,6 @@ impl Family {
         Some(row)
     }
 
-    /// Puts the members' lines, each with the member's deductible.
-    pub(crate) fn put_members(&self, text: &mut Vec<u8>) -> Result<(), Memory>
-        ensures { OnOk result (text.new.items ≡ text.old.items ++ lines_text (member_lines_of self.now)) }
-    {
-        put_members(text, self.members.as_slice(), &self.deductibles)
-    }
-
-    /// The family's total line.
-    pub(crate) fn total_line(&self) -> TotalLine
-        ensures { result ≡ total_line_of self.now }
-    {
-        TotalLine {
-            family: self.family,
-            out_of_pocket: self.out_of_pocket,
-            deductible: Some(self.deductible),
-        }
-    }
-
     /// An equal book.
     pub fn copy(&self, alloc: Global) -> Result<Family, Memory>
         ensures { IfOk result (λ family. family ≡ self.now) }
@@ -206,7 +208,7 @@ impl Family {
 }
 
 ghost use Rattle.rx_claim.specs.Same.{same, same_laws, same_equivalence};
-ghost use Rattle.rx_books.specs.contracts.family.Family.{the_row as family_row};
+ghost use Rattle.rx_parcels.specs.contracts.family.Family.{the_row as family_row};
 
 impl PartialEq for Family {
     ghost eq = { same family_row.coded };

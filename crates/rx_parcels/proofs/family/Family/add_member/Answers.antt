@@ -2,9 +2,9 @@ use Rattle.std.proofs.Common.{◌≡◌, [], ◌∷◌, ◌++◌, refl, ap, ◌�
 use Rattle.rx_ledger.specs.Members.{member_cmp, member_key}
 use Rattle.rx_ledger.proofs.Orders.{member_total}
 use Rattle.rx_order.proofs.Edits.{put-past}
-use Rattle.rx_books.specs.FamilyBook.{FamilyBook}
-use Rattle.rx_books.proofs.Owned.{own-member, totals-member}
-use Rattle.rx_books.proofs.family.Family.add_member.Goals as goal
+use Rattle.rx_parcels.specs.FamilyBook.{FamilyBook}
+use Rattle.rx_parcels.proofs.Owned.{own-member, totals-member}
+use Rattle.rx_parcels.proofs.family.Family.add_member.Goals as goal
 
 pub push-requires : goal.push-requires
 push-requires c = rw (← c.self.view_is) at c.requires.past

@@ -2,10 +2,10 @@ use Rattle.std.proofs.Common.{◌≡◌, Decides}
 use Rattle.std.specs.Cmp.Lexicographic.{bytes_decides, pointwise_decides}
 use Rattle.std.proofs.lemmas.Bool.Decides.{Decides-at}
 use Rattle.rx_ledger.proofs.Decided.{member_decides, period_decides, row_decides}
-use Rattle.rx_books.specs.FamilyBook.{FamilyBook}
-use Rattle.rx_books.proofs.Same.{both_hold, first_fails, same_book, other_book}
-use Rattle.rx_books.proofs.family.FamilyPartialEq.eq.Goals as goal
-use Rattle.rx_books.proofs.family.FamilyPartialEq.eq.Goals.{then-eq, else-eq, then-eq-2, else-eq-2}
+use Rattle.rx_parcels.specs.FamilyBook.{FamilyBook}
+use Rattle.rx_parcels.proofs.Same.{both_hold, first_fails, same_book, other_book}
+use Rattle.rx_parcels.proofs.family.FamilyPartialEq.eq.Goals as goal
+use Rattle.rx_parcels.proofs.family.FamilyPartialEq.eq.Goals.{then-eq, else-eq, then-eq-2, else-eq-2}
 
 pub returns-then-eq-3 : goal.returns-then-eq-3
 returns-then-eq-3 c =
