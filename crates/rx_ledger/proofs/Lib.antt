@@ -1,5 +1,7 @@
 pub mod Alike
 pub mod Decided
+pub mod Found
+pub mod Held
 pub mod Ledgers
 pub mod Limits
 pub mod NamedKeys
@@ -10,4 +12,5 @@ pub mod Placed
 pub mod Refusals
 pub mod SameText
 pub mod Steps
+pub mod Stepped
 pub mod Summed

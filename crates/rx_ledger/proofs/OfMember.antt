@@ -1,5 +1,6 @@
--- A billing that is paid is of a listed member.
-use Rattle.std.proofs.Common.{◌≡◌, ℕ, true, List, [], ◌∷◌, Option, Some, None, IsSome, refl, inl, inr}
+-- A billing that is paid is of a listed member, and its fill key was free.
+use Rattle.std.proofs.Common.{◌≡◌, ℕ, true, false, List, [], ◌∷◌, Option, Some, None, IsSome, refl, ap, inl, inr}
+use Rattle.std.specs.Prelude.{is_some}
 use Rattle.std.specs.List.{filter}
 use Rattle.std.specs.Ordering.{is_eq, ordering_then}
 use Rattle.std.specs.declared.cmp.Ordering.{Ordering}
@@ -13,8 +14,8 @@ use Rattle.rx_order.specs.Ascending.{contains_key, has_key}
 use Rattle.rx_ledger.specs.declared.member.Member.{Member}
 use Rattle.rx_ledger.specs.declared.member.MemberKey.{MemberKey}
 use Rattle.rx_ledger.specs.declared.row.Row.{Row}
-use Rattle.rx_ledger.specs.Answers.{Asked, answer, answer_bill, answer_person, key_of}
-use Rattle.rx_ledger.specs.Ledger.{Ledger, members_of, row_under, rows_of}
+use Rattle.rx_ledger.specs.Answers.{Asked, answer, answer_bill, answer_member, answer_person, is_same_claim, key_of}
+use Rattle.rx_ledger.specs.Ledger.{Ledger, is_taken, members_of, row_under, rows_of}
 use Rattle.rx_ledger.specs.Members.{is_same, member_cmp, member_key, of_family, person_in}
 
 -- two keys tie where their parts do
@@ -24,7 +25,7 @@ tied-both Less q e f = cc
 tied-both Greater q e f = cc
 
 -- who has the person code among those of the family is listed under both
-listed_by-person : (ms : List Member) (family person : List ℕ) (m : Member)
+pub listed_by-person : (ms : List Member) (family person : List ℕ) (m : Member)
     → person_in (filter (of_family family) ms) person ≡ Some m
     → contains_key member_cmp member_key ms (record { family = family; person = person }) ≡ true
 listed_by-person [] family person m found = cc
@@ -66,3 +67,27 @@ paid-listed a L b p paid =
     let members = members_of L b.family in
     listed-found L b.family b.person (person_in members b.person) refl
     (bill-paid a b members (rows_of L b.family) (row_under L (key_of a b.reference)) p paid)
+
+-- no row stands under the key of a billing that is paid
+member-free : (a : Asked) (b : BillParts) (m : Member) (rows : List Row) (under : Option Row) (p : PaidParts)
+    → answer_member a b m rows under ≡ Paid p → under ≡ None
+member-free a b m rows None p paid = refl
+member-free a b m rows (Some r) p paid = elim (cases_Bool (is_same_claim b r)) [
+  | inl same ↦ let e = rw same at paid in cc
+  | inr other ↦ let e = rw other at paid in cc
+]
+
+person-free : (a : Asked) (b : BillParts) (found : Option Member) (rows : List Row) (under : Option Row) (p : PaidParts)
+    → answer_person a b found rows under ≡ Paid p → under ≡ None
+person-free a b None rows under p paid = cc
+person-free a b (Some m) rows under p paid = member-free a b m rows under p paid
+
+bill-free : (a : Asked) (b : BillParts) (members : List Member) (rows : List Row) (under : Option Row) (p : PaidParts)
+    → answer_bill a b members rows under ≡ Paid p → under ≡ None
+bill-free a b [] rows under p paid = cc
+bill-free a b (x ∷ xs) rows under p paid = person-free a b (person_in (x ∷ xs) b.person) rows under p paid
+
+pub paid-free : (a : Asked) (L : Ledger) (b : BillParts) (p : PaidParts) → answer a L (Bill b) ≡ Paid p
+    → is_taken L (key_of a b.reference) ≡ false
+paid-free a L b p paid =
+    ap is_some (bill-free a b (members_of L b.family) (rows_of L b.family) (row_under L (key_of a b.reference)) p paid)

@@ -1,6 +1,6 @@
 -- Steps down the table of cases.
 use Rattle.std.specs.Prelude.{not, ◌||◌}
-use Rattle.std.proofs.Common.{◌≡◌, false, List, [], ◌∷◌, Option, Some, refl, ap}
+use Rattle.std.proofs.Common.{◌≡◌, false, List, Option, refl}
 use Rattle.std.specs.Ordering.{is_gt, is_lt}
 use Rattle.rx_claim.specs.declared.bill.BillParts.{BillParts}
 use Rattle.rx_fields.specs.Calendar.{day_cmp}
@@ -8,8 +8,7 @@ use Rattle.rx_fields.specs.Numbered.{is_within}
 use Rattle.rx_ledger.specs.declared.drug.Drug.{Drug}
 use Rattle.rx_ledger.specs.declared.member.Member.{Member}
 use Rattle.rx_ledger.specs.declared.row.Row.{Row}
-use Rattle.rx_ledger.specs.Answers.{Asked, answer_bill, answer_covered, answer_member, answer_new, answer_person}
-use Rattle.rx_ledger.specs.Members.{person_in}
+use Rattle.rx_ledger.specs.Answers.{Asked, answer_covered, answer_new}
 use Rattle.rx_ledger.specs.Plan.{drug_of}
 
 module _ (a : Asked) (b : BillParts) where
@@ -19,9 +18,3 @@ module _ (a : Asked) (b : BillParts) where
       → (not (is_within m.coverage a.date) || is_gt (day_cmp a.date a.plan.figures.period.last)) ≡ false
       → drug_of a.plan b.product ≡ drug → answer_new a b m rows ≡ answer_covered a b rows drug
   answer_new-covered m rows drug early late outside is = rw (early, late, outside, is) refl
-
-  -- a person is found among some members
-  pub answer_bill-member : (members : List Member) (m : Member) (rows : List Row) (under : Option Row)
-      → person_in members b.person ≡ Some m → answer_bill a b members rows under ≡ answer_member a b m rows under
-  answer_bill-member [] m rows under found = cc
-  answer_bill-member (x ∷ xs) m rows under found = ap (λ o. answer_person a b o rows under) found

@@ -1,4 +1,5 @@
 pub mod Answers
+pub mod Basis
 pub mod Claims
 pub mod Fold
 pub mod Keys

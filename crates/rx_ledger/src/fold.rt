@@ -2,7 +2,7 @@ ghost use Rattle.std.specs.Prelude.{◌≡◌, ◌≤◌, length, IfOk};
 ghost use Rattle.rx_ledger.specs.Fold.{fold_ledger, fold_replies};
 
 use crate::ledger::Ledger;
-use crate::reply::reply_to;
+use crate::reply::answer_record;
 use crate::sheet::Sheet;
 use rx_claim::{Reply, Transmission};
 use rx_fields::{Lot, Memory};
@@ -24,7 +24,8 @@ pub fn plain_run(
     let mut ledger = before.copy(alloc)?;
     let mut replies = Vec::with_capacity(alloc, transmissions.len())?;
     for (at, transmission) in transmissions.iter().enumerate() {
-        replies.push(reply_to(alloc, lot, sheet, at as u64 + 1, transmission, &mut ledger)?)?;
+        let terms = sheet.terms(lot, transmission);
+        replies.push(answer_record(alloc, &mut ledger, &terms, at as u64 + 1, transmission)?)?;
     }
     Ok((ledger, replies))
 }

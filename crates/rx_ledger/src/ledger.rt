@@ -1,7 +1,8 @@
 ghost use Rattle.std.specs.Prelude.{◌≡◌, ◌↔◌, IfOk, OnErr, OnOk, IsErrOf, true, false};
+ghost use Rattle.rx_ledger.specs.Members.{person_in};
 ghost use Rattle.rx_ledger.specs.Rows.{member_of_row};
 
-use crate::member::Member;
+use crate::member::{Member, MemberKey};
 use crate::row::Row;
 use rx_fields::{Key, Memory};
 use rx_order::{Ascending, InsertError};
@@ -64,7 +65,7 @@ impl Model for Ledger {
     ghost invariant = { λ l. IsLedger (record { members = l.members; rows = l.rows }) };
 }
 
-ghost use Rattle.rx_ledger.specs.Ledger.{IsLedger, empty, is_listed, is_taken, row_under, with_member, with_row, without_row};
+ghost use Rattle.rx_ledger.specs.Ledger.{IsLedger, empty, is_listed, is_taken, members_of, row_under, with_member, with_row, without_row};
 
 impl Ledger {
     /// A ledger without members and rows.
@@ -137,6 +138,13 @@ impl Ledger {
         ensures { result ≡ row_under self.now key.now }
     {
         self.rows.get(key).copied()
+    }
+
+    /// The member of a family who has the person code.
+    pub(crate) fn listed(&self, key: &MemberKey) -> Option<Member>
+        ensures { result ≡ person_in (members_of self.now key.now.family) key.now.person }
+    {
+        self.members.get(key).copied()
     }
 
     /// Puts a row under its fill key, which is free; its member is listed.

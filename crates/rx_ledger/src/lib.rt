@@ -9,9 +9,10 @@
 //! ```
 //!
 //! `plain_run` sums anew at each transaction and is slow. Stored totals and several workers are left to the crates
-//! above, which answer by the same calls: `Claim::answer` a billing, `answer_reversal` a reversal, under an `Occasion`.
+//! above, which answer by the same call: `answer_record`, on whatever answers as a ledger does (`Basis`).
 #![tactic(auto)]
 
+mod basis;
 mod claim;
 mod drug;
 mod family;
@@ -21,7 +22,9 @@ mod law;
 mod ledger;
 mod member;
 mod occasion;
+mod plain;
 mod price;
+mod refill;
 mod reply;
 mod reversal;
 mod row;
@@ -32,7 +35,8 @@ mod step;
 mod sums;
 mod terms;
 
-pub use claim::Claim;
+pub use basis::Basis;
+pub use claim::{Claim, Patient};
 pub use drug::{Drug, Share};
 pub use figures::Figures;
 pub use fold::plain_run;
@@ -41,6 +45,8 @@ pub use ledger::{AddError, Ledger};
 pub use member::{Member, MemberKey};
 pub use occasion::Occasion;
 pub use price::Allowance;
+pub use refill::{has_days_left, is_too_soon};
+pub use reply::answer_record;
 pub use reversal::answer_reversal;
 pub use row::Row;
 pub use share::{Used, shared};

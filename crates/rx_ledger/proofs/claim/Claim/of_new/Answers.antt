@@ -9,9 +9,9 @@ use Rattle.rx_ledger.proofs.Steps.{answer_new-covered}
 use Rattle.rx_ledger.proofs.claim.Claim.of_new.Goals as goal
 
 pub returns : goal.returns
-returns c = λ drugs is.
+returns c = λ drugs rows is said.
     let claim = c.args.self.now in
-    let m = c.args.member.now in
+    let m = c.args.patient.now.member in
     let date = claim.occasion.date in
     let period = claim.occasion.figures.period in
     let early : is_lt (day_cmp date period.first) ≡ false = sym c.if-is_too_old.ensures in
@@ -19,4 +19,4 @@ returns c = λ drugs is.
     let outside : (not (is_within m.coverage date) || is_gt (day_cmp date period.last)) ≡ false =
     sym c.if-is_outside.ensures in
     let a = asked_for claim drugs in
-    c.of_covered.ensures ∙ sym (answer_new-covered a claim.bill m claim.rows.now claim.drug early late outside is)
+    c.of_covered.ensures rows said ∙ sym (answer_new-covered a claim.bill m rows claim.drug early late outside is)

@@ -4,19 +4,19 @@ use Rattle.std.specs.Prelude.{int_lt}
 use Rattle.std.proofs.Math.Nat.{mul-le-mul_left}
 use Rattle.std.proofs.lemmas.Int.{ints}
 use Rattle.rx_fields.specs.Calendar.{day_number}
-use Rattle.rx_ledger.proofs.claim.has_days_left.Goals as goal
+use Rattle.rx_ledger.proofs.refill.has_days_left.Goals as goal
 
 pub returns : goal.returns
 returns c =
-    let since = day_number c.args.row.now.key.date in
+    let since = day_number c.args.filled in
     let days = day_number c.args.date -ℤ since in
     let from : to_z w64 (of_z w64 c.from.result) ≡ day_number c.args.date = omega (arith, ints) in
     let to : to_z w64 (of_z w64 c.from-2.result) ≡ since = omega (arith, ints) in
     let gone = to_z w64 (of_z w64 (to_z w64 (of_z w64 c.from.result) -ℤ to_z w64 (of_z w64 c.from-2.result))) in
     let passed : to_z w64 (of_z w64 (gone *ℤ pos 100)) ≡ days *ℤ pos 100 = omega (arith, ints) in
-    let same : c.get.result * c.args.percent ≡ c.args.row.now.days * c.args.percent =
+    let same : c.get.result * c.args.percent ≡ c.args.days * c.args.percent =
     ap (λ n. n * c.args.percent) c.get.ensures.value in
     let few = mul-le-mul_left c.get.result c.requires in
-    let needed : to_z w64 (c.get.result * c.args.percent) ≡ pos (c.args.row.now.days * c.args.percent) =
+    let needed : to_z w64 (c.get.result * c.args.percent) ≡ pos (c.args.days * c.args.percent) =
     omega (arith, ints, few) in
     ap (λ x. int_lt x (to_z w64 (c.get.result * c.args.percent))) passed ∙ ap (int_lt (days *ℤ pos 100)) needed
