@@ -101,7 +101,7 @@ pub rows_part : (F : FootprintParts) (family : List ℕ) (L : Ledger) → names 
 rows_part F family L n = ap (λ (M : Ledger). M.rows) (book_part F (OfFamily family) L n)
 
 -- what is looked for in a filter that keeps it
-find_filter : {A : Type 0} (q p : A → Bool) (xs : List A) → ((x : A) → q x ≡ true → p x ≡ true)
+pub find_filter : {A : Type 0} (q p : A → Bool) (xs : List A) → ((x : A) → q x ≡ true → p x ≡ true)
     → find q (filter p xs) ≡ find q xs
 find_filter q p [] h = refl
 find_filter q p (x ∷ xs) h = elim (cases_Bool (p x)) [

@@ -1,8 +1,15 @@
 -- Whether two values are one, where their parts are compared one after another.
-use Rattle.std.proofs.Common.{◌≡◌, Bool, true, false, Decides, sym, ap, ◌∙◌}
-use Rattle.std.proofs.lemmas.Bool.Decides.{Decides-at, Decides-like}
+use Rattle.std.proofs.Common.{◌≡◌, Bool, true, false, Option, Some, None, Decides, refl, sym, ap, ◌∙◌}
+use Rattle.std.proofs.lemmas.Bool.Decides.{Decides-and, Decides-at, Decides-like}
+use Rattle.std.specs.Option.{option_eq}
+use Rattle.rx_ledger.specs.declared.row.Row.{Row}
+use Rattle.rx_ledger.specs.contracts.row.RowPartialEq.TheImpl.{ghosts as row}
+use Rattle.rx_ledger.proofs.Decided.{key_decides, row_decides}
+use Rattle.rx_parcels.specs.declared.key_book.KeyBook.{KeyBook}
+use Rattle.rx_parcels.specs.contracts.key_book.KeyBookPartialEq.TheImpl.{ghosts as key_book}
 use Rattle.rx_parcels.specs.FamilyBook.{FamilyBook}
 use Rattle.rx_parcels.specs.Footprints.{FootprintParts}
+use Rattle.rx_parcels.specs.Parcels.{ParcelParts}
 
 -- both tests, the second made only where the first holds
 pub both_hold : {P Q : Type 0} (a b v : Bool) → Decides a P → a ≡ true → Decides b Q → v ≡ b → Decides v (P × Q)
@@ -46,3 +53,35 @@ other_book a b heads same fails = (
   λ t. absurd (let e : false ≡ true = sym fails ∙ t in cc),
   λ e. same.1 ((ap (λ (x : FamilyBook). x.family) e, ap (λ (x : FamilyBook). x.period) e), ap (λ (x : FamilyBook). x.members) e),
 )
+
+-- two parcels whose periods and keys' books were compared first, and then their families' books
+abbrev SameFront : ParcelParts → ParcelParts → Type 0
+SameFront a b = (a.period ≡ b.period) × (a.keys ≡ b.keys)
+
+pub same_parcel : (a b : ParcelParts) (front families : Bool) → Decides front (SameFront a b) → front ≡ true
+    → Decides families (a.families ≡ b.families) → Decides families (a ≡ b)
+same_parcel a b front families same holds decides =
+    let h = same.0 holds in
+    Decides-like families (λ f i. record { period = h.0 i; keys = h.1 i; families = f i })
+    (λ e. ap (λ (p : ParcelParts). p.families) e) decides
+
+pub other_parcel : (a b : ParcelParts) (front : Bool) → Decides front (SameFront a b) → front ≡ false
+    → Decides front (a ≡ b)
+other_parcel a b front same fails = (
+  λ t. absurd (let e : false ≡ true = sym fails ∙ t in cc),
+  λ e. same.1 (ap (λ (p : ParcelParts). p.period) e, ap (λ (p : ParcelParts). p.keys) e),
+)
+
+row_or_none_decides : (o p : Option Row) → Decides (option_eq row.eq o p) (o ≡ p)
+row_or_none_decides None None = (λ e. refl, λ e. refl)
+row_or_none_decides None (Some s) = (λ e. cc, λ e. cc)
+row_or_none_decides (Some r) None = (λ e. cc, λ e. cc)
+row_or_none_decides (Some r) (Some s) = Decides-like (row.eq r s) (ap Some) (λ e. cc) (row_decides r s)
+
+pub key_book_decides : (a b : KeyBook) → Decides (key_book.eq a b) (a ≡ b)
+key_book_decides a b =
+    Decides-like
+    (key_book.eq a b)
+    (λ h i. record { key = h.0 i; row = h.1 i })
+    (λ e. (cc, cc))
+    (Decides-and _ _ (key_decides a.key b.key) (row_or_none_decides a.row b.row))

@@ -6,9 +6,13 @@
 
 mod family;
 mod footprint;
+mod key_book;
 mod law;
+mod parcel;
 mod totals;
 
 pub use family::Family;
 pub use footprint::Footprint;
+pub use key_book::KeyBook;
 pub use law::law_of_locality;
+pub use parcel::Parcel;
