@@ -1,0 +1,10 @@
+pub mod Agreed
+pub mod Changed
+pub mod Edited
+pub mod Families
+pub mod Held
+pub mod Locality
+pub mod Owned
+pub mod Parts
+pub mod Same
+pub mod Written

@@ -1,0 +1,4 @@
+pub mod Books
+pub mod FamilyBook
+pub mod Footprints
+pub mod Parcels

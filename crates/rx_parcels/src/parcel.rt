@@ -1,0 +1,268 @@
+ghost use Rattle.std.specs.Prelude.{◌≡◌, ◌↔◌, IfOk, IfSome, IsSome, IsTrue, None, OnErr, OnOk, true};
+ghost use Rattle.std.specs.List.{All};
+ghost use Rattle.std.specs.Option.{option_copied};
+ghost use Rattle.rx_fields.specs.Order.{id_cmp};
+ghost use Rattle.rx_order.specs.Ascending.{IsAscending, IsAt, contains_key};
+ghost use Rattle.rx_parcels.specs.Books.{OfFamily, OfKey};
+ghost use Rattle.rx_parcels.specs.FamilyBook.{IsOwn, family_of};
+ghost use Rattle.rx_parcels.specs.Footprints.{names};
+ghost use Rattle.rx_parcels.specs.Parcels.{Agrees, HasOwnRow, IsParcel, family_at, family_deductible_at, member_at};
+ghost use Rattle.rx_parcels.specs.Parcels.{member_deductible, named_in, parcel_with_row, parcel_without_row, pocket_at};
+ghost use Rattle.rx_parcels.specs.Parcels.{row_at, rows_at};
+
+use crate::family::Family;
+use crate::key_book::KeyBook;
+use rx_fields::{Id, Key, Memory, Period, Person};
+use rx_ledger::{Member, Row};
+use rx_order::{Ascending, place_of};
+use std::alloc::Global;
+use std::marker::Model;
+
+/// The books that a footprint names, moved out of the ledger: of each fill key the row under it or none, of each family
+/// its book with the totals of one period (docs/PRODUCT.md, "Words").
+#[derive(Debug, Drop)]
+pub struct Parcel {
+    period: Period,
+    keys: Ascending<KeyBook>,
+    families: Vec<Family>,
+}
+
+impl Model for Parcel {
+    ghost use Rattle.rx_parcels.specs.Parcels.{IsParcel, ParcelParts};
+
+    ghost Value = { ParcelParts };
+
+    ghost view = { λ p. record { period = p.period; keys = p.keys; families = p.families.items } };
+
+    ghost invariant = { λ p. IsParcel (record { period = p.period; keys = p.keys; families = p.families.items }) };
+}
+
+impl Parcel {
+    /// The parcel of these books, each with rows of its own and totals of the period. It takes no memory.
+    pub fn new(period: Period, keys: Ascending<KeyBook>, families: Vec<Family>) -> Parcel
+        requires rows_own { All HasOwnRow keys }
+        requires families_rise { IsAscending id_cmp family_of families.items }
+        requires one_period { All (λ b. b.period ≡ period) families.items }
+        ensures { result ≡ record { period = period; keys = keys; families = families.items } }
+    {
+        read_families(&families);
+        keys.as_slice();
+        Parcel {
+            period,
+            keys,
+            families,
+        }
+    }
+
+    /// Its books: those of fill keys and those of families, each in order. It takes no memory.
+    pub fn into_books(self) -> (Ascending<KeyBook>, Vec<Family>)
+        ensures keys { result.0 ≡ self.keys }
+        ensures families { result.1.items ≡ self.families }
+        ensures within { IsParcel self }
+    {
+        let Parcel { keys, families, .. } = self;
+        (keys, families)
+    }
+
+    /// The period that its totals are of.
+    pub fn period(&self) -> Period
+        ensures value { result ≡ self.now.period }
+        ensures within { IsParcel self.now }
+    {
+        self.period
+    }
+
+    /// The books of fill keys, in order.
+    pub fn keys(&self) -> &[KeyBook]
+        ensures value { result.now ≡ self.now.keys }
+        ensures within { IsParcel self.now }
+    {
+        self.keys.as_slice()
+    }
+
+    /// The books of families, in order.
+    pub fn families(&self) -> &[Family]
+        ensures value { result.now ≡ self.now.families }
+        ensures within { IsParcel self.now }
+    {
+        self.families.as_slice()
+    }
+
+    /// Whether it holds the book of the fill key.
+    pub fn has_key(&self, key: &Key) -> bool
+        ensures { result ≡ names (named_in self.now) (OfKey key.now) }
+    {
+        self.keys.contains_key(key)
+    }
+
+    /// Whether it holds the book of the family.
+    pub fn has_family(&self, family: &Id) -> bool
+        ensures { result ≡ names (named_in self.now) (OfFamily family.now) }
+    {
+        place_of(&self.families, family).is_ok()
+    }
+
+    /// The row under a fill key; None where none stands there, and where the key's book isn't held.
+    pub fn row(&self, key: &Key) -> Option<Row>
+        ensures { result ≡ row_at self.now key.now }
+    {
+        self.keys.get(key)?.row
+    }
+
+    /// The book of a family.
+    pub fn family(&self, family: &Id) -> Option<&Family>
+        ensures { option_copied result ≡ family_at self.now family.now }
+    {
+        match place_of(&self.families, family) {
+            Ok(at) => Some(&self.families[at]),
+            Err(_) => None,
+        }
+    }
+
+    /// The member of a family with the person code.
+    pub fn member(&self, family: &Id, person: &Person) -> Option<Member>
+        ensures { result ≡ member_at self.now family.now person.now }
+    {
+        self.family(family)?.member(person)
+    }
+
+    /// The standing claims of a family, ascending by fill key; none where its book isn't held.
+    pub fn rows(&self, family: &Id) -> &[Row]
+        ensures { result.now ≡ rows_at self.now family.now }
+    {
+        match self.family(family) {
+            Some(book) => book.rows(),
+            None => &[],
+        }
+    }
+
+    /// The deductible of a person so far, in cents; None where the person isn't a listed member.
+    pub fn deductible(&self, family: &Id, person: &Person) -> Option<u128>
+        ensures { result ≡ member_deductible self.now family.now person.now }
+    {
+        self.family(family)?.deductible(person)
+    }
+
+    /// The out of pocket of a family so far, in cents; None where its book isn't held.
+    pub fn out_of_pocket(&self, family: &Id) -> Option<u128>
+        ensures { result ≡ pocket_at self.now family.now }
+    {
+        Some(self.family(family)?.out_of_pocket())
+    }
+
+    /// The deductible of a family so far, in cents; None where its book isn't held.
+    pub fn family_deductible(&self, family: &Id) -> Option<u128>
+        ensures { result ≡ family_deductible_at self.now family.now }
+    {
+        Some(self.family(family)?.family_deductible())
+    }
+
+    /// Adds a standing claim of a listed member under a free fill key, to the books of its key and its family. On a
+    /// refusal the parcel is unchanged.
+    pub fn add(&mut self, row: Row) -> Result<(), Memory>
+        requires agrees { Agrees self.old }
+        requires key { names (named_in self.old) (OfKey row.key) ≡ true }
+        requires family { names (named_in self.old) (OfFamily row.family) ≡ true }
+        requires free { row_at self.old row.key ≡ None }
+        requires listed { IsSome (member_at self.old row.family row.person) }
+        ensures ok { OnOk result (self.new ≡ parcel_with_row self.old row) }
+        ensures err { OnErr result (self.new ≡ self.old) }
+    {
+        let at = held_place(&self.families, &row.family);
+        let family = &mut self.families[at];
+        family.add(row)?;
+        read_families(&self.families);
+        let book = KeyBook {
+            key: row.key,
+            row: Some(row),
+        };
+        let _before = self.keys.replace(book);
+        Ok(())
+    }
+
+    /// Takes the row under a fill key out of the books of its key and its family. It takes no memory.
+    pub fn remove(&mut self, key: &Key)
+        requires agrees { Agrees self.old }
+        requires key { names (named_in self.old) (OfKey key.now) ≡ true }
+        requires there { IsSome (row_at self.old key.now) }
+        requires family { IfSome (row_at self.old key.now) (λ r. names (named_in self.old) (OfFamily r.family) ≡ true) }
+        ensures { self.new ≡ parcel_without_row self.old key.now }
+    {
+        let Some(row) = self.row(key) else {
+            return;
+        };
+        let at = held_place(&self.families, &row.family);
+        let family = &mut self.families[at];
+        let _removed = family.remove(key);
+        read_families(&self.families);
+        let book = KeyBook {
+            key: *key,
+            row: None,
+        };
+        let _before = self.keys.replace(book);
+    }
+
+    /// An equal parcel.
+    pub fn copy(&self, alloc: Global) -> Result<Parcel, Memory>
+        ensures { IfOk result (λ parcel. parcel ≡ self.now) }
+    {
+        let keys = self.keys.to_copy(alloc)?;
+        let families = copies(alloc, &self.families)?;
+        Ok(Parcel {
+            period: self.period,
+            keys,
+            families,
+        })
+    }
+}
+
+// Each family's book has members and rows of its own.
+fn read_families(families: &[Family])
+    ensures { All IsOwn families.now }
+{
+    for family in families {
+        family.rows();
+    }
+}
+
+// The place of a family whose book is there.
+fn held_place(families: &[Family], family: &Id) -> usize
+    requires rise { IsAscending id_cmp family_of families.now }
+    requires held { contains_key id_cmp family_of families.now family.now ≡ true }
+    ensures { IsAt id_cmp family_of families.now family.now result }
+{
+    match place_of(families, family) {
+        Ok(at) => at,
+        Err(_) => unreachable!(),
+    }
+}
+
+// Equal books, in the same order.
+fn copies(alloc: Global, families: &[Family]) -> Result<Vec<Family>, Memory>
+    ensures { IfOk result (λ copies. copies.items ≡ families.now) }
+{
+    let mut copies = Vec::with_capacity(alloc, families.len())?;
+    for family in families {
+        copies.push(family.copy(alloc)?)?;
+    }
+    Ok(copies)
+}
+
+ghost use Rattle.rx_claim.specs.Same.{same, same_laws, same_equivalence};
+ghost use Rattle.rx_parcels.specs.contracts.parcel.Parcel.{the_row as parcel_row};
+
+impl PartialEq for Parcel {
+    ghost eq = { same parcel_row.coded };
+
+    ghost laws = { same_laws parcel_row.coded };
+
+    fn eq(&self, other: &Parcel) -> bool
+        ensures { IsTrue result ↔ (self.now ≡ other.now) }
+    {
+        self.period == other.period && self.keys == other.keys && self.families == other.families
+    }
+}
+
+impl Eq for Parcel {
+    ghost laws = { same_equivalence parcel_row.coded };
+}
