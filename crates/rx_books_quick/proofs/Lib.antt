@@ -1,0 +1,4 @@
+-- Laws of the definitions in `specs/`.
+pub mod Begins
+pub mod Counted
+pub mod Parted
