@@ -1,0 +1,3 @@
+pub mod Billed
+pub mod Footprints
+pub mod Machine
