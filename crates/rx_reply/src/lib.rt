@@ -1,7 +1,7 @@
 //! Reply transmissions of the Telecommunication Standard D.0 as bytes, one text for each reply.
 //!
 //! ```text
-//! Reply  -- encode -------->  bytes
+//! Reply  -- encode -------->  bytes (put_reply: at the end of a text)
 //! bytes  -- decode_reply -->  Reply, or the first fault: Head, Segment, Field
 //! ```
 //!
@@ -27,7 +27,7 @@ mod writing;
 pub use fault::ReplyFault;
 pub use law::read_back;
 pub use reading::decode_reply;
-pub use writing::encode;
+pub use writing::{encode, put_reply};
 
 #[cfg(test)]
 mod tests;

@@ -216,6 +216,10 @@ fn four_answers_are_read_in_their_order(rt: HostRuntime) -> Result<(), Fail> {
         assert_eq!(rt; paid.number.get(), *number);
     }
     assert_eq!(rt; encode(rt.alloc(), &read)?.as_slice(), FOUR_TRANSACTIONS);
+    let mut text = b"front".to_vec(rt.alloc())?;
+    put_reply(&mut text, &read)?;
+    assert_eq!(rt; &text[..5], b"front".as_slice());
+    assert_eq!(rt; &text[5..], FOUR_TRANSACTIONS);
     Ok(())
 }
 

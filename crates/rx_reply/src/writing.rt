@@ -75,20 +75,28 @@ fn put_header(out: &mut Vec<u8>, echo: &Echo, count: u64, status: u8) -> Result<
     out.extend_from_slice(&echo.date)
 }
 
-// The text of a reply with these answers.
-fn text_of(alloc: Global, echo: &Echo, status: u8, answers: &[Answer]) -> Result<Vec<u8>, Memory>
+// Puts the text of a reply with these answers.
+#[tactic(auto, using(std::proofs::Common::append_assoc))]
+fn put_answers(
+    out: &mut Vec<u8>,
+    echo: &Echo,
+    status: u8,
+    answers: &[Answer],
+) -> Result<(), AllocError>
     requires { length answers.now ≤ 4 }
-    ensures { IfOk result (λ text. text.items ≡ header_text echo.now (length answers.now) (status ∷ []) ++ flat_map group_text answers.now) }
+    ensures { OnOk result (out.new.items ≡ out.old.items ++ (header_text echo.now (length answers.now) (status ∷ []) ++ flat_map group_text answers.now)) }
 {
-    let mut text = Vec::with_capacity(alloc, HEADER + MOST * answers.len())?;
-    put_header(&mut text, echo, answers.len() as u64, status)?;
-    put_groups(&mut text, answers)?;
-    Ok(text)
+    put_header(out, echo, answers.len() as u64, status)?;
+    put_groups(out, answers)
 }
 
-/// The one text of a reply (docs/FORMATS.md, "Reply transmission").
-pub fn encode(alloc: Global, reply: &Reply) -> Result<Vec<u8>, Memory>
-    ensures { IfOk result (λ text. text.items ≡ reply_text reply.now) }
+/// Puts the one text of a reply at the end of a text (docs/FORMATS.md, "Reply transmission").
+///
+/// # Errors
+///
+/// `AllocError` where a growth was refused; what was put by then stays.
+pub fn put_reply(out: &mut Vec<u8>, reply: &Reply) -> Result<(), AllocError>
+    ensures { OnOk result (out.new.items ≡ out.old.items ++ reply_text reply.now) }
 {
     match &reply.outcome {
         Outcome::Rejected(rejected) => {
@@ -97,8 +105,26 @@ pub fn encode(alloc: Global, reply: &Reply) -> Result<Vec<u8>, Memory>
                 reference: None,
             });
             let count = rejected.groups.get() as usize;
-            text_of(alloc, &reply.echo, b'R', &[answer; 4][..count])
+            put_answers(out, &reply.echo, b'R', &[answer; 4][..count])
         }
-        Outcome::Heard(answers) => text_of(alloc, &reply.echo, b'A', answers.as_slice()),
+        Outcome::Heard(answers) => put_answers(out, &reply.echo, b'A', answers.as_slice()),
     }
+}
+
+/// The one text of a reply (docs/FORMATS.md, "Reply transmission").
+pub fn encode(alloc: Global, reply: &Reply) -> Result<Vec<u8>, Memory>
+    ensures { IfOk result (λ text. text.items ≡ reply_text reply.now) }
+{
+    let mut text = Vec::with_capacity(alloc, room(reply))?;
+    put_reply(&mut text, reply)?;
+    Ok(text)
+}
+
+// How many bytes the text of a reply has at most.
+fn room(reply: &Reply) -> usize {
+    let answers = match &reply.outcome {
+        Outcome::Rejected(rejected) => rejected.groups.get() as usize,
+        Outcome::Heard(answers) => answers.as_slice().len(),
+    };
+    answers.saturating_mul(MOST).saturating_add(HEADER)
 }

@@ -1,9 +1,9 @@
 -- Pieces that are rendered beside one another, and joined.
-use Rattle.std.proofs.Common.{◌≡◌, List, [], ◌∷◌, ◌++◌, map, ℕ, Result, Ok, Err, length, refl, sym, ap, ◌∙◌, arith}
+use Rattle.std.proofs.Common.{◌≡◌, List, [], ◌∷◌, ◌++◌, map, ℕ, ◌+◌, ◌<◌, ◌≤◌, Result, Ok, Err, length, get_or, drop, append_assoc, refl, sym, ap, ◌∙◌, arith}
 use Rattle.std.specs.Prelude.{IfOk, IsOkAnd, MatchResult, zip}
 use Rattle.std.specs.List.{AllZip, flat_map}
 use Rattle.std.specs.declared.vec.Vec.{Vec}
-use Rattle.std.proofs.lemmas.List.{append-nil, length-map}
+use Rattle.std.proofs.lemmas.List.{append-nil, length-map, drop_more, drop_all}
 use Rattle.std.proofs.lemmas.Slice.Zip.{length-zip}
 use Rattle.std.proofs.lemmas.Grind.{flat_map-append}
 use Rattle.rayon.specs.Lists.{Folds}
@@ -62,3 +62,26 @@ pub shown_records : {A : Type 0} (show : A → Detail × Reply) (xs : List A)
     ≡ records_text (map (λ (p : Detail × Reply). response_detail p.0 p.1) (map show xs))
 shown_records show [] = refl
 shown_records show (x ∷ xs) = ap (λ l. answer_text (show x).0 (show x).1 ++ l) (shown_records show xs)
+
+-- ---- the records of one part, one after another
+
+-- one record more is written
+pub records_step : (details : List Detail) (replies : List Reply) (at : ℕ) (d : Detail) (r : Reply) (before after total : List ℕ)
+    → at < length details → at < length replies → d ≡ get_or details at d → r ≡ get_or replies at r
+    → after ≡ before ++ answer_text d r
+    → before ++ records_text (response_details (drop at details) (drop at replies)) ≡ total
+    → after ++ records_text (response_details (drop (at + 1) details) (drop (at + 1) replies)) ≡ total
+records_step details replies at d r before after total in_details in_replies is_d is_r written so_far =
+    let rest = records_text (response_details (drop (at + 1) details) (drop (at + 1) replies)) in
+    let details_on : drop at details ≡ d ∷ drop (at + 1) details = drop_more details at d in_details ∙ ap (λ x. x ∷ drop (at + 1) details) (sym is_d) in
+    let replies_on : drop at replies ≡ r ∷ drop (at + 1) replies = drop_more replies at r in_replies ∙ ap (λ x. x ∷ drop (at + 1) replies) (sym is_r) in
+    let next : records_text (response_details (drop at details) (drop at replies)) ≡ answer_text d r ++ rest =
+    (λ j. records_text (response_details (details_on j) (replies_on j))) in
+    ap (λ (text : List ℕ). text ++ rest) written ∙ (append_assoc before (answer_text d r) rest ∙ (ap (λ (text : List ℕ). before ++ text) (sym next) ∙ so_far))
+
+-- all records are written
+pub records_done : (details : List Detail) (replies : List Reply) (at : ℕ) (before total : List ℕ) → length details ≤ at
+    → before ++ records_text (response_details (drop at details) (drop at replies)) ≡ total → before ≡ total
+records_done details replies at before total le so_far =
+    let none : drop at details ≡ [] = drop_all at details le in
+    sym (append-nil before) ∙ (ap (λ (left : List Detail). before ++ records_text (response_details left (drop at replies))) (sym none) ∙ so_far)

@@ -15,4 +15,4 @@ mod response;
 #[cfg(test)]
 mod tests;
 
-pub use response::response_file;
+pub use response::{response_file, response_in_parts};

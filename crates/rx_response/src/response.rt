@@ -1,22 +1,27 @@
-ghost use Rattle.std.specs.Prelude.{◌≡◌, ◌≤◌, ◌++◌, [], length, IfOk, IsOkAnd, OnOk};
+ghost use Rattle.std.specs.Prelude.{◌≡◌, ◌+◌, ◌≤◌, ◌<◌, ◌++◌, [], length, IfOk, IsOkAnd, OnOk};
+ghost use Rattle.rx_batch.specs.Grammar.{record_text};
+ghost use Rattle.rx_batch.specs.Writing.{trailer_text};
 ghost use Rattle.rx_response.specs.Pieces.{answer_text, pieces_text, records_text};
 ghost use Rattle.rx_response.specs.Response.{response_head, response_details, response_text};
 
+use rayon::current_num_threads;
 use rayon::prelude::*;
-use rx_batch::{Detail, Head, Kind, Text, put_detail, put_header, put_trailer};
+use rx_batch::{Detail, Head, Kind, put_header, put_trailer};
 use rx_claim::Reply;
 use rx_fields::{Lot, Memory, Stamp};
-use rx_reply::encode;
+use rx_reply::put_reply;
 use std::alloc::{AllocError, Global};
 use std::thread::Threads;
 
 // The bytes of the header and of the trailer.
 const ENDS: usize = 75 + 56;
 
+// Room for the record of a reply with one answer; where records are longer, the text grows.
+const RECORD: usize = 192;
+
 /// The text of the response file: the batch's header with sender and receiver exchanged and the run's stamp as date and
 /// time, and each detail's reference with the reply at its place (docs/FORMATS.md, "Response file"). The batch is within
 /// the limits of docs/PRODUCT.md. Any number of processors gives the same bytes. Err where memory was wanting.
-#[tactic(auto, using(crate::proofs::Joined::as_many, std::proofs::Common::append_assoc))]
 pub fn response_file<R: Threads + Sync>(
     rt: &R,
     alloc: Global,
@@ -29,12 +34,84 @@ pub fn response_file<R: Threads + Sync>(
     requires within { length details.now ≤ 100_000 }
     ensures { IfOk result (λ text. text.items ≡ response_text head.now stamp details.now replies.now) }
 {
-    let pieces = render(rt, alloc, details, replies)?;
+    let parts = current_num_threads(rt);
+    response_in_parts(rt, alloc, parts, head, stamp, details, replies)
+}
+
+/// The same text, rendered in at most this many parts beside one another; one part is rendered by the calling thread,
+/// and none starts one.
+pub fn response_in_parts<R: Threads + Sync>(
+    rt: &R,
+    alloc: Global,
+    parts: usize,
+    head: &Head,
+    stamp: Stamp,
+    details: &[Detail],
+    replies: &[Reply],
+) -> Result<Vec<u8>, Memory>
+    requires equally_many { length details.now ≡ length replies.now }
+    requires within { length details.now ≤ 100_000 }
+    ensures { IfOk result (λ text. text.items ≡ response_text head.now stamp details.now replies.now) }
+{
+    if parts <= 1 {
+        return in_one_part(alloc, head, stamp, details, replies);
+    }
+    in_pieces(rt, alloc, parts, head, stamp, details, replies)
+}
+
+#[tactic(auto, using(crate::proofs::Joined::as_many, std::proofs::Common::append_assoc))]
+fn in_one_part(
+    alloc: Global,
+    head: &Head,
+    stamp: Stamp,
+    details: &[Detail],
+    replies: &[Reply],
+) -> Result<Vec<u8>, Memory>
+    requires equally_many { length details.now ≡ length replies.now }
+    requires within { length details.now ≤ 100_000 }
+    ensures { IfOk result (λ text. text.items ≡ response_text head.now stamp details.now replies.now) }
+{
+    let mut text = Vec::with_capacity(alloc, room(details.len()).saturating_add(ENDS))?;
+    put_header(&mut text, &sent_back(head, stamp))?;
+    put_answers(&mut text, details, replies)?;
+    put_end(&mut text, head, details)?;
+    Ok(text)
+}
+
+#[tactic(auto, using(crate::proofs::Joined::as_many, std::proofs::Common::append_assoc))]
+fn in_pieces<R: Threads + Sync>(
+    rt: &R,
+    alloc: Global,
+    parts: usize,
+    head: &Head,
+    stamp: Stamp,
+    details: &[Detail],
+    replies: &[Reply],
+) -> Result<Vec<u8>, Memory>
+    requires some { 0 < parts }
+    requires equally_many { length details.now ≡ length replies.now }
+    requires within { length details.now ≤ 100_000 }
+    ensures { IfOk result (λ text. text.items ≡ response_text head.now stamp details.now replies.now) }
+{
+    let pieces = render(rt, alloc, details.len() / parts, details, replies)?;
     let mut text = Vec::with_capacity(alloc, file_len(&pieces))?;
     put_header(&mut text, &sent_back(head, stamp))?;
     put_pieces(&mut text, &pieces)?;
-    put_trailer(&mut text, head.lot.number(), details.len() as u64 + 2)?;
+    put_end(&mut text, head, details)?;
     Ok(text)
+}
+
+// The trailer of the response.
+fn put_end(text: &mut Vec<u8>, head: &Head, details: &[Detail]) -> Result<(), AllocError>
+    requires { length details.now ≤ 100_000 }
+    ensures { OnOk result (text.new.items ≡ text.old.items ++ record_text (trailer_text head.now.lot.number (length details.now + 2))) }
+{
+    put_trailer(text, head.lot.number(), details.len() as u64 + 2)
+}
+
+// Room for so many records.
+fn room(records: usize) -> usize {
+    records.saturating_mul(RECORD)
 }
 
 // The header of the response.
@@ -51,32 +128,34 @@ fn sent_back(head: &Head, stamp: Stamp) -> Head
     }
 }
 
-// The records of the answers, in order, in pieces from as many threads as there are processors.
+// The records of the answers, in order, in pieces of at least so many.
 fn render<R: Threads + Sync>(
     rt: &R,
     alloc: Global,
+    least: usize,
     details: &[Detail],
     replies: &[Reply],
 ) -> Result<Vec<Vec<u8>>, Memory>
     ensures { IfOk result (λ pieces. pieces_text pieces.items ≡ records_text (response_details details.now replies.now)) }
 {
+    let room = room(least.saturating_add(1));
     details
         .par_iter()
         .zip(replies)
+        .with_min_len(least.max(1))
         .fold(
             move || -> Result<Vec<u8>, Memory>
                 ensures { IfOk result (λ text. text.items ≡ []) }
-            { Ok(Vec::new(alloc)) },
+            { Ok(Vec::with_capacity(alloc, room)?) },
             move |text: Result<Vec<u8>, Memory>, p: (&Detail, &Reply)| -> Result<Vec<u8>, Memory>
                 ensures { IfOk result (λ new. IsOkAnd text (λ old. new.items ≡ old.items ++ answer_text p.entry.0.now p.entry.1.now)) }
-            { with_answer(alloc, text, p.0, p.1) },
+            { with_answer(text, p.0, p.1) },
         )
         .collect::<Result<Vec<Vec<u8>>, Memory>>(rt, alloc)?
 }
 
-// The text with one more record: the detail's reference with the text of the reply to it.
+// The text with one more record.
 fn with_answer(
-    alloc: Global,
     text: Result<Vec<u8>, Memory>,
     detail: &Detail,
     reply: &Reply,
@@ -84,12 +163,30 @@ fn with_answer(
     ensures { IfOk result (λ new. IsOkAnd text (λ old. new.items ≡ old.items ++ answer_text detail.now reply.now)) }
 {
     let mut text = text?;
-    let answer = Detail {
-        reference: detail.reference,
-        text: Text::new(encode(alloc, reply)?),
-    };
-    put_detail(&mut text, &answer)?;
+    put_answer(&mut text, detail, reply)?;
     Ok(text)
+}
+
+// Puts the record of a detail's answer: the detail's reference with the text of the reply to it.
+#[tactic(auto, using(std::proofs::Common::append_assoc))]
+fn put_answer(text: &mut Vec<u8>, detail: &Detail, reply: &Reply) -> Result<(), AllocError>
+    ensures { OnOk result (text.new.items ≡ text.old.items ++ answer_text detail.now reply.now) }
+{
+    text.extend_from_slice(b"\x02G1")?;
+    text.extend_from_slice(&detail.reference)?;
+    put_reply(text, reply)?;
+    text.extend_from_slice(b"\x03")
+}
+
+// Puts the records of the answers, in order.
+fn put_answers(text: &mut Vec<u8>, details: &[Detail], replies: &[Reply]) -> Result<(), AllocError>
+    requires { length details.now ≡ length replies.now }
+    ensures { OnOk result (text.new.items ≡ text.old.items ++ records_text (response_details details.now replies.now)) }
+{
+    for at in 0..details.len() {
+        put_answer(text, &details[at], &replies[at])?;
+    }
+    Ok(())
 }
 
 // The pieces, one after another.

@@ -1,6 +1,6 @@
 //! The response files of the worked cases (docs/CASES.md), to the byte, and one that is made in several pieces.
 
-use crate::response_file;
+use crate::{response_file, response_in_parts};
 use rx_batch::{Detail, FileType, Head, Kind, Text};
 use rx_fields::{Lot, Stamp, Time, date_read, digits_write};
 use rx_reply::decode_reply;
@@ -119,5 +119,17 @@ fn replies_stand_in_file_order(rt: HostRuntime) -> Result<(), Fail> {
         replies.as_slice(),
     )?;
     assert!(rt; text.as_slice() == wanted.as_slice());
+    for parts in [1, 4] {
+        let text = response_in_parts(
+            &rt,
+            rt.alloc(),
+            parts,
+            &head,
+            stamp,
+            details.as_slice(),
+            replies.as_slice(),
+        )?;
+        assert!(rt; text.as_slice() == wanted.as_slice());
+    }
     Ok(())
 }

@@ -27,13 +27,62 @@ pub fn decode_all<R: Threads + Sync>(
 ) -> Result<Vec<Transmission>, Memory>
     ensures { IfOk result (λ transmissions. transmissions.items ≡ transmissions_of door.now details.now) }
 {
+    decode_in_pieces(rt, alloc, FEWEST_DETAILS, door, details)
+}
+
+/// The same transmissions, decoded in at most this many parts beside one another; one part is decoded by the calling
+/// thread, and none starts one.
+///
+/// # Errors
+///
+/// `Memory` where a growth was refused, or where `rayon` gave up, which tells no more.
+pub fn decode_in_parts<R: Threads + Sync>(
+    rt: &R,
+    alloc: Global,
+    parts: usize,
+    door: &Door,
+    details: &[Detail],
+) -> Result<Vec<Transmission>, Memory>
+    ensures { IfOk result (λ transmissions. transmissions.items ≡ transmissions_of door.now details.now) }
+{
+    if parts <= 1 {
+        return decode_in_one(alloc, door, details);
+    }
+    decode_in_pieces(rt, alloc, details.len() / parts, door, details)
+}
+
+// The transmissions of pieces of at least so many details.
+fn decode_in_pieces<R: Threads + Sync>(
+    rt: &R,
+    alloc: Global,
+    least: usize,
+    door: &Door,
+    details: &[Detail],
+) -> Result<Vec<Transmission>, Memory>
+    ensures { IfOk result (λ transmissions. transmissions.items ≡ transmissions_of door.now details.now) }
+{
     details
         .par_iter()
-        .with_min_len(FEWEST_DETAILS)
+        .with_min_len(least.max(1))
         .map(
             move |detail: &Detail| -> Result<Transmission, Memory>
                 ensures { IfOk result (λ t. t ≡ transmission_of door.entry.now detail.now.text) }
             { decode(alloc, door, detail.text.bytes()) },
         )
         .collect::<Result<Vec<Transmission>, Memory>>(rt, alloc)?
+}
+
+// The transmissions, one after another.
+fn decode_in_one(
+    alloc: Global,
+    door: &Door,
+    details: &[Detail],
+) -> Result<Vec<Transmission>, Memory>
+    ensures { IfOk result (λ transmissions. transmissions.items ≡ transmissions_of door.now details.now) }
+{
+    let mut transmissions = Vec::with_capacity(alloc, details.len())?;
+    for detail in details {
+        transmissions.push(decode(alloc, door, detail.text.bytes())?)?;
+    }
+    Ok(transmissions)
 }

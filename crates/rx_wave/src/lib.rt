@@ -16,5 +16,5 @@ mod gate;
 #[cfg(test)]
 mod tests;
 
-pub use decoding::decode_all;
+pub use decoding::{decode_all, decode_in_parts};
 pub use gate::{Gate, NoGate};

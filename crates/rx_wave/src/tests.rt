@@ -1,5 +1,5 @@
 // What no clause says: that the threads give the transmissions, and not want of memory.
-use crate::{Gate, NoGate, decode_all};
+use crate::{Gate, NoGate, decode_all, decode_in_parts};
 use rx_batch::{Detail, Text};
 use rx_claim::{Body, Transmission};
 use rx_fields::{Code, Door};
@@ -50,6 +50,21 @@ fn decodes_in_order(rt: HostRuntime) -> Result<(), Fail> {
         codes(&all[1]),
         [Code::TransactionCount, Code::Syntax].as_slice()
     );
+    Ok(())
+}
+
+#[test]
+fn decodes_in_parts(rt: HostRuntime) -> Result<(), Fail> {
+    let alloc = rt.alloc();
+    let details = [detail(alloc, b"")?, detail(alloc, CUT)?];
+    for parts in [1, 2] {
+        let all = decode_in_parts(&rt, alloc, parts, &DOOR, &details)?;
+        assert_eq!(rt; all.len(), 2);
+        assert_eq!(rt;
+            codes(&all[1]),
+            [Code::TransactionCount, Code::Syntax].as_slice()
+        );
+    }
     Ok(())
 }
 

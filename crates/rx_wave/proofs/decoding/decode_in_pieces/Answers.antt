@@ -9,7 +9,7 @@ use Rattle.rx_fields.specs.declared.memory.Memory.{Memory}
 use Rattle.rx_request.specs.Request.{transmission_of}
 use Rattle.rx_wave.specs.Decoding.{transmissions_of}
 use Rattle.rx_wave.proofs.Gathered.{AllZip-all_ok, IfOk-matched}
-use Rattle.rx_wave.proofs.decoding.decode_all.Goals as goal
+use Rattle.rx_wave.proofs.decoding.decode_in_pieces.Goals as goal
 
 -- The threads give a result for each detail, in order; all are Ok where the whole is.
 pub returns : goal.returns
