@@ -98,6 +98,19 @@ id_again max more t v le e =
     let long : ltb more (length (trimmed t)) ≡ false = le-ltb _ _ (omega arith) in
     (omega (arith, ap length is, few), rw (← is, trimmed_twice t, some.0, long, printable.0, no_bar.0) refl)
 
+not_false : (b : Bool) → not b ≡ false → b ≡ true
+not_false true e = refl
+not_false false e = absurd cc
+
+-- each byte of an id is printable
+pub id_printable : (max : ℕ) (t v : List ℕ) → id_of max t ≡ Ok v → list_all is_printable v ≡ true
+id_printable max t v e =
+    let some = refused (eqb (length (trimmed t)) 0) fault.Blank _ v e in
+    let short = refused (ltb max (length (trimmed t))) fault.TooLong _ v some.1 in
+    let printable = refused (not (list_all is_printable (trimmed t))) fault.NotPrintable _ v short.1 in
+    let no_bar = refused (list_any is_bar (trimmed t)) fault.Bar _ v printable.1 in
+    rw (ok_same (trimmed t) v no_bar.1) at (not_false (list_all is_printable (trimmed t)) printable.0)
+
 -- an id and zeros up to max bytes are the fields of an id
 pub padded_whole : (max : ℕ) (t : List ℕ) → max ≤ 20 → length t ≤ max → id_of max t ≡ Ok t
     → IsPadded max (length t) (padded max t)

@@ -6,6 +6,7 @@ ghost use Rattle.std.specs.Cmp.Rules.{comparing};
 ghost use Rattle.std.proofs.Common.{rules};
 
 use crate::fault::IdFault;
+use crate::padding::{compare, padded};
 use std::cmp::Ordering;
 use std::marker::Model;
 
@@ -38,7 +39,6 @@ impl Model for Id {
 ghost use Rattle.std.specs.Prelude.{length};
 ghost use Rattle.std.specs.List.{list_all, list_any};
 ghost use Rattle.std.specs.Result.{result_map_both};
-ghost use Rattle.rx_fields.specs.Padded.{padded};
 ghost use Rattle.rx_fields.specs.Text.{id_of, trimmed, is_printable, is_bar, IsId};
 
 impl Id {
@@ -122,23 +122,13 @@ pub(crate) fn id_text(text: &[u8], max: usize) -> Result<&[u8], IdFault>
     Ok(text)
 }
 
-// The text, and zeros up to `MAX` bytes.
-pub(crate) fn padded<const MAX: usize>(text: &[u8]) -> [u8; MAX]
-    requires { length text.now ≤ MAX }
-    ensures { result ≡ padded MAX text.now }
-{
-    let mut bytes = [0; MAX];
-    bytes[..text.len()].copy_from_slice(text);
-    bytes
-}
-
 impl PartialEq for Id {
     ghost eq = { pointwise nat_eq };
 
     ghost laws = { partial_equiv_from_equiv nat_list_eq_equiv };
 
     fn eq(&self, other: &Id) -> bool {
-        self.bytes() == other.bytes()
+        compare(&self.bytes, &other.bytes).is_eq()
     }
 }
 
@@ -166,6 +156,6 @@ impl Ord for Id {
     ghost matches_eq = { Prim.search (comparing, rules) };
 
     fn cmp(&self, other: &Id) -> Ordering {
-        self.bytes().cmp(other.bytes())
+        compare(&self.bytes, &other.bytes)
     }
 }

@@ -25,6 +25,7 @@ mod id;
 mod key;
 mod lot;
 mod memory;
+mod padding;
 mod period;
 mod product;
 mod short_id;

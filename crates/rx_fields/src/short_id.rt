@@ -6,7 +6,8 @@ ghost use Rattle.std.specs.Cmp.Rules.{comparing};
 ghost use Rattle.std.proofs.Common.{rules};
 
 use crate::fault::IdFault;
-use crate::id::{Id, id_text, padded};
+use crate::id::{Id, id_text};
+use crate::padding::{compare, padded};
 use std::cmp::Ordering;
 use std::marker::Model;
 
@@ -71,7 +72,7 @@ impl<const MAX: usize> PartialEq for ShortId<MAX> {
     ghost laws = { partial_equiv_from_equiv nat_list_eq_equiv };
 
     fn eq(&self, other: &ShortId<MAX>) -> bool {
-        self.bytes() == other.bytes()
+        compare(&self.bytes, &other.bytes).is_eq()
     }
 }
 
@@ -99,7 +100,7 @@ impl<const MAX: usize> Ord for ShortId<MAX> {
     ghost matches_eq = { Prim.search (comparing, rules) };
 
     fn cmp(&self, other: &ShortId<MAX>) -> Ordering {
-        self.bytes().cmp(other.bytes())
+        compare(&self.bytes, &other.bytes)
     }
 }
 
