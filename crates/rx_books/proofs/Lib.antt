@@ -8,6 +8,8 @@ pub mod Mapped
 pub mod Missing
 pub mod OneMember
 pub mod OneRow
+pub mod Openings
+pub mod Passes
 pub mod Owned
 pub mod Same
 pub mod Split
