@@ -2,3 +2,4 @@ pub mod Ascending
 pub mod InsertError
 pub mod Joined
 pub mod Orders
+pub mod Overlaid
