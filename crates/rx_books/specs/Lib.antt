@@ -3,3 +3,6 @@ pub mod BooksText
 pub mod FamilyBook
 pub mod Figures
 pub mod LedgerBooks
+pub mod OpenBooks
+pub mod Opening
+pub mod Store

@@ -19,10 +19,16 @@ mod books;
 mod families;
 mod family;
 mod figures;
+mod open_books;
+mod opening;
 mod plain;
 mod rows;
+mod slot;
+mod standing;
 mod totals;
 mod writing;
 
 pub use books::Books;
 pub use family::Family;
+pub use open_books::OpenBooks;
+pub use standing::Standing;
