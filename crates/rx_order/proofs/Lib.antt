@@ -2,6 +2,7 @@ pub mod Agreeing
 pub mod Edits
 pub mod FilteredPuts
 pub mod Filters
+pub mod InRuns
 pub mod Joined
 pub mod Kept
 pub mod KeyOrders

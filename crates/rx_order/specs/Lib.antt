@@ -3,3 +3,4 @@ pub mod InsertError
 pub mod Joined
 pub mod Orders
 pub mod Overlaid
+pub mod Runs
