@@ -1,5 +1,6 @@
 pub mod BooksFile
 pub mod Changed
+pub mod Columns
 pub mod FamilyOrder
 pub mod Figured
 pub mod Grown
