@@ -14,6 +14,7 @@ pub mod Passes
 pub mod Owned
 pub mod Same
 pub mod Split
+pub mod Stored
 pub mod VersionThree
 pub mod Written
 pub mod Wrong

@@ -15,6 +15,7 @@
 //! keeps its totals; which claims those are is left to the crates above.
 #![tactic(auto)]
 
+mod amounts;
 mod books;
 mod families;
 mod family;
