@@ -6,11 +6,13 @@ pub mod Figured
 pub mod Grown
 pub mod Limits
 pub mod Mapped
+pub mod Merging
 pub mod Missing
 pub mod OneMember
 pub mod OneRow
 pub mod Openings
 pub mod Passes
+pub mod Opens
 pub mod Owned
 pub mod Same
 pub mod Split

@@ -21,6 +21,7 @@ mod families;
 mod family;
 mod figures;
 mod open_books;
+mod opened;
 mod opening;
 mod plain;
 mod rows;

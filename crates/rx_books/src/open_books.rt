@@ -13,6 +13,7 @@ ghost use Rattle.rx_books.specs.OpenBooks.{open_with, open_without};
 
 use crate::amounts::{add_at, take_at};
 use crate::books::Books;
+use crate::opened::{fresh_slots, merged};
 use crate::opening::Opening;
 use crate::slot::{KeySlot, held_at, slot_at};
 use crate::standing::Standing;
@@ -218,5 +219,33 @@ impl OpenBooks {
         take_at(&mut self.out_of_pockets, family, counted.out_of_pocket);
         take_at(&mut self.family_deductibles, family, counted.deductible);
         row
+    }
+
+    /// The same books, with a slot for each of these fill keys too.
+    pub(crate) fn opened(self, alloc: Global, keys: &[Key]) -> Result<OpenBooks, Memory>
+        requires { IsAscending key_cmp (λ key. key) keys.now }
+        ensures same { IfOk result (λ opened. opened.books ≡ self.books) }
+        ensures slots { IfOk result (λ opened. All (Contains opened.slots) keys.now) }
+    {
+        let OpenBooks {
+            period,
+            opening,
+            changed,
+            deductibles,
+            out_of_pockets,
+            family_deductibles,
+        } = self;
+        let fresh = fresh_slots(alloc, &opening, keys)?;
+        let changed = merged(alloc, &fresh, changed.as_slice())?;
+        let _rows = opening.rows().len();
+        let _slots = changed.len();
+        Ok(OpenBooks {
+            period,
+            opening,
+            changed,
+            deductibles,
+            out_of_pockets,
+            family_deductibles,
+        })
     }
 }
