@@ -137,6 +137,15 @@ impl Opening {
         }
     }
 
+    /// The place of a member, as a slot keeps it.
+    pub(crate) fn kept_place(&self, member: usize) -> u32
+        requires { member < length self.now.members }
+        ensures { result ≡ member }
+    {
+        let _members = self.members();
+        member as u32
+    }
+
     /// The place of the family of the member at a place.
     pub(crate) fn home(&self, member: usize) -> usize
         requires { member < length self.now.members }

@@ -1,15 +1,16 @@
 -- What stands in an ascending list that slots overlay, and what a write into a slot does to it.
-use Rattle.std.proofs.Common.{◌≡◌, List, [], ◌∷◌, cond, Option, Some, None, refl, sym, ap, ◌∙◌, inl, inr}
+use Rattle.std.proofs.Common.{◌≡◌, List, [], ◌∷◌, cond, Option, Some, None, Bool, not, length, ◌+◌, ◌≤◌, refl, sym, ap, ◌∙◌, inl, inr, arith}
 use Rattle.std.specs.List.{All}
 use Rattle.std.specs.Cmp.{IsTotalOrder}
 use Rattle.std.specs.Ordering.{is_eq}
 use Rattle.std.specs.declared.cmp.Ordering.{Ordering}
 use Rattle.std.proofs.lemmas.Bool.{cases_Bool}
 use Rattle.std.proofs.lemmas.List.Elements.{All-head, All-tail}
+use Rattle.std.proofs.lemmas.List.Filters.{length-filter_both}
 use Rattle.rx_order.specs.Ascending.{has_key, IsAscending, item_at, put}
 use Rattle.rx_order.specs.Overlaid.{HoldsOwn, IsUnder, found_under, overlaid, with_slot, written}
 use Rattle.rx_order.proofs.Edits.{put_there, same_items, without_absent}
-use Rattle.rx_order.proofs.Keys.{Equal-from_is_eq, item_at-below}
+use Rattle.rx_order.proofs.Keys.{cases_Ordering, Equal-from_is_eq, item_at-below}
 use Rattle.rx_order.proofs.Kept.{IsAscending-put, IsAscending-without}
 use Rattle.rx_order.proofs.LookUps.{item_at-put, item_at-tied, item_at-without}
 use Rattle.rx_order.proofs.Totals.{All-put}
@@ -124,3 +125,28 @@ module _ {X K S : Type 0} (cmp : K → K → Ordering) (order : IsTotalOrder cmp
       let first = with_slot-there xs s a (All-head P s slots own) (All-head Q s slots there) in
       ap (λ ys. overlaid cmp key slot_key held ys slots) first
       ∙ overlaid-unchanged xs slots a (All-tail P s slots own) (All-tail Q s slots there)
+
+  -- ---- lengths
+
+  length-put : (xs : List X) (x : X) → length (put cmp key xs x) ≤ length xs + 1
+  length-put [] x = omega arith
+  length-put (y ∷ ys) x = elim (cases_Ordering (cmp (key y) (key x))) [
+    | inl less ↦ let rest = length-put ys x in rw less (omega arith)
+    | inr (inl tied) ↦ rw tied (omega arith)
+    | inr (inr more) ↦ rw more (omega arith)
+  ]
+
+  length-written : (xs : List X) (k : K) (o : Option X) → length (written cmp key slot_key held xs k o) ≤ length xs + 1
+  length-written xs k None = 
+      let p : X → Bool = λ x. not (has_key cmp key k x) in
+      omega (arith, length-filter_both p (λ x. not (p x)) (λ x. refl) xs)
+  length-written xs k (Some x) = length-put xs x
+
+  -- no more items than items and slots
+  pub length-overlaid : (xs : List X) (slots : List S)
+      → length (overlaid cmp key slot_key held xs slots) ≤ length xs + length slots
+  length-overlaid xs [] = omega arith
+  length-overlaid xs (s ∷ slots) =
+      let one = length-written xs (slot_key s) (held s) in
+      let rest = length-overlaid (with_slot cmp key slot_key held xs s) slots in
+      omega arith
