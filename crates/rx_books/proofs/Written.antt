@@ -63,7 +63,7 @@ lines_same f g (m ∷ ms) same =
     (ap (λ ls. line.Member (record { member = m; deductible = g m }) ∷ ls)
     (lines_same f g ms (All-tail (λ n. f n ≡ g n) m ms same)))
 
-claims-map : (rows : List Row) → lines_text (map (λ r. line.Claim r) rows) ≡ claims_text rows
+pub claims-map : (rows : List Row) → lines_text (map (λ r. line.Claim r) rows) ≡ claims_text rows
 claims-map [] = refl
 claims-map (r ∷ rows) = ap (λ t. line_of (line.Claim r) ++ t) (claims-map rows)
 

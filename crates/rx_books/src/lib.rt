@@ -15,16 +15,17 @@
 //! keeps its totals; which claims those are is left to the crates above.
 #![tactic(auto)]
 
+mod amounts;
 mod books;
-mod families;
 mod family;
 mod figures;
+mod kept;
 mod open_books;
+mod opened;
 mod opening;
-mod plain;
-mod rows;
 mod slot;
 mod standing;
+mod summing;
 mod totals;
 mod writing;
 

@@ -86,6 +86,16 @@ impl Ledger {
         Ledger { members, rows }
     }
 
+    /// The two lists. It takes no memory.
+    pub fn into_lists(self) -> (Ascending<Member>, Ascending<Row>)
+        ensures members { result.0 ≡ self.members }
+        ensures rows { result.1 ≡ self.rows }
+        ensures within { IsLedger self }
+    {
+        let Ledger { members, rows } = self;
+        (members, rows)
+    }
+
     /// The members, ascending by family and person.
     pub fn members(&self) -> &[Member]
         ensures value { result.now ≡ self.now.members }

@@ -9,6 +9,7 @@ pub mod KeyOrders
 pub mod Keys
 pub mod LookUps
 pub mod MapEntries
+pub mod Overlaid
 pub mod Places
 pub mod Totals
 mod WorkedLists
