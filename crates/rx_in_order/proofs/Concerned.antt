@@ -1,5 +1,5 @@
 -- A fill that concerns a billing is of its member.
-use Rattle.std.proofs.Common.{◌≡◌, Bool, true, List, ℕ}
+use Rattle.std.proofs.Common.{◌≡◌, Bool, true}
 use Rattle.std.specs.Prelude.{◌&&◌, ◌==◌}
 use Rattle.std.specs.Ordering.{is_le}
 use Rattle.std.proofs.lemmas.Bool.{and_parts}

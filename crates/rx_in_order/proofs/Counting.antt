@@ -1,9 +1,9 @@
 -- Fills are counted as the rows change, and some fill is too soon exactly where some row is.
 use Rattle.std.specs.Prelude.{nat_lt, ◌&&◌, Result, OnErr, OnOk, is_some}
-use Rattle.std.proofs.Common.{◌≡◌, ℕ, zero, suc, ◌+◌, ◌-◌, ◌<◌, Bool, true, false, List, [], ◌∷◌, length, Option, Some, None, refl, sym, ap, ◌∙◌, inl, inr, arith, add-zero}
+use Rattle.std.proofs.Common.{◌≡◌, ℕ, zero, suc, ◌+◌, ◌-◌, ◌<◌, Bool, true, false, List, [], ◌∷◌, Option, Some, None, refl, sym, ap, ◌∙◌, inl, inr, arith, add-zero}
 use Rattle.std.specs.Prelude.{if◌then◌else◌, unwrap_or}
 use Rattle.std.specs.Option.{ok_or, option_map}
-use Rattle.std.specs.List.{All, Contains, list_any, sum_by}
+use Rattle.std.specs.List.{All, Contains, list_any}
 use Rattle.std.specs.Cmp.{IsTotalOrder}
 use Rattle.std.specs.Ordering.{is_eq}
 use Rattle.std.proofs.lemmas.Bool.{cases_Bool, and_parts}
@@ -11,7 +11,7 @@ use Rattle.std.proofs.lemmas.Bool.Decides.{nat_tests}
 use Rattle.std.proofs.lemmas.List.Folds.{Any-from_list_any, list_any-from_Any}
 use Rattle.std.proofs.lemmas.List.Sums.{sum_by-cons}
 use Rattle.std.proofs.lemmas.Map.Lookups.{CmpEqualImpliesEq}
-use Rattle.rx_order.specs.Ascending.{IsAscending, contains_key, item_at, put}
+use Rattle.rx_order.specs.Ascending.{IsAscending, contains_key, item_at}
 use Rattle.rx_order.proofs.Keys.{Equal-from_is_eq, has_key-itself}
 use Rattle.rx_order.proofs.KeyOrders.{number_total, number_exact, by_two_total, by_two_exact}
 use Rattle.rx_order.proofs.LookUps.{item_at-all, item_at-found, item_at-free, item_at-from_contains, item_at-put}

@@ -1,4 +1,4 @@
-use Rattle.std.proofs.Common.{◌≡◌, ap, ◌∙◌, ◌-◌}
+use Rattle.std.proofs.Common.{◌≡◌, ◌-◌}
 use Rattle.rx_order.specs.Ascending.{item_at, put}
 use Rattle.rx_in_order.specs.Fills.{count_at, fill_cmp, fill_key}
 use Rattle.rx_in_order.specs.declared.fill.Fill.{Fill}

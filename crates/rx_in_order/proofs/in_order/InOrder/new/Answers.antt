@@ -1,5 +1,5 @@
 -- What the batch names has a slot, and the fills of those whom it bills are counted.
-use Rattle.std.proofs.Common.{◌≡◌, subst, sym}
+use Rattle.std.proofs.Common.{subst, sym}
 use Rattle.std.specs.List.{Contains}
 use Rattle.rx_in_order.specs.Underway.{Underway}
 use Rattle.rx_in_order.proofs.Awaited.{all_awaited}

@@ -1,5 +1,5 @@
 -- The fill of the row that is added is counted.
-use Rattle.std.proofs.Common.{◌≡◌, Some, refl, sym, ap, ◌∙◌}
+use Rattle.std.proofs.Common.{Some, refl, ap, ◌∙◌}
 use Rattle.rx_fields.specs.Order.{key_cmp}
 use Rattle.rx_order.proofs.LookUps.{item_at-free}
 use Rattle.rx_order.proofs.Totals.{sum_by-put_free}

@@ -1,12 +1,7 @@
 -- Some fill that is counted is too soon exactly where some row of the family is.
-use Rattle.std.proofs.Common.{◌≡◌, Bool, true, sym, ap, subst, ◌∙◌}
-use Rattle.std.specs.Prelude.{◌&&◌}
-use Rattle.std.proofs.lemmas.Bool.{and_parts}
-use Rattle.rx_order.proofs.Keys.{Equal-from_is_eq}
+use Rattle.std.proofs.Common.{ap, ◌∙◌}
 use Rattle.rx_ledger.specs.Answers.{is_too_soon}
-use Rattle.rx_ledger.specs.Basis.{billed_member}
 use Rattle.rx_ledger.specs.Rows.{claimed_by}
-use Rattle.rx_ledger.specs.declared.row.Row.{Row}
 use Rattle.rx_ledger.proofs.Found.{any_of_passed}
 use Rattle.rx_in_order.specs.Fills.{concerns}
 use Rattle.rx_in_order.specs.Underway.{is_billed}

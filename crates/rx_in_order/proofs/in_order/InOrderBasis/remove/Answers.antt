@@ -1,5 +1,4 @@
 -- The fill of the row that is taken out counts no more.
-use Rattle.std.proofs.Common.{◌≡◌, Some, sym, ap, ◌∙◌}
 use Rattle.std.proofs.lemmas.Option.{slice_get_within}
 use Rattle.rx_fields.specs.Order.{key_cmp}
 use Rattle.rx_order.proofs.Totals.{sum_by-without}
