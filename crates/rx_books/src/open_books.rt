@@ -3,7 +3,7 @@ ghost use Rattle.std.specs.List.{All, Contains};
 ghost use Rattle.std.specs.Option.{option_copied};
 ghost use Rattle.rx_fields.specs.Order.{key_cmp};
 ghost use Rattle.rx_order.specs.Ascending.{IsAscending, IsAt};
-ghost use Rattle.rx_ledger.specs.Ledger.{is_listed, is_taken, row_under};
+ghost use Rattle.rx_ledger.specs.Ledger.{IsLedger, is_listed, is_taken, row_under};
 ghost use Rattle.rx_ledger.specs.Members.{member_cmp, member_key};
 ghost use Rattle.rx_ledger.specs.Rows.{member_of_row};
 ghost use Rattle.rx_ledger.specs.Sums.{deductible, family_deductible, out_of_pocket};
@@ -165,7 +165,8 @@ impl OpenBooks {
 
     /// Goes over the rows that stand, in order, each with the place of its member.
     pub fn standing(&self) -> Standing<'_>
-        ensures { result ≡ self.now.books.ledger }
+        ensures value { result ≡ self.now.books.ledger }
+        ensures within { IsLedger self.now.books.ledger }
     {
         Standing::of(&self.opening, self.changed.as_slice())
     }

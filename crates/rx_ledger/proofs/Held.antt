@@ -6,10 +6,8 @@ use Rattle.std.specs.Ordering.{is_eq}
 use Rattle.std.proofs.lemmas.Bool.{cases_Bool}
 use Rattle.rx_fields.specs.Order.{key_cmp}
 use Rattle.rx_fields.specs.declared.key.Key.{Key}
-use Rattle.rx_claim.specs.declared.bill.BillParts.{BillParts}
 use Rattle.rx_claim.specs.declared.reply.Answer.{Answer}
 use Rattle.rx_claim.specs.declared.reply.Answer.TheVariants.{Paid, Twice, Approved, Refused}
-use Rattle.rx_claim.specs.declared.transaction.Reversal.{Reversal}
 use Rattle.rx_claim.specs.declared.transaction.Transaction.{Transaction}
 use Rattle.rx_claim.specs.declared.transaction.Transaction.TheVariants.{Bill, Reverse, Faulty}
 use Rattle.rx_claim.specs.declared.transmission.Body.{Body}
@@ -17,8 +15,8 @@ use Rattle.rx_claim.specs.declared.transmission.Body.TheVariants.{Rejected, Hear
 use Rattle.rx_order.specs.Ascending.{has_key}
 use Rattle.rx_order.proofs.LookUps.{item_at-put, item_at-without}
 use Rattle.rx_ledger.specs.declared.row.Row.{Row}
-use Rattle.rx_ledger.specs.Answers.{Asked, after, key_of}
-use Rattle.rx_ledger.specs.Basis.{Scope, Holds, HoldsBill, HoldsReversal, HoldsRecord, whole}
+use Rattle.rx_ledger.specs.Answers.{Asked, after}
+use Rattle.rx_ledger.specs.Basis.{Scope, Holds, HoldsRecord, whole}
 use Rattle.rx_ledger.specs.Ledger.{Ledger, row_under, with_row, without_row}
 use Rattle.rx_ledger.specs.Rows.{row_key}
 use Rattle.rx_ledger.proofs.Orders.{key_total}

@@ -1,5 +1,5 @@
 -- One transaction of a record, and those after it.
-use Rattle.std.proofs.Common.{◌≡◌, ℕ, ◌+◌, ◌<◌, ◌++◌, List, [], ◌∷◌, drop, get_or, length, add-one, append_assoc, refl, sym, ap, ◌∙◌}
+use Rattle.std.proofs.Common.{◌≡◌, ℕ, ◌+◌, ◌<◌, ◌++◌, List, [], ◌∷◌, drop, get_or, length, add-one, append_assoc, sym, ap, ◌∙◌}
 use Rattle.std.proofs.Common.{drop-cons}
 use Rattle.rx_claim.specs.declared.reply.Answer.{Answer}
 use Rattle.rx_claim.specs.declared.transaction.Transaction.{Transaction}

@@ -1,11 +1,13 @@
-//! The workers of a run: the gate that they pass, and requests decoded side by side.
+//! The workers of a run: the gate that they pass, requests decoded side by side, and records adjudicated in file order.
 //!
 //! In come the details of a batch and the plan's door; out come their transmissions, in file order, whatever the
-//! number of threads. `specs/Decoding.antt` says which. A `Gate` sees each worker start and each record pass; a run
-//! that nobody watches takes `NoGate`.
+//! number of threads. `specs/Decoding.antt` says which. Then in come books and transmissions, and out come the books
+//! after them with a reply to each, as `rx_ledger`'s fold gives them. A `Gate` sees each worker start and each record
+//! pass; a run that nobody watches takes `NoGate`.
 //!
 //! ```rust
 //! let transmissions = rx_wave::decode_all(&rt, alloc, &sheet.door(), batch.details.as_slice())?;
+//! let finished = rx_wave::run_one(&NoGate, alloc, lot, &sheet, &books, &transmissions)?;
 //! ```
 //!
 //! What a request means is left to `rx_request`.
@@ -13,8 +15,11 @@
 
 mod decoding;
 mod gate;
+mod in_order;
 #[cfg(test)]
 mod tests;
 
 pub use decoding::{decode_all, decode_in_parts};
 pub use gate::{Gate, NoGate};
+pub use in_order::{run_one, run_one_on};
+pub use rx_in_order::Finished;

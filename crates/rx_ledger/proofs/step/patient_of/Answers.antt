@@ -1,7 +1,6 @@
 -- The member that is found is listed.
-use Rattle.std.proofs.Common.{◌≡◌, Some, sym, ap, ◌∙◌}
-use Rattle.rx_ledger.specs.Answers.{used_by}
-use Rattle.rx_ledger.specs.Ledger.{members_of, rows_of}
+use Rattle.std.proofs.Common.{◌≡◌, Some, sym, ◌∙◌}
+use Rattle.rx_ledger.specs.Ledger.{members_of}
 use Rattle.rx_ledger.specs.Members.{person_in}
 use Rattle.rx_ledger.proofs.OfMember.{listed_by-person}
 use Rattle.rx_ledger.proofs.step.patient_of.Goals as goal

@@ -1,5 +1,5 @@
 -- Some row is of the family and too soon exactly where some row of the family is too soon.
-use Rattle.std.proofs.Common.{◌≡◌, ◌∙◌, ap, rules, tests}
+use Rattle.std.proofs.Common.{◌∙◌, ap, rules, tests}
 use Rattle.std.specs.Prelude.{◌&&◌}
 use Rattle.std.specs.List.{list_any}
 use Rattle.std.proofs.lemmas.Iterator.{YieldsList-from_slice}

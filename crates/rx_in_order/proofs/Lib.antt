@@ -1,0 +1,5 @@
+pub mod Awaited
+pub mod Concerned
+pub mod Counting
+pub mod Places
+pub mod Unique

@@ -1,0 +1,24 @@
+ghost use Rattle.std.specs.Prelude.{◌≡◌, ◌<◌, length, slice_get, IfSome};
+ghost use Rattle.rx_ledger.specs.Sums.{deductible, family_deductible, out_of_pocket};
+
+use rx_books::OpenBooks;
+use rx_ledger::Used;
+
+/// What the member at a place and the family have used in the period of the books, in cents.
+pub(crate) fn used_at(open: &OpenBooks, place: usize) -> Used
+    requires { place < length open.now.books.ledger.members }
+    ensures { IfSome (slice_get open.now.books.ledger.members place) (λ m.
+        let books = open.now.books in
+        result ≡ record {
+          deductible = deductible books.period books.ledger m.key.family m.key.person;
+          out_of_pocket = out_of_pocket books.period books.ledger m.key.family;
+          family_deductible = family_deductible books.period books.ledger m.key.family;
+        }) }
+{
+    let home = open.home_of(place);
+    Used {
+        deductible: open.deductible_at(place),
+        out_of_pocket: open.out_of_pocket_at(home),
+        family_deductible: open.family_deductible_at(home),
+    }
+}

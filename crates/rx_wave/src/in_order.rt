@@ -1,0 +1,67 @@
+ghost use Rattle.std.specs.Prelude.{◌≡◌, ◌≤◌, IfOk, length};
+ghost use Rattle.rx_ledger.specs.Fold.{fold_ledger, fold_replies};
+
+use crate::gate::Gate;
+use rx_books::Books;
+use rx_claim::Transmission;
+use rx_fields::{Lot, Memory};
+use rx_in_order::{Finished, InOrder};
+use rx_ledger::Sheet;
+use std::alloc::Global;
+
+/// Adjudicates a batch's records one after another in file order, on a copy of the books: the books after them, and a
+/// reply to each (docs/PRODUCT.md, "Rules of adjudication"). The gate is passed before and after each record; no worker
+/// is started.
+pub fn run_one<G: Gate>(
+    gate: &G,
+    alloc: Global,
+    lot: Lot,
+    sheet: &Sheet,
+    books: &Books,
+    transmissions: &[Transmission],
+) -> Result<Finished, Memory>
+    requires { length transmissions.now ≤ 100_000 }
+    ensures books { IfOk result (λ finished. finished.books ≡ record {
+      period = sheet.now.figures.period;
+      ledger = fold_ledger lot sheet.now 1 transmissions.now books.now.ledger;
+    }) }
+    ensures replies { IfOk result (λ finished.
+        finished.replies.items ≡ fold_replies lot sheet.now 1 transmissions.now books.now.ledger) }
+{
+    let books = books.copy(alloc, sheet.period())?;
+    run_one_on(gate, alloc, lot, sheet, books, transmissions)
+}
+
+/// The same on books that are owned and have the sheet's period, which copies nothing. Without memory they are dropped.
+pub fn run_one_on<G: Gate>(
+    gate: &G,
+    alloc: Global,
+    lot: Lot,
+    sheet: &Sheet,
+    books: Books,
+    transmissions: &[Transmission],
+) -> Result<Finished, Memory>
+    requires period { books.period ≡ sheet.now.figures.period }
+    requires few { length transmissions.now ≤ 100_000 }
+    ensures books { IfOk result (λ finished. finished.books ≡ record {
+      period = sheet.now.figures.period;
+      ledger = fold_ledger lot sheet.now 1 transmissions.now books.ledger;
+    }) }
+    ensures replies { IfOk result (λ finished.
+        finished.replies.items ≡ fold_replies lot sheet.now 1 transmissions.now books.ledger) }
+{
+    let mut order = InOrder::new(alloc, books, transmissions)?;
+    let mut replies = Vec::with_capacity(alloc, transmissions.len())?;
+    for (at, transmission) in transmissions.iter().enumerate() {
+        let place = at + 1;
+        let terms = sheet.terms(lot, transmission);
+        gate.enter(place);
+        let reply = order.record(alloc, &terms, place as u64, transmission)?;
+        gate.leave(place);
+        replies.push(reply)?;
+    }
+    Ok(Finished {
+        books: order.close(),
+        replies,
+    })
+}
