@@ -1,3 +1,5 @@
 pub mod Billed
 pub mod Footprints
 pub mod Machine
+pub mod Marked
+pub mod Waves

@@ -1,19 +1,26 @@
 //! Which records of a batch share books, and so have to keep the file's order.
 //!
-//! In come the opening books and a batch's transmissions; out comes the footprint of each record, the books that it names.
+//! In come the opening books and a batch's transmissions; out come the footprint of each record, the books that it names,
+//! and the waves, in which records that share no book go together.
 //!
 //! ```rust
 //! let footprints = rx_schedule::footprints(alloc, &books, &transmissions)?;
+//! let waves = rx_schedule::waves(alloc, &footprints)?;
 //! ```
 //!
-//! What a footprint is stands in `specs/Footprints.antt`; why an order that keeps
+//! What a footprint is stands in `specs/Footprints.antt`, what waves are in `specs/Waves.antt`; why an order that keeps
 //! sharers apart gives what the file's order gives stands in `specs/Machine.antt`.
 #![tactic(auto)]
 
 mod billers;
 mod event;
+mod marks;
 mod naming;
 mod ordered;
+mod wave_numbers;
+mod wave_plan;
 
 pub use event::Event;
 pub use naming::footprints;
+pub use wave_numbers::Waves;
+pub use wave_plan::waves;

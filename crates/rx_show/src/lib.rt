@@ -7,14 +7,16 @@
 //! let text = rx_show::show_lines(alloc, &transmissions)?;
 //! ```
 //!
-//! Reading the batch and decoding its details is left to the caller.
+//! `plan_lines` writes the lines of the command `plan`. Reading the batch and decoding its details is left to the caller.
 #![tactic(auto)]
 
 mod bytes;
 mod lines;
+mod plan;
 
 pub use bytes::shown;
 pub use lines::show_lines;
+pub use plan::plan_lines;
 
 #[cfg(test)]
 mod tests;

@@ -1,0 +1,7 @@
+use Rattle.std.proofs.Common.{◌≡◌, ◌++◌, ◌+◌, drop}
+use Rattle.rx_show.specs.PlanLines.{wave_lines}
+use Rattle.rx_show.proofs.plan.put_waves.Given as goal
+
+abbrev pub invariant-loop-before : goal.invariant-loop-before
+invariant-loop-before l =
+    l.text.items ++ wave_lines (l.before + 1) (drop l.before l.numbers) ≡ l.fn.text.items ++ wave_lines 1 l.numbers
