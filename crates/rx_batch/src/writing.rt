@@ -1,4 +1,4 @@
-ghost use Rattle.std.specs.Prelude.{◌≡◌, ◌≤◌, ◌+◌, ◌<◌, ◌^◌, ◌++◌, length, Some, IfOk, OnOk};
+ghost use Rattle.std.specs.Prelude.{◌≡◌, ◌≤◌, ◌+◌, ◌<◌, ◌^◌, ◌++◌, length, vec_capacity, vec_len, Some, IfOk, OnErr, OnOk};
 ghost use Rattle.rx_batch.specs.Grammar.{IsDetail, IsFile, IsHeader, record_text};
 ghost use Rattle.rx_batch.specs.Header.{trailer_of};
 ghost use Rattle.rx_batch.specs.Writing.{IsLotSpelled, IsPlain, lot_text, header_text, detail_text, trailer_text, file_text};
@@ -9,8 +9,11 @@ use crate::reader::{ETX, STX};
 use rx_fields::{Memory, date_write, digits_write};
 use std::alloc::{AllocError, Global};
 
-// The bytes of the header and of the trailer.
-const ENDS: usize = 75 + 56;
+// The bytes of the header.
+const HEADER: usize = 75;
+
+// The bytes of the trailer.
+const TRAILER: usize = 56;
 
 // The bytes of a detail beside its text: STX, `G1`, the reference and ETX.
 const FRONT: usize = 14;
@@ -34,7 +37,7 @@ pub fn write_batch(alloc: Global, head: &Head, details: &[Detail]) -> Result<Vec
 
 // How many bytes the file of these details has, so that its text grows once.
 fn file_len(details: &[Detail]) -> usize {
-    let mut len = ENDS;
+    let mut len = HEADER + TRAILER;
     for detail in details {
         let record = detail.text.bytes().len().saturating_add(FRONT);
         len = len.saturating_add(record);
@@ -42,57 +45,85 @@ fn file_len(details: &[Detail]) -> usize {
     len
 }
 
-/// Puts a header at the end of a text.
+// Puts bytes for which there is room.
+#[inline(always)]
+fn put(text: &mut Vec<u8>, bytes: &[u8])
+    requires { vec_len text.old + length bytes.now ≤ vec_capacity text.old }
+    ensures items { text.new.items ≡ text.old.items ++ bytes.now }
+    ensures len { vec_len text.new ≡ vec_len text.old + length bytes.now }
+    ensures capacity { vec_capacity text.old ≤ vec_capacity text.new }
+{
+    match text.extend_from_slice(bytes) {
+        Ok(()) => (),
+        Err(_) => unreachable!(),
+    }
+}
+
+/// Puts a header at the end of a text, which stays as it is where a growth is refused.
 #[tactic(auto, using(std::proofs::Common::append_assoc))]
 pub fn put_header(text: &mut Vec<u8>, head: &Head) -> Result<(), AllocError>
     ensures text { OnOk result (text.new.items ≡ text.old.items ++ record_text (header_text head.now)) }
     ensures again { head.now.kind ≡ Kind.Transmission → OnOk result (IsHeader (header_text head.now) head.now) }
+    ensures err { OnErr result (text.new.items ≡ text.old.items) }
 {
-    text.extend_from_slice(&[STX, b'0', b'0', head.kind.byte()])?;
-    text.extend_from_slice(&head.sender)?;
-    put_lot(text, head)?;
-    text.extend_from_slice(&head.receiver)?;
-    text.extend_from_slice(&[ETX])
+    text.reserve(HEADER)?;
+    put(text, &[STX, b'0', b'0', head.kind.byte()]);
+    put(text, &head.sender);
+    put_lot(text, head);
+    put(text, &head.receiver);
+    put(text, &[ETX]);
+    Ok(())
 }
 
-// The fields between sender and receiver.
+// The fields between sender and receiver, for which there is room.
 #[tactic(auto, using(std::proofs::Common::append_assoc))]
-fn put_lot(text: &mut Vec<u8>, head: &Head) -> Result<(), AllocError>
-    ensures text { OnOk result (text.new.items ≡ text.old.items ++ lot_text head.now) }
-    ensures again { OnOk result (IsLotSpelled head.now) }
+fn put_lot(text: &mut Vec<u8>, head: &Head)
+    requires { vec_len text.old + 22 ≤ vec_capacity text.old }
+    ensures text { text.new.items ≡ text.old.items ++ lot_text head.now }
+    ensures again { IsLotSpelled head.now }
+    ensures len { vec_len text.new ≡ vec_len text.old + 22 }
+    ensures capacity { vec_capacity text.old ≤ vec_capacity text.new }
 {
     let number: [u8; 7] = digits_write(u64::from(head.lot.number()));
-    text.extend_from_slice(&number)?;
-    text.extend_from_slice(&date_write(head.lot.created()))?;
-    text.extend_from_slice(&head.time.digits())?;
-    text.extend_from_slice(&[head.file.byte(), b'1', b'2'])
+    put(text, &number);
+    put(text, &date_write(head.lot.created()));
+    put(text, &head.time.digits());
+    put(text, &[head.file.byte(), b'1', b'2']);
 }
 
-/// Puts a detail at the end of a text.
+/// Puts a detail at the end of a text, which stays as it is where a growth is refused.
 #[tactic(auto, using(std::proofs::Common::append_assoc))]
 pub fn put_detail(text: &mut Vec<u8>, detail: &Detail) -> Result<(), AllocError>
     ensures text { OnOk result (text.new.items ≡ text.old.items ++ record_text (detail_text detail.now)) }
     ensures again { OnOk result (IsDetail (detail_text detail.now) detail.now) }
+    ensures err { OnErr result (text.new.items ≡ text.old.items) }
 {
-    text.extend_from_slice(&[STX, b'G', b'1'])?;
-    text.extend_from_slice(&detail.reference)?;
-    text.extend_from_slice(detail.text.bytes())?;
-    text.extend_from_slice(&[ETX])
+    let bytes = detail.text.bytes();
+    text.reserve(bytes.len() + FRONT)?;
+    put(text, &[STX, b'G', b'1']);
+    put(text, &detail.reference);
+    put(text, bytes);
+    put(text, &[ETX]);
+    Ok(())
 }
 
-/// Puts a trailer at the end of a text, with a blank message: the batch number, and the number of details plus two.
+/// Puts a trailer at the end of a text, with a blank message: the batch number, and the number of details plus two. The
+/// text stays as it is where a growth is refused.
 #[tactic(auto, using(std::proofs::Common::append_assoc))]
 pub fn put_trailer(text: &mut Vec<u8>, number: u32, count: u64) -> Result<(), AllocError>
     requires number { number < 10_000_000 }
     requires count { count < 10 ^ 10 }
     ensures text { OnOk result (text.new.items ≡ text.old.items ++ record_text (trailer_text number count)) }
     ensures again { OnOk result (trailer_of (trailer_text number count) ≡ Some (record { number = number; count = count })) }
+    ensures err { OnErr result (text.new.items ≡ text.old.items) }
 {
     let number: [u8; 7] = digits_write(u64::from(number));
     let count: [u8; 10] = digits_write(count);
-    text.extend_from_slice(&[STX, b'9', b'9'])?;
-    text.extend_from_slice(&number)?;
-    text.extend_from_slice(&count)?;
-    text.extend_from_slice(&[b' '; 35])?;
-    text.extend_from_slice(&[ETX])
+    text.reserve(TRAILER)?;
+    put(text, &[STX, b'9', b'9']);
+    put(text, &number);
+    put(text, &count);
+    put(text, &[b' '; 35]);
+    put(text, &[ETX]);
+    Ok(())
 }

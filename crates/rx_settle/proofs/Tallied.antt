@@ -9,7 +9,11 @@ use Rattle.std.specs.Cmp.Lexicographic.{pointwise}
 use Rattle.std.proofs.lemmas.Bool.{cases_Bool}
 use Rattle.std.proofs.lemmas.List.{append-nil, map-append}
 use Rattle.std.proofs.lemmas.List.Elements.{filter-append}
-use Rattle.indexmap.specs.IndexMap.{insert_entry}
+use Rattle.std.specs.Option.{unwrap_or}
+use Rattle.std.specs.Prelude.{Option, Some, None, is_some, position, slice_get}
+use Rattle.std.specs.Map.{lookup, keys_of, values_of}
+use Rattle.indexmap.specs.IndexMap.{insert_entry, set_value_at}
+use Rattle.indexmap.proofs.MapLemmas.{Found-position, insert_entry-first}
 use Rattle.rx_claim.specs.declared.reply.Reply.{Reply}
 use Rattle.rx_settle.specs.declared.tally.Tally.{Tally}
 use Rattle.rx_settle.specs.Answers.{answers_in, tally, plus, weight}
@@ -81,6 +85,29 @@ insert_entry-counted field more (e ∷ es) = elim (cases_Bool (is_same field e.0
   | inl here ↦ rw here refl
   | inr other ↦ rw other (ap (λ rest. e ∷ rest) (insert_entry-counted field more es))
 ]
+
+-- nothing was there yet
+none_at : (o : Option Tally) → is_some o ≡ false → unwrap_or o (tally []) ≡ tally []
+none_at None e = refl
+none_at (Some t) e = absurd cc
+
+pub insert_entry-new : (field : List ℕ) (more : Tally) (es : List (List ℕ × Tally)) → is_some (lookup (is_same field) es) ≡ false
+    → insert_entry (pointwise nat_eq) es field more ≡ counted field more es
+insert_entry-new field more es none =
+    ap (insert_entry (pointwise nat_eq) es field)
+    (sym (plus_none more) ∙ ap (λ t. plus t more) (sym (none_at (lookup (is_same field) es) none)))
+    ∙ insert_entry-counted field more es
+
+-- what was there and more is put back at its place
+pub set_value_at-counted : (field : List ℕ) (more before : Tally) (es : List (List ℕ × Tally)) (at : ℕ)
+    → position (is_same field) (keys_of es) ≡ Some at → slice_get (values_of es) at ≡ Some before
+    → set_value_at es at (plus before more) ≡ counted field more es
+set_value_at-counted field more before es at place value =
+    let found = Found-position (is_same field) es at place in
+    let there : tally_at field es ≡ before = ap (λ o. unwrap_or o (tally [])) (found.value ∙ value) in
+    sym (insert_entry-first (pointwise nat_eq) field (plus before more) es at found.first)
+    ∙ ap (λ t. insert_entry (pointwise nat_eq) es field (plus t more)) (sym there)
+    ∙ insert_entry-counted field more es
 
 -- a reply to another provider changes no entry
 entry-other : (rs : List Reply) (x r : Reply) → same x r ≡ false → entry (rs ++ x ∷ []) r ≡ entry rs r

@@ -63,8 +63,12 @@ fn count(providers: &mut Tallies, field: Field, more: Tally) -> Result<(), Memor
     requires { weight (tally_at field providers.old.entries) + weight more < 2 ^ 128 }
     ensures { OnOk result (providers.new.entries ≡ counted field more providers.old.entries) }
 {
-    let before = providers.get(&field).copied().unwrap_or_default();
-    providers.insert(field, before.plus(more))?;
+    match providers.get_index_of(&field) {
+        Some(at) => providers[at] = providers[at].plus(more),
+        None => {
+            providers.insert(field, more)?;
+        }
+    }
     Ok(())
 }
 

@@ -1,16 +1,16 @@
 -- what was there and more is put back
-use Rattle.std.proofs.Common.{rules, ◌≡◌, ap, ◌∙◌, nat_eq}
-use Rattle.std.specs.Cmp.Lexicographic.{pointwise}
-use Rattle.indexmap.specs.IndexMap.{insert_entry}
-use Rattle.rx_settle.specs.Answers.{plus}
-use Rattle.rx_settle.specs.Counting.{tally_at}
-use Rattle.rx_settle.proofs.Tallied.{insert_entry-counted}
+use Rattle.std.proofs.Common.{sym, ap, ◌∙◌}
+use Rattle.indexmap.specs.IndexMap.{set_value_at}
+use Rattle.rx_settle.proofs.Tallied.{insert_entry-new, set_value_at-counted}
 use Rattle.rx_settle.proofs.settlement.count.Goals as goal
 
-pub returns : goal.returns
-returns c =
+pub returns-in-Some : goal.returns-in-Some
+returns-in-Some c =
     let es = c.args.providers.now.entries in
-    let before : c.unwrap_or_default-before.result ≡ tally_at c.args.field es = search rules in
-    c.in_ok-insert.ensures.entries
-    ∙ ap (insert_entry (pointwise nat_eq) es c.args.field) (c.plus.ensures ∙ ap (λ t. plus t c.args.more) before)
-    ∙ insert_entry-counted c.args.field c.args.more es
+    ap (set_value_at es c.in-Some.at) c.plus.ensures
+    ∙ set_value_at-counted c.args.field c.args.more c.index.result.now es c.in-Some.at (sym c.in-Some.ensures.index) c.index.ensures
+
+pub returns-in_ok-insert-in-None : goal.returns-in_ok-insert-in-None
+returns-in_ok-insert-in-None c =
+    c.in_ok-insert-in-None.ensures.entries
+    ∙ insert_entry-new c.args.field c.args.more c.args.providers.now.entries (sym c.in-None.ensures.found)
