@@ -12,6 +12,7 @@
 //! The words of a command line and the files themselves are left to the program.
 #![tactic(auto)]
 
+mod adjudicating;
 mod fault;
 mod inputs;
 mod job;

@@ -9,11 +9,12 @@ ghost use Rattle.rx_switch.specs.Output.{IsOutput, IsRefused, RefusesOne};
 ghost use Rattle.rx_switch.specs.declared.fault.Device.TheVariants as device;
 ghost use Rattle.rx_switch.specs.declared.fault.IoFault.TheVariants as io;
 
+use crate::adjudicating::{Way, adjudicate};
 use crate::fault::{IoFault, SwitchFault};
 use crate::inputs::{ReadInputs, read_inputs};
 use crate::job::Output;
 use crate::outputs::write_outputs;
-use crate::running::{adjudicate, stamp_for};
+use crate::running::stamp_for;
 use rx_batch::{Batch, BatchFault, Pieces};
 use rx_books::Books;
 use rx_devices::{Sink, Source};
@@ -90,10 +91,10 @@ pub fn run_io<
 fn output_of<R: Threads + Wait + Sync, G: Gate + Sync>(
     rt: &R,
     alloc: Global,
-    _gate: &G,
+    gate: &G,
     stamp: &[u8],
     workers: u16,
-    _plain: bool,
+    plain: bool,
     read: ReadInputs,
 ) -> Result<Output, SwitchFault>
     requires { (batch : List ℕ) × StandsFor read.batch batch }
@@ -101,7 +102,7 @@ fn output_of<R: Threads + Wait + Sync, G: Gate + Sync>(
         → IfOk result (λ output. IsOutput (given_read stamp.now workers read.sheet.items read.books.items batch) (texts_in output)) }
     ensures refused { (batch : List ℕ) → StandsFor read.batch batch
         → IfErr result (λ fault. IsRefused (given_read stamp.now workers read.sheet.items read.books.items batch) fault) }
-    ensures thread { result ≡ Err SwitchFault.Thread → RefusesOne _plain (G.starts _gate.now) workers }
+    ensures thread { result ≡ Err SwitchFault.Thread → RefusesOne plain (G.starts gate.now) workers }
 {
     let ReadInputs {
         sheet,
@@ -112,7 +113,11 @@ fn output_of<R: Threads + Wait + Sync, G: Gate + Sync>(
     let sheet = read_sheet(alloc, sheet.as_slice())?;
     let books = Books::read(alloc, books.as_slice())?;
     let batch = finished(batch)?;
-    Ok(adjudicate(rt, alloc, stamp, &sheet, &books, &batch)?)
+    let way = Way {
+        parts: workers as usize,
+        plain,
+    };
+    Ok(adjudicate(rt, alloc, gate, way, stamp, &sheet, books, &batch)?)
 }
 
 // The batch of the pieces.
