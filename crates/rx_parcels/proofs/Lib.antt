@@ -7,4 +7,5 @@ pub mod Locality
 pub mod Owned
 pub mod Parts
 pub mod Same
+pub mod Tested
 pub mod Written

@@ -1,3 +1,4 @@
+pub mod Agreement
 pub mod Books
 pub mod FamilyBook
 pub mod Footprints

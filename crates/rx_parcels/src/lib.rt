@@ -4,6 +4,7 @@
 //! are enough for a record, stands in `specs/Books.antt` and `specs/Footprints.antt`.
 #![tactic(auto)]
 
+mod agreement;
 mod family;
 mod footprint;
 mod key_book;
