@@ -3,6 +3,7 @@ pub mod Codes
 pub mod Cut
 pub mod Headers
 pub mod Known
+pub mod Marks
 pub mod Request
 pub mod Slots
 pub mod Steps

@@ -216,6 +216,28 @@ fn headers(rt: HostRuntime) -> Result<(), Fail> {
     )
 }
 
+// A segment of any length in front moves each later separator past the ends of words and of vectors.
+#[test]
+fn cuts_at_every_place(rt: HostRuntime) -> Result<(), Fail> {
+    let alloc = rt.alloc();
+    for length in 0..140 {
+        let mut text = HEADER.to_vec(alloc)?;
+        text.extend_from_slice(b"\x1e\x1cAM08\x1cXX")?;
+        for _ in 0..length {
+            text.push(b'y')?;
+        }
+        for part in [COMMON, CLAIM, PRICING] {
+            text.extend_from_slice(part)?;
+        }
+        let got = shown(alloc, &decode(alloc, &DOOR, &text)?)?;
+        assert_eq!(rt;
+            got.as_str(),
+            "heard 1234567893 20260228; bill 123 C100 01 00002000202 30000 30 30000 175 40000 -"
+        );
+    }
+    Ok(())
+}
+
 #[test]
 fn cut(rt: HostRuntime) -> Result<(), Fail> {
     expect_all(

@@ -22,12 +22,13 @@ pub(crate) struct Header {
     pub(crate) date: [u8; 8],
 }
 
-// The text, and blanks up to N bytes.
-fn padded<const N: usize>(text: &[u8]) -> [u8; N]
+/// The text, and the same byte behind it up to N bytes.
+#[inline(always)]
+pub(crate) fn padded<const N: usize>(text: &[u8], byte: u8) -> [u8; N]
     requires { length text.now ≤ N }
-    ensures { result ≡ text.now ++ replicate (N - length text.now) 32 }
+    ensures { result ≡ text.now ++ replicate (N - length text.now) byte }
 {
-    let mut bytes = [b' '; N];
+    let mut bytes = [byte; N];
     bytes[..text.len()].copy_from_slice(text);
     bytes
 }
@@ -38,9 +39,9 @@ pub(crate) fn header_bytes(bytes: &[u8]) -> [u8; 56]
     ensures { result ≡ header_bytes bytes.now }
 {
     if bytes.len() < LENGTH {
-        padded(bytes)
+        padded(bytes, b' ')
     } else {
-        padded(&bytes[..LENGTH])
+        padded(&bytes[..LENGTH], b' ')
     }
 }
 
@@ -104,10 +105,9 @@ fn all_printable(bytes: &[u8]) -> bool
 }
 
 /// Whether the 56 bytes are there, and printable.
-#[tactic(auto, unfolding(crate::specs::Headers::is_clean))]
-pub(crate) fn is_clean(bytes: &[u8], front: &[u8; 56]) -> bool
-    requires { front.now ≡ header_bytes bytes.now }
+#[tactic(auto, unfolding(crate::specs::Headers::is_clean, crate::specs::Headers::header_bytes))]
+pub(crate) fn is_clean(bytes: &[u8]) -> bool
     ensures { result ≡ is_clean bytes.now }
 {
-    bytes.len() >= LENGTH && all_printable(front)
+    bytes.len() >= LENGTH && all_printable(&bytes[..LENGTH])
 }

@@ -18,6 +18,7 @@ mod codes;
 mod field;
 mod header;
 mod known;
+mod marks;
 mod part;
 mod piece;
 mod request;

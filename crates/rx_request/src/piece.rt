@@ -1,5 +1,6 @@
 ghost use Rattle.std.specs.Prelude.{◌≡◌};
 
+use crate::marks::{MOST, first_marks};
 use memchr::memchr;
 use std::marker::Model;
 
@@ -15,19 +16,27 @@ pub(crate) const FS: u8 = 0x1C;
 pub(crate) struct Pieces<'a> {
     rest: Option<&'a [u8]>,
     separator: u8,
+    // Where the separator stands among the first `seen` bytes that are left, a bit for each.
+    marks: u64,
+    seen: usize,
 }
 
 impl<'a> Model for Pieces<'a> {
     ghost use Rattle.std.specs.Prelude.{List, ℕ};
+    ghost use Rattle.rx_request.specs.Marks.{AreMarksLeft};
     ghost use Rattle.rx_request.specs.Slots.{pieces_left};
 
     ghost Value = { List (List ℕ) };
 
     ghost view = { λ p. pieces_left p.separator p.rest };
+
+    ghost invariant = { λ p. AreMarksLeft p.separator p.marks p.seen p.rest };
 }
 
-ghost use Rattle.std.specs.Prelude.{◌∷◌, [], if◌then◌else◌, MatchOption, None, Some};
+ghost use Rattle.std.specs.Prelude.{◌∷◌, [], ◌≤◌, if◌then◌else◌, length, take, MatchOption, None, Some};
+ghost use Rattle.memchr.specs.Find.{IsFirstByte, is_byte};
 ghost use Rattle.rx_request.specs.Cut.{cut, begins_empty, first, further};
+ghost use Rattle.rx_request.specs.Marks.{marks_of};
 
 impl<'a> Pieces<'a> {
     /// All pieces of a text.
@@ -37,6 +46,8 @@ impl<'a> Pieces<'a> {
         Pieces {
             rest: Some(text),
             separator,
+            marks: first_marks(text, separator),
+            seen: MOST.min(text.len()),
         }
     }
 
@@ -68,9 +79,19 @@ impl<'a> Pieces<'a> {
         ensures rest { self.new ≡ further self.old }
     {
         let text = self.rest?;
-        match memchr(self.separator, text) {
+        if self.marks != 0 {
+            let at = self.marks.trailing_zeros() as usize;
+            self.rest = Some(&text[at + 1..]);
+            self.marks = self.marks >> at >> 1;
+            self.seen -= at + 1;
+            return Some(&text[..at]);
+        }
+        match end_behind(text, self.seen, self.separator) {
             Some(at) => {
-                self.rest = Some(&text[at + 1..]);
+                let rest = &text[at + 1..];
+                self.rest = Some(rest);
+                self.marks = first_marks(rest, self.separator);
+                self.seen = MOST.min(rest.len());
                 Some(&text[..at])
             }
             None => {
@@ -78,5 +99,18 @@ impl<'a> Pieces<'a> {
                 Some(text)
             }
         }
+    }
+}
+
+// The place of the first separator, where it isn't among the first bytes.
+#[inline(never)]
+fn end_behind(text: &[u8], seen: usize, separator: u8) -> Option<usize>
+    requires within { seen ≤ length text.now }
+    requires none { marks_of separator (take seen text.now) ≡ 0 }
+    ensures { IsFirstByte (is_byte separator) text.now result }
+{
+    match memchr(separator, &text[seen..]) {
+        Some(at) => Some(seen + at),
+        None => None,
     }
 }

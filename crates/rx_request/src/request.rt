@@ -1,4 +1,4 @@
-ghost use Rattle.std.specs.Prelude.{◌≡◌, ◌==◌, ◌&&◌, count_by, if◌then◌else◌, IfOk, length, min, max, true, map, option_map, is_some, None, Some};
+ghost use Rattle.std.specs.Prelude.{◌≡◌, ◌&&◌, if◌then◌else◌, IfOk, length, min, max, true, map, option_map, is_some, None, Some};
 ghost use Rattle.rx_claim.specs.Listed.{is_few};
 ghost use Rattle.rx_request.specs.Bills.{transaction};
 ghost use Rattle.rx_request.specs.Codes.{is_faulty, header_conditions};
@@ -13,6 +13,7 @@ use crate::bill::transaction;
 use crate::codes::{first_five, header_conditions, is_count};
 use crate::header::{Header, after_header, header_bytes, is_clean};
 use crate::known::{Insurance, common_read};
+use crate::marks::count_of;
 use crate::piece::{GS, Pieces};
 use crate::value;
 use rx_claim::{Body, Heard, Rejected, Transaction, Transactions, Transmission};
@@ -28,23 +29,11 @@ struct Opening<'a> {
     common: Insurance<'a>,
 }
 
-fn count_of(wanted: u8, bytes: &[u8]) -> usize
-    ensures { result ≡ count_by (λ byte. byte == wanted) bytes.now }
-{
-    let mut count = 0;
-    for byte in bytes {
-        if *byte == wanted {
-            count += 1;
-        }
-    }
-    count
-}
-
 // How many groups there are: one per separator.
 fn count_groups(rest: &[u8]) -> usize
     ensures { result ≡ length (further (cut 29 rest.now)) }
 {
-    count_of(GS, rest)
+    count_of(rest, GS)
 }
 
 // How many answers a rejected header has: the groups, at least 1 and at most 4.
@@ -154,22 +143,15 @@ fn rejected(
 }
 
 // What follows the echo.
-fn body(
-    alloc: Global,
-    door: &Door,
-    bytes: &[u8],
-    front: &[u8; 56],
-    header: &Header,
-) -> Result<Body, Memory>
-    requires front { front.now ≡ header_bytes bytes.now }
-    requires header { header.now ≡ header_of front.now }
+fn body(alloc: Global, door: &Door, bytes: &[u8], header: &Header) -> Result<Body, Memory>
+    requires { header.now ≡ header_of (header_bytes bytes.now) }
     ensures { IfOk result (λ b. b ≡ body door.now bytes.now) }
 {
     let rest = after_header(bytes);
     let groups = count_groups(rest);
     let mut pieces = Pieces::new(rest, GS);
     let common = common_read(pieces.first());
-    let is_clean = is_clean(bytes, front);
+    let is_clean = is_clean(bytes);
     match opening_read(door, header, is_clean, common, groups) {
         Some(opening) => Ok(Body::Heard(heard(alloc, &opening, pieces, groups)?)),
         None => Ok(Body::Rejected(rejected(door, header, is_clean, common.is_some(), groups))),
@@ -187,7 +169,7 @@ pub fn decode(alloc: Global, door: &Door, bytes: &[u8]) -> Result<Transmission, 
 {
     let front = header_bytes(bytes);
     let header = Header::new(&front);
-    let body = body(alloc, door, bytes, &front, &header)?;
+    let body = body(alloc, door, bytes, &header)?;
     Ok(Transmission {
         echo: header.echo(),
         body,

@@ -45,7 +45,7 @@ returns-in_ok-heard-in-Some c =
     let rows = header_conditions door header (clean && is_some found) n in
     let well = no_fault_of (is_faulty rows) _ _ c.in-Some.ensures in
     let opened : opening_view c.in-Some.opening ≡ opening_parts header (option_map insurance_texts found) = value_of (is_faulty rows) _ _ c.in-Some.ensures in
-    let header_is : header ≡ header_of (header_bytes bytes) = c.requires.header ∙ ap header_of c.requires.front in
+    let header_is : header ≡ header_of (header_bytes bytes) = c.requires in
     let read : option_map insurance_texts found ≡ common bytes =
     c.common_read-common.ensures ∙ (ap common_of (c.first.ensures.value ∙ ap first c.new-pieces.ensures) ∙ common_is bytes rest c.after_header-rest.ensures) in
     let left : c.first.new.self ≡ groups bytes = c.first.ensures.rest ∙ (ap further c.new-pieces.ensures ∙ groups_are bytes rest c.after_header-rest.ensures) in
@@ -66,7 +66,7 @@ returns-in-None c =
     let found = c.common_read-common.result in
     let rows = header_conditions door header (clean && is_some found) n in
     let fault = fault_of (is_faulty rows) _ c.in-None.ensures in
-    let header_is : header ≡ header_of (header_bytes bytes) = c.requires.header ∙ ap header_of c.requires.front in
+    let header_is : header ≡ header_of (header_bytes bytes) = c.requires in
     let read : option_map insurance_texts found ≡ common bytes =
     c.common_read-common.ensures ∙ (ap common_of (c.first.ensures.value ∙ ap first c.new-pieces.ensures) ∙ common_is bytes rest c.after_header-rest.ensures) in
     let count : n ≡ length (groups bytes) = c.count_groups-groups.ensures ∙ ap length (groups_are bytes rest c.after_header-rest.ensures) in
