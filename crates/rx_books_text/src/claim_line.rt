@@ -2,7 +2,7 @@ ghost use Rattle.std.specs.Prelude.{◌≡◌, option_map};
 ghost use Rattle.rx_books_text.specs.LineReading.{amounts_at, claim_in, coinsurance_at, dispensed_at, dispensed_in, key_at, key_in, two_numbers_at};
 
 use crate::cut::split;
-use crate::field::{authorization_in, count_in, day_in, id_in, number_in};
+use crate::field::{authorization_in, count_in, day_in, days_in, id_in, number_in};
 use crate::member_line::member_key_at;
 use crate::version::Version;
 use rx_claim::Amounts;
@@ -91,7 +91,7 @@ fn dispensed_in(product: &[u8], quantity: &[u8], days: &[u8]) -> Option<Dispense
 {
     let product = Product::new(product)?;
     let quantity = count_in(quantity)?;
-    let days = count_in(days)?;
+    let days = days_in(days)?;
     Some(Dispensed {
         product,
         quantity,

@@ -1,7 +1,7 @@
 ghost use Rattle.std.specs.Prelude.{◌≡◌, ◌≤◌};
 ghost use Rattle.rx_books_text.specs.LineReading.{authorization_in, begins_zero, count_in, day_in, id_in, joined_number, number_in, period_in};
 
-use rx_fields::{Authorization, Bounded, Day, Id, Period, ShortId, date_read, number_read};
+use rx_fields::{Authorization, Bounded, Day, Days, Id, Period, ShortId, date_read, number_read};
 
 /// The id of at most `MAX` bytes that a field is.
 #[tactic(auto, unfolding(crate::specs::LineReading::id_in))]
@@ -82,6 +82,14 @@ pub(crate) fn count_in<const LOW: u64, const HIGH: u64>(field: &[u8]) -> Option<
     ensures { result ≡ count_in LOW HIGH field.now }
 {
     Bounded::new(number_in(field)?)
+}
+
+/// The days supply that a field is.
+#[tactic(auto, unfolding(crate::specs::LineReading::count_in))]
+pub(crate) fn days_in(field: &[u8]) -> Option<Days>
+    ensures { result ≡ count_in 1 999 field.now }
+{
+    Days::new(number_in(field)?)
 }
 
 /// The authorization number that a field is.

@@ -48,7 +48,7 @@ pub fn put_claim(text: &mut Vec<u8>, row: &Row) -> Result<(), Memory>
 {
     text.extend_from_slice(b"C|")?;
     put_fill(text, row)?;
-    put_amounts(text, row.pricing.amounts())?;
+    put_amounts(text, &row.pricing.amounts())?;
     put_authorization(text, row.number)?;
     Ok(())
 }

@@ -18,10 +18,14 @@ pub struct Amounts {
 }
 
 /// How a claim is paid: cost and fee together at most 99,999,999 cents, of which the patient pays no more than all
-/// (docs/FORMATS.md, "Books file").
+/// (docs/FORMATS.md, "Books file"). Each amount is kept in four bytes.
 #[derive(Clone, Copy, Debug, PartialEq, Eq)]
 pub struct Pricing {
-    amounts: Amounts,
+    ingredient_cost: u32,
+    dispensing_fee: u32,
+    deductible: u32,
+    copay: u32,
+    coinsurance: u32,
 }
 
 impl Model for Pricing {
@@ -30,11 +34,11 @@ impl Model for Pricing {
 
     ghost Value = { Amounts };
 
-    ghost view = { λ p. p.amounts };
+    ghost view = { λ p. record { ingredient_cost = p.ingredient_cost; dispensing_fee = p.dispensing_fee; deductible = p.deductible; copay = p.copay; coinsurance = p.coinsurance } };
 
-    ghost invariant = { λ p. IsPriced p.amounts };
+    ghost invariant = { λ p. IsPriced (record { ingredient_cost = p.ingredient_cost; dispensing_fee = p.dispensing_fee; deductible = p.deductible; copay = p.copay; coinsurance = p.coinsurance }) };
 
-    ghost inverse = { λ amounts. record { amounts = amounts } };
+    ghost inverse = { λ a. record { ingredient_cost = a.ingredient_cost; dispensing_fee = a.dispensing_fee; deductible = a.deductible; copay = a.copay; coinsurance = a.coinsurance } };
 }
 
 ghost use Rattle.std.specs.Prelude.{◌+◌, ◌≤◌};
@@ -53,15 +57,27 @@ impl Pricing {
         if allowed > 99_999_999 || patient_pay > allowed {
             return None;
         }
-        Some(Pricing { amounts })
+        Some(Pricing {
+            ingredient_cost: amounts.ingredient_cost as u32,
+            dispensing_fee: amounts.dispensing_fee as u32,
+            deductible: amounts.deductible as u32,
+            copay: amounts.copay as u32,
+            coinsurance: amounts.coinsurance as u32,
+        })
     }
 
     /// The amounts that it is made of.
-    pub fn amounts(&self) -> &Amounts
-        ensures value { result.now ≡ self.now }
+    pub fn amounts(&self) -> Amounts
+        ensures value { result ≡ self.now }
         ensures within { IsPriced self.now }
     {
-        &self.amounts
+        Amounts {
+            ingredient_cost: u64::from(self.ingredient_cost),
+            dispensing_fee: u64::from(self.dispensing_fee),
+            deductible: u64::from(self.deductible),
+            copay: u64::from(self.copay),
+            coinsurance: u64::from(self.coinsurance),
+        }
     }
 
     /// The patient pay amount (505-F5), in cents.
@@ -69,7 +85,7 @@ impl Pricing {
         ensures value { result ≡ patient_pay self.now }
         ensures within { result ≤ 99_999_999 }
     {
-        self.amounts.deductible + self.amounts.copay + self.amounts.coinsurance
+        u64::from(self.deductible) + u64::from(self.copay) + u64::from(self.coinsurance)
     }
 
     /// The total amount paid to the pharmacy (509-F9), in cents.
@@ -77,6 +93,6 @@ impl Pricing {
         ensures value { result ≡ total_paid self.now }
         ensures within { result ≤ 99_999_999 }
     {
-        self.amounts.ingredient_cost + self.amounts.dispensing_fee - self.patient_pay()
+        u64::from(self.ingredient_cost) + u64::from(self.dispensing_fee) - self.patient_pay()
     }
 }

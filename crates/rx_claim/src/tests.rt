@@ -60,7 +60,7 @@ fn amounts(all: [u64; 5]) -> Amounts {
 fn patient_and_plan_share_what_is_allowed(rt: HostRuntime) -> Result<(), Fail> {
     for (all, patient_pay, total_paid) in PAID {
         let pricing = Pricing::new(amounts(all)).ok_or("within the limits")?;
-        assert_eq!(rt; *pricing.amounts(), amounts(all));
+        assert_eq!(rt; pricing.amounts(), amounts(all));
         assert_eq!(rt; pricing.patient_pay(), patient_pay, "at {all:?}");
         assert_eq!(rt; pricing.total_paid(), total_paid, "at {all:?}");
     }

@@ -10,6 +10,7 @@ use Rattle.std.proofs.lemmas.List.{take_more, take_at, drop_at, length-replicate
 use Rattle.std.specs.List.{list_all, list_any}
 use Rattle.rx_fields.specs.declared.fault.IdFault.{IdFault}
 use Rattle.rx_fields.specs.declared.fault.IdFault.TheVariants as fault
+use Rattle.rx_fields.specs.Padded.{padded}
 use Rattle.rx_fields.specs.Text.{trimmed, id_of, is_printable, is_bar, IsPadded}
 
 -- ---- the end of a text
@@ -84,24 +85,39 @@ refused false f r v e = (refl, e)
 ok_same : (x y : List ℕ) → made x ≡ made y → x ≡ y
 ok_same x y e = cc
 
--- an id of a field that takes fewer bytes is an id as it stands, of at most 20 bytes
-pub id_again : (max : ℕ) (t v : List ℕ) → max ≤ 20 → id_of max t ≡ Ok v → (length v ≤ 20) × (id_of 20 v ≡ Ok v)
-id_again max t v le e =
+-- what an id is read from, and of how many bytes, is no part of it: it is an id as it stands, also where more fit
+pub id_again : (max more : ℕ) (t v : List ℕ) → max ≤ more → id_of max t ≡ Ok v
+    → (length v ≤ max) × (id_of more v ≡ Ok v)
+id_again max more t v le e =
     let some = refused (eqb (length (trimmed t)) 0) fault.Blank _ v e in
     let short = refused (ltb max (length (trimmed t))) fault.TooLong _ v some.1 in
     let printable = refused (not (list_all is_printable (trimmed t))) fault.NotPrintable _ v short.1 in
     let no_bar = refused (list_any is_bar (trimmed t)) fault.Bar _ v printable.1 in
     let is = ok_same (trimmed t) v no_bar.1 in
     let few : length (trimmed t) ≤ max = ltb-false _ _ short.0 in
-    let long : ltb 20 (length (trimmed t)) ≡ false = le-ltb _ _ (omega arith) in
+    let long : ltb more (length (trimmed t)) ≡ false = le-ltb _ _ (omega arith) in
     (omega (arith, ap length is, few), rw (← is, trimmed_twice t, some.0, long, printable.0, no_bar.0) refl)
 
--- an id and zeros up to twenty bytes are the fields of an id
-pub padded_whole : (t : List ℕ) → length t ≤ 20 → id_of 20 t ≡ Ok t
-    → IsPadded (length t) (t ++ replicate (20 - length t) 0)
-padded_whole t few id = record {
-  whole = omega (arith, length-append t (replicate (20 - length t) 0), length-replicate {A = ℕ} (20 - length t) 0);
+not_false : (b : Bool) → not b ≡ false → b ≡ true
+not_false true e = refl
+not_false false e = absurd cc
+
+-- each byte of an id is printable
+pub id_printable : (max : ℕ) (t v : List ℕ) → id_of max t ≡ Ok v → list_all is_printable v ≡ true
+id_printable max t v e =
+    let some = refused (eqb (length (trimmed t)) 0) fault.Blank _ v e in
+    let short = refused (ltb max (length (trimmed t))) fault.TooLong _ v some.1 in
+    let printable = refused (not (list_all is_printable (trimmed t))) fault.NotPrintable _ v short.1 in
+    let no_bar = refused (list_any is_bar (trimmed t)) fault.Bar _ v printable.1 in
+    rw (ok_same (trimmed t) v no_bar.1) at (not_false (list_all is_printable (trimmed t)) printable.0)
+
+-- an id and zeros up to max bytes are the fields of an id
+pub padded_whole : (max : ℕ) (t : List ℕ) → max ≤ 20 → length t ≤ max → id_of max t ≡ Ok t
+    → IsPadded max (length t) (padded max t)
+padded_whole max t short few id = record {
+  short = short;
+  whole = omega (arith, length-append t (replicate (max - length t) 0), length-replicate {A = ℕ} (max - length t) 0);
   few = few;
-  is_id = rw (take_at t (replicate (20 - length t) 0) (length t) refl) id;
-  rest = drop_at t (replicate (20 - length t) 0) (length t) refl;
+  is_id = rw (take_at t (replicate (max - length t) 0) (length t) refl) id;
+  rest = drop_at t (replicate (max - length t) 0) (length t) refl;
 }

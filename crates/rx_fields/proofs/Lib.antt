@@ -4,3 +4,4 @@ pub mod DigitLaws
 pub mod IdLaws
 pub mod OrderLaws
 pub mod StampLaws
+pub mod WordLaws

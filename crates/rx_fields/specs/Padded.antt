@@ -2,16 +2,15 @@
 use Rattle.std.specs.Prelude.{◌≡◌, ℕ, ◌-◌, ◌++◌, List, length, take, replicate, refl}
 use Rattle.std.proofs.Common.{arith, take-append-drop, length-take}
 use Rattle.rx_fields.specs.Text.{IsPadded}
-use Rattle.rx_fields.specs.declared.id.Id.TheInside.{Inside}
 
--- the fields of an id of this text
-abbrev pub padded_id : List ℕ → Inside
-padded_id text = record { bytes = text ++ replicate (20 - length text) 0; len = length text }
+-- the text, and zeros up to max bytes
+abbrev pub padded : ℕ → List ℕ → List ℕ
+padded max text = text ++ replicate (max - length text) 0
 
--- the fields of an id are those that its text gives
-pub padded_back : (a : Inside) → IsPadded a.len a.bytes → padded_id (take a.len a.bytes) ≡ a
-padded_back a h =
-    let len : length (take a.len a.bytes) ≡ a.len = omega (arith, length-take a.len a.bytes, h.whole, h.few) in
-    let bytes : take a.len a.bytes ++ replicate (20 - a.len) 0 ≡ a.bytes =
-    rw (← h.rest) (take-append-drop a.len a.bytes) in
-    rw (len, bytes) refl
+-- what is made of an id's bytes and its length is made of its text
+pub padded_back : {R : Type 0} (make : List ℕ → ℕ → R) (max len : ℕ) (bytes : List ℕ) → IsPadded max len bytes
+    → make (padded max (take len bytes)) (length (take len bytes)) ≡ make bytes len
+padded_back make max len bytes h =
+    let same : length (take len bytes) ≡ len = omega (arith, length-take len bytes, h.whole, h.few) in
+    let all : take len bytes ++ replicate (max - len) 0 ≡ bytes = rw (← h.rest) (take-append-drop len bytes) in
+    rw (same, all) refl

@@ -31,9 +31,10 @@ id_of max bs =
 abbrev pub IsId : ℕ → List ℕ → Type 0
 IsId max t = id_of max t ≡ Ok t
 
--- twenty bytes, of which the first len are an id and the others 0
-pub record IsPadded (len : ℕ) (bytes : List ℕ) : Type 0 where
-  pub whole : length bytes ≡ 20
-  pub few : len ≤ 20
-  pub is_id : IsId 20 (take len bytes)
-  pub rest : drop len bytes ≡ replicate (20 - len) 0
+-- max bytes, of which the first len are an id and the others 0
+pub record IsPadded (max len : ℕ) (bytes : List ℕ) : Type 0 where
+  pub short : max ≤ 20
+  pub whole : length bytes ≡ max
+  pub few : len ≤ max
+  pub is_id : IsId max (take len bytes)
+  pub rest : drop len bytes ≡ replicate (max - len) 0

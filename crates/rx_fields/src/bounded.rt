@@ -44,14 +44,8 @@ impl<const LOW: u64, const HIGH: u64> Bounded<LOW, HIGH> {
     }
 }
 
-/// An amount of money in a claim, in cents: 0 to 99,999,999.
-pub type Cents = Bounded<0, 99_999_999>;
-
 /// A dispensed quantity, in thousandths of a unit: 1 to 9,999,999,999.
 pub type Quantity = Bounded<1, 9_999_999_999>;
-
-/// A days supply: 1 to 999.
-pub type Days = Bounded<1, 999>;
 
 /// A prescription reference number: at most twelve digits.
 pub type Reference = Bounded<0, 999_999_999_999>;

@@ -6,6 +6,7 @@ ghost use Rattle.std.specs.Cmp.Rules.{comparing};
 ghost use Rattle.std.proofs.Common.{rules};
 
 use crate::fault::IdFault;
+use crate::padding::{compare, padded};
 use std::cmp::Ordering;
 use std::marker::Model;
 
@@ -25,16 +26,17 @@ impl Model for Id {
 
     ghost view = { λ a. take a.len a.bytes };
 
-    ghost invariant = { λ a. IsPadded a.len a.bytes };
+    ghost invariant = { λ a. IsPadded 20 a.len a.bytes };
 
-    ghost use Rattle.rx_fields.specs.Padded.{padded_id, padded_back};
+    ghost use Rattle.std.specs.Prelude.{length};
+    ghost use Rattle.rx_fields.specs.Padded.{padded, padded_back};
 
-    ghost inverse = { padded_id };
+    ghost inverse = { λ text. record { bytes = padded 20 text; len = length text } };
 
-    ghost inverse_ok = { padded_back };
+    ghost inverse_ok = { λ a h. padded_back (λ bytes len. record { bytes = bytes; len = len }) 20 a.len a.bytes h };
 }
 
-ghost use Rattle.std.specs.Prelude.{length, ◌++◌, ◌-◌, replicate};
+ghost use Rattle.std.specs.Prelude.{length};
 ghost use Rattle.std.specs.List.{list_all, list_any};
 ghost use Rattle.std.specs.Result.{result_map_both};
 ghost use Rattle.rx_fields.specs.Text.{id_of, trimmed, is_printable, is_bar, IsId};
@@ -50,6 +52,18 @@ impl Id {
             bytes: padded(text),
             len: text.len() as u8,
         })
+    }
+
+    // The id of the text of a shorter one.
+    pub(crate) fn of_text(text: &[u8]) -> Id
+        requires few { length text.now ≤ 20 }
+        requires again { IsId 20 text.now }
+        ensures { result ≡ text.now }
+    {
+        Id {
+            bytes: padded(text),
+            len: text.len() as u8,
+        }
     }
 
     /// The id's bytes, 1 to 20.
@@ -89,7 +103,7 @@ fn has_bar(text: &[u8]) -> bool
 }
 
 // The part of a text that is an id of at most `max` bytes.
-fn id_text(text: &[u8], max: usize) -> Result<&[u8], IdFault>
+pub(crate) fn id_text(text: &[u8], max: usize) -> Result<&[u8], IdFault>
     ensures { result_map_both (λ t. t.now) (λ e. e) result ≡ id_of max text.now }
 {
     let text = trimmed(text);
@@ -108,23 +122,13 @@ fn id_text(text: &[u8], max: usize) -> Result<&[u8], IdFault>
     Ok(text)
 }
 
-// The text, and zeros up to twenty bytes.
-fn padded(text: &[u8]) -> [u8; 20]
-    requires { length text.now ≤ 20 }
-    ensures { result ≡ text.now ++ replicate (20 - length text.now) 0 }
-{
-    let mut bytes = [0; 20];
-    bytes[..text.len()].copy_from_slice(text);
-    bytes
-}
-
 impl PartialEq for Id {
     ghost eq = { pointwise nat_eq };
 
     ghost laws = { partial_equiv_from_equiv nat_list_eq_equiv };
 
     fn eq(&self, other: &Id) -> bool {
-        self.bytes() == other.bytes()
+        compare(&self.bytes, &other.bytes).is_eq()
     }
 }
 
@@ -152,6 +156,6 @@ impl Ord for Id {
     ghost matches_eq = { Prim.search (comparing, rules) };
 
     fn cmp(&self, other: &Id) -> Ordering {
-        self.bytes().cmp(other.bytes())
+        compare(&self.bytes, &other.bytes)
     }
 }

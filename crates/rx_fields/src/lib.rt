@@ -14,8 +14,10 @@
 
 mod amount;
 mod bounded;
+mod cents;
 mod code;
 mod day;
+mod days;
 mod digits;
 mod door;
 mod fault;
@@ -23,6 +25,7 @@ mod id;
 mod key;
 mod lot;
 mod memory;
+mod padding;
 mod period;
 mod product;
 mod short_id;
@@ -30,9 +33,11 @@ mod stamp;
 mod time;
 
 pub use amount::{signed_read, signed_write};
-pub use bounded::{Authorization, Bounded, Cents, Count, Days, Quantity, Reference};
+pub use bounded::{Authorization, Bounded, Count, Quantity, Reference};
+pub use cents::Cents;
 pub use code::Code;
 pub use day::{Day, date_read, date_write};
+pub use days::Days;
 pub use digits::{digits_write, number_read};
 pub use door::Door;
 pub use fault::{FieldFault, IdFault};

@@ -172,17 +172,17 @@ row_decides a b =
       key = h.0 i;
       family = h.1.0 i;
       person = h.1.1.0 i;
-      product = h.1.1.1.0 i;
-      quantity = h.1.1.1.1.0 i;
-      days = h.1.1.1.1.1.0 i;
-      pricing = h.1.1.1.1.1.1.0 i;
+      days = h.1.1.1.0 i;
+      pricing = h.1.1.1.1.0 i;
+      product = h.1.1.1.1.1.0 i;
+      quantity = h.1.1.1.1.1.1.0 i;
       number = h.1.1.1.1.1.1.1 i;
     })
     (λ e. (cc, (cc, (cc, (cc, (cc, (cc, (cc, cc))))))))
     (Decides-and _ _ (key_decides a.key b.key)
     (Decides-and _ _ (bytes_decides a.family b.family)
     (Decides-and _ _ (bytes_decides a.person b.person)
-    (Decides-and _ _ (Decides-eqb a.product b.product)
-    (Decides-and _ _ (Decides-eqb a.quantity b.quantity)
     (Decides-and _ _ (Decides-eqb a.days b.days)
-    (Decides-and _ _ (pricing_decides a.pricing b.pricing) (Decides-eqb a.number b.number))))))))
+    (Decides-and _ _ (pricing_decides a.pricing b.pricing)
+    (Decides-and _ _ (Decides-eqb a.product b.product)
+    (Decides-and _ _ (Decides-eqb a.quantity b.quantity) (Decides-eqb a.number b.number))))))))

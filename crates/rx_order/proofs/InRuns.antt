@@ -2,7 +2,7 @@
 use Rattle.std.proofs.Common.{◌≡◌, ℕ, zero, suc, ◌+◌, ◌-◌, ◌^◌, ◌<◌, ◌≤◌, List, [], ◌∷◌, ◌++◌, length, get_or, drop, map}
 use Rattle.std.proofs.Common.{Bool, true, false, cond, leb, Option, Some, None, refl, sym, ap, ◌∙◌, inl, inr, arith}
 use Rattle.std.proofs.Common.{length-append, add-zero, lit<}
-use Rattle.std.specs.Prelude.{◌&&◌, nat_lt, slice_get}
+use Rattle.std.specs.Prelude.{◌&&◌, nat_lt, not, slice_get}
 use Rattle.std.specs.Bool.{then_some}
 use Rattle.std.specs.List.{flat_map, list_all}
 use Rattle.std.specs.Vec.{vec_items}
@@ -14,8 +14,9 @@ use Rattle.std.specs.declared.cmp.Ordering.TheVariants.{Less, Greater}
 use Rattle.std.proofs.lemmas.Bool.{cases_Bool, cases_lt, and_parts, and_from, and_right, lt-ltb, le-ltb, leb-true, leb-false}
 use Rattle.std.proofs.lemmas.Bool.{ltb-true}
 use Rattle.std.proofs.lemmas.List.{get_or-drop, get_or_append_left, drop-drop, drop_at, length-drop, append-nil}
-use Rattle.std.proofs.lemmas.List.{at_drop_more}
-use Rattle.std.proofs.lemmas.Option.{slice_get-get_or}
+use Rattle.std.proofs.lemmas.List.{at_drop_more, drop_more}
+use Rattle.std.specs.Cmp.Lexicographic.{pointwise}
+use Rattle.std.proofs.lemmas.Option.{get_or_from_slice_get, slice_get-get_or, slice_get_within}
 use Rattle.rx_order.specs.Ascending.{IsAscending, IsAt, IsBelow, IsGap, is_ascending, is_past}
 use Rattle.rx_order.specs.Runs.{AreRuns, are_runs, has_items, items_of, may_follow}
 use Rattle.rx_order.proofs.Keys.{Greater-from_Less, Less-from_Greater, Less-from_is_lt}
@@ -303,3 +304,24 @@ module _ {X K : Type 0} (cmp : K → K → Ordering) (order : IsTotalOrder cmp) 
     before = reached.below;
     after = λ j d le h. absurd (omega (arith, length-drop start xs, ap length reached.left));
   }
+
+-- ---- two lists, item by item
+
+-- what two lists have from a place on, by the items there
+pub pointwise_from : {X : Type 0} (E : X → X → Bool) (xs ys : List X) (i : ℕ) (x y : X) → slice_get xs i ≡ Some x
+    → slice_get ys i ≡ Some y
+    → pointwise E (drop i xs) (drop i ys) ≡ (E x y && pointwise E (drop (i + 1) xs) (drop (i + 1) ys))
+pointwise_from {X} E xs ys i x y at_x at_y =
+    let left : drop i xs ≡ x ∷ drop (i + 1) xs = drop_more xs i x (slice_get_within xs i x at_x)
+    ∙ ap (λ (z : X). z ∷ drop (i + 1) xs) (get_or_from_slice_get xs i x x at_x) in
+    let right : drop i ys ≡ y ∷ drop (i + 1) ys = drop_more ys i y (slice_get_within ys i y at_y)
+    ∙ ap (λ (z : X). z ∷ drop (i + 1) ys) (get_or_from_slice_get ys i y y at_y) in
+    rw (left, right) refl
+
+pub false-from_not : (b : Bool) → not b ≡ true → b ≡ false
+false-from_not true e = cc
+false-from_not false e = refl
+
+pub true-from_not : (b : Bool) → not b ≡ false → b ≡ true
+true-from_not true e = refl
+true-from_not false e = cc

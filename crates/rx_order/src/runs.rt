@@ -1,5 +1,6 @@
 ghost use Rattle.std.specs.Prelude.{◌≡◌, ◌<◌, ◌^◌, ◌==◌, Some, true, map, IfErr, IfOk, is_ok, length, slice_get};
 ghost use Rattle.std.specs.Bool.{then_some};
+ghost use Rattle.std.specs.Cmp.Lexicographic.{pointwise};
 ghost use Rattle.std.specs.List.{list_all};
 ghost use Rattle.std.specs.Option.{option_copied};
 ghost use Rattle.std.specs.Vec.{vec_items};
@@ -186,3 +187,41 @@ fn copies_of<T: Copy>(runs: &[Vec<T>], alloc: Global) -> Result<Vec<Vec<T>>, All
     }
     Ok(copies)
 }
+
+// Whether two lists of `len` items have the same ones, however they are cut into runs.
+fn same_items<T: PartialEq>(runs: &[Vec<T>], others: &[Vec<T>], len: usize) -> bool
+    requires ours { len ≡ length (items_of runs.now) }
+    requires theirs { len ≡ length (items_of others.now) }
+    ensures { result ≡ pointwise T.eq (items_of runs.now) (items_of others.now) }
+{
+    for place in 0..len {
+        if item_of(runs, place) != item_of(others, place) {
+            return false;
+        }
+    }
+    true
+}
+
+impl<T: Keyed + PartialEq> PartialEq for Runs<T> {
+    ghost use Rattle.std.specs.Cmp.Lexicographic.{lists_per, pointwise};
+
+    ghost eq = { λ a b. pointwise T.eq a b };
+
+    ghost laws = { lists_per T.laws };
+
+    fn eq(&self, other: &Runs<T>) -> bool {
+        if self.len != other.len {
+            return false;
+        }
+        same_items(&self.runs, &other.runs, self.len)
+    }
+}
+
+impl<T: Keyed + Eq> Eq for Runs<T> {
+    ghost use Rattle.std.specs.Cmp.Lexicographic.{lists_equiv};
+
+    ghost laws = { lists_equiv T.Eq.laws };
+}
+
+#[cfg(test)]
+mod tests;

@@ -172,6 +172,26 @@ four true true false d rest e = refl
 four true true true false rest e = refl
 four true true true true rest e = absurd cc
 
+none_of_four : (a b c d rest : Bool) → (a && b && c && d) ≡ true
+    → (not a || (not b || (not c || (not d || rest)))) ≡ rest
+none_of_four true true true true rest e = refl
+none_of_four true true true false rest e = absurd cc
+none_of_four true true false d rest e = absurd cc
+none_of_four true false c d rest e = absurd cc
+none_of_four false b c d rest e = absurd cc
+
+-- no row of a header's table holds
+pub header_heard : (door : Door) (h : Header) (is_sound : Bool) (groups : ℕ) → is_addressed door h ≡ true
+    → is_count h.count groups ≡ true → is_none (provider_in h.provider) ≡ false → is_none (date_in h.date) ≡ false
+    → is_sound ≡ true → is_faulty (header_conditions door h is_sound groups) ≡ false
+unfolding is_faulty
+header_heard door h is_sound groups addressed counted provider date sound =
+    none_of_four (same h.bin door.bin) (same h.version (codes "D0"))
+    (same h.code (codes "B1") || same h.code (codes "B2")) (same h.pcn door.pcn)
+    (not (is_count h.count groups) || (is_none (provider_in h.provider)
+    || (is_none (date_in h.date) || (not is_sound || false)))) addressed
+    ∙ rw (counted, provider, date, sound) refl
+
 -- its bytes or its common part are unsound
 pub header_unsound : (door : Door) (h : Header) (is_sound : Bool) (groups : ℕ) → is_sound ≡ false → is_faulty (header_conditions door h is_sound groups) ≡ true
 unfolding is_faulty

@@ -1,7 +1,7 @@
 // Worked cases: transmissions and what docs/FORMATS.md makes of them (docs/CASES.md has those with a name there).
 use crate::decode;
 use rx_claim::{Body, Codes, Transaction, Transmission};
-use rx_fields::{Bounded, Door, date_write};
+use rx_fields::{Door, date_write};
 use std::alloc::Global;
 use std::process::Abort;
 use std::test::Fail;
@@ -38,12 +38,9 @@ fn codes_shown(alloc: Global, codes: &Codes) -> Result<String, Fail> {
     Ok(text)
 }
 
-fn number_shown<const LOW: u64, const HIGH: u64>(
-    alloc: Global,
-    number: Option<Bounded<LOW, HIGH>>,
-) -> Result<String, Fail> {
+fn number_shown(alloc: Global, number: Option<u64>) -> Result<String, Fail> {
     Ok(match number {
-        Some(number) => format!(in alloc; "{}", number.get())?,
+        Some(number) => format!(in alloc; "{number}")?,
         None => String::from_str(alloc, "-")?,
     })
 }
@@ -64,9 +61,9 @@ fn transaction_shown(alloc: Global, transaction: &Transaction) -> Result<String,
             format!(in alloc;
                 "{claim} {} {} {} {}",
                 bill.ingredient_cost.get(),
-                number_shown(alloc, bill.dispensing_fee)?,
-                number_shown(alloc, bill.usual_charge)?,
-                number_shown(alloc, bill.gross_amount)?
+                number_shown(alloc, bill.dispensing_fee.map(|cents| cents.get()))?,
+                number_shown(alloc, bill.usual_charge.map(|cents| cents.get()))?,
+                number_shown(alloc, bill.gross_amount.map(|cents| cents.get()))?
             )?
         }
         Transaction::Reverse(reversal) => {
@@ -80,7 +77,7 @@ fn transaction_shown(alloc: Global, transaction: &Transaction) -> Result<String,
             format!(in alloc;
                 "; faulty {} {}",
                 codes_shown(alloc, &faulty.codes)?,
-                number_shown(alloc, faulty.reference)?
+                number_shown(alloc, faulty.reference.map(|number| number.get()))?
             )?
         }
     };

@@ -29,7 +29,18 @@ const IDS_REFUSED: [(&[u8], usize, IdFault); 11] = [
 ];
 
 // Ascending: by bytes, a prefix first.
-const IDS_IN_ORDER: [&[u8]; 7] = [b" A", b"01", b"1", b"A", b"AA", b"B", b"a"];
+const IDS_IN_ORDER: [&[u8]; 10] = [
+    b" A",
+    b"01",
+    b"1",
+    b"A",
+    b"AA",
+    b"AAAAAAAAA",
+    b"AAAAAAAAB",
+    b"AAAAAAAB",
+    b"B",
+    b"a",
+];
 
 #[test]
 fn ids_are_trimmed_texts(rt: HostRuntime) -> Result<(), Fail> {

@@ -28,6 +28,14 @@ returns-then-not-contains_key-clause-there c =
     rw (← c.self.view_is) (sym c.contains_key.ensures ∙ c.if-contains_key.false) in
     (λ h. cc, λ t. absurd (fails _ free t))
 
+pub returns-then-not-contains_key-clause-unknown : goal.returns-then-not-contains_key-clause-unknown
+returns-then-not-contains_key-clause-unknown c =
+    let free : is_taken c.args.self.now c.args.row.key ≡ false =
+    rw (← c.self.view_is) (sym c.contains_key.ensures ∙ c.if-contains_key.false) in
+    let unknown : is_listed c.args.self.now (member_of_row c.args.row) ≡ false =
+    rw (← c.self.view_is) (sym (rw c.member.ensures at c.contains_key-2.ensures) ∙ c.if-not-contains_key.true) in
+    (λ h. (free, unknown), λ t. refl)
+
 -- ---- there is no memory
 
 pub returns-in_err-put_row-clause-there : goal.returns-in_err-put_row-clause-there
