@@ -1,4 +1,6 @@
 -- Laws of the definitions in `specs/`.
 pub mod Begins
 pub mod Counted
+pub mod FieldLines
+pub mod Numbers
 pub mod Parted

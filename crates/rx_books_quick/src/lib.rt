@@ -12,13 +12,18 @@
 #![tactic(auto)]
 
 mod cut;
+mod field;
 mod line;
 mod lists;
 mod members;
 mod part;
+mod quick;
 mod reader;
 mod run;
 mod whole;
 
 pub use lists::Lists;
 pub use reader::{read_lists, read_lists_in_parts};
+
+#[cfg(test)]
+mod tests;
