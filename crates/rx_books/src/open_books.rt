@@ -58,7 +58,8 @@ impl Books {
         ensures same { IfOk result (λ opened. opened.books ≡ self) }
         ensures slots { IfOk result (λ opened. All (Contains opened.slots) keys.now) }
     {
-        Err(Memory)
+        let Books { kept } = self;
+        kept.opened(alloc, keys)
     }
 }
 
