@@ -1,5 +1,6 @@
 pub mod NoThread
 pub mod Refusals
 pub mod Replied
+pub mod Unplanned
 pub mod Unread
 pub mod Unwritten

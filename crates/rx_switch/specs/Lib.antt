@@ -2,5 +2,6 @@ pub mod Devices
 pub mod Fault
 pub mod Job
 pub mod Output
+pub mod Planned
 pub mod Shown
 pub mod Told

@@ -29,7 +29,11 @@ pub fn show_text(alloc: Global, sheet: &[u8], batch: &[u8]) -> Result<Vec<u8>, S
 }
 
 // The transmission of each detail, in order.
-fn decode_each(alloc: Global, door: &Door, details: &[Detail]) -> Result<Vec<Transmission>, Memory>
+pub(crate) fn decode_each(
+    alloc: Global,
+    door: &Door,
+    details: &[Detail],
+) -> Result<Vec<Transmission>, Memory>
     ensures { IfOk result (λ transmissions. transmissions.items ≡ transmissions_of door.now details.now) }
 {
     let mut transmissions = Vec::with_capacity(alloc, details.len())?;
