@@ -4,15 +4,10 @@ pub mod Changed
 pub mod Columns
 pub mod FamilyOrder
 pub mod Figured
-pub mod Grown
 pub mod KeptFigures
 pub mod KeptText
 pub mod Limits
-pub mod Mapped
 pub mod Merging
-pub mod Missing
-pub mod OneMember
-pub mod OneRow
 pub mod Openings
 pub mod Passes
 pub mod Opens
