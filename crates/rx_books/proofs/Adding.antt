@@ -24,7 +24,7 @@ use Rattle.rx_books.specs.BooksText.{deductibles_of, families_of}
 use Rattle.rx_books.specs.Store.{AreFigures, family_deductibles_of, out_of_pockets_of}
 use Rattle.rx_books.proofs.Columns.{deductibles-added, deductibles-room, families-added, family_deductibles-room, pockets-room}
 use Rattle.rx_books.proofs.FamilyOrder.{itself}
-use Rattle.rx_books.proofs.Owned.{counted-small, counted_deductible-small, no_member}
+use Rattle.rx_parcels.proofs.Owned.{counted-small, counted_deductible-small, no_member}
 use Rattle.rx_books.proofs.Stored.{IsAt-get}
 
 -- these rows, claimed by these members

@@ -24,9 +24,9 @@ use Rattle.rx_ledger.specs.Rows.{claimed_by, member_of_row, row_key}
 use Rattle.rx_ledger.specs.Sums.{counted, deductible, deductible_paid, family_deductible, out_of_pocket, paid_by_patient, persons_deductible_paid}
 use Rattle.rx_ledger.proofs.Orders.{id_total, key_total, member_total}
 use Rattle.rx_books.specs.BooksText.{deductibles_of, families_of}
-use Rattle.rx_books.proofs.Changed.{set-map}
+use Rattle.rx_parcels.proofs.Changed.{set-map}
 use Rattle.rx_books.proofs.FamilyOrder.{families_rise, itself}
-use Rattle.rx_books.proofs.Owned.{counted-other, counted-own, counted-small, counted_deductible-small, counted_person-small, no_member}
+use Rattle.rx_parcels.proofs.Owned.{counted-other, counted-own, counted-small, counted_deductible-small, counted_person-small, no_member}
 
 -- ---- any column of numbers
 

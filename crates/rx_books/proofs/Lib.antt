@@ -1,6 +1,5 @@
 pub mod Adding
 pub mod BooksFile
-pub mod Changed
 pub mod Columns
 pub mod FamilyOrder
 pub mod Figured
@@ -11,7 +10,6 @@ pub mod Merging
 pub mod Openings
 pub mod Passes
 pub mod Opens
-pub mod Owned
 pub mod Same
 pub mod SameRows
 pub mod Split

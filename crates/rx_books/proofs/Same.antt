@@ -1,7 +1,6 @@
 -- Whether two books are one.
 use Rattle.std.proofs.Common.{◌≡◌, Bool, true, false, Decides, sym, ap, ◌∙◌}
 use Rattle.std.proofs.lemmas.Bool.Decides.{Decides-at, Decides-like}
-use Rattle.rx_books.specs.FamilyBook.{FamilyBook}
 
 -- both tests, the second made only where the first holds
 pub both_hold : {P Q : Type 0} (a b v : Bool) → Decides a P → a ≡ true → Decides b Q → v ≡ b → Decides v (P × Q)
@@ -11,22 +10,3 @@ both_hold {P} {Q} a b v first holds second is =
 pub first_fails : {P Q : Type 0} (a v : Bool) → Decides a P → a ≡ false → v ≡ a → Decides v (P × Q)
 first_fails {P} {Q} a v first fails is =
     (λ t. absurd (let e : false ≡ true = sym fails ∙ sym is ∙ t in cc), λ pq. absurd (let e : false ≡ true = sym fails ∙ first.1 pq.0 in cc))
-
--- two books whose heads and members were compared first, and then their rows
-abbrev SameHeads : FamilyBook → FamilyBook → Type 0
-SameHeads a b = ((a.family ≡ b.family) × (a.period ≡ b.period)) × (a.members ≡ b.members)
-
-pub same_book : (a b : FamilyBook) (heads rows : Bool) → Decides heads (SameHeads a b) → heads ≡ true
-    → Decides rows (a.rows ≡ b.rows) → Decides rows (a ≡ b)
-same_book a b heads rows same holds decides =
-    let h = same.0 holds in
-    Decides-like rows
-    (λ r i. record { family = h.0.0 i; period = h.0.1 i; members = h.1 i; rows = r i })
-    (λ e. ap (λ (x : FamilyBook). x.rows) e)
-    decides
-
-pub other_book : (a b : FamilyBook) (heads : Bool) → Decides heads (SameHeads a b) → heads ≡ false → Decides heads (a ≡ b)
-other_book a b heads same fails = (
-  λ t. absurd (let e : false ≡ true = sym fails ∙ t in cc),
-  λ e. same.1 ((ap (λ (x : FamilyBook). x.family) e, ap (λ (x : FamilyBook). x.period) e), ap (λ (x : FamilyBook). x.members) e),
-)

@@ -36,7 +36,7 @@ use Rattle.rx_books.specs.OpenBooks.{OpenParts}
 use Rattle.rx_books.specs.Store.{AreFigures, IsSlot, IsStore, family_deductibles_of, held, out_of_pockets_of, slot_key, slot_keys, standing, standing_rows}
 use Rattle.rx_books.proofs.Columns.{deductibles-added, deductibles-enough, deductibles-removed, deductibles-room, families-added, families-enough, families-removed, family_deductibles-room, pockets-room}
 use Rattle.rx_books.proofs.FamilyOrder.{itself}
-use Rattle.rx_books.proofs.Owned.{no_member}
+use Rattle.rx_parcels.proofs.Owned.{no_member}
 
 -- ---- places
 

@@ -14,7 +14,6 @@ use Rattle.rx_books_text.specs.declared.version.Version.{Version}
 use Rattle.rx_books_text.specs.declared.version.Version.TheVariants.{One, Two, Three}
 use Rattle.rx_books_text.specs.LineText.{ended, line_text}
 use Rattle.rx_books_text.specs.Printed.{PrintedParts, member_lines, printed_text}
-use Rattle.rx_books.specs.FamilyBook.{FamilyBook, deductibles_over}
 
 -- the families of these members, each once, in the order in which they come
 abbrev pub families_of : List Member → List (List ℕ)
@@ -59,19 +58,6 @@ books_text version period L = printed_text (parts_of version period L)
 -- lines of version 3
 abbrev pub lines_text : List Line → List ℕ
 lines_text lines = flat_map (λ l. ended (line_text Three l)) lines
-
--- the member lines of a family's book
-abbrev pub member_lines_of : FamilyBook → List Line
-member_lines_of b = member_lines b.members (deductibles_over b.period b.rows b.members)
-
--- the total line of a family's book
-abbrev pub total_line_of : FamilyBook → TotalLine
-total_line_of b =
-    record {
-      family = b.family;
-      out_of_pocket = out_of_pocket_in b.period b.rows;
-      deductible = Some (family_deductible_in b.period b.rows);
-    }
 
 -- the lines of the rows
 abbrev pub claims_text : List Row → List ℕ

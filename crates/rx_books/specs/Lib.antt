@@ -1,6 +1,5 @@
 pub mod BooksFile
 pub mod BooksText
-pub mod FamilyBook
 pub mod Figures
 pub mod LedgerBooks
 pub mod OpenBooks

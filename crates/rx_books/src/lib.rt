@@ -15,13 +15,12 @@
 //! (`slot`): what stands now is the opening rows with what each slot holds (`specs/Store.antt`).
 //!
 //! What a books file is, and which fault a text has that is none, stands in `specs/BooksFile.antt`; what a total is in
-//! `rx_ledger`'s `specs/Sums.antt`, what a line is in `rx_books_text`'s `specs/`. A `Family` takes rows in and out and
-//! keeps its totals; which claims those are is left to the crates above.
+//! `rx_ledger`'s `specs/Sums.antt`, what a line is in `rx_books_text`'s `specs/`. Which claims are added and taken out
+//! is left to the crates above.
 #![tactic(auto)]
 
 mod amounts;
 mod books;
-mod family;
 mod figures;
 mod kept;
 mod open_books;
@@ -30,10 +29,9 @@ mod opening;
 mod slot;
 mod standing;
 mod summing;
-mod totals;
 mod writing;
 
 pub use books::Books;
-pub use family::Family;
 pub use open_books::OpenBooks;
+pub use rx_parcels::{Family, Footprint, Parcel};
 pub use standing::Standing;

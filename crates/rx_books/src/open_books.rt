@@ -17,10 +17,10 @@ use crate::opened::{fresh_slots, merged};
 use crate::opening::Opening;
 use crate::slot::{KeySlot, held_at, slot_at};
 use crate::standing::Standing;
-use crate::totals::counted_in;
 use rx_fields::{Id, Key, Memory, Period, Person};
 use rx_ledger::{Member, MemberKey, Row};
 use rx_order::Ascending;
+use rx_parcels::counted_in;
 use std::alloc::Global;
 use std::marker::Model;
 

@@ -9,10 +9,10 @@ ghost use Rattle.rx_books.specs.LedgerBooks.{has_members};
 ghost use Rattle.rx_books.specs.Opening.{name_of, names_of};
 ghost use Rattle.rx_books.specs.Store.{AreHolders, AreHomes};
 
-use crate::totals::place_of_member;
 use rx_fields::{Id, Memory};
 use rx_ledger::{Member, MemberKey, Row};
 use rx_order::{Ascending, Keyed};
+use rx_parcels::place_of_member;
 use std::alloc::Global;
 use std::marker::Model;
 use std::sync::Arc;

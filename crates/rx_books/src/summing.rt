@@ -10,9 +10,9 @@ use crate::amounts::add_at;
 use crate::opening::Opening;
 use crate::slot::KeySlot;
 use crate::standing::Standing;
-use crate::totals::{Counted, counted_in};
 use rx_fields::{Memory, Period};
 use rx_order::Ascending;
+use rx_parcels::{Counted, counted_in};
 use std::alloc::Global;
 
 /// A figure for each member, and two for each family, in cents.

@@ -10,13 +10,15 @@ use rx_order::Ascending;
 
 /// What a row counts in a period, in cents: nothing where it isn't dated within it.
 #[derive(Clone, Copy, Debug, PartialEq, Eq)]
-pub(crate) struct Counted {
-    pub(crate) deductible: u128,
-    pub(crate) out_of_pocket: u128,
+pub struct Counted {
+    /// Toward the deductibles.
+    pub deductible: u128,
+    /// Toward the family's out of pocket.
+    pub out_of_pocket: u128,
 }
 
 /// What a row counts in a period.
-pub(crate) fn counted_in(period: Period, row: &Row) -> Counted
+pub fn counted_in(period: Period, row: &Row) -> Counted
     ensures deductible { result.deductible ≡ counted period deductible_paid row.now }
     ensures out_of_pocket { result.out_of_pocket ≡ counted period paid_by_patient row.now }
     ensures small { paid_by_patient row.now ≤ 99_999_999 }
@@ -36,7 +38,7 @@ pub(crate) fn counted_in(period: Period, row: &Row) -> Counted
 }
 
 /// The place of a listed member.
-pub(crate) fn place_of_member(members: &Ascending<Member>, key: &MemberKey) -> usize
+pub fn place_of_member(members: &Ascending<Member>, key: &MemberKey) -> usize
     requires { contains_key member_cmp member_key members.now key.now ≡ true }
     ensures { IsAt member_cmp member_key members.now key.now result }
 {
