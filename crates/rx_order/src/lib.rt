@@ -10,6 +10,7 @@
 //! ```
 //!
 //! No item is lent for writing, since its key has to stay: `replace` writes a whole item over the one with its key.
+//! `Runs` is such a list that never changes, kept as some runs, one behind the other (`specs/Runs.antt`).
 //! The lemmas on these lists, and those on orders of keys with several fields, are in `proofs/`.
 #![tactic(auto)]
 
