@@ -1,5 +1,5 @@
 -- The fill keys that a batch names, and the members whom it bills.
-use Rattle.std.specs.Prelude.{ℕ, List, [], ◌∷◌}
+use Rattle.std.specs.Prelude.{List, [], ◌∷◌}
 use Rattle.std.specs.List.{flat_map}
 use Rattle.rx_fields.specs.declared.key.Key.{Key}
 use Rattle.rx_claim.specs.declared.transaction.Transaction.{Transaction}

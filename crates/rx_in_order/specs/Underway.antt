@@ -1,5 +1,5 @@
 -- A batch underway: the books so far, and what was looked up for it once.
-use Rattle.std.specs.Prelude.{◌≡◌, Bool, true, List, Some}
+use Rattle.std.specs.Prelude.{Bool, true, List, Some}
 use Rattle.rx_fields.specs.Order.{key_cmp}
 use Rattle.rx_fields.specs.declared.key.Key.{Key}
 use Rattle.rx_order.specs.Ascending.{IsAscending, contains_key}
