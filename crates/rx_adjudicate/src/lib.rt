@@ -14,7 +14,9 @@
 
 mod agreed;
 mod done;
+mod fitting;
 mod order;
 
 pub use done::{Done, adjudicate};
+pub use fitting::fits;
 pub use order::Order;
