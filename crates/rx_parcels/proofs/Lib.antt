@@ -1,1 +1,3 @@
+pub mod Locality
+pub mod Parts
 pub mod Same

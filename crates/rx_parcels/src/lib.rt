@@ -5,5 +5,7 @@
 #![tactic(auto)]
 
 mod footprint;
+mod law;
 
 pub use footprint::Footprint;
+pub use law::law_of_locality;
