@@ -1,7 +1,6 @@
 -- Fields behind one another are a line.
-use Rattle.std.proofs.Common.{◌≡◌, ℕ, ◌^◌, ◌<◌, ◌≤◌, List, [], ◌∷◌, ◌++◌, Some, refl, sym, ap, subst, ◌∙◌, arith, append_assoc, append-nil}
+use Rattle.std.proofs.Common.{◌≡◌, ℕ, ◌^◌, ◌<◌, ◌≤◌, List, [], ◌∷◌, ◌++◌, Some, sym, ap, subst, ◌∙◌, arith, append_assoc, append-nil}
 use Rattle.std.specs.Fmt.{decimal}
-use Rattle.std.specs.Prelude.{codes}
 use Rattle.std.proofs.lemmas.List.Elements.{All-nil, All-cons}
 use Rattle.rx_fields.specs.declared.key.Key.{Key}
 use Rattle.rx_fields.specs.Bounds.{bounded}
@@ -19,13 +18,13 @@ use Rattle.rx_books_text.specs.declared.line.Line.TheVariants as line
 use Rattle.rx_books_text.specs.declared.line.MemberLine.{MemberLine}
 use Rattle.rx_books_text.specs.declared.line.TotalLine.{TotalLine}
 use Rattle.rx_books_text.specs.declared.version.Version.TheVariants.{Three}
-use Rattle.rx_books_text.specs.LineFits.{IsLine, IsPeriod}
+use Rattle.rx_books_text.specs.LineFits.{IsLine}
 use Rattle.rx_books_text.specs.LineText.{line_text, ended}
 use Rattle.rx_books_text.proofs.ClaimLaws.{mapped}
 use Rattle.rx_books_text.proofs.NumberLaws.{bounded_is}
 use Rattle.rx_books_text.proofs.Steps.{guarded, some_same}
 use Rattle.rx_books_quick.specs.Fields.{IsDispensed, IsKey, IsMemberKey, followed}
-use Rattle.rx_books_quick.specs.Lists.{BeginWith, lines_text}
+use Rattle.rx_books_quick.specs.Lists.{BeginWith}
 
 -- one line, of the version, and what follows it
 one_line : (l : Line) (bytes rest : List ℕ) → IsLine Three l → bytes ≡ line_text Three l ++ 10 ∷ rest

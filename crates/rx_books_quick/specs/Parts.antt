@@ -4,7 +4,6 @@ use Rattle.std.specs.List.{flat_map}
 use Rattle.std.specs.Vec.{vec_items}
 use Rattle.rx_order.specs.Ascending.{IsAscending}
 use Rattle.rx_fields.specs.Order.{id_cmp, key_cmp}
-use Rattle.rx_ledger.specs.declared.row.Row.{Row}
 use Rattle.rx_ledger.specs.Members.{member_cmp, member_key}
 use Rattle.rx_ledger.specs.Rows.{row_key}
 use Rattle.rx_books_text.specs.declared.head.Head.{Head}

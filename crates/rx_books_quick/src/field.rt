@@ -10,6 +10,7 @@ use rx_fields::{Authorization, Day, Product, ShortId, date_read};
 const MOST_DIGITS: usize = 18;
 
 /// The bytes before the place, where this byte stands, and what follows it.
+#[inline(always)]
 pub(crate) fn cut_at(bytes: &[u8], at: usize, byte: u8) -> Option<(&[u8], &[u8])>
     ensures front { IfSome result (λ x. x.0.now ≡ take at bytes.now) }
     ensures whole { IfSome result (λ x. bytes.now ≡ x.0.now ++ byte ∷ x.1.now) }
@@ -21,6 +22,7 @@ pub(crate) fn cut_at(bytes: &[u8], at: usize, byte: u8) -> Option<(&[u8], &[u8])
 }
 
 /// What follows the kind that the bytes begin with, and the bar behind it.
+#[inline(always)]
 pub(crate) fn kind_at(bytes: &[u8], kind: u8) -> Option<&[u8]>
     ensures { IfSome result (λ rest. bytes.now ≡ kind ∷ 124 ∷ rest.now) }
 {
@@ -83,6 +85,7 @@ pub(crate) fn authorization_at(bytes: &[u8]) -> Option<(Authorization, &[u8])>
 }
 
 /// The number that the bytes begin with, without leading zeros, and what follows the byte behind it.
+#[inline(always)]
 pub(crate) fn number_at(bytes: &[u8], end: u8) -> Option<(u64, &[u8])>
     ensures short { IfSome result (λ x. x.0 < 10 ^ 18) }
     ensures whole { IfSome result (λ x. bytes.now ≡ decimal x.0 ++ end ∷ x.1.now) }
@@ -96,6 +99,7 @@ pub(crate) fn number_at(bytes: &[u8], end: u8) -> Option<(u64, &[u8])>
 }
 
 // Whether digits are some, with no zero before another.
+#[inline(always)]
 fn is_plain(digits: &[u8]) -> bool
     ensures { result ≡ is_plain digits.now }
 {
@@ -107,6 +111,7 @@ fn is_plain(digits: &[u8]) -> bool
 }
 
 // The number of the digits that the bytes begin with, up to another byte, and how many there are.
+#[inline(always)]
 fn digits_at(bytes: &[u8]) -> Option<(u64, usize)>
     ensures { IfSome result (λ x. AreDigits bytes.now x.0 x.1) }
 {

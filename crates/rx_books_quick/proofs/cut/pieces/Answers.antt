@@ -1,4 +1,4 @@
-use Rattle.std.proofs.Common.{[], ◌++◌, List, ℕ, ap, sym, ◌∙◌, append-nil}
+use Rattle.std.proofs.Common.{[], sym, ◌∙◌, append-nil}
 use Rattle.rx_books_quick.proofs.Begins.{piece_more}
 use Rattle.rx_books_quick.proofs.cut.pieces.Goals as goal
 

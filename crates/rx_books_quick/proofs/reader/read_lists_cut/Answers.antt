@@ -1,4 +1,4 @@
-use Rattle.std.proofs.Common.{[], ℕ, List, ap, subst, sym, ◌∙◌}
+use Rattle.std.proofs.Common.{[], ℕ, List, subst}
 use Rattle.std.specs.List.{flat_map}
 use Rattle.rx_books_quick.specs.Lists.{AreLists, BeginWith}
 use Rattle.rx_books_quick.specs.Parts.{printed_lists, IsMadeOf, part_lines}
