@@ -6,7 +6,6 @@ use rx_switch::{Device, IoFault};
 use rx_words::{Inputs, Outputs};
 use std::fs;
 use std::fs::{File, OpenOptions};
-use std::os::fd::IntoRawFd;
 use std::os::unix::fs::MetadataExt;
 
 /// The file as an input, opened; one that can't be opened counts as a failed read of it.
@@ -194,16 +193,11 @@ pub fn one_file_twice(
     None
 }
 
-/// Closes an output that was written. Of a plain file the bytes reach the disk first; a failure of either counts as a
-/// failed write.
-pub fn close(sink: WriterSink<File>, device: Device) -> Result<(), Ending> {
+/// Ends an output that was written: the bytes of a plain file are brought to the disk, and a failure of that counts as a
+/// failed write. What the system refused to keep is told here, and not only when the file is closed.
+pub fn end(sink: WriterSink<File>, device: Device) -> Result<(), Ending> {
     let file = sink.into_inner();
-    if !is_plain(&file) {
-        return Ok(());
-    }
-    let synced = file.sync_all();
-    let closed = libc::close(file.into_raw_fd());
-    if synced.is_err() || closed != 0 {
+    if is_plain(&file) && file.sync_all().is_err() {
         return Err(Ending::Io(IoFault::Write(device)));
     }
     Ok(())

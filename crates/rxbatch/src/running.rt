@@ -1,5 +1,5 @@
 use crate::ending::Ending;
-use crate::files::{InputFiles, OutputFiles, close, one_file_twice};
+use crate::files::{InputFiles, OutputFiles, end, one_file_twice};
 use rx_devices::{ReaderSource, WriterSink};
 use rx_switch::{Device, run_io};
 use rx_wave::NoGate;
@@ -24,7 +24,7 @@ pub fn run<R: Threads + Wait + Sync>(
     on_files(rt, threads, words, inputs, outputs)
 }
 
-// The run on its files. Of one that is done each output is closed with its error heard.
+// The run on its files. Of one that is done each output is brought to the disk.
 fn on_files<R: Threads + Wait + Sync>(
     rt: &HostRuntime,
     threads: &R,
@@ -50,7 +50,7 @@ fn on_files<R: Threads + Wait + Sync>(
         &mut settlement,
     );
     done.map_err(Ending::Io)?;
-    close(response, Device::Response)?;
-    close(end_books, Device::EndBooks)?;
-    close(settlement, Device::Settlement)
+    end(response, Device::Response)?;
+    end(end_books, Device::EndBooks)?;
+    end(settlement, Device::Settlement)
 }
