@@ -1,7 +1,7 @@
 -- Figures added up, row by row.
-use Rattle.std.proofs.Common.{◌≡◌, ℕ, zero, suc, ◌+◌, ◌^◌, ◌<◌, ◌≤◌, List, [], ◌∷◌, ◌++◌, length, get_or, map, replicate, set, Bool, true, false, Some, refl, sym, subst, ap, ◌∙◌, append_assoc, arith}
-use Rattle.std.specs.Prelude.{◌&&◌, slice_get}
-use Rattle.std.specs.List.{All, filter, list_all, sum_by}
+use Rattle.std.proofs.Common.{◌≡◌, ℕ, ◌+◌, ◌^◌, ◌<◌, ◌≤◌, List, [], ◌∷◌, ◌++◌, length, get_or, map, replicate, set, Bool, true, false, Some, refl, sym, subst, ap, ◌∙◌, append_assoc, arith}
+use Rattle.std.specs.Prelude.{slice_get}
+use Rattle.std.specs.List.{All, list_all}
 use Rattle.std.specs.Ordering.{is_lt}
 use Rattle.std.specs.declared.cmp.Ordering.TheVariants.{Less}
 use Rattle.std.proofs.lemmas.Bool.{and_parts}
@@ -15,13 +15,13 @@ use Rattle.rx_order.proofs.Edits.{put-past}
 use Rattle.rx_order.proofs.Keys.{Less-from_is_lt}
 use Rattle.rx_ledger.specs.declared.member.Member.{Member}
 use Rattle.rx_ledger.specs.declared.row.Row.{Row}
-use Rattle.rx_ledger.specs.Ledger.{Ledger, IsLedger, is_taken, is_whole, with_row}
+use Rattle.rx_ledger.specs.Ledger.{Ledger, IsLedger, is_whole, with_row}
 use Rattle.rx_ledger.specs.Members.{member_cmp, member_key}
 use Rattle.rx_ledger.specs.Rows.{member_of_row, row_key}
 use Rattle.rx_ledger.specs.Sums.{counted, deductible, deductible_paid, family_deductible, out_of_pocket, paid_by_patient}
 use Rattle.rx_ledger.proofs.Orders.{id_total, key_total}
-use Rattle.rx_books.specs.BooksText.{deductibles_of, families_of}
-use Rattle.rx_books.specs.Store.{AreFigures, family_deductibles_of, out_of_pockets_of}
+use Rattle.rx_books.specs.BooksText.{families_of}
+use Rattle.rx_books.specs.Store.{AreFigures}
 use Rattle.rx_books.proofs.Columns.{deductibles-added, deductibles-room, families-added, family_deductibles-room, pockets-room}
 use Rattle.rx_books.proofs.FamilyOrder.{itself}
 use Rattle.rx_parcels.proofs.Owned.{counted-small, counted_deductible-small, no_member}

@@ -5,14 +5,13 @@ use Rattle.rx_ledger.specs.Ledger.{Ledger}
 use Rattle.rx_ledger.specs.Sums.{family_deductible, out_of_pocket}
 use Rattle.rx_books_text.specs.declared.line.Line.{Line}
 use Rattle.rx_books_text.specs.declared.line.Line.TheVariants as line
-use Rattle.rx_books_text.specs.declared.line.TotalLine.{TotalLine}
 use Rattle.rx_books_text.specs.declared.version.Version.TheVariants.{Three}
 use Rattle.rx_books_text.specs.LineText.{ended, head_text}
 use Rattle.rx_books_text.specs.Printed.{member_lines}
 use Rattle.rx_books.specs.declared.opening.FamilyName.{FamilyName}
 use Rattle.rx_books.specs.BooksText.{books_text, claims_text, deductibles_of, families_of, lines_text, total_of}
 use Rattle.rx_books.specs.Opening.{names_of, total_lines}
-use Rattle.rx_books.specs.Store.{AreFigures, family_deductibles_of, out_of_pockets_of}
+use Rattle.rx_books.specs.Store.{AreFigures}
 use Rattle.rx_books.proofs.Written.{claims-map, lines_text-append}
 
 -- one family's line more

@@ -1,8 +1,8 @@
 -- A pass over opening rows and slots, side by side: what comes next.
-use Rattle.std.proofs.Common.{◌≡◌, ℕ, suc, ◌+◌, ◌<◌, ◌≤◌, List, [], ◌∷◌, length, get_or, drop, Bool, true, false, cond, not, Option, Some, None, add-one, refl, sym, subst, ap, ◌∙◌, inl, inr, arith}
+use Rattle.std.proofs.Common.{◌≡◌, ℕ, suc, ◌+◌, ◌<◌, List, [], ◌∷◌, length, get_or, drop, Bool, true, false, not, Option, Some, None, add-one, refl, sym, subst, ap, ◌∙◌, inl, inr, arith}
 use Rattle.std.specs.List.{All}
-use Rattle.std.specs.Ordering.{is_eq, is_lt}
-use Rattle.std.specs.declared.cmp.Ordering.TheVariants.{Less, Equal, Greater}
+use Rattle.std.specs.Ordering.{is_lt}
+use Rattle.std.specs.declared.cmp.Ordering.TheVariants.{Less}
 use Rattle.std.proofs.lemmas.Cmp.{tied_back}
 use Rattle.std.proofs.lemmas.List.{length-drop}
 use Rattle.std.proofs.lemmas.List.Elements.{All-drop, All-head, All-tail}
@@ -12,7 +12,7 @@ use Rattle.rx_fields.specs.declared.key.Key.{Key}
 use Rattle.rx_order.specs.Ascending.{IsAscending, IsBelow}
 use Rattle.rx_order.specs.Overlaid.{HoldsOwn, IsUnder, with_slot, written}
 use Rattle.rx_order.proofs.Kept.{IsAscending-drop}
-use Rattle.rx_order.proofs.Keys.{IsBelow-through, IsBelow-tied, Less-from_Greater, Less-from_is_lt, cases_Ordering, put-below, without-below}
+use Rattle.rx_order.proofs.Keys.{IsBelow-through, IsBelow-tied, Less-from_Greater, Less-from_is_lt, cases_Ordering, without-below}
 use Rattle.rx_ledger.specs.declared.row.Row.{Row}
 use Rattle.rx_ledger.specs.Rows.{row_key}
 use Rattle.rx_ledger.proofs.Orders.{key_exact, key_total}

@@ -3,7 +3,6 @@ use Rattle.std.proofs.Common.{◌≡◌, List, ◌∷◌, Bool, true, false, Dec
 use Rattle.std.specs.Prelude.{◌↔◌, not}
 use Rattle.std.proofs.lemmas.Bool.Decides.{Decides-like}
 use Rattle.rx_ledger.specs.declared.row.Row.{Row}
-use Rattle.rx_ledger.specs.Ledger.{Ledger}
 use Rattle.rx_books.specs.LedgerBooks.{LedgerBooks}
 
 -- where the first rows are the same, the lists are where their rests are

@@ -1,5 +1,5 @@
 -- A row that is written into its slot, and one that is taken out of it: what stands then, and what the figures are.
-use Rattle.std.proofs.Common.{◌≡◌, ℕ, ◌+◌, ◌-◌, ◌^◌, ◌<◌, ◌≤◌, List, length, get_or, map, set, true, false, Option, Some, None, refl, inl, inr, sym, subst, ap, ◌∙◌, arith}
+use Rattle.std.proofs.Common.{◌≡◌, ℕ, ◌+◌, ◌-◌, ◌^◌, ◌<◌, ◌≤◌, List, length, get_or, set, true, false, Option, Some, None, refl, inl, inr, sym, subst, ap, ◌∙◌, arith}
 use Rattle.std.specs.Prelude.{IfSome, slice_get}
 use Rattle.std.specs.Cmp.{IsTotalOrder}
 use Rattle.std.specs.List.{All, Contains}
@@ -15,25 +15,24 @@ use Rattle.rx_fields.specs.Numbered.{Span}
 use Rattle.rx_fields.specs.Order.{id_cmp, key_cmp}
 use Rattle.rx_fields.specs.declared.key.Key.{Key}
 use Rattle.rx_order.specs.Ascending.{IsAscending, IsAt, IsGap, has_key, item_at, put}
-use Rattle.rx_order.specs.Overlaid.{HoldsOwn, IsUnder, found_under}
+use Rattle.rx_order.specs.Overlaid.{HoldsOwn}
 use Rattle.rx_order.proofs.Kept.{IsAscending-put}
-use Rattle.rx_order.proofs.LookUps.{item_at-from_contains}
 use Rattle.rx_order.proofs.Overlaid.{item_at-overlaid, length-overlaid, overlaid-put}
 use Rattle.rx_order.proofs.Places.{contains_key-at, has_key-gap, item_at-at, set-at}
 use Rattle.rx_order.proofs.Totals.{All-put, All-without}
 use Rattle.rx_ledger.specs.declared.member.Member.{Member}
 use Rattle.rx_ledger.specs.declared.member.MemberKey.{MemberKey}
 use Rattle.rx_ledger.specs.declared.row.Row.{Row}
-use Rattle.rx_ledger.specs.Ledger.{Ledger, IsLedger, is_taken, row_under, with_row, without_row}
+use Rattle.rx_ledger.specs.Ledger.{Ledger, is_taken, row_under, with_row, without_row}
 use Rattle.rx_ledger.specs.Members.{member_cmp, member_key}
 use Rattle.rx_ledger.specs.Rows.{member_of_row, row_key}
 use Rattle.rx_ledger.specs.Sums.{counted, deductible, deductible_paid, family_deductible, out_of_pocket, paid_by_patient}
 use Rattle.rx_ledger.proofs.Ledgers.{IsLedger-with_row, IsLedger-without_row}
 use Rattle.rx_ledger.proofs.Orders.{id_total, key_exact, key_total, member_exact, member_total}
 use Rattle.rx_books.specs.declared.slot.KeySlot.{KeySlot}
-use Rattle.rx_books.specs.BooksText.{deductibles_of, families_of}
+use Rattle.rx_books.specs.BooksText.{families_of}
 use Rattle.rx_books.specs.OpenBooks.{OpenParts}
-use Rattle.rx_books.specs.Store.{AreFigures, IsSlot, IsStore, family_deductibles_of, held, out_of_pockets_of, slot_key, slot_keys, standing, standing_rows}
+use Rattle.rx_books.specs.Store.{IsSlot, IsStore, held, slot_key, slot_keys, standing, standing_rows}
 use Rattle.rx_books.proofs.Columns.{deductibles-added, deductibles-enough, deductibles-removed, deductibles-room, families-added, families-enough, families-removed, family_deductibles-room, pockets-room}
 use Rattle.rx_books.proofs.FamilyOrder.{itself}
 use Rattle.rx_parcels.proofs.Owned.{no_member}

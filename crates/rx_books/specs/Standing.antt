@@ -7,7 +7,6 @@ use Rattle.rx_fields.specs.declared.key.Key.{Key}
 use Rattle.rx_order.specs.Ascending.{IsAscending}
 use Rattle.rx_ledger.specs.declared.row.Row.{Row}
 use Rattle.rx_ledger.specs.Ledger.{Ledger}
-use Rattle.rx_ledger.specs.Rows.{row_key}
 use Rattle.rx_books.specs.declared.slot.KeySlot.{KeySlot}
 use Rattle.rx_books.specs.Store.{IsSlot, slot_key, standing_rows}
 

@@ -1,5 +1,5 @@
-use Rattle.std.proofs.Common.{◌≡◌, [], ◌∷◌, ◌++◌, ◌≤◌, ◌+◌, length, take, sym, subst, ap, ◌∙◌, arith}
-use Rattle.std.proofs.lemmas.List.{length-append, length-take, take_more}
+use Rattle.std.proofs.Common.{◌≡◌, [], ◌∷◌, ◌++◌, ◌+◌, length, take, sym, subst, ap, ◌∙◌, arith}
+use Rattle.std.proofs.lemmas.List.{length-take, take_more}
 use Rattle.rx_order.specs.Ascending.{IsAscending}
 use Rattle.rx_order.proofs.Kept.{IsAscending-take}
 use Rattle.rx_ledger.specs.Members.{member_cmp, member_key}

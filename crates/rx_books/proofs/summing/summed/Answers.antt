@@ -1,16 +1,14 @@
-use Rattle.std.proofs.Common.{◌≡◌, ◌+◌, ◌≤◌, ◌<◌, ◌^◌, ℕ, List, [], ◌∷◌, ◌++◌, length, Some, refl, sym, subst, ap, ◌∙◌, arith}
-use Rattle.std.specs.Prelude.{slice_get}
+use Rattle.std.proofs.Common.{◌≡◌, ◌<◌, ◌^◌, [], ◌∷◌, ◌++◌, length, sym, subst, ap, ◌∙◌, arith}
 use Rattle.rx_fields.specs.Order.{key_cmp}
 use Rattle.rx_order.specs.Ascending.{IsAt}
 use Rattle.rx_order.proofs.Overlaid.{length-overlaid}
 use Rattle.rx_ledger.specs.Ledger.{Ledger}
 use Rattle.rx_ledger.specs.Members.{member_cmp, member_key}
 use Rattle.rx_ledger.specs.Rows.{member_of_row, row_key}
-use Rattle.rx_ledger.specs.Sums.{counted, deductible_paid, paid_by_patient}
 use Rattle.rx_ledger.proofs.Orders.{key_total}
 use Rattle.rx_books.specs.BooksText.{families_of}
 use Rattle.rx_books.specs.Store.{held, slot_key, standing_rows}
-use Rattle.rx_books.proofs.Adding.{HasRoom, IsCounted, all_counted, counted_none, has_room, one_more}
+use Rattle.rx_books.proofs.Adding.{IsCounted, counted_none, has_room, one_more}
 use Rattle.rx_books.proofs.Openings.{length-names}
 use Rattle.rx_books.proofs.Stored.{home-of}
 use Rattle.rx_books.proofs.summing.summed.Goals as goal

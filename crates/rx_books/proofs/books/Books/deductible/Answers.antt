@@ -1,6 +1,5 @@
-use Rattle.std.proofs.Common.{◌≡◌, ℕ, true, Some, sym, ap, ◌∙◌}
+use Rattle.std.proofs.Common.{◌≡◌, true, Some, sym, ap}
 use Rattle.rx_ledger.specs.Ledger.{is_listed}
-use Rattle.rx_ledger.specs.Sums.{deductible}
 use Rattle.rx_books.proofs.KeptFigures.{deductible-told}
 use Rattle.rx_books.proofs.books.Books.deductible.Goals as goal
 

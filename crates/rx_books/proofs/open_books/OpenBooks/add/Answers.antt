@@ -1,8 +1,8 @@
-use Rattle.std.proofs.Common.{◌≡◌, ◌<◌, ℕ, List, length, false, Some, refl, ◌∙◌, arith}
+use Rattle.std.proofs.Common.{◌≡◌, ◌<◌, length, false, Some, arith}
 use Rattle.std.specs.Prelude.{slice_get}
 use Rattle.std.proofs.lemmas.Option.{slice_get_within}
 use Rattle.rx_order.specs.Ascending.{IsAt}
-use Rattle.rx_ledger.specs.Ledger.{Ledger, is_taken}
+use Rattle.rx_ledger.specs.Ledger.{is_taken}
 use Rattle.rx_ledger.specs.Members.{member_cmp, member_key}
 use Rattle.rx_ledger.specs.Rows.{member_of_row}
 use Rattle.rx_books.specs.BooksText.{families_of}

@@ -1,4 +1,4 @@
-use Rattle.std.proofs.Common.{◌≡◌, sym, ap, ◌∙◌}
+use Rattle.std.proofs.Common.{ap, ◌∙◌}
 use Rattle.std.specs.List.{list_all}
 use Rattle.rx_books.specs.Figures.{has_total}
 use Rattle.rx_books.proofs.KeptFigures.{list_all-names}

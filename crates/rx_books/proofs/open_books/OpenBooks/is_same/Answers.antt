@@ -1,4 +1,4 @@
-use Rattle.std.proofs.Common.{◌≡◌, Decides, refl}
+use Rattle.std.proofs.Common.{◌≡◌, Decides}
 use Rattle.std.specs.Cmp.Lexicographic.{pointwise_decides}
 use Rattle.std.proofs.lemmas.Bool.Decides.{Decides-at}
 use Rattle.rx_ledger.proofs.Decided.{member_decides, period_decides}

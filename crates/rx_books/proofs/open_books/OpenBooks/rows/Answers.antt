@@ -1,9 +1,8 @@
-use Rattle.std.proofs.Common.{◌≡◌, [], ◌++◌, false, true, List, sym, subst, ap, ◌∙◌}
+use Rattle.std.proofs.Common.{◌≡◌, [], ◌++◌, false, true, sym, subst, ap, ◌∙◌}
 use Rattle.std.proofs.lemmas.List.{append-nil}
 use Rattle.rx_fields.specs.Order.{key_cmp}
-use Rattle.rx_order.specs.Ascending.{IsAscending, is_ascending}
+use Rattle.rx_order.specs.Ascending.{IsAscending}
 use Rattle.rx_order.proofs.Kept.{is_ascending-from_fact}
-use Rattle.rx_ledger.specs.declared.row.Row.{Row}
 use Rattle.rx_ledger.specs.Ledger.{Ledger}
 use Rattle.rx_ledger.specs.Rows.{row_key}
 use Rattle.rx_ledger.proofs.Orders.{key_total}

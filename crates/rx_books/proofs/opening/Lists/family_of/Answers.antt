@@ -1,7 +1,5 @@
 use Rattle.std.proofs.Common.{sym, ap, ◌∙◌}
 use Rattle.std.specs.Prelude.{slice_get}
-use Rattle.rx_books.specs.BooksText.{families_of}
-use Rattle.rx_books.specs.LedgerBooks.{has_members}
 use Rattle.rx_books.proofs.Openings.{absent-has, found-has, name_at}
 use Rattle.rx_books.proofs.opening.Lists.family_of.Goals as goal
 
