@@ -137,7 +137,7 @@ module _ {X K S : Type 0} (cmp : K → K → Ordering) (order : IsTotalOrder cmp
   ]
 
   length-written : (xs : List X) (k : K) (o : Option X) → length (written cmp key slot_key held xs k o) ≤ length xs + 1
-  length-written xs k None = 
+  length-written xs k None =
       let p : X → Bool = λ x. not (has_key cmp key k x) in
       omega (arith, length-filter_both p (λ x. not (p x)) (λ x. refl) xs)
   length-written xs k (Some x) = length-put xs x
