@@ -34,11 +34,29 @@ impl Model for Pricing {
 
     ghost Value = { Amounts };
 
-    ghost view = { λ p. record { ingredient_cost = p.ingredient_cost; dispensing_fee = p.dispensing_fee; deductible = p.deductible; copay = p.copay; coinsurance = p.coinsurance } };
+    ghost view = { λ p. record {
+      ingredient_cost = p.ingredient_cost;
+      dispensing_fee = p.dispensing_fee;
+      deductible = p.deductible;
+      copay = p.copay;
+      coinsurance = p.coinsurance;
+    } };
 
-    ghost invariant = { λ p. IsPriced (record { ingredient_cost = p.ingredient_cost; dispensing_fee = p.dispensing_fee; deductible = p.deductible; copay = p.copay; coinsurance = p.coinsurance }) };
+    ghost invariant = { λ p. IsPriced (record {
+      ingredient_cost = p.ingredient_cost;
+      dispensing_fee = p.dispensing_fee;
+      deductible = p.deductible;
+      copay = p.copay;
+      coinsurance = p.coinsurance;
+    }) };
 
-    ghost inverse = { λ a. record { ingredient_cost = a.ingredient_cost; dispensing_fee = a.dispensing_fee; deductible = a.deductible; copay = a.copay; coinsurance = a.coinsurance } };
+    ghost inverse = { λ a. record {
+      ingredient_cost = a.ingredient_cost;
+      dispensing_fee = a.dispensing_fee;
+      deductible = a.deductible;
+      copay = a.copay;
+      coinsurance = a.coinsurance;
+    } };
 }
 
 ghost use Rattle.std.specs.Prelude.{◌+◌, ◌≤◌};
