@@ -92,7 +92,7 @@ impl Ledger {
         ensures rows { result.1 ≡ self.rows }
         ensures within { IsLedger self }
     {
-        let Ledger { members, rows } = self;
+        let Ledger { rows, members } = self;
         (members, rows)
     }
 
