@@ -54,7 +54,7 @@ parts_of version period L =
 abbrev pub books_text : Version → Span → Ledger → List ℕ
 books_text version period L = printed_text (parts_of version period L)
 
--- ---- the parts of version 3, book by book
+-- ---- the parts of version 3
 
 -- lines of version 3
 abbrev pub lines_text : List Line → List ℕ
@@ -73,12 +73,6 @@ total_line_of b =
       deductible = Some (family_deductible_in b.period b.rows);
     }
 
--- the member lines of all books, the lines of the rows, and the total lines
-abbrev pub members_text : List FamilyBook → List ℕ
-members_text books = flat_map (λ b. lines_text (member_lines_of b)) books
-
+-- the lines of the rows
 abbrev pub claims_text : List Row → List ℕ
 claims_text rows = flat_map (λ r. ended (line_text Three (line.Claim r))) rows
-
-abbrev pub totals_text : List FamilyBook → List ℕ
-totals_text books = flat_map (λ b. ended (line_text Three (line.Total (total_line_of b)))) books

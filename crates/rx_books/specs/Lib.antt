@@ -5,4 +5,5 @@ pub mod Figures
 pub mod LedgerBooks
 pub mod OpenBooks
 pub mod Opening
+pub mod Standing
 pub mod Store

@@ -1,10 +1,11 @@
 -- How books are kept: the lists that they were made from, what stands now under a fill key, and the figures beside them.
-use Rattle.std.specs.Prelude.{◌≡◌, ℕ, ◌+◌, ◌<◌, ◌≤◌, ◌^◌, List, Option, Some, None, IfSome, length, map, slice_get, slice_index}
-use Rattle.std.specs.List.{All, fold}
+use Rattle.std.specs.Prelude.{◌≡◌, ℕ, ◌+◌, ◌<◌, ◌≤◌, ◌^◌, List, Option, Some, IfSome, length, map, slice_get, slice_index}
+use Rattle.std.specs.List.{All}
 use Rattle.rx_fields.specs.Numbered.{Span}
 use Rattle.rx_fields.specs.Order.{key_cmp}
 use Rattle.rx_fields.specs.declared.key.Key.{Key}
-use Rattle.rx_order.specs.Ascending.{IsAscending, IsAt, put, without}
+use Rattle.rx_order.specs.Ascending.{IsAscending, IsAt}
+use Rattle.rx_order.specs.Overlaid.{HoldsOwn, overlaid}
 use Rattle.rx_ledger.specs.declared.member.Member.{Member}
 use Rattle.rx_ledger.specs.declared.row.Row.{Row}
 use Rattle.rx_ledger.specs.Ledger.{Ledger, IsLedger}
@@ -16,32 +17,27 @@ use Rattle.rx_books.specs.BooksText.{deductibles_of, families_of}
 
 -- ---- slots
 
--- the rows with this one under the fill key, or with none
-abbrev pub with_held : List Row → Key → Option Row → List Row
-with_held rows key None = without key_cmp row_key rows key
-with_held rows key (Some r) = put key_cmp row_key rows r
-
--- the rows with what a slot holds, and with what each of these slots holds
-abbrev pub with_slot : List Row → KeySlot → List Row
-with_slot rows s = with_held rows s.key s.held
-
-abbrev pub overlaid : List Row → List KeySlot → List Row
-overlaid rows slots = fold with_slot rows slots
-
--- the fill key that a slot is for
+-- the fill key that a slot is for, and what it holds
 abbrev pub slot_key : KeySlot → Key
 slot_key s = s.key
+
+abbrev pub held : KeySlot → Option Row
+held s = s.held
 
 abbrev pub slot_keys : List KeySlot → List Key
 slot_keys slots = map slot_key slots
 
+-- the rows with what each of these slots holds
+abbrev pub standing_rows : List Row → List KeySlot → List Row
+standing_rows rows slots = overlaid key_cmp row_key slot_key held rows slots
+
 -- the ledger that stands: the opening one, with what the slots hold
 abbrev pub standing : Ledger → List KeySlot → Ledger
-standing opening slots = record { members = opening.members; rows = overlaid opening.rows slots }
+standing opening slots = record { members = opening.members; rows = standing_rows opening.rows slots }
 
 -- what the slot holds is under its fill key, and of the member at its place
 pub record IsSlot (members : List Member) (s : KeySlot) : Type 0 where
-  pub under : IfSome s.held (λ r. r.key ≡ s.key)
+  pub under : HoldsOwn key_cmp row_key slot_key held s
   pub holder : IfSome s.held (λ r. IsAt member_cmp member_key members (member_of_row r) s.holder)
 
 -- ---- the lists that books were made from
@@ -89,5 +85,5 @@ pub record IsStore (period : Span) (opening : Ledger) (slots : List KeySlot)
   pub slots_rise : IsAscending key_cmp slot_key slots
   pub slots_own : All (IsSlot opening.members) slots
   pub figures : AreFigures period (standing opening slots) deductibles out_of_pockets family_deductibles
-  pub small : All (λ r. paid_by_patient r ≤ 99_999_999) (overlaid opening.rows slots)
+  pub small : All (λ r. paid_by_patient r ≤ 99_999_999) (standing_rows opening.rows slots)
   pub few : length opening.rows + length slots < 2 ^ 64

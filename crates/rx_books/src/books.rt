@@ -9,32 +9,29 @@ ghost use Rattle.rx_books_text.specs.Printed.{lines_of};
 ghost use Rattle.rx_books.specs.Figures.{books_of, unsummed, wrong_line};
 ghost use Rattle.rx_books.specs.LedgerBooks.{deductible_of_family, deductible_of_member, out_of_pocket_of_family};
 
-use crate::families::FamilyBooks;
-use crate::plain::ledger_of;
-use crate::rows::RowBooks;
+use crate::open_books::OpenBooks;
+use crate::opening::Opening;
 use rx_books_text::{BooksFault, Printed, Version, put_head, read_printed};
 use rx_fields::{Id, Key, Memory, Period, Person};
 use rx_ledger::{Ledger, Row};
+use rx_order::Ascending;
 use std::alloc::Global;
 use std::marker::Model;
 
-/// All books: each standing claim under its fill key, and each family's book with its totals. Contracts see the plain
-/// ledger, and the period that the totals are of (docs/PRODUCT.md, "Accumulators").
+/// All books: the members and the standing claims, with the deductible of each member and the figures of each family
+/// stored beside them. Contracts see the plain ledger, and the period that the totals are of (docs/PRODUCT.md,
+/// "Accumulators").
 #[derive(Debug, Drop)]
 pub struct Books {
-    period: Period,
-    rows: RowBooks,
-    families: FamilyBooks,
+    pub(crate) kept: OpenBooks,
 }
 
 impl Model for Books {
-    ghost use Rattle.rx_books.specs.LedgerBooks.{AreBooks, LedgerBooks, ledger_of};
+    ghost use Rattle.rx_books.specs.LedgerBooks.{LedgerBooks};
 
     ghost Value = { LedgerBooks };
 
-    ghost view = { λ b. record { period = b.period; ledger = ledger_of b.families b.rows } };
-
-    ghost invariant = { λ b. AreBooks b.period b.families b.rows };
+    ghost view = { λ b. b.kept.books };
 }
 
 impl Books {
@@ -42,20 +39,10 @@ impl Books {
     pub fn from_ledger(alloc: Global, ledger: &Ledger, period: Period) -> Result<Books, Memory>
         ensures { IfOk result (λ books. books ≡ record { period = period; ledger = ledger.now }) }
     {
-        let mut families = FamilyBooks::new(alloc);
-        'members: for member in ledger.members() {
-            families.open(alloc, period, member.key.family)?;
-            families.add_member(*member)?;
-        }
-        'rows: for row in ledger.rows() {
-            families.add_row(*row)?;
-        }
-        let rows = RowBooks::of(alloc, ledger.rows())?;
-        Ok(Books {
-            period,
-            rows,
-            families,
-        })
+        let (members, rows) = ledger.copy(alloc)?.into_lists();
+        let opening = Opening::of(alloc, members, rows)?;
+        let kept = OpenBooks::added_up(alloc, period, opening, Ascending::new(alloc))?;
+        Ok(Books { kept })
     }
 
     /// The books of a text, or its first fault (docs/FORMATS.md, "Books file"). A text is accepted exactly where it is the
@@ -102,7 +89,7 @@ impl Books {
         if let Some(at) = self.wrong_total(printed.totals()) {
             return Some(above + at as u64);
         }
-        if self.families.all_have_totals(printed.totals()) {
+        if self.kept.all_have_totals(printed.totals()) {
             return None;
         }
         Some(above + printed.totals().len() as u64)
@@ -112,64 +99,68 @@ impl Books {
     pub fn ledger(&self, alloc: Global) -> Result<Ledger, Memory>
         ensures { IfOk result (λ ledger. ledger ≡ self.now.ledger) }
     {
-        let members = self.families.members(alloc)?;
-        let rows = self.rows.to_list(alloc)?;
-        ledger_of(alloc, &members, &rows)
+        self.kept.ledger(alloc)
     }
 
     /// The same members and rows, with the totals of this period.
     pub fn copy(&self, alloc: Global, period: Period) -> Result<Books, Memory>
         ensures { IfOk result (λ books. books ≡ record { period = period; ledger = self.now.ledger }) }
     {
-        let ledger = self.ledger(alloc)?;
-        Books::from_ledger(alloc, &ledger, period)
+        let kept = self.kept.copy(alloc, period)?;
+        Ok(Books { kept })
+    }
+
+    /// These books, with the totals of this period.
+    pub fn with_period(self, alloc: Global, period: Period) -> Result<Books, Memory>
+        ensures { IfOk result (λ books. books ≡ record { period = period; ledger = self.ledger }) }
+    {
+        let kept = self.kept.with_period(alloc, period)?;
+        Ok(Books { kept })
     }
 
     /// The text of the books, in version 3 (docs/FORMATS.md, "Books file").
     pub fn write(&self, alloc: Global) -> Result<Vec<u8>, Memory>
         ensures { IfOk result (λ text. text.items ≡ books_text Version.Three self.now.period self.now.ledger) }
     {
-        let mut text = Vec::new(alloc);
-        put_head(&mut text, self.period)?;
-        self.families.put_members(&mut text)?;
-        self.rows.put_claims(&mut text)?;
-        self.families.put_totals(&mut text)?;
-        Ok(text)
+        self.kept.write(alloc)
     }
 
     /// The period that the totals are of.
     pub fn period(&self) -> Period
         ensures { result ≡ self.now.period }
     {
-        self.period
+        self.kept.period()
     }
 
     /// The row under a fill key.
     pub fn row(&self, key: &Key) -> Option<&Row>
         ensures { option_copied result ≡ row_under self.now.ledger key.now }
     {
-        self.rows.get(key)
+        self.kept.row(key)
     }
 
     /// The deductible of a person so far, in cents; None where that is no listed member.
     pub fn deductible(&self, family: &Id, person: &Person) -> Option<u128>
         ensures { result ≡ deductible_of_member self.now family.now person.now }
     {
-        self.families.get(family)?.deductible(person)
+        let at = self.kept.member_of(family, person)?;
+        Some(self.kept.deductible_at(at))
     }
 
     /// The out of pocket of a family so far, in cents; None where it has no member.
     pub fn out_of_pocket(&self, family: &Id) -> Option<u128>
         ensures { result ≡ out_of_pocket_of_family self.now family.now }
     {
-        Some(self.families.get(family)?.out_of_pocket())
+        let at = self.kept.family_of(family)?;
+        Some(self.kept.out_of_pocket_at(at))
     }
 
     /// The deductible of a family so far, in cents; None where it has no member.
     pub fn family_deductible(&self, family: &Id) -> Option<u128>
         ensures { result ≡ deductible_of_family self.now family.now }
     {
-        Some(self.families.get(family)?.family_deductible())
+        let at = self.kept.family_of(family)?;
+        Some(self.kept.family_deductible_at(at))
     }
 }
 
@@ -184,9 +175,7 @@ impl PartialEq for Books {
     fn eq(&self, other: &Books) -> bool
         ensures { IsTrue result ↔ (self.now ≡ other.now) }
     {
-        self.period == other.period
-            && self.rows.is_same(&other.rows)
-            && self.families.is_same(&other.families)
+        self.kept.is_same(&other.kept)
     }
 }
 

@@ -11,10 +11,16 @@ ghost use Rattle.rx_books.specs.BooksText.{families_of};
 ghost use Rattle.rx_books.specs.LedgerBooks.{has_members};
 ghost use Rattle.rx_books.specs.OpenBooks.{open_with, open_without};
 
+use crate::amounts::{add_at, take_at};
 use crate::books::Books;
+use crate::opened::{fresh_slots, merged};
+use crate::opening::Opening;
+use crate::slot::{KeySlot, held_at, slot_at};
 use crate::standing::Standing;
+use crate::totals::counted_in;
 use rx_fields::{Id, Key, Memory, Period, Person};
-use rx_ledger::{Member, Row};
+use rx_ledger::{Member, MemberKey, Row};
+use rx_order::Ascending;
 use std::alloc::Global;
 use std::marker::Model;
 
@@ -23,19 +29,26 @@ use std::marker::Model;
 /// families and slots are known by their places, which stay while the books are open.
 #[derive(Debug, Drop)]
 pub struct OpenBooks {
-    period: Period,
+    pub(crate) period: Period,
+    pub(crate) opening: Opening,
+    // What stands now under the fill keys that have a slot.
+    pub(crate) changed: Ascending<KeySlot>,
+    // The members' deductibles, in their order; the families' out of pockets and deductibles, in theirs.
+    pub(crate) deductibles: Vec<u128>,
+    pub(crate) out_of_pockets: Vec<u128>,
+    pub(crate) family_deductibles: Vec<u128>,
 }
 
 impl Model for OpenBooks {
-    ghost use Rattle.std.specs.Prelude.{[]};
-    ghost use Rattle.rx_ledger.specs.Ledger.{empty};
     ghost use Rattle.rx_books.specs.OpenBooks.{OpenParts};
 
     ghost Value = { OpenParts };
 
-    ghost view = { λ b. record { books = record { period = b.period; ledger = empty }; slots = [] } };
+    ghost use Rattle.rx_books.specs.Store.{IsStore, slot_keys, standing};
 
-    ghost invariant = { λ b. ⊥ };
+    ghost view = { λ b. record { books = record { period = b.period; ledger = standing b.opening b.changed }; slots = slot_keys b.changed } };
+
+    ghost invariant = { λ b. IsStore b.period b.opening b.changed b.deductibles.items b.out_of_pockets.items b.family_deductibles.items };
 }
 
 impl Books {
@@ -54,16 +67,14 @@ impl OpenBooks {
     pub fn period(&self) -> Period
         ensures { result ≡ self.now.books.period }
     {
-        let _period = self.period;
-        unreachable!()
+        self.period
     }
 
     /// The books, closed. It takes no memory.
     pub fn close(self) -> Books
         ensures { result ≡ self.books }
     {
-        let _period = self.period;
-        unreachable!()
+        Books { kept: self }
     }
 
     /// The place of a fill key's slot; None where the key has none.
@@ -71,8 +82,10 @@ impl OpenBooks {
         ensures found { IfSome result (λ at. slice_get self.now.slots at ≡ Some key.now) }
         ensures absent { IfNone result (¬ Contains self.now.slots key.now) }
     {
-        let _period = self.period;
-        unreachable!()
+        match self.changed.place(key) {
+            Ok(at) => Some(at),
+            Err(_) => None,
+        }
     }
 
     /// The fill key of a slot.
@@ -80,8 +93,7 @@ impl OpenBooks {
         requires { slot < length self.now.slots }
         ensures { slice_get self.now.slots slot ≡ Some result }
     {
-        let _period = self.period;
-        unreachable!()
+        self.changed.as_slice()[slot].key
     }
 
     /// The row that stands under a slot's fill key.
@@ -89,8 +101,7 @@ impl OpenBooks {
         requires { slot < length self.now.slots }
         ensures { IfSome (slice_get self.now.slots slot) (λ key. option_copied result ≡ row_under self.now.books.ledger key) }
     {
-        let _period = self.period;
-        unreachable!()
+        held_at(&self.changed, slot)
     }
 
     /// The place of a listed member.
@@ -98,8 +109,10 @@ impl OpenBooks {
         ensures found { IfSome result (IsAt member_cmp member_key self.now.books.ledger.members (record { family = family.now; person = person.now })) }
         ensures listed { is_some result ≡ is_listed self.now.books.ledger (record { family = family.now; person = person.now }) }
     {
-        let _period = self.period;
-        unreachable!()
+        self.opening.member_of(&MemberKey {
+            family: *family,
+            person: *person,
+        })
     }
 
     /// The member at a place.
@@ -107,8 +120,7 @@ impl OpenBooks {
         requires { place < length self.now.books.ledger.members }
         ensures { slice_get self.now.books.ledger.members place ≡ Some result.now }
     {
-        let _period = self.period;
-        unreachable!()
+        &self.opening.members().as_slice()[place]
     }
 
     /// The place of a family that has a member, among the families in order.
@@ -116,8 +128,7 @@ impl OpenBooks {
         ensures found { IfSome result (λ at. slice_get (families_of self.now.books.ledger.members) at ≡ Some family.now) }
         ensures listed { is_some result ≡ has_members self.now.books.ledger family.now }
     {
-        let _period = self.period;
-        unreachable!()
+        self.opening.family_of(family)
     }
 
     /// The place of the family of the member at a place.
@@ -125,8 +136,7 @@ impl OpenBooks {
         requires { place < length self.now.books.ledger.members }
         ensures { IfSome (slice_get self.now.books.ledger.members place) (λ m. slice_get (families_of self.now.books.ledger.members) result ≡ Some m.key.family) }
     {
-        let _period = self.period;
-        unreachable!()
+        self.opening.home(place)
     }
 
     /// The deductible so far of the member at a place, in cents.
@@ -134,8 +144,7 @@ impl OpenBooks {
         requires { member < length self.now.books.ledger.members }
         ensures { IfSome (slice_get self.now.books.ledger.members member) (λ m. result ≡ deductible self.now.books.period self.now.books.ledger m.key.family m.key.person) }
     {
-        let _period = self.period;
-        unreachable!()
+        self.deductibles[member]
     }
 
     /// The out of pocket so far of the family at a place, in cents.
@@ -143,8 +152,7 @@ impl OpenBooks {
         requires { family < length (families_of self.now.books.ledger.members) }
         ensures { IfSome (slice_get (families_of self.now.books.ledger.members) family) (λ f. result ≡ out_of_pocket self.now.books.period self.now.books.ledger f) }
     {
-        let _period = self.period;
-        unreachable!()
+        self.out_of_pockets[family]
     }
 
     /// The deductible so far of the family at a place, in cents.
@@ -152,8 +160,7 @@ impl OpenBooks {
         requires { family < length (families_of self.now.books.ledger.members) }
         ensures { IfSome (slice_get (families_of self.now.books.ledger.members) family) (λ f. result ≡ family_deductible self.now.books.period self.now.books.ledger f) }
     {
-        let _period = self.period;
-        unreachable!()
+        self.family_deductibles[family]
     }
 
     /// Goes over the rows that stand, in order, each with the place of its member.
@@ -161,8 +168,7 @@ impl OpenBooks {
         ensures value { result ≡ self.now.books.ledger }
         ensures within { IsLedger self.now.books.ledger }
     {
-        let _period = self.period;
-        unreachable!()
+        Standing::of(&self.opening, self.changed.as_slice())
     }
 
     /// Adds a standing claim under its fill key, which is free and has a slot: it counts from now on. `slot` is the place
@@ -174,8 +180,16 @@ impl OpenBooks {
         requires family { slice_get (families_of self.old.books.ledger.members) family ≡ Some row.family }
         ensures { self.new ≡ open_with self.old row }
     {
-        let _period = self.period;
-        unreachable!()
+        let counted = counted_in(self.period, &row);
+        let filled = KeySlot {
+            key: row.key,
+            held: Some(row),
+            holder: self.opening.kept_place(member),
+        };
+        self.changed.replace_at(slot, filled);
+        add_at(&mut self.deductibles, member, counted.deductible);
+        add_at(&mut self.out_of_pockets, family, counted.out_of_pocket);
+        add_at(&mut self.family_deductibles, family, counted.deductible);
     }
 
     /// Takes out the row under a slot's fill key: it counts no more. It takes no memory.
@@ -186,7 +200,52 @@ impl OpenBooks {
         ensures row { row_under self.old.books.ledger result.key ≡ Some result }
         ensures books { self.new ≡ open_without self.old result.key }
     {
-        let _period = self.period;
-        unreachable!()
+        let found = slot_at(&self.changed, slot);
+        let held = found.held;
+        let row = match held {
+            Some(row) => row,
+            None => unreachable!(),
+        };
+        let member = found.holder as usize;
+        let family = self.opening.home(member);
+        let counted = counted_in(self.period, &row);
+        let emptied = KeySlot {
+            key: found.key,
+            held: None,
+            holder: found.holder,
+        };
+        self.changed.replace_at(slot, emptied);
+        take_at(&mut self.deductibles, member, counted.deductible);
+        take_at(&mut self.out_of_pockets, family, counted.out_of_pocket);
+        take_at(&mut self.family_deductibles, family, counted.deductible);
+        row
+    }
+
+    /// The same books, with a slot for each of these fill keys too.
+    pub(crate) fn opened(self, alloc: Global, keys: &[Key]) -> Result<OpenBooks, Memory>
+        requires { IsAscending key_cmp (λ key. key) keys.now }
+        ensures same { IfOk result (λ opened. opened.books ≡ self.books) }
+        ensures slots { IfOk result (λ opened. All (Contains opened.slots) keys.now) }
+    {
+        let OpenBooks {
+            period,
+            opening,
+            changed,
+            deductibles,
+            out_of_pockets,
+            family_deductibles,
+        } = self;
+        let fresh = fresh_slots(alloc, &opening, keys)?;
+        let changed = merged(alloc, &fresh, changed.as_slice())?;
+        let _rows = opening.rows().len();
+        let _slots = changed.len();
+        Ok(OpenBooks {
+            period,
+            opening,
+            changed,
+            deductibles,
+            out_of_pockets,
+            family_deductibles,
+        })
     }
 }

@@ -78,6 +78,24 @@ impl Ledger {
         }
     }
 
+    /// The ledger of these members and rows, where the member of each row is listed. It takes no memory.
+    pub fn from_lists(members: Ascending<Member>, rows: Ascending<Row>) -> Ledger
+        requires { IsLedger (record { members = members; rows = rows }) }
+        ensures { result ≡ record { members = members; rows = rows } }
+    {
+        Ledger { members, rows }
+    }
+
+    /// The two lists. It takes no memory.
+    pub fn into_lists(self) -> (Ascending<Member>, Ascending<Row>)
+        ensures members { result.0 ≡ self.members }
+        ensures rows { result.1 ≡ self.rows }
+        ensures within { IsLedger self }
+    {
+        let Ledger { members, rows } = self;
+        (members, rows)
+    }
+
     /// The members, ascending by family and person.
     pub fn members(&self) -> &[Member]
         ensures value { result.now ≡ self.now.members }
@@ -130,7 +148,7 @@ impl Ledger {
     {
         let members = self.members.to_copy(alloc)?;
         let rows = self.rows.to_copy(alloc)?;
-        Ok(Ledger { members, rows })
+        Ok(Ledger::from_lists(members, rows))
     }
 
     /// The row under a fill key.

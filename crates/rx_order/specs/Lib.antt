@@ -2,3 +2,5 @@ pub mod Ascending
 pub mod InsertError
 pub mod Joined
 pub mod Orders
+pub mod Overlaid
+pub mod Runs

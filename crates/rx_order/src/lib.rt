@@ -14,7 +14,9 @@
 #![tactic(auto)]
 
 mod list;
+mod runs;
 mod slices;
 
 pub use list::{Ascending, InsertError};
+pub use runs::Runs;
 pub use slices::{Keyed, is_ascending, place_of};

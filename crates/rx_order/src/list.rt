@@ -1,4 +1,4 @@
-ghost use Rattle.std.specs.Prelude.{◌≡◌, ◌<◌, ◌^◌, ◌++◌, ◌∷◌, ◌==◌, [], IfErr, IfOk, IsTrue, OnErr, OnOk};
+ghost use Rattle.std.specs.Prelude.{◌≡◌, ◌<◌, ◌^◌, ◌++◌, ◌∷◌, ◌==◌, [], IfErr, IfOk, IsTrue, OnErr, OnOk, Some};
 ghost use Rattle.std.specs.Prelude.{is_ok, length};
 ghost use Rattle.std.specs.Iterator.Adapters.{IterYieldsInOrder};
 ghost use Rattle.std.specs.Option.{ok_or, option_copied};
@@ -7,7 +7,7 @@ ghost use Rattle.rx_order.specs.Ascending.{IsAscending, IsAt, IsGap, contains_ke
 ghost use Rattle.rx_order.specs.Ascending.{item_at, put, without};
 ghost use Rattle.rx_order.specs.InsertError.{is_there, refused_item};
 
-use crate::slices::{Keyed, is_ascending, place_of};
+use crate::slices::{Keyed, is_ascending, is_past, place_of};
 use std::alloc::{AllocError, AllocFailed, Global};
 use std::marker::Model;
 use std::slice::Iter;
@@ -151,10 +151,7 @@ impl<T: Keyed> Ascending<T> {
     pub fn is_past(&self, key: &T::Key) -> bool
         ensures { result ≡ is_past T.Key.cmp T.key_of self.now key.now }
     {
-        match self.items.last() {
-            Some(last) => last.key().cmp(key).is_lt(),
-            None => true,
-        }
+        is_past(&self.items, key)
     }
 
     /// Puts an item with a new key in its place. One whose key is there is refused before memory is asked for.
@@ -199,6 +196,18 @@ impl<T: Keyed> Ascending<T> {
             Ok(at) => Ok(std::mem::replace(&mut self.items[at], item)),
             Err(_) => Err(item),
         }
+    }
+
+    /// Writes the item at the place of its key, which was looked up before. The item that was there comes back. It takes
+    /// no memory.
+    pub fn replace_at(&mut self, place: usize, item: T) -> T
+        requires { IsAt T.Key.cmp T.key_of self.old (T.key_of item) place }
+        ensures value { item_at T.Key.cmp T.key_of self.old (T.key_of item) ≡ Some result }
+        ensures items { self.new ≡ put T.Key.cmp T.key_of self.old item }
+
+        ensures ascending { IsAscending T.Key.cmp T.key_of self.old }
+    {
+        std::mem::replace(&mut self.items[place], item)
     }
 
     /// Takes the item that has the key out of the list. It takes no memory.

@@ -1,5 +1,5 @@
 ghost use Rattle.std.specs.Prelude.{◌≡◌, IfErr, IfOk};
-ghost use Rattle.rx_order.specs.Ascending.{IsAscending, IsAt, IsGap, is_ascending};
+ghost use Rattle.rx_order.specs.Ascending.{IsAscending, IsAt, IsGap, is_ascending, is_past};
 
 /// An item that has a key, as a row of a table.
 pub trait Keyed {
@@ -27,4 +27,15 @@ pub fn place_of<T: Keyed>(items: &[T], key: &T::Key) -> Result<usize, usize>
     ensures absent { IfErr result (IsGap T.Key.cmp T.key_of items.now key.now) }
 {
     items.binary_search_by_key(key, |item| item.key())
+}
+
+// Whether each item's key is less than this one. It looks at the last item alone.
+pub(crate) fn is_past<T: Keyed>(items: &[T], key: &T::Key) -> bool
+    requires { IsAscending T.Key.cmp T.key_of items.now }
+    ensures { result ≡ is_past T.Key.cmp T.key_of items.now key.now }
+{
+    match items.last() {
+        Some(last) => last.key().cmp(key).is_lt(),
+        None => true,
+    }
 }

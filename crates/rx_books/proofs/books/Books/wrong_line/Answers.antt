@@ -6,10 +6,8 @@ use Rattle.rx_books_text.specs.declared.line.Line.TheVariants as line
 use Rattle.rx_books_text.specs.declared.line.TotalLine.{TotalLine}
 use Rattle.rx_books_text.specs.Printed.{PrintedParts, member_lines}
 use Rattle.rx_books.specs.BooksText.{families_of}
-use Rattle.rx_books.specs.FamilyBook.{FamilyBook}
 use Rattle.rx_books.specs.Figures.{are_sums, has_all_totals, has_total, unsummed}
-use Rattle.rx_books.specs.LedgerBooks.{LedgerBooks, ledger_of}
-use Rattle.rx_books.proofs.Missing.{all_totals}
+use Rattle.rx_books.specs.LedgerBooks.{LedgerBooks}
 use Rattle.rx_books.proofs.Wrong.{none-wrong, one-missing, wrong-member, wrong-total}
 use Rattle.rx_books.proofs.books.Books.wrong_line.Goals as goal
 
@@ -57,12 +55,9 @@ returns-then-all_have_totals c =
     let none = members_said p c.args.self.now c.requires.own _ _ _ c.wrong_member.ensures ms c.deductibles.ensures
     ∙ c.in_default.is in
     let second = totals_said p c.args.self.now c.requires.own _ _ c.wrong_total.ensures c.totals.ensures.value in
-    let each = all_totals c.self.inside.period (ledger_of c.self.inside.families c.self.inside.rows)
-    c.self.inside.families c.self.invariant.families p.totals in
-    let own : ledger_of c.self.inside.families c.self.inside.rows ≡ p.ledger =
-    ap (λ (b : LedgerBooks). b.ledger) (c.self.view_is ∙ c.requires.own) in
+    let own : c.self.inside.kept.books.ledger ≡ p.ledger = ap (λ (b : LedgerBooks). b.ledger) (c.self.view_is ∙ c.requires.own) in
     let has : c.all_have_totals.result ≡ has_all_totals p = c.all_have_totals.ensures
-    ∙ ap (λ ts. list_all (λ (b : FamilyBook). has_total ts b.family) c.self.inside.families) c.totals-2.ensures.value ∙ each
+    ∙ ap (λ ts. list_all (has_total ts) (families_of c.self.inside.kept.books.ledger.members)) c.totals-2.ensures.value
     ∙ ap (λ (L : Ledger). list_all (has_total p.totals) (families_of L.members)) own in
     sym (none-wrong p c.requires.one_each none (second ∙ c.in_default-wrong_total.is)
     (sym has ∙ c.if-all_have_totals.true))
@@ -76,12 +71,9 @@ returns c =
     let second = totals_said p c.args.self.now c.requires.own _ _ c.wrong_total.ensures c.totals.ensures.value in
     let lm = ap length ms in
     let lr = ap length (c.rows-rows.ensures.value ∙ ap (λ (L : Ledger). L.rows) c.ledger-2.ensures) in
-    let each = all_totals c.self.inside.period (ledger_of c.self.inside.families c.self.inside.rows)
-    c.self.inside.families c.self.invariant.families p.totals in
-    let own : ledger_of c.self.inside.families c.self.inside.rows ≡ p.ledger =
-    ap (λ (b : LedgerBooks). b.ledger) (c.self.view_is ∙ c.requires.own) in
+    let own : c.self.inside.kept.books.ledger ≡ p.ledger = ap (λ (b : LedgerBooks). b.ledger) (c.self.view_is ∙ c.requires.own) in
     let has : c.all_have_totals.result ≡ has_all_totals p = c.all_have_totals.ensures
-    ∙ ap (λ ts. list_all (λ (b : FamilyBook). has_total ts b.family) c.self.inside.families) c.totals-2.ensures.value ∙ each
+    ∙ ap (λ ts. list_all (has_total ts) (families_of c.self.inside.kept.books.ledger.members)) c.totals-2.ensures.value
     ∙ ap (λ (L : Ledger). list_all (has_total p.totals) (families_of L.members)) own in
     let missing = one-missing p c.requires.one_each none (second ∙ c.in_default-wrong_total.is)
     (sym has ∙ c.if-all_have_totals.false) in

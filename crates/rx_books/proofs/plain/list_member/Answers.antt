@@ -1,7 +1,0 @@
-use Rattle.std.proofs.Common.{Err, ap, ◌∙◌}
-use Rattle.rx_ledger.proofs.Refusals.{fails}
-use Rattle.rx_books.proofs.plain.list_member.Goals as goal
-
-pub unreachable-requires : goal.unreachable-requires
-unreachable-requires c =
-    fails _ c.requires (c.add_member.ensures.there.0 (c.in-Err-There.is ∙ ap Err c.in-Err-There.field-0-is))
