@@ -1,7 +1,7 @@
-ghost use Rattle.std.specs.Prelude.{◌≡◌, ◌≤◌, OnErr, OnOk};
+ghost use Rattle.std.specs.Prelude.{◌≡◌, ◌≤◌, Bool, OnErr, OnOk, true};
 ghost use Rattle.std.specs.List.{list_any};
-ghost use Rattle.rx_order.specs.Ascending.{IsAscending};
-ghost use Rattle.rx_in_order.specs.Fills.{concerns, concerns_person, count_at, counts, fill_cmp, fill_key, fill_of, lowered, raised};
+ghost use Rattle.rx_in_order.specs.declared.fill.Fill.{Fill};
+ghost use Rattle.rx_in_order.specs.Fills.{concerns, concerns_person, count_at, counts, fill_of, lowered, raised};
 
 use rx_claim::Bill;
 use rx_fields::{Day, Days, Memory, Product};
@@ -110,13 +110,35 @@ pub(crate) fn is_any_too_soon(
     bill: &Bill,
 ) -> bool
     requires { figures.now.refill_percent ≤ 100 }
-    ensures value { result ≡ list_any (counts figures.now date bill.now) fills.now }
-    ensures rise { IsAscending fill_cmp fill_key fills.now }
+    ensures { result ≡ list_any (counts figures.now date bill.now) fills.now }
 {
-    fills
-        .as_slice()
+    let parts = bill.parts();
+    let member = MemberKey {
+        family: parts.family,
+        person: parts.person,
+    };
+    let course = Course {
+        member,
+        product: parts.product,
+    };
+    of_course(fills, course)
         .iter()
         .any(|fill| counts(figures, date, bill, fill))
+}
+
+// The fills of a member with a product, found by binary search: whatever is only of that course is among them.
+fn of_course(fills: &Ascending<Fill>, course: Course) -> &[Fill]
+    ensures { (test : Fill → Bool) → ((f : Fill) → test f ≡ true → f.key.dated.course ≡ course)
+        → list_any test result.now ≡ list_any test fills.now }
+{
+    let list = fills.as_slice();
+    let first = list.partition_point(|fill| fill.key.dated.course < course);
+    let end = list.partition_point(|fill| fill.key.dated.course <= course);
+    if first <= end {
+        &list[first..end]
+    } else {
+        list
+    }
 }
 
 // Whether there is a standing claim that is such a fill.

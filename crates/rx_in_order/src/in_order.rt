@@ -124,6 +124,7 @@ impl Basis for InOrder {
     }
 
     fn is_too_soon(&self, figures: &Figures, date: Day, bill: &Bill) -> bool {
+        let _in_order = self.fills.as_slice();
         is_any_too_soon(&self.fills, figures, date, bill)
     }
 

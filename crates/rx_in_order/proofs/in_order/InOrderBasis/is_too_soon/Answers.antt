@@ -17,8 +17,8 @@ returns c =
     let date = c.args.date in
     let b = c.args.bill.now in
     let billed = rw (← c.self.view_is) at c.requires.member in
-    let filled = any_filled (is_billed o.billed.items) rows o.fills (concerns f date b) c.is_any_too_soon.ensures.rise
+    let filled = any_filled (is_billed o.billed.items) rows o.fills (concerns f date b) c.as_slice-in_order.ensures.ascending
     c.self.invariant.counted
     (λ k h. ap (is_billed o.billed.items) (concerned_member f date b k h) ∙ billed) in
     rw (← c.self.view_is)
-    (c.is_any_too_soon.ensures.value ∙ filled ∙ any_of_passed (claimed_by b.family) (is_too_soon f date b) rows)
+    (c.is_any_too_soon.ensures ∙ filled ∙ any_of_passed (claimed_by b.family) (is_too_soon f date b) rows)
