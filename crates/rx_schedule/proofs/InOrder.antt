@@ -1,8 +1,9 @@
 -- The ascending list of some items is told by which items are among them.
-use Rattle.std.proofs.Common.{◌≡◌, true, cond, ◌||◌, List, [], ◌∷◌, Some, None, refl, ap, sym, ◌∙◌, inl, inr}
+use Rattle.std.proofs.Common.{false, Bool, ◌≡◌, true, cond, ◌||◌, List, [], ◌∷◌, Some, None, refl, ap, sym, ◌∙◌, inl, inr}
 use Rattle.std.specs.Cmp.{IsTotalOrder}
 use Rattle.std.specs.List.{AllByRecursion, dedup, list_any}
 use Rattle.std.specs.List.Sorted.{IsPermutation, IsSorted, IsStrictlySortedBy}
+use Rattle.std.specs.Option.{is_some}
 use Rattle.std.specs.Ordering.{eq_by_cmp, is_eq}
 use Rattle.std.specs.declared.cmp.Ordering.{Ordering}
 use Rattle.std.specs.declared.cmp.Ordering.TheVariants.{Less}
@@ -12,7 +13,7 @@ use Rattle.std.proofs.lemmas.List.Kept.{Contains-dedup, Contains-from_dedup, IsS
 use Rattle.std.proofs.lemmas.List.Sorted.{list_any-IsPermutation}
 use Rattle.std.proofs.lemmas.Map.Lookups.{CmpEqualImpliesEq}
 use Rattle.std.proofs.lemmas.Map.Views.{Contains-from_any, list_any-from_Contains}
-use Rattle.rx_order.specs.Ascending.{IsAscending, IsBelow, item_at, put, put_all}
+use Rattle.rx_order.specs.Ascending.{IsAscending, IsBelow, contains_key, item_at, put, put_all}
 use Rattle.rx_order.proofs.Edits.{same_items}
 use Rattle.rx_order.proofs.Keys.{cases_Ordering, Equal-from_is_eq}
 use Rattle.rx_order.proofs.Kept.{IsAscending-put_all}
@@ -60,6 +61,14 @@ module _ {K : Type 0} (cmp : K → K → Ordering) (order : IsTotalOrder cmp) (e
         | inl here ↦ rw (turn, here) (ap Some (sym (exact k x (Equal-from_is_eq _ here))))
         | inr other ↦ rw (turn, other) (found xs k)
       ]
+
+  -- a name of the list is one among it
+  pub named_in : (xs : List K) (k : K) → contains_key cmp itself xs k ≡ list_any (eq_by_cmp cmp k) xs
+  named_in xs k = ap is_some (found xs k) ∙ told_some (list_any (eq_by_cmp cmp k) xs)
+    where
+      told_some : (b : Bool) → is_some (cond b (Some k) None) ≡ b
+      told_some true = refl
+      told_some false = refl
 
   -- ascending lists that have the same items are one
   pub one_list : (xs ys : List K) → IsAscending cmp itself xs → IsAscending cmp itself ys

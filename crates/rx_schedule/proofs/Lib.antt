@@ -1,3 +1,4 @@
+pub mod Holder
 pub mod InOrder
 pub mod MarkedNames
 pub mod Noted

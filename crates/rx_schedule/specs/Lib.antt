@@ -1,5 +1,6 @@
 pub mod Billed
 pub mod Footprints
+pub mod Jobs
 pub mod Machine
 pub mod Marked
 pub mod Waves

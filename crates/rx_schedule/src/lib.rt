@@ -14,6 +14,7 @@
 
 mod billers;
 mod event;
+mod law;
 mod marks;
 mod naming;
 mod ordered;
@@ -21,6 +22,7 @@ mod wave_numbers;
 mod wave_plan;
 
 pub use event::Event;
+pub use law::{law_of_holder, law_of_standing, law_of_waves};
 pub use naming::footprints;
 pub use wave_numbers::Waves;
 pub use wave_plan::waves;

@@ -3,6 +3,7 @@
 //! ```text
 //! rxbatch run --sheet F --books F --batch F --stamp S --workers N --response F --books-out F --settlement F [--plain]
 //! rxbatch show --sheet F --batch F      a line for each transaction
+//! rxbatch plan --sheet F --books F --batch F      the waves of the records, and the chain
 //! rxbatch sample                        the reply to the base claim, on one line
 //! ```
 //!
@@ -38,7 +39,7 @@ fn perform<R: Threads + Wait + Sync>(rt: &HostRuntime, threads: &R) -> Result<()
         Ok(Command::Run(words)) => running::run(rt, threads, &words),
         Ok(Command::Show(words)) => printing::show(rt, &words),
         Ok(Command::Sample) => printing::sample(rt),
-        Ok(Command::Plan(_)) => Err(Ending::Unknown),
+        Ok(Command::Plan(words)) => printing::plan(rt, &words),
         Err(fault) => Err(Ending::Words(fault)),
     }
 }

@@ -1,0 +1,50 @@
+ghost use Rattle.std.specs.Prelude.{◌≡◌, ◌≤◌, ℕ, List, Some, length, true};
+ghost use Rattle.rx_fields.specs.Numbered.{LotParts};
+ghost use Rattle.rx_claim.specs.declared.transmission.Transmission.{Transmission};
+ghost use Rattle.rx_ledger.specs.Fold.{fold_ledger};
+ghost use Rattle.rx_ledger.specs.Ledger.{Ledger};
+ghost use Rattle.rx_ledger.specs.Plan.{Plan};
+ghost use Rattle.rx_parcels.specs.Books.{Book, IsInOrder, book};
+ghost use Rattle.rx_parcels.specs.Footprints.{fits};
+ghost use Rattle.rx_schedule.specs.Footprints.{footprint_at, record_at};
+ghost use Rattle.rx_schedule.specs.Jobs.{IsHeld, job, ledger_before, reply_at};
+ghost use Rattle.rx_schedule.specs.Machine.{GoesByNumber, IsNumbering, IsOrder, IsPlace, KeepsFileOrder};
+ghost use Rattle.rx_schedule.specs.Machine.{one_by_one, replay};
+
+/// At each point of the fold the row under a fill key, if there is one, is of the opening row's family or of the family
+/// of an earlier billing with that key; so the footprint of a record fits it there.
+pub fn law_of_holder()
+    ensures row { (lot : LotParts) → (plan : Plan) → (L : Ledger) → (records : List Transmission) → (place : ℕ)
+        → 1 ≤ place → place ≤ length records → IsHeld lot plan L records place }
+    ensures fits { (lot : LotParts) → (plan : Plan) → (L : Ledger) → (records : List Transmission) → (place : ℕ)
+        → 1 ≤ place → place ≤ length records
+        → fits (footprint_at L records place) (record_at records place) (ledger_before lot plan L records place) ≡ true }
+{}
+
+/// In every order of the records in which sharers keep their file order, each record finds its books as the fold has
+/// them before it: so all replies are the fold's, and all books are those of the fold's ledger.
+pub fn law_of_standing()
+    ensures books { (lot : LotParts) → (plan : Plan) → (L : Ledger) → (records : List Transmission) → IsInOrder L
+        → (order : List ℕ) → IsOrder (job lot plan L records) order → KeepsFileOrder (job lot plan L records) order
+        → (b : Book) → (replay (job lot plan L records) (one_by_one order)).books b
+        ≡ book b (fold_ledger lot plan 1 records L) }
+    ensures replies { (lot : LotParts) → (plan : Plan) → (L : Ledger) → (records : List Transmission) → IsInOrder L
+        → (order : List ℕ) → IsOrder (job lot plan L records) order → KeepsFileOrder (job lot plan L records) order
+        → (place : ℕ) → IsPlace (job lot plan L records) place
+        → (replay (job lot plan L records) (one_by_one order)).replies place ≡ Some (reply_at lot plan L records place) }
+{}
+
+/// For every valid numbering, the records taken by number, and in any order within one number, give the fold's replies
+/// and the books of the fold's ledger.
+pub fn law_of_waves()
+    ensures books { (lot : LotParts) → (plan : Plan) → (L : Ledger) → (records : List Transmission) → IsInOrder L
+        → (number : ℕ → ℕ) → (order : List ℕ) → IsNumbering (job lot plan L records) number
+        → IsOrder (job lot plan L records) order → GoesByNumber number order
+        → (b : Book) → (replay (job lot plan L records) (one_by_one order)).books b
+        ≡ book b (fold_ledger lot plan 1 records L) }
+    ensures replies { (lot : LotParts) → (plan : Plan) → (L : Ledger) → (records : List Transmission) → IsInOrder L
+        → (number : ℕ → ℕ) → (order : List ℕ) → IsNumbering (job lot plan L records) number
+        → IsOrder (job lot plan L records) order → GoesByNumber number order
+        → (place : ℕ) → IsPlace (job lot plan L records) place
+        → (replay (job lot plan L records) (one_by_one order)).replies place ≡ Some (reply_at lot plan L records place) }
+{}
