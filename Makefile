@@ -10,7 +10,7 @@ test:
 cases:
 	test -x $(PROGRAM) || (cd crates/rxbatch && rt run -- sample)
 	python3 tests/run_paths.py $(PROGRAM)
-	python3 tests/run_cases.py $(PROGRAM)
+	python3 tests/run_cases.py $(PROGRAM) --plan
 
 demo:
 	cd crates/rxbatch && rt run -- sample

@@ -4,8 +4,6 @@ use rx_words::WordsFault;
 /// How the program ends where its work isn't done (docs/PRODUCT.md, "The program").
 #[derive(Debug, Drop)]
 pub enum Ending {
-    /// The words ask for what isn't there; no word of it.
-    Unknown,
     /// A word of the command line is no text.
     NoText,
     /// The files of these two options are one plain file, as far as the system tells.
@@ -22,7 +20,7 @@ impl Ending {
     /// The exit status: 1 for a refused run, 2 for words, 3 for a file.
     pub fn status(&self) -> u8 {
         match self {
-            Ending::Unknown | Ending::NoText | Ending::OneFile(..) => 2,
+            Ending::NoText | Ending::OneFile(..) => 2,
             Ending::Words(WordsFault::Words(_)) => 2,
             Ending::Words(WordsFault::Memory) => 1,
             Ending::Io(fault) => told(fault).status,
@@ -33,7 +31,6 @@ impl Ending {
     /// Writes the line or the text of it to standard error.
     pub fn tell(&self, rt: &HostRuntime) {
         let _ = match self {
-            Ending::Unknown => Ok(()),
             Ending::NoText => eprintln!(rt; "rxbatch: a word of the command line is no text"),
             Ending::OneFile(one, other) => eprintln!(rt; "rxbatch: {one} and {other} are one file"),
             Ending::Words(fault) => eprint!(rt; "{fault}"),
