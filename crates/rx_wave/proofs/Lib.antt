@@ -1,2 +1,3 @@
 -- Laws of lists of results.
 pub mod Gathered
+pub mod Records
