@@ -1,4 +1,4 @@
--- Want of a thread is no answer to the number of workers or the stamp.
+-- Want of a thread is no answer to the number of workers, the stamp or the batch.
 use Rattle.std.proofs.Common.{◌≡◌, ℕ, Bool, true, false, List, Option, Some, None, Result, Ok, Err, refl, sym, ap, ◌∙◌, inl, inr}
 use Rattle.std.specs.Option.{ok_or}
 use Rattle.std.proofs.lemmas.Bool.{cases_Bool, false≢true}
@@ -6,6 +6,9 @@ use Rattle.rx_fields.specs.Clock.{stamp_of}
 use Rattle.rx_fields.specs.declared.stamp.Stamp.{Stamp}
 use Rattle.rx_switch.specs.declared.fault.SwitchFault.{SwitchFault}
 use Rattle.rx_switch.specs.declared.fault.SwitchFault.TheVariants as fault
+use Rattle.rx_batch.specs.declared.fault.BatchFault.{BatchFault}
+use Rattle.rx_batch.specs.declared.fault.BatchFault.TheVariants as batch
+use Rattle.rx_switch.specs.Fault.{of_batch}
 use Rattle.rx_switch.specs.Output.{are_workers, stamp_for}
 
 abbrev is_thread : Result Stamp SwitchFault → Bool
@@ -30,3 +33,19 @@ is_never_thread workers stamp = elim (cases_Bool (are_workers workers)) [
 
 pub never_thread : (workers : ℕ) (stamp : List ℕ) → ¬ (stamp_for workers stamp ≡ Err fault.Thread)
 never_thread workers stamp e = false≢true (sym (is_never_thread workers stamp) ∙ ap is_thread e)
+
+-- nor to the batch
+pub no_batch_thread : (f : BatchFault) → fault.Thread ≡ of_batch f → ⊥
+no_batch_thread (batch.Outside at) e = absurd cc
+no_batch_thread (batch.NoHeader at) e = absurd cc
+no_batch_thread (batch.HeaderShape at) e = absurd cc
+no_batch_thread (batch.Unclosed at) e = absurd cc
+no_batch_thread (batch.RecordKind at) e = absurd cc
+no_batch_thread (batch.DetailShape at) e = absurd cc
+no_batch_thread (batch.TrailerShape at) e = absurd cc
+no_batch_thread (batch.NoTrailer at) e = absurd cc
+no_batch_thread (batch.NumberDiffers at) e = absurd cc
+no_batch_thread (batch.CountDiffers at) e = absurd cc
+no_batch_thread (batch.AfterTrailer at) e = absurd cc
+no_batch_thread (batch.TooMuch at) e = absurd cc
+no_batch_thread batch.Memory e = absurd cc

@@ -6,7 +6,7 @@ ghost use Rattle.rx_switch.specs.Output.{texts_of};
 use crate::job::Output;
 use rx_batch::Batch;
 use rx_books::Books;
-use rx_claim::Transmission;
+use rx_claim::{Reply, Transmission};
 use rx_fields::{Lot, Memory, Stamp};
 use rx_in_order::Finished;
 use rx_ledger::{Sheet, plain_run};
@@ -16,38 +16,29 @@ use rx_wave::{Gate, decode_in_parts, run_one_on};
 use std::alloc::Global;
 use std::thread::Threads;
 
-/// How a batch is adjudicated.
-#[derive(Clone, Copy, Debug)]
-pub(crate) struct Way {
-    /// How many parts each step goes in, beside one another; one part starts no thread.
-    pub(crate) parts: usize,
-    /// Whether to go over plain lists.
-    pub(crate) plain: bool,
-}
-
-/// The texts of adjudicating the details one after another in file order.
+/// The texts of adjudicating the details one after another in file order, on the books themselves or, plainly, over
+/// lists. Decoding and rendering go in so many parts beside one another; one part starts no thread.
 #[tactic(auto, using(crate::proofs::Replied::replied))]
 pub(crate) fn adjudicate<R: Threads + Sync, G: Gate>(
     rt: &R,
     alloc: Global,
     gate: &G,
-    way: Way,
-    stamp: Stamp,
+    parts: usize,
+    plain: bool,
+    stamp: &Stamp,
     sheet: &Sheet,
     books: Books,
     batch: &Batch,
 ) -> Result<Output, Memory>
     requires { length batch.now.details ≤ 100_000 }
-    ensures { IfOk result (λ output. texts_in output ≡ texts_of (inputs_of stamp sheet.now books batch.now)) }
+    ensures { IfOk result (λ output. texts_in output ≡ texts_of (inputs_of stamp.now sheet.now books batch.now)) }
 {
     let details = batch.details.as_slice();
-    let lot = batch.head.lot();
-    let asked = decode_in_parts(rt, alloc, way.parts, sheet.door(), details)?;
-    let finished = finish(alloc, gate, way.plain, lot, sheet, books, &asked)?;
-    let replies = finished.replies.as_slice();
-    let response = response_in_parts(rt, alloc, way.parts, &batch.head, stamp, details, replies)?;
-    let settlement = settle(alloc, lot, stamp, replies)?;
-    let books = finished.books.write(alloc)?;
+    let asked = decode_in_parts(rt, alloc, parts, sheet.door(), details)?;
+    let (books, replies) = finish(alloc, gate, plain, batch.head.lot(), sheet, books, &asked)?;
+    let response = response_in_parts(rt, alloc, parts, &batch.head, *stamp, details, &replies)?;
+    let books = books.write(alloc)?;
+    let settlement = settle(alloc, batch.head.lot(), *stamp, &replies)?;
     Ok(Output {
         response,
         books,
@@ -64,20 +55,21 @@ fn finish<G: Gate>(
     sheet: &Sheet,
     books: Books,
     asked: &[Transmission],
-) -> Result<Finished, Memory>
+) -> Result<(Books, Vec<Reply>), Memory>
     requires { length asked.now ≤ 100_000 }
-    ensures books { IfOk result (λ finished. finished.books ≡ record {
+    ensures books { IfOk result (λ finished. finished.0 ≡ record {
       period = sheet.now.figures.period;
       ledger = fold_ledger lot sheet.now 1 asked.now books.ledger;
     }) }
     ensures replies { IfOk result (λ finished.
-        finished.replies.items ≡ fold_replies lot sheet.now 1 asked.now books.ledger) }
+        finished.1.items ≡ fold_replies lot sheet.now 1 asked.now books.ledger) }
 {
     if plain {
         return finish_plainly(alloc, lot, sheet, &books, asked);
     }
     let books = books.with_period(alloc, sheet.period())?;
-    run_one_on(gate, alloc, lot, sheet, books, asked)
+    let Finished { books, replies } = run_one_on(gate, alloc, lot, sheet, books, asked)?;
+    Ok((books, replies))
 }
 
 // The same over plain lists.
@@ -87,17 +79,17 @@ fn finish_plainly(
     sheet: &Sheet,
     books: &Books,
     asked: &[Transmission],
-) -> Result<Finished, Memory>
+) -> Result<(Books, Vec<Reply>), Memory>
     requires { length asked.now ≤ 100_000 }
-    ensures books { IfOk result (λ finished. finished.books ≡ record {
+    ensures books { IfOk result (λ finished. finished.0 ≡ record {
       period = sheet.now.figures.period;
       ledger = fold_ledger lot sheet.now 1 asked.now books.now.ledger;
     }) }
     ensures replies { IfOk result (λ finished.
-        finished.replies.items ≡ fold_replies lot sheet.now 1 asked.now books.now.ledger) }
+        finished.1.items ≡ fold_replies lot sheet.now 1 asked.now books.now.ledger) }
 {
     let opening = books.ledger(alloc)?;
     let (after, replies) = plain_run(alloc, lot, sheet, &opening, asked)?;
     let books = Books::from_ledger(alloc, &after, sheet.period())?;
-    Ok(Finished { books, replies })
+    Ok((books, replies))
 }

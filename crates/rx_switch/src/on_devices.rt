@@ -9,7 +9,7 @@ ghost use Rattle.rx_switch.specs.Output.{IsOutput, IsRefused, RefusesOne};
 ghost use Rattle.rx_switch.specs.declared.fault.Device.TheVariants as device;
 ghost use Rattle.rx_switch.specs.declared.fault.IoFault.TheVariants as io;
 
-use crate::adjudicating::{Way, adjudicate};
+use crate::adjudicating::adjudicate;
 use crate::fault::{IoFault, SwitchFault};
 use crate::inputs::{ReadInputs, read_inputs};
 use crate::job::Output;
@@ -113,11 +113,8 @@ fn output_of<R: Threads + Wait + Sync, G: Gate + Sync>(
     let sheet = read_sheet(alloc, sheet.as_slice())?;
     let books = Books::read(alloc, books.as_slice())?;
     let batch = finished(batch)?;
-    let way = Way {
-        parts: workers as usize,
-        plain,
-    };
-    Ok(adjudicate(rt, alloc, gate, way, stamp, &sheet, books, &batch)?)
+    let parts = workers as usize;
+    Ok(adjudicate(rt, alloc, gate, parts, plain, &stamp, &sheet, books, &batch)?)
 }
 
 // The batch of the pieces.

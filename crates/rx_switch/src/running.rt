@@ -2,7 +2,7 @@ ghost use Rattle.std.specs.Prelude.{◌≡◌, IfErr, IfOk, Err};
 ghost use Rattle.rx_switch.specs.Job.{given_by, texts_in};
 ghost use Rattle.rx_switch.specs.Output.{IsOutput, IsRefused, RefusesOne, stamp_for};
 
-use crate::adjudicating::{Way, adjudicate};
+use crate::adjudicating::adjudicate;
 use crate::fault::SwitchFault;
 use crate::job::{Job, Output};
 use rx_batch::read_batch;
@@ -41,11 +41,10 @@ pub fn run<R: Threads + Wait + Sync, G: Gate + Sync>(
     let sheet = read_sheet(alloc, job.sheet)?;
     let books = Books::read(alloc, job.books)?;
     let batch = read_batch(alloc, job.batch)?;
-    let way = Way {
-        parts: job.workers as usize,
-        plain: job.plain,
-    };
-    Ok(adjudicate(rt, alloc, gate, way, stamp, &sheet, books, &batch)?)
+    let parts = job.workers as usize;
+    Ok(adjudicate(
+        rt, alloc, gate, parts, job.plain, &stamp, &sheet, books, &batch,
+    )?)
 }
 
 // The run's date and time.

@@ -1,9 +1,10 @@
-use Rattle.std.proofs.Common.{◌≡◌, sym, Err, IfErr}
+use Rattle.std.proofs.Common.{◌≡◌, refl, sym, Err, IfErr}
 use Rattle.std.proofs.lemmas.Result.{IfErr-at_err, err_from_is_err_and}
 use Rattle.rx_switch.specs.Job.{given_read, inputs_of}
 use Rattle.rx_switch.specs.Output.{stamp_for}
 use Rattle.rx_switch.specs.Output.IsRefused.{words, memory}
-use Rattle.rx_switch.proofs.NoThread.{never_thread}
+use Rattle.rx_switch.specs.Fault.{of_batch}
+use Rattle.rx_switch.proofs.NoThread.{never_thread, no_batch_thread}
 use Rattle.rx_switch.proofs.Refusals.{batch_refused, books_refused, sheet_refused}
 use Rattle.rx_switch.proofs.on_devices.output_of.Goals as goal
 
@@ -70,3 +71,10 @@ returns-in_err-stamp-clause-thread g c =
     rw (p.1, p.2) (sym c.in_err-stamp.ensures) in
     λ thread. absurd (never_thread c.args.workers c.args.stamp.now
     (IfErr-at_err (λ f. stamp_for c.args.workers c.args.stamp.now ≡ Err f) thread refused))
+
+pub returns-in_err-batch-clause-thread : goal.returns-in_err-batch-clause-thread
+returns-in_err-batch-clause-thread g c =
+    let p = err_from_is_err_and c.from_residual-in_err-batch.result c.from_residual-in_err-batch.ensures.1 in
+    let told : IfErr c.from_residual-in_err-batch.result (λ f. f ≡ of_batch c.in_err-batch.field-0.0) = rw (p.1, p.2) refl in
+    λ thread. absurd (no_batch_thread c.in_err-batch.field-0.0
+    (IfErr-at_err (λ f. f ≡ of_batch c.in_err-batch.field-0.0) thread told))
