@@ -5,7 +5,7 @@
 #![tactic(auto)]
 
 use memchr::memchr_iter;
-use rx_books::Books;
+use rx_books_kept::Books;
 use std::time::{Duration, Instant};
 use std::{env, fs, io};
 

@@ -1,37 +1,13 @@
-//! Books that keep their totals: a ledger, with the deductible of each member and the figures of each family stored
-//! beside the rows that they are the sums of (docs/PRODUCT.md, "Accumulators").
+//! The books: members and standing claims with their totals, read, kept and written, opened for a batch, and split into
+//! parcels.
 //!
-//! In comes the text of a books file, or a plain `Ledger` with the period that the totals are of; out come the row
-//! under a fill key and the totals of a member and a family, by look-ups that walk no rows, the plain ledger again, and
-//! the one text of version 3. For a batch the books are opened: a slot is kept for each fill key that it can touch, and
-//! rows are written into their slots and taken out of them without memory.
+//! `Books` and `OpenBooks` are those of `rx_books_kept`; `Footprint`, `Family` and `Parcel` those of `rx_parcels`.
 //!
 //! ```rust
-//! let books = Books::read(alloc, bytes)?;
-//! let used = books.deductible(&family, &person);
+//! let books = rx_books::Books::read(alloc, text)?;
+//! let text = books.write(alloc)?;
 //! ```
-//!
-//! The lists that books were made from never change, and copies share them (`opening`). Over them stand the slots
-//! (`slot`): what stands now is the opening rows with what each slot holds (`specs/Store.antt`).
-//!
-//! What a books file is, and which fault a text has that is none, stands in `specs/BooksFile.antt`; what a total is in
-//! `rx_ledger`'s `specs/Sums.antt`, what a line is in `rx_books_text`'s `specs/`. Which claims are added and taken out
-//! is left to the crates above.
 #![tactic(auto)]
 
-mod amounts;
-mod books;
-mod figures;
-mod kept;
-mod open_books;
-mod opened;
-mod opening;
-mod slot;
-mod standing;
-mod summing;
-mod writing;
-
-pub use books::Books;
-pub use open_books::OpenBooks;
-pub use rx_parcels::{Family, Footprint, Parcel};
-pub use standing::Standing;
+pub use rx_books_kept::{Books, OpenBooks, Standing};
+pub use rx_parcels::{Family, Footprint, KeyBook, Parcel};

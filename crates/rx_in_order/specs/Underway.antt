@@ -8,8 +8,8 @@ use Rattle.rx_ledger.specs.declared.member.MemberKey.{MemberKey}
 use Rattle.rx_ledger.specs.Basis.{HoldsRecord, Scope}
 use Rattle.rx_ledger.specs.Ledger.{Ledger, IsLedger}
 use Rattle.rx_ledger.specs.Members.{member_cmp}
-use Rattle.rx_books.specs.LedgerBooks.{LedgerBooks}
-use Rattle.rx_books.specs.OpenBooks.{OpenParts}
+use Rattle.rx_books_kept.specs.LedgerBooks.{LedgerBooks}
+use Rattle.rx_books_kept.specs.OpenBooks.{OpenParts}
 use Rattle.rx_in_order.specs.declared.fill.Fill.{Fill}
 use Rattle.rx_in_order.specs.Fills.{AreCounted}
 

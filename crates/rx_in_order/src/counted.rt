@@ -5,7 +5,7 @@ ghost use Rattle.rx_in_order.specs.Fills.{AreCounted, AreNone};
 ghost use Rattle.rx_in_order.specs.Underway.{is_billed};
 
 use crate::fill::{Fill, FillKey, fill_of, raise};
-use rx_books::OpenBooks;
+use rx_books_kept::OpenBooks;
 use rx_fields::Memory;
 use rx_ledger::MemberKey;
 use rx_order::Ascending;

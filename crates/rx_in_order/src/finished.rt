@@ -1,4 +1,4 @@
-use rx_books::Books;
+use rx_books_kept::Books;
 use rx_claim::Reply;
 
 /// What a run of records gives.

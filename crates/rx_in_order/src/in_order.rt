@@ -8,7 +8,7 @@ use crate::counted::{counted, entries};
 use crate::fill::{Fill, fill_of, is_any_too_soon, lower, raise};
 use crate::names::{names_of, unique_keys, unique_members};
 use crate::used::used_at;
-use rx_books::{Books, OpenBooks};
+use rx_books_kept::{Books, OpenBooks};
 use rx_claim::{Bill, Reply, Transmission};
 use rx_fields::{Day, Id, Key, Memory};
 use rx_ledger::{Basis, Figures, Member, MemberKey, Row, Terms, Used, answer_record};

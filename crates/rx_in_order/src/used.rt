@@ -1,7 +1,7 @@
 ghost use Rattle.std.specs.Prelude.{◌≡◌, ◌<◌, length, slice_get, IfSome};
 ghost use Rattle.rx_ledger.specs.Sums.{deductible, family_deductible, out_of_pocket};
 
-use rx_books::OpenBooks;
+use rx_books_kept::OpenBooks;
 use rx_ledger::Used;
 
 /// What the member at a place and the family have used in the period of the books, in cents.

@@ -10,7 +10,7 @@ ghost use Rattle.rx_schedule.specs.Footprints.{families_named, footprint_of, fam
 
 use crate::billers::Billers;
 use crate::ordered::put_in_order;
-use rx_books::Books;
+use rx_books_kept::Books;
 use rx_claim::{Body, Heard, Transaction, Transmission};
 use rx_fields::{Id, Key, Memory, Reference};
 use rx_parcels::Footprint;

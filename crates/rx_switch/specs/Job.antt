@@ -1,7 +1,7 @@
 -- A job as what it gives a run, and an output as its texts.
 use Rattle.std.specs.Prelude.{ℕ, List}
 use Rattle.rx_batch.specs.declared.batch.Batch.{Batch}
-use Rattle.rx_books.specs.LedgerBooks.{LedgerBooks}
+use Rattle.rx_books_kept.specs.LedgerBooks.{LedgerBooks}
 use Rattle.rx_fields.specs.declared.stamp.Stamp.{Stamp}
 use Rattle.rx_ledger.specs.Plan.{Plan}
 use Rattle.rx_switch.specs.declared.job.Job.{Job}

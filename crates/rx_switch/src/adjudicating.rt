@@ -5,7 +5,7 @@ ghost use Rattle.rx_switch.specs.Output.{texts_of};
 
 use crate::job::Output;
 use rx_batch::Batch;
-use rx_books::Books;
+use rx_books_kept::Books;
 use rx_claim::{Reply, Transmission};
 use rx_fields::{Lot, Memory, Stamp};
 use rx_in_order::Finished;

@@ -16,7 +16,7 @@ use crate::job::Output;
 use crate::outputs::write_outputs;
 use crate::running::stamp_for;
 use rx_batch::{Batch, BatchFault, Pieces};
-use rx_books::Books;
+use rx_books_kept::Books;
 use rx_devices::{Sink, Source};
 use rx_sheet::read_sheet;
 use rx_wave::Gate;

@@ -4,7 +4,7 @@ ghost use Rattle.rx_switch.specs.Planned.{IsNotPlanned, IsPlanned};
 use crate::fault::SwitchFault;
 use crate::show::decode_each;
 use rx_batch::read_batch;
-use rx_books::Books;
+use rx_books_kept::Books;
 use rx_schedule::{footprints, waves};
 use rx_sheet::read_sheet;
 use rx_show::plan_lines;

@@ -6,7 +6,7 @@ use crate::adjudicating::adjudicate;
 use crate::fault::SwitchFault;
 use crate::job::{Job, Output};
 use rx_batch::read_batch;
-use rx_books::Books;
+use rx_books_kept::Books;
 use rx_fields::Stamp;
 use rx_sheet::read_sheet;
 use rx_wave::Gate;

@@ -2,7 +2,7 @@ ghost use Rattle.std.specs.Prelude.{◌≡◌, ◌≤◌, IfOk, length};
 ghost use Rattle.rx_ledger.specs.Fold.{fold_ledger, fold_replies};
 
 use crate::gate::Gate;
-use rx_books::Books;
+use rx_books_kept::Books;
 use rx_claim::Transmission;
 use rx_fields::{Lot, Memory};
 use rx_in_order::{Finished, InOrder};

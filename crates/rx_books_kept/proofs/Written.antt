@@ -1,0 +1,35 @@
+-- The lines of members and rows, one after another.
+use Rattle.std.proofs.Common.{◌≡◌, ℕ, zero, suc, ◌<◌, List, [], ◌∷◌, ◌++◌, length, get_or, take, map, refl, sym, ap, arith}
+use Rattle.std.proofs.lemmas.Grind.{flat_map-append}
+use Rattle.rx_ledger.specs.declared.member.Member.{Member}
+use Rattle.rx_ledger.specs.declared.row.Row.{Row}
+use Rattle.rx_books_text.specs.declared.line.Line.{Line}
+use Rattle.rx_books_text.specs.declared.line.Line.TheVariants as line
+use Rattle.rx_books_text.specs.declared.version.Version.TheVariants.{Three}
+use Rattle.rx_books_text.specs.LineText.{ended, line_text}
+use Rattle.rx_books_text.specs.Printed.{member_lines}
+use Rattle.rx_books_kept.specs.BooksText.{claims_text, lines_text}
+
+-- ---- lines
+
+abbrev line_of : Line → List ℕ
+line_of l = ended (line_text Three l)
+
+pub lines_text-append : (ks ls : List Line) → lines_text (ks ++ ls) ≡ lines_text ks ++ lines_text ls
+lines_text-append ks ls = flat_map-append line_of ks ls
+
+-- one member's line more
+pub member_lines-more : (ms : List Member) (ds : List ℕ) (i : ℕ) (m : Member) → i < length ms → i < length ds
+    → m ≡ get_or ms i m → member_lines (take (suc i) ms) (take (suc i) ds)
+    ≡ member_lines (take i ms) (take i ds) ++ line.Member (record { member = m; deductible = get_or ds i 0 }) ∷ []
+member_lines-more [] ds i m lt below is = absurd (omega arith)
+member_lines-more (x ∷ ms) [] i m lt below is = absurd (omega arith)
+member_lines-more (x ∷ ms) (d ∷ ds) zero m lt below is =
+    ap (λ n. line.Member (record { member = n; deductible = d }) ∷ []) (sym is)
+member_lines-more (x ∷ ms) (d ∷ ds) (suc i) m lt below is =
+    ap (λ ls. line.Member (record { member = x; deductible = d }) ∷ ls)
+    (member_lines-more ms ds i m (omega arith) (omega arith) is)
+
+pub claims-map : (rows : List Row) → lines_text (map (λ r. line.Claim r) rows) ≡ claims_text rows
+claims-map [] = refl
+claims-map (r ∷ rows) = ap (λ t. line_of (line.Claim r) ++ t) (claims-map rows)

@@ -1,0 +1,126 @@
+ghost use Rattle.std.specs.Prelude.{◌≡◌, ◌+◌, ◌<◌, ◌≤◌, ◌∷◌, [], IfNone, IfOk, IfSome, drop, length};
+ghost use Rattle.std.specs.List.{All};
+ghost use Rattle.rx_fields.specs.Order.{key_cmp};
+ghost use Rattle.rx_order.specs.Ascending.{IsAscending, put_all};
+ghost use Rattle.rx_ledger.specs.Ledger.{row_under};
+ghost use Rattle.rx_books_kept.specs.Store.{IsSlot, slot_key, slot_keys};
+
+use crate::opening::Opening;
+use crate::slot::KeySlot;
+use rx_fields::{Key, Memory};
+use rx_order::Ascending;
+use std::alloc::Global;
+use std::cmp::Ordering;
+
+/// A slot for each of these fill keys, with the row of the opening lists that stands under it, or none.
+pub(crate) fn fresh_slots(
+    alloc: Global,
+    opening: &Opening,
+    keys: &[Key],
+) -> Result<Vec<KeySlot>, Memory>
+    ensures keys { IfOk result (λ slots. slot_keys slots.items ≡ keys.now) }
+    ensures own { IfOk result (λ slots. All (IsSlot opening.now.members) slots.items) }
+    ensures there { IfOk result (λ slots. All (λ s. row_under opening.now s.key ≡ s.held) slots.items) }
+{
+    let mut slots = Vec::new(alloc);
+    for key in keys {
+        let KeySlot { key, held, holder } = fresh_slot(opening, key);
+        slots.push(KeySlot { key, held, holder })?;
+    }
+    Ok(slots)
+}
+
+// The slot of a fill key, with the row of the opening lists.
+fn fresh_slot(opening: &Opening, key: &Key) -> KeySlot
+    ensures key { result.key ≡ key.now }
+    ensures own { IsSlot opening.now.members result }
+    ensures there { row_under opening.now key.now ≡ result.held }
+{
+    match opening.rows().place(key) {
+        Ok(at) => KeySlot {
+            key: *key,
+            held: Some(opening.rows().as_slice()[at]),
+            holder: opening.kept_place(opening.holder(at)),
+        },
+        Err(_) => KeySlot {
+            key: *key,
+            held: None,
+            holder: 0,
+        },
+    }
+}
+
+/// The slots of two lists, in order; where both have a fill key, the one of `over`.
+pub(crate) fn merged(
+    alloc: Global,
+    under: &[KeySlot],
+    over: &[KeySlot],
+) -> Result<Ascending<KeySlot>, Memory>
+    requires under { IsAscending key_cmp slot_key under.now }
+    requires over { IsAscending key_cmp slot_key over.now }
+    ensures { IfOk result (λ slots. slots ≡ put_all key_cmp slot_key under.now over.now) }
+{
+    let mut slots = Vec::new(alloc);
+    let (mut low, mut high) = (0, 0);
+    'slots: while let Some(next) = next_slot(under, over, low, high) {
+        slots.push(next.slot)?;
+        low = next.low;
+        high = next.high;
+    }
+    match Ascending::from_vec(slots) {
+        Ok(slots) => Ok(slots),
+        Err(_) => unreachable!(),
+    }
+}
+
+// The next slot of two lists, and how many of each are passed with it.
+#[derive(Clone, Copy, Debug)]
+struct Next {
+    slot: KeySlot,
+    low: usize,
+    high: usize,
+}
+
+// The next slot behind so many of each list.
+fn next_slot(under: &[KeySlot], over: &[KeySlot], low: usize, high: usize) -> Option<Next>
+    requires under { IsAscending key_cmp slot_key under.now }
+    requires over { IsAscending key_cmp slot_key over.now }
+    requires low { low ≤ length under.now }
+    requires high { high ≤ length over.now }
+    ensures none { IfNone result (put_all key_cmp slot_key (drop low under.now) (drop high over.now) ≡ []) }
+    ensures next { IfSome result (λ n. put_all key_cmp slot_key (drop low under.now) (drop high over.now) ≡ n.slot ∷ put_all key_cmp slot_key (drop n.low under.now) (drop n.high over.now)) }
+    ensures low { IfSome result (λ n. n.low ≤ length under.now) }
+    ensures high { IfSome result (λ n. n.high ≤ length over.now) }
+    ensures more { IfSome result (λ n. low + high < n.low + n.high) }
+{
+    match (under.get(low), over.get(high)) {
+        (None, None) => None,
+        (Some(slot), None) => Some(Next {
+            slot: *slot,
+            low: low + 1,
+            high,
+        }),
+        (None, Some(slot)) => Some(Next {
+            slot: *slot,
+            low,
+            high: high + 1,
+        }),
+        (Some(first), Some(second)) => match first.key.cmp(&second.key) {
+            Ordering::Less => Some(Next {
+                slot: *first,
+                low: low + 1,
+                high,
+            }),
+            Ordering::Equal => Some(Next {
+                slot: *second,
+                low: low + 1,
+                high: high + 1,
+            }),
+            Ordering::Greater => Some(Next {
+                slot: *second,
+                low,
+                high: high + 1,
+            }),
+        },
+    }
+}
