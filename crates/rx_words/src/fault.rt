@@ -7,7 +7,7 @@ use clap::error::ErrorKind;
 use std::alloc::AllocError;
 use std::fmt;
 
-/// Why the words give no command (docs/PRODUCT.md, "The program rxbatch"). Its `Display` is the text for standard
+/// Why the words give no command (docs/PRODUCT.md, "The program"). Its `Display` is the text for standard
 /// error.
 #[derive(Debug, Drop)]
 pub enum WordsFault {
