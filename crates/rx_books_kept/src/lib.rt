@@ -26,6 +26,7 @@ mod kept;
 mod open_books;
 mod opened;
 mod opening;
+mod parts;
 mod slot;
 mod standing;
 mod summing;
