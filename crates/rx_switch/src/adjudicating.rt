@@ -16,8 +16,21 @@ use rx_wave::{Gate, decode_in_parts, run_one_on};
 use std::alloc::Global;
 use std::thread::Threads;
 
+// The fewest bytes that are worth more threads than one.
+const FEWEST_BYTES: usize = 100_000;
+
+/// In how many parts a step goes, beside one another, that has so many bytes: as many as there are workers, one where
+/// they are few.
+pub(crate) fn parts_of(workers: u16, bytes: usize) -> usize {
+    if bytes < FEWEST_BYTES {
+        1
+    } else {
+        workers as usize
+    }
+}
+
 /// The texts of adjudicating the details one after another in file order, on the books themselves or, plainly, over
-/// lists. Decoding and rendering go in so many parts beside one another; one part starts no thread.
+/// lists. Decoding, rendering and writing go in so many parts beside one another; one part starts no thread.
 #[tactic(auto, using(crate::proofs::Replied::replied))]
 pub(crate) fn adjudicate<R: Threads + Sync, G: Gate>(
     rt: &R,
@@ -37,7 +50,7 @@ pub(crate) fn adjudicate<R: Threads + Sync, G: Gate>(
     let asked = decode_in_parts(rt, alloc, parts, sheet.door(), details)?;
     let (books, replies) = finish(alloc, gate, plain, batch.head.lot(), sheet, books, &asked)?;
     let response = response_in_parts(rt, alloc, parts, &batch.head, *stamp, details, &replies)?;
-    let books = books.write(alloc)?;
+    let books = books.write_in_parts(rt, alloc, parts)?;
     let settlement = settle(alloc, batch.head.lot(), *stamp, &replies)?;
     Ok(Output {
         response,

@@ -9,7 +9,7 @@ ghost use Rattle.rx_switch.specs.Output.{IsOutput, IsRefused, RefusesOne};
 ghost use Rattle.rx_switch.specs.declared.fault.Device.TheVariants as device;
 ghost use Rattle.rx_switch.specs.declared.fault.IoFault.TheVariants as io;
 
-use crate::adjudicating::adjudicate;
+use crate::adjudicating::{adjudicate, parts_of};
 use crate::fault::{IoFault, SwitchFault};
 use crate::inputs::{ReadInputs, read_inputs};
 use crate::job::Output;
@@ -23,6 +23,9 @@ use rx_wave::Gate;
 use std::alloc::Global;
 use std::sync::Wait;
 use std::thread::Threads;
+
+// About as many bytes has a detail with one billing.
+const DETAIL_BYTES: usize = 200;
 
 /// Adjudicates the batch of three inputs, and writes the three outputs (docs/PRODUCT.md, "The program").
 ///
@@ -111,10 +114,14 @@ fn output_of<R: Threads + Wait + Sync, G: Gate + Sync>(
     } = read;
     let stamp = stamp_for(workers, stamp)?;
     let sheet = read_sheet(alloc, sheet.as_slice())?;
-    let books = Books::read(alloc, books.as_slice())?;
+    let parts = parts_of(workers, books.len());
+    let opening = Books::read_in_parts(rt, alloc, parts, books.as_slice())?;
+    drop(books);
     let batch = finished(batch)?;
-    let parts = workers as usize;
-    Ok(adjudicate(rt, alloc, gate, parts, plain, &stamp, &sheet, books, &batch)?)
+    let parts = parts.max(parts_of(workers, batch.details.len() * DETAIL_BYTES));
+    Ok(adjudicate(
+        rt, alloc, gate, parts, plain, &stamp, &sheet, opening, &batch,
+    )?)
 }
 
 // The batch of the pieces.

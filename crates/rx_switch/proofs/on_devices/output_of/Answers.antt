@@ -24,24 +24,24 @@ returns-in_err-sheet-clause-refused g c batch stands =
     (sheet_refused (given_read c.args.stamp.now c.args.workers c.args.read.sheet.items c.args.read.books.items batch)
     c.in_ok-stamp.stamp (sym c.in_ok-stamp.ensures) c.in_err-sheet.field-0.0 meant)
 
-pub returns-in_err-books-clause-refused : goal.returns-in_err-books-clause-refused
-returns-in_err-books-clause-refused g c batch stands =
-    let p = err_from_is_err_and c.from_residual-in_err-books.result c.from_residual-in_err-books.ensures.1 in
+pub returns-in_err-opening-clause-refused : goal.returns-in_err-opening-clause-refused
+returns-in_err-opening-clause-refused g c batch stands =
+    let p = err_from_is_err_and c.from_residual-in_err-opening.result c.from_residual-in_err-opening.ensures.1 in
     let planned = rw c.as_slice.ensures.value at c.in_ok-sheet.ensures in
-    let meant = rw c.as_slice-2.ensures.value at c.in_err-books.ensures.refuses in
+    let meant = rw c.as_slice-2.ensures.value at c.in_err-opening.ensures.refuses in
     rw (p.1, p.2)
     (books_refused (given_read c.args.stamp.now c.args.workers c.args.read.sheet.items c.args.read.books.items batch)
-    c.in_ok-stamp.stamp (sym c.in_ok-stamp.ensures) c.in_ok-sheet.sheet planned c.in_err-books.field-0.0 meant)
+    c.in_ok-stamp.stamp (sym c.in_ok-stamp.ensures) c.in_ok-sheet.sheet planned c.in_err-opening.field-0.0 meant)
 
 pub returns-in_err-batch-clause-refused : goal.returns-in_err-batch-clause-refused
 returns-in_err-batch-clause-refused g c batch stands =
     let p = err_from_is_err_and c.from_residual-in_err-batch.result c.from_residual-in_err-batch.ensures.1 in
     let planned = rw c.as_slice.ensures.value at c.in_ok-sheet.ensures in
-    let opened = rw c.as_slice-2.ensures.value at c.in_ok-books.ensures.ok in
+    let opened = rw c.as_slice-2.ensures.value at c.in_ok-opening.ensures.ok in
     rw (p.1, p.2)
     (batch_refused (given_read c.args.stamp.now c.args.workers c.args.read.sheet.items c.args.read.books.items batch)
     c.in_ok-stamp.stamp (sym c.in_ok-stamp.ensures) c.in_ok-sheet.sheet planned
-    c.in_ok-books.books.period c.in_ok-books.books.ledger opened
+    c.in_ok-opening.opening.period c.in_ok-opening.opening.ledger opened
     c.in_err-batch.field-0.0 (c.in_err-batch.ensures.refuses batch stands))
 
 pub returns-in_err-adjudicate-clause-refused : goal.returns-in_err-adjudicate-clause-refused
@@ -52,9 +52,9 @@ returns-in_err-adjudicate-clause-refused g c batch stands =
 pub returns-clause-output : goal.returns-clause-output
 returns-clause-output g c batch stands =
     let planned = rw c.as_slice.ensures.value at c.in_ok-sheet.ensures in
-    let opened = rw c.as_slice-2.ensures.value at c.in_ok-books.ensures.ok in
+    let opened = rw c.as_slice-2.ensures.value at c.in_ok-opening.ensures.ok in
     record {
-      inputs = inputs_of c.in_ok-stamp.stamp c.in_ok-sheet.sheet c.in_ok-books.books c.in_ok-batch.batch;
+      inputs = inputs_of c.in_ok-stamp.stamp c.in_ok-sheet.sheet c.in_ok-opening.opening c.in_ok-batch.batch;
       accepted = record {
         stamp = sym c.in_ok-stamp.ensures;
         sheet = planned;
