@@ -5,6 +5,7 @@ ghost use Rattle.std.specs.List.{flat_map};
 ghost use Rattle.rx_reply.specs.Text.{paid_text, answer_text, group_text, header_text, reply_text};
 
 mod amounts;
+mod digits;
 mod segments;
 
 use crate::layout::{GROUP, HEADER};
