@@ -5,7 +5,7 @@ ghost use Rattle.std.specs.List.{flat_map};
 ghost use Rattle.rx_reply.specs.Text.{number_segment, reference_segment, known_reference, code_field, codes_segment};
 
 use super::digits::{fifteen_digits, twelve_digits};
-use crate::layout::FIELD;
+use crate::layout::{FIELD, SEGMENT};
 use rx_claim::Codes;
 use rx_fields::{Authorization, Code, Reference, digits_write};
 use std::alloc::AllocError;
@@ -18,8 +18,9 @@ pub(super) fn put_number(
 ) -> Result<(), AllocError>
     ensures { OnOk result (out.new.items ≡ out.old.items ++ number_segment (status ∷ []) number) }
 {
-    out.extend_from_slice(b"\x1E\x1CAM21\x1CAN")?;
-    out.extend_from_slice(&[status, FIELD, b'F', b'3'])?;
+    out.extend_from_slice(&[
+        SEGMENT, FIELD, b'A', b'M', b'2', b'1', FIELD, b'A', b'N', status, FIELD, b'F', b'3',
+    ])?;
     out.extend_from_slice(&fifteen_digits(number.get()))
 }
 
