@@ -32,7 +32,9 @@ cut_one c m t k d e = omega (arith, e, scaled k d)
 cut_marks : (byte k : ℕ) (xs : List ℕ) → k ≤ length xs → marks_of byte xs ≡ marks_of byte (take k xs) + 2 ^ k * marks_of byte (drop k xs)
 cut_marks byte zero xs le = omega arith
 cut_marks byte (suc k) [] le = absurd (omega arith)
-cut_marks byte (suc k) (x ∷ xs) le = cut_one (cond {A = ℕ} (eqb x byte) 1 0) (marks_of byte xs) (marks_of byte (take k xs)) k (marks_of byte (drop k xs)) (cut_marks byte k xs (omega arith))
+cut_marks byte (suc k) (x ∷ xs) le =
+    cut_one (cond {A = ℕ} (eqb x byte) 1 0) (marks_of byte xs) (marks_of byte (take k xs)) k (marks_of byte (drop k xs))
+    (cut_marks byte k xs (omega arith))
 
 -- the marks behind a place are few
 pub marks_fit : (byte at k : ℕ) (text : List ℕ) → length text ≤ k + at → marks_of byte (drop at text) < 2 ^ k
@@ -128,7 +130,8 @@ marks_over byte left text few some =
     let last = drop (length text - 16) text in
     let on : length text - 16 + (16 - left) ≡ length text - left = omega arith in
     ap (λ (l : List ℕ). marks_of byte l / 2 ^ (16 - left)) (take_all 16 last (omega (arith, length-drop (length text - 16) text)))
-    ∙ (dropped (λ b. eqb b byte) (16 - left) last ∙ ap (marks_of byte) (drop-drop (16 - left) (length text - 16) text ∙ ap (λ n. drop n text) on))
+    ∙ (dropped (λ b. eqb b byte) (16 - left) last
+    ∙ ap (marks_of byte) (drop-drop (16 - left) (length text - 16) text ∙ ap (λ n. drop n text) on))
 
 pub marks_behind : (separator marks seen at : ℕ) (text : List ℕ) → AreMarks separator marks seen text → at < seen
     → AreMarks separator (marks / 2 ^ at / 2 ^ 1) (seen - (at + 1)) (drop (at + 1) text)

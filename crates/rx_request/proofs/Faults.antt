@@ -183,17 +183,20 @@ absent_by (Some text) e h = sym e ∙ h
 pub absent_fault : (c f g : Bool) (usual gross : Option (List ℕ)) → is_no_amount usual ≡ false → is_no_amount gross ≡ false
     → is_none (amount_in usual) ≡ true → is_none (amount_in gross) ≡ true
     → (c || (f || ((is_no_amount usual || (is_none usual && is_none gross)) || (g || false)))) ≡ true
-absent_fault c f g usual gross u d hu hg = rw (absent_by usual u hu, absent_by gross d hg, or_true (is_no_amount usual), or_true f) (or_true c)
+absent_fault c f g usual gross u d hu hg =
+    rw (absent_by usual u hu, absent_by gross d hg, or_true (is_no_amount usual), or_true f) (or_true c)
 
 present_by : (charge : Option (List ℕ)) → is_none (amount_in charge) ≡ false → is_none charge ≡ false
 present_by None h = absurd cc
 present_by (Some text) h = refl
 
-one_present : (usual gross : Option (List ℕ)) → (is_none (amount_in usual) && is_none (amount_in gross)) ≡ false → (is_none usual && is_none gross) ≡ false
+one_present : (usual gross : Option (List ℕ)) → (is_none (amount_in usual) && is_none (amount_in gross)) ≡ false
+    → (is_none usual && is_none gross) ≡ false
 one_present None gross h = present_by gross h
 one_present (Some text) gross h = refl
 
-pub no_charge_fault : (c f : Bool) (usual gross : Option (List ℕ)) → c ≡ false → f ≡ false → is_no_amount usual ≡ false → is_no_amount gross ≡ false
+pub no_charge_fault : (c f : Bool) (usual gross : Option (List ℕ)) → c ≡ false → f ≡ false → is_no_amount usual ≡ false
+    → is_no_amount gross ≡ false
     → (is_none (amount_in usual) && is_none (amount_in gross)) ≡ false
     → (c || (f || ((is_no_amount usual || (is_none usual && is_none gross)) || (is_no_amount gross || false)))) ≡ false
 no_charge_fault c f usual gross hc hf u g h = rw (hc, hf, u, g, one_present usual gross h) refl

@@ -12,5 +12,6 @@ returns c =
     let first = get_or version 0 0 ∷ get_or version 1 0 ∷ [] in
     let second = get_or code 0 0 ∷ get_or code 1 0 ∷ [] in
     let joined : first ++ (second ++ behind) ≡ version ++ (code ++ behind) =
-    ap (λ (l : List ℕ). l ++ (second ++ behind)) (pair_of version (omega arith)) ∙ ap (λ (l : List ℕ). version ++ (l ++ behind)) (pair_of code (omega arith)) in
+    ap (λ (l : List ℕ). l ++ (second ++ behind)) (pair_of version (omega arith))
+    ∙ ap (λ (l : List ℕ). version ++ (l ++ behind)) (pair_of code (omega arith)) in
     rw c.digits_write.ensures.text joined

@@ -13,14 +13,18 @@ unfolding is_faulty
 returns-in_err-usual_charge c =
     let p = pricing_texts c.args.pricing.now in
     let u = fault_of (is_no_amount p.usual_charge) _ c.in_err-usual_charge.ensures in
-    rw (c.from_residual-in_err-usual_charge.ensures, usual_fault (is_none (amount_in p.ingredient_cost)) (is_no_amount p.dispensing_fee) (is_no_amount p.usual_charge) (is_none p.usual_charge && is_none p.gross_amount) (is_no_amount p.gross_amount) u) refl
+    let faulty = usual_fault (is_none (amount_in p.ingredient_cost)) (is_no_amount p.dispensing_fee) (is_no_amount p.usual_charge)
+    (is_none p.usual_charge && is_none p.gross_amount) (is_no_amount p.gross_amount) u in
+    rw (c.from_residual-in_err-usual_charge.ensures, faulty) refl
 
 pub returns-in_err-gross_amount : goal.returns-in_err-gross_amount
 unfolding is_faulty
 returns-in_err-gross_amount c =
     let p = pricing_texts c.args.pricing.now in
     let g = fault_of (is_no_amount p.gross_amount) _ c.in_err-gross_amount.ensures in
-    rw (c.from_residual-in_err-gross_amount.ensures, gross_fault (is_none (amount_in p.ingredient_cost)) (is_no_amount p.dispensing_fee) (is_no_amount p.usual_charge) (is_none p.usual_charge && is_none p.gross_amount) (is_no_amount p.gross_amount) g) refl
+    let faulty = gross_fault (is_none (amount_in p.ingredient_cost)) (is_no_amount p.dispensing_fee) (is_no_amount p.usual_charge)
+    (is_none p.usual_charge && is_none p.gross_amount) (is_no_amount p.gross_amount) g in
+    rw (c.from_residual-in_err-gross_amount.ensures, faulty) refl
 
 pub returns-then-is_none-2 : goal.returns-then-is_none-2
 unfolding is_faulty
@@ -30,7 +34,8 @@ returns-then-is_none-2 c =
     let gross = c.in_ok-gross_amount.gross_amount in
     let usual_is : usual ≡ amount_in p.usual_charge = value_of (is_no_amount p.usual_charge) _ _ c.in_ok-usual_charge.ensures in
     let gross_is : gross ≡ amount_in p.gross_amount = value_of (is_no_amount p.gross_amount) _ _ c.in_ok-gross_amount.ensures in
-    let faulty = absent_fault (is_none (amount_in p.ingredient_cost)) (is_no_amount p.dispensing_fee) (is_no_amount p.gross_amount) p.usual_charge p.gross_amount
+    let faulty = absent_fault (is_none (amount_in p.ingredient_cost)) (is_no_amount p.dispensing_fee) (is_no_amount p.gross_amount)
+    p.usual_charge p.gross_amount
     (no_fault_of (is_no_amount p.usual_charge) _ _ c.in_ok-usual_charge.ensures)
     (no_fault_of (is_no_amount p.gross_amount) _ _ c.in_ok-gross_amount.ensures)
     (ap is_none (sym usual_is) ∙ none_by usual (c.is_none.ensures ∙ ap not c.if-is_none.true))
@@ -43,7 +48,8 @@ returns c =
     let p = pricing_texts c.args.pricing.now in
     let usual = c.in_ok-usual_charge.usual_charge in
     let gross = c.in_ok-gross_amount.gross_amount in
-    let fee_is : c.in_ok-dispensing_fee.dispensing_fee ≡ amount_in p.dispensing_fee = value_of (is_no_amount p.dispensing_fee) _ _ c.in_ok-dispensing_fee.ensures in
+    let fee_is : c.in_ok-dispensing_fee.dispensing_fee ≡ amount_in p.dispensing_fee =
+    value_of (is_no_amount p.dispensing_fee) _ _ c.in_ok-dispensing_fee.ensures in
     let usual_is : usual ≡ amount_in p.usual_charge = value_of (is_no_amount p.usual_charge) _ _ c.in_ok-usual_charge.ensures in
     let gross_is : gross ≡ amount_in p.gross_amount = value_of (is_no_amount p.gross_amount) _ _ c.in_ok-gross_amount.ensures in
     let stated : (is_none usual && is_none gross) ≡ false =

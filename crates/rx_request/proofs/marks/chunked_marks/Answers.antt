@@ -1,4 +1,4 @@
-use Rattle.std.proofs.Common.{List, ℕ, ◌≡◌, ◌<◌, ◌≤◌, ◌-◌, ◌/◌, ◌%◌, ◌^◌, length, take, drop, ap, ◌∙◌, arith}
+use Rattle.std.proofs.Common.{List, ℕ, ◌≡◌, ◌<◌, ◌≤◌, ◌+◌, ◌-◌, ◌/◌, ◌%◌, ◌^◌, length, take, drop, ap, ◌∙◌, arith}
 use Rattle.std.proofs.lemmas.List.{length-take}
 use Rattle.rx_request.specs.Marks.{marks_of}
 use Rattle.rx_request.proofs.Bits.{marks_below, marks_fit, marks_before, marks_over}
@@ -24,8 +24,10 @@ overflow_add-marks c =
     let text = c.args.text.now in
     let at = c.loop-at.at in
     let rest = take (length text - (at - 16)) (drop (at - 16) text) in
-    let few : c.chunk_marks-in-loop-at.result < 2 ^ 16 = omega (arith, c.chunk_marks-in-loop-at.ensures, marks_below byte 16 (take 16 rest) (omega (arith, length-take 16 rest))) in
-    let fit : c.loop-at.marks < 2 ^ 47 = omega (arith, c.loop-at.invariant.behind, marks_fit byte at 47 text (omega (arith, c.requires.few, c.loop-at.invariant.whole, c.loop-at-test.true))) in
+    let chunk = marks_below byte 16 (take 16 rest) (omega (arith, length-take 16 rest)) in
+    let few : c.chunk_marks-in-loop-at.result < 2 ^ 16 = omega (arith, c.chunk_marks-in-loop-at.ensures, chunk) in
+    let short : length text ≤ 47 + at = omega (arith, c.requires.few, c.loop-at.invariant.whole, c.loop-at-test.true) in
+    let fit : c.loop-at.marks < 2 ^ 47 = omega (arith, c.loop-at.invariant.behind, marks_fit byte at 47 text short) in
     omega (arith, few, fit)
 
 pub loop-at-preserved : goal.loop-at-preserved
@@ -33,9 +35,11 @@ loop-at-preserved c =
     let byte = c.args.byte in
     let text = c.args.text.now in
     let at = c.loop-at.at in
-    let fit : c.loop-at.marks < 2 ^ 47 = omega (arith, c.loop-at.invariant.behind, marks_fit byte at 47 text (omega (arith, c.requires.few, c.loop-at.invariant.whole, c.loop-at-test.true))) in
+    let short : length text ≤ 47 + at = omega (arith, c.requires.few, c.loop-at.invariant.whole, c.loop-at-test.true) in
+    let fit : c.loop-at.marks < 2 ^ 47 = omega (arith, c.loop-at.invariant.behind, marks_fit byte at 47 text short) in
     let some : 16 ≤ at = omega (arith, c.loop-at.invariant.whole, c.loop-at-test.true) in
-    let chunk : c.chunk_marks-in-loop-at.result ≡ marks_of byte (take 16 (drop (at - 16) text)) = c.chunk_marks-in-loop-at.ensures ∙ ap (λ (l : List ℕ). marks_of byte (take 16 l)) (to_end (at - 16) text) in
+    let chunk : c.chunk_marks-in-loop-at.result ≡ marks_of byte (take 16 (drop (at - 16) text)) =
+    c.chunk_marks-in-loop-at.ensures ∙ ap (λ (l : List ℕ). marks_of byte (take 16 l)) (to_end (at - 16) text) in
     let before = marks_before byte 16 at text some c.loop-at.invariant.within in
     record {
       behind = omega (arith, c.loop-at.invariant.behind, fit, chunk, before);

@@ -30,4 +30,6 @@ returns-in-None c =
     (subst (λ (l : List ℕ). Nowhere (Passes (is_byte separator) l) 0 (length l)) (to_end seen text) c.in-None.ensures)
 
 pub returns-then-seen-text : goal.returns-then-seen-text
-returns-then-seen-text c = λ k low high is. true≢false (sym is ∙ no_mark c.args.separator c.args.seen k c.args.text.now c.requires.within c.requires.none (omega arith))
+returns-then-seen-text c = λ k low high is.
+    let other = no_mark c.args.separator c.args.seen k c.args.text.now c.requires.within c.requires.none (omega arith) in
+    true≢false (sym is ∙ other)
