@@ -1,7 +1,7 @@
 -- The lists that books are made from: the families in order, and the places of families and members.
 use Rattle.std.proofs.Common.{◌≡◌, ℕ, zero, suc, ◌+◌, ◌-◌, ◌<◌, ◌≤◌, List, [], ◌∷◌, ◌++◌, length, get_or, take, Bool, true, false, cond, not, Some, refl, sym, subst, ap, ◌∙◌, inl, inr, arith}
 use Rattle.std.specs.Prelude.{◌⊎◌, ◌&&◌, ◌==◌, ◌^◌, slice_get, slice_index}
-use Rattle.std.specs.List.{All, Contains, filter, list_any}
+use Rattle.std.specs.List.{All, AllZip, Contains, filter, flat_map, list_any}
 use Rattle.std.specs.Ordering.{is_eq, is_lt, ordering_then}
 use Rattle.std.specs.declared.cmp.Ordering.{Ordering}
 use Rattle.std.specs.declared.cmp.Ordering.TheVariants.{Less, Equal, Greater}
@@ -143,6 +143,17 @@ AreHolders-run ms runs i run hs ks lt is so_far more =
     ∙ flat_map-append vec_items (take i runs) (run ∷ [])
     ∙ ap (λ rs. items_of (take i runs) ++ rs) (append-nil run.items) in
     rw whole (AreHolders-append ms (items_of (take i runs)) run.items hs ks so_far more)
+
+-- the rows of all runs
+pub AreHolders-runs : {Z : Type 0} (ms : List Member) (runs : List (Vec Row Z)) (found : List (Vec ℕ Z))
+    → AllZip (λ run holders. AreHolders ms run.items holders.items) runs found
+    → AreHolders ms (items_of runs) (flat_map vec_items found)
+AreHolders-runs ms [] [] all = AreHolders-none ms
+AreHolders-runs ms [] (hs ∷ found) all = absurd all
+AreHolders-runs ms (run ∷ runs) [] all = absurd all
+AreHolders-runs ms (run ∷ runs) (hs ∷ found) all =
+    AreHolders-append ms run.items (items_of runs) hs.items (flat_map vec_items found) all.0
+    (AreHolders-runs ms runs found all.1)
 
 -- rows with places are of listed members
 pub whole-held : (ms : List Member) (rs : List Row) (hs : List ℕ) → AreHolders ms rs hs

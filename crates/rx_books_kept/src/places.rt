@@ -1,4 +1,4 @@
-ghost use Rattle.std.specs.Prelude.{◌<◌, ◌^◌, IfSome, IsTrue, length};
+ghost use Rattle.std.specs.Prelude.{IfSome, IsTrue};
 ghost use Rattle.rx_order.specs.Ascending.{IsAt};
 ghost use Rattle.rx_ledger.specs.Members.{member_cmp, member_key};
 
@@ -25,30 +25,30 @@ pub(crate) struct Places {
 }
 
 impl Places {
-    /// The places of these members, at which they are in this order. None for want of memory.
-    pub(crate) fn of(alloc: Global, members: &[Member]) -> Option<Places>
-        requires { length members.now < 2 ^ 32 }
-    {
-        let mut places = vec![in alloc; EMPTY; 2 * members.len() + 1].ok()?;
+    /// The places of these members. None for want of memory.
+    pub(crate) fn of(alloc: Global, members: &[Member]) -> Option<Places> {
+        let mut places = vec![in alloc; EMPTY; members.len().saturating_mul(2)].ok()?;
         for (place, member) in members.iter().enumerate() {
-            put_place(&mut places, hash_of(&member.key), place as u32);
+            let place = u32::try_from(place).ok()?;
+            put_place(&mut places, hash_of(&member.key), place);
         }
         Some(Places { places })
     }
 
     /// The place of a listed member.
-    pub(crate) fn place_of(&self, members: &Ascending<Member>, key: &MemberKey) -> Option<usize>
+    pub(crate) fn place_of(&self, members: &Ascending<Member>, key: &MemberKey) -> Option<u32>
         ensures { IfSome result (IsAt member_cmp member_key members.now key.now) }
     {
         let hash = hash_of(key);
         for step in 0..TRIES {
             let at = nth_try(self.places.len(), hash, step);
-            let place = self.places.get(at).copied().unwrap_or(EMPTY) as usize;
-            if is_at(members.as_slice(), place, key) {
+            let place = self.places.get(at).copied().unwrap_or(EMPTY);
+            if is_at(members.as_slice(), place as usize, key) {
                 return Some(place);
             }
         }
-        members.place(key).ok()
+        let place = members.place(key).ok()?;
+        u32::try_from(place).ok()
     }
 }
 

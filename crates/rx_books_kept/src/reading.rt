@@ -7,13 +7,14 @@ ghost use Rattle.rx_books_kept.specs.Lists.{AreSummed, totals_in};
 ghost use Rattle.rx_books_kept.specs.Store.{AreHolders};
 
 use crate::books::Books;
-use crate::holders::holders_of;
+use crate::holders::{holders_in_parts, holders_of};
 use crate::open_books::OpenBooks;
 use crate::opening::{FamilyName, Opening};
-use rx_books_quick::{Lists, read_lists};
+use rx_books_quick::{Lists, read_lists, read_lists_in_parts};
 use rx_books_text::{BooksFault, TotalLine, Version};
 use rx_order::Ascending;
 use std::alloc::Global;
+use std::thread::Threads;
 
 impl Books {
     /// The books of a text, read quickly on the calling thread. None says nothing: memory was wanting, or it is no text of
@@ -23,6 +24,23 @@ impl Books {
     {
         let lists = read_lists(alloc, text)?;
         let holders = holders_of(alloc, &lists.members, &lists.rows)?;
+        Books::of_lists(alloc, lists, holders)
+    }
+
+    /// The same, by a thread for each of so many parts of the lines; one part is read on the calling thread.
+    pub(crate) fn read_quickly_in_parts<R: Threads + Sync>(
+        rt: &R,
+        alloc: Global,
+        parts: usize,
+        text: &[u8],
+    ) -> Option<Books>
+        ensures { IfSome result (λ books. books_of text.now ≡ Ok books) }
+    {
+        if parts < 2 {
+            return Books::read_quickly(alloc, text);
+        }
+        let lists = read_lists_in_parts(rt, alloc, parts, text)?;
+        let holders = holders_in_parts(rt, alloc, &lists.members, &lists.rows)?;
         Books::of_lists(alloc, lists, holders)
     }
 
