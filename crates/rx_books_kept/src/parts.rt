@@ -49,3 +49,6 @@ impl Books {
         self.kept.write_in_parts(rt, alloc, parts)
     }
 }
+
+#[cfg(test)]
+mod tests;
