@@ -18,7 +18,7 @@ use Rattle.rx_books_text.specs.Printed.{IsPrinted, PrintedParts, has_member, lin
 use Rattle.rx_books_text.proofs.Printing.{printed_again}
 use Rattle.rx_books_quick.specs.Lists.{AreLists}
 use Rattle.rx_books_kept.specs.declared.opening.FamilyName.{FamilyName}
-use Rattle.rx_books_kept.specs.BooksText.{families_of, from_three, parts_of, total_of}
+use Rattle.rx_books_kept.specs.BooksText.{families_of, from_three, total_of}
 use Rattle.rx_books_kept.specs.Figures.{books_of, books_of_parts, unless_wrong, unsummed, wrong_line}
 use Rattle.rx_books_kept.specs.LedgerBooks.{LedgerBooks}
 use Rattle.rx_books_kept.specs.Lists.{AreSummed, totals_in}

@@ -16,13 +16,16 @@ use crate::opening::{FamilyName, Opening};
 use crate::slot::KeySlot;
 use crate::standing::Standing;
 use crate::summing::{Figures, summed};
-use crate::writing::{claims_in_parts, put_members, put_texts, put_totals};
+use crate::writing::{CLAIM, claims_in_parts, put_members, put_texts, put_totals};
 use rx_books_text::{TotalLine, Version, put_claim, put_head};
 use rx_fields::{Key, Memory, Period};
 use rx_ledger::{Ledger, Row};
 use rx_order::Ascending;
 use std::alloc::Global;
 use std::thread::Threads;
+
+// About the bytes of a member line and a total line.
+const OTHER: usize = 64;
 
 impl OpenBooks {
     /// The books of what stands, their figures added up.
@@ -161,7 +164,7 @@ impl OpenBooks {
     pub(crate) fn write(&self, alloc: Global) -> Result<Vec<u8>, Memory>
         ensures { IfOk result (λ text. text.items ≡ books_text Version.Three self.now.books.period self.now.books.ledger) }
     {
-        let mut text = Vec::new(alloc);
+        let mut text = Vec::with_capacity(alloc, self.room())?;
         put_head(&mut text, self.period)?;
         put_members(
             &mut text,
@@ -192,7 +195,7 @@ impl OpenBooks {
             return self.write(alloc);
         }
         let claims = self.claims_in_parts(rt, alloc, parts)?;
-        let mut text = Vec::new(alloc);
+        let mut text = Vec::with_capacity(alloc, self.room())?;
         put_head(&mut text, self.period)?;
         put_members(
             &mut text,
@@ -219,12 +222,19 @@ impl OpenBooks {
         requires { 2 ≤ parts }
         ensures { IfOk result (λ texts. flat_map vec_items texts.items ≡ claims_text self.now.books.ledger.rows) }
     {
-        let mut rows = Vec::new(alloc);
+        let mut rows = Vec::with_capacity(alloc, self.opening.rows().len())?;
         let mut standing = self.standing();
         'rows: while let Some((row, _)) = standing.next_row() {
             rows.push(row)?;
         }
         claims_in_parts(rt, alloc, &rows, rows.len() / parts + 1)
+    }
+
+    // About the bytes of the text.
+    fn room(&self) -> usize {
+        let claims = self.opening.rows().len().saturating_mul(CLAIM);
+        let others = self.opening.members().len().saturating_mul(OTHER);
+        claims.saturating_add(others)
     }
 
     // Puts the lines of the rows that stand.

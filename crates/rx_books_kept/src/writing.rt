@@ -14,8 +14,8 @@ use rx_ledger::{Member, Row};
 use std::alloc::Global;
 use std::thread::Threads;
 
-// About the bytes of a claim line.
-const CLAIM: usize = 96;
+/// About the bytes of a claim line.
+pub(crate) const CLAIM: usize = 96;
 
 /// Puts the lines of these members, each with its deductible.
 pub(crate) fn put_members(

@@ -1,7 +1,3 @@
-use Rattle.std.proofs.Common.{take, ap, sym, ◌∙◌}
-use Rattle.std.proofs.lemmas.List.{take_all}
-use Rattle.rx_order.specs.Runs.{items_of}
-use Rattle.rx_books_kept.specs.Store.{AreHolders}
 use Rattle.rx_books_kept.proofs.Openings.{AreHolders-run}
 use Rattle.rx_books_kept.proofs.holders.holders_of.Goals as goal
 

@@ -1,5 +1,4 @@
 use Rattle.std.proofs.Common.{ap, ◌∙◌}
-use Rattle.std.specs.List.{AllZip}
 use Rattle.rayon.proofs.ListFacts.{IfOk-then}
 use Rattle.rx_books_kept.specs.Opening.{rows_text}
 use Rattle.rx_books_kept.proofs.Written.{texts-pieces}

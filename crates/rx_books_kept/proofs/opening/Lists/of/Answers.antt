@@ -1,8 +1,3 @@
-use Rattle.std.proofs.Common.{subst}
-use Rattle.rx_fields.specs.Order.{key_cmp}
-use Rattle.rx_order.specs.Ascending.{IsAscending}
-use Rattle.rx_ledger.specs.Members.{member_cmp, member_key}
-use Rattle.rx_ledger.specs.Rows.{row_key}
 use Rattle.rx_books_kept.proofs.Openings.{held-ledger}
 use Rattle.rx_books_kept.proofs.opening.Lists.of.Goals as goal
 
