@@ -32,9 +32,8 @@ impl Books {
         // The same, computed.
         ensures value { Gives result (books_of text.now) }
     {
-        let _rt = rt;
-        let _parts = parts;
-        Books::read(alloc, text)
+        let quick = Books::read_quickly_in_parts(rt, alloc, parts, text);
+        Books::or_summed(alloc, text, quick)
     }
 
     /// The same as `write`, where so many parts of the claims are written by threads of their own; one part is written on
@@ -47,8 +46,9 @@ impl Books {
     ) -> Result<Vec<u8>, Memory>
         ensures { IfOk result (λ text. text.items ≡ books_text Version.Three self.now.period self.now.ledger) }
     {
-        let _rt = rt;
-        let _parts = parts;
-        self.write(alloc)
+        self.kept.write_in_parts(rt, alloc, parts)
     }
 }
+
+#[cfg(test)]
+mod tests;
