@@ -1,0 +1,11 @@
+use Rattle.std.proofs.Common.{◌≡◌}
+use Rattle.std.specs.List.{All}
+use Rattle.rx_in_order.specs.Underway.{IsSpot}
+use Rattle.rx_in_order.proofs.spot.put_spots.Given as goal
+
+abbrev pub invariant-loop-transaction : goal.invariant-loop-transaction
+invariant-loop-transaction l =
+    record {
+      spots : All (IsSpot l.books) l.found.spots.items;
+      own : All (λ f. f.count ≡ 0) l.found.own.items;
+    }
