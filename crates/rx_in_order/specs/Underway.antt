@@ -1,16 +1,16 @@
 -- A batch underway: the books so far, and what was looked up for it once.
-use Rattle.std.specs.Prelude.{ℕ, ◌<◌, ◌≤◌, Bool, true, IfSome, List, Some, length}
+use Rattle.std.specs.Prelude.{ℕ, ◌<◌, ◌≤◌, Bool, true, IfSome, List, Option, Some, length}
 use Rattle.std.specs.List.{All}
 use Rattle.rx_fields.specs.Order.{key_cmp}
 use Rattle.rx_fields.specs.declared.key.Key.{Key}
 use Rattle.rx_order.specs.Ascending.{contains_key}
 use Rattle.rx_claim.specs.declared.transmission.Transmission.{Transmission}
 use Rattle.rx_ledger.specs.Basis.{HoldsRecord, Scope}
+use Rattle.rx_ledger.specs.declared.member.Member.{Member}
 use Rattle.rx_ledger.specs.Ledger.{Ledger, IsLedger}
 use Rattle.rx_books_kept.specs.LedgerBooks.{LedgerBooks}
 use Rattle.rx_books_kept.specs.OpenBooks.{OpenParts}
 use Rattle.rx_in_order.specs.declared.fill.Fill.{Fill}
-use Rattle.rx_in_order.specs.declared.spot.Spot.{Spot}
 use Rattle.rx_in_order.specs.Fills.{AreCounted, has_mark}
 
 -- the books, and the fill keys that have a slot
@@ -36,16 +36,15 @@ scope_of u =
 abbrev pub IsAwaited : Underway → Transmission → Type 0
 IsAwaited u t = (L : Ledger) → HoldsRecord (scope_of u) L t.body
 
--- a slot and a member are at these places, where there are any
-pub record IsSpot (o : OpenParts) (s : Spot) : Type 0 where
-  pub slot : IfSome s.slot (λ i. i < length o.slots)
-  pub holder : IfSome s.holder (λ i. i < length o.books.ledger.members)
+-- a member is at the place, where there is one
+abbrev pub IsHolder : List Member → Option ℕ → Type 0
+IsHolder members holder = IfSome holder (λ i. i < length members)
 
 -- what is kept: books in order, the counts of the courses that have a mark, none of a longer fill than the longest, and
--- spots
-pub record IsUnderway (o : OpenParts) (marks : List Bool) (fills : List Fill) (longest : ℕ) (spots : List Spot)
+-- where members are listed
+pub record IsUnderway (o : OpenParts) (marks : List Bool) (fills : List Fill) (longest : ℕ) (holders : List (Option ℕ))
     : Type 0 where
   pub in_order : IsLedger o.books.ledger
   pub counted : AreCounted (has_mark marks) o.books.ledger.members o.books.ledger.rows fills
   pub within : All (λ f. f.key.when.days ≤ longest) fills
-  pub spotted : All (IsSpot o) spots
+  pub near : All (IsHolder o.books.ledger.members) holders

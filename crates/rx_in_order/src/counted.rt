@@ -23,7 +23,7 @@ pub(crate) fn counted(
         IfOk result (λ fills. AreCounted (has_mark marks.now) L.members L.rows fills) }
 {
     let mut found = found(books, marks, own)?;
-    found.sort_by_key(|fill| fill.key)?;
+    found.sort_unstable_by_key(|fill| fill.key);
     all_tallied(alloc, &found)
 }
 

@@ -7,12 +7,12 @@ ghost use Rattle.rx_ledger.specs.Members.{is_same};
 ghost use Rattle.rx_ledger.specs.TermList.{plan_of};
 ghost use Rattle.rx_in_order.specs.Underway.{IsAwaited, scope_of};
 
+use crate::billed::{Billed, billed_by, longer, longest_of};
 use crate::counted::counted;
 use crate::fill::{Fill, fill_at, lower, tally};
 use crate::marks::{has_mark, marks_of};
 use crate::names::{keys_named, unique_keys};
 use crate::refill::Refill;
-use crate::spot::{Spot, Spotted, longer, longest_of, spots_of};
 use crate::used::used_at;
 use rx_books_kept::{Books, OpenBooks};
 use rx_claim::{Bill, Reply, Transmission};
@@ -27,9 +27,9 @@ use std::marker::Model;
 #[derive(Debug, Drop)]
 pub struct InOrder {
     pub(crate) books: OpenBooks,
-    // Where the batch's transactions have their slots and members, in order; where those of each record begin; and where
-    // those of the record begin that is adjudicated. What is found there is compared with what is looked for.
-    pub(crate) spots: Vec<Spot>,
+    // Where the members of the batch's transactions are listed, in order; where those of each record begin; and where
+    // those of the record begin that is adjudicated. Who is found there is compared with who is looked for.
+    pub(crate) holders: Vec<Option<usize>>,
     pub(crate) firsts: Vec<usize>,
     pub(crate) at: usize,
     // The fills of the courses that have a mark, each with how many standing claims are such fills, and the longest days
@@ -46,7 +46,7 @@ impl Model for InOrder {
 
     ghost view = { λ o. record { books = o.books.books; slots = o.books.slots } };
 
-    ghost invariant = { λ o. IsUnderway o.books o.marks.items o.fills o.longest o.spots.items };
+    ghost invariant = { λ o. IsUnderway o.books o.marks.items o.fills o.longest o.holders.items };
 }
 
 impl InOrder {
@@ -62,14 +62,18 @@ impl InOrder {
     {
         let keys = unique_keys(keys_named(alloc, transmissions)?)?;
         let books = books.open(alloc, &keys)?;
-        let Spotted { spots, firsts, own } = spots_of(alloc, &books, transmissions)?;
+        let Billed {
+            holders,
+            firsts,
+            own,
+        } = billed_by(alloc, &books, transmissions)?;
         let marks = marks_of(alloc, &own)?;
         let fills = counted(alloc, &books, &marks, own)?;
         let longest = longest_of(fills.as_slice());
         let _in_order = books.standing();
         Ok(InOrder {
             books,
-            spots,
+            holders,
             firsts,
             at: 0,
             marks,
@@ -100,7 +104,7 @@ impl InOrder {
         answer_record(alloc, self, terms, place, transmission)
     }
 
-    // Turns to the spots of the record at a place.
+    // Turns to the members of the record at a place.
     fn begin(&mut self, place: u64)
         ensures { self.new ≡ self.old }
     {
@@ -128,7 +132,7 @@ impl Basis for InOrder {
     ghost scope = { λ o. scope_of o };
 
     fn row_under(&self, key: &Key) -> Option<Row> {
-        match self.slot_of(key) {
+        match self.books.slot_of(key) {
             Some(slot) => self.books.row_at(slot).copied(),
             None => unreachable!(),
         }
@@ -169,7 +173,7 @@ impl Basis for InOrder {
     }
 
     fn add(&mut self, row: Row) -> Result<(), Memory> {
-        let Some(slot) = self.slot_of(&row.key) else {
+        let Some(slot) = self.books.slot_of(&row.key) else {
             unreachable!()
         };
         let Some(holder) = self.holder_of(&row.member()) else {
@@ -184,7 +188,7 @@ impl Basis for InOrder {
     }
 
     fn remove(&mut self, key: &Key) -> Result<(), Memory> {
-        let Some(slot) = self.slot_of(key) else {
+        let Some(slot) = self.books.slot_of(key) else {
             unreachable!()
         };
         let row = self.books.remove(slot);

@@ -11,10 +11,11 @@
 //! ```
 //!
 //! What is the same for all records is made once, by `InOrder::new`: a slot for each fill key that the batch names, the
-//! places of its slots and members, and the count of each kind of fill of what it bills, so that a refill is tested
+//! places of its members, and the count of each kind of fill of what it bills, so that a refill is tested
 //! without going over rows.
 #![tactic(auto)]
 
+mod billed;
 mod counted;
 mod fill;
 mod finished;
@@ -23,7 +24,6 @@ mod marks;
 mod names;
 mod near;
 mod refill;
-mod spot;
 mod used;
 
 pub use finished::Finished;

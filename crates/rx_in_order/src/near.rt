@@ -1,34 +1,18 @@
-ghost use Rattle.std.specs.Prelude.{◌≡◌, ◌<◌, IfNone, IfSome, Some, is_some, length, slice_get, true};
-ghost use Rattle.std.specs.List.{Contains};
+ghost use Rattle.std.specs.Prelude.{◌≡◌, ◌<◌, IfSome, is_some, length, true};
 ghost use Rattle.rx_order.specs.Ascending.{IsAt};
 ghost use Rattle.rx_ledger.specs.Ledger.{is_listed};
 ghost use Rattle.rx_ledger.specs.Members.{member_cmp, member_key};
 ghost use Rattle.rx_books_kept.specs.LedgerBooks.{has_members};
 
 use crate::in_order::InOrder;
-use rx_fields::{Id, Key};
+use rx_fields::Id;
 use rx_ledger::MemberKey;
 
 // How many transactions a record has at most.
 const MOST: usize = 4;
 
-// What a record asks for is mostly near: it was found for the record's own transactions.
+// The member that a record asks for is mostly near: it was found for the record's own transactions.
 impl InOrder {
-    /// The place of a fill key's slot: near, or else it is looked up.
-    pub(crate) fn slot_of(&self, key: &Key) -> Option<usize>
-        ensures found { IfSome result (λ at. slice_get self.now.slots at ≡ Some key.now) }
-        ensures absent { IfNone result (¬ Contains self.now.slots key.now) }
-    {
-        for offset in 0..MOST {
-            if let Some(slot) = self.near_slot(offset) {
-                if self.books.key_at(slot) == *key {
-                    return Some(slot);
-                }
-            }
-        }
-        self.books.slot_of(key)
-    }
-
     /// The place of a listed member: near, or else it is looked up.
     pub(crate) fn holder_of(&self, key: &MemberKey) -> Option<usize>
         ensures found { IfSome result (IsAt member_cmp member_key self.now.books.ledger.members key.now) }
@@ -58,22 +42,12 @@ impl InOrder {
         false
     }
 
-    // The slot of the record's transaction at an offset.
-    fn near_slot(&self, offset: usize) -> Option<usize>
-        ensures { IfSome result (λ i. i < length self.now.slots) }
-    {
-        match self.spots.get(self.at.saturating_add(offset)) {
-            Some(spot) => spot.slot,
-            None => None,
-        }
-    }
-
     // The member of the record's transaction at an offset.
     fn near_holder(&self, offset: usize) -> Option<usize>
         ensures { IfSome result (λ i. i < length self.now.books.ledger.members) }
     {
-        match self.spots.get(self.at.saturating_add(offset)) {
-            Some(spot) => spot.holder,
+        match self.holders.get(self.at.saturating_add(offset)) {
+            Some(holder) => *holder,
             None => None,
         }
     }

@@ -18,7 +18,9 @@ use Rattle.rx_in_order.proofs.Places.{member_at_key, slot_there}
 use Rattle.rx_in_order.proofs.in_order.InOrderBasis.add.Goals as goal
 
 pub unreachable-requires : goal.unreachable-requires
-unreachable-requires c = c.in_default.ensures.absent (slot_there c.args.self.now.slots c.args.row.key c.requires.key)
+unreachable-requires c =
+    c.in_default.ensures.absent
+    (slot_there c.self.inside.books.slots c.args.row.key (rw (← c.self.view_is) at c.requires.key))
 
 pub add-requires-clause-family : goal.add-requires-clause-family
 add-requires-clause-family c =
@@ -50,7 +52,7 @@ invariant_of-self-2 c =
       counted = counted;
       within = within_tallied c.longer-self-inside.result o.fills (made (fill_of L.members r)) longer
           c.longer-self-inside.ensures.second;
-      spotted = λ i d l. let s = c.self.invariant.spotted i d l in record { slot = s.slot; holder = s.holder };
+      near = c.self.invariant.near;
     })
 
 pub returns-clause-added : goal.returns-clause-added

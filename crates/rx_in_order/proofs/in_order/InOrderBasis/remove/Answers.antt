@@ -17,7 +17,9 @@ use Rattle.rx_in_order.proofs.Places.{slot_there}
 use Rattle.rx_in_order.proofs.in_order.InOrderBasis.remove.Goals as goal
 
 pub unreachable-requires : goal.unreachable-requires
-unreachable-requires c = c.in_default.ensures.absent (slot_there c.args.self.now.slots c.args.key.now c.requires.key)
+unreachable-requires c =
+    c.in_default.ensures.absent
+    (slot_there c.self.inside.books.slots c.args.key.now (rw (← c.self.view_is) at c.requires.key))
 
 pub unreachable-requires-in_default-member_of : goal.unreachable-requires-in_default-member_of
 unreachable-requires-in_default-member_of c =
@@ -48,5 +50,5 @@ invariant_of-self c =
       in_order = IsLedger-without_row L r.key c.self.invariant.in_order;
       counted = counted;
       within = within_lowered o.longest o.fills (fill_of L.members r) c.self.invariant.within;
-      spotted = λ i d l. let s = c.self.invariant.spotted i d l in record { slot = s.slot; holder = s.holder };
+      near = c.self.invariant.near;
     })

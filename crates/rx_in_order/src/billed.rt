@@ -1,105 +1,79 @@
 ghost use Rattle.std.specs.Prelude.{◌≡◌, ◌≤◌, IfOk, IfSome, OnOk};
 ghost use Rattle.std.specs.List.{All};
-ghost use Rattle.rx_in_order.specs.Underway.{IsSpot};
+ghost use Rattle.rx_in_order.specs.Underway.{IsHolder};
 
 use crate::fill::{Course, Fill, FillKey, when_at};
 use rx_books_kept::OpenBooks;
 use rx_claim::{Body, Heard, Transaction, Transmission};
-use rx_fields::{Days, Key, Memory, Reference};
+use rx_fields::{Days, Memory};
 use std::alloc::Global;
 
-/// Where a transaction's fill key has its slot, and where a billing's member is listed.
-#[derive(Clone, Copy, Debug)]
-pub(crate) struct Spot {
-    pub(crate) slot: Option<usize>,
-    pub(crate) holder: Option<usize>,
-}
-
-/// The spots of a batch's transactions in order, where those of each record begin, and an entry that counts nothing for
-/// each fill that the batch bills.
+/// Where the members of a batch's transactions are listed, in order, with None where there is none; where those of each
+/// record begin; and an entry that counts nothing for each fill that the batch bills.
 #[derive(Debug, Drop)]
-pub(crate) struct Spotted {
-    pub(crate) spots: Vec<Spot>,
+pub(crate) struct Billed {
+    pub(crate) holders: Vec<Option<usize>>,
     pub(crate) firsts: Vec<usize>,
     pub(crate) own: Vec<Fill>,
 }
 
-/// The spots of a batch in books.
-pub(crate) fn spots_of(
+/// What a batch bills of the members in books.
+pub(crate) fn billed_by(
     alloc: Global,
     books: &OpenBooks,
     transmissions: &[Transmission],
-) -> Result<Spotted, Memory>
-    ensures spots { IfOk result (λ found. All (IsSpot books.now) found.spots.items) }
+) -> Result<Billed, Memory>
+    ensures holders { IfOk result (λ found. All (IsHolder books.now.books.ledger.members) found.holders.items) }
     ensures own { IfOk result (λ found. All (λ f. f.count ≡ 0) found.own.items) }
 {
-    let mut found = Spotted {
-        spots: Vec::new(alloc),
+    let mut found = Billed {
+        holders: Vec::with_capacity(alloc, transmissions.len())?,
         firsts: Vec::with_capacity(alloc, transmissions.len())?,
-        own: Vec::new(alloc),
+        own: Vec::with_capacity(alloc, transmissions.len())?,
     };
     for transmission in transmissions {
-        found.firsts.push(found.spots.len())?;
+        found.firsts.push(found.holders.len())?;
         if let Body::Heard(heard) = &transmission.body {
-            put_spots(&mut found, books, heard)?;
+            put_holders(&mut found, books, heard)?;
         }
     }
     Ok(found)
 }
 
-// Puts the spots of a record behind the others.
-fn put_spots(found: &mut Spotted, books: &OpenBooks, heard: &Heard) -> Result<(), Memory>
-    requires spots { All (IsSpot books.now) found.old.spots.items }
+// Puts the members and fills of a record behind the others.
+fn put_holders(found: &mut Billed, books: &OpenBooks, heard: &Heard) -> Result<(), Memory>
+    requires holders { All (IsHolder books.now.books.ledger.members) found.old.holders.items }
     requires own { All (λ f. f.count ≡ 0) found.old.own.items }
-    ensures spots { OnOk result (All (IsSpot books.now) found.new.spots.items) }
+    ensures holders { OnOk result (All (IsHolder books.now.books.ledger.members) found.new.holders.items) }
     ensures own { OnOk result (All (λ f. f.count ≡ 0) found.new.own.items) }
 {
     let list = heard.list.as_slice();
     for transaction in list {
-        let spot = spot_of(books, heard, transaction);
-        found.spots.push(spot)?;
-        put_own(&mut found.own, own_fill(heard, transaction, spot))?;
+        let holder = holder_in(books, transaction);
+        found.holders.push(holder)?;
+        put_own(&mut found.own, own_fill(heard, transaction, holder))?;
     }
     Ok(())
 }
 
-// The spot of a transaction.
-fn spot_of(books: &OpenBooks, heard: &Heard, transaction: &Transaction) -> Spot
-    ensures { IsSpot books.now result }
+// Where the member of a billing is listed.
+fn holder_in(books: &OpenBooks, transaction: &Transaction) -> Option<usize>
+    ensures { IsHolder books.now.books.ledger.members result }
 {
     match transaction {
         Transaction::Bill(bill) => {
             let parts = bill.parts();
-            Spot {
-                slot: books.slot_of(&key_in(heard, parts.reference)),
-                holder: books.member_of(&parts.family, &parts.person),
-            }
+            books.member_of(&parts.family, &parts.person)
         }
-        Transaction::Reverse(reversal) => Spot {
-            slot: books.slot_of(&key_in(heard, reversal.reference)),
-            holder: None,
-        },
-        Transaction::Faulty(_) => Spot {
-            slot: None,
-            holder: None,
-        },
-    }
-}
-
-// The fill key of a transaction with this reference.
-fn key_in(heard: &Heard, reference: Reference) -> Key {
-    Key {
-        provider: heard.provider,
-        reference,
-        date: heard.date,
+        Transaction::Reverse(_) | Transaction::Faulty(_) => None,
     }
 }
 
 // An entry for the fill of a billing whose member is listed. It counts nothing yet.
-fn own_fill(heard: &Heard, transaction: &Transaction, spot: Spot) -> Option<Fill>
+fn own_fill(heard: &Heard, transaction: &Transaction, holder: Option<usize>) -> Option<Fill>
     ensures { IfSome result (λ f. f.count ≡ 0) }
 {
-    match (transaction, spot.holder) {
+    match (transaction, holder) {
         (Transaction::Bill(bill), Some(holder)) => {
             let parts = bill.parts();
             let course = Course {
