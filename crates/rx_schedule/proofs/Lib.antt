@@ -3,12 +3,14 @@ pub mod Holder
 pub mod InOrder
 pub mod Linked
 pub mod Linking
+pub mod Longest
 pub mod MarkedNames
 pub mod Noted
 pub mod Released
 pub mod Replayed
 pub mod Running
 pub mod Scanned
+pub mod Shared
 pub mod Spread
 pub mod Standing
 pub mod Tests
