@@ -6,6 +6,7 @@ pub mod Linking
 pub mod Longest
 pub mod MarkedNames
 pub mod Noted
+pub mod Ors
 pub mod Released
 pub mod Replayed
 pub mod Running
@@ -13,6 +14,5 @@ pub mod Scanned
 pub mod Shared
 pub mod Spread
 pub mod Standing
-pub mod Tests
 pub mod Times
 pub mod WaveByWave

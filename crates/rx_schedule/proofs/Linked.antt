@@ -16,7 +16,7 @@ use Rattle.rx_order.specs.Ascending.{IsAscending, IsBelow}
 use Rattle.rx_parcels.specs.Footprints.{itself}
 use Rattle.rx_schedule.specs.declared.links.Link.{Link}
 use Rattle.rx_schedule.specs.Links.{is_used, linked, links_in, use_cmp}
-use Rattle.rx_schedule.proofs.Tests.{or_false}
+use Rattle.rx_schedule.proofs.Ors.{or_false}
 
 abbrev link : {K : Type 0} → K × ℕ → K × ℕ → Link
 link x y = record { from = x.1; to = y.1 }

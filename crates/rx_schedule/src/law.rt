@@ -1,11 +1,11 @@
-ghost use Rattle.std.specs.Prelude.{◌≡◌, ◌≤◌, ℕ, List, Some, length, true};
+ghost use Rattle.std.specs.Prelude.{◌≡◌, ◌≤◌, ℕ, List, ◌∷◌, ◌++◌, Some, length, true};
 ghost use Rattle.rx_fields.specs.Numbered.{LotParts};
 ghost use Rattle.rx_claim.specs.declared.transmission.Transmission.{Transmission};
 ghost use Rattle.rx_ledger.specs.Fold.{fold_ledger};
 ghost use Rattle.rx_ledger.specs.Ledger.{Ledger};
 ghost use Rattle.rx_ledger.specs.Plan.{Plan};
 ghost use Rattle.rx_parcels.specs.Books.{Book, IsInOrder, book};
-ghost use Rattle.rx_parcels.specs.Footprints.{fits};
+ghost use Rattle.rx_parcels.specs.Footprints.{fits, names};
 ghost use Rattle.rx_schedule.specs.Footprints.{footprint_at, footprints_of, record_at};
 ghost use Rattle.rx_schedule.specs.Jobs.{IsHeld, job, ledger_before, reply_at};
 ghost use Rattle.rx_schedule.specs.Machine.{GoesByNumber, IsNumbering, IsOrder, IsPlace, KeepsFileOrder};
@@ -25,6 +25,11 @@ pub fn law_of_holder()
 /// In every order of the records in which sharers keep their file order, each record finds its books as the fold has
 /// them before it: so all replies are the fold's, and all books are those of the fold's ledger.
 pub fn law_of_standing()
+    ensures finds { (lot : LotParts) → (plan : Plan) → (L : Ledger) → (records : List Transmission) → IsInOrder L
+        → (order : List ℕ) → IsOrder (job lot plan L records) order → KeepsFileOrder (job lot plan L records) order
+        → (later : List ℕ) → (place : ℕ) → (before : List ℕ) → order ≡ later ++ place ∷ before
+        → (b : Book) → names (footprint_at L records place) b ≡ true
+        → (replay (job lot plan L records) (one_by_one before)).books b ≡ book b (ledger_before lot plan L records place) }
     ensures books { (lot : LotParts) → (plan : Plan) → (L : Ledger) → (records : List Transmission) → IsInOrder L
         → (order : List ℕ) → IsOrder (job lot plan L records) order → KeepsFileOrder (job lot plan L records) order
         → (b : Book) → (replay (job lot plan L records) (one_by_one order)).books b

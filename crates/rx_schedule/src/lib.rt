@@ -21,6 +21,8 @@ mod marks;
 mod naming;
 mod ordered;
 mod queues;
+#[cfg(test)]
+mod tests;
 mod uses;
 mod wave_numbers;
 mod wave_plan;
