@@ -14,15 +14,22 @@
 
 mod billers;
 mod event;
+mod followers;
 mod law;
+mod links;
 mod marks;
 mod naming;
 mod ordered;
+mod queues;
+#[cfg(test)]
+mod tests;
+mod uses;
 mod wave_numbers;
 mod wave_plan;
 
 pub use event::Event;
 pub use law::{law_of_holder, law_of_standing, law_of_waves};
 pub use naming::footprints;
+pub use queues::Queues;
 pub use wave_numbers::Waves;
 pub use wave_plan::waves;
