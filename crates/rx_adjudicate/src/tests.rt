@@ -12,7 +12,6 @@ use rx_ledger::{Drug, Figures, Member, MemberKey, Row, Share, Sheet};
 use rx_order::Ascending;
 use rx_parcels::{Family, KeyBook, Parcel};
 use std::alloc::Global;
-use std::process::Abort;
 use std::test::Fail;
 
 const HEADER: EchoParts = EchoParts {
@@ -313,36 +312,44 @@ fn same_key_another_family(rt: HostRuntime) -> Result<(), Fail> {
     Ok(())
 }
 
-// The parcel after a record at its place in batch 44, where it has this one answer.
-fn answered(
-    rt: &impl Abort,
-    alloc: Global,
-    place: u64,
-    transaction: Transaction,
-    parcel: Parcel,
-    wanted: Answer,
-) -> Result<Parcel, Fail> {
-    let asked = record(alloc, [transaction].as_slice())?;
-    let (after, reply) = done(alloc, ordered(alloc, 44, place, asked, parcel)?)?;
-    assert_eq!(rt; answers(&reply), [wanted].as_slice());
-    Ok(after)
+// The parcel after a reversal of 123 at its place in batch 44, and the reply to it.
+fn reversed(alloc: Global, place: u64, parcel: Parcel) -> Result<(Parcel, Reply), Fail> {
+    let asked = record(alloc, [reversal(123)?].as_slice())?;
+    done(alloc, ordered(alloc, 44, place, asked, parcel)?)
+}
+
+// The same for the base claim.
+fn billed(alloc: Global, place: u64, parcel: Parcel) -> Result<(Parcel, Reply), Fail> {
+    let asked = record(alloc, [base(123, b"C100")?].as_slice())?;
+    done(alloc, ordered(alloc, 44, place, asked, parcel)?)
+}
+
+fn taken_back() -> Result<Answer, Fail> {
+    Ok(Answer::Approved(Approved {
+        number: Authorization::new(4_400_000_011).ok_or("a number")?,
+        reference: reference(123)?,
+        total_paid: Cents::new(17_175).ok_or("a total")?,
+    }))
+}
+
+fn paid_again() -> Result<Answer, Fail> {
+    let pricing = pricing(30_000, 175, 10_000, 3_000)?;
+    Ok(Answer::Paid(paid(4_400_000_031, 123, pricing)?))
 }
 
 #[test]
 fn reverse_twice_and_bill_again(rt: HostRuntime) -> Result<(), Fail> {
     let alloc = rt.alloc();
-    let taken_back = Answer::Approved(Approved {
-        number: Authorization::new(4_400_000_011).ok_or("a number")?,
-        reference: reference(123)?,
-        total_paid: Cents::new(17_175).ok_or("a total")?,
-    });
-    let again = Answer::Paid(paid(4_400_000_031, 123, pricing(30_000, 175, 10_000, 3_000)?)?);
-    let none = refused(Code::ReversalNotProcessed)?;
-    let parcel = after_one_billing(alloc)?;
-    let parcel = answered(&rt, alloc, 1, reversal(123)?, parcel, taken_back)?;
-    let parcel = answered(&rt, alloc, 2, reversal(123)?, parcel, none)?;
+    let (parcel, reply) = reversed(alloc, 1, after_one_billing(alloc)?)?;
+    assert_eq!(rt; answers(&reply), [taken_back()?].as_slice());
+    let (parcel, reply) = reversed(alloc, 2, parcel)?;
+    assert_eq!(rt;
+        answers(&reply),
+        [refused(Code::ReversalNotProcessed)?].as_slice()
+    );
     assert_eq!(rt; parcel.row(&key(123)?), None);
-    let parcel = answered(&rt, alloc, 3, base(123, b"C100")?, parcel, again)?;
+    let (parcel, reply) = billed(alloc, 3, parcel)?;
+    assert_eq!(rt; answers(&reply), [paid_again()?].as_slice());
     assert_eq!(rt; parcel.out_of_pocket(&Id::new(b"C100", 20)?), Some(13_000));
     Ok(())
 }
