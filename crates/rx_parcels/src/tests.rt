@@ -239,6 +239,17 @@ fn books_that_disagree_are_told(rt: HostRuntime) -> Result<(), Fail> {
     Ok(())
 }
 
+#[test]
+fn a_family_without_members_counts_nothing(rt: HostRuntime) -> Result<(), Fail> {
+    let c300 = id(b"C300")?;
+    let empty = Family::new(rt.alloc(), c300, this_year()?);
+    let parcel = beside(rt.alloc(), None, empty)?;
+    assert_eq!(rt; parcel.out_of_pocket(&c300), Some(0));
+    assert_eq!(rt; parcel.family_deductible(&c300), Some(0));
+    assert_eq!(rt; parcel.deductible(&c300, &person(b"01")?), None);
+    Ok(())
+}
+
 // The parcel of two families, each with a row under its key.
 fn two_families(alloc: Global, of_c100: u64, of_c200: u64) -> Result<Parcel, Fail> {
     let mut families = Vec::new(alloc);
