@@ -8,7 +8,7 @@ use std::alloc::AllocError;
 use std::fmt;
 use std::fmt::Write;
 
-/// Why the words give no command (docs/PRODUCT.md, "The program rxbatch"). Its `Display` is the text for standard
+/// Why the words give no command (docs/PRODUCT.md, "The program"). Its `Display` is the text for standard
 /// error.
 #[derive(Debug, Drop)]
 pub enum WordsFault {

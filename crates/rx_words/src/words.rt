@@ -146,7 +146,7 @@ fn told_signed(alloc: Global, number: &str) -> Result<clap::Error, AllocError> {
     line.error(ErrorKind::ValueValidation, text.as_str())
 }
 
-/// What the words ask for, the program's name being the first (docs/PRODUCT.md, "The program rxbatch").
+/// What the words ask for, the program's name being the first (docs/PRODUCT.md, "The program").
 ///
 /// At `Ok` `clap` finds no fault in the words, and the command holds the subcommand and the option values that `clap`'s
 /// matches of them hold; the workers are 0 to 65535, and the six paths of `run` are different texts.
