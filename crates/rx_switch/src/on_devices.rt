@@ -3,6 +3,7 @@ ghost use Rattle.rx_batch.specs.Fault.{UnlessMemory};
 ghost use Rattle.rx_batch.specs.Grammar.{IsFile};
 ghost use Rattle.rx_batch.specs.Pieces.{StandsFor};
 ghost use Rattle.rx_batch.specs.Reading.{HasFault};
+ghost use Rattle.rx_devices.specs.Reading.{AreFewReads};
 ghost use Rattle.rx_switch.specs.Devices.{IsBroken, IsDone, devices, has_failed};
 ghost use Rattle.rx_switch.specs.Job.{given_read, texts_in};
 ghost use Rattle.rx_switch.specs.Output.{IsOutput, IsRefused, RefusesOne};
@@ -84,6 +85,10 @@ pub fn run_io<
     ensures end_books { E.failed end_books.new ≡ has_failed device.EndBooks result }
     ensures settlement { F.failed settlement.new ≡ has_failed device.Settlement result }
     ensures thread { result ≡ Err (io.Switch SwitchFault.Thread) → RefusesOne plain (G.starts gate.now) workers }
+    // Each input is read at most 4,194,304 times, with room for at least 4,096 bytes.
+    ensures sheet_reads { AreFewReads (A.reads sheet.old) (A.reads sheet.new) (A.cramped sheet.old) (A.cramped sheet.new) }
+    ensures books_reads { AreFewReads (B.reads books.old) (B.reads books.new) (B.cramped books.old) (B.cramped books.new) }
+    ensures batch_reads { AreFewReads (C.reads batch.old) (C.reads batch.new) (C.cramped batch.old) (C.cramped batch.new) }
 {
     let read = read_inputs(alloc, sheet, books, batch)?;
     let output = output_of(rt, alloc, gate, stamp, workers, plain, read)?;
