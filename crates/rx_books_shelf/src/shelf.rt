@@ -1,0 +1,156 @@
+ghost use Rattle.std.specs.Prelude.{◌≡◌, ◌↔◌, ◌||◌, if◌then◌else◌, Bool, false, true, is_ok, IfErr, IfOk, IsErrOf, IsOk, OnErr, OnOk};
+ghost use Rattle.std.specs.List.{All};
+ghost use Rattle.rx_fields.specs.Order.{id_cmp, key_cmp};
+ghost use Rattle.rx_order.specs.Ascending.{IsAscending};
+ghost use Rattle.rx_ledger.specs.Ledger.{empty};
+ghost use Rattle.rx_parcels.specs.Books.{Book, book};
+ghost use Rattle.rx_parcels.specs.FamilyBook.{family_of};
+ghost use Rattle.rx_parcels.specs.Footprints.{names};
+ghost use Rattle.rx_parcels.specs.Parcels.{HasOwnRow, key_of, named_in, values_of};
+ghost use Rattle.rx_places.specs.Shelves.{AreAllAgreed, IsShelf, are_all_in, has_slot, is_out, value_of};
+ghost use Rattle.rx_books_shelf.specs.Opened.{is_named, shelf_of};
+ghost use Rattle.rx_books_shelf.specs.Taken.{are_out, has_all, parcel_of, put_back, taken_out};
+
+use crate::families::{
+    are_families_in, are_families_out, family_room, give_families, take_families,
+};
+use crate::fault::{GiveFault, TakeFault};
+use crate::gathering::gathered;
+use crate::keys::{are_keys_in, are_keys_out, give_keys, key_room, take_keys};
+use crate::naming::{families_named, keys_named};
+use crate::placing::{family_places, key_places};
+use rx_books_kept::{Books, OpenBooks};
+use rx_fields::{Memory, Period};
+use rx_order::Ascending;
+use rx_parcels::{Family, Footprint, KeyBook, Parcel};
+use rx_places::{FamilyPlace, KeyPlace};
+use std::alloc::Global;
+use std::marker::Model;
+
+/// The books of a batch, with a place for each book that it names: parcels are taken from there, and given back
+/// (docs/CALLS.md, "Footprint and shelf"). Contracts see the period, the ledger that the books were opened on, and each
+/// place with what it holds; `value_of` is what a book is worth.
+#[derive(Debug, Drop)]
+pub struct Shelf {
+    // The books that the shelf was made of. They stay as they were.
+    pub(crate) books: OpenBooks,
+    pub(crate) keys: Ascending<KeyPlace>,
+    pub(crate) families: Ascending<FamilyPlace>,
+}
+
+impl Model for Shelf {
+    ghost use Rattle.std.specs.List.{All};
+    ghost use Rattle.rx_places.specs.Shelves.{IsShelf, ShelfParts};
+    ghost use Rattle.rx_books_shelf.specs.Closed.{HasSlot};
+
+    ghost Value = { ShelfParts };
+
+    ghost view = { λ s. record { period = s.books.books.period; rest = s.books.books.ledger; keys = s.keys; families = s.families } };
+
+    ghost invariant = { λ s. IsShelf (record { period = s.books.books.period; rest = s.books.books.ledger; keys = s.keys; families = s.families }) × All (HasSlot s.books.slots) s.keys };
+}
+
+impl Shelf {
+    /// The shelf of the books, with a place for each book that one of the footprints names, and all of them in. On a
+    /// refusal the books are dropped.
+    pub fn of(alloc: Global, books: Books, footprints: &[Footprint]) -> Result<Shelf, Memory>
+        ensures value { IfOk result (λ shelf. shelf ≡ shelf_of books footprints.now) }
+        // Each book is worth what it is in the books; those that a footprint names have a place, and none is out.
+        ensures values { IfOk result (λ shelf. (b : Book) → value_of shelf b ≡ book b books.ledger) }
+        ensures slots { IfOk result (λ shelf. (b : Book) → has_slot shelf b ≡ is_named footprints.now b) }
+        ensures inside { IfOk result (λ shelf. (b : Book) → is_out shelf b ≡ false) }
+    {
+        let keys = keys_named(alloc, footprints)?;
+        let families = families_named(alloc, footprints)?;
+        let books = books.open(alloc, &keys)?;
+        let keys = key_places(alloc, &books, &keys)?;
+        let families = family_places(alloc, gathered(alloc, &books, &families)?)?;
+        let _standing = books.standing();
+        Ok(Shelf {
+            books,
+            keys,
+            families,
+        })
+    }
+
+    /// The period that all totals are of.
+    pub fn period(&self) -> Period
+        ensures value { result ≡ self.now.period }
+        ensures within { IsShelf self.now }
+    {
+        self.books.period()
+    }
+
+    /// Moves the books that the footprint names out of their places. On a refusal the shelf is unchanged.
+    pub fn take(&mut self, alloc: Global, footprint: &Footprint) -> Result<Parcel, TakeFault>
+        ensures absent { IsErrOf result TakeFault.Absent ↔ (has_all self.old footprint.now ≡ false) }
+        ensures parcel { IfOk result (λ parcel. parcel ≡ parcel_of self.old footprint.now) }
+        ensures ok { OnOk result (self.new ≡ taken_out self.old footprint.now) }
+        ensures err { OnErr result (self.new ≡ self.old) }
+        // The parcel has the values of the named books, and the shelf has nothing of them any more.
+        ensures values { IfOk result (λ parcel. (b : Book) → values_of parcel b ≡ (if names footprint.now b then value_of self.old b else empty)) }
+        ensures left { OnOk result ((b : Book) → value_of self.new b ≡ (if names footprint.now b then empty else value_of self.old b)) }
+        ensures out { OnOk result ((b : Book) → is_out self.new b ≡ (names footprint.now b || is_out self.old b)) }
+        ensures slots { OnOk result ((b : Book) → has_slot self.new b ≡ has_slot self.old b) }
+    {
+        if !self.has_all(footprint) {
+            return Err(TakeFault::Absent);
+        }
+        let keys = key_room(alloc, footprint.keys())?;
+        let families = family_room(alloc, footprint.families())?;
+        let keys = take_keys(&mut self.keys, footprint.keys(), keys);
+        let families = take_families(&mut self.families, footprint.families(), families);
+        Ok(parcel_of(self.books.period(), keys, families))
+    }
+
+    /// Moves the parcel's books back into their places. It takes no memory. A stranger comes back, and the shelf is
+    /// unchanged.
+    pub fn give(&mut self, parcel: Parcel) -> Result<(), GiveFault>
+        ensures accepts { IsOk result ↔ ((parcel.period ≡ self.old.period) × (are_out self.old (named_in parcel) ≡ true)) }
+        ensures ok { OnOk result (self.new ≡ put_back self.old parcel) }
+        ensures err { OnErr result (self.new ≡ self.old) }
+        ensures back { IfErr result (λ fault. fault.parcel ≡ parcel) }
+        // The parcel's books are worth what they are in it, and are in; all others are as they were.
+        ensures values { OnOk result ((b : Book) → value_of self.new b ≡ (if names (named_in parcel) b then values_of parcel b else value_of self.old b)) }
+        ensures out { OnOk result ((b : Book) → is_out self.new b ≡ (if names (named_in parcel) b then false else is_out self.old b)) }
+        ensures slots { OnOk result ((b : Book) → has_slot self.new b ≡ has_slot self.old b) }
+    {
+        if parcel.period() != self.books.period() || !self.are_out(&parcel) {
+            return Err(GiveFault { parcel });
+        }
+        let (keys, families) = parcel.into_books();
+        give_keys(&mut self.keys, keys.into_vec());
+        give_families(&mut self.families, families);
+        Ok(())
+    }
+
+    // Whether each book that the footprint names is in.
+    fn has_all(&self, footprint: &Footprint) -> bool
+        ensures { result ≡ has_all self.now footprint.now }
+    {
+        are_keys_in(&self.keys, footprint.keys())
+            && are_families_in(&self.families, footprint.families())
+    }
+
+    // Whether each book of the parcel has a place, and is out.
+    fn are_out(&self, parcel: &Parcel) -> bool
+        ensures { result ≡ are_out self.now (named_in parcel.now) }
+    {
+        are_keys_out(&self.keys, parcel.keys())
+            && are_families_out(&self.families, parcel.families())
+    }
+}
+
+// The parcel of these books.
+fn parcel_of(period: Period, keys: Vec<KeyBook>, families: Vec<Family>) -> Parcel
+    requires keys_rise { IsAscending key_cmp key_of keys.items }
+    requires rows_own { All HasOwnRow keys.items }
+    requires families_rise { IsAscending id_cmp family_of families.items }
+    requires one_period { All (λ b. b.period ≡ period) families.items }
+    ensures { result ≡ record { period = period; keys = keys.items; families = families.items } }
+{
+    match Ascending::from_vec(keys) {
+        Ok(keys) => Parcel::new(period, keys, families),
+        Err(_) => unreachable!(),
+    }
+}
