@@ -1,4 +1,5 @@
 pub mod NoThread
+pub mod OneOutput
 pub mod Refusals
 pub mod Replied
 pub mod Unplanned
