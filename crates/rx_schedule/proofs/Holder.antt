@@ -180,10 +180,14 @@ module _ (lot : LotParts) (plan : Plan) (L : Ledger) (records : List Transmissio
       subst (λ M. Holds (λ key f. is_among (holders L (take (suc (suc n) - 1) records) key) f ≡ true) M)
       (sym (next_ledger (suc n) one to)) holds
 
-  pub held : (i : ℕ) → 1 ≤ i → i ≤ length records → IsHeld lot plan L records i
-  held i one to =
+  -- also at the place behind the last record
+  pub held_through : (i : ℕ) → 1 ≤ i → i ≤ suc (length records) → IsHeld lot plan L records i
+  held_through i one to =
       let e : suc (i - 1) ≡ i = omega arith in
       subst (λ p. IsHeld lot plan L records p) e (held_after (i - 1) (omega arith))
+
+  pub held : (i : ℕ) → 1 ≤ i → i ≤ length records → IsHeld lot plan L records i
+  held i one to = held_through i one (omega arith)
 
 -- ---- a footprint that names what the transactions name fits
 

@@ -214,7 +214,8 @@ module _ {K : Type 0} (cmp : K → K → Ordering) where
                 let n = next_use x y ys i rise.0.0 rise.1.0 (ap (λ m. is_used cmp (y ∷ ys) m i) (sym name) ∙ later) in
                 let tie : is_eq (cmp x.0 y.0) ≡ true = ap is_eq n.0 in
                 let from : link_if (link x y) x.1 y.1 ≡ 1 = link_own (link x y) in
-                let many : linked x.1 y.1 (links_in cmp (x ∷ y ∷ ys)) ≡ link_if (link x y) x.1 y.1 + linked x.1 y.1 (links_in cmp (y ∷ ys)) =
+                let many : linked x.1 y.1 (links_in cmp (x ∷ y ∷ ys))
+                ≡ link_if (link x y) x.1 y.1 + linked x.1 y.1 (links_in cmp (y ∷ ys)) =
                 ap (λ t. linked x.1 y.1 (cond t (link x y ∷ links_in cmp (y ∷ ys)) (links_in cmp (y ∷ ys)))) tie
                 ∙ linked-cons x.1 y.1 (link x y) (links_in cmp (y ∷ ys)) in
                 let some : 1 ≤ linked x.1 y.1 (links_in cmp (x ∷ y ∷ ys)) = omega arith in

@@ -35,7 +35,8 @@ module _ {K : Type 0} (cmp : K → K → Ordering) (order : IsTotalOrder cmp) (e
   abbrev sorted : List (K × ℕ)
   sorted = in_order (use_cmp cmp) uses
 
-  is_there : (k : K) (p : ℕ) → is_used cmp sorted k p ≡ true → (1 ≤ p) × (p ≤ length fs) × (is_named cmp (names (footprint_in fs p)) k ≡ true)
+  is_there : (k : K) (p : ℕ) → is_used cmp sorted k p ≡ true
+      → (1 ≤ p) × (p ≤ length fs) × (is_named cmp (names (footprint_in fs p)) k ≡ true)
   is_there k p used =
       let named : is_named cmp (names_at uses p) k ≡ true = named_used cmp order exact uses k p
       ∙ sym (among-in_order (use_cmp cmp) (use_total cmp order exact) (use_exact cmp order exact) uses (k, p)) ∙ used in

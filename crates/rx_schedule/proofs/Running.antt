@@ -155,7 +155,8 @@ module _ (n : ℕ) (rows : List (List ℕ)) (waiting order : List ℕ) (c : AreC
         within = λ r x low high has. elim (cases_eq r p) [
           | inl here ↦
               let g : row_of (set rows (p - 1) rest) r ≡ rest =
-              ap (row_of (set rows (p - 1) rest)) here ∙ row-same rows p rest one (let m : length rows ≡ n = c.as_many_rows in omega arith) in
+              ap (row_of (set rows (p - 1) rest)) here ∙ row-same rows p rest one
+              (let m : length rows ≡ n = c.as_many_rows in omega arith) in
               let h : 1 ≤ times x rest = subst (λ ys. 1 ≤ times x ys) g has in
               let e : times x (row_of rows p) ≡ times x rest + one_if q x = taken_times x in
               c.within p x one to (omega arith)

@@ -1,4 +1,4 @@
-ghost use Rattle.std.specs.Prelude.{◌≡◌, ◌≤◌, ℕ, List, ◌∷◌, ◌++◌, Some, length, true};
+ghost use Rattle.std.specs.Prelude.{◌≡◌, ◌≤◌, ℕ, List, ◌∷◌, ◌++◌, Some, length, suc, true};
 ghost use Rattle.rx_fields.specs.Numbered.{LotParts};
 ghost use Rattle.rx_claim.specs.declared.transmission.Transmission.{Transmission};
 ghost use Rattle.rx_ledger.specs.Fold.{fold_ledger};
@@ -12,11 +12,11 @@ ghost use Rattle.rx_schedule.specs.Machine.{GoesByNumber, IsNumbering, IsOrder, 
 ghost use Rattle.rx_schedule.specs.Machine.{one_by_one, replay};
 ghost use Rattle.rx_schedule.specs.Waves.{AreWaves, number_in};
 
-/// At each point of the fold the row under a fill key, if there is one, is of the opening row's family or of the family
-/// of an earlier billing with that key; so the footprint of a record fits it there.
+/// At each point of the fold, before a record and behind the last, the row under a fill key, if there is one, is of the
+/// opening row's family or of the family of an earlier billing with that key; so the footprint of a record fits it there.
 pub fn law_of_holder()
     ensures row { (lot : LotParts) → (plan : Plan) → (L : Ledger) → (records : List Transmission) → (place : ℕ)
-        → 1 ≤ place → place ≤ length records → IsHeld lot plan L records place }
+        → 1 ≤ place → place ≤ suc (length records) → IsHeld lot plan L records place }
     ensures fits { (lot : LotParts) → (plan : Plan) → (L : Ledger) → (records : List Transmission) → (place : ℕ)
         → 1 ≤ place → place ≤ length records
         → fits (footprint_at L records place) (record_at records place) (ledger_before lot plan L records place) ≡ true }

@@ -57,7 +57,8 @@ overflow_add-index_mut c =
     let one : 1 ≤ link.to = there.2 in
     let to : link.to ≤ c.args.count = there.3 in
     let is : c.index_mut-in-links.result.now ≡ number_of c.links.waiting.items link.to =
-    c.index_mut-in-links.ensures.value ∙ get_or_default c.links.waiting.items (link.to - 1) c.index_mut-in-links.result.now 0 (omega (arith, many)) in
+    c.index_mut-in-links.ensures.value ∙ get_or_default c.links.waiting.items (link.to - 1)
+    c.index_mut-in-links.result.now 0 (omega (arith, many)) in
     let few : number_of c.links.waiting.items link.to ≤ c.links.link-index = c.links.invariant.few link.to in
     omega arith
 

@@ -11,11 +11,14 @@ places-preserved c =
     let room : length waiting ≤ vec_capacity c.places.order = c.places.invariant.room in
     elim c.if-links-eq0.branch [
       | then-links-eq0+in_ok-push w ↦ record {
-        free = rw (w.order-is, w.in_ok-push.ensures.items) (free_next c.places.at (c.places.at + 1) waiting c.places.order.items free refl w.if-links-eq0.true);
-        room = rw w.order-is (let g : vec_capacity c.places.order ≤ vec_capacity w.push.new.self = w.in_ok-push.ensures.capacity in omega arith);
+        free = rw (w.order-is, w.in_ok-push.ensures.items) (free_next c.places.at (c.places.at + 1) waiting
+            c.places.order.items free refl w.if-links-eq0.true);
+        room = rw w.order-is (let g : vec_capacity c.places.order ≤ vec_capacity w.push.new.self =
+            w.in_ok-push.ensures.capacity in omega arith);
       }
       | else-links-eq0 w ↦ record {
-        free = rw w.order-is (free_kept c.places.at (c.places.at + 1) waiting c.places.order.items free refl w.if-links-eq0.false);
+        free = rw w.order-is (free_kept c.places.at (c.places.at + 1) waiting c.places.order.items free refl
+            w.if-links-eq0.false);
         room = rw w.order-is room;
       }
     ]
