@@ -1,0 +1,4 @@
+pub mod Fitting
+pub mod Lists
+pub mod OneParcel
+pub mod Passing
