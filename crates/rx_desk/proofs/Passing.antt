@@ -1,10 +1,27 @@
 -- What one event changes of which records may be given, and that no two that share are out at once.
-use Rattle.std.proofs.Common.{◌≡◌, ℕ, ◌<◌, List, [], ◌∷◌, true, refl, sym, ap, ◌∙◌, arith, inl, inr}
-use Rattle.std.proofs.lemmas.Bool.{cases_order}
+use Rattle.std.proofs.Common.{◌≡◌, ℕ, ◌<◌, ◌≤◌, List, [], ◌∷◌, true, refl, sym, ap, ◌∙◌, arith, inl, inr}
+use Rattle.std.proofs.lemmas.Bool.{cases_order, eq-eqb, ne_eqb}
 use Rattle.rx_schedule.specs.declared.event.Event.{Event}
 use Rattle.rx_schedule.specs.declared.event.Event.TheVariants.{Give, Take}
 use Rattle.rx_schedule.specs.Machine.{IsLegal, IsPlace, Job, MayGive, MayTake, Was}
-use Rattle.rx_schedule.proofs.Replayed.{in_range, in_turn, taken}
+use Rattle.rx_schedule.specs.Machine.{Share, with_at}
+use Rattle.rx_schedule.proofs.Replayed.{in_range, taken}
+
+pub at_own : {A : Type 0} (f : ℕ → A) (i j : ℕ) (x : A) → i ≡ j → with_at f i x j ≡ x
+at_own f i j x e = rw (eq-eqb j i (sym e))
+
+pub at_other : {A : Type 0} (f : ℕ → A) (i j : ℕ) (x : A) → (i ≡ j → ⊥) → with_at f i x j ≡ f j
+at_other f i j x n = rw (ne_eqb j i (λ e. n (sym e)))
+
+-- of two that share, the later was taken only after the earlier was given
+in_turn : (job : Job) (i j : ℕ) (past : List Event) → IsLegal job past → 1 ≤ i → i < j → Share job i j
+    → Was (Take j) past → Was (Give i) past
+in_turn job i j [] l one h s w = elim w [ ]
+in_turn job i j (Take k ∷ past) l one h s (inl e) =
+    let same : k ≡ j = cc e in inr (l.0.sharers i one (rw same h) (rw same s))
+in_turn job i j (Take k ∷ past) l one h s (inr w) = inr (in_turn job i j past l.1 one h s w)
+in_turn job i j (Give k ∷ past) l one h s (inl e) = absurd (cc e)
+in_turn job i j (Give k ∷ past) l one h s (inr w) = inr (in_turn job i j past l.1 one h s w)
 
 -- ---- an event more
 

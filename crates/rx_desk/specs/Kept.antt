@@ -1,12 +1,21 @@
 -- What a desk keeps beside its job and its events: the books in place, the parcels that are out, the replies, and which
 -- records were handed out and passed are those that the events have led to.
-use Rattle.std.specs.Prelude.{◌≡◌, ℕ, ◌+◌, ◌-◌, ◌*◌, ◌≤◌, Bool, true, List, [], length, Option, Some, slice_get, slice_index_or, sum_by}
+use Rattle.std.specs.Prelude.{◌≡◌, ℕ, ◌+◌, ◌-◌, ◌*◌, ◌≤◌, Bool, true, List, [], length, reverse, Option, Some, slice_get, slice_index_or, sum_by}
+use Rattle.rx_fields.specs.Numbered.{LotParts}
 use Rattle.rx_claim.specs.declared.reply.Reply.{Reply}
+use Rattle.rx_claim.specs.declared.transmission.Transmission.{Transmission}
+use Rattle.rx_ledger.specs.declared.figures.Figures.{Figures}
+use Rattle.rx_ledger.specs.declared.sheet.Listed.{Listed}
 use Rattle.rx_ledger.specs.Ledger.{Ledger}
+use Rattle.rx_ledger.specs.TermList.{TermParts}
 use Rattle.rx_parcels.specs.Books.{Book, IsInOrder}
-use Rattle.rx_parcels.specs.Footprints.{names}
+use Rattle.rx_parcels.specs.Footprints.{FootprintParts, names}
+use Rattle.rx_books_kept.specs.LedgerBooks.{LedgerBooks}
+use Rattle.rx_places.specs.Shelves.{ShelfParts, has_slot, is_out, value_of}
 use Rattle.rx_schedule.specs.declared.event.Event.{Event}
 use Rattle.rx_schedule.specs.declared.event.Event.TheVariants.{Give, Take}
+use Rattle.rx_schedule.specs.Footprints.{footprints_of}
+use Rattle.rx_schedule.specs.Queues.{QueueParts}
 use Rattle.rx_schedule.specs.Machine.{IsLegal, IsPlace, MayGive, Was, replay}
 use Rattle.rx_desk.specs.declared.state.State.{State}
 use Rattle.rx_desk.specs.declared.state.State.TheVariants.{Given, Out, Waiting}
@@ -82,3 +91,25 @@ pub record IsCounted (capacity : ℕ) (history : List Event) (states : List Stat
   pub events : length history + sum_by events_left states ≡ 2 * length states
   pub room : 2 * length states ≤ capacity
   pub left : waiting ≡ sum_by one_waiting states
+
+-- ---- the desk
+
+-- the job of these parts; its plan is the sheet's figures and drugs
+abbrev pub job_with : LotParts → Figures → List Listed → List TermParts → LedgerBooks → List Transmission → DeskJob
+job_with lot figures drugs terms books records = record {
+  lot = lot;
+  plan = record { figures = figures; drugs = drugs };
+  terms = terms;
+  books = books;
+  records = records;
+}
+
+-- what a desk keeps of its job and its events: the footprints are the job's, and the queues are theirs; the shelf is of
+-- the books' period
+pub record IsKept (j : DeskJob) (capacity : ℕ) (history : List Event) (footprints : List FootprintParts) (queues : QueueParts)
+    (shelf : ShelfParts) (states : List State) (waiting : ℕ) (replies : List Reply) : Type 0 where
+  pub desk : IsDesk j (reverse history) (value_of shelf) (has_slot shelf) (is_out shelf) queues.handed queues.passed states replies
+  pub named : footprints ≡ footprints_of j.books.ledger j.records
+  pub queued : queues.footprints ≡ footprints
+  pub period : shelf.period ≡ j.books.period
+  pub counted : IsCounted capacity history states waiting
