@@ -18,11 +18,13 @@ mod law;
 mod marks;
 mod naming;
 mod ordered;
+mod queues;
 mod wave_numbers;
 mod wave_plan;
 
 pub use event::Event;
 pub use law::{law_of_holder, law_of_standing, law_of_waves};
 pub use naming::footprints;
+pub use queues::Queues;
 pub use wave_numbers::Waves;
 pub use wave_plan::waves;

@@ -1,0 +1,52 @@
+-- The shelf of books, with all of them in: a place for each book that a footprint names.
+use Rattle.std.specs.Prelude.{ℕ, Bool, List, [], Some, map}
+use Rattle.std.specs.List.{list_any}
+use Rattle.rx_fields.specs.Numbered.{Span}
+use Rattle.rx_fields.specs.Order.{id_cmp, key_cmp}
+use Rattle.rx_fields.specs.declared.key.Key.{Key}
+use Rattle.rx_order.specs.Joined.{joined}
+use Rattle.rx_ledger.specs.Ledger.{Ledger, members_of, row_under, rows_of}
+use Rattle.rx_parcels.specs.Books.{Book}
+use Rattle.rx_parcels.specs.FamilyBook.{FamilyBook}
+use Rattle.rx_parcels.specs.Footprints.{FootprintParts, itself, names}
+use Rattle.rx_books_kept.specs.LedgerBooks.{LedgerBooks}
+use Rattle.rx_places.specs.declared.place.KeyPlace.{KeyPlace}
+use Rattle.rx_places.specs.declared.place.FamilyPlace.{FamilyPlace}
+use Rattle.rx_places.specs.Shelves.{ShelfParts}
+
+-- the keys, and the families, of all footprints: each once, ascending
+abbrev pub all_keys : List FootprintParts → List Key
+all_keys footprints = joined key_cmp itself (map (λ F. F.keys) footprints)
+
+abbrev pub all_families : List FootprintParts → List (List ℕ)
+all_families footprints = joined id_cmp itself (map (λ F. F.families) footprints)
+
+-- one of them names the book
+abbrev pub is_named : List FootprintParts → Book → Bool
+is_named footprints b = list_any (λ F. names F b) footprints
+
+-- the book of a family: its members and rows
+abbrev pub family_book : LedgerBooks → List ℕ → FamilyBook
+family_book b family =
+    record {
+      family = family;
+      period = b.period;
+      members = members_of b.ledger family;
+      rows = rows_of b.ledger family;
+    }
+
+-- each book in its place
+abbrev pub full_key_place : LedgerBooks → Key → KeyPlace
+full_key_place b key = record { key = key; held = Some (row_under b.ledger key) }
+
+abbrev pub full_family_place : LedgerBooks → List ℕ → FamilyPlace
+full_family_place b family = record { family = family; held = Some (family_book b family) }
+
+abbrev pub shelf_of : LedgerBooks → List FootprintParts → ShelfParts
+shelf_of b footprints =
+    record {
+      period = b.period;
+      rest = b.ledger;
+      keys = map (full_key_place b) (all_keys footprints);
+      families = map (full_family_place b) (all_families footprints);
+    }
