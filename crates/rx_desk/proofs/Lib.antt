@@ -4,3 +4,4 @@ pub mod OneParcel
 pub mod Passing
 pub mod Placed
 pub mod Ready
+pub mod Sent
