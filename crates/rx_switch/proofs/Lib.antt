@@ -5,3 +5,4 @@ pub mod Replied
 pub mod Unplanned
 pub mod Unread
 pub mod Unwritten
+pub mod Stopped

@@ -124,9 +124,9 @@ fn output_of<R: Threads + Wait + Sync, G: Gate + Sync>(
     drop(books);
     let batch = finished(batch)?;
     let parts = parts.max(parts_of(workers, batch.details.len() * DETAIL_BYTES));
-    Ok(adjudicate(
-        rt, alloc, gate, parts, plain, &stamp, &sheet, opening, &batch,
-    )?)
+    adjudicate(
+        rt, alloc, gate, workers, parts, plain, &stamp, &sheet, opening, &batch,
+    )
 }
 
 // The batch of the pieces.

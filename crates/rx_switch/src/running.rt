@@ -43,9 +43,18 @@ pub fn run<R: Threads + Wait + Sync, G: Gate + Sync>(
     let books = Books::read_in_parts(rt, alloc, parts, job.books)?;
     let batch = read_batch(alloc, job.batch)?;
     let parts = parts_of(job.workers, job.books.len().max(job.batch.len()));
-    Ok(adjudicate(
-        rt, alloc, gate, parts, job.plain, &stamp, &sheet, books, &batch,
-    )?)
+    adjudicate(
+        rt,
+        alloc,
+        gate,
+        job.workers,
+        parts,
+        job.plain,
+        &stamp,
+        &sheet,
+        books,
+        &batch,
+    )
 }
 
 // The run's date and time.
