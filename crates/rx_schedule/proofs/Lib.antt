@@ -1,9 +1,16 @@
+pub mod Followed
 pub mod Holder
 pub mod InOrder
+pub mod Linked
+pub mod Linking
 pub mod MarkedNames
 pub mod Noted
+pub mod Released
 pub mod Replayed
+pub mod Running
 pub mod Scanned
+pub mod Spread
 pub mod Standing
 pub mod Tests
+pub mod Times
 pub mod WaveByWave

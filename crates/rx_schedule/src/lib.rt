@@ -14,11 +14,14 @@
 
 mod billers;
 mod event;
+mod followers;
 mod law;
+mod links;
 mod marks;
 mod naming;
 mod ordered;
 mod queues;
+mod uses;
 mod wave_numbers;
 mod wave_plan;
 
