@@ -1,7 +1,8 @@
 //! The books: members and standing claims with their totals, read, kept and written, opened for a batch, and split into
 //! parcels.
 //!
-//! `Books` and `OpenBooks` are those of `rx_books_kept`; `Footprint`, `Family` and `Parcel` those of `rx_parcels`.
+//! `Books` and `OpenBooks` are those of `rx_books_kept`; `Footprint`, `Family` and `Parcel` those of `rx_parcels`; `Shelf`
+//! is that of `rx_books_shelf`.
 //!
 //! ```rust
 //! let books = rx_books::Books::read(alloc, text)?;
@@ -10,4 +11,5 @@
 #![tactic(auto)]
 
 pub use rx_books_kept::{Books, OpenBooks, Standing};
+pub use rx_books_shelf::{GiveFault, Shelf, TakeFault};
 pub use rx_parcels::{Family, Footprint, KeyBook, Parcel};

@@ -91,7 +91,7 @@ impl OpenBooks {
     }
 
     /// The row under a fill key.
-    pub(crate) fn row(&self, key: &Key) -> Option<&Row>
+    pub fn row(&self, key: &Key) -> Option<&Row>
         ensures { option_copied result ≡ row_under self.now.books.ledger key.now }
     {
         match self.changed.get(key) {

@@ -116,6 +116,14 @@ impl OpenBooks {
         })
     }
 
+    /// The members, ascending by family and person.
+    pub fn members(&self) -> &[Member]
+        ensures value { result.now ≡ self.now.books.ledger.members }
+        ensures rise { IsAscending member_cmp member_key self.now.books.ledger.members }
+    {
+        self.opening.members().as_slice()
+    }
+
     /// The member at a place.
     pub fn member_at(&self, place: usize) -> &Member
         requires { place < length self.now.books.ledger.members }

@@ -1,0 +1,12 @@
+pub mod AllNamed
+pub mod Ascended
+pub mod PutBooks
+pub mod Moved
+pub mod OpenedShelf
+pub mod ShelfAgreed
+pub mod ShelfKept
+pub mod TakenPlaces
+pub mod Worth
+pub mod ClosedShelf
+pub mod Brought
+pub mod MemberPlaces

@@ -1,3 +1,6 @@
+pub mod Agreement
+pub mod Closed
 pub mod Faults
+pub mod Gathered
 pub mod Opened
 pub mod Taken

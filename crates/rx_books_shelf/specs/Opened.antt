@@ -39,8 +39,8 @@ family_book b family =
 abbrev pub full_key_place : LedgerBooks → Key → KeyPlace
 full_key_place b key = record { key = key; held = Some (row_under b.ledger key) }
 
-abbrev pub full_family_place : LedgerBooks → List ℕ → FamilyPlace
-full_family_place b family = record { family = family; held = Some (family_book b family) }
+abbrev pub filled_place : FamilyBook → FamilyPlace
+filled_place book = record { family = book.family; held = Some book }
 
 abbrev pub shelf_of : LedgerBooks → List FootprintParts → ShelfParts
 shelf_of b footprints =
@@ -48,5 +48,5 @@ shelf_of b footprints =
       period = b.period;
       rest = b.ledger;
       keys = map (full_key_place b) (all_keys footprints);
-      families = map (full_family_place b) (all_families footprints);
+      families = map (λ f. filled_place (family_book b f)) (all_families footprints);
     }

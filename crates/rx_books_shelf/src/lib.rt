@@ -14,8 +14,16 @@
 //! `specs/Taken.antt`.
 #![tactic(auto)]
 
+mod agreement;
+mod closing;
+mod families;
 mod fault;
+mod gathering;
+mod keys;
+mod naming;
+mod placing;
 mod shelf;
+mod unique;
 
 pub use fault::{GiveFault, TakeFault};
 pub use shelf::Shelf;

@@ -1,17 +1,28 @@
-ghost use Rattle.std.specs.Prelude.{◌≡◌, ◌↔◌, ◌||◌, if◌then◌else◌, Bool, false, true, is_ok, IfErr, IfOk, IsErrOf, IsOk, IsTrue, OnErr, OnOk};
+ghost use Rattle.std.specs.Prelude.{◌≡◌, ◌↔◌, ◌||◌, if◌then◌else◌, Bool, false, true, is_ok, IfErr, IfOk, IsErrOf, IsOk, OnErr, OnOk};
+ghost use Rattle.std.specs.List.{All};
+ghost use Rattle.rx_fields.specs.Order.{id_cmp, key_cmp};
+ghost use Rattle.rx_order.specs.Ascending.{IsAscending};
 ghost use Rattle.rx_ledger.specs.Ledger.{empty};
 ghost use Rattle.rx_parcels.specs.Books.{Book, book};
+ghost use Rattle.rx_parcels.specs.FamilyBook.{family_of};
 ghost use Rattle.rx_parcels.specs.Footprints.{names};
-ghost use Rattle.rx_parcels.specs.Parcels.{named_in, values_of};
-ghost use Rattle.rx_places.specs.Shelves.{AreAllAgreed, are_all_in, has_slot, is_out, value_of};
+ghost use Rattle.rx_parcels.specs.Parcels.{HasOwnRow, key_of, named_in, values_of};
+ghost use Rattle.rx_places.specs.Shelves.{AreAllAgreed, IsShelf, are_all_in, has_slot, is_out, value_of};
 ghost use Rattle.rx_books_shelf.specs.Opened.{is_named, shelf_of};
 ghost use Rattle.rx_books_shelf.specs.Taken.{are_out, has_all, parcel_of, put_back, taken_out};
 
+use crate::families::{
+    are_families_in, are_families_out, family_room, give_families, take_families,
+};
 use crate::fault::{GiveFault, TakeFault};
+use crate::gathering::gathered;
+use crate::keys::{are_keys_in, are_keys_out, give_keys, key_room, take_keys};
+use crate::naming::{families_named, keys_named};
+use crate::placing::{family_places, key_places};
 use rx_books_kept::{Books, OpenBooks};
 use rx_fields::{Memory, Period};
 use rx_order::Ascending;
-use rx_parcels::{Footprint, Parcel};
+use rx_parcels::{Family, Footprint, KeyBook, Parcel};
 use rx_places::{FamilyPlace, KeyPlace};
 use std::alloc::Global;
 use std::marker::Model;
@@ -22,20 +33,21 @@ use std::marker::Model;
 #[derive(Debug, Drop)]
 pub struct Shelf {
     // The books that the shelf was made of. They stay as they were.
-    books: OpenBooks,
-    keys: Ascending<KeyPlace>,
-    families: Ascending<FamilyPlace>,
+    pub(crate) books: OpenBooks,
+    pub(crate) keys: Ascending<KeyPlace>,
+    pub(crate) families: Ascending<FamilyPlace>,
 }
 
 impl Model for Shelf {
-    ghost use Rattle.std.specs.Prelude.{◌≡◌, true, false};
-    ghost use Rattle.rx_places.specs.Shelves.{ShelfParts};
+    ghost use Rattle.std.specs.List.{All};
+    ghost use Rattle.rx_places.specs.Shelves.{IsShelf, ShelfParts};
+    ghost use Rattle.rx_books_shelf.specs.Closed.{HasSlot};
 
     ghost Value = { ShelfParts };
 
     ghost view = { λ s. record { period = s.books.books.period; rest = s.books.books.ledger; keys = s.keys; families = s.families } };
 
-    ghost invariant = { λ s. true ≡ false };
+    ghost invariant = { λ s. IsShelf (record { period = s.books.books.period; rest = s.books.books.ledger; keys = s.keys; families = s.families }) × All (HasSlot s.books.slots) s.keys };
 }
 
 impl Shelf {
@@ -48,12 +60,23 @@ impl Shelf {
         ensures slots { IfOk result (λ shelf. (b : Book) → has_slot shelf b ≡ is_named footprints.now b) }
         ensures inside { IfOk result (λ shelf. (b : Book) → is_out shelf b ≡ false) }
     {
-        Err(Memory)
+        let keys = keys_named(alloc, footprints)?;
+        let families = families_named(alloc, footprints)?;
+        let books = books.open(alloc, &keys)?;
+        let keys = key_places(alloc, &books, &keys)?;
+        let families = family_places(alloc, gathered(alloc, &books, &families)?)?;
+        let _standing = books.standing();
+        Ok(Shelf {
+            books,
+            keys,
+            families,
+        })
     }
 
     /// The period that all totals are of.
     pub fn period(&self) -> Period
-        ensures { result ≡ self.now.period }
+        ensures value { result ≡ self.now.period }
+        ensures within { IsShelf self.now }
     {
         self.books.period()
     }
@@ -70,8 +93,14 @@ impl Shelf {
         ensures out { OnOk result ((b : Book) → is_out self.new b ≡ (names footprint.now b || is_out self.old b)) }
         ensures slots { OnOk result ((b : Book) → has_slot self.new b ≡ has_slot self.old b) }
     {
-        let _books = &self.books;
-        Err(TakeFault::Memory)
+        if !self.has_all(footprint) {
+            return Err(TakeFault::Absent);
+        }
+        let keys = key_room(alloc, footprint.keys())?;
+        let families = family_room(alloc, footprint.families())?;
+        let keys = take_keys(&mut self.keys, footprint.keys(), keys);
+        let families = take_families(&mut self.families, footprint.families(), families);
+        Ok(parcel_of(self.books.period(), keys, families))
     }
 
     /// Moves the parcel's books back into their places. It takes no memory. A stranger comes back, and the shelf is
@@ -86,26 +115,42 @@ impl Shelf {
         ensures out { OnOk result ((b : Book) → is_out self.new b ≡ (if names (named_in parcel) b then false else is_out self.old b)) }
         ensures slots { OnOk result ((b : Book) → has_slot self.new b ≡ has_slot self.old b) }
     {
-        let _books = &self.books;
-        Err(GiveFault { parcel })
+        if parcel.period() != self.books.period() || !self.are_out(&parcel) {
+            return Err(GiveFault { parcel });
+        }
+        let (keys, families) = parcel.into_books();
+        give_keys(&mut self.keys, keys.into_vec());
+        give_families(&mut self.families, families);
+        Ok(())
     }
 
-    /// Whether no book is out, and the values of all books agree (docs/MODEL.md, "Book values").
-    pub fn agrees(&self) -> bool
-        ensures { IsTrue result ↔ ((are_all_in self.now ≡ true) × AreAllAgreed (value_of self.now)) }
+    // Whether each book that the footprint names is in.
+    fn has_all(&self, footprint: &Footprint) -> bool
+        ensures { result ≡ has_all self.now footprint.now }
     {
-        let _books = &self.books;
-        false
+        are_keys_in(&self.keys, footprint.keys())
+            && are_families_in(&self.families, footprint.families())
     }
 
-    /// The books of all values. It takes no memory. While a book is out the shelf comes back.
-    pub fn close(self) -> Result<Books, Shelf>
-        requires { are_all_in self ≡ true → AreAllAgreed (value_of self) }
-        ensures ok { is_ok result ≡ are_all_in self }
-        ensures period { IfOk result (λ books. books.period ≡ self.period) }
-        ensures values { IfOk result (λ books. (b : Book) → book b books.ledger ≡ value_of self b) }
-        ensures back { IfErr result (λ shelf. shelf ≡ self) }
+    // Whether each book of the parcel has a place, and is out.
+    fn are_out(&self, parcel: &Parcel) -> bool
+        ensures { result ≡ are_out self.now (named_in parcel.now) }
     {
-        Err(self)
+        are_keys_out(&self.keys, parcel.keys())
+            && are_families_out(&self.families, parcel.families())
+    }
+}
+
+// The parcel of these books.
+fn parcel_of(period: Period, keys: Vec<KeyBook>, families: Vec<Family>) -> Parcel
+    requires keys_rise { IsAscending key_cmp key_of keys.items }
+    requires rows_own { All HasOwnRow keys.items }
+    requires families_rise { IsAscending id_cmp family_of families.items }
+    requires one_period { All (λ b. b.period ≡ period) families.items }
+    ensures { result ≡ record { period = period; keys = keys.items; families = families.items } }
+{
+    match Ascending::from_vec(keys) {
+        Ok(keys) => Parcel::new(period, keys, families),
+        Err(_) => unreachable!(),
     }
 }

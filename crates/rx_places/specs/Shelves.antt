@@ -90,9 +90,18 @@ abbrev pub is_out : ShelfParts → Book → Bool
 is_out s (OfKey key) = is_key_out (key_place s key)
 is_out s (OfFamily family) = is_family_out (family_place s family)
 
+abbrev pub is_key_in : Option KeyPlace → Bool
+is_key_in None = false
+is_key_in (Some p) = is_key_held p
+
+abbrev pub is_family_in : Option FamilyPlace → Bool
+is_family_in None = false
+is_family_in (Some p) = is_family_held p
+
 -- the book is named, and in its place
 abbrev pub is_in : ShelfParts → Book → Bool
-is_in s b = has_slot s b && not (is_out s b)
+is_in s (OfKey key) = is_key_in (key_place s key)
+is_in s (OfFamily family) = is_family_in (family_place s family)
 
 -- no book is out
 abbrev pub are_all_in : ShelfParts → Bool

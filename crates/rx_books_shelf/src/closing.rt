@@ -1,0 +1,174 @@
+ghost use Rattle.std.specs.Prelude.{◌≡◌, ◌↔◌, ◌&&◌, IfErr, IfOk, IfSome, IsOk, Some, false, slice_get, true};
+ghost use Rattle.std.specs.List.{All, list_all};
+ghost use Rattle.rx_order.specs.Ascending.{IsAscending};
+ghost use Rattle.rx_ledger.specs.Ledger.{IsLedger, is_listed, is_taken};
+ghost use Rattle.rx_ledger.specs.Members.{member_cmp, member_key};
+ghost use Rattle.rx_ledger.specs.Rows.{member_of_row};
+ghost use Rattle.rx_parcels.specs.Books.{Book, book};
+ghost use Rattle.rx_books_kept.specs.OpenBooks.{open_with, open_without};
+ghost use Rattle.rx_places.specs.Shelves.{AreAllAgreed, HoldsOwnRow, IsShelf, are_all_in, family_value, row_held, value_of};
+ghost use Rattle.rx_books_shelf.specs.Closed.{HasSlot, KeepsMembers, are_members_kept, does_book_keep, is_among, is_member_held, open_over, with_place};
+
+use crate::keys::row_held;
+use crate::shelf::Shelf;
+use rx_books_kept::{Books, OpenBooks};
+use rx_fields::Key;
+use rx_ledger::{Member, Row};
+use rx_order::place_of;
+use rx_places::{FamilyPlace, KeyPlace};
+
+impl Shelf {
+    /// The books of all values. It takes no memory. While a book is out the shelf comes back, and where a family's book
+    /// has other members than the books that the shelf was made of.
+    pub fn close(self) -> Result<Books, Shelf>
+        requires { are_all_in self ≡ true → AreAllAgreed (value_of self) }
+        ensures ok { IsOk result ↔ ((are_all_in self ≡ true) × KeepsMembers self) }
+        ensures period { IfOk result (λ books. books.period ≡ self.period) }
+        ensures values { IfOk result (λ books. (b : Book) → book b books.ledger ≡ value_of self b) }
+        ensures back { IfErr result (λ shelf. shelf ≡ self) }
+    {
+        if !self.can_be_closed() {
+            return Err(self);
+        }
+        let Shelf { books, keys, .. } = self;
+        Ok(brought(books, keys.as_slice()).close())
+    }
+
+    // Whether no book is out, and each family's book has the members that the family has beside.
+    fn can_be_closed(&self) -> bool
+        ensures value { result ≡ (are_all_in self.now && are_members_kept self.now) }
+        ensures within { IsShelf self.now }
+    {
+        let _period = self.period();
+        self.are_all_in() && self.are_members_kept()
+    }
+
+    // Whether each family's book has the members that the family has beside.
+    fn are_members_kept(&self) -> bool
+        ensures { result ≡ are_members_kept self.now }
+    {
+        self.are_members_held() && self.do_books_keep()
+    }
+
+    // Whether each member beside is in the book of the family, where that has a place.
+    fn are_members_held(&self) -> bool
+        ensures { result ≡ list_all (is_member_held self.now) self.now.rest.members }
+    {
+        self.books
+            .members()
+            .iter()
+            .all(|member| self.is_member_held(member))
+    }
+
+    // Whether the member is in the book of the family, where that has a place.
+    fn is_member_held(&self, member: &Member) -> bool
+        ensures { result ≡ is_member_held self.now member.now }
+    {
+        match self.families.get(&member.key.family) {
+            Some(place) => has_member(members_held(place), member),
+            None => true,
+        }
+    }
+
+    // Whether each member of each family's book is one beside.
+    fn do_books_keep(&self) -> bool
+        ensures { result ≡ list_all (does_book_keep self.now) self.now.families }
+    {
+        self.family_places()
+            .iter()
+            .all(|place| self.does_book_keep(place))
+    }
+
+    // Whether each member of the family's book is one beside.
+    fn does_book_keep(&self, place: &FamilyPlace) -> bool
+        ensures { result ≡ does_book_keep self.now place.now }
+    {
+        members_held(place)
+            .iter()
+            .all(|member| has_member(self.books.members(), member))
+    }
+}
+
+// The members of a family's book, if it is in its place.
+fn members_held(place: &FamilyPlace) -> &[Member]
+    ensures { result.now ≡ (family_value place.now).members }
+{
+    match &place.held {
+        Some(book) => book.members(),
+        None => &[],
+    }
+}
+
+// Whether the member is one of these.
+fn has_member(members: &[Member], member: &Member) -> bool
+    requires { IsAscending member_cmp member_key members.now }
+    ensures { result ≡ is_among members.now member.now }
+{
+    match place_of(members, &member.key) {
+        Ok(at) => members[at] == *member,
+        Err(_) => false,
+    }
+}
+
+// The open books with what these places hold. Each key has a slot, and the member of each row is listed.
+fn brought(books: OpenBooks, places: &[KeyPlace]) -> OpenBooks
+    requires slots { All (HasSlot books.slots) places.now }
+    requires rows { All HoldsOwnRow places.now }
+    requires listed { All (λ p. IfSome (row_held p) (λ r. is_listed books.books.ledger (member_of_row r) ≡ true)) places.now }
+    ensures { result ≡ open_over books places.now }
+{
+    let mut books = books;
+    for place in places {
+        bring(&mut books, place);
+    }
+    books
+}
+
+// Brings the slot of a key to what its place holds.
+fn bring(books: &mut OpenBooks, place: &KeyPlace)
+    requires slot { HasSlot books.old.slots place.now }
+    requires row { HoldsOwnRow place.now }
+    requires listed { IfSome (row_held place.now) (λ r. is_listed books.old.books.ledger (member_of_row r) ≡ true) }
+    ensures { books.new ≡ with_place books.old place.now }
+{
+    let Some(slot) = books.slot_of(&place.key) else {
+        unreachable!()
+    };
+    read_rows(books);
+    empty_slot(books, slot, &place.key);
+    let Some(row) = row_held(*place) else {
+        return;
+    };
+    fill_slot(books, slot, row);
+}
+
+// The rows that stand are in order.
+fn read_rows(books: &OpenBooks)
+    ensures { IsLedger books.now.books.ledger }
+{
+    let _standing = books.standing();
+}
+
+// Takes the row out of the slot of a key, if there is one.
+fn empty_slot(books: &mut OpenBooks, slot: usize, key: &Key)
+    requires { slice_get books.old.slots slot ≡ Some key.now }
+    ensures { books.new ≡ open_without books.old key.now }
+{
+    if books.row_at(slot).is_some() {
+        let _before = books.remove(slot);
+    }
+}
+
+// Puts a row of a listed member into its slot, which is free.
+fn fill_slot(books: &mut OpenBooks, slot: usize, row: Row)
+    requires slot { slice_get books.old.slots slot ≡ Some row.key }
+    requires free { is_taken books.old.books.ledger row.key ≡ false }
+    requires listed { is_listed books.old.books.ledger (member_of_row row) ≡ true }
+    ensures { books.new ≡ open_with books.old row }
+{
+    let Some(member) = books.member_of(&row.family, &row.person) else {
+        unreachable!()
+    };
+    let family = books.home_of(member);
+    books.add(slot, family, member, row);
+}

@@ -1,0 +1,118 @@
+ghost use Rattle.std.specs.Prelude.{◌≡◌, ◌≤◌, ◌∷◌, [], IfOk, length, map, vec_capacity};
+ghost use Rattle.std.specs.List.{list_all};
+ghost use Rattle.rx_fields.specs.Order.{key_cmp};
+ghost use Rattle.rx_order.specs.Ascending.{IsAscending, item_at};
+ghost use Rattle.rx_parcels.specs.Footprints.{itself};
+ghost use Rattle.rx_places.specs.Shelves.{is_key_in, is_key_out, place_key, row_held};
+ghost use Rattle.rx_books_shelf.specs.Taken.{key_book, key_given, key_taken};
+
+use rx_fields::{Key, Memory};
+use rx_ledger::Row;
+use rx_order::Ascending;
+use rx_parcels::KeyBook;
+use rx_places::KeyPlace;
+use std::alloc::Global;
+
+// Whether the key has a place, and its book is there.
+fn is_key_in(places: &Ascending<KeyPlace>, key: &Key) -> bool
+    ensures { result ≡ is_key_in (item_at key_cmp place_key places.now key.now) }
+{
+    match places.get(key) {
+        Some(place) => place.held.is_some(),
+        None => false,
+    }
+}
+
+// Whether the key has a place, and its book is out.
+fn is_key_out(places: &Ascending<KeyPlace>, key: &Key) -> bool
+    ensures { result ≡ is_key_out (item_at key_cmp place_key places.now key.now) }
+{
+    match places.get(key) {
+        Some(place) => place.held.is_none(),
+        None => false,
+    }
+}
+
+/// Whether each of these keys has a place, and its book is there.
+pub(crate) fn are_keys_in(places: &Ascending<KeyPlace>, keys: &[Key]) -> bool
+    ensures { result ≡ list_all (λ k. is_key_in (item_at key_cmp place_key places.now k)) keys.now }
+{
+    keys.iter().all(|key| is_key_in(places, key))
+}
+
+/// Whether the key of each of these books has a place, and its book is out.
+pub(crate) fn are_keys_out(places: &Ascending<KeyPlace>, books: &[KeyBook]) -> bool
+    ensures { result ≡ list_all (λ b. is_key_out (item_at key_cmp place_key places.now b.key)) books.now }
+{
+    books.iter().all(|book| is_key_out(places, &book.key))
+}
+
+/// Room for the books of these keys.
+pub(crate) fn key_room(alloc: Global, keys: &[Key]) -> Result<Vec<KeyBook>, Memory>
+    ensures none { IfOk result (λ room. length room.items ≡ 0) }
+    ensures room { IfOk result (λ room. length keys.now ≤ vec_capacity room) }
+{
+    Ok(Vec::with_capacity(alloc, keys.len())?)
+}
+
+/// Takes the books of these keys out of their places. There is room for them in the list, which comes back with them.
+pub(crate) fn take_keys(
+    places: &mut Ascending<KeyPlace>,
+    keys: &[Key],
+    room: Vec<KeyBook>,
+) -> Vec<KeyBook>
+    requires rise { IsAscending key_cmp itself keys.now }
+    requires none { length room.items ≡ 0 }
+    requires room { length keys.now ≤ vec_capacity room }
+    ensures books { result.items ≡ map (key_book places.old) keys.now }
+    ensures places { places.new ≡ map (key_taken keys.now) places.old }
+{
+    let mut books = room;
+    for key in keys {
+        let row = take_key(places, *key);
+        books.push_reserved(KeyBook { key: *key, row });
+    }
+    books
+}
+
+// Takes the book of a key out of its place: the row that it has.
+fn take_key(places: &mut Ascending<KeyPlace>, key: Key) -> Option<Row>
+    ensures row { result ≡ (key_book places.old key).row }
+    ensures places { places.new ≡ map (key_taken (key ∷ [])) places.old }
+{
+    let emptied = KeyPlace { key, held: None };
+    match places.replace(emptied) {
+        Ok(place) => row_held(place),
+        Err(_) => None,
+    }
+}
+
+/// The row that a place holds.
+pub(crate) fn row_held(place: KeyPlace) -> Option<Row>
+    ensures { result ≡ row_held place }
+{
+    match place.held {
+        Some(row) => row,
+        None => None,
+    }
+}
+
+/// Puts these books into the places of their keys. It takes no memory.
+pub(crate) fn give_keys(places: &mut Ascending<KeyPlace>, books: Vec<KeyBook>)
+    ensures { places.new ≡ map (key_given books.items) places.old }
+{
+    let mut books = books;
+    'books: while let Some(book) = books.pop() {
+        give_key(places, book);
+    }
+}
+
+// Puts a book into the place of its key.
+fn give_key(places: &mut Ascending<KeyPlace>, book: KeyBook)
+    ensures { places.new ≡ map (key_given (book ∷ [])) places.old }
+{
+    let _before = places.replace(KeyPlace {
+        key: book.key,
+        held: Some(book.row),
+    });
+}
