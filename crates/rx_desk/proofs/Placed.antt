@@ -16,7 +16,7 @@ use Rattle.rx_schedule.proofs.Replayed.{in_range, taken}
 use Rattle.rx_desk.specs.declared.state.State.{State}
 use Rattle.rx_desk.specs.declared.state.State.TheVariants.{Given, Out, Waiting}
 use Rattle.rx_desk.specs.Desks.{DeskJob, footprint_in, machine_of, parcel_of}
-use Rattle.rx_desk.specs.Kept.{AreHanded, AreInPlace, AreNoted, AreStates, IsCounted, IsDesk, IsState, events_left, one_waiting}
+use Rattle.rx_desk.specs.Kept.{AreHanded, AreInPlace, AreNoted, AreStates, IsCounted, IsDesk, IsSetAside, IsState, events_left, one_waiting}
 use Rattle.rx_desk.proofs.Lists.{slice_get-set_other, slice_get-set_same}
 use Rattle.rx_desk.proofs.Passing.{alone, at_other, at_own, before_give, free, left_out, not_given, out_taken, still_out, was_out}
 
@@ -28,11 +28,11 @@ module _ (j : DeskJob) (past : List Event) (k : ℕ) (legal : IsLegal (machine_o
 
   module _ (value after : Book → Ledger) (has_slot has_slot' is_out is_out' : Book → Bool)
       (old : AreInPlace j past value has_slot is_out) (slots_stay : (b : Book) → has_slot' b ≡ has_slot b) where
-    pub books-take : MayTake (machine_of j) k past
+    pub books_take : MayTake (machine_of j) k past
         → ((b : Book) → after b ≡ cond (names (footprint_in j k) b) empty (value b))
         → ((b : Book) → is_out' b ≡ names (footprint_in j k) b || is_out b)
         → AreInPlace j (Take k ∷ past) after has_slot' is_out'
-    books-take may values outs = record {
+    books_take may values outs = record {
       values = λ b. values b ∙ ap (cond (names (footprint_in j k) b) empty) (old.values b);
       slots = λ place b at n. slots_stay b ∙ old.slots place b at n;
       with_record = λ b h. elim (cases_Bool (names (footprint_in j k) b)) [
@@ -51,22 +51,22 @@ module _ (j : DeskJob) (past : List Event) (k : ℕ) (legal : IsLegal (machine_o
         or_true true = refl
         or_true false = refl
 
-    pub books-give : MayGive k past → (left : Book → Ledger)
+    pub books_give : MayGive k past → (left : Book → Ledger)
         → ((b : Book) → names (footprint_in j k) b ≡ true
         → left b ≡ ((machine_of j).work k ((replay (machine_of j) past).parcels k)).1 b)
         → ((b : Book) → after b ≡ cond (names (footprint_in j k) b) (left b) (value b))
-        → ((b : Book) → is_out' b ≡ is_out b && not (names (footprint_in j k) b))
+        → ((b : Book) → is_out' b ≡ cond (names (footprint_in j k) b) false (is_out b))
         → AreInPlace j (Give k ∷ past) after has_slot' is_out'
-    books-give may left made values outs = record {
+    books_give may left made values outs = record {
       values = λ b. elim (cases_Bool (names (footprint_in j k) b)) [
         | inl own ↦ values b ∙ rw own (made b own)
         | inr other ↦ values b ∙ rw other (old.values b)
       ];
       slots = λ place b at n. slots_stay b ∙ old.slots place b at n;
       with_record = λ b h. elim (cases_Bool (names (footprint_in j k) b)) [
-        | inl own ↦ absurd (not_out b (is_out b) own (sym (outs b) ∙ h))
+        | inl own ↦ absurd (let e : false ≡ true = rw own at (sym (outs b) ∙ h) in cc)
         | inr other ↦
-            let there : is_out b ≡ true = and_first (is_out b) (not (names (footprint_in j k) b)) (sym (outs b) ∙ h) in
+            let there : is_out b ≡ true = rw other at (sym (outs b) ∙ h) in
             let found = old.with_record b there in
             (found.0, left_out k found.0 past (apart b found.0 found.2 other) found.1, found.2)
       ];
@@ -76,36 +76,28 @@ module _ (j : DeskJob) (past : List Event) (k : ℕ) (legal : IsLegal (machine_o
             | inl own ↦ absurd (not_given k place past out (alone (machine_of j) place k past legal before may b n own))
             | inr f ↦ f
           ] in
-          outs b ∙ rw (old.out place b before n, other) refl;
+          outs b ∙ rw other (old.out place b before n);
     }
       where
-        and_first : (a b : Bool) → a && b ≡ true → a ≡ true
-        and_first true b h = refl
-        and_first false b h = h
-
-        not_out : (b : Book) (o : Bool) → names (footprint_in j k) b ≡ true → o && not (names (footprint_in j k) b) ≡ true → ⊥
-        not_out b true own h = cc (rw own at h)
-        not_out b false own h = cc h
-
         apart : (b : Book) (place : ℕ) → names (footprint_in j place) b ≡ true → names (footprint_in j k) b ≡ false
             → place ≡ k → ⊥
         apart b place n other e = both_ways _ other (subst (λ p. names (footprint_in j p) b ≡ true) e n)
 
   -- ---- the states
 
-  state-take : (place : ℕ) (s : State) → (place ≡ k → ⊥) → IsState j past place s → IsState j (Take k ∷ past) place s
-  state-take place Waiting n h = λ w. elim w [ inl e ↦ n (sym (cc e)) | inr v ↦ h v ]
-  state-take place (Out p) n h = (
+  state_take : (place : ℕ) (s : State) → (place ≡ k → ⊥) → IsState j past place s → IsState j (Take k ∷ past) place s
+  state_take place Waiting n h = λ w. elim w [ inl e ↦ n (sym (cc e)) | inr v ↦ h v ]
+  state_take place (Out p) n h = (
     still_out k place past h.0,
-    h.1 ∙ ap (parcel_of j.books.period (footprint_in j place)) (sym (at_other (replay (machine_of j) past).parcels k place
-        (cut (machine_of j) k (replay (machine_of j) past).books) (λ e. n (sym e)))),
+    subst (λ v. IsSetAside j place v p) (sym (at_other (replay (machine_of j) past).parcels k place
+        (cut (machine_of j) k (replay (machine_of j) past).books) (λ e. n (sym e)))) h.1,
   )
-  state-take place Given n h = inr h
+  state_take place Given n h = inr h
 
-  state-give : (place : ℕ) (s : State) → (place ≡ k → ⊥) → IsState j past place s → IsState j (Give k ∷ past) place s
-  state-give place Waiting n h = λ w. elim w [ inl e ↦ cc e | inr v ↦ h v ]
-  state-give place (Out p) n h = (left_out k place past n h.0, h.1)
-  state-give place Given n h = inr h
+  state_give : (place : ℕ) (s : State) → (place ≡ k → ⊥) → IsState j past place s → IsState j (Give k ∷ past) place s
+  state_give place Waiting n h = λ w. elim w [ inl e ↦ cc e | inr v ↦ h v ]
+  state_give place (Out p) n h = (left_out k place past n h.0, h.1)
+  state_give place Given n h = inr h
 
   module _ (states : List State) (old : AreStates j past states) (at : IsPlace (machine_of j) k) where
     read_at : (place : ℕ) (s : State) → IsPlace (machine_of j) place → (place ≡ k → ⊥)
@@ -130,31 +122,31 @@ module _ (j : DeskJob) (past : List Event) (k : ℕ) (legal : IsLegal (machine_o
       ];
     }
 
-    pub states-take : MayTake (machine_of j) k past → (p : ParcelParts)
-        → p ≡ parcel_of j.books.period (footprint_in j k) (cut (machine_of j) k (replay (machine_of j) past).books)
+    pub states_take : MayTake (machine_of j) k past → (p : ParcelParts)
+        → IsSetAside j k (cut (machine_of j) k (replay (machine_of j) past).books) p
         → AreStates j (Take k ∷ past) (set states (k - 1) (Out p))
-    states-take may p is = states_with (Take k ∷ past) (Out p) (
+    states_take may p is = states_with (Take k ∷ past) (Out p) (
       out_taken (machine_of j) k past legal may,
-      is ∙ ap (parcel_of j.books.period (footprint_in j k)) (sym (at_own (replay (machine_of j) past).parcels k k
-          (cut (machine_of j) k (replay (machine_of j) past).books) refl)),
+      subst (λ v. IsSetAside j k v p) (sym (at_own (replay (machine_of j) past).parcels k k
+          (cut (machine_of j) k (replay (machine_of j) past).books) refl)) is,
     )
-        state-take
+        state_take
 
-    pub states-give : AreStates j (Give k ∷ past) (set states (k - 1) Given)
-    states-give = states_with (Give k ∷ past) Given (inl refl) state-give
+    pub states_give : AreStates j (Give k ∷ past) (set states (k - 1) Given)
+    states_give = states_with (Give k ∷ past) Given (inl refl) state_give
 
   -- ---- the replies
 
-  pub noted-take : (replies : List Reply) → AreNoted j past replies → AreNoted j (Take k ∷ past) replies
-  noted-take replies old = record {
+  pub noted_take : (replies : List Reply) → AreNoted j past replies → AreNoted j (Take k ∷ past) replies
+  noted_take replies old = record {
     one_each = old.one_each;
     each = λ place w. elim w [ inl e ↦ absurd (cc e) | inr v ↦ old.each place v ];
   }
 
-  pub noted-give : (replies : List Reply) (reply : Reply) → AreNoted j past replies → MayGive k past
+  pub noted_give : (replies : List Reply) (reply : Reply) → AreNoted j past replies → MayGive k past
       → reply ≡ ((machine_of j).work k ((replay (machine_of j) past).parcels k)).0
       → AreNoted j (Give k ∷ past) (set replies (k - 1) reply)
-  noted-give replies reply old may made =
+  noted_give replies reply old may made =
       let d = replay (machine_of j) past in
       let at : IsPlace (machine_of j) k = in_range (machine_of j) k past legal may.taken in
       let within : k - 1 < length replies =
@@ -176,20 +168,31 @@ module _ (j : DeskJob) (past : List Event) (k : ℕ) (legal : IsLegal (machine_o
         ];
       }
 
+-- the books that were moved and moved back
+pub books_stay : (j : DeskJob) (past : List Event) (value after : Book → Ledger) (has_slot has_slot' is_out is_out' : Book → Bool)
+    → AreInPlace j past value has_slot is_out → ((b : Book) → after b ≡ value b) → ((b : Book) → has_slot' b ≡ has_slot b)
+    → ((b : Book) → is_out' b ≡ is_out b) → AreInPlace j past after has_slot' is_out'
+books_stay j past value after has_slot has_slot' is_out is_out' old values slots outs = record {
+  values = λ b. values b ∙ old.values b;
+  slots = λ place b at n. slots b ∙ old.slots place b at n;
+  with_record = λ b h. old.with_record b (sym (outs b) ∙ h);
+  out = λ place b out n. outs b ∙ old.out place b out n;
+}
+
 -- ---- who was handed out and passed
 
-pub handed-take : (past : List Event) (k : ℕ) (handed passed : List ℕ) → AreHanded past handed passed
+pub handed_take : (past : List Event) (k : ℕ) (handed passed : List ℕ) → AreHanded past handed passed
     → AreHanded (Take k ∷ past) (k ∷ handed) passed
-handed-take past k handed passed old = record {
+handed_take past k handed passed old = record {
   was_taken = λ place w. elim w [ inl e ↦ inl (ap Take e) | inr v ↦ inr (old.was_taken place v) ];
   taken = λ place w. elim w [ inl e ↦ inl (cc e) | inr v ↦ inr (old.taken place v) ];
   was_given = λ place w. inr (old.was_given place w);
   given = λ place w. elim w [ inl e ↦ absurd (cc e) | inr v ↦ old.given place v ];
 }
 
-pub handed-give : (past : List Event) (k : ℕ) (handed passed : List ℕ) → AreHanded past handed passed
+pub handed_give : (past : List Event) (k : ℕ) (handed passed : List ℕ) → AreHanded past handed passed
     → AreHanded (Give k ∷ past) handed (k ∷ passed)
-handed-give past k handed passed old = record {
+handed_give past k handed passed old = record {
   was_taken = λ place w. inr (old.was_taken place w);
   taken = λ place w. elim w [ inl e ↦ absurd (cc e) | inr v ↦ old.taken place v ];
   was_given = λ place w. elim w [ inl e ↦ inl (ap Give e) | inr v ↦ inr (old.was_given place v) ];
@@ -198,10 +201,10 @@ handed-give past k handed passed old = record {
 
 -- ---- counts
 
-pub counted-take : (capacity more : ℕ) (history : List Event) (e : Event) (states : List State) (waiting i : ℕ) (p : ParcelParts)
+pub counted_take : (capacity more : ℕ) (history : List Event) (e : Event) (states : List State) (waiting i : ℕ) (p : ParcelParts)
     → IsCounted capacity history states waiting → i < length states → get_or states i Waiting ≡ Waiting → capacity ≤ more
     → IsCounted more (history ++ e ∷ []) (set states i (Out p)) (waiting - 1)
-counted-take capacity more history e states waiting i p old within waits grows =
+counted_take capacity more history e states waiting i p old within waits grows =
     let sums = sum_by-set events_left states i (Out p) Waiting within in
     let two : events_left (get_or states i Waiting) ≡ 2 = ap events_left waits in
     let left = sum_by-set one_waiting states i (Out p) Waiting within in
@@ -213,10 +216,10 @@ counted-take capacity more history e states waiting i p old within waits grows =
     let counted = old.left in
     record { events = omega arith; room = omega arith; left = omega arith }
 
-pub counted-give : (capacity more : ℕ) (history : List Event) (e : Event) (states : List State) (waiting i : ℕ) (p : ParcelParts)
+pub counted_give : (capacity more : ℕ) (history : List Event) (e : Event) (states : List State) (waiting i : ℕ) (p : ParcelParts)
     → IsCounted capacity history states waiting → i < length states → get_or states i Waiting ≡ Out p → capacity ≤ more
     → IsCounted more (history ++ e ∷ []) (set states i Given) waiting
-counted-give capacity more history e states waiting i p old within out grows =
+counted_give capacity more history e states waiting i p old within out grows =
     let sums = sum_by-set events_left states i Given Waiting within in
     let one : events_left (get_or states i Waiting) ≡ 1 = ap events_left out in
     let left = sum_by-set one_waiting states i Given Waiting within in

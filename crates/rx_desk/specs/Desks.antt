@@ -1,6 +1,6 @@
 -- A desk as its callers see it: its job, and the events so far. What may be asked of it is told by the machine of
 -- `rx_schedule`: which events are legal, and where they have led.
-use Rattle.std.specs.Prelude.{◌≡◌, ℕ, ◌-◌, ◌≤◌, ◌++◌, List, [], ◌∷◌, Option, Some, length, map, reverse, slice_get}
+use Rattle.std.specs.Prelude.{◌≡◌, ℕ, ◌-◌, ◌≤◌, ◌++◌, List, [], ◌∷◌, Option, Some, length, map, reverse, slice_get, slice_index_or}
 use Rattle.rx_fields.specs.Numbered.{LotParts, Span}
 use Rattle.rx_fields.specs.declared.key.Key.{Key}
 use Rattle.rx_claim.specs.declared.transmission.Transmission.{Transmission}
@@ -18,7 +18,7 @@ use Rattle.rx_adjudicate.specs.Orders.{OrderParts}
 use Rattle.rx_books_kept.specs.LedgerBooks.{LedgerBooks}
 use Rattle.rx_schedule.specs.declared.event.Event.{Event}
 use Rattle.rx_schedule.specs.declared.event.Event.TheVariants.{Give, Take}
-use Rattle.rx_schedule.specs.Footprints.{footprint_at, record_at}
+use Rattle.rx_schedule.specs.Footprints.{footprint_at, no_record, record_at}
 use Rattle.rx_schedule.specs.Jobs.{job}
 use Rattle.rx_schedule.specs.Machine.{Desk as Replayed, IsPlace, Job, MayGive, MayTake, Was, replay}
 use Rattle.rx_desk.specs.declared.next.Next.{Next}
@@ -42,10 +42,12 @@ pub record IsJob (j : DeskJob) (lot : LotParts) (plan : Plan) (books : LedgerBoo
   pub records_are : j.records ≡ records
 
 -- each record has its own terms, under which it is adjudicated as under the plan
-pub record AreTerms (j : DeskJob) : Type 0 where
-  pub one_each : length j.terms ≡ length j.records
-  pub each : (place : ℕ) (terms : TermParts) → 1 ≤ place → slice_get j.terms (place - 1) ≡ Some terms
-      → IsTermsOf j.lot j.plan (record_at j.records place) terms
+pub record AreTermsOf (lot : LotParts) (plan : Plan) (records : List Transmission) (terms : List TermParts) : Type 0 where
+  pub one_each : length terms ≡ length records
+  pub each : (i : ℕ) (t : TermParts) → slice_get terms i ≡ Some t → IsTermsOf lot plan (slice_index_or records i no_record) t
+
+abbrev pub AreTerms : DeskJob → Type 0
+AreTerms j = AreTermsOf j.lot j.plan j.records j.terms
 
 -- the job for the machine, and the footprint of the record at a place
 abbrev pub machine_of : DeskJob → Job

@@ -10,6 +10,7 @@ use Rattle.rx_ledger.specs.Ledger.{Ledger}
 use Rattle.rx_ledger.specs.TermList.{TermParts}
 use Rattle.rx_parcels.specs.Books.{Book, IsInOrder}
 use Rattle.rx_parcels.specs.Footprints.{FootprintParts, names}
+use Rattle.rx_parcels.specs.Parcels.{ParcelParts, named_in, values_of}
 use Rattle.rx_books_kept.specs.LedgerBooks.{LedgerBooks}
 use Rattle.rx_places.specs.Shelves.{ShelfParts, has_slot, is_out, value_of}
 use Rattle.rx_schedule.specs.declared.event.Event.{Event}
@@ -38,11 +39,16 @@ pub record AreInPlace (j : DeskJob) (past : List Event) (value : Book → Ledger
       → (place : ℕ) × MayGive place past × (names (footprint_in j place) b ≡ true)
   pub out : (place : ℕ) (b : Book) → MayGive place past → names (footprint_in j place) b ≡ true → is_out b ≡ true
 
+-- the parcel has these values of the record's books
+pub record IsSetAside (j : DeskJob) (place : ℕ) (v : Book → Ledger) (p : ParcelParts) : Type 0 where
+  pub is : p ≡ parcel_of j.books.period (footprint_in j place) v
+  pub named : named_in p ≡ footprint_in j place
+  pub values : (b : Book) → values_of p b ≡ v b
+
 -- where a record is: it wasn't taken; it is out, with the values that were set aside for it; it was given
 abbrev pub IsState : DeskJob → List Event → ℕ → State → Type 0
 IsState j past place Waiting = Was (Take place) past → ⊥
-IsState j past place (Out p) =
-    MayGive place past × (p ≡ parcel_of j.books.period (footprint_in j place) ((replay (machine_of j) past).parcels place))
+IsState j past place (Out p) = MayGive place past × IsSetAside j place ((replay (machine_of j) past).parcels place) p
 IsState j past place Given = Was (Give place) past
 
 -- each record is where the events left it
@@ -105,11 +111,12 @@ job_with lot figures drugs terms books records = record {
 }
 
 -- what a desk keeps of its job and its events: the footprints are the job's, and the queues are theirs; the shelf is of
--- the books' period
+-- the books' period, and was made of the opening ledger
 pub record IsKept (j : DeskJob) (capacity : ℕ) (history : List Event) (footprints : List FootprintParts) (queues : QueueParts)
     (shelf : ShelfParts) (states : List State) (waiting : ℕ) (replies : List Reply) : Type 0 where
   pub desk : IsDesk j (reverse history) (value_of shelf) (has_slot shelf) (is_out shelf) queues.handed queues.passed states replies
   pub named : footprints ≡ footprints_of j.books.ledger j.records
   pub queued : queues.footprints ≡ footprints
   pub period : shelf.period ≡ j.books.period
+  pub beside : shelf.rest ≡ j.books.ledger
   pub counted : IsCounted capacity history states waiting

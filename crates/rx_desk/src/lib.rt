@@ -16,7 +16,10 @@
 #![tactic(auto)]
 
 mod desk;
+mod making;
+mod moves;
 mod next;
+mod same_job;
 mod state;
 
 pub use desk::Desk;

@@ -1,3 +1,5 @@
+ghost use Rattle.std.specs.Prelude.{◌≡◌, ◌↔◌, IsTrue};
+
 use rx_parcels::Parcel;
 
 /// Where a record is.
@@ -9,4 +11,15 @@ pub(crate) enum State {
     Out(Parcel),
     /// It was given.
     Given,
+}
+
+/// Whether a record is out with this parcel.
+pub(crate) fn is_out_with(state: &State, parcel: &Parcel) -> bool
+    ensures { IsTrue result ↔ (state.now ≡ State.Out parcel.now) }
+{
+    match state {
+        State::Waiting => false,
+        State::Out(kept) => *kept == *parcel,
+        State::Given => false,
+    }
 }
