@@ -1,4 +1,6 @@
 // What no clause says: that records are answered, and not want of memory. Cases are those of docs/CASES.md.
+ghost use Rattle.std.specs.Prelude.{true};
+
 use crate::{Finished, Gate, NoGate, run_one};
 use rx_books_kept::Books;
 use rx_claim::{Amounts, Answer, Outcome, Transmission};
