@@ -65,3 +65,6 @@ pub fn run_one_on<G: Gate>(
         replies,
     })
 }
+
+#[cfg(test)]
+mod tests;
