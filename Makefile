@@ -8,6 +8,7 @@ test:
 	$(MAKE) --silent cases
 
 cases:
+	python3 tests/check_docs.py
 	test -x $(PROGRAM) || (cd crates/rxbatch && rt run -- sample)
 	python3 tests/run_paths.py $(PROGRAM)
 	python3 tests/run_cases.py $(PROGRAM) --plan

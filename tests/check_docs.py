@@ -121,8 +121,8 @@ def meets(told_parameters, told_answer, functions):
 
 
 def passed_on(crate, crates):
-    """The crate and those whose names it passes on."""
-    names = [crate]
+    """The crate and those whose names it passes on; the program's calls are those of its words."""
+    names = [crate] + ["rx_words"] * (crate == "rxbatch")
     for path in (crates / crate / "src").glob("*.rt"):
         names += re.findall(r"pub use (rx_\w+)::", path.read_text())
     return names
