@@ -21,6 +21,8 @@ mod moves;
 mod next;
 mod same_job;
 mod state;
+#[cfg(test)]
+mod tests;
 
 pub use desk::Desk;
 pub use next::Next;
