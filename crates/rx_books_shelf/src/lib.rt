@@ -27,3 +27,6 @@ mod unique;
 
 pub use fault::{GiveFault, TakeFault};
 pub use shelf::Shelf;
+
+#[cfg(test)]
+mod tests;
