@@ -1,4 +1,5 @@
-//! Times the response file and the settlement of as many paid claims as the word says, spread over 3,000 pharmacies.
+//! Times the response file and the settlement of as many paid claims as the word says, spread over 3,000 pharmacies,
+//! beside a plain copy of the response.
 //!
 //! Without a word it makes both of a few replies, and says how long they are.
 #![tactic(auto)]
@@ -52,25 +53,31 @@ fn main(rt: HostRuntime) -> io::Result<()> {
         Some(_) => timed(&rt, alloc, &run),
         None => println!(rt;
             "a response of {} bytes, a settlement of {}",
-            response(&rt, alloc, &run),
+            length(response(&rt, alloc, &run)),
             settlement(alloc, &run)
         ),
     }
 }
 
 fn timed<R: Print + Clock + Threads + Sync>(rt: &R, alloc: Global, run: &Run) -> io::Result<()> {
+    let text = response(rt, alloc, run);
     for _ in 0..ROUNDS {
         let start = Instant::now(rt)?;
-        let answered = response(rt, alloc, run);
+        let answered = length(response(rt, alloc, run));
         let responding = start.elapsed(rt)?;
+
+        let start = Instant::now(rt)?;
+        let again = length(copied(alloc, &text));
+        let copying = start.elapsed(rt)?;
 
         let start = Instant::now(rt)?;
         let settled = settlement(alloc, run);
         let settling = start.elapsed(rt)?;
 
         println!(rt;
-            "a response of {answered} bytes in {} us, a settlement of {settled} in {} us",
+            "a response of {answered} bytes in {} us, {again} copied in {} us, a settlement of {settled} in {} us",
             responding.as_micros(),
+            copying.as_micros(),
             settling.as_micros()
         )?;
     }
@@ -116,16 +123,29 @@ fn paid(alloc: Global, pharmacy: u32) -> Option<Reply> {
     decode_reply(alloc, &text).ok()
 }
 
-// The length of the response; 0 where there is none.
-fn response<R: Threads + Sync>(rt: &R, alloc: Global, run: &Run) -> usize {
+// The response, where there is one.
+fn response<R: Threads + Sync>(rt: &R, alloc: Global, run: &Run) -> Option<Vec<u8>> {
     let details = run.details.as_slice();
     let replies = run.replies.as_slice();
     if details.len() != replies.len() || details.len() > MOST {
-        return 0;
+        return None;
     }
-    match response_file(rt, alloc, &run.head, run.stamp, details, replies) {
-        Ok(text) => text.len(),
-        Err(Memory) => 0,
+    response_file(rt, alloc, &run.head, run.stamp, details, replies).ok()
+}
+
+// The length of a text; 0 where there is none.
+fn length(text: Option<Vec<u8>>) -> usize {
+    match text {
+        Some(text) => text.len(),
+        None => 0,
+    }
+}
+
+// The same text once more.
+fn copied(alloc: Global, text: &Option<Vec<u8>>) -> Option<Vec<u8>> {
+    match text {
+        Some(text) => Vec::from_slice(alloc, text).ok(),
+        None => None,
     }
 }
 

@@ -10,6 +10,7 @@ pub mod Merging
 pub mod Openings
 pub mod Passes
 pub mod Opens
+pub mod ReadLists
 pub mod Same
 pub mod SameRows
 pub mod Split

@@ -1,29 +1,34 @@
 -- The lists that books are made from: the families in order, and the places of families and members.
-use Rattle.std.proofs.Common.{◌≡◌, ℕ, zero, suc, ◌-◌, ◌<◌, ◌≤◌, List, [], ◌∷◌, ◌++◌, length, get_or, Bool, true, false, cond, not, Some, refl, sym, subst, ap, ◌∙◌, inl, inr, arith}
-use Rattle.std.specs.Prelude.{◌⊎◌, ◌&&◌, slice_get, slice_index}
-use Rattle.std.specs.List.{All, Contains, filter, list_any}
+use Rattle.std.proofs.Common.{◌≡◌, ℕ, zero, suc, ◌+◌, ◌-◌, ◌<◌, ◌≤◌, List, [], ◌∷◌, ◌++◌, length, get_or, take, Bool, true, false, cond, not, Some, refl, sym, subst, ap, ◌∙◌, inl, inr, arith}
+use Rattle.std.specs.Prelude.{◌⊎◌, ◌&&◌, ◌==◌, ◌^◌, slice_get, slice_index}
+use Rattle.std.specs.List.{All, AllZip, Contains, filter, flat_map, list_any}
 use Rattle.std.specs.Ordering.{is_eq, is_lt, ordering_then}
 use Rattle.std.specs.declared.cmp.Ordering.{Ordering}
 use Rattle.std.specs.declared.cmp.Ordering.TheVariants.{Less, Equal, Greater}
-use Rattle.std.proofs.lemmas.Bool.{cases_Bool}
+use Rattle.std.proofs.lemmas.Bool.{cases_Bool, cases_lt, lt-ltb}
 use Rattle.std.proofs.lemmas.Cmp.{tied_back, tied_itself}
-use Rattle.std.proofs.lemmas.List.{append-nil, length-append, map-append}
+use Rattle.std.proofs.lemmas.Grind.{flat_map-append}
+use Rattle.std.proofs.lemmas.List.{append-nil, length-append, map-append, take_more}
+use Rattle.std.specs.Vec.{vec_items}
+use Rattle.std.specs.declared.vec.Vec.{Vec}
 use Rattle.std.proofs.lemmas.List.Sums.{AllPass-from_list_all}
 use Rattle.std.proofs.lemmas.List.Elements.{All-cons, All-contains, All-nil, filter-append}
 use Rattle.std.proofs.lemmas.Option.{get_or_from_slice_get, slice_get-get_or, slice_get_within}
-use Rattle.rx_fields.specs.Order.{id_cmp}
+use Rattle.rx_fields.specs.Order.{id_cmp, key_cmp}
 use Rattle.rx_order.specs.Ascending.{IsAscending, IsAt, IsBelow, IsGap, contains_key, is_past}
+use Rattle.rx_order.specs.Runs.{are_runs, items_of}
 use Rattle.rx_order.proofs.Filters.{Contains-filter}
-use Rattle.rx_order.proofs.Kept.{is_past-last}
-use Rattle.rx_order.proofs.Places.{contains_key-gap}
+use Rattle.rx_order.proofs.Kept.{is_ascending-from_fact, is_past-last}
+use Rattle.rx_order.proofs.InRuns.{get-behind}
+use Rattle.rx_order.proofs.Places.{contains_key-at, contains_key-gap}
 use Rattle.rx_order.proofs.Keys.{Equal-from_is_eq, is_eq-turned}
 use Rattle.rx_ledger.specs.declared.member.Member.{Member}
 use Rattle.rx_ledger.specs.declared.member.MemberKey.{MemberKey}
 use Rattle.rx_ledger.specs.declared.row.Row.{Row}
-use Rattle.rx_ledger.specs.Ledger.{Ledger}
+use Rattle.rx_ledger.specs.Ledger.{IsLedger, Ledger, is_whole}
 use Rattle.rx_ledger.specs.Members.{is_same, member_cmp, member_key, of_family}
-use Rattle.rx_ledger.specs.Rows.{member_of_row}
-use Rattle.rx_ledger.proofs.Orders.{id_exact, id_total}
+use Rattle.rx_ledger.specs.Rows.{member_of_row, row_key}
+use Rattle.rx_ledger.proofs.Orders.{id_exact, id_total, key_total, member_total}
 use Rattle.rx_books_kept.specs.declared.opening.FamilyName.{FamilyName}
 use Rattle.rx_books_kept.specs.BooksText.{families_of}
 use Rattle.rx_books_kept.specs.LedgerBooks.{has_members}
@@ -77,6 +82,93 @@ AreHolders-push ms rs hs r h are at = record {
         rw (place, same) at
   ];
 }
+
+-- ---- the rows of another run
+
+get-left : {X : Type 0} (xs ys : List X) (i : ℕ) → i < length xs → slice_get (xs ++ ys) i ≡ slice_get xs i
+get-left [] ys i lt = absurd (omega arith)
+get-left (x ∷ xs) ys zero lt = refl
+get-left (x ∷ xs) ys (suc i) lt = get-left xs ys i (omega arith)
+
+index-left : (ns ks : List ℕ) (i : ℕ) → i < length ns → slice_index (ns ++ ks) i ≡ slice_index ns i
+index-left [] ks i lt = absurd (omega arith)
+index-left (n ∷ ns) ks zero lt = refl
+index-left (n ∷ ns) ks (suc i) lt = index-left ns ks i (omega arith)
+
+index-right : (ns ks : List ℕ) (i : ℕ) → length ns ≤ i → slice_index (ns ++ ks) i ≡ slice_index ks (i - length ns)
+index-right [] ks i le = let same : i - 0 ≡ i = omega arith in rw same refl
+index-right (n ∷ ns) ks zero le = absurd (omega arith)
+index-right (n ∷ ns) ks (suc i) le =
+    let same : suc i - suc (length ns) ≡ i - length ns = omega arith in
+    rw same (index-right ns ks i (omega arith))
+
+pub AreHolders-append : (ms : List Member) (rs qs : List Row) (hs ks : List ℕ) → AreHolders ms rs hs → AreHolders ms qs ks
+    → AreHolders ms (rs ++ qs) (hs ++ ks)
+AreHolders-append ms rs qs hs ks first second = record {
+  one_each = omega (arith, first.one_each, second.one_each, length-append rs qs, length-append hs ks);
+  each = λ i r is. elim (cases_lt i (length rs)) [
+    | inl lt ↦ rw (index-left hs ks i (omega (arith, first.one_each))) (first.each i r (sym (get-left rs qs i lt) ∙ is))
+    | inr ge ↦
+        let same : i - length hs ≡ i - length rs = omega (arith, first.one_each) in
+        rw (index-right hs ks i (omega (arith, first.one_each)), same)
+        (second.each (i - length rs) r (sym (get-behind rs qs i ge) ∙ is))
+  ];
+}
+
+pub AreHolders-none : (ms : List Member) → AreHolders ms [] []
+AreHolders-none ms = record { one_each = refl; each = λ i r is. absurd cc }
+
+-- a run that has items in order
+pub one-run : {Z : Type 0} (run : Vec Row Z) → (length run.items == 0) ≡ false → IsAscending key_cmp row_key run.items
+    → length run.items < 2 ^ 63 → are_runs key_cmp row_key (run ∷ []) ≡ true
+one-run run some rise small =
+    rw (
+      append-nil run.items,
+      is_ascending-from_fact key_cmp key_total row_key run.items rise,
+      lt-ltb (length run.items) (2 ^ 63) small,
+      lt-ltb 0 (length run.items) (nonzero (length run.items) some),
+    ) refl
+  where
+    nonzero : (n : ℕ) → (n == 0) ≡ false → 0 < n
+    nonzero zero e = cc
+    nonzero (suc n) e = omega arith
+
+-- the rows of one more run
+pub AreHolders-run : {Z : Type 0} (ms : List Member) (runs : List (Vec Row Z)) (i : ℕ) (run : Vec Row Z) (hs ks : List ℕ)
+    → i < length runs → run ≡ get_or runs i run → AreHolders ms (items_of (take i runs)) hs → AreHolders ms run.items ks
+    → AreHolders ms (items_of (take (i + 1) runs)) (hs ++ ks)
+AreHolders-run ms runs i run hs ks lt is so_far more =
+    let whole : items_of (take (i + 1) runs) ≡ items_of (take i runs) ++ run.items =
+    ap items_of (take_more runs i run lt ∙ ap (λ r. take i runs ++ r ∷ []) (sym is))
+    ∙ flat_map-append vec_items (take i runs) (run ∷ [])
+    ∙ ap (λ rs. items_of (take i runs) ++ rs) (append-nil run.items) in
+    rw whole (AreHolders-append ms (items_of (take i runs)) run.items hs ks so_far more)
+
+-- the rows of all runs
+pub AreHolders-runs : {Z : Type 0} (ms : List Member) (runs : List (Vec Row Z)) (found : List (Vec ℕ Z))
+    → AllZip (λ run holders. AreHolders ms run.items holders.items) runs found
+    → AreHolders ms (items_of runs) (flat_map vec_items found)
+AreHolders-runs ms [] [] all = AreHolders-none ms
+AreHolders-runs ms [] (hs ∷ found) all = absurd all
+AreHolders-runs ms (run ∷ runs) [] all = absurd all
+AreHolders-runs ms (run ∷ runs) (hs ∷ found) all =
+    AreHolders-append ms run.items (items_of runs) hs.items (flat_map vec_items found) all.0
+    (AreHolders-runs ms runs found all.1)
+
+-- rows with places are of listed members
+pub whole-held : (ms : List Member) (rs : List Row) (hs : List ℕ) → AreHolders ms rs hs
+    → is_whole (record { members = ms; rows = rs }) ≡ true
+whole-held ms [] hs are = refl
+whole-held ms (r ∷ rs) [] are = absurd (omega (arith, are.one_each))
+whole-held ms (r ∷ rs) (h ∷ hs) are =
+    let here = contains_key-at member_cmp member_total member_key ms (member_of_row r) h (are.each 0 r refl) in
+    let rest : AreHolders ms rs hs = record { one_each = omega (arith, are.one_each); each = λ i s is. are.each (suc i) s is } in
+    rw here (whole-held ms rs hs rest)
+
+pub held-ledger : (ms : List Member) (rs : List Row) (hs : List ℕ) → IsAscending member_cmp member_key ms
+    → IsAscending key_cmp row_key rs → AreHolders ms rs hs → IsLedger (record { members = ms; rows = rs })
+held-ledger ms rs hs members_rise rows_rise are =
+    record { members_rise = members_rise; rows_rise = rows_rise; whole = whole-held ms rs hs are }
 
 -- ---- one more member
 

@@ -1,5 +1,5 @@
 -- Whether two books are one.
-use Rattle.std.proofs.Common.{◌≡◌, Bool, true, false, Decides, sym, ap, ◌∙◌}
+use Rattle.std.proofs.Common.{◌≡◌, Bool, true, false, Decides, sym, ◌∙◌}
 use Rattle.std.proofs.lemmas.Bool.Decides.{Decides-at, Decides-like}
 
 -- both tests, the second made only where the first holds

@@ -1,5 +1,9 @@
 -- The lines of members and rows, one after another.
-use Rattle.std.proofs.Common.{◌≡◌, ℕ, zero, suc, ◌<◌, List, [], ◌∷◌, ◌++◌, length, get_or, take, map, refl, sym, ap, arith}
+use Rattle.std.proofs.Common.{◌≡◌, ℕ, zero, suc, ◌<◌, List, [], ◌∷◌, ◌++◌, length, get_or, take, map, refl, sym, ap, ◌∙◌, arith}
+use Rattle.std.specs.Borrow.{Bor}
+use Rattle.std.specs.List.{AllZip, flat_map}
+use Rattle.std.specs.Vec.{vec_items}
+use Rattle.std.specs.declared.vec.Vec.{Vec}
 use Rattle.std.proofs.lemmas.Grind.{flat_map-append}
 use Rattle.rx_ledger.specs.declared.member.Member.{Member}
 use Rattle.rx_ledger.specs.declared.row.Row.{Row}
@@ -9,6 +13,7 @@ use Rattle.rx_books_text.specs.declared.version.Version.TheVariants.{Three}
 use Rattle.rx_books_text.specs.LineText.{ended, line_text}
 use Rattle.rx_books_text.specs.Printed.{member_lines}
 use Rattle.rx_books_kept.specs.BooksText.{claims_text, lines_text}
+use Rattle.rx_books_kept.specs.Opening.{rows_text}
 
 -- ---- lines
 
@@ -33,3 +38,14 @@ member_lines-more (x ∷ ms) (d ∷ ds) (suc i) m lt below is =
 pub claims-map : (rows : List Row) → lines_text (map (λ r. line.Claim r) rows) ≡ claims_text rows
 claims-map [] = refl
 claims-map (r ∷ rows) = ap (λ t. line_of (line.Claim r) ++ t) (claims-map rows)
+
+-- the texts of pieces are that of the rows
+pub texts-pieces : {P Z : Type 0} (rows_of : P → List (Bor Row)) (pieces : List P) (texts : List (Vec ℕ Z))
+    → AllZip (λ piece text. text.items ≡ rows_text (rows_of piece)) pieces texts
+    → flat_map vec_items texts ≡ rows_text (flat_map rows_of pieces)
+texts-pieces rows_of [] [] all = refl
+texts-pieces rows_of [] (text ∷ texts) all = absurd all
+texts-pieces rows_of (piece ∷ pieces) [] all = absurd all
+texts-pieces rows_of (piece ∷ pieces) (text ∷ texts) all =
+    (λ i. all.0 i ++ texts-pieces rows_of pieces texts all.1 i)
+    ∙ sym (flat_map-append (λ (r : Bor Row). line_of (line.Claim r.now)) (rows_of piece) (flat_map rows_of pieces))

@@ -6,14 +6,14 @@ use Rattle.rx_ledger.specs.declared.member.Member.{Member}
 use Rattle.rx_ledger.specs.declared.row.Row.{Row}
 use Rattle.rx_ledger.specs.Ledger.{Ledger}
 use Rattle.rx_ledger.specs.Members.{is_same}
-use Rattle.rx_ledger.specs.Sums.{deductible, family_deductible, family_deductible_in, out_of_pocket, out_of_pocket_in}
+use Rattle.rx_ledger.specs.Sums.{deductible, family_deductible, out_of_pocket}
 use Rattle.rx_books_text.specs.declared.line.Line.{Line}
 use Rattle.rx_books_text.specs.declared.line.Line.TheVariants as line
 use Rattle.rx_books_text.specs.declared.line.TotalLine.{TotalLine}
 use Rattle.rx_books_text.specs.declared.version.Version.{Version}
 use Rattle.rx_books_text.specs.declared.version.Version.TheVariants.{One, Two, Three}
 use Rattle.rx_books_text.specs.LineText.{ended, line_text}
-use Rattle.rx_books_text.specs.Printed.{PrintedParts, member_lines, printed_text}
+use Rattle.rx_books_text.specs.Printed.{PrintedParts, printed_text}
 
 -- the families of these members, each once, in the order in which they come
 abbrev pub families_of : List Member → List (List ℕ)

@@ -2,6 +2,7 @@ pub mod BooksFile
 pub mod BooksText
 pub mod Figures
 pub mod LedgerBooks
+pub mod Lists
 pub mod OpenBooks
 pub mod Opening
 pub mod Standing

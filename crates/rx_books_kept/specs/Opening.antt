@@ -1,5 +1,10 @@
 -- The families of the lists that books were made from.
 use Rattle.std.specs.Prelude.{ℕ, List, [], ◌∷◌, Some, map}
+use Rattle.std.specs.List.{flat_map}
+use Rattle.std.specs.Borrow.{Bor}
+use Rattle.rx_ledger.specs.declared.row.Row.{Row}
+use Rattle.rx_books_text.specs.declared.version.Version.TheVariants.{Three}
+use Rattle.rx_books_text.specs.LineText.{ended, line_text}
 use Rattle.rx_books_text.specs.declared.line.Line.{Line}
 use Rattle.rx_books_text.specs.declared.line.Line.TheVariants as line
 use Rattle.rx_books_kept.specs.declared.opening.FamilyName.{FamilyName}
@@ -18,3 +23,7 @@ total_lines (n ∷ ns) [] ds = []
 total_lines (n ∷ ns) (p ∷ ps) [] = []
 total_lines (n ∷ ns) (p ∷ ps) (d ∷ ds) =
     line.Total (record { family = n.family; out_of_pocket = p; deductible = Some d }) ∷ total_lines ns ps ds
+
+-- the lines of rows that are borrowed
+abbrev pub rows_text : List (Bor Row) → List ℕ
+rows_text rows = flat_map (λ r. ended (line_text Three (line.Claim r.now))) rows

@@ -9,6 +9,7 @@ ghost use Rattle.rx_books_text.specs.Printed.{lines_of};
 ghost use Rattle.rx_books_kept.specs.Figures.{books_of, unsummed, wrong_line};
 ghost use Rattle.rx_books_kept.specs.LedgerBooks.{deductible_of_family, deductible_of_member, out_of_pocket_of_family};
 
+use crate::holders::{holders_of, one_run};
 use crate::open_books::OpenBooks;
 use crate::opening::Opening;
 use rx_books_text::{BooksFault, Printed, Version, put_head, read_printed};
@@ -40,7 +41,9 @@ impl Books {
         ensures { IfOk result (λ books. books ≡ record { period = period; ledger = ledger.now }) }
     {
         let (members, rows) = ledger.copy(alloc)?.into_lists();
-        let opening = Opening::of(alloc, members, rows)?;
+        let rows = one_run(alloc, rows)?;
+        let holders = holders_of(alloc, &members, &rows).ok_or(Memory)?;
+        let opening = Opening::of(alloc, members, rows, holders)?;
         let kept = OpenBooks::added_up(alloc, period, opening, Ascending::new(alloc))?;
         Ok(Books { kept })
     }
@@ -59,11 +62,12 @@ impl Books {
         // The same, computed.
         ensures value { Gives result (books_of text.now) }
     {
-        Books::read_summed(alloc, text)
+        let quick = Books::read_quickly(alloc, text);
+        Books::or_summed(alloc, text, quick)
     }
 
-    // The books that are printed, where each figure is the sum.
-    fn read_summed(alloc: Global, text: &[u8]) -> Result<Books, BooksFault>
+    /// The books that the exact reader finds, where each figure is the sum.
+    pub(crate) fn read_summed(alloc: Global, text: &[u8]) -> Result<Books, BooksFault>
         ensures { Gives result (books_of text.now) }
     {
         let printed = read_printed(alloc, text)?;

@@ -1,6 +1,7 @@
-ghost use Rattle.std.specs.Prelude.{◌≡◌, ◌↔◌, ◌++◌, IfOk, IsTrue, OnOk};
-ghost use Rattle.std.specs.List.{All, list_all};
+ghost use Rattle.std.specs.Prelude.{◌≡◌, ◌≤◌, ◌↔◌, ◌++◌, IfOk, IsTrue, OnOk};
+ghost use Rattle.std.specs.List.{All, flat_map, list_all};
 ghost use Rattle.std.specs.Option.{option_copied};
+ghost use Rattle.std.specs.Vec.{vec_items};
 ghost use Rattle.rx_fields.specs.Order.{id_cmp};
 ghost use Rattle.rx_order.specs.Ascending.{IsAscending};
 ghost use Rattle.rx_ledger.specs.Ledger.{IsLedger, row_under};
@@ -15,12 +16,16 @@ use crate::opening::{FamilyName, Opening};
 use crate::slot::KeySlot;
 use crate::standing::Standing;
 use crate::summing::{Figures, summed};
-use crate::writing::{put_members, put_totals};
+use crate::writing::{CLAIM, claims_in_parts, put_members, put_texts, put_totals};
 use rx_books_text::{TotalLine, Version, put_claim, put_head};
 use rx_fields::{Key, Memory, Period};
 use rx_ledger::{Ledger, Row};
 use rx_order::Ascending;
 use std::alloc::Global;
+use std::thread::Threads;
+
+// About the bytes of a member line and a total line.
+const OTHER: usize = 64;
 
 impl OpenBooks {
     /// The books of what stands, their figures added up.
@@ -159,7 +164,7 @@ impl OpenBooks {
     pub(crate) fn write(&self, alloc: Global) -> Result<Vec<u8>, Memory>
         ensures { IfOk result (λ text. text.items ≡ books_text Version.Three self.now.books.period self.now.books.ledger) }
     {
-        let mut text = Vec::new(alloc);
+        let mut text = Vec::with_capacity(alloc, self.room())?;
         put_head(&mut text, self.period)?;
         put_members(
             &mut text,
@@ -174,6 +179,62 @@ impl OpenBooks {
             &self.family_deductibles,
         )?;
         Ok(text)
+    }
+
+    /// The same, where so many parts of the claims are written by threads of their own; one part is written on the calling
+    /// thread.
+    pub(crate) fn write_in_parts<R: Threads + Sync>(
+        &self,
+        rt: &R,
+        alloc: Global,
+        parts: usize,
+    ) -> Result<Vec<u8>, Memory>
+        ensures { IfOk result (λ text. text.items ≡ books_text Version.Three self.now.books.period self.now.books.ledger) }
+    {
+        if parts < 2 {
+            return self.write(alloc);
+        }
+        let claims = self.claims_in_parts(rt, alloc, parts)?;
+        let mut text = Vec::with_capacity(alloc, self.room())?;
+        put_head(&mut text, self.period)?;
+        put_members(
+            &mut text,
+            self.opening.members().as_slice(),
+            &self.deductibles,
+        )?;
+        put_texts(&mut text, &claims)?;
+        put_totals(
+            &mut text,
+            self.opening.families(),
+            &self.out_of_pockets,
+            &self.family_deductibles,
+        )?;
+        Ok(text)
+    }
+
+    // The lines of the rows that stand, in so many texts.
+    fn claims_in_parts<R: Threads + Sync>(
+        &self,
+        rt: &R,
+        alloc: Global,
+        parts: usize,
+    ) -> Result<Vec<Vec<u8>>, Memory>
+        requires { 2 ≤ parts }
+        ensures { IfOk result (λ texts. flat_map vec_items texts.items ≡ claims_text self.now.books.ledger.rows) }
+    {
+        let mut rows = Vec::with_capacity(alloc, self.opening.rows().len())?;
+        let mut standing = self.standing();
+        'rows: while let Some((row, _)) = standing.next_row() {
+            rows.push(row)?;
+        }
+        claims_in_parts(rt, alloc, &rows, rows.len() / parts + 1)
+    }
+
+    // About the bytes of the text.
+    fn room(&self) -> usize {
+        let claims = self.opening.rows().len().saturating_mul(CLAIM);
+        let others = self.opening.members().len().saturating_mul(OTHER);
+        claims.saturating_add(others)
     }
 
     // Puts the lines of the rows that stand.

@@ -22,10 +22,14 @@
 mod amounts;
 mod books;
 mod figures;
+mod holders;
 mod kept;
 mod open_books;
 mod opened;
 mod opening;
+mod parts;
+mod places;
+mod reading;
 mod slot;
 mod standing;
 mod summing;

@@ -39,7 +39,7 @@ fn fresh_slot(opening: &Opening, key: &Key) -> KeySlot
     match opening.rows().place(key) {
         Ok(at) => KeySlot {
             key: *key,
-            held: Some(opening.rows().as_slice()[at]),
+            held: Some(*opening.rows().at(at)),
             holder: opening.kept_place(opening.holder(at)),
         },
         Err(_) => KeySlot {

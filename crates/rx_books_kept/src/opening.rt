@@ -11,8 +11,7 @@ ghost use Rattle.rx_books_kept.specs.Store.{AreHolders, AreHomes};
 
 use rx_fields::{Id, Memory};
 use rx_ledger::{Member, MemberKey, Row};
-use rx_order::{Ascending, Keyed};
-use rx_parcels::place_of_member;
+use rx_order::{Ascending, Keyed, Runs};
 use std::alloc::Global;
 use std::marker::Model;
 use std::sync::Arc;
@@ -37,7 +36,7 @@ impl Keyed for FamilyName {
 #[derive(Debug, Drop)]
 pub(crate) struct Lists {
     members: Ascending<Member>,
-    rows: Ascending<Row>,
+    rows: Runs<Row>,
     families: Ascending<FamilyName>,
     homes: Vec<u32>,
     holders: Vec<u32>,
@@ -72,16 +71,19 @@ impl Model for Opening {
 }
 
 impl Opening {
-    /// The opening lists of a ledger's members and rows. More than 2^32 members are refused for memory.
+    /// The opening lists of these members and rows, each of which has a listed member, at these places.
     pub(crate) fn of(
         alloc: Global,
         members: Ascending<Member>,
-        rows: Ascending<Row>,
+        rows: Runs<Row>,
+        holders: Vec<u32>,
     ) -> Result<Opening, Memory>
-        requires { IsLedger (record { members = members; rows = rows }) }
-        ensures { IfOk result (λ opening. opening ≡ record { members = members; rows = rows }) }
+        requires few { length members < 2 ^ 32 }
+        requires held { AreHolders members rows holders.items }
+        ensures value { IfOk result (λ opening. opening ≡ record { members = members; rows = rows }) }
+        ensures within { IfOk result (λ opening. IsLedger opening) }
     {
-        let lists = Lists::of(alloc, members, rows)?;
+        let lists = Lists::of(alloc, members, rows, holders)?;
         let lists = Arc::new(alloc, lists)?;
         Ok(Opening { lists })
     }
@@ -104,7 +106,7 @@ impl Opening {
     }
 
     /// The rows, in order.
-    pub(crate) fn rows(&self) -> &Ascending<Row>
+    pub(crate) fn rows(&self) -> &Runs<Row>
         ensures value { result.now ≡ self.now.rows }
         ensures within { IsLedger self.now }
     {
@@ -164,15 +166,19 @@ impl Opening {
 }
 
 impl Lists {
-    fn of(alloc: Global, members: Ascending<Member>, rows: Ascending<Row>) -> Result<Lists, Memory>
-        requires { IsLedger (record { members = members; rows = rows }) }
-        ensures { IfOk result (λ lists. lists ≡ record { members = members; rows = rows }) }
+    fn of(
+        alloc: Global,
+        members: Ascending<Member>,
+        rows: Runs<Row>,
+        holders: Vec<u32>,
+    ) -> Result<Lists, Memory>
+        requires few { length members < 2 ^ 32 }
+        requires held { AreHolders members rows holders.items }
+        ensures value { IfOk result (λ lists. lists ≡ record { members = members; rows = rows }) }
+        ensures within { IfOk result (λ lists. IsLedger lists) }
     {
-        if members.len() >= 1 << 32 {
-            return Err(Memory);
-        }
         let (families, homes) = homes_of(alloc, members.as_slice())?;
-        let holders = holders_of(alloc, &members, rows.as_slice())?;
+        let _rows = rows.runs();
         Ok(Lists {
             members,
             rows,
@@ -190,7 +196,7 @@ impl Lists {
         &self.members
     }
 
-    fn rows(&self) -> &Ascending<Row>
+    fn rows(&self) -> &Runs<Row>
         ensures value { result.now ≡ self.now.rows }
         ensures within { IsLedger self.now }
     {
@@ -253,17 +259,4 @@ fn last_place(families: &mut Ascending<FamilyName>, family: Id) -> Result<usize,
         families.push(FamilyName { family })?;
     }
     Ok(families.len() - 1)
-}
-
-// For each of these rows the place of its member, who is listed.
-fn holders_of(alloc: Global, members: &Ascending<Member>, rows: &[Row]) -> Result<Vec<u32>, Memory>
-    requires whole { is_whole (record { members = members.now; rows = rows.now }) ≡ true }
-    requires few { length members.now < 2 ^ 32 }
-    ensures { IfOk result (λ holders. AreHolders members.now rows.now holders.items) }
-{
-    let mut holders = Vec::new(alloc);
-    for row in rows {
-        holders.push(place_of_member(members, &row.member()) as u32)?;
-    }
-    Ok(holders)
 }

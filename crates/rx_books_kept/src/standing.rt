@@ -1,4 +1,4 @@
-ghost use Rattle.std.specs.Prelude.{◌≡◌, ◌≤◌, ◌∷◌, [], IfNone, IfSome, drop, length};
+ghost use Rattle.std.specs.Prelude.{◌≡◌, ◌<◌, ◌≤◌, ◌^◌, ◌∷◌, [], IfNone, IfSome, drop, is_some, length, nat_lt, slice_index_or};
 ghost use Rattle.std.specs.List.{All};
 ghost use Rattle.rx_fields.specs.Order.{key_cmp};
 ghost use Rattle.rx_order.specs.Ascending.{IsAscending, IsAt};
@@ -11,6 +11,7 @@ use crate::opening::Opening;
 use crate::slot::KeySlot;
 use rx_fields::Key;
 use rx_ledger::Row;
+use rx_order::Runs;
 use std::marker::Model;
 
 /// A pass over the rows that stand, in order. Contracts see the members, and the rows that are still to come.
@@ -57,7 +58,7 @@ impl<'a> Standing<'a> {
         ensures holder { IfSome result (λ r. IsAt member_cmp member_key self.old.members (member_of_row r.0.now) r.1) }
         ensures members { self.new.members ≡ self.old.members }
     {
-        let (rows, slots) = (self.opening.rows().as_slice(), self.slots);
+        let (rows, slots) = (self.opening.rows(), self.slots);
         'slots: while is_slot_next(rows, slots, self.row, self.slot) {
             let slot = &slots[self.slot];
             self.row = past_key(rows, self.row, &slot.key);
@@ -72,28 +73,30 @@ impl<'a> Standing<'a> {
         }
         let at = self.row;
         self.row += 1;
-        Some((&rows[at], self.opening.holder(at)))
+        Some((rows.at(at), self.opening.holder(at)))
     }
 }
 
 // Whether the slot comes before the row, or under the row's key.
-fn is_slot_next(rows: &[Row], slots: &[KeySlot], row: usize, slot: usize) -> bool
+fn is_slot_next(rows: &Runs<Row>, slots: &[KeySlot], row: usize, slot: usize) -> bool
     ensures { result ≡ is_slot_next (drop row rows.now) (drop slot slots.now) }
 {
-    match (rows.get(row), slots.get(slot)) {
-        (_, None) => false,
-        (None, Some(_)) => true,
-        (Some(row), Some(slot)) => row.key >= slot.key,
+    let Some(slot) = slots.get(slot) else {
+        return false;
+    };
+    match row_at(rows, row) {
+        Some(row) => row.key >= slot.key,
+        None => true,
     }
 }
 
 // The place behind the row, where it has the key.
-fn past_key(rows: &[Row], row: usize, key: &Key) -> usize
+fn past_key(rows: &Runs<Row>, row: usize, key: &Key) -> usize
     requires { row ≤ length rows.now }
     ensures rest { drop result rows.now ≡ past_key key.now (drop row rows.now) }
     ensures within { result ≤ length rows.now }
 {
-    match rows.get(row) {
+    match row_at(rows, row) {
         Some(first) => {
             if first.key.cmp(key).is_eq() {
                 row + 1
@@ -102,5 +105,18 @@ fn past_key(rows: &[Row], row: usize, key: &Key) -> usize
             }
         }
         None => row,
+    }
+}
+
+// The row at a place.
+fn row_at(rows: &Runs<Row>, place: usize) -> Option<&Row>
+    ensures some { is_some result ≡ nat_lt place (length rows.now) }
+    ensures row { IfSome result (λ row. row.now ≡ slice_index_or rows.now place row.now) }
+    ensures few { length rows.now < 2 ^ 63 }
+{
+    if place < rows.len() {
+        Some(rows.at(place))
+    } else {
+        None
     }
 }

@@ -73,7 +73,8 @@ pub(crate) fn summed(
     ensures rise { IsAscending key_cmp slot_key slots.now }
     ensures few { IfOk result (λ f. length opening.now.rows + length slots.now < 2 ^ 64) }
 {
-    let (members, rows) = (opening.members().as_slice(), opening.rows().as_slice());
+    let (members, rows) = (opening.members().as_slice(), opening.rows());
+    let _few = rows.len();
     let slots = slots.as_slice();
     let mut figures = Figures::zero(alloc, members.len(), opening.families().len())?;
     let mut standing = Standing::of(opening, slots);
@@ -81,6 +82,5 @@ pub(crate) fn summed(
         let counted = counted_in(period, row);
         figures.count(member, opening.home(member), counted);
     }
-    let _count = rows.len();
     Ok(figures)
 }

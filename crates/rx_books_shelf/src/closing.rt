@@ -25,13 +25,16 @@ impl Shelf {
         ensures ok { IsOk result ↔ ((are_all_in self ≡ true) × KeepsMembers self) }
         ensures period { IfOk result (λ books. books.period ≡ self.period) }
         ensures values { IfOk result (λ books. (b : Book) → book b books.ledger ≡ value_of self b) }
+        ensures within { IfOk result (λ books. IsLedger books.ledger) }
         ensures back { IfErr result (λ shelf. shelf ≡ self) }
     {
         if !self.can_be_closed() {
             return Err(self);
         }
         let Shelf { books, keys, .. } = self;
-        Ok(brought(books, keys.as_slice()).close())
+        let books = brought(books, keys.as_slice());
+        let _told = books.standing();
+        Ok(books.close())
     }
 
     // Whether no book is out, and each family's book has the members that the family has beside.

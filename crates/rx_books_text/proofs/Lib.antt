@@ -13,6 +13,7 @@ pub mod IdLaws
 pub mod LineLaws
 pub mod MemberLaws
 pub mod NumberLaws
+pub mod OneReading
 pub mod Passed
 pub mod Printing
 pub mod Steps

@@ -30,10 +30,10 @@ use Rattle.rx_books_text.proofs.TextSteps as steps
 
 -- the bytes have no line feed, or a first one
 pub record Feed (bs : List ℕ) : Type 0 where
-  front : List ℕ
-  rest : List ℕ
-  whole : bs ≡ front ++ 10 ∷ rest
-  none : Without 10 front
+  pub front : List ℕ
+  pub rest : List ℕ
+  pub whole : bs ≡ front ++ 10 ∷ rest
+  pub none : Without 10 front
 
 pub find_feed : (bs : List ℕ) → Without 10 bs ⊎ Feed bs
 find_feed [] = inl (All-nil (λ (b : ℕ). eqb b 10 ≡ false))
@@ -67,7 +67,7 @@ one_line : (a b c d : List ℕ) → a ++ 10 ∷ b ≡ c ++ 10 ∷ d → Without 
 one_line a b c d same none_a none_c =
     ap first_of (sym (lines_over a b none_a) ∙ ap lines same ∙ lines_over c d none_c)
 
-whole_none : (bs : List ℕ) → Without 10 bs → lines bs ≡ bs ∷ []
+pub whole_none : (bs : List ℕ) → Without 10 bs → lines bs ≡ bs ∷ []
 whole_none bs none = slice_split_none (λ b. eqb b 10) bs none
 
 abbrev others : List (List ℕ) → ℕ

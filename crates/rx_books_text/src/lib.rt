@@ -17,6 +17,7 @@ mod cut;
 mod fault;
 mod field;
 mod head;
+mod law;
 mod line;
 mod member_line;
 mod printed;
@@ -27,6 +28,7 @@ mod writing;
 
 pub use fault::BooksFault;
 pub use head::{Head, read_head};
+pub use law::one_reading;
 pub use line::{Line, MemberLine, TotalLine, read_line};
 pub use printed::Printed;
 pub use reader::read_printed;

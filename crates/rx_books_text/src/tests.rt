@@ -1,6 +1,6 @@
 use crate::{
-    BooksFault, Line, Version, put_claim, put_head, put_member, put_total, read_head, read_line,
-    read_printed,
+    BooksFault, Line, Version, one_reading, put_claim, put_head, put_member, put_total, read_head,
+    read_line, read_printed,
 };
 use std::alloc::Global;
 use std::test::Fail;
@@ -35,6 +35,7 @@ fn told(alloc: Global, lines: &[&[u8]]) -> Result<(u32, u64), Fail> {
 
 #[test]
 fn reads_the_opening_books(rt: HostRuntime) -> Result<(), Fail> {
+    one_reading();
     let total = b"T|C100|5\n";
     assert_eq!(rt;
         told(rt.alloc(), &[HEAD, MEMBER, SECOND, CLAIM, total])?,

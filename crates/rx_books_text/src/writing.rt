@@ -1,5 +1,4 @@
-ghost use Rattle.std.specs.Prelude.{◌≡◌, ◌++◌, ◌∷◌, [], decimal};
-ghost use Rattle.std.specs.Result.{OnOk};
+ghost use Rattle.std.specs.Prelude.{◌≡◌, ◌≤◌, ◌+◌, ◌++◌, ◌∷◌, [], decimal, length, vec_capacity, vec_len, MatchResult};
 ghost use Rattle.rx_fields.specs.Calendar.{date_text};
 ghost use Rattle.rx_fields.specs.Digits.{digits_text};
 ghost use Rattle.rx_books_text.specs.declared.line.Line.TheVariants as lines;
@@ -10,171 +9,237 @@ use crate::line::{MemberLine, TotalLine};
 use itoa::{Buffer, Integer};
 use rx_claim::Amounts;
 use rx_fields::{
-    Authorization, Days, Key, Memory, Period, Product, Quantity, date_write, digits_write,
+    Authorization, Day, Days, Key, Memory, Period, Product, Quantity, date_write, digits_write,
 };
 use rx_ledger::{MemberKey, Row};
-use std::alloc::AllocError;
 
-/// Puts the head line of version 3, with its line feed.
+// Room for any line: an id has at most 20 bytes, and a number is written in at most 40.
+const LINE: usize = 512;
+
+/// Puts the head line of version 3, with its line feed; where a growth is refused the text stays as it was.
 #[tactic(auto, using(std::proofs::Common::append_assoc))]
 pub fn put_head(text: &mut Vec<u8>, period: Period) -> Result<(), Memory>
-    ensures { OnOk result (text.new.items
-        ≡ text.old.items ++ ended (head_text (record { version = versions.Three; period = period }))) }
+    ensures { MatchResult result
+        (λ _. text.new.items ≡ text.old.items ++ ended (head_text (record { version = versions.Three; period = period })))
+        (λ _. text.new.items ≡ text.old.items) }
 {
-    text.extend_from_slice(b"BOOKS|3|")?;
-    put_period(text, period)?;
-    text.extend_from_slice(b"\n")?;
+    text.reserve(LINE)?;
+    put(text, b"BOOKS|3|");
+    put_period(text, period);
+    put(text, b"\n");
     Ok(())
 }
 
-/// Puts a member line, with its line feed.
+/// Puts a member line, with its line feed; where a growth is refused the text stays as it was.
 #[tactic(auto, using(std::proofs::Common::append_assoc))]
 pub fn put_member(text: &mut Vec<u8>, line: &MemberLine) -> Result<(), Memory>
-    ensures { OnOk result (text.new.items ≡ text.old.items ++ ended (line_text versions.Three (lines.Member line.now))) }
+    ensures { MatchResult result
+        (λ _. text.new.items ≡ text.old.items ++ ended (line_text versions.Three (lines.Member line.now)))
+        (λ _. text.new.items ≡ text.old.items) }
 {
-    text.extend_from_slice(b"M|")?;
-    put_member_key(text, &line.member.key)?;
-    put_period(text, line.member.coverage)?;
-    text.extend_from_slice(b"|")?;
-    put_number(text, line.deductible)?;
-    text.extend_from_slice(b"\n")?;
+    text.reserve(LINE)?;
+    put(text, b"M|");
+    put_member_key(text, &line.member.key);
+    put_period(text, line.member.coverage);
+    put(text, b"|");
+    put_number(text, line.deductible);
+    put(text, b"\n");
     Ok(())
 }
 
-/// Puts a claim line of version 3, with its line feed.
+/// Puts a claim line of version 3, with its line feed; where a growth is refused the text stays as it was.
 #[tactic(auto, using(std::proofs::Common::append_assoc))]
 pub fn put_claim(text: &mut Vec<u8>, row: &Row) -> Result<(), Memory>
-    ensures { OnOk result (text.new.items ≡ text.old.items ++ ended (line_text versions.Three (lines.Claim row.now))) }
+    ensures { MatchResult result
+        (λ _. text.new.items ≡ text.old.items ++ ended (line_text versions.Three (lines.Claim row.now)))
+        (λ _. text.new.items ≡ text.old.items) }
 {
-    text.extend_from_slice(b"C|")?;
-    put_fill(text, row)?;
-    put_amounts(text, &row.pricing.amounts())?;
-    put_authorization(text, row.number)?;
+    text.reserve(LINE)?;
+    put(text, b"C|");
+    put_fill(text, row);
+    put_amounts(text, &row.pricing.amounts());
+    put_authorization(text, row.number);
     Ok(())
 }
 
-/// Puts a total line, with its line feed.
+/// Puts a total line, with its line feed; where a growth is refused the text stays as it was.
 #[tactic(auto, using(std::proofs::Common::append_assoc))]
 pub fn put_total(text: &mut Vec<u8>, line: &TotalLine) -> Result<(), Memory>
-    ensures { OnOk result (text.new.items ≡ text.old.items ++ ended (line_text versions.Three (lines.Total line.now))) }
+    ensures { MatchResult result
+        (λ _. text.new.items ≡ text.old.items ++ ended (line_text versions.Three (lines.Total line.now)))
+        (λ _. text.new.items ≡ text.old.items) }
 {
-    text.extend_from_slice(b"T|")?;
-    text.extend_from_slice(line.family.bytes())?;
-    text.extend_from_slice(b"|")?;
-    put_number(text, line.out_of_pocket)?;
+    text.reserve(LINE)?;
+    put(text, b"T|");
+    put_id(text, line.family.bytes());
+    put_number(text, line.out_of_pocket);
     if let Some(deductible) = line.deductible {
-        text.extend_from_slice(b"|")?;
-        put_number(text, deductible)?;
+        put(text, b"|");
+        put_number(text, deductible);
     }
-    text.extend_from_slice(b"\n")?;
+    put(text, b"\n");
     Ok(())
+}
+
+// Puts bytes for which there is room.
+#[inline(always)]
+fn put(text: &mut Vec<u8>, bytes: &[u8])
+    requires { vec_len text.old + length bytes.now ≤ vec_capacity text.old }
+    ensures items { text.new.items ≡ text.old.items ++ bytes.now }
+    ensures len { vec_len text.new ≡ vec_len text.old + length bytes.now }
+    ensures capacity { vec_capacity text.old ≤ vec_capacity text.new }
+{
+    match text.extend_from_slice(bytes) {
+        Ok(()) => (),
+        Err(_) => unreachable!(),
+    }
 }
 
 // A number without leading zeros.
-fn put_number<I: Integer>(text: &mut Vec<u8>, number: I) -> Result<(), AllocError>
-    ensures { OnOk result (text.new.items ≡ text.old.items ++ I.text number) }
+#[tactic(auto, using(std::proofs::Common::append_assoc))]
+fn put_number<I: Integer>(text: &mut Vec<u8>, number: I)
+    requires { vec_len text.old + 40 ≤ vec_capacity text.old }
+    ensures items { text.new.items ≡ text.old.items ++ I.text number }
+    ensures len { vec_len text.new ≤ vec_len text.old + 40 }
+    ensures capacity { vec_capacity text.old ≤ vec_capacity text.new }
 {
     let mut buffer = Buffer::new();
-    text.extend_from_slice(buffer.format(number).as_bytes())
+    put(text, buffer.format(number).as_bytes());
 }
 
 // A number and a bar.
 #[tactic(auto, using(std::proofs::Common::append_assoc))]
-fn put_count(text: &mut Vec<u8>, number: u64) -> Result<(), AllocError>
-    ensures { OnOk result (text.new.items ≡ text.old.items ++ barred (decimal number ∷ [])) }
+fn put_count(text: &mut Vec<u8>, number: u64)
+    requires { vec_len text.old + 41 ≤ vec_capacity text.old }
+    ensures items { text.new.items ≡ text.old.items ++ barred (decimal number ∷ []) }
+    ensures len { vec_len text.new ≤ vec_len text.old + 41 }
+    ensures capacity { vec_capacity text.old ≤ vec_capacity text.new }
 {
-    put_number(text, number)?;
-    text.extend_from_slice(b"|")
+    put_number(text, number);
+    put(text, b"|");
 }
 
-// A text and a bar.
+// An id and a bar.
 #[tactic(auto, using(std::proofs::Common::append_assoc))]
-fn put_text(text: &mut Vec<u8>, field: &[u8]) -> Result<(), AllocError>
-    ensures { OnOk result (text.new.items ≡ text.old.items ++ barred (field.now ∷ [])) }
+fn put_id(text: &mut Vec<u8>, id: &[u8])
+    requires short { length id.now ≤ 20 }
+    requires room { vec_len text.old + 21 ≤ vec_capacity text.old }
+    ensures items { text.new.items ≡ text.old.items ++ barred (id.now ∷ []) }
+    ensures len { vec_len text.new ≤ vec_len text.old + 21 }
+    ensures capacity { vec_capacity text.old ≤ vec_capacity text.new }
 {
-    text.extend_from_slice(field)?;
-    text.extend_from_slice(b"|")
+    put(text, id);
+    put(text, b"|");
 }
 
 // The authorization number, and the line feed.
 #[tactic(auto, using(std::proofs::Common::append_assoc))]
-fn put_authorization(text: &mut Vec<u8>, number: Authorization) -> Result<(), AllocError>
-    ensures { OnOk result (text.new.items ≡ text.old.items ++ ended (digits_text 15 number)) }
+fn put_authorization(text: &mut Vec<u8>, number: Authorization)
+    requires { vec_len text.old + 16 ≤ vec_capacity text.old }
+    ensures items { text.new.items ≡ text.old.items ++ ended (digits_text 15 number) }
+    ensures len { vec_len text.new ≤ vec_len text.old + 16 }
+    ensures capacity { vec_capacity text.old ≤ vec_capacity text.new }
 {
     let digits: [u8; 15] = digits_write(number.get());
-    text.extend_from_slice(&digits)?;
-    text.extend_from_slice(b"\n")
+    put(text, &digits);
+    put(text, b"\n");
 }
 
-// The fill key, the member and what was dispensed.
+// A date and a bar.
 #[tactic(auto, using(std::proofs::Common::append_assoc))]
-fn put_fill(text: &mut Vec<u8>, row: &Row) -> Result<(), AllocError>
-    ensures { OnOk result (text.new.items
-        ≡ text.old.items ++ barred (row.now.key.provider ∷ decimal row.now.key.reference ∷ date_text row.now.key.date
-        ∷ row.now.family ∷ row.now.person
-        ∷ digits_text 11 row.now.product ∷ decimal row.now.quantity ∷ decimal row.now.days ∷ [])) }
+fn put_date(text: &mut Vec<u8>, date: Day)
+    requires { vec_len text.old + 9 ≤ vec_capacity text.old }
+    ensures items { text.new.items ≡ text.old.items ++ barred (date_text date ∷ []) }
+    ensures len { vec_len text.new ≤ vec_len text.old + 9 }
+    ensures capacity { vec_capacity text.old ≤ vec_capacity text.new }
 {
-    put_key(text, &row.key)?;
-    put_member_key(text, &row.member())?;
-    put_dispensed(text, row.product, row.quantity, row.days)
+    put(text, &date_write(date));
+    put(text, b"|");
 }
 
 // The two dates, with a bar between them.
 #[tactic(auto, using(std::proofs::Common::append_assoc))]
-fn put_period(text: &mut Vec<u8>, period: Period) -> Result<(), AllocError>
-    ensures { OnOk result (text.new.items
-        ≡ text.old.items ++ joined (date_text period.first ∷ date_text period.last ∷ [])) }
+fn put_period(text: &mut Vec<u8>, period: Period)
+    requires { vec_len text.old + 17 ≤ vec_capacity text.old }
+    ensures items { text.new.items
+        ≡ text.old.items ++ joined (date_text period.first ∷ date_text period.last ∷ []) }
+    ensures len { vec_len text.new ≤ vec_len text.old + 17 }
+    ensures capacity { vec_capacity text.old ≤ vec_capacity text.new }
 {
-    put_text(text, &date_write(period.first()))?;
-    text.extend_from_slice(&date_write(period.last()))
+    put_date(text, period.first());
+    put(text, &date_write(period.last()));
 }
 
 // The family and the person.
 #[tactic(auto, using(std::proofs::Common::append_assoc))]
-fn put_member_key(text: &mut Vec<u8>, key: &MemberKey) -> Result<(), AllocError>
-    ensures { OnOk result (text.new.items ≡ text.old.items ++ barred (key.now.family ∷ key.now.person ∷ [])) }
+fn put_member_key(text: &mut Vec<u8>, key: &MemberKey)
+    requires { vec_len text.old + 42 ≤ vec_capacity text.old }
+    ensures items { text.new.items ≡ text.old.items ++ barred (key.now.family ∷ key.now.person ∷ []) }
+    ensures len { vec_len text.new ≤ vec_len text.old + 42 }
+    ensures capacity { vec_capacity text.old ≤ vec_capacity text.new }
 {
-    put_text(text, key.family.bytes())?;
-    put_text(text, key.person.bytes())
+    put_id(text, key.family.bytes());
+    put_id(text, key.person.bytes());
+}
+
+// The fill key, the member and what was dispensed.
+#[tactic(auto, using(std::proofs::Common::append_assoc))]
+fn put_fill(text: &mut Vec<u8>, row: &Row)
+    requires { vec_len text.old + 207 ≤ vec_capacity text.old }
+    ensures items { text.new.items
+        ≡ text.old.items ++ barred (row.now.key.provider ∷ decimal row.now.key.reference ∷ date_text row.now.key.date
+        ∷ row.now.family ∷ row.now.person
+        ∷ digits_text 11 row.now.product ∷ decimal row.now.quantity ∷ decimal row.now.days ∷ []) }
+    ensures len { vec_len text.new ≤ vec_len text.old + 207 }
+    ensures capacity { vec_capacity text.old ≤ vec_capacity text.new }
+{
+    put_key(text, &row.key);
+    put_member_key(text, &row.member());
+    put_dispensed(text, row.product, row.quantity, row.days);
 }
 
 // The fill key.
 #[tactic(auto, using(std::proofs::Common::append_assoc))]
-fn put_key(text: &mut Vec<u8>, key: &Key) -> Result<(), AllocError>
-    ensures { OnOk result (text.new.items
-        ≡ text.old.items ++ barred (key.now.provider ∷ decimal key.now.reference ∷ date_text key.now.date ∷ [])) }
+fn put_key(text: &mut Vec<u8>, key: &Key)
+    requires { vec_len text.old + 71 ≤ vec_capacity text.old }
+    ensures items { text.new.items
+        ≡ text.old.items ++ barred (key.now.provider ∷ decimal key.now.reference ∷ date_text key.now.date ∷ []) }
+    ensures len { vec_len text.new ≤ vec_len text.old + 71 }
+    ensures capacity { vec_capacity text.old ≤ vec_capacity text.new }
 {
-    put_text(text, key.provider.bytes())?;
-    put_count(text, key.reference.get())?;
-    put_text(text, &date_write(key.date))
+    put_id(text, key.provider.bytes());
+    put_count(text, key.reference.get());
+    put_date(text, key.date);
 }
 
 // What was dispensed.
 #[tactic(auto, using(std::proofs::Common::append_assoc))]
-fn put_dispensed(
-    text: &mut Vec<u8>,
-    product: Product,
-    quantity: Quantity,
-    days: Days,
-) -> Result<(), AllocError>
-    ensures { OnOk result (text.new.items
-        ≡ text.old.items ++ barred (digits_text 11 product ∷ decimal quantity ∷ decimal days ∷ [])) }
+fn put_dispensed(text: &mut Vec<u8>, product: Product, quantity: Quantity, days: Days)
+    requires { vec_len text.old + 94 ≤ vec_capacity text.old }
+    ensures items { text.new.items
+        ≡ text.old.items ++ barred (digits_text 11 product ∷ decimal quantity ∷ decimal days ∷ []) }
+    ensures len { vec_len text.new ≤ vec_len text.old + 94 }
+    ensures capacity { vec_capacity text.old ≤ vec_capacity text.new }
 {
-    put_text(text, &product.digits())?;
-    put_count(text, quantity.get())?;
-    put_count(text, days.get())
+    put(text, &product.digits());
+    put(text, b"|");
+    put_count(text, quantity.get());
+    put_count(text, days.get());
 }
 
 // F6, F7, FH, FI and 4U.
 #[tactic(auto, using(std::proofs::Common::append_assoc))]
-fn put_amounts(text: &mut Vec<u8>, amounts: &Amounts) -> Result<(), AllocError>
-    ensures { OnOk result (text.new.items
+fn put_amounts(text: &mut Vec<u8>, amounts: &Amounts)
+    requires { vec_len text.old + 205 ≤ vec_capacity text.old }
+    ensures items { text.new.items
         ≡ text.old.items ++ barred (decimal amounts.now.ingredient_cost ∷ decimal amounts.now.dispensing_fee
-        ∷ decimal amounts.now.deductible ∷ decimal amounts.now.copay ∷ decimal amounts.now.coinsurance ∷ [])) }
+        ∷ decimal amounts.now.deductible ∷ decimal amounts.now.copay ∷ decimal amounts.now.coinsurance ∷ []) }
+    ensures len { vec_len text.new ≤ vec_len text.old + 205 }
+    ensures capacity { vec_capacity text.old ≤ vec_capacity text.new }
 {
-    put_count(text, amounts.ingredient_cost)?;
-    put_count(text, amounts.dispensing_fee)?;
-    put_count(text, amounts.deductible)?;
-    put_count(text, amounts.copay)?;
-    put_count(text, amounts.coinsurance)
+    put_count(text, amounts.ingredient_cost);
+    put_count(text, amounts.dispensing_fee);
+    put_count(text, amounts.deductible);
+    put_count(text, amounts.copay);
+    put_count(text, amounts.coinsurance);
 }

@@ -2,6 +2,7 @@ pub mod Billed
 pub mod CodeList
 pub mod Echoed
 pub mod Filled
+pub mod Kept
 pub mod Listed
 pub mod Priced
 pub mod Same

@@ -202,6 +202,21 @@ fn no_billing_stands_beside_a_reversal(rt: HostRuntime) -> Result<(), Fail> {
     Ok(())
 }
 
+#[test]
+fn one_transaction_is_a_list_of_its_own(rt: HostRuntime) -> Result<(), Fail> {
+    for item in [bill()?, reverse()?, faulty()] {
+        let one = Transactions::one(item);
+        assert_eq!(rt; one.as_slice(), [item].as_slice());
+        assert!(rt; one.copy(rt.alloc())? == one);
+        let listed = Transactions::new([item].to_vec(rt.alloc())?)
+            .ok()
+            .ok_or("a list")?;
+        assert!(rt; listed == one);
+    }
+    assert!(rt; Transactions::one(bill()?) != Transactions::one(faulty()));
+    Ok(())
+}
+
 // The base claim's transmission, dated so.
 fn heard(alloc: Global, date: &[u8]) -> Result<Transmission, Fail> {
     let items = [bill()?, faulty()].to_vec(alloc)?;

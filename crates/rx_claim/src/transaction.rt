@@ -5,6 +5,7 @@ use crate::codes::Codes;
 use rx_fields::{Memory, Product, Reference};
 use std::alloc::Global;
 use std::marker::Model;
+use std::slice;
 
 /// A reversal (B2): it takes back the claim that stands under its fill key.
 #[derive(Clone, Copy, Debug, PartialEq, Eq)]
@@ -38,22 +39,30 @@ pub enum Transaction {
 /// The transactions of a transmission: 1 to 4, with no billing beside a reversal.
 #[derive(Debug, Drop)]
 pub struct Transactions {
-    items: Vec<Transaction>,
+    kept: Kept,
+}
+
+// Where they stand. Most transmissions have one, and that takes no allocation.
+#[derive(Debug, Drop)]
+enum Kept {
+    One(Transaction),
+    Several(Vec<Transaction>),
 }
 
 impl Model for Transactions {
     ghost use Rattle.std.specs.Prelude.{List};
     ghost use Rattle.rx_claim.specs.declared.transaction.Transaction.{Transaction};
+    ghost use Rattle.rx_claim.specs.Kept.{items_of};
     ghost use Rattle.rx_claim.specs.Listed.{AreTransactions};
 
     ghost Value = { List Transaction };
 
-    ghost view = { λ a. a.items.items };
+    ghost view = { λ a. items_of a.kept };
 
-    ghost invariant = { λ a. AreTransactions a.items.items };
+    ghost invariant = { λ a. AreTransactions (items_of a.kept) };
 }
 
-ghost use Rattle.std.specs.Prelude.{◌↔◌, IfOk, IfErr, IsOk, IsTrue, length, true};
+ghost use Rattle.std.specs.Prelude.{◌↔◌, IfOk, IfErr, IsOk, IsTrue, ◌∷◌, [], length, true};
 ghost use Rattle.std.specs.List.{list_any};
 ghost use Rattle.rx_claim.specs.Listed.{is_bill, is_reversal, are_transactions};
 
@@ -67,7 +76,20 @@ impl Transactions {
         if items.is_empty() || items.len() > 4 || (has_bill(&items) && has_reversal(&items)) {
             return Err(items);
         }
-        Ok(Transactions { items })
+        let kept = match items.as_slice() {
+            [one] => Kept::One(*one),
+            _ => Kept::Several(items),
+        };
+        Ok(Transactions { kept })
+    }
+
+    /// The one transaction. It takes no allocation.
+    pub fn one(transaction: Transaction) -> Transactions
+        ensures { result ≡ transaction ∷ [] }
+    {
+        Transactions {
+            kept: Kept::One(transaction),
+        }
     }
 
     /// The transactions, in their order.
@@ -75,15 +97,21 @@ impl Transactions {
         ensures value { result.now ≡ self.now }
         ensures within { are_transactions self.now ≡ true }
     {
-        self.items.as_slice()
+        match &self.kept {
+            Kept::One(one) => slice::from_ref(one),
+            Kept::Several(items) => items.as_slice(),
+        }
     }
 
-    /// An equal list.
+    /// An equal list; that of one takes no allocation.
     pub fn copy(&self, alloc: Global) -> Result<Transactions, Memory>
         ensures { IfOk result (λ list. list ≡ self.now) }
     {
-        let items = Vec::from_slice(alloc, self.as_slice())?;
-        Ok(Transactions { items })
+        let kept = match &self.kept {
+            Kept::One(one) => Kept::One(*one),
+            Kept::Several(items) => Kept::Several(Vec::from_slice(alloc, items.as_slice())?),
+        };
+        Ok(Transactions { kept })
     }
 }
 

@@ -1,9 +1,9 @@
 -- How pieces that were read, or written, make up the whole.
-use Rattle.std.proofs.Common.{◌≡◌, ◌≤◌, ◌<◌, ◌+◌, ◌-◌, ℕ, List, [], ◌++◌, length, take, drop, Option, Some, None, IfSome, refl, sym, ◌∙◌, ap, subst, append_assoc, arith}
+use Rattle.std.proofs.Common.{◌≡◌, ◌≤◌, ◌<◌, ◌+◌, ◌-◌, ℕ, Bool, List, [], ◌++◌, length, take, drop, Option, Some, None, IfSome, refl, sym, ◌∙◌, ap, subst, append_assoc, arith}
 use Rattle.std.proofs.lemmas.List.{append-nil, length-append, length-drop, take_all}
 use Rattle.std.proofs.Math.Seq.{take-add}
 use Rattle.std.specs.Io.KnownBytes.{Appends, Consumes, IsAtEnd}
-use Rattle.rx_devices.specs.Reading.{IsWhole, PassesAll, PassesPiece, most_bytes, most_reads}
+use Rattle.rx_devices.specs.Reading.{AreFewReads, IsFrontOf, IsWhole, PassesAll, PassesFront, PassesPiece, TakesNothing, most_bytes, most_reads}
 
 -- no byte was read yet
 pub Consumes-nothing : (left : Option (List ℕ)) → Consumes left left []
@@ -63,6 +63,31 @@ PassesPiece-all left rest before after n p few end = record {
   };
   taken = p.taken;
 }
+
+-- what was read is a front of what was left
+pub Consumes-front : (left rest : Option (List ℕ)) (bytes : List ℕ) → Consumes left rest bytes → IsFrontOf bytes left
+Consumes-front None rest bytes p = tt
+Consumes-front (Some first) None bytes p = absurd p
+Consumes-front (Some first) (Some second) bytes p = (second, p)
+
+-- nothing passed at all
+pub PassesFront-nothing : (left : Option (List ℕ)) (before : List ℕ → Type 0) → PassesFront left before before
+unfolding PassesPiece-nothing
+PassesFront-nothing left before =
+    let none = PassesPiece-nothing left before in
+    record { bytes = []; is_front = Consumes-front left left [] none.given; taken = none.taken }
+
+-- pieces passed, and then no further one
+pub PassesPiece-front : (left rest : Option (List ℕ)) (before during after : List ℕ → Type 0) (n : ℕ) → PassesPiece left rest before during n → TakesNothing during after → PassesFront left before after
+PassesPiece-front left rest before during after n p none = record {
+  bytes = p.bytes;
+  is_front = Consumes-front left rest p.bytes p.given;
+  taken = λ text h. none (text ++ p.bytes) (p.taken text h);
+}
+
+-- no read was made
+pub none_made : (n : ℕ) (b : Bool) → AreFewReads n n b b
+none_made n b = record { few = omega arith; roomy = λ h. h }
 
 -- after so many reads the input is long
 pub PassesPiece-long : (left rest : Option (List ℕ)) (before after : List ℕ → Type 0) (n : ℕ) → PassesPiece left rest before after n → most_reads ≤ n → IfSome left (λ all. most_reads ≤ length all)

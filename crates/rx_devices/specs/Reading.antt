@@ -1,5 +1,5 @@
--- What reading an input to its end means.
-use Rattle.std.specs.Prelude.{◌≡◌, ◌≤◌, ℕ, Bool, true, false, List, [], ◌++◌, length, Option, Some, None, Result, Ok, Err, ⊤}
+-- What reading an input to its end means (docs/PRODUCT.md, "Limits").
+use Rattle.std.specs.Prelude.{◌≡◌, ◌≤◌, ◌+◌, ℕ, Bool, true, false, List, [], ◌++◌, length, Option, Some, None, Result, Ok, Err, ⊤}
 use Rattle.std.specs.Io.KnownBytes.{Consumes}
 use Rattle.rx_devices.specs.declared.fault.ReadFault.{ReadFault}
 use Rattle.rx_devices.specs.declared.fault.ReadFault.TheVariants.{Failed, Long, Memory}
@@ -11,6 +11,15 @@ most_bytes = 268435456
 -- the most reads that an input may take, with the one that finds the end
 abbrev pub most_reads : ℕ
 most_reads = 4194304
+
+-- the least room that a read is offered, in bytes
+abbrev pub least_room : ℕ
+least_room = 4096
+
+-- at most so many reads were made since, each with that room: by what the source counts, and what it looks at
+pub record AreFewReads (reads_before reads_after : ℕ) (cramped_before cramped_after : Bool) : Type 0 where
+  pub few : reads_after ≤ reads_before + most_reads
+  pub roomy : cramped_before ≡ false → cramped_after ≡ false
 
 -- whether a fault is a failure of the device
 abbrev pub is_failure : ReadFault → Bool
@@ -49,3 +58,18 @@ pub record PassesAll (left rest : Option (List ℕ)) (before after : List ℕ �
   pub bytes : List ℕ
   pub is_read : IsRead left rest bytes
   pub taken : TakesOn before after bytes
+
+-- the bytes are a front of those that are left, where the source tells these
+abbrev pub IsFrontOf : List ℕ → Option (List ℕ) → Type 0
+IsFrontOf bytes None = ⊤
+IsFrontOf bytes (Some all) = (rest : List ℕ) × (all ≡ bytes ++ rest)
+
+-- a front of an input went to the consumer
+pub record PassesFront (left : Option (List ℕ)) (before after : List ℕ → Type 0) : Type 0 where
+  pub bytes : List ℕ
+  pub is_front : IsFrontOf bytes left
+  pub taken : TakesOn before after bytes
+
+-- whatever the consumer stood for, it stands for
+abbrev pub TakesNothing : (List ℕ → Type 0) → (List ℕ → Type 0) → Type 0
+TakesNothing before after = (text : List ℕ) → before text → after text

@@ -1,4 +1,5 @@
-ghost use Rattle.std.specs.Prelude.{◌≡◌, ◌++◌, ℕ, List, OnOk};
+ghost use Rattle.std.specs.Prelude.{◌≡◌, ◌++◌, ℕ, List, OnErr, OnOk};
+ghost use Rattle.rx_devices.specs.Reading.{TakesNothing, TakesOn};
 
 use rx_fields::Memory;
 
@@ -7,9 +8,10 @@ pub trait Consumer {
     /// The texts that may have been taken so far.
     ghost stands_for: { Self → List ℕ → Type 0 };
 
-    /// Takes the next piece.
+    /// Takes the next piece, or nothing of it.
     fn take(&mut self, piece: &[u8]) -> Result<(), Memory>
-        ensures { OnOk result ((text : List ℕ) → stands_for self.old text → stands_for self.new (text ++ piece.now)) };
+        ensures taken { OnOk result (TakesOn (stands_for self.old) (stands_for self.new) piece.now) }
+        ensures refused { OnErr result (TakesNothing (stands_for self.old) (stands_for self.new)) };
 }
 
 /// It keeps the whole text.

@@ -1,4 +1,8 @@
-ghost use Rattle.std.specs.Prelude.{◌≡◌, ◌≤◌, ◌||◌, Some, None, [], false, is_err};
+ghost use Rattle.std.specs.Prelude.{◌≡◌, ◌≤◌, ◌||◌, Some, None, [], false, true, is_err, IfOk};
+ghost use Rattle.std.specs.Io.{ReadsAtMost, WritesAtMost};
+ghost use Rattle.std.specs.Io.KnownBytes.{ReadConsumes, WriteAppends};
+ghost use Rattle.rx_devices.specs.Calls.{ComesNext, fails_at};
+ghost use Rattle.rx_devices.specs.Writing.{is_failed_write};
 
 use crate::fault::Failed;
 use crate::sink::Sink;
@@ -37,9 +41,12 @@ impl Calls {
     }
 
     // The next call, unless it fails.
+    #[tactic(auto, unfolding(crate::specs::Calls::fails_at))]
     fn next(&mut self) -> Result<(), Failed>
         ensures most { self.new.most ≡ self.old.most }
         ensures failed { self.new.failed ≡ (self.old.failed || is_err result) }
+        ensures due { is_err result ≡ fails_at self.old.good 0 }
+        ensures later { ComesNext self.old.good self.new.good }
     {
         match self.good {
             None => Ok(()),
@@ -96,7 +103,19 @@ impl<'a> Source for SliceSource<'a> {
 
     ghost failed = { λ s. s.calls.failed };
 
-    fn read(&mut self, buffer: &mut [u8]) -> Result<usize, Failed> {
+    ghost reads = { λ _. 0 };
+
+    ghost cramped = { λ _. false };
+
+    /// It fails exactly where it is due to, and gives as many bytes as are there, fit and may be given in a call.
+    fn read(&mut self, buffer: &mut [u8]) -> Result<usize, Failed>
+        ensures bound { ReadsAtMost result buffer.new }
+        ensures bytes { ReadConsumes (Some self.old.left.now) (Some self.new.left.now) result buffer.new }
+        ensures failed { self.new.calls.failed ≡ (self.old.calls.failed || is_err result) }
+        ensures due { is_err result ≡ fails_at self.old.calls.good 0 }
+        ensures later { ComesNext self.old.calls.good self.new.calls.good }
+        ensures most { IfOk result (λ count. count ≤ self.old.calls.most) }
+    {
         self.calls.next()?;
         let count = self.calls.most.min(buffer.len()).min(self.left.len());
         buffer[..count].copy_from_slice(&self.left[..count]);
@@ -152,7 +171,15 @@ impl Sink for VecSink {
 
     ghost failed = { λ s. s.calls.failed };
 
-    fn write(&mut self, piece: &[u8]) -> Result<usize, Failed> {
+    /// It fails where it is due to, where it may take no byte, and where memory was wanting.
+    fn write(&mut self, piece: &[u8]) -> Result<usize, Failed>
+        ensures bound { WritesAtMost result piece.now }
+        ensures bytes { WriteAppends (Some self.old.written.items) (Some self.new.written.items) result piece.now }
+        ensures failed { self.new.calls.failed ≡ (self.old.calls.failed || is_failed_write result piece.now) }
+        ensures due { fails_at self.old.calls.good 0 ≡ true → is_err result ≡ true }
+        ensures later { ComesNext self.old.calls.good self.new.calls.good }
+        ensures most { IfOk result (λ count. count ≤ self.old.calls.most) }
+    {
         self.calls.next()?;
         let count = self.calls.most.min(piece.len());
         if count == 0 && !piece.is_empty() {

@@ -1,6 +1,6 @@
-ghost use Rattle.std.specs.Prelude.{◌≡◌, ◌≤◌, ◌<◌, ◌+◌, ℕ, List, false, length, vec_len, Err, IfOk, IfSome, OnOk};
+ghost use Rattle.std.specs.Prelude.{◌≡◌, ◌≤◌, ◌<◌, ◌+◌, ℕ, List, false, length, vec_len, Err, IfOk, IfSome, OnErr, OnOk};
 ghost use Rattle.std.specs.Io.KnownBytes.{IsAtEnd};
-ghost use Rattle.rx_devices.specs.Reading.{IsRead, PassesAll, PassesPiece, has_failed, most_bytes, most_reads};
+ghost use Rattle.rx_devices.specs.Reading.{AreFewReads, IsRead, PassesAll, PassesFront, PassesPiece, TakesNothing, has_failed, least_room, most_bytes, most_reads};
 
 use crate::consumer::Consumer;
 use crate::fault::ReadFault;
@@ -27,6 +27,7 @@ pub fn read_all<S: Source>(alloc: Global, source: &mut S) -> Result<Vec<u8>, Rea
     ensures ok { IfOk result (λ text. IsRead (S.left source.old) (S.left source.new) text.items) }
     ensures failed { S.failed source.new ≡ has_failed result }
     ensures long { result ≡ Err ReadFault.Long → IfSome (S.left source.old) (λ bytes. most_reads ≤ length bytes) }
+    ensures reads { AreFewReads (S.reads source.old) (S.reads source.new) (S.cramped source.old) (S.cramped source.new) }
 {
     let mut text = Vec::new(alloc);
     read_each(alloc, source, &mut text)?;
@@ -44,6 +45,8 @@ pub fn read_each<S: Source, C: Consumer>(
     ensures ok { OnOk result (PassesAll (S.left source.old) (S.left source.new) (C.stands_for consumer.old) (C.stands_for consumer.new)) }
     ensures failed { S.failed source.new ≡ has_failed result }
     ensures long { result ≡ Err ReadFault.Long → IfSome (S.left source.old) (λ bytes. most_reads ≤ length bytes) }
+    ensures reads { AreFewReads (S.reads source.old) (S.reads source.new) (S.cramped source.old) (S.cramped source.new) }
+    ensures front { OnErr result (PassesFront (S.left source.old) (C.stands_for consumer.old) (C.stands_for consumer.new)) }
 {
     let mut room = room(alloc)?;
     let mut total = 0;
@@ -59,7 +62,7 @@ pub fn read_each<S: Source, C: Consumer>(
 
 // Room for a piece.
 fn room(alloc: Global) -> Result<Vec<u8>, AllocError>
-    ensures { IfOk result (λ room. 4096 ≤ vec_len room) }
+    ensures { IfOk result (λ room. least_room ≤ vec_len room) }
 {
     vec![in alloc; 0u8; ROOM]
 }
@@ -72,13 +75,16 @@ fn read_piece<S: Source, C: Consumer>(
     total: usize,
 ) -> Result<usize, ReadFault>
     requires failed { S.failed source.old ≡ false }
-    requires room { 4096 ≤ length room.old }
+    requires room { least_room ≤ length room.old }
     requires total { total ≤ most_bytes }
     ensures within { IfOk result (λ count. total + count ≤ most_bytes) }
     ensures piece { IfOk result (PassesPiece (S.left source.old) (S.left source.new) (C.stands_for consumer.old) (C.stands_for consumer.new)) }
     ensures end { IfOk result (λ count. count ≡ 0 → IsAtEnd (S.left source.new)) }
     ensures failed { S.failed source.new ≡ has_failed result }
     ensures long { result ≡ Err ReadFault.Long → IfSome (S.left source.old) (λ bytes. most_bytes < total + length bytes) }
+    ensures reads { S.reads source.new ≤ S.reads source.old + 1 }
+    ensures cramped { S.cramped source.old ≡ false → S.cramped source.new ≡ false }
+    ensures front { OnErr result (TakesNothing (C.stands_for consumer.old) (C.stands_for consumer.new)) }
 {
     let count = source.read(room)?;
     if count > MOST_BYTES - total {

@@ -10,9 +10,23 @@ use std::test::Fail;
 
 const TEXT: &[u8] = b"SETTLE|1|";
 
-// It never ends, and gives that many bytes a call.
+// It never ends, gives at most that many bytes a call, counts its reads and looks at their room.
 #[derive(Drop)]
-struct Endless(usize);
+struct Endless {
+    most: usize,
+    reads: u64,
+    cramped: bool,
+}
+
+impl Endless {
+    fn new(most: usize) -> Endless {
+        Endless {
+            most,
+            reads: 0,
+            cramped: false,
+        }
+    }
+}
 
 impl Source for Endless {
     ghost use Rattle.std.specs.Prelude.{None, false};
@@ -21,8 +35,14 @@ impl Source for Endless {
 
     ghost failed = { λ _. false };
 
+    ghost reads = { λ s. s.reads };
+
+    ghost cramped = { λ s. s.cramped };
+
     fn read(&mut self, buffer: &mut [u8]) -> Result<usize, Failed> {
-        Ok(self.0.min(buffer.len()))
+        self.reads = self.reads.saturating_add(1);
+        self.cramped |= buffer.len() < 4096;
+        Ok(self.most.min(buffer.len()))
     }
 }
 
@@ -104,16 +124,19 @@ fn takes_no_failure_for_the_end(rt: HostRuntime) {
 
 #[test]
 fn refuses_too_many_reads(rt: HostRuntime) {
+    let mut source = Endless::new(1);
     let mut taken = Counted(0);
-    let read = read_each(rt.alloc(), &mut Endless(1), &mut taken);
+    let read = read_each(rt.alloc(), &mut source, &mut taken);
     assert_eq!(rt; read, Err(ReadFault::Long));
     assert_eq!(rt; taken.0, 4_194_304);
+    assert_eq!(rt; source.reads, 4_194_304);
+    assert!(rt; !source.cramped);
 }
 
 #[test]
 fn refuses_too_many_bytes(rt: HostRuntime) {
     let mut taken = Counted(0);
-    let read = read_each(rt.alloc(), &mut Endless(usize::MAX), &mut taken);
+    let read = read_each(rt.alloc(), &mut Endless::new(usize::MAX), &mut taken);
     assert_eq!(rt; read, Err(ReadFault::Long));
     assert_eq!(rt; taken.0, 268_435_456);
 }

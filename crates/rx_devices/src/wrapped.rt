@@ -36,6 +36,10 @@ impl<R: Read> Source for ReaderSource<R> {
 
     ghost failed = { λ s. s.failed };
 
+    ghost reads = { λ _. 0 };
+
+    ghost cramped = { λ _. false };
+
     fn read(&mut self, buffer: &mut [u8]) -> Result<usize, Failed> {
         let result = read_through(&mut self.reader, buffer);
         self.failed |= result.is_err();

@@ -11,6 +11,10 @@ impl Source for Endless {
 
     ghost failed = { λ _. false };
 
+    ghost reads = { λ _. 0 };
+
+    ghost cramped = { λ _. false };
+
     fn read(&mut self, buffer: &mut [u8]) -> Result<usize, Failed> {
         Ok(buffer.len().min(1))
     }

@@ -3,6 +3,7 @@ ghost use Rattle.std.specs.Prelude.{◌≤◌};
 use crate::case::Case;
 use crate::endless::Endless;
 use crate::trial::{Flaw, Trial};
+use crate::whole::gives_wanted;
 use anyhow::{Result, bail};
 use rx_switch::Device;
 use std::alloc::Global;
@@ -12,12 +13,32 @@ use std::thread::Threads;
 // The calls of a device that are tried at most; one-billing's longest text has 334 bytes.
 const MOST_CALLS: usize = 1_000;
 
-/// Tries devices of each size, and prints a line for each device; then a sheet without an end.
+/// Tries runs without devices, and prints a line for each number of workers; then devices of each size, with a line for
+/// each device; then a sheet without an end.
 pub fn report<R: Threads + Wait + Sync>(rt: &HostRuntime, threads: &R, case: &Case) -> Result<()> {
+    report_run(rt, threads, case, 1)?;
+    report_run(rt, threads, case, 2)?;
+    report_run(rt, threads, case, 64)?;
     report_size(rt, threads, case, 1)?;
     report_size(rt, threads, case, 7)?;
     report_size(rt, threads, case, 4_096)?;
     report_endless(rt, threads, case)
+}
+
+// Without devices, in file order on the books and then plainly over lists.
+fn report_run<R: Threads + Wait + Sync>(
+    rt: &HostRuntime,
+    threads: &R,
+    case: &Case,
+    workers: u16,
+) -> Result<()> {
+    for plain in [false, true] {
+        if !gives_wanted(threads, rt.alloc(), case, workers, plain) {
+            bail!("no devices, workers {workers}, plain {plain}: differs");
+        }
+    }
+    println!(rt; "no devices, workers {workers}, with and without plain: ok")?;
+    Ok(())
 }
 
 fn report_endless<R: Threads + Wait + Sync>(

@@ -9,7 +9,8 @@ use std::alloc::Global;
 use std::sync::Wait;
 use std::thread::Threads;
 
-const STAMP: &[u8] = b"202603020600";
+/// The stamp of the runs.
+pub const STAMP: &[u8] = b"202603020600";
 
 /// What is wrong with the devices of a run.
 #[derive(Clone, Copy, Debug)]

@@ -17,15 +17,13 @@ use Rattle.rx_claim.specs.declared.transmission.Body.TheVariants.{Rejected, Hear
 use Rattle.rx_claim.specs.declared.transmission.Heard.{Heard as HeardRecord}
 use Rattle.rx_claim.specs.declared.transmission.Transmission.{Transmission}
 use Rattle.rx_order.specs.Ascending.{contains_key, has_key}
-use Rattle.rx_ledger.specs.declared.member.MemberKey.{MemberKey}
 use Rattle.rx_ledger.specs.declared.row.Row.{Row}
 use Rattle.rx_ledger.specs.Basis.{Holds, HoldsRecord}
 use Rattle.rx_ledger.specs.Ledger.{Ledger, row_under}
-use Rattle.rx_ledger.specs.Members.{member_cmp}
 use Rattle.rx_ledger.specs.Named.{key_in}
-use Rattle.rx_ledger.proofs.Orders.{key_total, member_total}
-use Rattle.rx_in_order.specs.Named.{keys_in, keys_named, keys_of, members_billed, members_in, members_of}
-use Rattle.rx_in_order.specs.Underway.{IsAwaited, Underway, is_billed, is_slot, scope_of}
+use Rattle.rx_ledger.proofs.Orders.{key_total}
+use Rattle.rx_in_order.specs.Named.{keys_in, keys_named, keys_of}
+use Rattle.rx_in_order.specs.Underway.{IsAwaited, Underway, is_slot, scope_of}
 
 -- ---- lists
 
@@ -60,36 +58,29 @@ any_family (Some r) = refl
 module _ (u : Underway) where
   holds_transaction : (h : HeardRecord) (L : Ledger) (t : Transaction)
       → ((k : Key) → Contains (keys_of h t) k → is_slot u.slots k ≡ true)
-      → ((m : MemberKey) → Contains (members_of t) m → is_billed u.billed m ≡ true)
       → Holds (scope_of u) (key_in h) L t
-  holds_transaction h L (Bill b) keys members =
-      record { key = keys _ (0, omega arith, refl); member = members _ (0, omega arith, refl); family = refl }
-  holds_transaction h L (Reverse v) keys members =
+  holds_transaction h L (Bill b) keys = record { key = keys _ (0, omega arith, refl); member = refl; family = refl }
+  holds_transaction h L (Reverse v) keys =
       record { key = keys _ (0, omega arith, refl); family = any_family (row_under L (key_in h v.reference)) }
-  holds_transaction h L (Faulty f) keys members = tt
+  holds_transaction h L (Faulty f) keys = tt
 
   holds_body : (L : Ledger) (body : Body) → ((k : Key) → Contains (keys_in body) k → is_slot u.slots k ≡ true)
-      → ((m : MemberKey) → Contains (members_in body) m → is_billed u.billed m ≡ true) → HoldsRecord (scope_of u) L body
-  holds_body L (Rejected r) keys members = tt
-  holds_body L (Heard h) keys members = λ i d within.
+      → HoldsRecord (scope_of u) L body
+  holds_body L (Rejected r) keys = tt
+  holds_body L (Heard h) keys = λ i d within.
       let t : Transaction = get_or h.list i d in
       let among = Contains-get_or h.list i d within in
-      holds_transaction h L t
-      (λ k there. keys k (given_by (keys_of h) h.list t k among there))
-      (λ m there. members m (given_by members_of h.list t m among there))
+      holds_transaction h L t (λ k there. keys k (given_by (keys_of h) h.list t k among there))
 
   -- ---- all records
 
   pub all_awaited : (transmissions : List Transmission) (keys : List Key) → All (Contains u.slots) keys
       → ((k : Key) → Contains (keys_named transmissions) k → Contains keys k)
-      → ((m : MemberKey) → Contains (members_billed transmissions) m → Contains u.billed m)
       → All (IsAwaited u) transmissions
-  all_awaited transmissions keys slots named billed = λ i d within L.
+  all_awaited transmissions keys slots named = λ i d within L.
       let t : Transmission = get_or transmissions i d in
       let among = Contains-get_or transmissions i d within in
       holds_body L t.body
       (λ k there. contains_there key_cmp key_total u.slots k
       (All-contains (Contains u.slots) keys k slots
       (named k (given_by (λ (x : Transmission). keys_in x.body) transmissions t k among there))))
-      (λ m there. contains_there member_cmp member_total u.billed m
-      (billed m (given_by (λ (x : Transmission). members_in x.body) transmissions t m among there)))

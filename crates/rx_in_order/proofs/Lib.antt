@@ -1,6 +1,7 @@
 pub mod Awaited
-pub mod Concerned
 pub mod Counting
-pub mod Courses
+pub mod Holders
+pub mod Longest
 pub mod Places
+pub mod Refills
 pub mod Unique

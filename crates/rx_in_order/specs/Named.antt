@@ -1,4 +1,4 @@
--- The fill keys that a batch names, and the members whom it bills.
+-- The fill keys that a batch names.
 use Rattle.std.specs.Prelude.{List, [], ◌∷◌}
 use Rattle.std.specs.List.{flat_map}
 use Rattle.rx_fields.specs.declared.key.Key.{Key}
@@ -8,33 +8,19 @@ use Rattle.rx_claim.specs.declared.transmission.Body.{Body}
 use Rattle.rx_claim.specs.declared.transmission.Body.TheVariants.{Rejected, Heard}
 use Rattle.rx_claim.specs.declared.transmission.Heard.{Heard as HeardRecord}
 use Rattle.rx_claim.specs.declared.transmission.Transmission.{Transmission}
-use Rattle.rx_ledger.specs.declared.member.MemberKey.{MemberKey}
-use Rattle.rx_ledger.specs.Basis.{billed_member}
 use Rattle.rx_ledger.specs.Named.{key_in}
 
--- the fill key of a transaction, and the member of a billing
+-- the fill key of a transaction
 abbrev pub keys_of : HeardRecord → Transaction → List Key
 keys_of h (Bill b) = key_in h b.reference ∷ []
 keys_of h (Reverse v) = key_in h v.reference ∷ []
 keys_of h (Faulty f) = []
-
-abbrev pub members_of : Transaction → List MemberKey
-members_of (Bill b) = billed_member b ∷ []
-members_of (Reverse v) = []
-members_of (Faulty f) = []
 
 -- those of a record
 abbrev pub keys_in : Body → List Key
 keys_in (Rejected r) = []
 keys_in (Heard h) = flat_map (keys_of h) h.list
 
-abbrev pub members_in : Body → List MemberKey
-members_in (Rejected r) = []
-members_in (Heard h) = flat_map members_of h.list
-
 -- those of a batch
 abbrev pub keys_named : List Transmission → List Key
 keys_named transmissions = flat_map (λ t. keys_in t.body) transmissions
-
-abbrev pub members_billed : List Transmission → List MemberKey
-members_billed transmissions = flat_map (λ t. members_in t.body) transmissions

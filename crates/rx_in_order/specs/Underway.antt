@@ -1,38 +1,34 @@
 -- A batch underway: the books so far, and what was looked up for it once.
-use Rattle.std.specs.Prelude.{Bool, true, List, Some}
+use Rattle.std.specs.Prelude.{ℕ, ◌<◌, ◌≤◌, Bool, true, IfSome, List, Option, Some, length}
+use Rattle.std.specs.List.{All}
 use Rattle.rx_fields.specs.Order.{key_cmp}
 use Rattle.rx_fields.specs.declared.key.Key.{Key}
-use Rattle.rx_order.specs.Ascending.{IsAscending, contains_key}
+use Rattle.rx_order.specs.Ascending.{contains_key}
 use Rattle.rx_claim.specs.declared.transmission.Transmission.{Transmission}
-use Rattle.rx_ledger.specs.declared.member.MemberKey.{MemberKey}
 use Rattle.rx_ledger.specs.Basis.{HoldsRecord, Scope}
+use Rattle.rx_ledger.specs.declared.member.Member.{Member}
 use Rattle.rx_ledger.specs.Ledger.{Ledger, IsLedger}
-use Rattle.rx_ledger.specs.Members.{member_cmp}
 use Rattle.rx_books_kept.specs.LedgerBooks.{LedgerBooks}
 use Rattle.rx_books_kept.specs.OpenBooks.{OpenParts}
 use Rattle.rx_in_order.specs.declared.fill.Fill.{Fill}
-use Rattle.rx_in_order.specs.Fills.{AreCounted}
+use Rattle.rx_in_order.specs.Fills.{AreCounted, has_mark}
 
--- the books, the fill keys that have a slot, and the members whose fills are counted
+-- the books, and the fill keys that have a slot
 pub record Underway : Type 0 where
   pub books : LedgerBooks
   pub slots : List Key
-  pub billed : List MemberKey
 
 -- a key is one of a list
 abbrev pub is_slot : List Key → Key → Bool
 is_slot slots k = contains_key key_cmp (λ key. key) slots k
 
-abbrev pub is_billed : List MemberKey → MemberKey → Bool
-is_billed billed k = contains_key member_cmp (λ key. key) billed k
-
--- what it answers for: the period of its books, the keys with slots, the members whose fills are counted, every family
+-- what it answers for: the period of its books, the keys with slots, every member and family
 abbrev pub scope_of : Underway → Scope
 scope_of u =
     record {
       period = Some u.books.period;
       has_key = is_slot u.slots;
-      has_member = is_billed u.billed;
+      has_member = λ m. true;
       has_family = λ f. true;
     }
 
@@ -40,8 +36,15 @@ scope_of u =
 abbrev pub IsAwaited : Underway → Transmission → Type 0
 IsAwaited u t = (L : Ledger) → HoldsRecord (scope_of u) L t.body
 
--- what is kept: books in order, and the counts of the fills
-pub record IsUnderway (o : OpenParts) (billed : List MemberKey) (fills : List Fill) : Type 0 where
+-- a member is at the place, where there is one
+abbrev pub IsHolder : List Member → Option ℕ → Type 0
+IsHolder members holder = IfSome holder (λ i. i < length members)
+
+-- what is kept: books in order, the counts of the courses that have a mark, none of a longer fill than the longest, and
+-- where members are listed
+pub record IsUnderway (o : OpenParts) (marks : List Bool) (fills : List Fill) (longest : ℕ) (holders : List (Option ℕ))
+    : Type 0 where
   pub in_order : IsLedger o.books.ledger
-  pub rise : IsAscending member_cmp (λ key. key) billed
-  pub counted : AreCounted (is_billed billed) o.books.ledger.rows fills
+  pub counted : AreCounted (has_mark marks) o.books.ledger.members o.books.ledger.rows fills
+  pub within : All (λ f. f.key.when.days ≤ longest) fills
+  pub near : All (IsHolder o.books.ledger.members) holders

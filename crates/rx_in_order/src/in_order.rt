@@ -1,29 +1,42 @@
 ghost use Rattle.std.specs.Prelude.{◌≡◌, ◌≤◌, IfOk, OnOk};
-ghost use Rattle.std.specs.List.{All};
+ghost use Rattle.std.specs.List.{All, list_any};
+ghost use Rattle.rx_ledger.specs.Answers.{is_too_soon};
 ghost use Rattle.rx_ledger.specs.Fold.{ledger_after, reply_to};
+ghost use Rattle.rx_ledger.specs.Ledger.{rows_of};
+ghost use Rattle.rx_ledger.specs.Members.{is_same};
 ghost use Rattle.rx_ledger.specs.TermList.{plan_of};
 ghost use Rattle.rx_in_order.specs.Underway.{IsAwaited, scope_of};
 
-use crate::counted::{counted, entries};
-use crate::fill::{Fill, fill_of, is_any_too_soon, lower, raise};
-use crate::names::{names_of, unique_keys, unique_members};
+use crate::billed::{Billed, billed_by, longer, longest_of};
+use crate::counted::counted;
+use crate::fill::{Fill, fill_at, lower, tally};
+use crate::marks::{has_mark, marks_of};
+use crate::names::{keys_named, unique_keys};
+use crate::refill::Refill;
 use crate::used::used_at;
 use rx_books_kept::{Books, OpenBooks};
 use rx_claim::{Bill, Reply, Transmission};
-use rx_fields::{Day, Id, Key, Memory};
-use rx_ledger::{Basis, Figures, Member, MemberKey, Row, Terms, Used, answer_record};
+use rx_fields::{Day, Days, Id, Key, Memory};
+use rx_ledger::{Basis, Figures, Member, MemberKey, Row, Terms, Used, answer_record, is_too_soon};
 use rx_order::Ascending;
 use std::alloc::Global;
 use std::marker::Model;
 
-/// Books on which the records of a batch are adjudicated one after another. Contracts see the books so far, the fill
-/// keys that the batch names and the members whom it bills.
+/// Books on which the records of a batch are adjudicated one after another. Contracts see the books so far, and the fill
+/// keys that the batch names.
 #[derive(Debug, Drop)]
 pub struct InOrder {
-    pub(crate) open: OpenBooks,
-    pub(crate) billed: Vec<MemberKey>,
-    // The fills of the members whom the batch bills, each with how many standing claims are such fills.
+    pub(crate) books: OpenBooks,
+    // Where the members of the batch's transactions are listed, in order; where those of each record begin; and where
+    // those of the record begin that is adjudicated. Who is found there is compared with who is looked for.
+    pub(crate) holders: Vec<Option<usize>>,
+    pub(crate) firsts: Vec<usize>,
+    pub(crate) at: usize,
+    // The fills of the courses that have a mark, each with how many standing claims are such fills, and the longest days
+    // supply of all.
+    pub(crate) marks: Vec<bool>,
     pub(crate) fills: Ascending<Fill>,
+    pub(crate) longest: Days,
 }
 
 impl Model for InOrder {
@@ -31,14 +44,14 @@ impl Model for InOrder {
 
     ghost Value = { Underway };
 
-    ghost view = { λ o. record { books = o.open.books; slots = o.open.slots; billed = o.billed.items } };
+    ghost view = { λ o. record { books = o.books.books; slots = o.books.slots } };
 
-    ghost invariant = { λ o. IsUnderway o.open o.billed.items o.fills };
+    ghost invariant = { λ o. IsUnderway o.books o.marks.items o.fills o.longest o.holders.items };
 }
 
 impl InOrder {
-    /// The books for a batch: a slot for each fill key that it names, and the fills of the members whom it bills,
-    /// counted. Without memory the books are dropped.
+    /// The books for a batch: a slot for each fill key that it names, and the fills of what it bills, counted. Without
+    /// memory the books are dropped.
     pub fn new(
         alloc: Global,
         books: Books,
@@ -47,17 +60,25 @@ impl InOrder {
         ensures same { IfOk result (λ order. order.books ≡ books) }
         ensures awaited { IfOk result (λ order. All (IsAwaited order) transmissions.now) }
     {
-        let names = names_of(alloc, transmissions)?;
-        let keys = unique_keys(names.keys)?;
-        let billed = unique_members(names.members)?;
-        let open = books.open(alloc, &keys)?;
-        let none = entries(alloc, &open, &billed)?;
-        let fills = counted(&open, &billed, none)?;
-        let _in_order = open.standing();
+        let keys = unique_keys(keys_named(alloc, transmissions)?)?;
+        let books = books.open(alloc, &keys)?;
+        let Billed {
+            holders,
+            firsts,
+            own,
+        } = billed_by(alloc, &books, transmissions)?;
+        let marks = marks_of(alloc, &own)?;
+        let fills = counted(alloc, &books, &marks, own)?;
+        let longest = longest_of(fills.as_slice());
+        let _in_order = books.standing();
         Ok(InOrder {
-            open,
-            billed,
+            books,
+            holders,
+            firsts,
+            at: 0,
+            marks,
             fills,
+            longest,
         })
     }
 
@@ -79,15 +100,27 @@ impl InOrder {
             ≡ ledger_after terms.now.lot (plan_of terms.now) place transmission.now self.old.books.ledger) }
         ensures scope { OnOk result (scope_of self.new ≡ scope_of self.old) }
     {
+        self.begin(place);
         answer_record(alloc, self, terms, place, transmission)
+    }
+
+    // Turns to the members of the record at a place.
+    fn begin(&mut self, place: u64)
+        ensures { self.new ≡ self.old }
+    {
+        if place > 0 {
+            if let Some(first) = self.firsts.get((place - 1) as usize) {
+                self.at = *first;
+            }
+        }
     }
 
     /// The books so far. It takes no memory.
     pub fn close(self) -> Books
         ensures { result ≡ self.books }
     {
-        let InOrder { open, .. } = self;
-        open.close()
+        let InOrder { books, .. } = self;
+        books.close()
     }
 }
 
@@ -99,54 +132,92 @@ impl Basis for InOrder {
     ghost scope = { λ o. scope_of o };
 
     fn row_under(&self, key: &Key) -> Option<Row> {
-        match self.open.slot_of(key) {
-            Some(slot) => self.open.row_at(slot).copied(),
+        match self.books.slot_of(key) {
+            Some(slot) => self.books.row_at(slot).copied(),
             None => unreachable!(),
         }
     }
 
     fn has_members(&self, family: &Id) -> bool {
-        self.open.family_of(family).is_some()
+        self.is_near(family) || self.books.family_of(family).is_some()
     }
 
     fn member(&self, key: &MemberKey) -> Option<Member> {
-        match self.open.member_of(&key.family, &key.person) {
-            Some(place) => Some(*self.open.member_at(place)),
+        match self.holder_of(key) {
+            Some(holder) => Some(*self.books.member_at(holder)),
             None => None,
         }
     }
 
     fn used(&self, _figures: &Figures, key: &MemberKey) -> Used {
-        match self.open.member_of(&key.family, &key.person) {
-            Some(place) => used_at(&self.open, place),
+        match self.holder_of(key) {
+            Some(holder) => used_at(&self.books, holder),
             None => unreachable!(),
         }
     }
 
     fn is_too_soon(&self, figures: &Figures, date: Day, bill: &Bill) -> bool {
+        let parts = bill.parts();
+        let Some(holder) = self.holder_of(&MemberKey {
+            family: parts.family,
+            person: parts.person,
+        }) else {
+            unreachable!()
+        };
+        let refill = Refill::of(figures, date, bill, holder);
         let _in_order = self.fills.as_slice();
-        is_any_too_soon(&self.fills, figures, date, bill)
+        if has_mark(&self.marks, &refill.course) {
+            return refill.is_too_soon(&self.fills, self.longest);
+        }
+        is_any_row_too_soon(&self.books, figures, date, bill)
     }
 
     fn add(&mut self, row: Row) -> Result<(), Memory> {
-        let Some(slot) = self.open.slot_of(&row.key) else {
+        let Some(slot) = self.books.slot_of(&row.key) else {
             unreachable!()
         };
-        let Some(place) = self.open.member_of(&row.family, &row.person) else {
+        let Some(holder) = self.holder_of(&row.member()) else {
             unreachable!()
         };
-        raise(&mut self.fills, fill_of(&row))?;
-        let home = self.open.home_of(place);
-        self.open.add(slot, home, place, row);
+        self.longest = longer(self.longest, row.days);
+        let key = fill_at(holder, &row);
+        tally(&mut self.fills, Fill { key, count: 1 })?;
+        let home = self.books.home_of(holder);
+        self.books.add(slot, home, holder, row);
         Ok(())
     }
 
     fn remove(&mut self, key: &Key) -> Result<(), Memory> {
-        let Some(slot) = self.open.slot_of(key) else {
+        let Some(slot) = self.books.slot_of(key) else {
             unreachable!()
         };
-        let row = self.open.remove(slot);
-        lower(&mut self.fills, fill_of(&row));
+        let row = self.books.remove(slot);
+        let Some(holder) = self.books.member_of(&row.family, &row.person) else {
+            unreachable!()
+        };
+        lower(&mut self.fills, fill_at(holder, &row));
         Ok(())
     }
+}
+
+// Whether some row that stands makes a billing too soon. All rows are gone over: no record of the batch asks for it.
+fn is_any_row_too_soon(books: &OpenBooks, figures: &Figures, date: Day, bill: &Bill) -> bool
+    requires { figures.now.refill_percent ≤ 100 }
+    ensures { result ≡ list_any (is_too_soon figures.now date bill.now) (rows_of books.now.books.ledger bill.now.family) }
+{
+    let mut standing = books.standing();
+    while let Some((row, _)) = standing.next_row() {
+        if is_same(&row.family, &bill.parts().family) && is_too_soon(figures, date, bill, row) {
+            return true;
+        }
+    }
+    false
+}
+
+// Whether two families are the same.
+#[tactic(auto, using(rx_ledger::proofs::SameText::same_text))]
+fn is_same(a: &Id, b: &Id) -> bool
+    ensures { result ≡ is_same a.now b.now }
+{
+    *a == *b
 }

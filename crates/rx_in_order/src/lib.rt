@@ -10,15 +10,20 @@
 //! let books = order.close();
 //! ```
 //!
-//! What is the same for all records is made once, by `InOrder::new`: a slot for each fill key that the batch names, and
-//! the count of each kind of fill of the members whom it bills, so that a refill is tested without going over rows.
+//! What is the same for all records is made once, by `InOrder::new`: a slot for each fill key that the batch names, the
+//! places of its members, and the count of each kind of fill of what it bills, so that a refill is tested
+//! without going over rows.
 #![tactic(auto)]
 
+mod billed;
 mod counted;
 mod fill;
 mod finished;
 mod in_order;
+mod marks;
 mod names;
+mod near;
+mod refill;
 mod used;
 
 pub use finished::Finished;

@@ -5,20 +5,20 @@ use rx_books_kept::OpenBooks;
 use rx_ledger::Used;
 
 /// What the member at a place and the family have used in the period of the books, in cents.
-pub(crate) fn used_at(open: &OpenBooks, place: usize) -> Used
-    requires { place < length open.now.books.ledger.members }
-    ensures { IfSome (slice_get open.now.books.ledger.members place) (λ m.
-        let books = open.now.books in
+pub(crate) fn used_at(books: &OpenBooks, place: usize) -> Used
+    requires { place < length books.now.books.ledger.members }
+    ensures { IfSome (slice_get books.now.books.ledger.members place) (λ m.
+        let kept = books.now.books in
         result ≡ record {
-          deductible = deductible books.period books.ledger m.key.family m.key.person;
-          out_of_pocket = out_of_pocket books.period books.ledger m.key.family;
-          family_deductible = family_deductible books.period books.ledger m.key.family;
+          deductible = deductible kept.period kept.ledger m.key.family m.key.person;
+          out_of_pocket = out_of_pocket kept.period kept.ledger m.key.family;
+          family_deductible = family_deductible kept.period kept.ledger m.key.family;
         }) }
 {
-    let home = open.home_of(place);
+    let home = books.home_of(place);
     Used {
-        deductible: open.deductible_at(place),
-        out_of_pocket: open.out_of_pocket_at(home),
-        family_deductible: open.family_deductible_at(home),
+        deductible: books.deductible_at(place),
+        out_of_pocket: books.out_of_pocket_at(home),
+        family_deductible: books.family_deductible_at(home),
     }
 }

@@ -23,7 +23,7 @@ use Rattle.rx_ledger.specs.Members.{member_cmp, member_key}
 use Rattle.rx_ledger.specs.Rows.{row_key}
 use Rattle.rx_ledger.proofs.Orders.{id_exact, key_exact, key_total, member_exact, member_total}
 use Rattle.rx_parcels.specs.Books.{Book, IsInOrder, OfFamily, OfKey, book, has_member, has_row}
-use Rattle.rx_parcels.specs.Footprints.{AreAgreed, FootprintParts, books_in, itself, names, sub}
+use Rattle.rx_parcels.specs.Footprints.{AreAgreed, FootprintParts, books_in, cut, itself, names, sub}
 use Rattle.rx_parcels.proofs.Parts.{books_named, ledger_path, part, sub_part, sub_same}
 
 -- the value of a book: in order, and its own members and rows alone
@@ -155,3 +155,7 @@ module _ (F : FootprintParts) (v : Book → Ledger) (L : Ledger) (order : IsInOr
   -- and put together they are that ledger, where it is all in them
   pub sub_is : part F L ≡ L → sub F v ≡ L
   sub_is whole = sub_same F v (λ b. book b L) books ∙ sub_part F L order ∙ whole
+
+-- so do those that are cut from it
+pub cut_agrees : (F : FootprintParts) (L : Ledger) → IsInOrder L → AreAgreed F (cut F L)
+cut_agrees F L order = books_agree F (cut F L) L order (λ b n. rw n)

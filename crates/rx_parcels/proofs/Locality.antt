@@ -1,5 +1,5 @@
 -- A record on the books of a footprint that fits it gives what it gives on the whole ledger, and changes no other book.
-use Rattle.std.proofs.Common.{◌≡◌, ℕ, ◌+◌, List, [], ◌∷◌, true, false, Option, Some, None, refl, sym, ap, subst, ◌∙◌, inl, inr}
+use Rattle.std.proofs.Common.{◌≡◌, ℕ, ◌+◌, ◌&&◌, List, [], ◌∷◌, true, false, Option, Some, None, refl, sym, ap, subst, ◌∙◌, inl, inr}
 use Rattle.std.specs.List.{filter, list_all}
 use Rattle.std.specs.Ordering.{is_eq}
 use Rattle.std.proofs.lemmas.Bool.{and_from, and_parts, both_ways, cases_Bool}
@@ -205,6 +205,13 @@ module _ (lot : LotParts) (plan : Plan) (place : ℕ) (h : HeardRecord) (nth : �
 -- ---- all transactions of a record
 
 module _ (lot : LotParts) (plan : Plan) (place : ℕ) (h : HeardRecord) (F : FootprintParts) where
+  order_from : (nth : ℕ) (ts : List Transaction) (L : Ledger) → IsInOrder L
+      → IsInOrder (ledger_from lot plan place h nth ts L)
+  order_from nth [] L order = order
+  order_from nth (t ∷ ts) L order =
+      let a : Asked = asked lot plan place h nth in
+      order_from (nth + 1) ts (after a L t (answer a L t)) (order_after lot plan place h nth F L t (answer a L t) order)
+
   answers_part : (nth : ℕ) (ts : List Transaction) (L : Ledger) → IsInOrder L → list_all (fits_one F h L) ts ≡ true
       → answers_from lot plan place h nth ts (part F L) ≡ answers_from lot plan place h nth ts L
   answers_part nth [] L order f = refl
@@ -247,6 +254,10 @@ module _ (lot : LotParts) (plan : Plan) (place : ℕ) (h : HeardRecord) (F : Foo
 -- ---- a record
 
 module _ (lot : LotParts) (plan : Plan) (place : ℕ) (F : FootprintParts) where
+  order_of_body : (L : Ledger) (body : Body) → IsInOrder L → IsInOrder (ledger_of_body lot plan place L body)
+  order_of_body L (Rejected r) order = order
+  order_of_body L (Heard h) order = order_from lot plan place h F 1 h.list L order
+
   outcome_part : (L : Ledger) (body : Body) → IsInOrder L → fits_body F L body ≡ true
       → outcome_of lot plan place (part F L) body ≡ outcome_of lot plan place L body
   outcome_part L (Rejected r) order f = refl
@@ -292,3 +303,37 @@ pub local_outside : (lot : LotParts) (plan : Plan) (place : ℕ) (F : FootprintP
     → IsInOrder L → fits F t L ≡ true → (b : Book) → names F b ≡ false
     → book b (ledger_after lot plan place t L) ≡ book b L
 local_outside lot plan place F t L order f b n = body_outside lot plan place F L t.body order f b n
+
+pub local_whole : (lot : LotParts) (plan : Plan) (place : ℕ) (F : FootprintParts) (t : Transmission) (L : Ledger)
+    → IsInOrder L → fits F t L ≡ true
+    → ledger_after lot plan place t (sub F (cut F L)) ≡ sub F (cut F (ledger_after lot plan place t L))
+local_whole lot plan place F t L order f =
+    ap (ledger_after lot plan place t) (cut_part F L order)
+    ∙ after_record lot plan place F t L order f
+    ∙ sym (cut_part F (ledger_after lot plan place t L) (order_of_body lot plan place F L t.body order))
+
+-- ---- whether it fits is told by the part
+
+module _ (F : FootprintParts) (L : Ledger) where
+  fits_one_part : (h : HeardRecord) (t : Transaction) → fits_one F h (part F L) t ≡ fits_one F h L t
+  fits_one_part h (Bill b) = refl
+  fits_one_part h (Reverse v) = elim (cases_Bool (names F (OfKey (key_in h v.reference)))) [
+    | inl t ↦ ap (λ o. names F (OfKey (key_in h v.reference)) && names_holder F o) (row_part F (key_in h v.reference) L t)
+    | inr n ↦ rw n
+  ]
+  fits_one_part h (Faulty x) = refl
+
+  all_fit_part : (h : HeardRecord) (ts : List Transaction) → list_all (fits_one F h (part F L)) ts ≡ list_all (fits_one F h L) ts
+  all_fit_part h [] = refl
+  all_fit_part h (t ∷ ts) =
+      let first = fits_one_part h t in
+      let rest = all_fit_part h ts in
+      λ i. first i && rest i
+
+  fits_body_part : (body : Body) → fits_body F (part F L) body ≡ fits_body F L body
+  fits_body_part (Rejected r) = refl
+  fits_body_part (Heard h) = all_fit_part h h.list
+
+pub local_fits : (F : FootprintParts) (t : Transmission) (L : Ledger) → IsInOrder L
+    → fits F t (sub F (cut F L)) ≡ fits F t L
+local_fits F t L order = ap (fits F t) (cut_part F L order) ∙ fits_body_part F L t.body

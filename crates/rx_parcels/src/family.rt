@@ -1,4 +1,4 @@
-ghost use Rattle.std.specs.Prelude.{◌≡◌, ◌↔◌, IfOk, IsTrue, OnErr, OnOk, true, false};
+ghost use Rattle.std.specs.Prelude.{◌≡◌, ◌↔◌, ◌&&◌, IfOk, IsTrue, OnErr, OnOk, true, false, not};
 ghost use Rattle.rx_order.specs.Ascending.{is_past};
 ghost use Rattle.rx_ledger.specs.Ledger.{is_listed, is_taken, row_under};
 ghost use Rattle.rx_ledger.specs.Members.{member_cmp, member_key, person_in};
@@ -140,6 +140,16 @@ impl Family {
         self.deductible
     }
 
+    /// Whether a person comes after the members that are there, so that the person may be added.
+    pub fn is_past(&self, person: &Person) -> bool
+        ensures { result ≡ is_past member_cmp member_key self.now.members (record { family = self.now.family; person = person.now }) }
+    {
+        self.members.is_past(&MemberKey {
+            family: self.family,
+            person: *person,
+        })
+    }
+
     /// Adds a member of the family, who comes after those that are there. On a refusal the book is unchanged.
     pub fn add_member(&mut self, member: Member) -> Result<(), Memory>
         requires own { member.key.family ≡ self.old.family }
@@ -151,6 +161,14 @@ impl Family {
         self.members.push(member)?;
         self.deductibles.push_reserved(0);
         Ok(())
+    }
+
+    /// Whether a row may be added: its fill key is free, and its member listed.
+    pub fn can_add(&self, row: &Row) -> bool
+        ensures { result ≡ (not (is_taken (own_ledger self.now) row.now.key)
+            && is_listed (own_ledger self.now) (member_of_row row.now)) }
+    {
+        !self.rows.contains_key(&row.key) && self.members.contains_key(&row.member())
     }
 
     /// Adds a standing claim of a member under a free fill key: it counts from now on. On a refusal the book is

@@ -10,6 +10,8 @@ mod footprint;
 mod key_book;
 mod law;
 mod parcel;
+#[cfg(test)]
+mod tests;
 mod totals;
 
 pub use family::Family;

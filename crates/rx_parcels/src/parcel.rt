@@ -6,7 +6,7 @@ ghost use Rattle.rx_order.specs.Ascending.{IsAscending, IsAt, contains_key};
 ghost use Rattle.rx_parcels.specs.Books.{OfFamily, OfKey};
 ghost use Rattle.rx_parcels.specs.FamilyBook.{IsOwn, family_of};
 ghost use Rattle.rx_parcels.specs.Footprints.{names};
-ghost use Rattle.rx_parcels.specs.Parcels.{Agrees, HasOwnRow, IsParcel, family_at, family_deductible_at, member_at};
+ghost use Rattle.rx_parcels.specs.Parcels.{Agrees, AreBooks, HasOwnRow, IsParcel, family_at, family_deductible_at, member_at};
 ghost use Rattle.rx_parcels.specs.Parcels.{member_deductible, named_in, parcel_with_row, parcel_without_row, pocket_at};
 ghost use Rattle.rx_parcels.specs.Parcels.{row_at, rows_at};
 
@@ -14,7 +14,7 @@ use crate::family::Family;
 use crate::key_book::KeyBook;
 use rx_fields::{Id, Key, Memory, Period, Person};
 use rx_ledger::{Member, Row};
-use rx_order::{Ascending, place_of};
+use rx_order::{Ascending, is_ascending, place_of};
 use std::alloc::Global;
 use std::marker::Model;
 
@@ -38,6 +38,14 @@ impl Model for Parcel {
 }
 
 impl Parcel {
+    /// Whether these books make a parcel: each key's row is its own, the families ascend, and their totals are of the
+    /// period.
+    pub fn are_books(period: Period, keys: &Ascending<KeyBook>, families: &[Family]) -> bool
+        ensures { IsTrue result ↔ AreBooks period keys.now families.now }
+    {
+        has_own_rows(keys.as_slice()) && are_ascending(families) && are_of_period(families, period)
+    }
+
     /// The parcel of these books, each with rows of its own and totals of the period. It takes no memory.
     pub fn new(period: Period, keys: Ascending<KeyBook>, families: Vec<Family>) -> Parcel
         requires rows_own { All HasOwnRow keys }
@@ -214,6 +222,44 @@ impl Parcel {
             families,
         })
     }
+}
+
+// Whether the row in each key's book is its own.
+fn has_own_rows(keys: &[KeyBook]) -> bool
+    ensures { IsTrue result ↔ All HasOwnRow keys.now }
+{
+    keys.iter().all(|book| is_own_row(book))
+}
+
+// Whether the row in a key's book, if there is one, is its own.
+fn is_own_row(book: &KeyBook) -> bool
+    ensures { IsTrue result ↔ HasOwnRow book.now }
+{
+    match book.row {
+        Some(row) => row.key == book.key,
+        None => true,
+    }
+}
+
+// Whether each family's totals are of the period.
+fn are_of_period(families: &[Family], period: Period) -> bool
+    ensures { IsTrue result ↔ All (λ b. b.period ≡ period) families.now }
+{
+    families.iter().all(|family| is_of_period(family, period))
+}
+
+// Whether the family's totals are of the period.
+fn is_of_period(family: &Family, period: Period) -> bool
+    ensures { IsTrue result ↔ (family.now.period ≡ period) }
+{
+    family.period() == period
+}
+
+// Whether each family comes before the next.
+fn are_ascending(families: &[Family]) -> bool
+    ensures { IsTrue result ↔ IsAscending id_cmp family_of families.now }
+{
+    is_ascending(families)
 }
 
 // Each family's book has members and rows of its own.

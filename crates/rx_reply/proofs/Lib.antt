@@ -1,4 +1,5 @@
 pub mod AnswerLaws
+pub mod DigitJoins
 pub mod FieldLaws
 pub mod Loops
 pub mod Laws

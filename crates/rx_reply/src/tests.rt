@@ -15,6 +15,10 @@ const ONE_BILLING: &[u8; 157] =
 const PERCENT_TIER: &[u8; 168] =
     b"D0B11A011234567893     20260228\x1D\x1E\x1CAM21\x1CANP\x1CF3000004200000011\x1E\x1CAM22\x1CEM1\x1CD2000000000123\x1E\x1CAM23\x1CF50001403E\x1CF60003000{\x1CF70000017E\x1CF90001614{\x1CFH0001000{\x1CFI0000000{\x1C4U0000403E";
 
+// Every number at its full width.
+const WIDEST: &[u8; 168] =
+    b"D0B11A011234567893     20260228\x1D\x1E\x1CAM21\x1CANP\x1CF3987654321098765\x1E\x1CAM22\x1CEM1\x1CD2123456789012\x1E\x1CAM23\x1CF57037035G\x1CF69876543B\x1CF70123456G\x1CF92962964B\x1CFH1234567H\x1CFI2345678I\x1C4U3456789{";
+
 const AFTER_THE_MAXIMUM: &[u8; 157] =
     b"D0B11A011234567893     20260228\x1D\x1E\x1CAM21\x1CANP\x1CF3000004600000011\x1E\x1CAM22\x1CEM1\x1CD2000000000204\x1E\x1CAM23\x1CF50000000{\x1CF60003000{\x1CF70000017E\x1CF90003017E\x1CFH0000000{\x1CFI0000000{";
 
@@ -133,6 +137,14 @@ const PERCENT_TIER_AMOUNTS: Amounts = Amounts {
     coinsurance: 4035,
 };
 
+const WIDEST_AMOUNTS: Amounts = Amounts {
+    ingredient_cost: 98_765_432,
+    dispensing_fee: 1_234_567,
+    deductible: 12_345_678,
+    copay: 23_456_789,
+    coinsurance: 34_567_890,
+};
+
 const AFTER_THE_MAXIMUM_AMOUNTS: Amounts = Amounts {
     ingredient_cost: 30000,
     dispensing_fee: 175,
@@ -147,6 +159,7 @@ fn replies_are_written_and_read_back(rt: HostRuntime) -> Result<(), Fail> {
     let one = paid(4_200_000_011, 123, ONE_BILLING_AMOUNTS);
     let percent = paid(4_200_000_011, 123, PERCENT_TIER_AMOUNTS);
     let after = paid(4_600_000_011, 204, AFTER_THE_MAXIMUM_AMOUNTS);
+    let widest = paid(987_654_321_098_765, 123_456_789_012, WIDEST_AMOUNTS);
     let known = refused(&[Code::DuplicatePaid], Reference::new(123));
     let unknown = [
         Code::ReferenceQualifier,
@@ -163,7 +176,7 @@ fn replies_are_written_and_read_back(rt: HostRuntime) -> Result<(), Fail> {
         Code::TransactionCount,
     ];
     let wrong_bin = [Code::Bin, Code::TransactionCount];
-    let cases: [(Reply, &[u8]); 10] = [
+    let cases: [(Reply, &[u8]); 11] = [
         (
             reply(alloc, billing_echo(), one.map(Answer::Paid))?,
             ONE_BILLING,
@@ -175,6 +188,10 @@ fn replies_are_written_and_read_back(rt: HostRuntime) -> Result<(), Fail> {
         (
             reply(alloc, billing_echo(), after.map(Answer::Paid))?,
             AFTER_THE_MAXIMUM,
+        ),
+        (
+            reply(alloc, billing_echo(), widest.map(Answer::Paid))?,
+            WIDEST,
         ),
         (
             reply(alloc, billing_echo(), one.map(Answer::Twice))?,

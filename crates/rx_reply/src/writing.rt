@@ -2,14 +2,16 @@
 
 ghost use Rattle.std.specs.Prelude.{◌≡◌, ◌≤◌, ◌++◌, ◌∷◌, [], OnOk, IfOk, length};
 ghost use Rattle.std.specs.List.{flat_map};
+ghost use Rattle.rx_fields.specs.Digits.{digits_text};
 ghost use Rattle.rx_reply.specs.Text.{paid_text, answer_text, group_text, header_text, reply_text};
 
 mod amounts;
+mod digits;
 mod segments;
 
 use crate::layout::{GROUP, HEADER};
 use amounts::{put_amounts, put_reversed};
-use rx_claim::{Answer, Echo, Outcome, Paid, Refused, Reply};
+use rx_claim::{Answer, Echo, EchoParts, Outcome, Paid, Refused, Reply};
 use rx_fields::{Memory, digits_write};
 use segments::{put_codes, put_known, put_number, put_reference};
 use std::alloc::{AllocError, Global};
@@ -60,16 +62,25 @@ fn put_groups(out: &mut Vec<u8>, answers: &[Answer]) -> Result<(), AllocError>
     Ok(())
 }
 
+// The first six bytes of the header: version, transaction code, count and status.
+#[inline(always)]
+fn header_front(echo: &EchoParts, count: u64, status: u8) -> [u8; 6]
+    requires { count ≤ 9 }
+    ensures { result ≡ echo.now.version ++ (echo.now.code ++ (digits_text 1 count ++ status ∷ [])) }
+{
+    let [version, edition] = echo.version;
+    let [kind, way] = echo.code;
+    let [count]: [u8; 1] = digits_write(count);
+    [version, edition, kind, way, count, status]
+}
+
+#[tactic(auto, using(std::proofs::Common::append_assoc))]
 fn put_header(out: &mut Vec<u8>, echo: &Echo, count: u64, status: u8) -> Result<(), AllocError>
     requires { count ≤ 9 }
     ensures { OnOk result (out.new.items ≡ out.old.items ++ header_text echo.now count (status ∷ [])) }
 {
     let echo = echo.parts();
-    let count: [u8; 1] = digits_write(count);
-    out.extend_from_slice(&echo.version)?;
-    out.extend_from_slice(&echo.code)?;
-    out.extend_from_slice(&count)?;
-    out.push(status)?;
+    out.extend_from_slice(&header_front(echo, count, status))?;
     out.extend_from_slice(&echo.qualifier)?;
     out.extend_from_slice(&echo.provider)?;
     out.extend_from_slice(&echo.date)

@@ -1,33 +1,53 @@
 -- What the marks of a byte say, and how they move on.
-use Rattle.std.proofs.Common.{◌≡◌, ℕ, zero, suc, ◌+◌, ◌-◌, ◌*◌, ◌/◌, ◌^◌, min, ◌<◌, ◌≤◌, ◌≢◌, Bool, true, false, not, cond, eqb, List, [], ◌∷◌, ◌++◌, length, get_or, take, drop, map, replicate, refl, sym, ap, ◌∙◌, arith, count_by, length-append, shr-shr, w64, ⊎_elim, true≢false, subst, Option, Some}
+use Rattle.std.proofs.Common.{◌≡◌, ℕ, zero, suc, ◌+◌, ◌-◌, ◌*◌, ◌/◌, ◌^◌, min, ◌<◌, ◌≤◌, ◌≢◌, Bool, true, false, not, cond, eqb, List, [], ◌∷◌, length, get_or, take, drop, map, refl, sym, ap, ◌∙◌, arith, count_by, shr-shr, w64, ⊎_elim, true≢false, subst, Option, Some}
 use Rattle.std.specs.Prelude.{count_ones}
 use Rattle.std.specs.Int.{trailing_zeros}
-use Rattle.std.proofs.Math.Nat.{zero-div}
+use Rattle.std.proofs.Math.Nat.{zero-div, mul_assoc, two-pow-succ, pow-le-pow_right}
 use Rattle.std.specs.List.{prefix_len}
 use Rattle.std.specs.Simd.Lanes.{mask_l}
-use Rattle.std.proofs.lemmas.Bool.{not-true, not-false, ne_eqb, cases_lt}
-use Rattle.std.proofs.lemmas.List.{take_all, take_min, length-take, length-drop, drop-take, get_or-take, get_or-drop}
+use Rattle.std.proofs.lemmas.Bool.{not-true, not-false, cases_lt}
+use Rattle.std.proofs.lemmas.List.{take_all, take_min, length-take, length-drop, length-map, drop-drop, drop-take, get_or-take, get_or-drop}
 use Rattle.std.proofs.lemmas.List.Sums.{prefix_len_passes, prefix_len_stops, sum_by-take-drop, count_by-le-length}
-use Rattle.std.proofs.lemmas.Simd.{ones-mask_l, trailing_mask_l, leading_from_mask_l, length-replicate}
+use Rattle.std.proofs.lemmas.Simd.{ones-mask_l, trailing_mask_l, leading_from_mask_l, mask_l-lt}
 use Rattle.std.specs.Borrow.{Bor}
 use Rattle.rx_request.specs.Marks.{marks_of, AreMarks, AreMarksLeft}
 
--- bytes that aren't this one leave no mark
-filled : (p : ℕ → Bool) (n x : ℕ) → p x ≡ false → mask_l (map p (replicate n x)) ≡ 0
-filled p zero x e = refl
-filled p (suc n) x e = rw (e, filled p n x e) refl
+-- ---- the marks of a text, from the last chunk to the first
 
-padded : (p : ℕ → Bool) (xs : List ℕ) (n x : ℕ) → p x ≡ false → mask_l (map p (xs ++ replicate n x)) ≡ mask_l (map p xs)
-padded p [] n x e = filled p n x e
-padded p (y ∷ xs) n x e = rw (padded p xs n x e) refl
+-- so few marks make so small a number
+pub marks_below : (byte k : ℕ) (xs : List ℕ) → length xs ≤ k → marks_of byte xs < 2 ^ k
+marks_below byte k xs le =
+    let few : length (map (λ b. eqb b byte) xs) ≤ k = omega (arith, le, length-map xs (λ b. eqb b byte)) in
+    omega (arith, mask_l-lt (map (λ b. eqb b byte) xs), pow-le-pow_right {n = 2} (omega arith) few)
 
-pub marks_padded : (byte : ℕ) (text : List ℕ) → byte < 256 → length text ≤ 64
-    → marks_of byte (take 64 (text ++ replicate (64 - length text) (255 - byte))) ≡ marks_of byte (take 64 text)
-marks_padded byte text small le =
-    let other : eqb (255 - byte) byte ≡ false = ne_eqb (255 - byte) byte (λ e. absurd (omega arith)) in
-    let whole : length (text ++ replicate (64 - length text) (255 - byte)) ≡ 64 = omega (arith, length-append text (replicate (64 - length text) (255 - byte)), length-replicate (64 - length text) (255 - byte)) in
-    ap (marks_of byte) (take_all 64 (text ++ replicate (64 - length text) (255 - byte)) (omega arith))
-    ∙ (padded (λ b. eqb b byte) text (64 - length text) (255 - byte) other ∙ ap (marks_of byte) (sym (take_all 64 text le)))
+scaled : (k d : ℕ) → 2 ^ suc k * d ≡ 2 * (2 ^ k * d)
+scaled k d =
+    let twice : 2 ^ suc k ≡ 2 * 2 ^ k = omega (arith, two-pow-succ k) in
+    ap (λ n. n * d) twice ∙ mul_assoc 2 (2 ^ k) d
+
+cut_one : (c m t k d : ℕ) → m ≡ t + 2 ^ k * d → c + 2 * m ≡ c + 2 * t + 2 ^ suc k * d
+cut_one c m t k d e = omega (arith, e, scaled k d)
+
+-- the marks of the first k bytes, and of those behind them
+cut_marks : (byte k : ℕ) (xs : List ℕ) → k ≤ length xs → marks_of byte xs ≡ marks_of byte (take k xs) + 2 ^ k * marks_of byte (drop k xs)
+cut_marks byte zero xs le = omega arith
+cut_marks byte (suc k) [] le = absurd (omega arith)
+cut_marks byte (suc k) (x ∷ xs) le =
+    cut_one (cond {A = ℕ} (eqb x byte) 1 0) (marks_of byte xs) (marks_of byte (take k xs)) k (marks_of byte (drop k xs))
+    (cut_marks byte k xs (omega arith))
+
+-- the marks behind a place are few
+pub marks_fit : (byte at k : ℕ) (text : List ℕ) → length text ≤ k + at → marks_of byte (drop at text) < 2 ^ k
+marks_fit byte at k text le = marks_below byte k (drop at text) (omega (arith, le, length-drop at text))
+
+-- one chunk more in front
+pub marks_before : (byte k at : ℕ) (text : List ℕ) → k ≤ at → at ≤ length text
+    → 2 ^ k * marks_of byte (drop at text) + marks_of byte (take k (drop (at - k) text)) ≡ marks_of byte (drop (at - k) text)
+marks_before byte k at text le within =
+    let on : at - k + k ≡ at = omega arith in
+    let behind : drop k (drop (at - k) text) ≡ drop at text = drop-drop k (at - k) text ∙ ap (λ n. drop n text) on in
+    let cut = cut_marks byte k (drop (at - k) text) (omega (arith, length-drop (at - k) text)) in
+    omega (arith, cut, ap (λ (l : List ℕ). 2 ^ k * marks_of byte l) behind)
 
 -- the marks of 64 bytes are counted
 pub count_marks : (byte count marks : ℕ) (rest : List ℕ) → marks ≡ marks_of byte (take 64 rest)
@@ -102,6 +122,16 @@ dropped : (p : ℕ → Bool) (k : ℕ) (xs : List ℕ) → mask_l (map p xs) / 2
 dropped p zero xs = omega arith
 dropped p (suc k) [] = zero-div (2 ^ suc k)
 dropped p (suc k) (x ∷ xs) = halved (p x) (map p xs) k ∙ dropped p k xs
+
+-- what is left over behind whole chunks, by the last 16 bytes
+pub marks_over : (byte left : ℕ) (text : List ℕ) → left ≤ 16 → 16 ≤ length text
+    → marks_of byte (take 16 (drop (length text - 16) text)) / 2 ^ (16 - left) ≡ marks_of byte (drop (length text - left) text)
+marks_over byte left text few some =
+    let last = drop (length text - 16) text in
+    let on : length text - 16 + (16 - left) ≡ length text - left = omega arith in
+    ap (λ (l : List ℕ). marks_of byte l / 2 ^ (16 - left)) (take_all 16 last (omega (arith, length-drop (length text - 16) text)))
+    ∙ (dropped (λ b. eqb b byte) (16 - left) last
+    ∙ ap (marks_of byte) (drop-drop (16 - left) (length text - 16) text ∙ ap (λ n. drop n text) on))
 
 pub marks_behind : (separator marks seen at : ℕ) (text : List ℕ) → AreMarks separator marks seen text → at < seen
     → AreMarks separator (marks / 2 ^ at / 2 ^ 1) (seen - (at + 1)) (drop (at + 1) text)

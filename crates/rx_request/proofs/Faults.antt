@@ -1,5 +1,5 @@
 -- When some condition of a table holds.
-use Rattle.std.proofs.Common.{◌≡◌, ℕ, ◌+◌, ◌<◌, ◌≤◌, Bool, true, false, not, ◌&&◌, ◌||◌, cond, List, [], ◌∷◌, ◌++◌, length, get_or, set, map, take, Option, Some, None, refl, ap, ◌∙◌, arith}
+use Rattle.std.proofs.Common.{◌≡◌, ℕ, ◌+◌, ◌<◌, ◌≤◌, Bool, true, false, not, ◌&&◌, ◌||◌, cond, List, [], ◌∷◌, ◌++◌, length, get_or, set, map, take, Option, Some, None, refl, sym, ap, ◌∙◌, arith}
 use Rattle.std.specs.Prelude.{filter, is_some, is_none, nat_le, codes}
 use Rattle.std.specs.List.{list_any}
 use Rattle.std.proofs.lemmas.Bool.Decides.{nat_tests}
@@ -156,6 +156,50 @@ is_charged_by pricing e =
     let charge = or_left (has_no_charge pricing) _ after_fee in
     let gross = or_left (is_no_amount pricing.gross_amount) _ (or_right (has_no_charge pricing) _ after_fee) in
     one_charge pricing.usual_charge pricing.gross_amount (or_left (is_no_amount pricing.usual_charge) _ charge) gross (or_right (is_no_amount pricing.usual_charge) _ charge)
+
+-- an amount that is there and can't be read is a fault; so is one more
+pub usual_fault : (c f u n g : Bool) → u ≡ true → (c || (f || ((u || n) || (g || false)))) ≡ true
+usual_fault c f u n g h = rw (h, or_true f) (or_true c)
+
+pub gross_fault : (c f u n g : Bool) → g ≡ true → (c || (f || ((u || n) || (g || false)))) ≡ true
+gross_fault c f u n g h = rw (h, or_true (u || n), or_true f) (or_true c)
+
+pub none_by : {A : Type 0} (o : Option A) → is_some o ≡ false → is_none o ≡ true
+none_by None e = refl
+none_by (Some x) e = absurd cc
+
+pub some_by : {A : Type 0} (o : Option A) → is_some o ≡ true → is_none o ≡ false
+some_by None e = absurd cc
+some_by (Some x) e = refl
+
+pub and_false : (a : Bool) → (a && false) ≡ false
+and_false true = refl
+and_false false = refl
+
+absent_by : (charge : Option (List ℕ)) → is_no_amount charge ≡ false → is_none (amount_in charge) ≡ true → is_none charge ≡ true
+absent_by None e h = refl
+absent_by (Some text) e h = sym e ∙ h
+
+pub absent_fault : (c f g : Bool) (usual gross : Option (List ℕ)) → is_no_amount usual ≡ false → is_no_amount gross ≡ false
+    → is_none (amount_in usual) ≡ true → is_none (amount_in gross) ≡ true
+    → (c || (f || ((is_no_amount usual || (is_none usual && is_none gross)) || (g || false)))) ≡ true
+absent_fault c f g usual gross u d hu hg =
+    rw (absent_by usual u hu, absent_by gross d hg, or_true (is_no_amount usual), or_true f) (or_true c)
+
+present_by : (charge : Option (List ℕ)) → is_none (amount_in charge) ≡ false → is_none charge ≡ false
+present_by None h = absurd cc
+present_by (Some text) h = refl
+
+one_present : (usual gross : Option (List ℕ)) → (is_none (amount_in usual) && is_none (amount_in gross)) ≡ false
+    → (is_none usual && is_none gross) ≡ false
+one_present None gross h = present_by gross h
+one_present (Some text) gross h = refl
+
+pub no_charge_fault : (c f : Bool) (usual gross : Option (List ℕ)) → c ≡ false → f ≡ false → is_no_amount usual ≡ false
+    → is_no_amount gross ≡ false
+    → (is_none (amount_in usual) && is_none (amount_in gross)) ≡ false
+    → (c || (f || ((is_no_amount usual || (is_none usual && is_none gross)) || (is_no_amount gross || false)))) ≡ false
+no_charge_fault c f usual gross hc hf u g h = rw (hc, hf, u, g, one_present usual gross h) refl
 
 -- ---- headers
 

@@ -1,5 +1,5 @@
 -- The transactions of a list of groups.
-use Rattle.std.proofs.Common.{◌≡◌, ℕ, Bool, true, false, cond, List, [], ◌∷◌, ◌++◌, length, map, Option, Some, None, refl, ◌∙◌, append_assoc}
+use Rattle.std.proofs.Common.{◌≡◌, ℕ, Bool, true, false, cond, List, [], ◌∷◌, ◌++◌, length, map, Option, Some, None, refl, sym, ◌∙◌}
 use Rattle.std.specs.List.{list_any}
 use Rattle.std.proofs.Math.Bool.{and-false}
 use Rattle.std.proofs.lemmas.List.{length-map}
@@ -8,6 +8,7 @@ use Rattle.rx_claim.specs.declared.transaction.Transaction.TheVariants.{Bill, Re
 use Rattle.rx_claim.specs.Listed.{is_bill, is_reversal, is_few, are_transactions}
 use Rattle.rx_request.specs.Bills.{transaction, billing, reversal, bill_parts, reversal_parts, faulty}
 use Rattle.rx_request.specs.Codes.{is_faulty, bill_conditions, reversal_conditions}
+use Rattle.rx_request.specs.Cut.{first, further}
 use Rattle.rx_request.specs.Known.{InsuranceTexts, GroupTexts, group_of}
 
 -- what the groups ask
@@ -39,10 +40,13 @@ are_asked true common groups few =
 are_asked false common groups few =
     rw (length-map groups (λ group. transaction false common (group_of group)), few, no_bills common groups) refl
 
--- one more group was read
-pub asked_more : (is_billing : Bool) (common : InsuranceTexts) (before after : List Transaction) (groups left : List (List ℕ)) (group : List ℕ) (t : Transaction) (total : List Transaction)
-    → groups ≡ group ∷ left → after ≡ before ++ t ∷ [] → t ≡ transaction is_billing common (group_of group)
-    → before ++ asked is_billing common groups ≡ total → after ++ asked is_billing common left ≡ total
-asked_more is_billing common before after groups left group t total e pushed read so_far =
-    let one : after ++ asked is_billing common left ≡ before ++ asked is_billing common groups = rw (pushed, e, read) (append_assoc before (transaction is_billing common (group_of group) ∷ []) (asked is_billing common left)) in
-    one ∙ so_far
+-- the first two groups were read
+pub asked_two : (is_billing : Bool) (common : InsuranceTexts) (groups rest left : List (List ℕ)) (head second : List ℕ) (none after : List Transaction) (a b : Transaction)
+    → is_few (length groups) ≡ true → head ≡ first groups → rest ≡ further groups → rest ≡ second ∷ left
+    → a ≡ transaction is_billing common (group_of head) → b ≡ transaction is_billing common (group_of second)
+    → none ≡ [] → after ≡ none ++ a ∷ b ∷ []
+    → after ++ asked is_billing common left ≡ asked is_billing common groups
+asked_two is_billing common [] rest left head second none after a b few front behind next read_a read_b empty pushed = cc
+asked_two is_billing common (group ∷ groups) rest left head second none after a b few front behind next read_a read_b empty pushed =
+    let further_is : groups ≡ second ∷ left = sym behind ∙ next in
+    rw (pushed, empty, read_a, read_b, front, further_is) refl

@@ -5,7 +5,7 @@ ghost use Rattle.rx_request.specs.Steps.{patient_conditions, patient_parts, supp
 ghost use Rattle.rx_request.specs.Known.{group_of};
 ghost use Rattle.rx_request.specs.Views.{insurance_texts, claim_texts, pricing_texts, group_texts};
 
-use crate::codes::{bill_conditions, first_five, has_no_charge, reversal_conditions};
+use crate::codes::{bill_conditions, first_five, reversal_conditions};
 use crate::known::{Claim, Group, Insurance, Pricing, group_read};
 use crate::value;
 use rx_claim::{Bill, BillParts, Codes, Faulty, Reversal, Transaction};
@@ -85,17 +85,17 @@ fn charges_read(pricing: &Pricing) -> Option<Charges>
         else Some (charge_parts (pricing_texts pricing.now))) }
 {
     let ingredient_cost = value::amount(pricing.ingredient_cost)?;
-    if value::is_no_amount(pricing.dispensing_fee)
-        || has_no_charge(pricing)
-        || value::is_no_amount(pricing.gross_amount)
-    {
+    let dispensing_fee = value::amount_if_any(pricing.dispensing_fee)?;
+    let usual_charge = value::amount_if_any(pricing.usual_charge)?;
+    let gross_amount = value::amount_if_any(pricing.gross_amount)?;
+    if usual_charge.is_none() && gross_amount.is_none() {
         return None;
     }
     Some(Charges {
         ingredient_cost,
-        dispensing_fee: value::amount(pricing.dispensing_fee),
-        usual_charge: value::amount(pricing.usual_charge),
-        gross_amount: value::amount(pricing.gross_amount),
+        dispensing_fee,
+        usual_charge,
+        gross_amount,
     })
 }
 

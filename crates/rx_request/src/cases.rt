@@ -24,6 +24,14 @@ const CLAIM: &[u8] =
     b"\x1d\x1e\x1cAM07\x1cEM1\x1cD2000000000123\x1cE103\x1cD700002000202\x1cE70000030000\x1cD5030\x1cD61";
 // Its pricing segment.
 const PRICING: &[u8] = b"\x1e\x1cAM11\x1cD90003000{\x1cDC0000017E\x1cDQ0004000{";
+// What the base claim asks.
+const BASE: &str =
+    "heard 1234567893 20260228; bill 123 C100 01 00002000202 30000 30 30000 175 40000 -";
+// A claim segment with each known field at its full width, with the separator of its group.
+const WIDE_CLAIM: &[u8] =
+    b"\x1d\x1e\x1cAM07\x1cEM1\x1cD2999999999999\x1cE103\x1cD798765432109\x1cE79999999999\x1cD5999\x1cD61\x1cC801";
+// Its pricing segment.
+const WIDE_PRICING: &[u8] = b"\x1e\x1cAM11\x1cD99999999I\x1cDC9999999I\x1cDQ9999999I\x1cDU9999999I";
 // The claim segment of a reversal.
 const REVERSED: &[u8] = b"\x1d\x1e\x1cAM07\x1cEM1\x1cD2000000000123\x1cE103\x1cD700002000202";
 
@@ -230,12 +238,38 @@ fn cuts_at_every_place(rt: HostRuntime) -> Result<(), Fail> {
             text.extend_from_slice(part)?;
         }
         let got = shown(alloc, &decode(alloc, &DOOR, &text)?)?;
-        assert_eq!(rt;
-            got.as_str(),
-            "heard 1234567893 20260228; bill 123 C100 01 00002000202 30000 30 30000 175 40000 -"
-        );
+        assert_eq!(rt; got.as_str(), BASE);
+        // A separator at the very end has an empty piece behind it, which is passed over.
+        text.push(0x1C)?;
+        let got = shown(alloc, &decode(alloc, &DOOR, &text)?)?;
+        assert_eq!(rt; got.as_str(), BASE);
     }
     Ok(())
+}
+
+// Four groups, each with every known field at its full width.
+#[test]
+fn largest(rt: HostRuntime) -> Result<(), Fail> {
+    expect_all(
+        &rt,
+        rt.alloc(),
+        &[(
+            "each field at its full width",
+            FOUR,
+            &[
+                b"\x1e\x1cAM04\x1cC2ABCDEFGHIJKLMNOPQRST\x1cC3ZZ9",
+                WIDE_CLAIM,
+                WIDE_PRICING,
+                WIDE_CLAIM,
+                WIDE_PRICING,
+                WIDE_CLAIM,
+                WIDE_PRICING,
+                WIDE_CLAIM,
+                WIDE_PRICING,
+            ],
+            "heard 1234567893 20260228; bill 999999999999 ABCDEFGHIJKLMNOPQRST ZZ9 98765432109 9999999999 999 99999999 99999999 99999999 99999999; bill 999999999999 ABCDEFGHIJKLMNOPQRST ZZ9 98765432109 9999999999 999 99999999 99999999 99999999 99999999; bill 999999999999 ABCDEFGHIJKLMNOPQRST ZZ9 98765432109 9999999999 999 99999999 99999999 99999999 99999999; bill 999999999999 ABCDEFGHIJKLMNOPQRST ZZ9 98765432109 9999999999 999 99999999 99999999 99999999 99999999",
+        )],
+    )
 }
 
 #[test]

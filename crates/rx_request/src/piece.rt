@@ -103,12 +103,15 @@ impl<'a> Pieces<'a> {
 }
 
 // The place of the first separator, where it isn't among the first bytes.
-#[inline(never)]
+#[inline(always)]
 fn end_behind(text: &[u8], seen: usize, separator: u8) -> Option<usize>
     requires within { seen ≤ length text.now }
     requires none { marks_of separator (take seen text.now) ≡ 0 }
     ensures { IsFirstByte (is_byte separator) text.now result }
 {
+    if seen == text.len() {
+        return None;
+    }
     match memchr(separator, &text[seen..]) {
         Some(at) => Some(seen + at),
         None => None,

@@ -16,7 +16,7 @@ use crate::known::{Insurance, common_read};
 use crate::marks::count_of;
 use crate::piece::{GS, Pieces};
 use crate::value;
-use rx_claim::{Body, Heard, Rejected, Transaction, Transactions, Transmission};
+use rx_claim::{Body, Heard, Rejected, Transactions, Transmission};
 use rx_fields::{Count, Day, Door, Memory, Provider};
 use std::alloc::Global;
 
@@ -83,7 +83,7 @@ fn is_addressed(door: &Door, header: &Header) -> bool
         && header.pcn == door.pcn
 }
 
-// The transactions of the groups.
+// The transactions of the groups. One alone takes no allocation.
 fn transactions(
     alloc: Global,
     is_billing: bool,
@@ -96,7 +96,12 @@ fn transactions(
         (λ list. list
         ≡ map (λ group. transaction is_billing (insurance_texts common.now) (group_of group)) pieces.entry) }
 {
-    let mut list: Vec<Transaction> = Vec::with_capacity(alloc, groups)?;
+    let first = transaction(is_billing, common, pieces.first());
+    let Some(second) = pieces.next() else {
+        return Ok(Transactions::one(first));
+    };
+    let mut list = Vec::with_capacity(alloc, groups)?;
+    list.extend_from_slice(&[first, transaction(is_billing, common, second)])?;
     while let Some(group) = pieces.next() {
         list.extend_from_slice(&[transaction(is_billing, common, group)])?;
     }

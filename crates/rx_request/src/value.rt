@@ -1,4 +1,4 @@
-ghost use Rattle.std.specs.Prelude.{◌≡◌, ◌&&◌, ◌<◌, ◌≤◌, ◌^◌, is_none, is_some, IfSome};
+ghost use Rattle.std.specs.Prelude.{◌≡◌, ◌&&◌, ◌<◌, ◌≤◌, ◌^◌, if◌then◌else◌, is_none, is_some, IfSome, None, Some};
 ghost use Rattle.rx_request.specs.Slots.{text_of};
 ghost use Rattle.rx_request.specs.Values.{provider_in, date_in, is_text, id_in, person_in, number_in, positive_in, product_in, amount_in, is_no_amount, is_plain, is_sole};
 
@@ -100,6 +100,17 @@ pub(crate) fn is_no_amount(value: Option<&[u8]>) -> bool
     ensures { result ≡ is_no_amount (text_of value.entry) }
 {
     value.is_some() && amount(value).is_none()
+}
+
+/// An amount that isn't negative, where there is a field. None: the field is present and no such amount.
+pub(crate) fn amount_if_any(value: Option<&[u8]>) -> Option<Option<Cents>>
+    ensures { result
+        ≡ (if is_no_amount (text_of value.entry) then None else Some (amount_in (text_of value.entry))) }
+{
+    match value {
+        Some(_) => Some(Some(amount(value)?)),
+        None => Some(None),
+    }
 }
 
 /// Whether a compound code is absent, `0` or `1`.

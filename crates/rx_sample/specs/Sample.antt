@@ -1,5 +1,5 @@
 -- The fixed inputs of the sample, and the line that it gives (docs/FORMATS.md, "Fixed inputs").
-use Rattle.std.specs.Prelude.{ℕ, List, [], codes, None}
+use Rattle.std.specs.Prelude.{ℕ, List, [], ◌∷◌, ◌++◌, codes, None}
 use Rattle.std.specs.List.{flat_map}
 use Rattle.rx_fields.specs.Calendar.{Civil}
 use Rattle.rx_fields.specs.Numbered.{LotParts, Span}
@@ -14,7 +14,6 @@ use Rattle.rx_ledger.specs.declared.member.Member.{Member}
 use Rattle.rx_reply.specs.Text.{reply_text}
 use Rattle.rx_request.specs.Request.{transmission_of}
 use Rattle.rx_show.specs.Bytes.{shown_byte}
-use Rattle.rx_sample.specs.declared.line.TheConstants.{BASE_CLAIM}
 
 abbrev pub in_2026 : ℕ → ℕ → Civil
 in_2026 month day = record { year = 2026; month = month; day = day }
@@ -67,9 +66,26 @@ opening =
     (enrolled (codes "C100") (codes "03")))
     (enrolled (codes "C200") (codes "01"))
 
+-- a field behind its separator X'1C'
+abbrev pub field : List ℕ → List ℕ
+field text = 28 ∷ text
+
+-- a segment behind its separator X'1E'
+abbrev pub segment : List (List ℕ) → List ℕ
+segment fields = 30 ∷ flat_map field fields
+
+-- the base claim: a header of 56 bytes, the common segment, and behind X'1D' the claim and its pricing
+unfoldable pub base_claim : List ℕ
+base_claim =
+    codes "900001D0B1RXDEMO    1011234567893     20260228          "
+    ++ segment (codes "AM04" ∷ codes "C2C100" ∷ codes "C301" ∷ [])
+    ++ 29 ∷ segment (codes "AM07" ∷ codes "EM1" ∷ codes "D2000000000123" ∷ codes "E103" ∷ codes "D700002000202"
+    ∷ codes "E70000030000" ∷ codes "D5030" ∷ codes "D61" ∷ [])
+    ++ segment (codes "AM11" ∷ codes "D90003000{" ∷ codes "DC0000017E" ∷ codes "DQ0004000{" ∷ [])
+
 -- the reply to the base claim, the one record of its batch
 abbrev pub sample_reply : Reply
-sample_reply = reply_to sample_lot plain_plan 1 (transmission_of plain_figures.door BASE_CLAIM.now) opening
+sample_reply = reply_to sample_lot plain_plan 1 (transmission_of plain_figures.door base_claim) opening
 
 -- its text on one line
 abbrev pub sample_text : List ℕ

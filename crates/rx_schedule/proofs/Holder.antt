@@ -1,7 +1,6 @@
 -- At each point of the fold the row under a key is of the opening row's family or of that of an earlier billing with
 -- this key; so each footprint fits its record there, and the fold is that of the job.
-use Rattle.std.proofs.Common.{◌≡◌, ℕ, zero, suc, ◌+◌, ◌-◌, ◌<◌, ◌≤◌, true, false, Bool, cond, ◌||◌, List, [], ◌∷◌, ◌++◌, length, get_or, take, Option, Some, None, append_assoc, refl, ap, sym, ◌∙◌, inl, inr, arith, subst}
-use Rattle.std.specs.Prelude.{is_some}
+use Rattle.std.proofs.Common.{◌≡◌, ℕ, zero, suc, ◌+◌, ◌-◌, ◌<◌, ◌≤◌, true, false, Bool, ◌||◌, List, [], ◌∷◌, ◌++◌, length, get_or, take, Option, Some, None, append_assoc, refl, ap, sym, ◌∙◌, inl, inr, arith, subst}
 use Rattle.std.specs.BTreeMap.{is_at}
 use Rattle.std.specs.List.{flat_map, list_all, list_any}
 use Rattle.std.specs.Ordering.{eq_by_cmp, is_eq}
@@ -23,8 +22,8 @@ use Rattle.rx_claim.specs.declared.transmission.Heard.{Heard as HeardRecord}
 use Rattle.rx_claim.specs.declared.transmission.Transmission.{Transmission}
 use Rattle.rx_order.proofs.LookUps.{item_at-put, item_at-without}
 use Rattle.rx_ledger.proofs.Orders.{id_exact, id_total, key_exact, key_total}
-use Rattle.rx_ledger.specs.Answers.{Asked, after, answer, key_of, paid_row}
-use Rattle.rx_ledger.specs.Fold.{asked, fold_ledger, fold_replies, ledger_after, ledger_from, ledger_of_body, reply_to}
+use Rattle.rx_ledger.specs.Answers.{after, answer, key_of, paid_row}
+use Rattle.rx_ledger.specs.Fold.{asked, fold_ledger, ledger_after, ledger_from, ledger_of_body}
 use Rattle.rx_ledger.specs.Ledger.{Ledger, row_under}
 use Rattle.rx_ledger.specs.Named.{key_in}
 use Rattle.rx_ledger.specs.Plan.{Plan}
@@ -36,7 +35,7 @@ use Rattle.rx_parcels.proofs.Locality.{local_books, local_outside, local_reply, 
 use Rattle.rx_schedule.specs.Billed.{is_among}
 use Rattle.rx_schedule.specs.Footprints.{billed_by, billers, billers_in, families_named, family_of, footprint_at, footprint_of, holders, key_named, no_record, record_at}
 use Rattle.rx_schedule.specs.Jobs.{IsHeld, job, ledger_before, reply_at}
-use Rattle.rx_schedule.specs.Machine.{IsFoldOf, IsPlace}
+use Rattle.rx_schedule.specs.Machine.{IsFoldOf}
 use Rattle.rx_schedule.proofs.InOrder.{among-in_order, named_in}
 use Rattle.rx_schedule.proofs.Noted.{flat_map-one}
 
@@ -181,10 +180,14 @@ module _ (lot : LotParts) (plan : Plan) (L : Ledger) (records : List Transmissio
       subst (λ M. Holds (λ key f. is_among (holders L (take (suc (suc n) - 1) records) key) f ≡ true) M)
       (sym (next_ledger (suc n) one to)) holds
 
-  pub held : (i : ℕ) → 1 ≤ i → i ≤ length records → IsHeld lot plan L records i
-  held i one to =
+  -- also at the place behind the last record
+  pub held_through : (i : ℕ) → 1 ≤ i → i ≤ suc (length records) → IsHeld lot plan L records i
+  held_through i one to =
       let e : suc (i - 1) ≡ i = omega arith in
       subst (λ p. IsHeld lot plan L records p) e (held_after (i - 1) (omega arith))
+
+  pub held : (i : ℕ) → 1 ≤ i → i ≤ length records → IsHeld lot plan L records i
+  held i one to = held_through i one (omega arith)
 
 -- ---- a footprint that names what the transactions name fits
 

@@ -19,7 +19,7 @@ use Rattle.rx_order.proofs.Keys.{cases_Ordering, Equal-from_is_eq}
 use Rattle.rx_order.proofs.Kept.{IsAscending-put_all}
 use Rattle.rx_parcels.specs.Footprints.{itself}
 use Rattle.rx_schedule.specs.Footprints.{in_order}
-use Rattle.rx_schedule.proofs.Tests.{asked_twice, grouped, or_false, turned}
+use Rattle.rx_schedule.proofs.Ors.{asked_twice, grouped, or_false, turned}
 
 module _ {K : Type 0} (cmp : K → K → Ordering) (order : IsTotalOrder cmp) (exact : CmpEqualImpliesEq cmp) where
   -- what is among a list with one more, and with many more

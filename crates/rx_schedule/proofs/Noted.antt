@@ -21,7 +21,7 @@ use Rattle.rx_claim.specs.declared.transmission.Heard.{Heard as HeardRecord}
 use Rattle.rx_claim.specs.declared.transmission.Transmission.{Transmission}
 use Rattle.rx_ledger.specs.Named.{key_in}
 use Rattle.rx_schedule.specs.Footprints.{billed_by, billers, billers_in, footprint_at, footprint_of, no_record}
-use Rattle.rx_schedule.proofs.Tests.{asked_twice, grouped, or_false, swapped, turned}
+use Rattle.rx_schedule.proofs.Ors.{asked_twice, grouped, or_false, swapped, turned}
 
 -- what is among the families with one more
 among-insert : (families : List (List ℕ)) (family f : List ℕ)

@@ -99,7 +99,7 @@ read_before xs x i p e h = get_or_append_left (0 ∷ xs) (x ∷ []) 0 p (omega a
 read_last : (xs : List ℕ) (x i : ℕ) → length xs ≡ i → number_in (xs ++ x ∷ []) (suc i) ≡ x
 read_last xs x i e = ap (λ n. number_in (xs ++ x ∷ []) (suc n)) (sym e) ∙ get_or-append_seam (0 ∷ xs) x [] 0
 
-read_past : (xs : List ℕ) (p : ℕ) → length xs < p → number_in xs p ≡ 0
+pub read_past : (xs : List ℕ) (p : ℕ) → length xs < p → number_in xs p ≡ 0
 read_past xs zero h = absurd (omega arith)
 read_past [] (suc p) h = refl
 read_past (x ∷ xs) (suc zero) h = absurd (omega arith)

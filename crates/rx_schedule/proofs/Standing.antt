@@ -1,10 +1,10 @@
 -- Records one by one in any order in which sharers keep file order, and by the numbers of any valid numbering.
 use Rattle.rx_schedule.specs.declared.event.Event.TheVariants.{Take, Give}
-use Rattle.std.proofs.Common.{◌≡◌, ◌≢◌, ℕ, suc, ◌<◌, ◌≤◌, List, [], ◌∷◌, refl, ap, sym, subst, arith, inl, inr}
+use Rattle.std.proofs.Common.{◌≡◌, ◌≢◌, true, ℕ, suc, ◌<◌, ◌≤◌, List, [], ◌∷◌, ◌++◌, refl, ap, sym, subst, arith, inl, inr}
 use Rattle.std.specs.Prelude.{Some}
 use Rattle.std.proofs.lemmas.Bool.{cases_order}
-use Rattle.rx_schedule.specs.Machine.{Job, Store, IsPlace, Share, Was, IsLegal, replay, IsFoldOf, one_by_one, Pairs, IsOrder, KeepsFileOrder, IsNumbering, GoesByNumber}
-use Rattle.rx_schedule.proofs.Replayed.{core_replies, core_books}
+use Rattle.rx_schedule.specs.Machine.{Job, Store, IsPlace, Share, Was, IsLegal, MayTake, replay, IsFoldOf, one_by_one, Pairs, IsOrder, KeepsFileOrder, IsNumbering, GoesByNumber}
+use Rattle.rx_schedule.proofs.Replayed.{core_books, core_finds, core_replies}
 
 given : (i : ℕ) (order : List ℕ) → Was i order → Was (Give i) (one_by_one order)
 given i [] w = elim w [ ]
@@ -61,7 +61,21 @@ standing_legal job order o keeps = legal job order o.there o.once keeps (λ i j 
     let up : i ≤ job.count = (o.there i w).to_count in
     o.all j record { from_one = one; to_count = omega arith })
 
+-- a record of an order may be taken after those before it
+may_come : (job : Job) (later : List ℕ) (place : ℕ) (before : List ℕ) → IsLegal job (one_by_one (later ++ place ∷ before))
+    → MayTake job place (one_by_one before) × IsLegal job (one_by_one before)
+may_come job [] place before l = l.1
+may_come job (k ∷ later) place before l = may_come job later place before l.1.1
+
 module _ (job : Job) (at : ℕ → Store job) (reply : ℕ → job.Reply) (fold : IsFoldOf job at reply) where
+  -- it finds its books as the fold has them before it
+  pub standing_finds : (order : List ℕ) → IsOrder job order → KeepsFileOrder job order → (later : List ℕ) (place : ℕ)
+      (before : List ℕ) → order ≡ later ++ place ∷ before → (b : job.Book) → job.names place b ≡ true
+      → (replay job (one_by_one before)).books b ≡ at place b
+  standing_finds order o keeps later place before is b named =
+      let l = may_come job later place before (subst (λ ps. IsLegal job (one_by_one ps)) is (standing_legal job order o keeps)) in
+      core_finds job at reply fold (one_by_one before) l.1 place l.0 b named
+
   pub standing_books : (order : List ℕ) → IsOrder job order → KeepsFileOrder job order
       → (b : job.Book) → (replay job (one_by_one order)).books b ≡ at (suc job.count) b
   standing_books order o keeps = core_books job at reply fold (one_by_one order) (standing_legal job order o keeps)

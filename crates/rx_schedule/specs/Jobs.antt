@@ -1,5 +1,5 @@
 -- The records of a batch as a job for the machine, and what the fold of the records before each has.
-use Rattle.std.specs.Prelude.{◌≡◌, ℕ, ◌-◌, true, List, Option, Some, take, length}
+use Rattle.std.specs.Prelude.{◌≡◌, ℕ, ◌-◌, true, List, Some, take, length}
 use Rattle.std.specs.BTreeMap.{is_at}
 use Rattle.std.specs.List.{list_any}
 use Rattle.rx_fields.specs.Numbered.{LotParts}
@@ -12,7 +12,7 @@ use Rattle.rx_ledger.specs.Ledger.{Ledger, empty, row_under}
 use Rattle.rx_ledger.specs.Plan.{Plan}
 use Rattle.rx_ledger.specs.declared.row.Row.{Row}
 use Rattle.rx_parcels.specs.Books.{Book, book}
-use Rattle.rx_parcels.specs.Footprints.{fits, names, sub}
+use Rattle.rx_parcels.specs.Footprints.{names, sub}
 use Rattle.rx_schedule.specs.Footprints.{footprint_at, holders, record_at}
 use Rattle.rx_schedule.specs.Machine.{Job}
 

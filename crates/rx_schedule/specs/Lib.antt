@@ -1,6 +1,9 @@
 pub mod Billed
 pub mod Footprints
 pub mod Jobs
+pub mod Links
 pub mod Machine
 pub mod Marked
+pub mod Queues
+pub mod Used
 pub mod Waves

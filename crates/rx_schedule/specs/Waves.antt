@@ -59,3 +59,27 @@ pub record IsChain (fs : List FootprintParts) (numbers : List ℕ) (count : ℕ)
   pub waves : (k : ℕ) → k < count → number_in numbers (member_at chain k) ≡ suc k
   pub steps : (k : ℕ) → suc k < count → IsFirstSharer fs numbers (member_at chain (suc k)) (member_at chain k)
   pub none : length fs ≡ 0 → count ≡ 0
+
+-- ---- sharing chains
+
+-- places of which each shares with the next, which is later
+pub record IsSharingChain (fs : List FootprintParts) (chain : List ℕ) : Type 0 where
+  pub there : (k : ℕ) → k < length chain → (1 ≤ member_at chain k) × (member_at chain k ≤ length fs)
+  pub steps : (k : ℕ) → suc k < length chain → (member_at chain k < member_at chain (suc k))
+      × (shares fs (member_at chain k) (member_at chain (suc k)) ≡ true)
+
+-- the chain's last place is this one
+abbrev pub EndsAt : List ℕ → ℕ → Type 0
+EndsAt chain place = (1 ≤ length chain) × (member_at chain (length chain - 1) ≡ place)
+
+-- each number is the length of the longest sharing chain that ends at its place
+pub record AreLongest (fs : List FootprintParts) (numbers : List ℕ) : Type 0 where
+  pub longest : (chain : List ℕ) → IsSharingChain fs chain → (place : ℕ) → EndsAt chain place
+      → length chain ≤ number_in numbers place
+  pub reached : (place : ℕ) → 1 ≤ place → place ≤ length fs
+      → (chain : List ℕ) × IsSharingChain fs chain × EndsAt chain place × (length chain ≡ number_in numbers place)
+
+-- a valid numbering from 1: each number exceeds those of the earlier records that its record shares with
+pub record IsValidNumbering (fs : List FootprintParts) (number : ℕ → ℕ) : Type 0 where
+  pub from_one : (i : ℕ) → 1 ≤ i → i ≤ length fs → 1 ≤ number i
+  pub above : (i j : ℕ) → 1 ≤ i → i < j → j ≤ length fs → shares fs i j ≡ true → number i < number j

@@ -1,5 +1,5 @@
-ghost use Rattle.std.specs.Prelude.{◌≡◌, IfOk};
-ghost use Rattle.rx_schedule.specs.Waves.{AreWaves, IsChain};
+ghost use Rattle.std.specs.Prelude.{◌≤◌, ℕ, IfOk, length};
+ghost use Rattle.rx_schedule.specs.Waves.{AreLongest, AreWaves, IsChain, IsSharingChain, IsValidNumbering, number_in};
 
 use crate::marks::{Mark, Marks};
 use crate::wave_numbers::Waves;
@@ -14,6 +14,10 @@ const NONE: Mark = Mark { place: 0, wave: 0 };
 pub fn waves(alloc: Global, footprints: &[Footprint]) -> Result<Waves, Memory>
     ensures waves { IfOk result (λ found. AreWaves footprints.now found.numbers.items) }
     ensures chain { IfOk result (λ found. IsChain footprints.now found.numbers.items found.count found.chain.items) }
+    ensures longest { IfOk result (λ found. AreLongest footprints.now found.numbers.items) }
+    ensures shared { IfOk result (λ found. IsSharingChain footprints.now found.chain.items) }
+    ensures fewest { IfOk result (λ found. (number : ℕ → ℕ) → IsValidNumbering footprints.now number
+        → (place : ℕ) → 1 ≤ place → place ≤ length footprints.now → number_in found.numbers.items place ≤ number place) }
 {
     let mut keys = Marks::new(alloc);
     let mut families = Marks::new(alloc);

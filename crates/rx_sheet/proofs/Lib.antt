@@ -2,6 +2,7 @@ pub mod Added
 pub mod Blanks
 pub mod Documents
 pub mod DrugLists
+pub mod OneReading
 pub mod Products
 pub mod Shares
 mod WorkedSheets

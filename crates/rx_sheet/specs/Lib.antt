@@ -2,5 +2,6 @@ pub mod Drugs
 pub mod Fault
 pub mod Figures
 pub mod Names
+pub mod Said
 pub mod SheetText
 pub mod Values

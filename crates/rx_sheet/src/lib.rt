@@ -17,6 +17,7 @@
 mod drugs;
 mod fault;
 mod figures;
+mod law;
 mod names;
 mod sheet_text;
 #[cfg(test)]
@@ -24,4 +25,5 @@ mod tests;
 mod values;
 
 pub use fault::SheetFault;
+pub use law::one_reading;
 pub use sheet_text::read_sheet;

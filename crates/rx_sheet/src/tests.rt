@@ -1,4 +1,4 @@
-use crate::{SheetFault, read_sheet};
+use crate::{SheetFault, one_reading, read_sheet};
 use rx_fields::{Door, Period, Product, date_read};
 use rx_ledger::{Drug, Figures, Listed, Share, SheetKey};
 use std::alloc::{AllocError, Global};
@@ -80,6 +80,7 @@ fn figures(family_deductible: Option<u64>) -> Result<Figures, Fail> {
 
 #[test]
 fn the_plain_sheet(rt: HostRuntime) -> Result<(), Fail> {
+    one_reading();
     let text = text(rt.alloc(), &PLAIN)?;
     let sheet = read_sheet(rt.alloc(), text.as_bytes())?;
     assert_eq!(rt; *sheet.figures(), figures(None)?);

@@ -9,7 +9,8 @@ use Rattle.rx_switch.specs.declared.fault.SwitchFault.TheVariants as fault
 use Rattle.rx_batch.specs.declared.fault.BatchFault.{BatchFault}
 use Rattle.rx_batch.specs.declared.fault.BatchFault.TheVariants as batch
 use Rattle.rx_switch.specs.Fault.{of_batch}
-use Rattle.rx_switch.specs.Output.{are_workers, stamp_for}
+use Rattle.rx_switch.specs.Output.{stamp_for}
+use Rattle.rx_wave.specs.Workers.{are_workers}
 
 abbrev is_thread : Result Stamp SwitchFault → Bool
 is_thread (Ok s) = false

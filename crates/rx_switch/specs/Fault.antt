@@ -6,6 +6,8 @@ use Rattle.rx_books_text.specs.declared.fault.BooksFault.{BooksFault}
 use Rattle.rx_books_text.specs.declared.fault.BooksFault.TheVariants as books
 use Rattle.rx_sheet.specs.declared.fault.SheetFault.{SheetFault}
 use Rattle.rx_sheet.specs.declared.fault.SheetFault.TheVariants as sheet
+use Rattle.rx_wave.specs.declared.run_fault.RunFault.{RunFault}
+use Rattle.rx_wave.specs.declared.run_fault.RunFault.TheVariants as run
 use Rattle.rx_switch.specs.declared.fault.Device.{Device}
 use Rattle.rx_switch.specs.declared.fault.Device.TheVariants as device
 use Rattle.rx_switch.specs.declared.fault.IoFault.{IoFault}
@@ -35,6 +37,12 @@ of_books f = fault.Books f
 abbrev pub of_batch : BatchFault → SwitchFault
 of_batch batch.Memory = fault.Memory
 of_batch f = fault.Batch f
+
+-- the faults of the workers are the run's own
+abbrev pub of_run : RunFault → SwitchFault
+of_run run.Workers = fault.Workers
+of_run run.Memory = fault.Memory
+of_run run.Thread = fault.Thread
 
 -- the number of a device, and of a fault of a run on devices
 abbrev pub device_number : Device → ℕ

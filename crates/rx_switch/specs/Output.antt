@@ -1,5 +1,5 @@
 -- What a run gives: the texts of adjudicating the records one after another in file order, or a refusal.
-use Rattle.std.specs.Prelude.{◌≡◌, ◌≤◌, ℕ, Bool, false, ◌&&◌, nat_le, if◌then◌else◌, List, Result, Ok, Err}
+use Rattle.std.specs.Prelude.{◌≡◌, ℕ, Bool, false, if◌then◌else◌, List, Result, Ok, Err}
 use Rattle.std.specs.Option.{ok_or}
 use Rattle.rx_fields.specs.Clock.{stamp_of}
 use Rattle.rx_fields.specs.Numbered.{Span}
@@ -23,6 +23,7 @@ use Rattle.rx_settle.specs.Settlement.{settlement_text}
 use Rattle.rx_sheet.specs.SheetText.{sheet_of_text}
 use Rattle.rx_sheet.specs.declared.fault.SheetFault.{SheetFault}
 use Rattle.rx_wave.specs.Decoding.{transmissions_of}
+use Rattle.rx_wave.specs.Workers.{RefusesOne as GateRefusesOne, are_workers}
 use Rattle.rx_switch.specs.declared.fault.SwitchFault.{SwitchFault}
 use Rattle.rx_switch.specs.declared.fault.SwitchFault.TheVariants as fault
 
@@ -48,10 +49,6 @@ pub record Inputs : Type 0 where
   pub opening : Ledger
   pub head : Head
   pub details : List Detail
-
--- 1 to 64 workers
-abbrev pub are_workers : ℕ → Bool
-are_workers workers = nat_le 1 workers && nat_le workers 64
 
 -- the run's date and time: first the number of workers is looked at, then the stamp
 abbrev pub stamp_for : ℕ → List ℕ → Result Stamp SwitchFault
@@ -105,10 +102,17 @@ pub data IsRefused (g : Given) : SwitchFault → Type 0 where
   memory : (s : Stamp) → stamp_for g.workers g.stamp ≡ Ok s → IsRefused g fault.Memory
   thread : (s : Stamp) → stamp_for g.workers g.stamp ≡ Ok s → IsRefused g fault.Thread
 
--- the gate refuses to start one of two or more workers, which a plain run doesn't ask
+-- the gate refuses to start one of the workers, which a plain run doesn't ask
 pub record RefusesOne (plain : Bool) (starts : ℕ → Bool) (workers : ℕ) : Type 0 where
   pub parallel : plain ≡ false
-  pub several : 2 ≤ workers
-  pub worker : ℕ
-  pub within : (1 ≤ worker) × (worker ≤ workers)
-  pub refused : starts worker ≡ false
+  pub of_gate : GateRefusesOne starts workers
+
+-- what stops a run whose inputs are accepted: want of memory, or of a thread that the gate refuses to start
+abbrev pub IsStopped : Bool → (ℕ → Bool) → ℕ → SwitchFault → Type 0
+IsStopped plain starts workers fault.Workers = ⊥
+IsStopped plain starts workers fault.Stamp = ⊥
+IsStopped plain starts workers (fault.Sheet f) = ⊥
+IsStopped plain starts workers (fault.Books f) = ⊥
+IsStopped plain starts workers (fault.Batch f) = ⊥
+IsStopped plain starts workers fault.Memory = Unit {0}
+IsStopped plain starts workers fault.Thread = RefusesOne plain starts workers

@@ -1,8 +1,10 @@
-ghost use Rattle.std.specs.Prelude.{◌≡◌, ◌≤◌, IfOk, length};
+ghost use Rattle.std.specs.Prelude.{◌≡◌, ◌≤◌, IfErr, IfOk, length, true};
 ghost use Rattle.rx_ledger.specs.Fold.{fold_ledger, fold_replies};
 ghost use Rattle.rx_switch.specs.Job.{inputs_of, texts_in};
-ghost use Rattle.rx_switch.specs.Output.{texts_of};
+ghost use Rattle.rx_switch.specs.Output.{IsStopped, texts_of};
+ghost use Rattle.rx_wave.specs.Workers.{are_workers};
 
+use crate::fault::SwitchFault;
 use crate::job::Output;
 use rx_batch::Batch;
 use rx_books_kept::Books;
@@ -12,33 +14,52 @@ use rx_in_order::Finished;
 use rx_ledger::{Sheet, plain_run};
 use rx_response::response_in_parts;
 use rx_settle::settle;
-use rx_wave::{Gate, decode_in_parts, run_one_on};
+use rx_wave::{Gate, decode_in_parts, run_waves};
 use std::alloc::Global;
+use std::sync::Wait;
 use std::thread::Threads;
 
-/// The texts of adjudicating the details one after another in file order, on the books themselves or, plainly, over
-/// lists. Decoding and rendering go in so many parts beside one another; one part starts no thread.
+// The fewest bytes that are worth more threads than one.
+const FEWEST_BYTES: usize = 100_000;
+
+/// In how many parts a step goes, beside one another, that has so many bytes: as many as there are workers, one where
+/// they are few.
+pub(crate) fn parts_of(workers: u16, bytes: usize) -> usize {
+    if bytes < FEWEST_BYTES {
+        1
+    } else {
+        workers as usize
+    }
+}
+
+/// The texts of adjudicating the details, as if one after another in file order: by so many workers on the books
+/// themselves or, plainly, over lists. Decoding, rendering and writing go in so many parts beside one another; one part
+/// starts no thread.
 #[tactic(auto, using(crate::proofs::Replied::replied))]
-pub(crate) fn adjudicate<R: Threads + Sync, G: Gate>(
+pub(crate) fn adjudicate<R: Threads + Wait + Sync, G: Gate + Sync>(
     rt: &R,
     alloc: Global,
     gate: &G,
+    workers: u16,
     parts: usize,
     plain: bool,
     stamp: &Stamp,
     sheet: &Sheet,
     books: Books,
     batch: &Batch,
-) -> Result<Output, Memory>
-    requires { length batch.now.details ≤ 100_000 }
-    ensures { IfOk result (λ output. texts_in output ≡ texts_of (inputs_of stamp.now sheet.now books batch.now)) }
+) -> Result<Output, SwitchFault>
+    requires few { length batch.now.details ≤ 100_000 }
+    requires workers { are_workers workers ≡ true }
+    ensures output { IfOk result (λ output. texts_in output ≡ texts_of (inputs_of stamp.now sheet.now books batch.now)) }
+    ensures stopped { IfErr result (λ fault. IsStopped plain (G.starts gate.now) workers fault) }
 {
     let details = batch.details.as_slice();
     let asked = decode_in_parts(rt, alloc, parts, sheet.door(), details)?;
-    let (books, replies) = finish(alloc, gate, plain, batch.head.lot(), sheet, books, &asked)?;
+    let lot = batch.head.lot();
+    let (books, replies) = finish(rt, alloc, gate, workers, plain, lot, sheet, books, &asked)?;
     let response = response_in_parts(rt, alloc, parts, &batch.head, *stamp, details, &replies)?;
-    let books = books.write(alloc)?;
-    let settlement = settle(alloc, batch.head.lot(), *stamp, &replies)?;
+    let books = books.write_in_parts(rt, alloc, parts)?;
+    let settlement = settle(alloc, lot, *stamp, &replies)?;
     Ok(Output {
         response,
         books,
@@ -47,28 +68,34 @@ pub(crate) fn adjudicate<R: Threads + Sync, G: Gate>(
 }
 
 // The books after the records, with the totals of the sheet's period, and the replies to them.
-fn finish<G: Gate>(
+fn finish<R: Threads + Wait + Sync, G: Gate + Sync>(
+    rt: &R,
     alloc: Global,
     gate: &G,
+    workers: u16,
     plain: bool,
     lot: Lot,
     sheet: &Sheet,
     books: Books,
     asked: &[Transmission],
-) -> Result<(Books, Vec<Reply>), Memory>
-    requires { length asked.now ≤ 100_000 }
+) -> Result<(Books, Vec<Reply>), SwitchFault>
+    requires few { length asked.now ≤ 100_000 }
+    requires workers { are_workers workers ≡ true }
     ensures books { IfOk result (λ finished. finished.0 ≡ record {
       period = sheet.now.figures.period;
       ledger = fold_ledger lot sheet.now 1 asked.now books.ledger;
     }) }
     ensures replies { IfOk result (λ finished.
         finished.1.items ≡ fold_replies lot sheet.now 1 asked.now books.ledger) }
+    ensures stopped { IfErr result (λ fault. IsStopped plain (G.starts gate.now) workers fault) }
 {
     if plain {
-        return finish_plainly(alloc, lot, sheet, &books, asked);
+        return Ok(finish_plainly(alloc, lot, sheet, &books, asked)?);
     }
     let books = books.with_period(alloc, sheet.period())?;
-    let Finished { books, replies } = run_one_on(gate, alloc, lot, sheet, books, asked)?;
+    let Finished { books, replies } = run_waves(
+        rt, alloc, gate, workers, lot, sheet, &books, asked,
+    )?;
     Ok((books, replies))
 }
 

@@ -5,6 +5,7 @@ use rx_batch::BatchFault;
 use rx_books_text::BooksFault;
 use rx_fields::Memory;
 use rx_sheet::SheetFault;
+use rx_wave::RunFault;
 use thiserror::Error;
 
 /// Why a run is refused: the first of these that holds (docs/PRODUCT.md, "The program").
@@ -100,6 +101,21 @@ impl From<Memory> for SwitchFault {
 
     fn from(_refused: Memory) -> SwitchFault {
         SwitchFault::Memory
+    }
+}
+
+impl From<RunFault> for SwitchFault {
+    ghost use Rattle.std.specs.Prelude.{◌≡◌};
+    ghost use Rattle.rx_switch.specs.Fault.{of_run};
+
+    ghost from_gives = { λ fault given. given ≡ of_run fault };
+
+    fn from(fault: RunFault) -> SwitchFault {
+        match fault {
+            RunFault::Workers => SwitchFault::Workers,
+            RunFault::Memory => SwitchFault::Memory,
+            RunFault::Thread => SwitchFault::Thread,
+        }
     }
 }
 

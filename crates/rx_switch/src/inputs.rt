@@ -1,5 +1,5 @@
 ghost use Rattle.std.specs.Prelude.{◌≡◌, IfErr, IfOk, false};
-ghost use Rattle.rx_devices.specs.Reading.{IsRead};
+ghost use Rattle.rx_devices.specs.Reading.{AreFewReads, IsRead};
 ghost use Rattle.rx_switch.specs.Devices.{AreRead, IsFed, IsUnread, IsUnreadAt, has_failed, left, of_reading};
 
 use crate::fault::{Device, IoFault, SwitchFault};
@@ -23,6 +23,7 @@ pub fn read_all<S: Source>(
     ensures read { IfOk result (λ text. IsRead (S.left source.old) (S.left source.new) text.items) }
     ensures unread { IfErr result (IsUnreadAt device (S.left source.old)) }
     ensures failed { S.failed source.new ≡ has_failed device result }
+    ensures reads { AreFewReads (S.reads source.old) (S.reads source.new) (S.cramped source.old) (S.cramped source.new) }
 {
     match rx_devices::read_all(alloc, source) {
         Ok(text) => Ok(text),
@@ -64,6 +65,7 @@ fn read_pieces<S: Source>(alloc: Global, source: &mut S) -> Result<Pieces, IoFau
     ensures read { IfOk result (λ pieces. IsFed (S.left source.old) (S.left source.new) pieces) }
     ensures unread { IfErr result (IsUnreadAt Device.Batch (S.left source.old)) }
     ensures failed { S.failed source.new ≡ has_failed Device.Batch result }
+    ensures reads { AreFewReads (S.reads source.old) (S.reads source.new) (S.cramped source.old) (S.cramped source.new) }
 {
     let mut fed = FedBatch {
         pieces: Pieces::new(alloc),
@@ -83,6 +85,7 @@ pub(crate) struct ReadInputs {
 }
 
 // Reads the three inputs to their ends, in this order.
+#[tactic(auto, using(rx_devices::proofs::Passing::none_made))]
 pub(crate) fn read_inputs<A: Source, B: Source, C: Source>(
     alloc: Global,
     sheet: &mut A,
@@ -102,6 +105,9 @@ pub(crate) fn read_inputs<A: Source, B: Source, C: Source>(
     ensures sheet { A.failed sheet.new ≡ has_failed Device.Sheet result }
     ensures books { B.failed books.new ≡ has_failed Device.Books result }
     ensures batch { C.failed batch.new ≡ has_failed Device.Batch result }
+    ensures sheet_reads { AreFewReads (A.reads sheet.old) (A.reads sheet.new) (A.cramped sheet.old) (A.cramped sheet.new) }
+    ensures books_reads { AreFewReads (B.reads books.old) (B.reads books.new) (B.cramped books.old) (B.cramped books.new) }
+    ensures batch_reads { AreFewReads (C.reads batch.old) (C.reads batch.new) (C.cramped batch.old) (C.cramped batch.new) }
 {
     let sheet = read_all(alloc, sheet, Device::Sheet)?;
     let books = read_all(alloc, books, Device::Books)?;

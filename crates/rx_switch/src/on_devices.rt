@@ -3,13 +3,14 @@ ghost use Rattle.rx_batch.specs.Fault.{UnlessMemory};
 ghost use Rattle.rx_batch.specs.Grammar.{IsFile};
 ghost use Rattle.rx_batch.specs.Pieces.{StandsFor};
 ghost use Rattle.rx_batch.specs.Reading.{HasFault};
+ghost use Rattle.rx_devices.specs.Reading.{AreFewReads};
 ghost use Rattle.rx_switch.specs.Devices.{IsBroken, IsDone, devices, has_failed};
 ghost use Rattle.rx_switch.specs.Job.{given_read, texts_in};
 ghost use Rattle.rx_switch.specs.Output.{IsOutput, IsRefused, RefusesOne};
 ghost use Rattle.rx_switch.specs.declared.fault.Device.TheVariants as device;
 ghost use Rattle.rx_switch.specs.declared.fault.IoFault.TheVariants as io;
 
-use crate::adjudicating::adjudicate;
+use crate::adjudicating::{adjudicate, parts_of};
 use crate::fault::{IoFault, SwitchFault};
 use crate::inputs::{ReadInputs, read_inputs};
 use crate::job::Output;
@@ -23,6 +24,9 @@ use rx_wave::Gate;
 use std::alloc::Global;
 use std::sync::Wait;
 use std::thread::Threads;
+
+// About as many bytes has a detail with one billing.
+const DETAIL_BYTES: usize = 200;
 
 /// Adjudicates the batch of three inputs, and writes the three outputs (docs/PRODUCT.md, "The program").
 ///
@@ -81,6 +85,10 @@ pub fn run_io<
     ensures end_books { E.failed end_books.new ≡ has_failed device.EndBooks result }
     ensures settlement { F.failed settlement.new ≡ has_failed device.Settlement result }
     ensures thread { result ≡ Err (io.Switch SwitchFault.Thread) → RefusesOne plain (G.starts gate.now) workers }
+    // Each input is read at most 4,194,304 times, with room for at least 4,096 bytes.
+    ensures sheet_reads { AreFewReads (A.reads sheet.old) (A.reads sheet.new) (A.cramped sheet.old) (A.cramped sheet.new) }
+    ensures books_reads { AreFewReads (B.reads books.old) (B.reads books.new) (B.cramped books.old) (B.cramped books.new) }
+    ensures batch_reads { AreFewReads (C.reads batch.old) (C.reads batch.new) (C.cramped batch.old) (C.cramped batch.new) }
 {
     let read = read_inputs(alloc, sheet, books, batch)?;
     let output = output_of(rt, alloc, gate, stamp, workers, plain, read)?;
@@ -111,10 +119,14 @@ fn output_of<R: Threads + Wait + Sync, G: Gate + Sync>(
     } = read;
     let stamp = stamp_for(workers, stamp)?;
     let sheet = read_sheet(alloc, sheet.as_slice())?;
-    let books = Books::read(alloc, books.as_slice())?;
+    let parts = parts_of(workers, books.len());
+    let opening = Books::read_in_parts(rt, alloc, parts, books.as_slice())?;
+    drop(books);
     let batch = finished(batch)?;
-    let parts = workers as usize;
-    Ok(adjudicate(rt, alloc, gate, parts, plain, &stamp, &sheet, books, &batch)?)
+    let parts = parts.max(parts_of(workers, batch.details.len() * DETAIL_BYTES));
+    adjudicate(
+        rt, alloc, gate, workers, parts, plain, &stamp, &sheet, opening, &batch,
+    )
 }
 
 // The batch of the pieces.

@@ -2,7 +2,7 @@ ghost use Rattle.std.specs.Prelude.{◌≡◌, IfErr, IfOk, Err};
 ghost use Rattle.rx_switch.specs.Job.{given_by, texts_in};
 ghost use Rattle.rx_switch.specs.Output.{IsOutput, IsRefused, RefusesOne, stamp_for};
 
-use crate::adjudicating::adjudicate;
+use crate::adjudicating::{adjudicate, parts_of};
 use crate::fault::SwitchFault;
 use crate::job::{Job, Output};
 use rx_batch::read_batch;
@@ -39,12 +39,22 @@ pub fn run<R: Threads + Wait + Sync, G: Gate + Sync>(
 {
     let stamp = stamp_for(job.workers, job.stamp)?;
     let sheet = read_sheet(alloc, job.sheet)?;
-    let books = Books::read(alloc, job.books)?;
+    let parts = parts_of(job.workers, job.books.len());
+    let books = Books::read_in_parts(rt, alloc, parts, job.books)?;
     let batch = read_batch(alloc, job.batch)?;
-    let parts = job.workers as usize;
-    Ok(adjudicate(
-        rt, alloc, gate, parts, job.plain, &stamp, &sheet, books, &batch,
-    )?)
+    let parts = parts_of(job.workers, job.books.len().max(job.batch.len()));
+    adjudicate(
+        rt,
+        alloc,
+        gate,
+        job.workers,
+        parts,
+        job.plain,
+        &stamp,
+        &sheet,
+        books,
+        &batch,
+    )
 }
 
 // The run's date and time.

@@ -1,3 +1,5 @@
 -- Laws of lists of results.
+pub mod AtDesk
 pub mod Gathered
 pub mod Records
+pub mod Sent

@@ -13,13 +13,19 @@
 //! What a request means is left to `rx_request`.
 #![tactic(auto)]
 
+mod counter;
+mod craft;
 mod decoding;
 mod gate;
 mod in_order;
+mod run_fault;
 #[cfg(test)]
 mod tests;
+mod workers;
 
 pub use decoding::{decode_all, decode_in_parts};
 pub use gate::{Gate, NoGate};
 pub use in_order::{run_one, run_one_on};
+pub use run_fault::RunFault;
 pub use rx_in_order::Finished;
+pub use workers::run_waves;

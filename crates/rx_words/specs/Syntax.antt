@@ -1,4 +1,4 @@
--- The command line: its subcommands and their options (docs/PRODUCT.md, "The program rxbatch").
+-- The command line: its subcommands and their options (docs/PRODUCT.md, "The program").
 use Rattle.std.specs.Prelude.{◌≡◌, true, false, pos, Some, codes}
 use Rattle.clap.specs.Words.{App, Rule, Text, new_app, new_rule, with_rule, with_subcommand}
 use Rattle.clap.specs.declared.builder.command.Command.{Command}

@@ -2,7 +2,7 @@
 ghost use Rattle.std.specs.Prelude.{◌≡◌, map};
 ghost use Rattle.rx_words.specs.Paths.{paths_of};
 
-/// The input files of `run` and `plan` (docs/PRODUCT.md, "The program rxbatch").
+/// The input files of `run` and `plan` (docs/PRODUCT.md, "The program").
 #[derive(Clone, Copy, Debug, PartialEq, Eq)]
 pub struct Inputs<'a> {
     /// `--sheet`: the plan sheet.
@@ -63,7 +63,7 @@ pub struct ShowWords<'a> {
     pub batch: &'a str,
 }
 
-/// One of the four subcommands, with the values of its options (docs/PRODUCT.md, "The program rxbatch").
+/// One of the four subcommands, with the values of its options (docs/PRODUCT.md, "The program").
 #[derive(Clone, Copy, Debug, PartialEq, Eq)]
 pub enum Command<'a> {
     /// `run`: adjudicates a batch file.

@@ -6,8 +6,9 @@ ghost use Rattle.rx_words.specs.Faults.{IsWords, memory_fault, number_of, out_of
 use clap::error::ErrorKind;
 use std::alloc::AllocError;
 use std::fmt;
+use std::fmt::Write;
 
-/// Why the words give no command (docs/PRODUCT.md, "The program rxbatch"). Its `Display` is the text for standard
+/// Why the words give no command (docs/PRODUCT.md, "The program"). Its `Display` is the text for standard
 /// error.
 #[derive(Debug, Drop)]
 pub enum WordsFault {
@@ -49,10 +50,30 @@ impl From<clap::Error> for WordsFault {
     }
 }
 
+// A writer of text to another, with each control character but the line feed as two hexadecimal digits in angle
+// brackets: a word that `clap` tells again can't drive a terminal.
+#[derive(Drop)]
+struct Shown<'a, W: fmt::Write> {
+    to: &'a mut fmt::Formatter<W>,
+}
+
+impl<W: fmt::Write> fmt::Write for Shown<'_, W> {
+    fn write_str(&mut self, text: &str) -> fmt::Result {
+        for character in text.chars() {
+            if character < ' ' && character != '\n' {
+                write!(self.to, "<{:02X}>", u32::from(character))?;
+            } else {
+                self.to.write_char(character)?;
+            }
+        }
+        Ok(())
+    }
+}
+
 impl fmt::Display for WordsFault {
     fn fmt<W: fmt::Write>(&self, f: &mut fmt::Formatter<W>) -> fmt::Result {
         match self {
-            WordsFault::Words(Some(told)) => told.fmt(f),
+            WordsFault::Words(Some(told)) => write!(Shown { to: f }, "{told}"),
             WordsFault::Words(None) => Ok(()),
             WordsFault::Memory => f.write_str("refused 6 0 0\n"),
         }

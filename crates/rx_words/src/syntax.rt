@@ -90,7 +90,7 @@ fn takes_run_options<'a>(alloc: Global, line: Line<'a>) -> Result<Line<'a>, Allo
 }
 
 /// The subcommand `run`.
-fn run<'a>(alloc: Global) -> Result<Line<'a>, AllocError>
+pub(crate) fn run<'a>(alloc: Global) -> Result<Line<'a>, AllocError>
     ensures shape { IfOk result (λ l. app_of l ≡ run_line) }
     ensures local { IfOk result IsLocal }
 {

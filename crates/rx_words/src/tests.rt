@@ -153,6 +153,39 @@ fn the_text_is_claps(rt: HostRuntime) -> Result<(), Fail> {
     Ok(())
 }
 
+// Its text quotes the value, and has the usage of `run`.
+#[test]
+fn a_sign_is_told_with_the_usage_of_run(rt: HostRuntime) -> Result<(), Fail> {
+    let alloc = rt.alloc();
+    let words = run_words("o", "+5");
+    let Err(fault) = command(alloc, words.as_slice()) else {
+        return Err(Fail::from("it was understood"));
+    };
+    let text = format!(in alloc; "{fault}")?;
+    assert!(rt;
+        text.as_str().starts_with(
+            "error: invalid value '+5' for '--workers <N>': a number is digits alone\n\nUsage: rxbatch run "
+        ),
+        "{text}"
+    );
+    Ok(())
+}
+
+#[test]
+fn control_characters_are_shown(rt: HostRuntime) -> Result<(), Fail> {
+    let alloc = rt.alloc();
+    let Err(fault) = command(alloc, &["rxbatch", "p\x1b[2J\ty"]) else {
+        return Err(Fail::from("it was understood"));
+    };
+    let text = format!(in alloc; "{fault}")?;
+    assert!(rt;
+        text.as_str()
+            .starts_with("error: unrecognized subcommand 'p<1B>[2J<09>y'\n"),
+        "{text}"
+    );
+    Ok(())
+}
+
 #[test]
 fn owned_words_are_read(rt: HostRuntime) -> Result<(), Fail> {
     let alloc = rt.alloc();

@@ -9,10 +9,10 @@ ghost use Rattle.rx_words.specs.Faults.{IsWords};
 use crate::asked::{Command, Inputs, Outputs, RunWords, ShowWords};
 use crate::fault::WordsFault;
 use crate::paths::names_one_twice;
-use crate::syntax::line;
+use crate::syntax::{line, run as run_line};
 use clap::ArgMatches;
 use clap::error::ErrorKind;
-use std::alloc::Global;
+use std::alloc::{AllocError, Global};
 use std::convert::AsStr;
 
 /// The text of an option.
@@ -102,7 +102,7 @@ fn run_apart<'a>(alloc: Global, found: &ArgMatches<'a>) -> Result<RunWords<'a>, 
     ensures words { IfErr result (λ e. IsWords e → NoneHolds (HoldsRunApart (rows_of (found_of found.now)))) }
 {
     let Some(run) = run(found) else {
-        return Err(misread(alloc));
+        return Err(signed(alloc, text(found, "workers").unwrap_or("")));
     };
     if names_one_twice(run.paths().as_slice()) {
         return Err(WordsFault::Words(None));
@@ -110,7 +110,7 @@ fn run_apart<'a>(alloc: Global, found: &ArgMatches<'a>) -> Result<RunWords<'a>, 
     Ok(run)
 }
 
-/// The command of this name.
+/// The command of this name. `clap` lets no other name through, and no option be absent that a command wants.
 fn named<'a>(alloc: Global, name: &str, found: &ArgMatches<'a>) -> Result<Command<'a>, WordsFault>
     ensures ok { IfOk result (HoldsNamed name.now (rows_of (found_of found.now))) }
     ensures words { IfErr result (λ e. IsWords e → NoneHolds (HoldsNamed name.now (rows_of (found_of found.now)))) }
@@ -119,33 +119,34 @@ fn named<'a>(alloc: Global, name: &str, found: &ArgMatches<'a>) -> Result<Comman
         "run" => Ok(Command::Run(run_apart(alloc, found)?)),
         "show" => match show(found) {
             Some(show) => Ok(Command::Show(show)),
-            None => Err(misread(alloc)),
+            None => Err(WordsFault::Words(None)),
         },
         "plan" => match inputs(found) {
             Some(inputs) => Ok(Command::Plan(inputs)),
-            None => Err(misread(alloc)),
+            None => Err(WordsFault::Words(None)),
         },
         "sample" => Ok(Command::Sample),
-        _ => Err(misread(alloc)),
+        _ => Err(WordsFault::Words(None)),
     }
 }
 
-/// The fault of words that `clap` lets through, with the usage. Of them only a number with a sign comes here, since
-/// `clap` lets no option be absent that a command wants.
-fn misread(alloc: Global) -> WordsFault {
-    let Ok(mut line) = line(alloc) else {
-        return WordsFault::Memory;
-    };
-    match line.error(
-        ErrorKind::ValueValidation,
-        "invalid value for '--workers <N>': a number is digits alone",
-    ) {
+/// The fault of a number of workers that `clap` lets through though it has a sign, with the usage of `run`.
+fn signed(alloc: Global, number: &str) -> WordsFault {
+    match told_signed(alloc, number) {
         Ok(told) => WordsFault::Words(Some(told)),
         Err(_) => WordsFault::Memory,
     }
 }
 
-/// What the words ask for, the program's name being the first (docs/PRODUCT.md, "The program rxbatch").
+fn told_signed(alloc: Global, number: &str) -> Result<clap::Error, AllocError> {
+    let text = format!(in alloc;
+        "invalid value '{number}' for '--workers <N>': a number is digits alone"
+    )?;
+    let mut line = run_line(alloc)?.bin_name("rxbatch run")?;
+    line.error(ErrorKind::ValueValidation, text.as_str())
+}
+
+/// What the words ask for, the program's name being the first (docs/PRODUCT.md, "The program").
 ///
 /// At `Ok` `clap` finds no fault in the words, and the command holds the subcommand and the option values that `clap`'s
 /// matches of them hold; the workers are 0 to 65535, and the six paths of `run` are different texts.
@@ -163,6 +164,6 @@ pub fn command<'a, S: AsStr>(alloc: Global, words: &'a [S]) -> Result<Command<'a
     let matches = line(alloc)?.try_get_matches_from(words)?;
     match matches.subcommand() {
         Some((name, found)) => named(alloc, name, found),
-        None => Err(misread(alloc)),
+        None => Err(WordsFault::Words(None)),
     }
 }

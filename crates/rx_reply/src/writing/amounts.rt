@@ -4,17 +4,26 @@ ghost use Rattle.std.specs.Prelude.{◌≡◌, ◌≤◌, ◌++◌, OnOk, pos, n
 ghost use Rattle.rx_fields.specs.Amount.{signed_text};
 ghost use Rattle.rx_reply.specs.Text.{amount_field, coinsurance_field, amounts_segment, reversed_segment};
 
+use super::digits::eight_digits;
 use crate::layout::FIELD;
 use rx_claim::Pricing;
 use rx_fields::{Cents, signed_write};
 use std::alloc::AllocError;
 
 // An amount as it is paid.
+#[inline(always)]
+#[tactic(auto, unfolding(rx_fields::specs::Digits::digits_text, rx_fields::specs::Amount::signed_text))]
 pub(super) fn paid_text(cents: u64) -> [u8; 8]
     requires { cents ≤ 99_999_999 }
     ensures { result ≡ signed_text (pos cents) }
 {
-    signed_write(cents as i64)
+    let [a, b, c, d, e, f, g, digit] = eight_digits(cents);
+    let last = if digit == b'0' {
+        b'{'
+    } else {
+        digit - b'0' + (b'A' - 1)
+    };
+    [a, b, c, d, e, f, g, last]
 }
 
 // An amount as it is taken back.
@@ -29,9 +38,9 @@ fn put_amount(out: &mut Vec<u8>, id: [u8; 2], cents: u64) -> Result<(), AllocErr
     requires { cents ≤ 99_999_999 }
     ensures { OnOk result (out.new.items ≡ out.old.items ++ amount_field id cents) }
 {
-    out.push(FIELD)?;
-    out.extend_from_slice(&id)?;
-    out.extend_from_slice(&paid_text(cents))
+    let [first, second] = id;
+    let [a, b, c, d, e, f, g, h] = paid_text(cents);
+    out.extend_from_slice(&[FIELD, first, second, a, b, c, d, e, f, g, h])
 }
 
 fn put_coinsurance(out: &mut Vec<u8>, cents: u64) -> Result<(), AllocError>

@@ -4,6 +4,8 @@ ghost use Rattle.std.specs.Prelude.{◌≡◌, ◌++◌, ◌∷◌, [], OnOk};
 ghost use Rattle.std.specs.List.{flat_map};
 ghost use Rattle.rx_reply.specs.Text.{number_segment, reference_segment, known_reference, code_field, codes_segment};
 
+use super::digits::{fifteen_digits, twelve_digits};
+use crate::layout::{FIELD, SEGMENT};
 use rx_claim::Codes;
 use rx_fields::{Authorization, Code, Reference, digits_write};
 use std::alloc::AllocError;
@@ -16,11 +18,10 @@ pub(super) fn put_number(
 ) -> Result<(), AllocError>
     ensures { OnOk result (out.new.items ≡ out.old.items ++ number_segment (status ∷ []) number) }
 {
-    out.extend_from_slice(b"\x1E\x1CAM21\x1CAN")?;
-    out.push(status)?;
-    out.extend_from_slice(b"\x1CF3")?;
-    let digits: [u8; 15] = digits_write(number.get());
-    out.extend_from_slice(&digits)
+    out.extend_from_slice(&[
+        SEGMENT, FIELD, b'A', b'M', b'2', b'1', FIELD, b'A', b'N', status, FIELD, b'F', b'3',
+    ])?;
+    out.extend_from_slice(&fifteen_digits(number.get()))
 }
 
 // Segment 22.
@@ -28,8 +29,7 @@ pub(super) fn put_reference(out: &mut Vec<u8>, reference: Reference) -> Result<(
     ensures { OnOk result (out.new.items ≡ out.old.items ++ reference_segment reference) }
 {
     out.extend_from_slice(b"\x1E\x1CAM22\x1CEM1\x1CD2")?;
-    let digits: [u8; 12] = digits_write(reference.get());
-    out.extend_from_slice(&digits)
+    out.extend_from_slice(&twelve_digits(reference.get()))
 }
 
 // Segment 22, where the reference is known.

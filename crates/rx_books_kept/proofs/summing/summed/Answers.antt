@@ -49,8 +49,8 @@ count-requires c =
     let few : length all < 2 ^ 64 = omega (
       arith,
       length-overlaid key_cmp key_total row_key slot_key held c.args.opening.now.rows c.args.slots.now,
-      ap length c.rows-2.ensures.value,
-      c.as_slice-rows.ensures.small,
+      ap length c.rows-rows.ensures.value,
+      c.len-few.ensures.small,
       c.as_slice-slots.ensures.small,
     ) in
     let room = has_room c.args.period ms all rest inv.0 r ds os fs c.requires.in_order so_far c.in-Some.member c.home.result is_at home

@@ -1,4 +1,4 @@
-use Rattle.std.proofs.Common.{rules}
+use Rattle.std.proofs.Common.{arith, rules}
 use Rattle.rx_devices.proofs.Passing.{PassesPiece-on}
 use Rattle.rx_devices.proofs.reading.read_each.Goals as goal
 
@@ -14,4 +14,6 @@ by_piece-preserved g c =
       (let reads = kept.2 in search rules),
       within,
       kept.4,
+      omega (arith, kept.5, read.reads),
+      λ h. read.cramped (kept.6 h),
     )

@@ -1,5 +1,5 @@
-use Rattle.std.proofs.Common.{◌≡◌, ◌≤◌, false, vec_len}
-use Rattle.rx_devices.specs.Reading.{PassesPiece, most_bytes}
+use Rattle.std.proofs.Common.{◌≡◌, ◌≤◌, ◌+◌, false, vec_len}
+use Rattle.rx_devices.specs.Reading.{PassesPiece, least_room, most_bytes}
 use Rattle.rx_devices.proofs.reading.read_each.Given as goal
 
 -- so many bytes went on, at least one a read, and no read failed
@@ -9,4 +9,6 @@ invariant-by_piece g l =
     × (g.S.Source.failed l.source ≡ false)
     × (l.counter ≤ l.total)
     × (l.total ≤ most_bytes)
-    × (4096 ≤ vec_len l.room)
+    × (least_room ≤ vec_len l.room)
+    × (g.S.Source.reads l.source ≤ g.S.Source.reads l.fn.source + l.counter)
+    × (g.S.Source.cramped l.fn.source ≡ false → g.S.Source.cramped l.source ≡ false)

@@ -1,7 +1,7 @@
-use Rattle.std.proofs.Common.{◌≡◌, ℕ, ◌<◌, ◌≤◌, true, eqb, List, length, get_or, drop, sym, ap, ◌∙◌, arith, subst}
+use Rattle.std.proofs.Common.{ℕ, true≢false, eqb, List, length, drop, sym, ap, ◌∙◌, arith, subst}
 use Rattle.std.proofs.lemmas.List.{length-drop, get_or-drop}
 use Rattle.memchr.specs.Find.{NoneBefore, Nowhere, Passes, is_byte}
-use Rattle.rx_request.proofs.Bits.{none_before, none_behind}
+use Rattle.rx_request.proofs.Bits.{no_mark, none_before, none_behind}
 use Rattle.rx_request.proofs.Cuts.{to_end}
 use Rattle.rx_request.proofs.piece.end_behind.Goals as goal
 
@@ -28,3 +28,8 @@ returns-in-None c =
     let text = c.args.text.now in
     none_behind separator seen text c.requires.within c.requires.none
     (subst (λ (l : List ℕ). Nowhere (Passes (is_byte separator) l) 0 (length l)) (to_end seen text) c.in-None.ensures)
+
+pub returns-then-seen-text : goal.returns-then-seen-text
+returns-then-seen-text c = λ k low high is.
+    let other = no_mark c.args.separator c.args.seen k c.args.text.now c.requires.within c.requires.none (omega arith) in
+    true≢false (sym is ∙ other)

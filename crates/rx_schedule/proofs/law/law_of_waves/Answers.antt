@@ -3,7 +3,11 @@ use Rattle.rx_parcels.specs.Books.{book}
 use Rattle.rx_schedule.specs.Jobs.{job, ledger_before, reply_at}
 use Rattle.rx_schedule.proofs.Holder.{is_fold, ledger_end}
 use Rattle.rx_schedule.proofs.Standing.{numbered_books, numbered_replies}
+use Rattle.rx_schedule.proofs.Shared.{waves_number}
 use Rattle.rx_schedule.proofs.law.law_of_waves.Goals as goal
+
+pub returns-clause-valid : goal.returns-clause-valid
+returns-clause-valid c = λ lot plan L records numbers w. waves_number lot plan L records numbers w
 
 pub returns-clause-books : goal.returns-clause-books
 returns-clause-books c = λ lot plan L records o number order v all goes b.

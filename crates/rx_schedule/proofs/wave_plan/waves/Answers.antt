@@ -1,10 +1,11 @@
-use Rattle.std.proofs.Common.{◌≡◌, ℕ, ◌+◌, ◌-◌, ◌≤◌, length, Some, cond, ap, ◌∙◌, arith}
+use Rattle.std.proofs.Common.{◌≡◌, ℕ, ◌+◌, ◌-◌, ◌≤◌, length, Some, cond, ap, ◌∙◌, arith, subst}
 use Rattle.std.specs.BTreeMap.{get}
 use Rattle.std.proofs.lemmas.List.{get_or_read}
 use Rattle.rx_fields.specs.Order.{id_cmp, key_cmp}
 use Rattle.rx_schedule.specs.declared.marks.Mark.{Mark}
-use Rattle.rx_schedule.specs.Marked.{is_named}
-use Rattle.rx_schedule.proofs.Scanned.{best_found, best_small, down_step, next_families, next_keys, scan_begins, scan_step, scanned_waves}
+use Rattle.rx_schedule.specs.Marked.{IsDown, is_named}
+use Rattle.rx_schedule.proofs.Scanned.{best_found, best_small, down_ends, down_step, next_families, next_keys, scan_begins, scan_step, scanned_waves}
+use Rattle.rx_schedule.proofs.Longest.{are_longest, chain_shares, none_fewer}
 use Rattle.rx_schedule.proofs.wave_plan.waves.Goals as goal
 
 pub records-init : goal.records-init
@@ -77,3 +78,25 @@ members-preserved c =
 pub returns-clause-waves : goal.returns-clause-waves
 returns-clause-waves c = scanned_waves c.args.footprints.now c.records.at c.records.keys.last c.records.families.last
     c.records.numbers.items c.records.before.items c.records.top c.records.invariant c.records-test.false
+
+pub returns-clause-longest : goal.returns-clause-longest
+returns-clause-longest c = are_longest c.args.footprints.now c.records.numbers.items
+    (scanned_waves c.args.footprints.now c.records.at c.records.keys.last c.records.families.last
+    c.records.numbers.items c.records.before.items c.records.top c.records.invariant c.records-test.false)
+
+pub returns-clause-shared : goal.returns-clause-shared
+returns-clause-shared c =
+    let fs = c.args.footprints.now in
+    let none : c.members.left ≡ 0 = omega arith in
+    chain_shares fs c.records.numbers.items c.records.top.wave c.members.chain.items
+    (scanned_waves fs c.records.at c.records.keys.last c.records.families.last c.records.numbers.items
+    c.records.before.items c.records.top c.records.invariant c.records-test.false)
+    (down_ends fs c.records.at c.records.keys.last c.records.families.last c.records.numbers.items
+    c.records.before.items c.records.top c.records.invariant c.records-test.false c.members.place c.members.chain.items
+    (subst (λ n. IsDown fs c.records.numbers.items c.records.top n c.members.place c.members.chain.items) none
+    c.members.invariant))
+
+pub returns-clause-fewest : goal.returns-clause-fewest
+returns-clause-fewest c = none_fewer c.args.footprints.now c.records.numbers.items
+    (scanned_waves c.args.footprints.now c.records.at c.records.keys.last c.records.families.last
+    c.records.numbers.items c.records.before.items c.records.top c.records.invariant c.records-test.false)

@@ -2,14 +2,19 @@ use Rattle.std.proofs.Common.{◌≡◌, refl, sym, Err, IfErr}
 use Rattle.std.proofs.lemmas.Result.{IfErr-at_err, err_from_is_err_and}
 use Rattle.rx_switch.specs.Job.{given_read, inputs_of}
 use Rattle.rx_switch.specs.Output.{stamp_for}
-use Rattle.rx_switch.specs.Output.IsRefused.{words, memory}
+use Rattle.rx_switch.specs.Output.IsRefused.{words}
 use Rattle.rx_switch.specs.Fault.{of_batch}
 use Rattle.rx_switch.proofs.NoThread.{never_thread, no_batch_thread}
+use Rattle.rx_switch.proofs.Stopped.{if_output, if_refused, if_thread, workers_of_stamp}
 use Rattle.rx_switch.proofs.Refusals.{batch_refused, books_refused, sheet_refused}
 use Rattle.rx_switch.proofs.on_devices.output_of.Goals as goal
 
-pub adjudicate-requires-after_bounds : goal.adjudicate-requires-after_bounds
-adjudicate-requires-after_bounds g c κs within = (c.in_ok-batch.ensures.ok c.requires.0 c.requires.1).few
+pub adjudicate-requires-clause-few : goal.adjudicate-requires-clause-few
+adjudicate-requires-clause-few g c κs within = (c.in_ok-batch.ensures.ok c.requires.0 c.requires.1).few
+
+pub adjudicate-requires-clause-workers : goal.adjudicate-requires-clause-workers
+adjudicate-requires-clause-workers g c κs within =
+    workers_of_stamp c.args.workers c.args.stamp.now c.in_ok-stamp.stamp (sym c.in_ok-stamp.ensures)
 
 pub returns-in_err-stamp-clause-refused : goal.returns-in_err-stamp-clause-refused
 returns-in_err-stamp-clause-refused g c batch stands =
@@ -24,45 +29,49 @@ returns-in_err-sheet-clause-refused g c batch stands =
     (sheet_refused (given_read c.args.stamp.now c.args.workers c.args.read.sheet.items c.args.read.books.items batch)
     c.in_ok-stamp.stamp (sym c.in_ok-stamp.ensures) c.in_err-sheet.field-0.0 meant)
 
-pub returns-in_err-books-clause-refused : goal.returns-in_err-books-clause-refused
-returns-in_err-books-clause-refused g c batch stands =
-    let p = err_from_is_err_and c.from_residual-in_err-books.result c.from_residual-in_err-books.ensures.1 in
+pub returns-in_err-opening-clause-refused : goal.returns-in_err-opening-clause-refused
+returns-in_err-opening-clause-refused g c batch stands =
+    let p = err_from_is_err_and c.from_residual-in_err-opening.result c.from_residual-in_err-opening.ensures.1 in
     let planned = rw c.as_slice.ensures.value at c.in_ok-sheet.ensures in
-    let meant = rw c.as_slice-2.ensures.value at c.in_err-books.ensures.refuses in
+    let meant = rw c.as_slice-2.ensures.value at c.in_err-opening.ensures.refuses in
     rw (p.1, p.2)
     (books_refused (given_read c.args.stamp.now c.args.workers c.args.read.sheet.items c.args.read.books.items batch)
-    c.in_ok-stamp.stamp (sym c.in_ok-stamp.ensures) c.in_ok-sheet.sheet planned c.in_err-books.field-0.0 meant)
+    c.in_ok-stamp.stamp (sym c.in_ok-stamp.ensures) c.in_ok-sheet.sheet planned c.in_err-opening.field-0.0 meant)
 
 pub returns-in_err-batch-clause-refused : goal.returns-in_err-batch-clause-refused
 returns-in_err-batch-clause-refused g c batch stands =
     let p = err_from_is_err_and c.from_residual-in_err-batch.result c.from_residual-in_err-batch.ensures.1 in
     let planned = rw c.as_slice.ensures.value at c.in_ok-sheet.ensures in
-    let opened = rw c.as_slice-2.ensures.value at c.in_ok-books.ensures.ok in
+    let opened = rw c.as_slice-2.ensures.value at c.in_ok-opening.ensures.ok in
     rw (p.1, p.2)
     (batch_refused (given_read c.args.stamp.now c.args.workers c.args.read.sheet.items c.args.read.books.items batch)
     c.in_ok-stamp.stamp (sym c.in_ok-stamp.ensures) c.in_ok-sheet.sheet planned
-    c.in_ok-books.books.period c.in_ok-books.books.ledger opened
+    c.in_ok-opening.opening.period c.in_ok-opening.opening.ledger opened
     c.in_err-batch.field-0.0 (c.in_err-batch.ensures.refuses batch stands))
 
-pub returns-in_err-adjudicate-clause-refused : goal.returns-in_err-adjudicate-clause-refused
-returns-in_err-adjudicate-clause-refused g c batch stands =
-    let p = err_from_is_err_and c.from_residual-in_err-adjudicate.result c.from_residual-in_err-adjudicate.ensures.1 in
-    rw (p.1, p.2) (memory c.in_ok-stamp.stamp (sym c.in_ok-stamp.ensures))
+pub returns-clause-refused : goal.returns-clause-refused
+returns-clause-refused g c batch stands =
+    if_refused c.args.plain (g.G.Gate.starts c.args.gate.now) c.args.workers
+    (given_read c.args.stamp.now c.args.workers c.args.read.sheet.items c.args.read.books.items batch)
+    c.in_ok-stamp.stamp (sym c.in_ok-stamp.ensures) c.adjudicate.result c.adjudicate.ensures.stopped
+
+pub returns-clause-thread : goal.returns-clause-thread
+returns-clause-thread g c =
+    if_thread c.args.plain (g.G.Gate.starts c.args.gate.now) c.args.workers c.adjudicate.result c.adjudicate.ensures.stopped
 
 pub returns-clause-output : goal.returns-clause-output
 returns-clause-output g c batch stands =
     let planned = rw c.as_slice.ensures.value at c.in_ok-sheet.ensures in
-    let opened = rw c.as_slice-2.ensures.value at c.in_ok-books.ensures.ok in
-    record {
-      inputs = inputs_of c.in_ok-stamp.stamp c.in_ok-sheet.sheet c.in_ok-books.books c.in_ok-batch.batch;
-      accepted = record {
-        stamp = sym c.in_ok-stamp.ensures;
-        sheet = planned;
-        books = opened;
-        batch = c.in_ok-batch.ensures.ok batch stands;
-      };
-      texts_are = c.in_ok-adjudicate.ensures;
-    }
+    let opened = rw c.as_slice-2.ensures.value at c.in_ok-opening.ensures.ok in
+    if_output (given_read c.args.stamp.now c.args.workers c.args.read.sheet.items c.args.read.books.items batch)
+    (inputs_of c.in_ok-stamp.stamp c.in_ok-sheet.sheet c.in_ok-opening.opening c.in_ok-batch.batch)
+    (record {
+      stamp = sym c.in_ok-stamp.ensures;
+      sheet = planned;
+      books = opened;
+      batch = c.in_ok-batch.ensures.ok batch stands;
+    })
+    c.adjudicate.result c.adjudicate.ensures.output
 
 pub returns-in_err-stamp-clause-thread : goal.returns-in_err-stamp-clause-thread
 returns-in_err-stamp-clause-thread g c =

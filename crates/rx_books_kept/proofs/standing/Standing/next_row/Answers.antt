@@ -1,7 +1,7 @@
-use Rattle.std.proofs.Common.{◌≡◌, ◌<◌, ◌+◌, List, ◌∷◌, length, drop, Option, Some, refl, false, true, sym, subst, ap, ◌∙◌, arith}
+use Rattle.std.proofs.Common.{◌≡◌, ◌+◌, List, ◌∷◌, drop, Option, Some, false, true, sym, subst, ap, ◌∙◌, arith}
 use Rattle.std.specs.Prelude.{IfSome, slice_get}
 use Rattle.std.specs.List.{All}
-use Rattle.std.proofs.lemmas.Option.{slice_get_read}
+use Rattle.std.proofs.lemmas.Option.{get_or_from_slice_get}
 use Rattle.rx_fields.specs.Order.{key_cmp}
 use Rattle.rx_order.specs.Ascending.{IsAscending, IsAt}
 use Rattle.rx_ledger.specs.declared.member.Member.{Member}
@@ -16,13 +16,13 @@ use Rattle.rx_books_kept.proofs.standing.Standing.next_row.Goals as goal
 
 pub returns-in-Some-clause-row : goal.returns-in-Some-clause-row
 returns-in-Some-clause-row c =
-    let rows = c.as_slice-rows.result.now in
+    let rows = c.rows-rows.result.now in
     let slots = c.self.inside.slots.now in
     let i = c.slots.self-inside.row in
     let j = c.slots.self-inside.slot in
     let s = c.index-slots-self.result in
-    let same : rows ≡ c.self.inside.opening.now.rows = c.as_slice-rows.ensures.value ∙ c.rows.ensures.value in
-    let rise : IsAscending key_cmp row_key rows = subst (IsAscending key_cmp row_key) (sym same) c.rows.ensures.within.rows_rise in
+    let same : rows ≡ c.self.inside.opening.now.rows = c.rows-rows.ensures.value in
+    let rise : IsAscending key_cmp row_key rows = subst (IsAscending key_cmp row_key) (sym same) c.rows-rows.ensures.within.rows_rise in
     let own : All Own slots = λ k d lt. (c.self.invariant.own k d lt).under in
     let next : is_slot_next (drop i rows) (drop j slots) ≡ true = sym c.is_slot_next.ensures ∙ c.slots-test.true in
     let step = step_slot rows slots rise c.self.invariant.rise own i j s c.index-slots-self.is next in
@@ -38,13 +38,13 @@ returns-in-Some-clause-row c =
 
 pub slots-preserved : goal.slots-preserved
 slots-preserved c =
-    let rows = c.as_slice-rows.result.now in
+    let rows = c.rows-rows.result.now in
     let slots = c.self.inside.slots.now in
     let i = c.slots.self-inside.row in
     let j = c.slots.self-inside.slot in
     let s = c.index-slots-self.result in
-    let same : rows ≡ c.self.inside.opening.now.rows = c.as_slice-rows.ensures.value ∙ c.rows.ensures.value in
-    let rise : IsAscending key_cmp row_key rows = subst (IsAscending key_cmp row_key) (sym same) c.rows.ensures.within.rows_rise in
+    let same : rows ≡ c.self.inside.opening.now.rows = c.rows-rows.ensures.value in
+    let rise : IsAscending key_cmp row_key rows = subst (IsAscending key_cmp row_key) (sym same) c.rows-rows.ensures.within.rows_rise in
     let own : All Own slots = λ k d lt. (c.self.invariant.own k d lt).under in
     let next : is_slot_next (drop i rows) (drop j slots) ≡ true = sym c.is_slot_next.ensures ∙ c.slots-test.true in
     let step = step_slot rows slots rise c.self.invariant.rise own i j s c.index-slots-self.is next in
@@ -61,16 +61,17 @@ slots-preserved c =
 
 pub returns-clause-row : goal.returns-clause-row
 returns-clause-row c =
-    let rows = c.as_slice-rows.result.now in
+    let rows = c.rows-rows.result.now in
     let slots = c.self.inside.slots.now in
     let i = c.slots.self-inside.row in
     let j = c.slots.self-inside.slot in
-    let r = c.index-rows-at.result in
-    let same : rows ≡ c.self.inside.opening.now.rows = c.as_slice-rows.ensures.value ∙ c.rows.ensures.value in
-    let rise : IsAscending key_cmp row_key rows = subst (IsAscending key_cmp row_key) (sym same) c.rows.ensures.within.rows_rise in
+    let r = c.at.result.now in
+    let same : rows ≡ c.self.inside.opening.now.rows = c.rows-rows.ensures.value in
+    let rise : IsAscending key_cmp row_key rows = subst (IsAscending key_cmp row_key) (sym same) c.rows-rows.ensures.within.rows_rise in
     let own : All Own slots = λ k d lt. (c.self.invariant.own k d lt).under in
     let later : is_slot_next (drop i rows) (drop j slots) ≡ false = sym c.is_slot_next.ensures ∙ c.slots-test.false in
-    let step = step_row rows slots rise c.self.invariant.rise own i j r (omega arith) c.index-rows-at.is later in
+    let row_is = sym (get_or_from_slice_get rows i r r c.at.ensures) in
+    let step = step_row rows slots rise c.self.invariant.rise own i j r (omega arith) row_is later in
     ap (λ (L : Ledger). L.rows) (sym c.self.view_is)
     ∙ ap (λ xs. standing_rows (drop c.self.inside.row xs) (drop c.self.inside.slot slots)) (sym same)
     ∙ sym c.slots.invariant.rest ∙ step
@@ -79,14 +80,13 @@ returns-clause-row c =
 
 pub returns-clause-holder : goal.returns-clause-holder
 returns-clause-holder c =
-    let rows = c.as_slice-rows.result.now in
+    let rows = c.rows-rows.result.now in
     let i = c.slots.self-inside.row in
-    let r = c.index-rows-at.result in
+    let r = c.at.result.now in
     let O : Ledger = c.slots.self-inside.opening.now in
     let same : rows ≡ O.rows =
-    c.as_slice-rows.ensures.value ∙ c.rows.ensures.value ∙ ap (λ o. o.now.rows) (sym c.slots.invariant.opening) in
-    let lt : i < length rows = omega arith in
-    let here : slice_get O.rows i ≡ Some r = ap (λ xs. slice_get xs i) (sym same) ∙ slice_get_read rows (length rows) i r refl lt c.index-rows-at.is in
+    c.rows-rows.ensures.value ∙ ap (λ o. o.now.rows) (sym c.slots.invariant.opening) in
+    let here : slice_get O.rows i ≡ Some r = ap (λ xs. slice_get xs i) (sym same) ∙ c.at.ensures in
     let P : Option Row → Type 0 = λ o. IfSome o (λ x. IsAt member_cmp member_key O.members (member_of_row x) c.holder.result) in
     let at : IsAt member_cmp member_key O.members (member_of_row r) c.holder.result = subst P here c.holder.ensures in
     let M : List Member → Type 0 = λ ms. IsAt member_cmp member_key ms (member_of_row r) c.holder.result in

@@ -17,14 +17,14 @@ use Rattle.rx_books_shelf.proofs.ClosedShelf.{places_listed, same_as_beside, tes
 use Rattle.rx_books_shelf.proofs.ShelfKept.{shelf_parts}
 use Rattle.rx_books_shelf.proofs.shelf.Shelf.close.Goals as goal
 
-pub brought-requires-clause-slots : goal.brought-requires-clause-slots
-brought-requires-clause-slots c = subst (All (HasSlot c.self.inside.books.slots)) (sym c.as_slice.ensures.value) c.self.invariant.1
+pub brought-books-requires-clause-slots : goal.brought-books-requires-clause-slots
+brought-books-requires-clause-slots c = subst (All (HasSlot c.self.inside.books.slots)) (sym c.as_slice.ensures.value) c.self.invariant.1
 
-pub brought-requires-clause-rows : goal.brought-requires-clause-rows
-brought-requires-clause-rows c = subst (All HoldsOwnRow) (sym c.as_slice.ensures.value) c.self.invariant.0.rows_own
+pub brought-books-requires-clause-rows : goal.brought-books-requires-clause-rows
+brought-books-requires-clause-rows c = subst (All HoldsOwnRow) (sym c.as_slice.ensures.value) c.self.invariant.0.rows_own
 
-pub brought-requires-clause-listed : goal.brought-requires-clause-listed
-brought-requires-clause-listed c =
+pub brought-books-requires-clause-listed : goal.brought-books-requires-clause-listed
+brought-books-requires-clause-listed c =
     let s : ShelfParts = shelf_parts c.self.inside.books.books c.self.inside.keys c.self.inside.families in
     let both = and_parts _ _ (sym c.can_be_closed.ensures.value ∙ c.if-not-can_be_closed.false) in
     let agreed : AreAllAgreed (value_of s) = rw (← c.self.view_is) at (c.requires both.0) in
@@ -50,7 +50,7 @@ returns-clause-ok c =
 
 pub returns-clause-period : goal.returns-clause-period
 returns-clause-period c =
-    rw (← c.self.view_is) (ap (λ (b : LedgerBooks). b.period) (c.close.ensures ∙ ap (λ (o : OpenParts). o.books) c.brought.ensures))
+    rw (← c.self.view_is) (ap (λ (b : LedgerBooks). b.period) (c.close.ensures ∙ ap (λ (o : OpenParts). o.books) c.brought-books.ensures))
 
 pub returns-clause-values : goal.returns-clause-values
 returns-clause-values c =
@@ -59,7 +59,7 @@ returns-clause-values c =
     let agreed : AreAllAgreed (value_of s) = rw (← c.self.view_is) at (c.requires both.0) in
     let kept : are_members_kept s ≡ true = rw (← c.self.view_is) at both.1 in
     rw (← c.self.view_is) (λ b.
-    ap (λ (x : LedgerBooks). book b x.ledger) (c.close.ensures ∙ ap (λ (o : OpenParts). o.books) c.brought.ensures)
+    ap (λ (x : LedgerBooks). book b x.ledger) (c.close.ensures ∙ ap (λ (o : OpenParts). o.books) c.brought-books.ensures)
     ∙ ap (λ (ks : List KeyPlace). book b (record {
       members = s.rest.members;
       rows = overlaid key_cmp row_key place_key row_held

@@ -1,5 +1,5 @@
 -- The fill of the row that is added is counted.
-use Rattle.std.proofs.Common.{Some, refl, ap, ◌∙◌}
+use Rattle.std.proofs.Common.{◌≡◌, Some, refl, sym, ap, ◌∙◌}
 use Rattle.rx_fields.specs.Order.{key_cmp}
 use Rattle.rx_order.proofs.LookUps.{item_at-free}
 use Rattle.rx_order.proofs.Totals.{sum_by-put_free}
@@ -8,41 +8,51 @@ use Rattle.rx_ledger.specs.Rows.{member_of_row, row_key}
 use Rattle.rx_ledger.specs.declared.member.MemberKey.{MemberKey}
 use Rattle.rx_ledger.proofs.Ledgers.{IsLedger-with_row}
 use Rattle.rx_ledger.proofs.Orders.{key_total}
-use Rattle.rx_in_order.specs.Fills.{one_of}
-use Rattle.rx_in_order.specs.Underway.{is_billed}
-use Rattle.rx_in_order.proofs.Counting.{AreCounted-raised}
+use Rattle.rx_in_order.specs.declared.fill.Fill.{Fill}
+use Rattle.rx_in_order.specs.declared.fill.FillKey.{FillKey}
+use Rattle.rx_in_order.specs.Fills.{fill_of, has_mark, one_of, tallied}
+use Rattle.rx_in_order.proofs.Counting.{AreCounted-tallied}
+use Rattle.rx_in_order.proofs.Holders.{at_row}
+use Rattle.rx_in_order.proofs.Longest.{within_longer, within_tallied}
 use Rattle.rx_in_order.proofs.Places.{member_at_key, slot_there}
 use Rattle.rx_in_order.proofs.in_order.InOrderBasis.add.Goals as goal
 
 pub unreachable-requires : goal.unreachable-requires
 unreachable-requires c =
     c.in_default.ensures.absent
-    (slot_there c.self.inside.open.slots c.args.row.key (rw (← c.self.view_is) at c.requires.key))
-
-pub invariant_of-self : goal.invariant_of-self
-invariant_of-self c = rw c.in_err-raise.ensures.err c.self.invariant
+    (slot_there c.self.inside.books.slots c.args.row.key (rw (← c.self.view_is) at c.requires.key))
 
 pub add-requires-clause-family : goal.add-requires-clause-family
 add-requires-clause-family c =
-    let listed = member_at_key c.self.inside.open.books.ledger.members (member_of_row c.args.row) c.in-Some-member_of.place
-    c.in-Some-member_of.ensures.found in
+    let L = c.self.inside.books.books.ledger in
+    let at = rw (← c.self.view_is, c.member.ensures) at c.in-Some-holder_of.ensures.found in
+    let listed = member_at_key L.members (member_of_row c.args.row) c.in-Some-holder_of.holder at in
     rw listed.at at c.home_of-home.ensures ∙ ap (λ (k : MemberKey). Some k.family) listed.keyed
 
 pub invariant_of-self-2 : goal.invariant_of-self-2
 invariant_of-self-2 c =
     let o = c.self.inside in
-    let L = o.open.books.ledger in
+    let L = o.books.books.ledger in
     let r = c.args.row in
     let free = rw (← c.self.view_is) at c.requires.free in
     let listed = rw (← c.self.view_is) at c.requires.listed in
+    let at = rw (← c.self.view_is, c.member.ensures) at c.in-Some-holder_of.ensures.found in
     let none = item_at-free key_cmp key_total row_key L.rows r.key free in
-    let counted = AreCounted-raised (is_billed o.billed.items) L.rows (with_row L r).rows o.fills r c.self.invariant.counted
-    (λ k. sum_by-put_free key_cmp key_total row_key (one_of k) L.rows r none) in
-    rw (c.add.ensures, c.in_ok-raise.ensures.ok, c.fill_of.ensures)
+    let key = c.fill_at-key.ensures ∙ at_row L.members r c.in-Some-holder_of.holder c.self.invariant.in_order.members_rise at in
+    let made : FillKey → Fill = λ k. record { key = k; count = 1 } in
+    let tallied_is = c.in_ok-tally.ensures.ok ∙ ap (λ k. tallied o.fills (made k)) key in
+    let longer = within_longer o.longest c.longer-self-inside.result o.fills c.longer-self-inside.ensures.first
+    c.self.invariant.within in
+    let counted = AreCounted-tallied (has_mark o.marks.items) L.members L.rows (with_row L r).rows o.fills r
+    c.self.invariant.counted
+    (λ k. sum_by-put_free key_cmp key_total row_key (one_of L.members k) L.rows r none) in
+    rw (c.add.ensures, tallied_is)
     (record {
       in_order = IsLedger-with_row L r c.self.invariant.in_order listed;
-      rise = c.self.invariant.rise;
       counted = counted;
+      within = within_tallied c.longer-self-inside.result o.fills (made (fill_of L.members r)) longer
+          c.longer-self-inside.ensures.second;
+      near = c.self.invariant.near;
     })
 
 pub returns-clause-added : goal.returns-clause-added

@@ -1,24 +1,36 @@
 -- Some fill that is counted is too soon exactly where some row of the family is.
-use Rattle.std.proofs.Common.{ap, ◌∙◌}
+use Rattle.std.proofs.Common.{◌≡◌, Bool, true, sym, ap, ◌∙◌}
+use Rattle.std.specs.Prelude.{◌&&◌}
+use Rattle.std.specs.List.{list_any}
+use Rattle.rx_ledger.specs.declared.row.Row.{Row}
 use Rattle.rx_ledger.specs.Answers.{is_too_soon}
 use Rattle.rx_ledger.specs.Rows.{claimed_by}
 use Rattle.rx_ledger.proofs.Found.{any_of_passed}
-use Rattle.rx_in_order.specs.Fills.{concerns}
-use Rattle.rx_in_order.specs.Underway.{is_billed}
+use Rattle.rx_in_order.specs.declared.refill.Refill.{Refill}
+use Rattle.rx_in_order.specs.Fills.{concerns, fill_of, has_mark, refill_of}
 use Rattle.rx_in_order.proofs.Counting.{any_filled}
-use Rattle.rx_in_order.proofs.Concerned.{concerned_member}
+use Rattle.rx_in_order.proofs.Refills.{concerned_course, concerned_row}
 use Rattle.rx_in_order.proofs.in_order.InOrderBasis.is_too_soon.Goals as goal
 
-pub returns : goal.returns
-returns c =
-    let o = c.self.inside in
-    let rows = o.open.books.ledger.rows in
-    let f = c.args.figures.now in
+pub returns-then-has_mark : goal.returns-then-has_mark
+returns-then-has_mark c =
+    let L = c.self.inside.books.books.ledger in
+    let figures = c.args.figures.now in
     let date = c.args.date in
     let b = c.args.bill.now in
-    let billed = rw (← c.self.view_is) at c.requires.member in
-    let filled = any_filled (is_billed o.billed.items) rows o.fills (concerns f date b) c.as_slice-in_order.ensures.ascending
-    c.self.invariant.counted
-    (λ k h. ap (is_billed o.billed.items) (concerned_member f date b k h) ∙ billed) in
+    let i = c.in-Some.holder in
+    let f : Refill = refill_of figures date b i in
+    let found = rw (← c.self.view_is, c.parts-parts.ensures) at c.in-Some.ensures.found in
+    let marked : has_mark c.self.inside.marks.items f.course ≡ true =
+    sym (rw (c.deref.ensures.value, c.of-refill.ensures) at c.has_mark.ensures) ∙ c.if-has_mark.true in
+    let filled = any_filled (has_mark c.self.inside.marks.items) L.members L.rows c.self.inside.fills (concerns f)
+    c.as_slice-in_order.ensures.ascending c.self.invariant.counted
+    (λ k h. ap (has_mark c.self.inside.marks.items) (concerned_course f k h) ∙ marked) in
+    let of_fill : Row → Bool = λ r. concerns f (fill_of L.members r) in
+    let of_row : Row → Bool = λ r. claimed_by b.family r && is_too_soon figures date b r in
+    let same : of_fill ≡ of_row = λ j r.
+    concerned_row figures date b L.members i r c.self.invariant.in_order.members_rise found j in
+    let told = rw c.of-refill.ensures at c.is_too_soon.ensures in
     rw (← c.self.view_is)
-    (c.is_any_too_soon.ensures ∙ filled ∙ any_of_passed (claimed_by b.family) (is_too_soon f date b) rows)
+    (told ∙ filled ∙ ap (λ (test : Row → Bool). list_any test L.rows) same
+    ∙ any_of_passed (claimed_by b.family) (is_too_soon figures date b) L.rows)

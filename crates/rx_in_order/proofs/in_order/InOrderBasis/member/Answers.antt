@@ -11,20 +11,20 @@ use Rattle.rx_in_order.proofs.in_order.InOrderBasis.member.Goals as goal
 
 pub returns-in-Some : goal.returns-in-Some
 returns-in-Some c =
-    let L = c.self.inside.open.books.ledger in
+    let L = c.self.inside.books.books.ledger in
     let k = c.args.key.now in
     let m = c.member_at.result.now in
-    let found = item_at-at member_cmp member_total member_key L.members k c.in-Some.place m
-    c.self.invariant.in_order.members_rise c.in-Some.ensures.found in
+    let at = rw (← c.self.view_is) at c.in-Some.ensures.found in
+    let found = item_at-at member_cmp member_total member_key L.members k c.in-Some.holder m
+    c.self.invariant.in_order.members_rise at in
     rw (← c.self.view_is)
     (sym (sym (person_found L.members k.family k.person) ∙ found
-    ∙ ap Some (get_or_from_slice_get L.members c.in-Some.place m m c.member_at.ensures)))
+    ∙ ap Some (get_or_from_slice_get L.members c.in-Some.holder m m c.member_at.ensures)))
 
 pub returns-in-None : goal.returns-in-None
 returns-in-None c =
-    let L = c.self.inside.open.books.ledger in
+    let L = c.args.self.now.books.ledger in
     let k = c.args.key.now in
-    let absent : is_listed L k ≡ false = sym c.member_of.ensures.listed ∙ ap is_some c.in-None.is in
-    rw (← c.self.view_is)
-    (sym (sym (person_found L.members k.family k.person)
-    ∙ item_at-free member_cmp member_total member_key L.members k absent))
+    let absent : is_listed L k ≡ false = sym c.holder_of.ensures.listed ∙ ap is_some c.in-None.is in
+    sym (sym (person_found L.members k.family k.person)
+    ∙ item_at-free member_cmp member_total member_key L.members k absent)

@@ -2,5 +2,4 @@ use Rattle.rx_in_order.proofs.Places.{slot_there}
 use Rattle.rx_in_order.proofs.in_order.InOrderBasis.row_under.Goals as goal
 
 pub unreachable-requires : goal.unreachable-requires
-unreachable-requires c =
-    c.in-None.ensures.absent (slot_there c.self.inside.open.slots c.args.key.now (rw (← c.self.view_is) at c.requires))
+unreachable-requires c = c.in-None.ensures.absent (slot_there c.self.inside.books.slots c.args.key.now (rw (← c.self.view_is) at c.requires))

@@ -9,9 +9,10 @@ use Rattle.rx_in_order.proofs.in_order.InOrderBasis.used.Goals as goal
 
 pub returns : goal.returns
 returns c =
-    let books = c.self.inside.open.books in
-    let L = books.ledger in
-    let listed = member_at_key L.members c.args.key.now c.in-Some.place c.in-Some.ensures.found in
+    let kept = c.self.inside.books.books in
+    let L = kept.ledger in
+    let at = rw (← c.self.view_is) at c.in-Some.ensures.found in
+    let listed = member_at_key L.members c.args.key.now c.in-Some.holder at in
     let told = rw listed.at at c.used_at.ensures in
     let used : Span → MemberKey → Used = λ period k.
     record {
@@ -20,4 +21,4 @@ returns c =
       family_deductible = family_deductible_in period (rows_of L k.family);
     } in
     let own = rw (← c.self.view_is) at c.requires.period in
-    rw (← c.self.view_is) (told ∙ ap (used books.period) listed.keyed ∙ ap (λ p. used p c.args.key.now) own)
+    rw (← c.self.view_is) (told ∙ ap (used kept.period) listed.keyed ∙ ap (λ p. used p c.args.key.now) own)

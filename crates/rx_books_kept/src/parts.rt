@@ -1,0 +1,54 @@
+ghost use Rattle.std.specs.Prelude.{◌≡◌, IfErr, IfOk, Ok};
+ghost use Rattle.rx_fields.specs.Numbered.{Span};
+ghost use Rattle.rx_ledger.specs.Ledger.{Ledger};
+ghost use Rattle.rx_books_kept.specs.BooksFile.{HasBooksFault, IsBooksText};
+ghost use Rattle.rx_books_kept.specs.BooksText.{books_text};
+ghost use Rattle.rx_books_kept.specs.Figures.{books_of};
+ghost use Rattle.rx_books_text.specs.Fault.{Gives, UnlessMemory};
+
+use crate::books::Books;
+use rx_books_text::{BooksFault, Version};
+use rx_fields::Memory;
+use std::alloc::Global;
+use std::thread::Threads;
+
+impl Books {
+    /// The same as `read`, where the lines behind the head line are cut into so many parts, and each is read by a thread
+    /// of its own; one part is read on the calling thread.
+    pub fn read_in_parts<R: Threads + Sync>(
+        rt: &R,
+        alloc: Global,
+        parts: usize,
+        text: &[u8],
+    ) -> Result<Books, BooksFault>
+        ensures ok { IfOk result (λ books. IsBooksText text.now books.period books.ledger) }
+        // The text of books is read as those books, unless memory was wanting.
+        ensures reads { (period : Span) → (L : Ledger) → IsBooksText text.now period L
+            → Gives result (Ok (record { period = period; ledger = L })) }
+        // What was read, written in version 3, is a text of the same books.
+        ensures again { IfOk result (λ books. IsBooksText
+            (books_text Version.Three books.period books.ledger) books.period books.ledger) }
+        ensures refuses { IfErr result (λ fault. UnlessMemory fault (HasBooksFault text.now fault)) }
+        // The same, computed.
+        ensures value { Gives result (books_of text.now) }
+    {
+        let quick = Books::read_quickly_in_parts(rt, alloc, parts, text);
+        Books::or_summed(alloc, text, quick)
+    }
+
+    /// The same as `write`, where so many parts of the claims are written by threads of their own; one part is written on
+    /// the calling thread.
+    pub fn write_in_parts<R: Threads + Sync>(
+        &self,
+        rt: &R,
+        alloc: Global,
+        parts: usize,
+    ) -> Result<Vec<u8>, Memory>
+        ensures { IfOk result (λ text. text.items ≡ books_text Version.Three self.now.period self.now.ledger) }
+    {
+        self.kept.write_in_parts(rt, alloc, parts)
+    }
+}
+
+#[cfg(test)]
+mod tests;

@@ -1,0 +1,132 @@
+-- Where every record was given, the books and the replies are those of the fold.
+use Rattle.std.proofs.Common.{◌≡◌, ℕ, zero, suc, ◌+◌, ◌-◌, ◌<◌, ◌≤◌, List, [], ◌∷◌, true, false, Bool, length, get_or, take, Option, Some, None, refl, sym, ap, subst, ◌∙◌, arith, inl, inr}
+use Rattle.std.specs.List.{All, Contains, filter, slice_get}
+use Rattle.std.specs.Ordering.{is_eq}
+use Rattle.std.proofs.lemmas.Bool.{cases_lt}
+use Rattle.std.proofs.lemmas.Cmp.{tied_itself}
+use Rattle.std.proofs.lemmas.Option.{slice_get-get_or, slice_get_past}
+use Rattle.rx_fields.specs.Numbered.{LotParts}
+use Rattle.rx_fields.specs.Order.{id_cmp, key_cmp}
+use Rattle.rx_claim.specs.declared.reply.Reply.{Reply}
+use Rattle.rx_claim.specs.declared.transmission.Transmission.{Transmission}
+use Rattle.rx_order.proofs.Edits.{same_members}
+use Rattle.rx_order.proofs.Filters.{Contains-filter, Contains-filter_kept}
+use Rattle.rx_ledger.specs.declared.member.Member.{Member}
+use Rattle.rx_ledger.specs.declared.row.Row.{Row}
+use Rattle.rx_ledger.specs.Fold.{fold_ledger, fold_replies, ledger_after, reply_to}
+use Rattle.rx_ledger.specs.Ledger.{Ledger}
+use Rattle.rx_ledger.specs.Members.{member_cmp, member_key}
+use Rattle.rx_ledger.specs.Plan.{Plan}
+use Rattle.rx_ledger.specs.Rows.{row_key}
+use Rattle.rx_ledger.proofs.Orders.{id_total, key_total, member_total}
+use Rattle.rx_parcels.specs.Books.{Book, IsInOrder, OfFamily, OfKey, book, has_member, has_row}
+use Rattle.rx_parcels.proofs.Parts.{ledger_path}
+use Rattle.rx_schedule.specs.declared.event.Event.{Event}
+use Rattle.rx_schedule.specs.declared.event.Event.TheVariants.{Give, Take}
+use Rattle.rx_schedule.specs.Footprints.{no_record, record_at}
+use Rattle.rx_schedule.specs.Jobs.{ledger_before, reply_at}
+use Rattle.rx_schedule.specs.Machine.{IsComplete, IsLegal, IsPlace, MayTake, Was, replay}
+use Rattle.rx_schedule.proofs.Holder.{is_fold, ledger_end, order_before}
+use Rattle.rx_schedule.proofs.Replayed.{core_books, core_finds, core_replies}
+use Rattle.rx_desk.specs.Desks.{DeskJob, footprint_in, machine_of}
+use Rattle.rx_desk.specs.Kept.{AreNoted, IsKeptJob}
+use Rattle.rx_desk.proofs.Lists.{same_places}
+
+-- ---- ledgers with the same books are one
+
+module _ (L M : Ledger) (in_L : IsInOrder L) (in_M : IsInOrder M) (same : (b : Book) → book b L ≡ book b M) where
+  row_over : (r : Row) → Contains L.rows r → Contains M.rows r
+  row_over r among =
+      let own : has_row (OfKey r.key) r ≡ true = ap is_eq (tied_itself key_total r.key) in
+      let here : Contains (book (OfKey r.key) L).rows r = Contains-filter_kept (has_row (OfKey r.key)) L.rows r among own in
+      let there : Contains (book (OfKey r.key) M).rows r =
+      subst (λ (N : Ledger). Contains N.rows r) (same (OfKey r.key)) here in
+      let found = Contains-filter (has_row (OfKey r.key)) M.rows r there in
+      found.0
+
+  member_over : (m : Member) → Contains L.members m → Contains M.members m
+  member_over m among =
+      let f : List ℕ = m.key.family in
+      let own : has_member (OfFamily f) m ≡ true = ap is_eq (tied_itself id_total f) in
+      let here : Contains (book (OfFamily f) L).members m = Contains-filter_kept (has_member (OfFamily f)) L.members m among own in
+      let there : Contains (book (OfFamily f) M).members m =
+      subst (λ (N : Ledger). Contains N.members m) (same (OfFamily f)) here in
+      let found = Contains-filter (has_member (OfFamily f)) M.members m there in
+      found.0
+
+pub one_ledger : (L M : Ledger) → IsInOrder L → IsInOrder M → ((b : Book) → book b L ≡ book b M) → L ≡ M
+one_ledger L M in_L in_M same = ledger_path L M
+    (same_members member_cmp member_total member_key L.members M.members in_L.members_rise in_M.members_rise
+    (member_over L M in_L in_M same) (member_over M L in_M in_L (λ b. sym (same b))))
+    (same_members key_cmp key_total row_key L.rows M.rows in_L.rows_rise in_M.rows_rise
+    (row_over L M in_L in_M same) (row_over M L in_M in_L (λ b. sym (same b))))
+
+-- ---- the replies of the fold
+
+module _ (lot : LotParts) (plan : Plan) where
+  replies_count : (place : ℕ) (records : List Transmission) (L : Ledger)
+      → length (fold_replies lot plan place records L) ≡ length records
+  replies_count place [] L = refl
+  replies_count place (t ∷ ts) L = ap suc (replies_count (place + 1) ts (ledger_after lot plan place t L))
+
+  reply_in : (place : ℕ) (records : List Transmission) (L : Ledger) (i : ℕ) → i < length records
+      → slice_get (fold_replies lot plan place records L) i
+      ≡ Some (reply_to lot plan (place + i) (get_or records i no_record) (fold_ledger lot plan place (take i records) L))
+  reply_in place [] L i h = absurd (omega arith)
+  reply_in place (t ∷ ts) L zero h = ap (λ p. Some (reply_to lot plan p t L)) (omega arith)
+  reply_in place (t ∷ ts) L (suc i) h =
+      reply_in (place + 1) ts (ledger_after lot plan place t L) i (omega arith)
+      ∙ ap (λ p. Some (reply_to lot plan p (get_or ts i no_record)
+      (fold_ledger lot plan (place + 1) (take i ts) (ledger_after lot plan place t L)))) (omega arith)
+
+-- ---- what a desk has in the end
+
+module _ (j : DeskJob) (past : List Event) (fit : IsKeptJob j) (legal : IsLegal (machine_of j) past) where
+  pub noted_are : (place : ℕ) → Was (Give place) past
+      → (replay (machine_of j) past).replies place ≡ Some (reply_at j.lot j.plan j.books.ledger j.records place)
+  noted_are place w = core_replies (machine_of j) (λ i b. book b (ledger_before j.lot j.plan j.books.ledger j.records i))
+      (reply_at j.lot j.plan j.books.ledger j.records) (is_fold j.lot j.plan j.books.ledger j.records fit.in_order) past legal place w
+
+  pub finds : (place : ℕ) → MayTake (machine_of j) place past → (b : Book)
+      → (machine_of j).names place b ≡ true
+      → (replay (machine_of j) past).books b ≡ book b (ledger_before j.lot j.plan j.books.ledger j.records place)
+  finds place may b n = core_finds (machine_of j) (λ i b. book b (ledger_before j.lot j.plan j.books.ledger j.records i))
+      (reply_at j.lot j.plan j.books.ledger j.records) (is_fold j.lot j.plan j.books.ledger j.records fit.in_order) past legal place
+      may b n
+
+  pub fold_in_order : IsInOrder (fold_ledger j.lot j.plan 1 j.records j.books.ledger)
+  fold_in_order = subst IsInOrder (ledger_end j.lot j.plan j.books.ledger j.records)
+      (order_before j.lot j.plan j.books.ledger j.records fit.in_order (suc (length j.records)))
+
+  module _ (whole : IsComplete (machine_of j) past) where
+    pub books_end : (b : Book) → (replay (machine_of j) past).books b ≡ book b (fold_ledger j.lot j.plan 1 j.records j.books.ledger)
+    books_end b = core_books (machine_of j) (λ i b. book b (ledger_before j.lot j.plan j.books.ledger j.records i))
+        (reply_at j.lot j.plan j.books.ledger j.records) (is_fold j.lot j.plan j.books.ledger j.records fit.in_order) past legal
+        whole b
+        ∙ ap (book b) (ledger_end j.lot j.plan j.books.ledger j.records)
+
+    pub ledger_is : (L : Ledger) → IsInOrder L → ((b : Book) → book b L ≡ (replay (machine_of j) past).books b)
+        → L ≡ fold_ledger j.lot j.plan 1 j.records j.books.ledger
+    ledger_is L order values = one_ledger L (fold_ledger j.lot j.plan 1 j.records j.books.ledger) order fold_in_order
+        (λ b. values b ∙ books_end b)
+
+    pub replies_are : (replies : List Reply) → AreNoted j past replies
+        → replies ≡ fold_replies j.lot j.plan 1 j.records j.books.ledger
+    replies_are replies noted = same_places replies (fold_replies j.lot j.plan 1 j.records j.books.ledger) by_place
+      where
+        by_place : (i : ℕ) → slice_get replies i ≡ slice_get (fold_replies j.lot j.plan 1 j.records j.books.ledger) i
+        by_place i = elim (cases_lt i (length j.records)) [
+          | inl low ↦
+              let at : IsPlace (machine_of j) (suc i) = record { from_one = omega arith; to_count = omega arith } in
+              let e : suc i - 1 ≡ i = omega arith in
+              let p : 1 + i ≡ suc i = omega arith in
+              ap (slice_get replies) (sym e) ∙ sym (noted.each (suc i) (whole (suc i) at)) ∙ noted_are (suc i) (whole (suc i) at)
+              ∙ (λ t. Some (reply_to j.lot j.plan (sym p t) (get_or j.records (e t) no_record)
+              (fold_ledger j.lot j.plan 1 (take (e t) j.records) j.books.ledger)))
+              ∙ sym (reply_in j.lot j.plan 1 j.records j.books.ledger i low)
+          | inr past_end ↦
+              let a : length replies ≤ i = let e = noted.one_each in omega arith in
+              let b : length (fold_replies j.lot j.plan 1 j.records j.books.ledger) ≤ i =
+              let e = replies_count j.lot j.plan 1 j.records j.books.ledger in omega arith in
+              slice_get_past replies i a ∙ sym (slice_get_past (fold_replies j.lot j.plan 1 j.records j.books.ledger) i b)
+        ]

@@ -1,0 +1,13 @@
+pub mod Closing
+pub mod Ended
+pub mod Fitting
+pub mod Left
+pub mod Lists
+pub mod OneParcel
+pub mod Passing
+pub mod Placed
+pub mod Ready
+pub mod Sent
+pub mod Shelved
+pub mod Starting
+pub mod Steps

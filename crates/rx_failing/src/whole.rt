@@ -1,0 +1,34 @@
+use crate::case::Case;
+use crate::trial::STAMP;
+use rx_switch::{Job, run};
+use rx_wave::NoGate;
+use std::alloc::Global;
+use std::sync::Wait;
+use std::thread::Threads;
+
+/// Whether a run over the bytes themselves, without devices, gives the wanted texts.
+pub fn gives_wanted<R: Threads + Wait + Sync>(
+    threads: &R,
+    alloc: Global,
+    case: &Case,
+    workers: u16,
+    plain: bool,
+) -> bool {
+    let job = Job {
+        sheet: case.inputs.sheet.as_slice(),
+        books: case.inputs.books.as_slice(),
+        batch: case.inputs.batch.as_slice(),
+        stamp: STAMP,
+        workers,
+        plain,
+    };
+    let wanted = &case.outputs;
+    match run(threads, alloc, &NoGate, &job) {
+        Ok(output) => {
+            output.response.as_slice() == wanted.response.as_slice()
+                && output.books.as_slice() == wanted.books.as_slice()
+                && output.settlement.as_slice() == wanted.settlement.as_slice()
+        }
+        Err(_) => false,
+    }
+}

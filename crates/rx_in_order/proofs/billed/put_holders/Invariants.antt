@@ -1,0 +1,11 @@
+use Rattle.std.proofs.Common.{◌≡◌}
+use Rattle.std.specs.List.{All}
+use Rattle.rx_in_order.specs.Underway.{IsHolder}
+use Rattle.rx_in_order.proofs.billed.put_holders.Given as goal
+
+abbrev pub invariant-loop-transaction : goal.invariant-loop-transaction
+invariant-loop-transaction l =
+    record {
+      holders : All (IsHolder l.books.books.ledger.members) l.found.holders.items;
+      own : All (λ f. f.count ≡ 0) l.found.own.items;
+    }

@@ -1,0 +1,61 @@
+-- A run whose inputs are accepted gives its texts, or is stopped by want of memory or of a thread.
+use Rattle.std.proofs.Common.{◌≡◌, ℕ, Bool, true, false, List, Option, Some, None, Result, Ok, Err, refl, sym, ap, ◌∙◌, inl, inr}
+use Rattle.std.specs.Prelude.{IfErr, IfOk}
+use Rattle.std.proofs.lemmas.Bool.{cases_Bool, false≢true}
+use Rattle.std.proofs.lemmas.Result.{IfErr-at_err}
+use Rattle.rx_fields.specs.declared.stamp.Stamp.{Stamp}
+use Rattle.rx_wave.specs.declared.run_fault.RunFault.{RunFault}
+use Rattle.rx_wave.specs.declared.run_fault.RunFault.TheVariants as run
+use Rattle.rx_wave.specs.Workers.{RefusesOne as GateRefusesOne, are_workers}
+use Rattle.rx_switch.specs.declared.fault.SwitchFault.{SwitchFault}
+use Rattle.rx_switch.specs.declared.fault.SwitchFault.TheVariants as fault
+use Rattle.rx_switch.specs.declared.job.Output.{Output}
+use Rattle.rx_switch.specs.Fault.{of_run}
+use Rattle.rx_switch.specs.Job.{texts_in}
+use Rattle.rx_switch.specs.Output.{Given, Inputs, IsOutput, IsRefused, IsStopped, RefusesOne, StandFor, stamp_for, texts_of}
+use Rattle.rx_switch.specs.Output.IsRefused.{memory as refused_memory, thread as refused_thread}
+
+-- where the stamp is read, so are the workers
+no_workers : (workers : ℕ) (stamp : List ℕ) → are_workers workers ≡ false → stamp_for workers stamp ≡ Err fault.Workers
+no_workers workers stamp bad = rw bad refl
+
+pub workers_of_stamp : (workers : ℕ) (stamp : List ℕ) (s : Stamp) → stamp_for workers stamp ≡ Ok s → are_workers workers ≡ true
+workers_of_stamp workers stamp s e = elim (cases_Bool (are_workers workers)) [
+  | inl good ↦ good
+  | inr bad ↦ (let clash : Ok s ≡ Err fault.Workers = sym e ∙ no_workers workers stamp bad in absurd cc)
+]
+
+module _ (plain : Bool) (starts : ℕ → Bool) (workers : ℕ) where
+  -- the faults of the workers stop a run that isn't plain
+  pub of_workers : plain ≡ false → are_workers workers ≡ true → (f : RunFault)
+      → (f ≡ run.Workers → are_workers workers ≡ false) → (f ≡ run.Thread → GateRefusesOne starts workers)
+      → IsStopped plain starts workers (of_run f)
+  of_workers parallel good run.Workers outside refuses = absurd (false≢true (sym (outside refl) ∙ good))
+  of_workers parallel good run.Memory outside refuses = tt
+  of_workers parallel good run.Thread outside refuses = record { parallel = parallel; of_gate = refuses refl }
+
+  -- the definitions refuse a run that is stopped
+  refuses : (g : Given) (s : Stamp) → stamp_for g.workers g.stamp ≡ Ok s → (f : SwitchFault)
+      → IsStopped plain starts workers f → IsRefused g f
+  refuses g s read fault.Workers h = absurd h
+  refuses g s read fault.Stamp h = absurd h
+  refuses g s read (fault.Sheet f) h = absurd h
+  refuses g s read (fault.Books f) h = absurd h
+  refuses g s read (fault.Batch f) h = absurd h
+  refuses g s read fault.Memory h = refused_memory s read
+  refuses g s read fault.Thread h = refused_thread s read
+
+  pub if_refused : (g : Given) (s : Stamp) → stamp_for g.workers g.stamp ≡ Ok s → (r : Result Output SwitchFault)
+      → IfErr r (λ f. IsStopped plain starts workers f) → IfErr r (λ f. IsRefused g f)
+  if_refused g s read (Ok x) h = tt
+  if_refused g s read (Err f) h = refuses g s read f h
+
+  pub if_thread : (r : Result Output SwitchFault) → IfErr r (λ f. IsStopped plain starts workers f)
+      → r ≡ Err fault.Thread → RefusesOne plain starts workers
+  if_thread r h e = IfErr-at_err (λ f. IsStopped plain starts workers f) e h
+
+-- the texts are the output of what was given
+pub if_output : (g : Given) (x : Inputs) → StandFor g x → (r : Result Output SwitchFault)
+    → IfOk r (λ output. texts_in output ≡ texts_of x) → IfOk r (λ output. IsOutput g (texts_in output))
+if_output g x accepted (Ok output) h = record { inputs = x; accepted = accepted; texts_are = h }
+if_output g x accepted (Err f) h = tt

@@ -1,0 +1,21 @@
+-- Workers: how many a run may have, and the gate that refuses to start one of them.
+use Rattle.std.specs.Prelude.{◌≡◌, ◌≤◌, ℕ, Bool, false, ◌&&◌, nat_le}
+use Rattle.rx_wave.specs.declared.run_fault.RunFault.{RunFault}
+use Rattle.rx_wave.specs.declared.run_fault.RunFault.TheVariants as fault
+
+-- 1 to 64 workers
+abbrev pub are_workers : ℕ → Bool
+are_workers workers = nat_le 1 workers && nat_le workers 64
+
+-- the gate refuses to start one of two or more workers, who are numbered from 1
+pub record RefusesOne (starts : ℕ → Bool) (workers : ℕ) : Type 0 where
+  pub several : 2 ≤ workers
+  pub worker : ℕ
+  pub within : (1 ≤ worker) × (worker ≤ workers)
+  pub refused : starts worker ≡ false
+
+-- the number of a fault
+abbrev pub number_of : RunFault → ℕ
+number_of fault.Workers = 1
+number_of fault.Memory = 2
+number_of fault.Thread = 3

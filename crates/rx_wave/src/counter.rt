@@ -1,0 +1,78 @@
+use rx_adjudicate::{Done, Order};
+use rx_desk::{Desk, Next};
+use rx_fields::Memory;
+
+/// What a worker does next.
+#[derive(Debug, Drop)]
+pub(crate) enum Turn {
+    /// It adjudicates the order; `wakes` tells that another record can go beside it.
+    Go { order: Order, wakes: bool },
+    /// It waits: no record can go before one that is out has come back.
+    Wait,
+    /// It ends.
+    End,
+}
+
+/// What workers share under one lock: orders go out, and come back finished. Nothing is promised of it, for the answer of
+/// a run rests on the desk alone.
+pub(crate) trait Counter {
+    /// The next turn of a worker.
+    fn turn(&mut self) -> Turn;
+
+    /// A record comes back.
+    fn take_back(&mut self, made: Result<Done, (Order, Memory)>);
+
+    /// From now on every turn is the end.
+    fn stop(&mut self);
+}
+
+/// A desk that orders go out from until all are given, or the work is stopped.
+#[derive(Drop)]
+pub(crate) struct DeskCounter {
+    pub(crate) desk: Desk,
+    pub(crate) stopped: bool,
+    /// It was stopped for want of memory.
+    pub(crate) lacks_memory: bool,
+}
+
+impl DeskCounter {
+    fn stop_for_memory(&mut self) {
+        self.stopped = true;
+        self.lacks_memory = true;
+    }
+}
+
+impl Counter for DeskCounter {
+    fn turn(&mut self) -> Turn {
+        if self.stopped {
+            return Turn::End;
+        }
+        match self.desk.next() {
+            Next::Order(order) => Turn::Go {
+                order,
+                wakes: self.desk.is_ready(),
+            },
+            Next::Later => Turn::Wait,
+            Next::Over => Turn::End,
+            Next::Memory => {
+                self.stop_for_memory();
+                Turn::End
+            }
+        }
+    }
+
+    fn take_back(&mut self, made: Result<Done, (Order, Memory)>) {
+        match made {
+            Ok(done) => {
+                if self.desk.give(done).is_err() {
+                    self.stopped = true;
+                }
+            }
+            Err(_) => self.stop_for_memory(),
+        }
+    }
+
+    fn stop(&mut self) {
+        self.stopped = true;
+    }
+}

@@ -1,0 +1,219 @@
+ghost use Rattle.std.specs.Prelude.{◌≡◌, ◌<◌, ◌≤◌, ◌↔◌, Err, IfOk, IsTrue, false, length};
+ghost use Rattle.rx_ledger.specs.Fold.{fold_ledger, fold_replies};
+ghost use Rattle.rx_wave.specs.Workers.{RefusesOne, are_workers};
+
+use crate::counter::{Counter, DeskCounter, Turn};
+use crate::craft::{Adjudicates, Craft};
+use crate::gate::Gate;
+use crate::in_order::run_one;
+use crate::run_fault::RunFault;
+use rx_adjudicate::{Done, Order};
+use rx_books_kept::Books;
+use rx_claim::Transmission;
+use rx_desk::Desk;
+use rx_fields::{Lot, Memory};
+use rx_in_order::Finished;
+use rx_ledger::Sheet;
+use std::alloc::Global;
+use std::sync::{Condvar, Mutex, Wait};
+use std::thread;
+use std::thread::Threads;
+
+/// Adjudicates a batch with so many workers: the books after its records, and a reply to each, as if they had been
+/// adjudicated one after another in file order (docs/PRODUCT.md, "Rules of adjudication").
+///
+/// One worker is `run_one`. More share one desk under one lock, and each adjudicates outside of it, between `enter` and
+/// `leave` of the gate. Where no answer comes of the desk, `run_one` gives it.
+///
+/// # Errors
+///
+/// Workers, first of all, where their number isn't 1 to 64; Memory; Thread, only where the gate refuses to start one of
+/// two or more workers. Those that were started have ended then.
+pub fn run_waves<R: Threads + Wait + Sync, G: Gate + Sync>(
+    rt: &R,
+    alloc: Global,
+    gate: &G,
+    workers: u16,
+    lot: Lot,
+    sheet: &Sheet,
+    books: &Books,
+    transmissions: &[Transmission],
+) -> Result<Finished, RunFault>
+    requires period { books.now.period ≡ sheet.now.figures.period }
+    requires few { length transmissions.now ≤ 100_000 }
+    ensures books { IfOk result (λ finished. finished.books ≡ record {
+      period = sheet.now.figures.period;
+      ledger = fold_ledger lot sheet.now 1 transmissions.now books.now.ledger;
+    }) }
+    ensures replies { IfOk result (λ finished.
+        finished.replies.items ≡ fold_replies lot sheet.now 1 transmissions.now books.now.ledger) }
+    ensures workers { result ≡ Err RunFault.Workers ↔ are_workers workers ≡ false }
+    ensures thread { result ≡ Err RunFault.Thread → RefusesOne (G.starts gate.now) workers }
+{
+    if workers < 1 || workers > 64 {
+        return Err(RunFault::Workers);
+    }
+    if workers == 1 {
+        return Ok(run_one(gate, alloc, lot, sheet, books, transmissions)?);
+    }
+    let desk = desk_of(alloc, lot, sheet, books, transmissions)?;
+    let desk = worked_off(rt, alloc, gate, &Adjudicates, workers, desk)?;
+    if desk.job_is(lot, sheet, books, transmissions) {
+        if let Ok(finished) = desk.close() {
+            return Ok(finished);
+        }
+    }
+    Ok(run_one(gate, alloc, lot, sheet, books, transmissions)?)
+}
+
+// A desk of its own copies.
+fn desk_of(
+    alloc: Global,
+    lot: Lot,
+    sheet: &Sheet,
+    books: &Books,
+    transmissions: &[Transmission],
+) -> Result<Desk, Memory>
+    requires period { books.now.period ≡ sheet.now.figures.period }
+    requires few { length transmissions.now ≤ 100_000 }
+{
+    let books = books.copy(alloc, sheet.period())?;
+    let transmissions = copies(alloc, transmissions)?;
+    Desk::new(alloc, lot, sheet, books, transmissions)
+}
+
+// Equal transmissions, in the same order.
+fn copies(alloc: Global, transmissions: &[Transmission]) -> Result<Vec<Transmission>, Memory>
+    ensures { IfOk result (λ copies. copies.items ≡ transmissions.now) }
+{
+    let mut copies = Vec::with_capacity(alloc, transmissions.len())?;
+    for transmission in transmissions {
+        copies.push(transmission.copy(alloc)?)?;
+    }
+    Ok(copies)
+}
+
+/// The desk, after so many workers took what it handed out and gave it back.
+pub(crate) fn worked_off<R: Threads + Wait + Sync, G: Gate + Sync, W: Craft + Sync>(
+    rt: &R,
+    alloc: Global,
+    gate: &G,
+    craft: &W,
+    workers: u16,
+    desk: Desk,
+) -> Result<Desk, RunFault>
+    requires several { 2 ≤ workers }
+    ensures workers { result ≡ Err RunFault.Workers → ⊥ }
+    ensures thread { result ≡ Err RunFault.Thread → RefusesOne (G.starts gate.now) workers }
+{
+    let shared = Mutex::new(DeskCounter {
+        desk,
+        stopped: false,
+        lacks_memory: false,
+    });
+    let changed = Condvar::new();
+    let refused = start_all(rt, alloc, gate, craft, workers as usize, &shared, &changed);
+    let DeskCounter {
+        desk,
+        lacks_memory,
+        ..
+    } = shared.into_inner();
+    if lacks_memory {
+        return Err(RunFault::Memory);
+    }
+    if refused {
+        return Err(RunFault::Thread);
+    }
+    Ok(desk)
+}
+
+// Starts the workers and waits until all have ended; true where the gate refused one.
+fn start_all<R: Threads + Wait + Sync, G: Gate + Sync, W: Craft + Sync, C: Counter + Send>(
+    rt: &R,
+    alloc: Global,
+    gate: &G,
+    craft: &W,
+    workers: usize,
+    shared: &Mutex<C>,
+    changed: &Condvar,
+) -> bool
+    requires several { 2 ≤ workers }
+    requires few { workers < 65_536 }
+    ensures { IsTrue result → RefusesOne (G.starts gate.now) workers }
+{
+    thread::scope(
+        thread::scope_env(),
+        rt,
+        |scope| -> bool
+            requires several { 2 ≤ workers }
+            requires few { workers < 65_536 }
+            ensures { IsTrue result → RefusesOne (G.starts gate.entry.now) workers }
+        {
+            for worker in 1..workers + 1 {
+                if !gate.start(worker) {
+                    stop(rt, shared, changed);
+                    return true;
+                }
+                if scope
+                    .spawn(move || work(rt, alloc, gate, craft, shared, changed))
+                    .is_err()
+                {
+                    stop(rt, shared, changed);
+                    return false;
+                }
+            }
+            false
+        },
+    )
+}
+
+// Has every worker end at its next turn.
+fn stop<R: Wait, C: Counter>(rt: &R, shared: &Mutex<C>, changed: &Condvar) {
+    shared.lock(rt).stop();
+    changed.notify_all();
+}
+
+// The work of one thread. It wakes the others where a record is left for them, and where it ends; where it waits itself,
+// another has a record out, and goes on after that.
+fn work<R: Wait, G: Gate, W: Craft, C: Counter>(
+    rt: &R,
+    alloc: Global,
+    gate: &G,
+    craft: &W,
+    shared: &Mutex<C>,
+    changed: &Condvar,
+) {
+    let mut guard = shared.lock(rt);
+    for _ in rt.forever() {
+        match guard.turn() {
+            Turn::Go { order, wakes } => {
+                if wakes {
+                    changed.notify_all();
+                }
+                drop(guard);
+                let made = made_of(alloc, gate, craft, order);
+                guard = shared.lock(rt);
+                guard.take_back(made);
+            }
+            Turn::Wait => guard = changed.wait(rt, guard),
+            Turn::End => {
+                changed.notify_all();
+                return;
+            }
+        }
+    }
+}
+
+// What is made of an order, between the two calls of the gate.
+fn made_of<G: Gate, W: Craft>(
+    alloc: Global,
+    gate: &G,
+    craft: &W,
+    order: Order,
+) -> Result<Done, (Order, Memory)> {
+    let place = order.place() as usize;
+    gate.enter(place);
+    let made = craft.make(alloc, order);
+    gate.leave(place);
+    made
+}

@@ -1,0 +1,216 @@
+#!/usr/bin/env python3
+"""Checks that the pages tell what is there: calls, crates, paths and headings.
+
+    python3 tests/check_docs.py [FOLDER]
+
+- Each call in docs/CALLS.md under a crate's heading is a public call of that crate, or of one that it passes on, with these
+  parameters and this answer. Of parameters the types are compared; `alloc`, `rt` and `self` are left out on both sides, and
+  a parameter that is told by its name alone (`workers`) by that name.
+- Each crate of crates.txt has one line in docs/MAP.md, with the libraries that it uses.
+- Each path in a page is there, and each heading, or term in bold, that a page or the code names stands in the page that it
+  names.
+
+The last line is `N passed, M failed`; the exit status is 1 where M isn't 0.
+"""
+
+import pathlib
+import re
+import sys
+
+CALL = re.compile(r"`(?P<name>[A-Za-z_:]+)(?:<[^`(]*>)?\((?P<parameters>[^`]*?)\)(?: -> (?P<answer>[^`]+))?`")
+FUNCTION = re.compile(r"(?:pub )?fn (?P<name>\w+)\s*(?:<(?P<generics>[^{;]*?)>)?\((?P<parameters>.*?)\)"
+                      r"(?:\s*->\s*(?P<answer>.*?))?\s*(?=\brequires\b|\bensures\b|\{|;\s*\n)", re.S)
+HEADING = re.compile(r"^#+ (.+)$|\*\*([^*\n]+?)\.?\*\*", re.M)
+REFERENCE = re.compile(r"`?(docs/[A-Z]+\.md)`?(?: says under)?, \"([^\"]+)\"|`(docs/[A-Z]+\.md)` says under \"([^\"]+)\"")
+PATH = re.compile(r"`((?:docs|crates|tests|bench|examples|\.ci)/[A-Za-z0-9_./-]*)`")
+LINK = re.compile(r"\]\(([^)#\s]+)(?:#[^)]*)?\)")
+LEFT_OUT = {"alloc", "rt", "self", "&self", "&mut self", "mut self"}
+
+
+class Checks:
+    """Counts what holds, and prints what doesn't."""
+
+    def __init__(self):
+        self.passed = 0
+        self.failed = 0
+
+    def expect(self, holds, message):
+        if holds:
+            self.passed += 1
+        else:
+            self.failed += 1
+            print(message)
+
+
+def split_at_commas(text):
+    """The parts of a list, at the commas that stand outside of brackets."""
+    parts, depth, part = [], 0, ""
+    for at, character in enumerate(text):
+        if character in "(<[{":
+            depth += 1
+        elif character in ")]}" or (character == ">" and text[at - 1] != "-"):
+            depth -= 1
+        if character == "," and depth == 0:
+            parts.append(part)
+            part = ""
+        else:
+            part += character
+    parts.append(part)
+    return [part.strip() for part in parts if part.strip()]
+
+
+def plain_type(text):
+    """A type without spaces, lifetimes and `mut`; `AllocError` is the same as `Memory`."""
+    text = re.sub(r"'\w+\s*,?\s*|<'\w+>", "", text)
+    text = re.sub(r"<\s*>", "", text).replace("AllocError", "Memory")
+    return re.sub(r"\s+|\bmut\b|\bimpl\b", "", text)
+
+
+def parameters_of(text):
+    """A function's parameters as (name, type), without those that the pages leave out."""
+    found = []
+    for parameter in split_at_commas(text):
+        if parameter in LEFT_OUT:
+            continue
+        name, _, kind = parameter.partition(":")
+        name = name.replace("mut ", "").strip()
+        if name not in LEFT_OUT and not kind.strip().startswith("Global"):
+            found.append((name, plain_type(kind)))
+    return found
+
+
+def functions_of(crate):
+    """The functions of a crate that may be public, by name, each with its parameters and its answer."""
+    found = {}
+    for path in sorted(crate.glob("src/**/*.rt")):
+        text = re.sub(r"//[^\n]*", "", path.read_text())
+        for match in FUNCTION.finditer(text):
+            answer = plain_type(match["answer"] or "")
+            found.setdefault(match["name"], []).append((parameters_of(match["parameters"]), answer))
+    return found
+
+
+def same_parameter(told, there):
+    name, kind = there
+    told = plain_type(re.sub(r"^\w+: | \{.*\}", "", told))
+    bare = told.lstrip("&")
+    if bare == name or bare == ".." or kind == told:
+        return True
+    # A type told without its module or generic parameters, or a type parameter by its trait.
+    return kind.lstrip("&") == bare or re.sub(r"<.*>", "", kind) == told or len(kind.lstrip("&")) == 1
+
+
+def same_answer(told, there):
+    return plain_type(re.sub(r" \{.*\}", "", told)) == there
+
+
+def meets(told_parameters, told_answer, functions):
+    """Whether one of the functions is the one that is told."""
+    told = [parameter for parameter in split_at_commas(told_parameters) if parameter not in LEFT_OUT]
+    for parameters, answer in functions:
+        if told_answer and not same_answer(told_answer, answer):
+            continue
+        open_end = told[-1:] == [".."]
+        if open_end:
+            told_now, parameters = told[:-1], parameters[: len(told) - 1]
+        else:
+            told_now = told
+        if len(told_now) == len(parameters) and all(map(same_parameter, told_now, parameters)):
+            return True
+    return False
+
+
+def passed_on(crate, crates):
+    """The crate and those whose names it passes on."""
+    names = [crate]
+    for path in (crates / crate / "src").glob("*.rt"):
+        names += re.findall(r"pub use (rx_\w+)::", path.read_text())
+    return names
+
+
+def check_calls(root, checks):
+    page = (root / "docs/CALLS.md").read_text()
+    for section in re.split(r"^## ", page, flags=re.M)[1:]:
+        heading, _, text = section.partition("\n")
+        crates = [name for name in re.findall(r"\brx\w+", heading)]
+        if not crates:
+            continue
+        functions = {}
+        for crate in crates:
+            for name in passed_on(crate, root / "crates"):
+                for function, signatures in functions_of(root / "crates" / name).items():
+                    functions.setdefault(function, []).extend(signatures)
+        for match in CALL.finditer(text):
+            name = match["name"].split("::")[-1]
+            if name[0].isupper():
+                continue
+            there = functions.get(name)
+            told = match[0].strip("`")
+            checks.expect(there is not None and meets(match["parameters"], match["answer"], there),
+                          f"docs/CALLS.md: {heading}: {told}: " + ("no such call" if there is None else f"it is {there}"))
+
+
+def libraries(root):
+    """The libraries of each crate, as crates.txt has them."""
+    found = {}
+    for line in (root / "crates.txt").read_text().splitlines():
+        if line.strip() and not line.startswith("#"):
+            name, _, uses = line.partition(":")
+            found[name.split()[0]] = uses.split()
+    return found
+
+
+def check_crates(root, checks):
+    page = (root / "docs/MAP.md").read_text()
+    told = {}
+    for line in page.splitlines():
+        match = re.match(r"\| `(\w+)` \| .* \| ([^|]*) \|$", line)
+        if match:
+            told[match[1]] = [name.strip("`") for name in re.findall(r"`(\w+)`|(?<![`\w])(\w+)", match[2]) for name in name if name]
+    for crate, uses in libraries(root).items():
+        checks.expect((root / "crates" / crate / "src").is_dir(), f"crates.txt: {crate}: no such crate")
+        checks.expect(crate in told, f"docs/MAP.md: {crate}: no line")
+        checks.expect(sorted(told.get(crate, [])) == sorted(uses),
+                      f"docs/MAP.md: {crate}: stands on {' '.join(uses)}, told {' '.join(told.get(crate, []))}")
+    for crate in told:
+        checks.expect(crate in libraries(root), f"docs/MAP.md: {crate}: crates.txt has no such crate")
+
+
+def headings_of(page):
+    """What a page can be quoted by: its headings, and its terms in bold."""
+    return {re.sub(r"[`*]", "", "".join(match)) for match in HEADING.findall(page)}
+
+
+def check_places(root, checks):
+    pages = sorted(root.glob("docs/*.md")) + [path for path in (
+        root / "README.md", root / "bench/README.md", root / "tests/README.md") if path.exists()]
+    headings = {path.relative_to(root).as_posix(): headings_of(path.read_text()) for path in pages}
+    for page in pages:
+        text, name = page.read_text(), page.relative_to(root).as_posix()
+        for path in PATH.findall(text):
+            generated = path.startswith(("crates/rxbatch/out", "crates/NAME"))
+            checks.expect(generated or (root / path).exists(), f"{name}: {path}: no such path")
+        for link in LINK.findall(text):
+            checks.expect("://" in link or (page.parent / link).exists(), f"{name}: {link}: no such file")
+    sources = pages + sorted(root.glob("crates/*/src/**/*.rt")) + sorted(root.glob("crates/*/specs/**/*.antt"))
+    for source in sources:
+        text = re.sub(r"\n\s*(//[/!]?|--) ", " ", source.read_text())
+        for match in REFERENCE.finditer(text):
+            page, heading = (match[1], match[2]) if match[1] else (match[3], match[4])
+            there = headings.get(page)
+            holds = there is not None and re.sub(r"[`*]", "", heading) in there
+            checks.expect(holds, f"{source.relative_to(root)}: {page} has no heading {heading!r}")
+
+
+def main():
+    root = pathlib.Path(sys.argv[1] if len(sys.argv) > 1 else pathlib.Path(__file__).parent.parent)
+    checks = Checks()
+    check_calls(root, checks)
+    check_crates(root, checks)
+    check_places(root, checks)
+    print(f"{checks.passed} passed, {checks.failed} failed")
+    return 1 if checks.failed else 0
+
+
+if __name__ == "__main__":
+    sys.exit(main())
