@@ -27,6 +27,3 @@ mod unique;
 
 pub use fault::{GiveFault, TakeFault};
 pub use shelf::Shelf;
-
-#[cfg(test)]
-mod tests;
