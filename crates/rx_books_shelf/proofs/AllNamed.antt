@@ -22,14 +22,16 @@ all_taken zero (x ∷ xs) h = absurd (omega (arith, h))
 all_taken (suc i) (x ∷ xs) h = ap (λ ys. x ∷ ys) (all_taken i xs (omega (arith, h)))
 
 pub keys_are : (footprints : List FootprintParts) → All IsFootprint footprints → (ks : List Key) → IsAscending key_cmp itself ks
-    → ((k : Key) → contains_key key_cmp itself ks k ≡ contains_key key_cmp itself (flat_map (λ (F : FootprintParts). F.keys) footprints) k)
+    → ((k : Key) → contains_key key_cmp itself ks k ≡ contains_key key_cmp itself (flat_map (λ (F : FootprintParts). F.keys)
+    footprints) k)
     → ks ≡ all_keys footprints
 keys_are footprints all ks rise has =
     gathered_is key_cmp key_total key_exact (λ (F : FootprintParts). F.keys) footprints ks
     (All-weaker IsFootprint (λ F. IsAscending key_cmp itself F.keys) (λ F is. is.keys_rise) footprints all) rise has
 
 pub families_are : (footprints : List FootprintParts) → All IsFootprint footprints → (fs : List (List ℕ)) → IsAscending id_cmp itself fs
-    → ((f : List ℕ) → contains_key id_cmp itself fs f ≡ contains_key id_cmp itself (flat_map (λ (F : FootprintParts). F.families) footprints) f)
+    → ((f : List ℕ) → contains_key id_cmp itself fs f ≡ contains_key id_cmp itself (flat_map (λ (F : FootprintParts). F.families)
+    footprints) f)
     → fs ≡ all_families footprints
 families_are footprints all fs rise has =
     gathered_is id_cmp id_total id_exact (λ (F : FootprintParts). F.families) footprints fs

@@ -36,7 +36,8 @@ pub brought_row : (o : OpenParts) (p : KeyPlace) (r : Row) → IsAscending key_c
     → row_held p ≡ Some r → open_with (open_without o p.key) r ≡ with_place o p
 brought_row o p r rise own e =
     let rows = o.books.ledger.rows in
-    let put_in : put key_cmp row_key (without key_cmp row_key rows p.key) r ≡ written key_cmp row_key place_key row_held rows p.key (row_held p) =
+    let put_in : put key_cmp row_key (without key_cmp row_key rows p.key) r ≡ written key_cmp row_key place_key row_held rows p.key
+    (row_held p) =
     ap (λ k. put key_cmp row_key (without key_cmp row_key rows k) r) (sym (own_key p r own e))
     ∙ put-without key_cmp key_total row_key rows r rise ∙ ap (written key_cmp row_key place_key row_held rows p.key) (sym e) in
     ap (λ rs. record o { books = record o.books { ledger = record o.books.ledger { rows = rs } } }) put_in

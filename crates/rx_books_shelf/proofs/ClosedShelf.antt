@@ -95,7 +95,8 @@ module _ (s : ShelfParts) (is : IsShelf s) where
       (all_of (is_member_held s) s.rest.members (λ m among. by_place m among (family_place s m.key.family) refl))
       (all_of (does_book_keep s) s.families each_book)
     where
-      by_place : (m : Member) → Contains s.rest.members m → (q : Option FamilyPlace) → family_place s m.key.family ≡ q → is_in_place q m ≡ true
+      by_place : (m : Member) → Contains s.rest.members m → (q : Option FamilyPlace) → family_place s m.key.family ≡ q
+          → is_in_place q m ≡ true
       by_place m among None e = refl
       by_place m among (Some p) e =
           let f = m.key.family in
@@ -120,7 +121,8 @@ module _ (s : ShelfParts) (is : IsShelf s) where
   closed = record { members = s.rest.members; rows = overlaid key_cmp row_key place_key row_held s.rest.rows s.keys }
 
   own_places : All (HoldsOwn key_cmp row_key place_key row_held) s.keys
-  own_places = All-weaker HoldsOwnRow (HoldsOwn key_cmp row_key place_key row_held) (λ p own. by_row p.key (row_held p) own) s.keys is.rows_own
+  own_places = All-weaker HoldsOwnRow (HoldsOwn key_cmp row_key place_key row_held) (λ p own. by_row p.key (row_held p) own) s.keys
+      is.rows_own
     where
       by_row : (k : Key) (o : Option Row) → IfSome o (λ (r : Row). r.key ≡ k) → IsUnder key_cmp row_key place_key row_held k o
       by_row k None own = tt
@@ -167,23 +169,28 @@ module _ (s : ShelfParts) (is : IsShelf s) where
 
     -- each book has its value
     pub values_closed : are_members_kept s ≡ true → (b : Book) → book b closed ≡ value_of s b
-    values_closed kept (OfKey k) = ledger_path (book (OfKey k) closed) (value_of s (OfKey k)) (no_members (key_place s k)) (rows_closed (OfKey k))
+    values_closed kept (OfKey k) = ledger_path (book (OfKey k) closed) (value_of s (OfKey k)) (no_members (key_place s k)) (rows_closed
+        (OfKey k))
       where
         none : (ms : List Member) → filter (has_member (OfKey k)) ms ≡ []
         none [] = refl
         none (m ∷ ms) = none ms
 
-        no_members : (q : Option KeyPlace) → filter (has_member (OfKey k)) s.rest.members ≡ (key_value_or q (book (OfKey k) s.rest)).members
+        no_members : (q : Option KeyPlace) → filter (has_member (OfKey k)) s.rest.members ≡ (key_value_or q (book (OfKey k)
+            s.rest)).members
         no_members None = refl
         no_members (Some p) = none s.rest.members
-    values_closed kept (OfFamily f) = ledger_path (book (OfFamily f) closed) (value_of s (OfFamily f)) (sym (same_as_beside kept f)) (rows_closed (OfFamily f))
+    values_closed kept (OfFamily f) = ledger_path (book (OfFamily f) closed) (value_of s (OfFamily f)) (sym (same_as_beside kept f))
+        (rows_closed (OfFamily f))
 
     -- ---- the rows that places hold are those of listed members
 
-    listed_in : (f : List ℕ) (k : MemberKey) → contains_key member_cmp member_key (members_of s.rest f) k ≡ true → is_listed s.rest k ≡ true
+    listed_in : (f : List ℕ) (k : MemberKey) → contains_key member_cmp member_key (members_of s.rest f) k ≡ true
+        → is_listed s.rest k ≡ true
     listed_in f k h = by_member (item_at member_cmp member_key (members_of s.rest f) k) refl h
       where
-        by_member : (o : Option Member) → item_at member_cmp member_key (members_of s.rest f) k ≡ o → is_some o ≡ true → is_listed s.rest k ≡ true
+        by_member : (o : Option Member) → item_at member_cmp member_key (members_of s.rest f) k ≡ o → is_some o ≡ true
+            → is_listed s.rest k ≡ true
         by_member None e w = absurd (let v : false ≡ true = w in cc)
         by_member (Some m) e w =
             let found = item_at-found member_cmp member_total member_key (members_of s.rest f) k m e in
@@ -191,7 +198,8 @@ module _ (s : ShelfParts) (is : IsShelf s) where
             ap is_some (sym (item_at-tied member_cmp member_total member_key s.rest.members m.key k found.1)
             ∙ item_at-from_contains member_cmp member_total member_key s.rest.members m is.rest_in_order.members_rise parts.0)
 
-    row_listed : are_members_kept s ≡ true → (r : Row) → Contains (value_of s (OfFamily r.family)).rows r → is_listed s.rest (member_of_row r) ≡ true
+    row_listed : are_members_kept s ≡ true → (r : Row) → Contains (value_of s (OfFamily r.family)).rows r
+        → is_listed s.rest (member_of_row r) ≡ true
     row_listed kept r among = by_place (family_place s r.family) refl among
       where
         by_book : (o : Option FamilyBook) → IfSome o (IsOwnBook s.period r.family) → Contains (ledger_of_family o).rows r
@@ -206,8 +214,10 @@ module _ (s : ShelfParts) (is : IsShelf s) where
             let parts = Contains-filter (claimed_by r.family) s.rest.rows r here in
             each (λ x. is_listed s.rest (member_of_row x)) s.rest.rows r is.rest_in_order.whole parts.0
         by_place (Some p) e here =
-            let at : family_value p ≡ value_of s (OfFamily r.family) = sym (ap (λ q. family_value_or q (book (OfFamily r.family) s.rest)) e) in
-            let members : (family_value p).members ≡ members_of s.rest r.family = ap (λ (M : Ledger). M.members) at ∙ same_as_beside kept r.family in
+            let at : family_value p ≡ value_of s (OfFamily r.family) = sym (ap (λ q. family_value_or q (book (OfFamily r.family)
+            s.rest)) e) in
+            let members : (family_value p).members ≡ members_of s.rest r.family = ap (λ (M : Ledger). M.members) at
+            ∙ same_as_beside kept r.family in
             listed_in r.family (member_of_row r) (subst (λ ms. contains_key member_cmp member_key ms (member_of_row r) ≡ true) members
             (by_book p.held (held_book_own s is r.family p e) here))
 
@@ -215,7 +225,8 @@ module _ (s : ShelfParts) (is : IsShelf s) where
     places_listed kept = All-weaker (Contains s.keys) (λ p. IfSome (row_held p) (λ r. is_listed s.rest (member_of_row r) ≡ true))
         (λ p among. by_row p among (row_held p) refl) s.keys (All-contains_itself s.keys)
       where
-        by_row : (p : KeyPlace) → Contains s.keys p → (o : Option Row) → row_held p ≡ o → IfSome o (λ (r : Row). is_listed s.rest (member_of_row r) ≡ true)
+        by_row : (p : KeyPlace) → Contains s.keys p → (o : Option Row) → row_held p ≡ o
+            → IfSome o (λ (r : Row). is_listed s.rest (member_of_row r) ≡ true)
         by_row p among None e = tt
         by_row p among (Some r) e =
             let at : key_place s p.key ≡ Some p = item_at-from_contains key_cmp key_total place_key s.keys p is.keys_rise among in

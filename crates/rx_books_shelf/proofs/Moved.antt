@@ -101,7 +101,8 @@ module _ {X K : Type 0} (cmp : K → K → Ordering) (order : IsTotalOrder cmp) 
     keeps_one : (k : K) (y : X) → key (one_at cmp key f k y) ≡ key y
     keeps_one k y = elim (cases_Bool (has_key cmp key k y)) [ inl t ↦ rw t (keeps y) | inr n ↦ rw n ]
 
-    pub item_over : (k j : K) (xs : List X) → item_at cmp key (over cmp key f k xs) j ≡ option_map (one_at cmp key f k) (item_at cmp key xs j)
+    pub item_over : (k j : K) (xs : List X) → item_at cmp key (over cmp key f k xs) j ≡ option_map (one_at cmp key f k) (item_at cmp
+        key xs j)
     item_over k j xs = item_at-map cmp order key key (one_at cmp key f k) (keeps_one k) xs j
 
     item_later : (k j : K) (xs : List X) → cmp k j ≡ Less → item_at cmp key (over cmp key f k xs) j ≡ item_at cmp key xs j

@@ -66,7 +66,8 @@ module _ (b : LedgerBooks) (footprints : List FootprintParts) where
   key_at k = item_at-map key_cmp key_total itself place_key (full_key_place b) (λ j. refl) (all_keys footprints) k
 
   family_at : (f : List ℕ) → family_place (shelf_of b footprints) f ≡ option_map (λ g. filled_place (family_book b g)) (family_found f)
-  family_at f = item_at-map id_cmp id_total itself place_family (λ g. filled_place (family_book b g)) (λ g. refl) (all_families footprints) f
+  family_at f = item_at-map id_cmp id_total itself place_family (λ g. filled_place (family_book b g)) (λ g. refl) (all_families
+      footprints) f
 
   -- ---- what they are worth
 
@@ -90,7 +91,8 @@ module _ (b : LedgerBooks) (footprints : List FootprintParts) where
 
     pub values_opened : (c : Book) → value_of (shelf_of b footprints) c ≡ book c b.ledger
     values_opened (OfKey k) = ap (λ o. key_value_or o (book (OfKey k) b.ledger)) (key_at k) ∙ key_worth k (key_found k) refl
-    values_opened (OfFamily f) = ap (λ o. family_value_or o (book (OfFamily f) b.ledger)) (family_at f) ∙ family_worth f (family_found f) refl
+    values_opened (OfFamily f) = ap (λ o. family_value_or o (book (OfFamily f) b.ledger)) (family_at f)
+        ∙ family_worth f (family_found f) refl
 
   -- ---- which have a place
 
@@ -122,13 +124,15 @@ module _ (b : LedgerBooks) (footprints : List FootprintParts) where
 
   rows_own : (ks : List Key) → All HoldsOwnRow (map (full_key_place b) ks)
   rows_own [] = All-nil HoldsOwnRow
-  rows_own (k ∷ ks) = All-cons HoldsOwnRow (full_key_place b k) (map (full_key_place b) ks) (by_row (row_under b.ledger k) refl) (rows_own ks)
+  rows_own (k ∷ ks) = All-cons HoldsOwnRow (full_key_place b k) (map (full_key_place b) ks) (by_row (row_under b.ledger k) refl)
+      (rows_own ks)
     where
       by_row : (o : Option Row) → row_under b.ledger k ≡ o → IfSome o (λ (r : Row). r.key ≡ k)
       by_row None e = tt
       by_row (Some r) e = let found = item_at-found key_cmp key_total row_key b.ledger.rows k r e in key_exact r.key k found.1
 
-  books_own : (fs : List (List ℕ)) → All IsOwn (map (family_book b) fs) → All (HoldsOwnBook b.period) (map (λ f. filled_place (family_book b f)) fs)
+  books_own : (fs : List (List ℕ)) → All IsOwn (map (family_book b) fs)
+      → All (HoldsOwnBook b.period) (map (λ f. filled_place (family_book b f)) fs)
   books_own [] own = All-nil (HoldsOwnBook b.period)
   books_own (f ∷ fs) own =
       All-cons (HoldsOwnBook b.period) (filled_place (family_book b f)) (map (λ g. filled_place (family_book b g)) fs)
@@ -140,7 +144,8 @@ module _ (b : LedgerBooks) (footprints : List FootprintParts) where
     rest_in_order = is;
     keys_rise = ascending_changed key_cmp itself place_key (full_key_place b) (λ k. refl) (all_keys footprints)
         (IsAscending-joined key_cmp key_total itself (map (λ (F : FootprintParts). F.keys) footprints));
-    families_rise = ascending_changed id_cmp itself place_family (λ g. filled_place (family_book b g)) (λ g. refl) (all_families footprints)
+    families_rise = ascending_changed id_cmp itself place_family (λ g. filled_place (family_book b g)) (λ g. refl) (all_families
+        footprints)
         (IsAscending-joined id_cmp id_total itself (map (λ (F : FootprintParts). F.families) footprints));
     rows_own = rows_own (all_keys footprints);
     books_own = books_own (all_families footprints) own;
@@ -161,12 +166,14 @@ opened_parts b c footprints ks fs books places others same ek ef pk bf pf =
     whole ∙ ap (λ d. shelf_of d footprints) same
 
 pub shelf_opened_from : (b c : LedgerBooks) (footprints : List FootprintParts) (fs : List (List ℕ)) (books : List FamilyBook) → c ≡ b
-    → fs ≡ all_families footprints → books ≡ map (family_book c) fs → IsLedger c.ledger → All IsOwn books → IsShelf (shelf_of b footprints)
+    → fs ≡ all_families footprints → books ≡ map (family_book c) fs → IsLedger c.ledger → All IsOwn books
+    → IsShelf (shelf_of b footprints)
 shelf_opened_from b c footprints fs books same ef bf is own = shelf_opened b footprints
     (subst (λ (d : LedgerBooks). IsLedger d.ledger) same is)
     (subst (All IsOwn) (bf ∙ ap (map (family_book c)) ef ∙ ap (λ d. map (family_book d) (all_families footprints)) same) own)
 
-pub slots_there : (slots : List Key) (b : LedgerBooks) (ks : List Key) → All (Contains slots) ks → All (HasSlot slots) (map (full_key_place b) ks)
+pub slots_there : (slots : List Key) (b : LedgerBooks) (ks : List Key) → All (Contains slots) ks
+    → All (HasSlot slots) (map (full_key_place b) ks)
 slots_there slots b [] all = All-nil (HasSlot slots)
 slots_there slots b (k ∷ ks) all =
     All-cons (HasSlot slots) (full_key_place b k) (map (full_key_place b) ks) (All-head (Contains slots) k ks all)

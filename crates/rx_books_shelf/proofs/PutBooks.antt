@@ -33,7 +33,8 @@ map_itself : {A : Type 0} (xs : List A) → map (λ x. x) xs ≡ xs
 map_itself [] = refl
 map_itself (x ∷ xs) = ap (λ ys. x ∷ ys) (map_itself xs)
 
-All-mapped : {A B : Type 0} (P : A → Type 0) (Q : B → Type 0) (f : A → B) → ((x : A) → P x → Q (f x)) → (xs : List A) → All P xs → All Q (map f xs)
+All-mapped : {A B : Type 0} (P : A → Type 0) (Q : B → Type 0) (f : A → B) → ((x : A) → P x → Q (f x)) → (xs : List A) → All P xs
+    → All Q (map f xs)
 All-mapped P Q f h [] all = All-nil Q
 All-mapped P Q f h (x ∷ xs) all =
     All-cons Q (f x) (map f xs) (h x (All-head P x xs all)) (All-mapped P Q f h xs (All-tail P x xs all))
@@ -79,7 +80,8 @@ member_at_place m bs i b rise is_at is =
     ∙ set_over id_cmp id_total id_exact family_of (λ c. book_with_member c m) m.key.family bs i b rise is_at
     ∙ map_same (one_at id_cmp family_of (λ c. book_with_member c m) m.key.family) (with_own_member m) (own_member m) bs
 
-pub member_nowhere : (m : Member) (bs : List FamilyBook) → item_at id_cmp family_of bs m.key.family ≡ None → bs ≡ map (with_own_member m) bs
+pub member_nowhere : (m : Member) (bs : List FamilyBook) → item_at id_cmp family_of bs m.key.family ≡ None
+    → bs ≡ map (with_own_member m) bs
 member_nowhere m bs none =
     sym (over_absent id_cmp id_total id_exact family_of (λ c. book_with_member c m) m.key.family bs none)
     ∙ map_same (one_at id_cmp family_of (λ c. book_with_member c m) m.key.family) (with_own_member m) (own_member m) bs
@@ -97,11 +99,13 @@ row_nowhere r bs none =
     ∙ map_same (one_at id_cmp family_of (λ c. book_with_row c r) r.family) (with_own_row r) (own_row r) bs
 
 -- the book at the place of a family is the family's
-pub family_at_place : (bs : List FamilyBook) (f : List ℕ) (i : ℕ) (b : FamilyBook) → IsAt id_cmp family_of bs f i → b ≡ get_or bs i b → b.family ≡ f
+pub family_at_place : (bs : List FamilyBook) (f : List ℕ) (i : ℕ) (b : FamilyBook) → IsAt id_cmp family_of bs f i → b ≡ get_or bs i b
+    → b.family ≡ f
 family_at_place bs f i b is_at is = ap family_of is ∙ id_exact (family_of (get_or bs i b)) f (is_at.has_it b)
 
 -- a fact of each book is one of this
-pub of_book : (P : FamilyBook → Type 0) (bs : List FamilyBook) (f : List ℕ) (i : ℕ) (b : FamilyBook) → All P bs → IsAt id_cmp family_of bs f i
+pub of_book : (P : FamilyBook → Type 0) (bs : List FamilyBook) (f : List ℕ) (i : ℕ) (b : FamilyBook) → All P bs
+    → IsAt id_cmp family_of bs f i
     → b ≡ get_or bs i b → P b
 of_book P bs f i b all is_at is = subst P (sym is) (all i b is_at.in_range)
 
@@ -119,7 +123,8 @@ with_all ms b = record b { members = put_all member_cmp member_key b.members (fi
 
 members_put_are : (ms : List Member) (bs : List FamilyBook) → members_put ms bs ≡ map (with_all ms) bs
 members_put_are [] bs = sym (map_itself bs)
-members_put_are (m ∷ ms) bs = members_put_are ms (map (with_own_member m) bs) ∙ map_map (with_all ms) (with_own_member m) bs ∙ map_same _ _ one bs
+members_put_are (m ∷ ms) bs = members_put_are ms (map (with_own_member m) bs) ∙ map_map (with_all ms) (with_own_member m) bs
+    ∙ map_same _ _ one bs
   where
     one : (b : FamilyBook) → with_all ms (with_own_member m b) ≡ with_all (m ∷ ms) b
     one b = elim (cases_Bool (of_family b.family m)) [ inl t ↦ rw t refl | inr n ↦ rw n refl ]
@@ -172,7 +177,8 @@ pub past_first : (m : Member) (rest : List Member) (bs : List FamilyBook) → Al
 past_first m rest bs all = All-weaker (Past (m ∷ rest)) (λ (b : FamilyBook). is_past member_cmp member_key b.members m.key ≡ true)
     (λ b past. All-head (λ (x : Member). is_past member_cmp member_key b.members x.key ≡ true) m rest past) bs all
 
-pub rise_with_member : (m : Member) (bs : List FamilyBook) → IsAscending id_cmp family_of bs → IsAscending id_cmp family_of (map (with_own_member m) bs)
+pub rise_with_member : (m : Member) (bs : List FamilyBook) → IsAscending id_cmp family_of bs
+    → IsAscending id_cmp family_of (map (with_own_member m) bs)
 rise_with_member m bs rise = ascending_changed id_cmp family_of family_of (with_own_member m) same bs rise
   where
     same : (b : FamilyBook) → family_of (with_own_member m b) ≡ family_of b
@@ -207,7 +213,8 @@ with_all_rows rs b = record b { rows = put_all key_cmp row_key b.rows (filter (c
 
 rows_put_are : (rs : List Row) (bs : List FamilyBook) → rows_put rs bs ≡ map (with_all_rows rs) bs
 rows_put_are [] bs = sym (map_itself bs)
-rows_put_are (r ∷ rs) bs = rows_put_are rs (map (with_own_row r) bs) ∙ map_map (with_all_rows rs) (with_own_row r) bs ∙ map_same _ _ one bs
+rows_put_are (r ∷ rs) bs = rows_put_are rs (map (with_own_row r) bs) ∙ map_map (with_all_rows rs) (with_own_row r) bs
+    ∙ map_same _ _ one bs
   where
     one : (b : FamilyBook) → with_all_rows rs (with_own_row r b) ≡ with_all_rows (r ∷ rs) b
     one b = elim (cases_Bool (claimed_by b.family r)) [ inl t ↦ rw t refl | inr n ↦ rw n refl ]
@@ -225,7 +232,8 @@ free_all rows r (x ∷ rest) below all =
     let Q : Row → Type 0 = λ y. contains_key key_cmp row_key (put key_cmp row_key rows r) y.key ≡ false in
     let other : has_key key_cmp row_key x.key r ≡ false = ap is_eq below.0 in
     let first : contains_key key_cmp row_key (put key_cmp row_key rows r) x.key ≡ false =
-    contains_key-put key_cmp key_total row_key rows r x.key ∙ ap (λ t. t || contains_key key_cmp row_key rows x.key) other ∙ All-head P x rest all in
+    contains_key-put key_cmp key_total row_key rows r x.key ∙ ap (λ t. t || contains_key key_cmp row_key rows x.key) other
+    ∙ All-head P x rest all in
     All-cons Q x rest first (free_all rows r rest below.1 (All-tail P x rest all))
 
 pub free_kept : (r : Row) (rest : List Row) → IsBelow key_cmp row_key r.key rest → (b : FamilyBook) → Free (r ∷ rest) b
@@ -259,7 +267,8 @@ free_first r rest bs all = All-weaker (Free (r ∷ rest)) (λ (b : FamilyBook). 
 same_family : (r : Row) (b : FamilyBook) → family_of (with_own_row r b) ≡ family_of b
 same_family r b = elim (cases_Bool (claimed_by b.family r)) [ inl t ↦ rw t refl | inr n ↦ rw n refl ]
 
-pub rise_with_row : (r : Row) (bs : List FamilyBook) → IsAscending id_cmp family_of bs → IsAscending id_cmp family_of (map (with_own_row r) bs)
+pub rise_with_row : (r : Row) (bs : List FamilyBook) → IsAscending id_cmp family_of bs
+    → IsAscending id_cmp family_of (map (with_own_row r) bs)
 rise_with_row r bs rise = ascending_changed id_cmp family_of family_of (with_own_row r) (same_family r) bs rise
 
 -- each book has all members of its family
@@ -285,7 +294,8 @@ listed_first L rise r listed bs all = All-weaker (HasMembers L)
     by_member f same (Some m) e h =
         let found = item_at-found member_cmp member_total member_key L.members (member_of_row r) m e in
         let key : m.key ≡ member_of_row r = member_exact m.key (member_of_row r) found.1 in
-        let own : of_family f m ≡ true = ap is_eq (ap (λ (k : MemberKey). id_cmp k.family f) key ∙ ap (id_cmp r.family) same ∙ tied_itself id_total r.family) in
+        let own : of_family f m ≡ true = ap is_eq (ap (λ (k : MemberKey). id_cmp k.family f) key ∙ ap (id_cmp r.family) same
+        ∙ tied_itself id_total r.family) in
         ap is_some (item_at-filter_kept member_cmp member_total member_key (of_family f) L.members (member_of_row r) m rise e own)
 
     one : (b : FamilyBook) → HasMembers L b → b.family ≡ r.family → is_listed (own_ledger b) (member_of_row r) ≡ true

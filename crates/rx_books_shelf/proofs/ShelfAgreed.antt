@@ -73,7 +73,8 @@ module _ (s : ShelfParts) (is : IsShelf s) where
 
   stands_then : (b : Book) (r : Row) → stands_in s b r ≡ true → Contains (value_of s b).rows r
   stands_then b r told =
-      let found = item_at-found key_cmp key_total row_key (value_of s b).rows r.key r (found_is r (row_under (value_of s b) r.key) told) in
+      let found = item_at-found key_cmp key_total row_key (value_of s b).rows r.key r (found_is r (row_under (value_of s b) r.key)
+      told) in
       found.0
 
   -- ---- from the tests
@@ -105,7 +106,8 @@ module _ (s : ShelfParts) (is : IsShelf s) where
     all_stand : (b : Book) (r : Row) → Contains (value_of s b).rows r → stands s r ≡ true
     all_stand (OfKey k) r among = by_place (key_place s k) refl among
       where
-        by_place : (q : Option KeyPlace) → key_place s k ≡ q → Contains (key_value_or q (book (OfKey k) s.rest)).rows r → stands s r ≡ true
+        by_place : (q : Option KeyPlace) → key_place s k ≡ q → Contains (key_value_or q (book (OfKey k) s.rest)).rows r
+            → stands s r ≡ true
         by_place (Some p) e here =
             let found = item_at-found key_cmp key_total place_key s.keys k p e in
             let test : row_stands s (row_held p) ≡ true = each (λ q. row_stands s (row_held q)) s.keys p inner.1 found.0 in
@@ -146,7 +148,8 @@ module _ (s : ShelfParts) (is : IsShelf s) where
           let theirs : Contains (value_of s (OfKey r.key)).rows t =
           subst (λ k. Contains (value_of s (OfKey k)).rows t) same (under_key c t there) in
           let value = shelf_value s is (OfKey r.key) in
-          same_item key_cmp key_total row_key (value_of s (OfKey r.key)).rows r t value.order.rows_rise mine theirs (Equal-from_is_eq _ tied);
+          same_item key_cmp key_total row_key (value_of s (OfKey r.key)).rows r t value.order.rows_rise mine theirs (Equal-from_is_eq _
+          tied);
       everywhere = every;
     }
       where

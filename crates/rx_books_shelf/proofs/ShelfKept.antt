@@ -23,6 +23,7 @@ use Rattle.rx_parcels.specs.Books.{OfFamily, OfKey}
 use Rattle.rx_parcels.specs.FamilyBook.{FamilyBook, IsOwn, family_of}
 use Rattle.rx_parcels.specs.Footprints.{FootprintParts, itself}
 use Rattle.rx_parcels.specs.Parcels.{HasOwnRow, IsParcel, ParcelParts, key_of, named_in}
+use Rattle.rx_books_kept.specs.LedgerBooks.{LedgerBooks}
 use Rattle.rx_places.specs.declared.place.FamilyPlace.{FamilyPlace}
 use Rattle.rx_places.specs.declared.place.KeyPlace.{KeyPlace}
 use Rattle.rx_places.specs.Shelves.{HoldsOwnBook, HoldsOwnRow, IsOwnBook, IsShelf, ShelfParts, is_family_out, is_key_out}
@@ -67,7 +68,8 @@ pub shelf_taken : (s : ShelfParts) (F : FootprintParts) → IsShelf s → IsShel
 shelf_taken s F is = record {
   rest_in_order = is.rest_in_order;
   keys_rise = ascending_changed key_cmp place_key place_key (key_taken F.keys) (key_stays F.keys) s.keys is.keys_rise;
-  families_rise = ascending_changed id_cmp place_family place_family (family_taken F.families) (family_stays F.families) s.families is.families_rise;
+  families_rise = ascending_changed id_cmp place_family place_family (family_taken F.families) (family_stays F.families) s.families
+      is.families_rise;
   rows_own = All-changed HoldsOwnRow (key_taken F.keys) (row_stays_own F.keys) s.keys is.rows_own;
   books_own = All-changed (HoldsOwnBook s.period) (family_taken F.families) (book_stays_own s.period F.families) s.families is.books_own;
 }
@@ -116,7 +118,8 @@ module _ (s : ShelfParts) (p : ParcelParts) (is : IsShelf s) (books : IsParcel p
   shelf_given = record {
     rest_in_order = is.rest_in_order;
     keys_rise = ascending_changed key_cmp place_key place_key (key_given p.keys) key_stays_given s.keys is.keys_rise;
-    families_rise = ascending_changed id_cmp place_family place_family (family_given p.families) family_stays_given s.families is.families_rise;
+    families_rise = ascending_changed id_cmp place_family place_family (family_given p.families) family_stays_given s.families
+        is.families_rise;
     rows_own = All-changed HoldsOwnRow (key_given p.keys) row_given_own s.keys is.rows_own;
     books_own = All-changed (HoldsOwnBook s.period) (family_given p.families) book_given_own s.families is.books_own;
   }
@@ -163,7 +166,8 @@ module _ (period : Span) (ps : List FamilyPlace) (own : All (HoldsOwnBook period
       (All-weaker (IsOwnBook period f) P (λ b h. h.period_same) (family_book ps f) (read_own f)) (one_period fs)
 
   -- the books below a name
-  below_read : (k : List ℕ) (f : List ℕ) (bs : List FamilyBook) → id_cmp k f ≡ Less → All (IsOwnBook period f) bs → IsBelow id_cmp family_of k bs
+  below_read : (k : List ℕ) (f : List ℕ) (bs : List FamilyBook) → id_cmp k f ≡ Less → All (IsOwnBook period f) bs
+      → IsBelow id_cmp family_of k bs
   below_read k f [] less all = tt
   below_read k f (b ∷ bs) less all =
       let first = All-head (IsOwnBook period f) b bs all in
@@ -188,7 +192,11 @@ module _ (period : Span) (ps : List FamilyPlace) (own : All (HoldsOwnBook period
 
 -- ---- the parts of a shelf and of a parcel
 
-pub taken_parts : (s : ShelfParts) (F : FootprintParts) (ks : List Key) (fs : List (List ℕ)) (places : List KeyPlace) (others : List FamilyPlace)
+abbrev pub shelf_parts : LedgerBooks → List KeyPlace → List FamilyPlace → ShelfParts
+shelf_parts b keys families = record { period = b.period; rest = b.ledger; keys = keys; families = families }
+
+pub taken_parts : (s : ShelfParts) (F : FootprintParts) (ks : List Key) (fs : List (List ℕ)) (places : List KeyPlace)
+    (others : List FamilyPlace)
     → ks ≡ F.keys → fs ≡ F.families → places ≡ map (key_taken ks) s.keys → others ≡ map (family_taken fs) s.families
     → record { period = s.period; rest = s.rest; keys = places; families = others } ≡ taken_out s F
 taken_parts s F ks fs places others ek ef pk pf =
@@ -205,7 +213,8 @@ parcel_parts s F p period ks fs keys families is ep ek ef bk bf =
     let f : families ≡ flat_map (family_book s.families) F.families = bf ∙ ap (flat_map (family_book s.families)) ef in
     is ∙ (λ i. record { period = ep i; keys = k i; families = f i })
 
-pub given_parts : (s : ShelfParts) (p : ParcelParts) (ks bs : List KeyBook) (fs : List FamilyBook) (places : List KeyPlace) (others : List FamilyPlace)
+pub given_parts : (s : ShelfParts) (p : ParcelParts) (ks bs : List KeyBook) (fs : List FamilyBook) (places : List KeyPlace)
+    (others : List FamilyPlace)
     → bs ≡ ks → ks ≡ p.keys → fs ≡ p.families → places ≡ map (key_given bs) s.keys → others ≡ map (family_given fs) s.families
     → record { period = s.period; rest = s.rest; keys = places; families = others } ≡ put_back s p
 given_parts s p ks bs fs places others eb ek ef pk pf =
@@ -218,7 +227,8 @@ all_named : {A K : Type 0} (q : K → Bool) (key : A → K) (xs : List A) → li
 all_named q key [] = refl
 all_named q key (x ∷ xs) = ap (λ t. q (key x) && t) (all_named q key xs)
 
-pub named_out_first : (s : ShelfParts) (p : ParcelParts) (ks : List KeyBook) (fs : List FamilyBook) (one two : Bool) → ks ≡ p.keys → fs ≡ p.families
+pub named_out_first : (s : ShelfParts) (p : ParcelParts) (ks : List KeyBook) (fs : List FamilyBook) (one two : Bool) → ks ≡ p.keys
+    → fs ≡ p.families
     → one ≡ list_all (λ b. is_key_out (item_at key_cmp place_key s.keys b.key)) ks
     → two ≡ list_all (λ b. is_family_out (item_at id_cmp place_family s.families b.family)) fs
     → (one && two) ≡ are_out s (named_in p)
@@ -240,11 +250,13 @@ same_period a b told is no_more = let d = period_decides a b in d.0 (from_not (p
     from_not false h = cc
 
 -- the keys of places keep their slots
-pub slots_stay : (slots : List Key) (ks : List Key) (ps : List KeyPlace) → All (HasSlot slots) ps → All (HasSlot slots) (map (key_taken ks) ps)
+pub slots_stay : (slots : List Key) (ks : List Key) (ps : List KeyPlace) → All (HasSlot slots) ps
+    → All (HasSlot slots) (map (key_taken ks) ps)
 slots_stay slots ks ps all =
     All-changed (HasSlot slots) (key_taken ks) (λ p h. subst (Contains slots) (sym (key_stays ks p)) h) ps all
 
-pub slots_stay_given : (slots : List Key) (bs : List KeyBook) (ps : List KeyPlace) → All (HasSlot slots) ps → All (HasSlot slots) (map (key_given bs) ps)
+pub slots_stay_given : (slots : List Key) (bs : List KeyBook) (ps : List KeyPlace) → All (HasSlot slots) ps
+    → All (HasSlot slots) (map (key_given bs) ps)
 slots_stay_given slots bs ps all = All-changed (HasSlot slots) (key_given bs) one ps all
   where
     one : (p : KeyPlace) → HasSlot slots p → HasSlot slots (key_given bs p)

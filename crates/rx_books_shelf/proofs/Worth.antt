@@ -125,7 +125,8 @@ module _ (s : ShelfParts) (F : FootprintParts) (all : has_all s F ≡ true) wher
     | inr n ↦ rw n (refl, refl)
   ]
   taken_key k (Some p) e =
-      let same : contains_key key_cmp itself F.keys p.key ≡ names F (OfKey k) = ap (contains_key key_cmp itself F.keys) (key_named s k p e) in
+      let same : contains_key key_cmp itself F.keys p.key ≡ names F (OfKey k) = ap (contains_key key_cmp itself F.keys) (key_named s k
+      p e) in
       elim (cases_Bool (names F (OfKey k))) [
         | inl t ↦ rw (same, t) (refl, refl)
         | inr n ↦ rw (same, n) (refl, refl)
@@ -190,7 +191,8 @@ module _ (s : ShelfParts) (F : FootprintParts) (all : has_all s F ≡ true) wher
         by_book p (Some c) e w own =
             let h = subst (λ (o : Option FamilyBook). IfSome o (IsOwnBook s.period p.family)) (e ∙ w) own in h.name
 
-        by_place : (q : Option FamilyPlace) → family_place s f ≡ q → option_and_then (λ (p : FamilyPlace). p.held) q ≡ Some b → b.family ≡ f
+        by_place : (q : Option FamilyPlace) → family_place s f ≡ q → option_and_then (λ (p : FamilyPlace). p.held) q ≡ Some b
+            → b.family ≡ f
         by_place None e w = absurd (cc w)
         by_place (Some p) e w =
             let found = item_at-found id_cmp id_total place_family s.families f p e in
@@ -210,7 +212,8 @@ module _ (s : ShelfParts) (F : FootprintParts) (all : has_all s F ≡ true) wher
         ≡ cond (contains_key id_cmp itself fs f) (option_and_then (λ (p : FamilyPlace). p.held) (family_place s f)) None
     books_found [] f = refl
     books_found (g ∷ fs) f =
-        one_book g f (option_and_then (λ (p : FamilyPlace). p.held) (family_place s g)) (flat_map (family_book s.families) fs) (own_name g)
+        one_book g f (option_and_then (λ (p : FamilyPlace). p.held) (family_place s g)) (flat_map (family_book s.families) fs)
+        (own_name g)
         ∙ elim (cases_Bool (is_eq (id_cmp g f))) [
           | inl t ↦
               let same : g ≡ f = id_exact g f (Equal-from_is_eq _ t) in
@@ -282,7 +285,8 @@ module _ (s : ShelfParts) (p : ParcelParts) (out : are_out s (named_in p) ≡ tr
   both_family : (f : List ℕ)
       → (family_value_or (option_map (family_given p.families) (family_place s f)) (book (OfFamily f) s.rest)
       ≡ cond (names (named_in p) (OfFamily f)) (values_of p (OfFamily f)) (value_of s (OfFamily f)))
-      × (is_family_out (option_map (family_given p.families) (family_place s f)) ≡ cond (names (named_in p) (OfFamily f)) false (is_out s (OfFamily f)))
+      × (is_family_out (option_map (family_given p.families) (family_place s f)) ≡ cond (names (named_in p) (OfFamily f)) false (is_out
+      s (OfFamily f)))
   both_family f = rw (family_held p f) (given_family f (family_place s f) refl (family_at p f) refl
       (λ n. named_out (OfFamily f) (family_held p f ∙ n)) (book (OfFamily f) s.rest))
 

@@ -40,7 +40,8 @@ book_value L is b = record {
 }
 
 -- a row alone, or none
-pub row_value : (k : Key) (o : Option Row) → IfSome o (λ r. r.key ≡ k) → IsValue (OfKey k) (record { members = []; rows = option_to_list o })
+pub row_value : (k : Key) (o : Option Row) → IfSome o (λ r. r.key ≡ k)
+    → IsValue (OfKey k) (record { members = []; rows = option_to_list o })
 row_value k None own = record {
   order = record { members_rise = tt; rows_rise = tt };
   members_own = All-nil _;

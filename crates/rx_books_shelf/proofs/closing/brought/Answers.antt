@@ -24,15 +24,18 @@ of_place P ps i p all lt is = subst P (sym is) (all i p lt)
 pub bring-requires-clause-slot : goal.bring-requires-clause-slot
 bring-requires-clause-slot c =
     subst (λ (slots : List Key). HasSlot slots c.place-item.result) (sym c.loop-place.invariant.slots)
-    (of_place (HasSlot c.args.books.slots) c.args.places.now c.loop-place.place-index c.place-item.result c.requires.slots c.loop-place-test.true c.place-item.is)
+    (of_place (HasSlot c.args.books.slots) c.args.places.now c.loop-place.place-index c.place-item.result c.requires.slots
+    c.loop-place-test.true c.place-item.is)
 
 pub bring-requires-clause-row : goal.bring-requires-clause-row
 bring-requires-clause-row c =
-    of_place HoldsOwnRow c.args.places.now c.loop-place.place-index c.place-item.result c.requires.rows c.loop-place-test.true c.place-item.is
+    of_place HoldsOwnRow c.args.places.now c.loop-place.place-index c.place-item.result c.requires.rows c.loop-place-test.true
+    c.place-item.is
 
 pub bring-requires-clause-listed : goal.bring-requires-clause-listed
 bring-requires-clause-listed c =
-    subst (λ (ms : List Member). IfSome (row_held c.place-item.result) (λ (r : Row). contains_key member_cmp member_key ms (member_of_row r) ≡ true))
+    subst (λ (ms : List Member). IfSome (row_held c.place-item.result) (λ (r : Row). contains_key member_cmp member_key ms
+    (member_of_row r) ≡ true))
     (sym c.loop-place.invariant.members)
     (of_place (λ p. IfSome (row_held p) (λ (r : Row). is_listed c.args.books.books.ledger (member_of_row r) ≡ true)) c.args.places.now
     c.loop-place.place-index c.place-item.result c.requires.listed c.loop-place-test.true c.place-item.is)
@@ -58,4 +61,8 @@ returns c =
     let none = none_left c.loop-place.place-index c.args.places.now c.loop-place-test.false in
     let inv = c.loop-place.invariant in
     let rows = sym (ap (λ qs. overlaid key_cmp row_key place_key row_held c.loop-place.books.books.ledger.rows qs) none) ∙ inv.rows in
-    λ i. record { books = record { period = inv.period i; ledger = record { members = inv.members i; rows = rows i } }; slots = inv.slots i }
+    λ i. record {
+      books = record { period = inv.period i; ledger = record { members = inv.members i; rows = rows i } };
+      slots =
+          inv.slots i;
+    }

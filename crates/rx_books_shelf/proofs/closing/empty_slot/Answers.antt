@@ -22,7 +22,8 @@ remove-before-requires-clause-slot c = slice_get_within c.args.books.now.slots c
 
 pub remove-before-requires-clause-taken : goal.remove-before-requires-clause-taken
 remove-before-requires-clause-taken c =
-    let at_row : option_copied c.row_at.result ≡ row_under c.args.books.now.books.ledger c.args.key.now = rw c.requires at c.row_at.ensures in
+    let at_row : option_copied c.row_at.result ≡ row_under c.args.books.now.books.ledger c.args.key.now = rw c.requires at
+    c.row_at.ensures in
     rw c.requires (ap is_some (sym at_row) ∙ some_copied c.row_at.result ∙ sym c.is_some.ensures ∙ c.if-is_some.true)
 
 pub returns-then-is_some : goal.returns-then-is_some
@@ -33,6 +34,7 @@ returns-then-is_some c =
 
 pub returns-else-is_some : goal.returns-else-is_some
 returns-else-is_some c =
-    let at_row : option_copied c.row_at.result ≡ row_under c.args.books.now.books.ledger c.args.key.now = rw c.requires at c.row_at.ensures in
+    let at_row : option_copied c.row_at.result ≡ row_under c.args.books.now.books.ledger c.args.key.now = rw c.requires at
+    c.row_at.ensures in
     emptied_there c.args.books.now c.args.key.now (none_is (row_under c.args.books.now.books.ledger c.args.key.now)
     (ap is_some (sym at_row) ∙ some_copied c.row_at.result ∙ sym c.is_some.ensures ∙ c.if-is_some.false))

@@ -6,5 +6,6 @@ use Rattle.rx_books_shelf.proofs.closing.fill_slot.Goals as goal
 
 pub add-requires-clause-family : goal.add-requires-clause-family
 add-requires-clause-family c =
-    let listed = member_at_key c.args.books.now.books.ledger.members (member_of_row c.args.row) c.in-Some.member c.in-Some.ensures.found in
+    let listed = member_at_key c.args.books.now.books.ledger.members (member_of_row c.args.row) c.in-Some.member
+    c.in-Some.ensures.found in
     rw listed.at at c.home_of-family.ensures ∙ ap (λ (k : MemberKey). Some k.family) listed.keyed

@@ -47,7 +47,12 @@ loop-family-preserved c =
           ∙ c.loop-family.invariant.books;
       count = omega (arith, few, c.loop-family.invariant.count);
       room = elim c.match-take_family.branch [
-        | in-Some w ↦ omega (arith, ap (λ (v : Vec FamilyBook Global). vec_capacity v) w.books-is, w.push_reserved.ensures.capacity, c.loop-family.invariant.room)
+        | in-Some w ↦ omega (
+          arith,
+          ap (λ (v : Vec FamilyBook Global). vec_capacity v) w.books-is,
+          w.push_reserved.ensures.capacity,
+          c.loop-family.invariant.room,
+        )
         | in_default w ↦ omega (arith, ap (λ (v : Vec FamilyBook Global). vec_capacity v) w.books-is, c.loop-family.invariant.room)
       ];
     }

@@ -15,20 +15,25 @@ place_of-requires c = rw c.deref.ensures.value c.requires.rise
 
 pub add-requires-clause-listed : goal.add-requires-clause-listed
 add-requires-clause-listed c =
-    let is_at : IsAt id_cmp family_of c.args.books.now.items c.args.row.family c.in-Ok.at = rw c.deref.ensures.value at c.in-Ok.ensures.found in
-    of_book (λ (b : FamilyBook). b.family ≡ c.args.row.family → is_listed (own_ledger b) (member_of_row c.args.row) ≡ true) c.args.books.now.items c.args.row.family c.in-Ok.at
+    let is_at : IsAt id_cmp family_of c.args.books.now.items c.args.row.family c.in-Ok.at = rw c.deref.ensures.value at
+    c.in-Ok.ensures.found in
+    of_book (λ (b : FamilyBook). b.family ≡ c.args.row.family
+    → is_listed (own_ledger b) (member_of_row c.args.row) ≡ true) c.args.books.now.items c.args.row.family c.in-Ok.at
     c.index_mut-book.result.now c.requires.listed is_at c.index_mut-book.ensures.value
     (family_at_place c.args.books.now.items c.args.row.family c.in-Ok.at c.index_mut-book.result.now is_at c.index_mut-book.ensures.value)
 
 pub returns-in-Ok : goal.returns-in-Ok
 returns-in-Ok c =
-    let is_at : IsAt id_cmp family_of c.args.books.now.items c.args.row.family c.in-Ok.at = rw c.deref.ensures.value at c.in-Ok.ensures.found in
+    let is_at : IsAt id_cmp family_of c.args.books.now.items c.args.row.family c.in-Ok.at = rw c.deref.ensures.value at
+    c.in-Ok.ensures.found in
     on_ok c.add.result
     (λ new. ap (λ b. set c.args.books.now.items c.in-Ok.at b) new
-    ∙ row_at_place c.args.row c.args.books.now.items c.in-Ok.at c.index_mut-book.result.now c.requires.rise is_at c.index_mut-book.ensures.value)
+    ∙ row_at_place c.args.row c.args.books.now.items c.in-Ok.at c.index_mut-book.result.now c.requires.rise is_at
+    c.index_mut-book.ensures.value)
     c.add.ensures.ok
 
 pub returns-in-Err : goal.returns-in-Err
 returns-in-Err c =
     let gap = rw c.deref.ensures.value at c.in-Err.ensures.absent in
-    row_nowhere c.args.row c.args.books.now.items (item_at-gap id_cmp id_total family_of c.args.books.now.items c.args.row.family c.in-Err.field-0 gap)
+    row_nowhere c.args.row c.args.books.now.items (item_at-gap id_cmp id_total family_of c.args.books.now.items c.args.row.family
+    c.in-Err.field-0 gap)

@@ -34,7 +34,8 @@ pub returns-clause-books : goal.returns-clause-books
 returns-clause-books c =
     let none = none_left c.loop-key.key-index c.args.keys.now c.loop-key-test.false in
     sym (append-nil c.loop-key.books.items)
-    ∙ ap (λ ks. c.loop-key.books.items ++ keys_read ks c.loop-key.places) (sym none) ∙ c.loop-key.invariant.books ∙ keys_read_are c.args.keys.now c.args.places.now c.requires.rise
+    ∙ ap (λ ks. c.loop-key.books.items ++ keys_read ks c.loop-key.places) (sym none) ∙ c.loop-key.invariant.books
+    ∙ keys_read_are c.args.keys.now c.args.places.now c.requires.rise
 
 pub returns-clause-places : goal.returns-clause-places
 returns-clause-places c =

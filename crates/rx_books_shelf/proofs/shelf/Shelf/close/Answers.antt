@@ -14,6 +14,7 @@ use Rattle.rx_places.specs.declared.place.KeyPlace.{KeyPlace}
 use Rattle.rx_places.specs.Shelves.{AreAllAgreed, HoldsOwnRow, ShelfParts, are_all_in, place_key, row_held, value_of}
 use Rattle.rx_books_shelf.specs.Closed.{HasSlot, are_members_kept}
 use Rattle.rx_books_shelf.proofs.ClosedShelf.{places_listed, same_as_beside, tests_keep, values_closed}
+use Rattle.rx_books_shelf.proofs.ShelfKept.{shelf_parts}
 use Rattle.rx_books_shelf.proofs.shelf.Shelf.close.Goals as goal
 
 pub brought-books-requires-clause-slots : goal.brought-books-requires-clause-slots
@@ -24,7 +25,7 @@ brought-books-requires-clause-rows c = subst (All HoldsOwnRow) (sym c.as_slice.e
 
 pub brought-books-requires-clause-listed : goal.brought-books-requires-clause-listed
 brought-books-requires-clause-listed c =
-    let s : ShelfParts = record { period = c.self.inside.books.books.period; rest = c.self.inside.books.books.ledger; keys = c.self.inside.keys; families = c.self.inside.families } in
+    let s : ShelfParts = shelf_parts c.self.inside.books.books c.self.inside.keys c.self.inside.families in
     let both = and_parts _ _ (sym c.can_be_closed.ensures.value ∙ c.if-not-can_be_closed.false) in
     let agreed : AreAllAgreed (value_of s) = rw (← c.self.view_is) at (c.requires both.0) in
     let kept : are_members_kept s ≡ true = rw (← c.self.view_is) at both.1 in
@@ -53,12 +54,16 @@ returns-clause-period c =
 
 pub returns-clause-values : goal.returns-clause-values
 returns-clause-values c =
-    let s : ShelfParts = record { period = c.self.inside.books.books.period; rest = c.self.inside.books.books.ledger; keys = c.self.inside.keys; families = c.self.inside.families } in
+    let s : ShelfParts = shelf_parts c.self.inside.books.books c.self.inside.keys c.self.inside.families in
     let both = and_parts _ _ (sym c.can_be_closed.ensures.value ∙ c.if-not-can_be_closed.false) in
     let agreed : AreAllAgreed (value_of s) = rw (← c.self.view_is) at (c.requires both.0) in
     let kept : are_members_kept s ≡ true = rw (← c.self.view_is) at both.1 in
     rw (← c.self.view_is) (λ b.
     ap (λ (x : LedgerBooks). book b x.ledger) (c.close.ensures ∙ ap (λ (o : OpenParts). o.books) c.brought-books.ensures)
-    ∙ ap (λ (ks : List KeyPlace). book b (record { members = s.rest.members; rows = overlaid key_cmp row_key place_key row_held s.rest.rows ks }))
+    ∙ ap (λ (ks : List KeyPlace). book b (record {
+      members = s.rest.members;
+      rows = overlaid key_cmp row_key place_key row_held
+          s.rest.rows ks;
+    }))
     c.as_slice.ensures.value
     ∙ values_closed s c.self.invariant.0 agreed kept b)

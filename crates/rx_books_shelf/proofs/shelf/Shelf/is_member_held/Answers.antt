@@ -4,11 +4,12 @@ use Rattle.rx_ledger.specs.Members.{member_cmp, member_key}
 use Rattle.rx_places.specs.Shelves.{ShelfParts, family_place}
 use Rattle.rx_places.proofs.Valued.{family_book_value, held_book_own}
 use Rattle.rx_books_shelf.specs.Closed.{is_among, is_in_place}
+use Rattle.rx_books_shelf.proofs.ShelfKept.{shelf_parts}
 use Rattle.rx_books_shelf.proofs.shelf.Shelf.is_member_held.Goals as goal
 
 pub has_member-requires : goal.has_member-requires
 has_member-requires c =
-    let s : ShelfParts = record { period = c.self.inside.books.books.period; rest = c.self.inside.books.books.ledger; keys = c.self.inside.keys; families = c.self.inside.families } in
+    let s : ShelfParts = shelf_parts c.self.inside.books.books c.self.inside.keys c.self.inside.families in
     let f = c.args.member.now.key.family in
     let p = c.in-Some.place.now in
     let at : family_place s f ≡ Some p = sym c.in-Some.ensures in
@@ -17,7 +18,7 @@ has_member-requires c =
 
 pub returns-in-Some : goal.returns-in-Some
 returns-in-Some c =
-    let s : ShelfParts = record { period = c.self.inside.books.books.period; rest = c.self.inside.books.books.ledger; keys = c.self.inside.keys; families = c.self.inside.families } in
+    let s : ShelfParts = shelf_parts c.self.inside.books.books c.self.inside.keys c.self.inside.families in
     let m = c.args.member.now in
     let at : family_place s m.key.family ≡ Some c.in-Some.place.now = sym c.in-Some.ensures in
     rw (← c.self.view_is) (c.has_member.ensures ∙ ap (λ ms. is_among ms m) c.members_held.ensures ∙ sym (ap (λ q. is_in_place q m) at))

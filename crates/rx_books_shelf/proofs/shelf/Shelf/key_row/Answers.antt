@@ -3,11 +3,12 @@ use Rattle.rx_ledger.specs.Ledger.{row_under}
 use Rattle.rx_parcels.specs.Books.{OfKey, book}
 use Rattle.rx_places.specs.Shelves.{ShelfParts, key_place, key_value_or}
 use Rattle.rx_places.proofs.Valued.{key_row_beside, key_row_held}
+use Rattle.rx_books_shelf.proofs.ShelfKept.{shelf_parts}
 use Rattle.rx_books_shelf.proofs.shelf.Shelf.key_row.Goals as goal
 
 pub returns-in-Some : goal.returns-in-Some
 returns-in-Some c =
-    let s : ShelfParts = record { period = c.self.inside.books.books.period; rest = c.self.inside.books.books.ledger; keys = c.self.inside.keys; families = c.self.inside.families } in
+    let s : ShelfParts = shelf_parts c.self.inside.books.books c.self.inside.keys c.self.inside.families in
     let k = c.args.key.now in
     let at : key_place s k ≡ Some c.in-Some.place.now = sym c.in-Some.ensures in
     rw (← c.self.view_is) (c.row_held.ensures ∙ sym (ap (λ q. row_under (key_value_or q (book (OfKey k) s.rest)) k) at
@@ -15,7 +16,7 @@ returns-in-Some c =
 
 pub returns-in-None : goal.returns-in-None
 returns-in-None c =
-    let s : ShelfParts = record { period = c.self.inside.books.books.period; rest = c.self.inside.books.books.ledger; keys = c.self.inside.keys; families = c.self.inside.families } in
+    let s : ShelfParts = shelf_parts c.self.inside.books.books c.self.inside.keys c.self.inside.families in
     let k = c.args.key.now in
     let at : key_place s k ≡ None = sym c.in-None.ensures in
     rw (← c.self.view_is) (c.copied.ensures ∙ c.row.ensures ∙ sym (ap (λ q. row_under (key_value_or q (book (OfKey k) s.rest)) k) at

@@ -31,11 +31,13 @@ invariant_of-result c =
     let opened = opened_parts b d c.args.footprints.now c.in_ok-keys.keys.items c.in_ok-families.families.items books c.in_ok-keys-2.keys
     c.in_ok-families-2.families c.in_ok-books.ensures.same c.in_ok-keys.ensures.value c.in_ok-families.ensures.value pk bf
     c.in_ok-families-2.ensures in (
-      subst IsShelf (sym opened) (shelf_opened_from b d c.args.footprints.now c.in_ok-families.families.items books c.in_ok-books.ensures.same
+      subst IsShelf (sym opened) (shelf_opened_from b d c.args.footprints.now c.in_ok-families.families.items books
+          c.in_ok-books.ensures.same
           c.in_ok-families.ensures.value bf c.standing-standing.ensures.within c.in_ok-gathered.ensures.own),
       subst (All (HasSlot c.in_ok-books.books.slots)) (sym c.in_ok-keys-2.ensures)
           (slots_there c.in_ok-books.books.slots d c.deref-2.result.now
-          (subst (All (Contains c.in_ok-books.books.slots)) (c.deref.ensures.value ∙ sym c.deref-2.ensures.value) c.in_ok-books.ensures.slots)),
+          (subst (All (Contains c.in_ok-books.books.slots)) (c.deref.ensures.value
+          ∙ sym c.deref-2.ensures.value) c.in_ok-books.ensures.slots)),
     )
 
 pub returns-clause-value : goal.returns-clause-value
@@ -62,7 +64,8 @@ returns-clause-values c =
     let opened = opened_parts b d c.args.footprints.now c.in_ok-keys.keys.items c.in_ok-families.families.items books c.in_ok-keys-2.keys
     c.in_ok-families-2.families c.in_ok-books.ensures.same c.in_ok-keys.ensures.value c.in_ok-families.ensures.value pk bf
     c.in_ok-families-2.ensures in
-    let is : IsLedger b.ledger = subst (λ (x : LedgerBooks). IsLedger x.ledger) c.in_ok-books.ensures.same c.standing-standing.ensures.within in
+    let is : IsLedger b.ledger = subst (λ (x : LedgerBooks). IsLedger x.ledger) c.in_ok-books.ensures.same
+    c.standing-standing.ensures.within in
     λ x. ap (λ s. value_of s x) opened ∙ values_opened b c.args.footprints.now is x
 
 pub returns-clause-slots : goal.returns-clause-slots

@@ -7,7 +7,7 @@ use Rattle.rx_parcels.specs.Parcels.{HasOwnRow, key_of, values_of}
 use Rattle.rx_places.specs.Shelves.{IsShelf, ShelfParts, has_slot, is_out, value_of}
 use Rattle.rx_books_shelf.specs.Closed.{HasSlot}
 use Rattle.rx_books_shelf.specs.Taken.{has_all, parcel_of, taken_out}
-use Rattle.rx_books_shelf.proofs.ShelfKept.{families_rise, keys_rise, one_period, parcel_parts, rows_own, shelf_taken, slots_stay, taken_parts}
+use Rattle.rx_books_shelf.proofs.ShelfKept.{families_rise, keys_rise, one_period, parcel_parts, rows_own, shelf_parts, shelf_taken, slots_stay, taken_parts}
 use Rattle.rx_books_shelf.proofs.Worth.{out_taken, slots_taken, values_left, values_taken}
 use Rattle.rx_books_shelf.proofs.shelf.Shelf.take.Goals as goal
 
@@ -31,13 +31,15 @@ parcel_of-requires-clause-families_rise c =
 pub parcel_of-requires-clause-one_period : goal.parcel_of-requires-clause-one_period
 parcel_of-requires-clause-one_period c =
     subst (All (λ (b : FamilyBook). b.period ≡ c.period.result)) (sym (c.take_families-families.ensures.books))
-    (rw c.period.ensures (one_period c.self.inside.books.books.period c.self.inside.families c.self.invariant.0.books_own c.families-2.result.now))
+    (rw c.period.ensures (one_period c.self.inside.books.books.period c.self.inside.families c.self.invariant.0.books_own
+    c.families-2.result.now))
 
 pub invariant_of-self : goal.invariant_of-self
 invariant_of-self c =
-    let s : ShelfParts = record { period = c.self.inside.books.books.period; rest = c.self.inside.books.books.ledger; keys = c.self.inside.keys; families = c.self.inside.families } in
+    let s : ShelfParts = shelf_parts c.self.inside.books.books c.self.inside.keys c.self.inside.families in
     let F = c.args.footprint.now in
-    let taken = taken_parts s F c.keys-2.result.now c.families-2.result.now c.take_keys-keys.new.places c.take_families-families.new.places
+    let taken = taken_parts s F c.keys-2.result.now c.families-2.result.now c.take_keys-keys.new.places
+    c.take_families-families.new.places
     c.keys-2.ensures.value c.families-2.ensures.value c.take_keys-keys.ensures.places c.take_families-families.ensures.places in (
       subst IsShelf (sym taken) (shelf_taken s F c.self.invariant.0),
       subst (All (HasSlot c.self.inside.books.slots)) (sym c.take_keys-keys.ensures.places)
@@ -46,36 +48,40 @@ invariant_of-self c =
 
 pub returns-clause-values : goal.returns-clause-values
 returns-clause-values c =
-    let s : ShelfParts = record { period = c.self.inside.books.books.period; rest = c.self.inside.books.books.ledger; keys = c.self.inside.keys; families = c.self.inside.families } in
+    let s : ShelfParts = shelf_parts c.self.inside.books.books c.self.inside.keys c.self.inside.families in
     let F = c.args.footprint.now in
     let all : has_all s F ≡ true = rw (← c.self.view_is) at (sym c.has_all.ensures ∙ c.if-not-has_all.false) in
-    let parcel = parcel_parts s F c.parcel_of.result c.period.result c.keys-2.result.now c.families-2.result.now c.take_keys-keys.result.items
+    let parcel = parcel_parts s F c.parcel_of.result c.period.result c.keys-2.result.now c.families-2.result.now
+    c.take_keys-keys.result.items
     c.take_families-families.result.items c.parcel_of.ensures c.period.ensures c.keys-2.ensures.value c.families-2.ensures.value
     c.take_keys-keys.ensures.books c.take_families-families.ensures.books in
     rw (← c.self.view_is) (λ b. ap (λ p. values_of p b) parcel ∙ values_taken s F all c.self.invariant.0 b)
 
 pub returns-clause-left : goal.returns-clause-left
 returns-clause-left c =
-    let s : ShelfParts = record { period = c.self.inside.books.books.period; rest = c.self.inside.books.books.ledger; keys = c.self.inside.keys; families = c.self.inside.families } in
+    let s : ShelfParts = shelf_parts c.self.inside.books.books c.self.inside.keys c.self.inside.families in
     let F = c.args.footprint.now in
     let all : has_all s F ≡ true = rw (← c.self.view_is) at (sym c.has_all.ensures ∙ c.if-not-has_all.false) in
-    let taken = taken_parts s F c.keys-2.result.now c.families-2.result.now c.take_keys-keys.new.places c.take_families-families.new.places
+    let taken = taken_parts s F c.keys-2.result.now c.families-2.result.now c.take_keys-keys.new.places
+    c.take_families-families.new.places
     c.keys-2.ensures.value c.families-2.ensures.value c.take_keys-keys.ensures.places c.take_families-families.ensures.places in
     rw (← c.self.view_is) (λ b. ap (λ t. value_of t b) taken ∙ values_left s F all b)
 
 pub returns-clause-out : goal.returns-clause-out
 returns-clause-out c =
-    let s : ShelfParts = record { period = c.self.inside.books.books.period; rest = c.self.inside.books.books.ledger; keys = c.self.inside.keys; families = c.self.inside.families } in
+    let s : ShelfParts = shelf_parts c.self.inside.books.books c.self.inside.keys c.self.inside.families in
     let F = c.args.footprint.now in
     let all : has_all s F ≡ true = rw (← c.self.view_is) at (sym c.has_all.ensures ∙ c.if-not-has_all.false) in
-    let taken = taken_parts s F c.keys-2.result.now c.families-2.result.now c.take_keys-keys.new.places c.take_families-families.new.places
+    let taken = taken_parts s F c.keys-2.result.now c.families-2.result.now c.take_keys-keys.new.places
+    c.take_families-families.new.places
     c.keys-2.ensures.value c.families-2.ensures.value c.take_keys-keys.ensures.places c.take_families-families.ensures.places in
     rw (← c.self.view_is) (λ b. ap (λ t. is_out t b) taken ∙ out_taken s F all b)
 
 pub returns-clause-slots : goal.returns-clause-slots
 returns-clause-slots c =
-    let s : ShelfParts = record { period = c.self.inside.books.books.period; rest = c.self.inside.books.books.ledger; keys = c.self.inside.keys; families = c.self.inside.families } in
+    let s : ShelfParts = shelf_parts c.self.inside.books.books c.self.inside.keys c.self.inside.families in
     let F = c.args.footprint.now in
-    let taken = taken_parts s F c.keys-2.result.now c.families-2.result.now c.take_keys-keys.new.places c.take_families-families.new.places
+    let taken = taken_parts s F c.keys-2.result.now c.families-2.result.now c.take_keys-keys.new.places
+    c.take_families-families.new.places
     c.keys-2.ensures.value c.families-2.ensures.value c.take_keys-keys.ensures.places c.take_families-families.ensures.places in
     rw (← c.self.view_is) (λ b. ap (λ t. has_slot t b) taken ∙ slots_taken s F b)
