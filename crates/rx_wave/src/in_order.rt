@@ -67,4 +67,4 @@ pub fn run_one_on<G: Gate>(
 }
 
 #[cfg(test)]
-mod tests;
+pub(crate) mod tests;

@@ -217,3 +217,6 @@ fn made_of<G: Gate, W: Craft>(
     gate.leave(place);
     made
 }
+
+#[cfg(test)]
+mod tests;

@@ -27,12 +27,12 @@ fn period() -> Result<Period, Fail> {
     Ok(Period::new(day(b"20260101")?, day(b"20261231")?).ok_or("a period")?)
 }
 
-fn lot() -> Result<Lot, Fail> {
+pub(crate) fn lot() -> Result<Lot, Fail> {
     Ok(Lot::new(42, day(b"20260301")?).ok_or("a lot")?)
 }
 
 // The plain sheet's second drug, and its third.
-fn plain_sheet(alloc: Global) -> Result<Sheet, Fail> {
+pub(crate) fn plain_sheet(alloc: Global) -> Result<Sheet, Fail> {
     let figures = Figures {
         door: DOOR,
         period: period()?,
@@ -57,8 +57,13 @@ fn plain_sheet(alloc: Global) -> Result<Sheet, Fail> {
 }
 
 fn member(person: &[u8]) -> Result<Member, Fail> {
+    member_of(b"C100", person)
+}
+
+// A member of a family, covered all year.
+pub(crate) fn member_of(family: &[u8], person: &[u8]) -> Result<Member, Fail> {
     let (first, last) = (day(b"20260101")?, day(b"20261231")?);
-    Ok(Member::new(Id::new(b"C100", 20)?, Person::new(person)?, first, last).ok_or("a member")?)
+    Ok(Member::new(Id::new(family, 20)?, Person::new(person)?, first, last).ok_or("a member")?)
 }
 
 fn family(alloc: Global) -> Result<Ledger, Fail> {
@@ -74,9 +79,22 @@ fn billing(
     reference: &[u8],
     person: &[u8],
 ) -> Result<Transmission, Fail> {
+    billing_of(alloc, date, reference, b"C100", person)
+}
+
+// The same for a person of a family.
+pub(crate) fn billing_of(
+    alloc: Global,
+    date: &[u8],
+    reference: &[u8],
+    family: &[u8],
+    person: &[u8],
+) -> Result<Transmission, Fail> {
     let mut text = b"900001D0B1RXDEMO    1011234567893     ".to_vec(alloc)?;
     text.extend_from_slice(date)?;
-    text.extend_from_slice(b"          \x1e\x1cAM04\x1cC2C100\x1cC3")?;
+    text.extend_from_slice(b"          \x1e\x1cAM04\x1cC2")?;
+    text.extend_from_slice(family)?;
+    text.extend_from_slice(b"\x1cC3")?;
     text.extend_from_slice(person)?;
     text.extend_from_slice(b"\x1d\x1e\x1cAM07\x1cEM1\x1cD2000000000")?;
     text.extend_from_slice(reference)?;
@@ -129,7 +147,7 @@ fn run(alloc: Global, ledger: &Ledger, asked: &[Transmission]) -> Result<Finishe
 }
 
 // The status of the record's first answer, as a reply writes it; a blank where there is none.
-fn status(finished: &Finished, at: usize) -> u8 {
+pub(crate) fn status(finished: &Finished, at: usize) -> u8 {
     let Some(reply) = finished.replies.get(at) else {
         return b' ';
     };

@@ -1,0 +1,319 @@
+// What no clause says: that records go beside one another, each once; that the desk answers; and that a run ends where a
+// worker lacks memory or a thread is refused. Cases are those of docs/CASES.md.
+ghost use Rattle.std.specs.Prelude.{◌≤◌, true};
+
+use super::{desk_of, run_waves, worked_off};
+use crate::craft::{Adjudicates, Craft};
+use crate::in_order::tests::{billing_of, lot, member_of, plain_sheet, status};
+use crate::{Finished, Gate, NoGate, RunFault};
+use rx_adjudicate::{Done, Order};
+use rx_books_kept::Books;
+use rx_claim::Transmission;
+use rx_fields::{Id, Memory};
+use rx_ledger::Ledger;
+use std::alloc::Global;
+use std::sync::Wait;
+use std::sync::atomic::{AtomicU64, Ordering};
+use std::test::Fail;
+use std::thread;
+use std::thread::Threads;
+
+// A held record goes on after so many turns; a run without another worker beside it ends within a test's time.
+const TURNS: u64 = 20_000_000;
+
+// One member in each of two families.
+fn families(alloc: Global) -> Result<Ledger, Fail> {
+    let mut ledger = Ledger::new(alloc);
+    ledger.add_member(member_of(b"C100", b"01")?)?;
+    ledger.add_member(member_of(b"C200", b"01")?)?;
+    Ok(ledger)
+}
+
+// The base claim for a family.
+fn claim(alloc: Global, reference: &[u8], family: &[u8]) -> Result<Transmission, Fail> {
+    billing_of(alloc, b"20260228", reference, family, b"01")
+}
+
+// The records of the case blocking-gates, which share nothing.
+fn two_records(alloc: Global) -> Result<[Transmission; 2], Fail> {
+    Ok([
+        claim(alloc, b"123", b"C100")?,
+        claim(alloc, b"124", b"C200")?,
+    ])
+}
+
+// A fill for each family, and a refill of each on the same day, which is too soon.
+fn four_records(alloc: Global) -> Result<[Transmission; 4], Fail> {
+    Ok([
+        claim(alloc, b"123", b"C100")?,
+        claim(alloc, b"124", b"C200")?,
+        claim(alloc, b"125", b"C200")?,
+        claim(alloc, b"126", b"C100")?,
+    ])
+}
+
+fn run<R: Threads + Wait + Sync, G: Gate + Sync>(
+    rt: &R,
+    alloc: Global,
+    gate: &G,
+    workers: u16,
+    asked: &[Transmission],
+) -> Result<Result<Finished, RunFault>, Fail> {
+    if asked.len() > 100 {
+        return Err(Fail::from("too many records"));
+    }
+    let sheet = plain_sheet(alloc)?;
+    let books = Books::from_ledger(alloc, &families(alloc)?, sheet.period())?;
+    Ok(run_waves(rt, alloc, gate, workers, lot()?, &sheet, &books, asked))
+}
+
+// Whether the first two records are paid, each family has one-billing's share of 13000, and any further one is refused.
+fn is_billed_once(finished: &Finished) -> Result<bool, Fail> {
+    let first = finished.books.out_of_pocket(&Id::new(b"C100", 20)?);
+    let second = finished.books.out_of_pocket(&Id::new(b"C200", 20)?);
+    let are_paid = status(finished, 0) == b'P' && status(finished, 1) == b'P';
+    let is_refused = finished.replies.len() == 2
+        || (status(finished, 2) == b'R' && status(finished, 3) == b'R');
+    Ok(are_paid && is_refused && first == Some(13_000) && second == Some(13_000))
+}
+
+// Which records a gate holds back on entering.
+#[derive(Clone, Copy, Debug)]
+enum Holds {
+    Nobody,
+    // The first, until the second was left.
+    First,
+    // Each of two, until the other was entered.
+    Both,
+}
+
+// It counts how often each place is passed, and holds records back, for so many turns at most.
+#[derive(Drop)]
+struct Passed {
+    holds: Holds,
+    entered: AtomicU64,
+    left: AtomicU64,
+    gave_up: AtomicU64,
+}
+
+// One in the digit of the place.
+fn digit(place: usize) -> u64 {
+    match place {
+        1 => 1,
+        2 => 10,
+        3 => 100,
+        4 => 1_000,
+        _ => 1_000_000,
+    }
+}
+
+impl Passed {
+    fn new(holds: Holds) -> Passed {
+        Passed {
+            holds,
+            entered: AtomicU64::new(0),
+            left: AtomicU64::new(0),
+            gave_up: AtomicU64::new(0),
+        }
+    }
+
+    fn wait_until(&self, count: &AtomicU64, wanted: u64) {
+        for _ in 0..TURNS {
+            if count.load(Ordering::SeqCst) == wanted {
+                return;
+            }
+            thread::yield_now();
+        }
+        self.gave_up.fetch_add(1, Ordering::SeqCst);
+    }
+
+    // Whether each of the places was entered and left once, and nobody gave up.
+    fn is_once(&self, places: u64) -> bool {
+        self.entered.load(Ordering::SeqCst) == places
+            && self.left.load(Ordering::SeqCst) == places
+            && self.gave_up.load(Ordering::SeqCst) == 0
+    }
+}
+
+impl Gate for Passed {
+    ghost starts = { λ _ _. true };
+
+    fn start(&self, _worker: usize) -> bool {
+        true
+    }
+
+    fn enter(&self, place: usize) {
+        self.entered.fetch_add(digit(place), Ordering::SeqCst);
+        match self.holds {
+            Holds::Nobody => {}
+            Holds::First => {
+                if place == 1 {
+                    self.wait_until(&self.left, 10);
+                }
+            }
+            Holds::Both => self.wait_until(&self.entered, 11),
+        }
+    }
+
+    fn leave(&self, place: usize) {
+        self.left.fetch_add(digit(place), Ordering::SeqCst);
+    }
+}
+
+#[test]
+fn a_record_goes_beside_one_that_is_held(rt: HostRuntime) -> Result<(), Fail> {
+    let asked = two_records(rt.alloc())?;
+    let gate = Passed::new(Holds::First);
+    let finished = run(&rt, rt.alloc(), &gate, 2, &asked)?
+        .ok()
+        .ok_or("an answer")?;
+    assert!(rt; is_billed_once(&finished)?);
+    assert!(rt; gate.is_once(11));
+    Ok(())
+}
+
+#[test]
+fn two_records_are_out_at_once(rt: HostRuntime) -> Result<(), Fail> {
+    let asked = two_records(rt.alloc())?;
+    for workers in [2, 3, 64] {
+        let gate = Passed::new(Holds::Both);
+        let finished = run(&rt, rt.alloc(), &gate, workers, &asked)?
+            .ok()
+            .ok_or("an answer")?;
+        assert!(rt; is_billed_once(&finished)?);
+        assert!(rt; gate.is_once(11));
+    }
+    Ok(())
+}
+
+#[test]
+fn each_place_is_passed_once(rt: HostRuntime) -> Result<(), Fail> {
+    let asked = four_records(rt.alloc())?;
+    for workers in [1, 2, 3, 64] {
+        let gate = Passed::new(Holds::Nobody);
+        let finished = run(&rt, rt.alloc(), &gate, workers, &asked)?
+            .ok()
+            .ok_or("an answer")?;
+        assert!(rt; is_billed_once(&finished)?);
+        assert!(rt; gate.is_once(1_111));
+    }
+    Ok(())
+}
+
+// It refuses to start one worker.
+#[derive(Clone, Copy, Debug)]
+struct Without(usize);
+
+impl Gate for Without {
+    ghost use Rattle.std.specs.Prelude.{not, ◌==◌};
+
+    ghost starts = { λ gate worker. not (worker == gate.0) };
+
+    fn start(&self, worker: usize) -> bool {
+        worker != self.0
+    }
+
+    fn enter(&self, _place: usize) {}
+
+    fn leave(&self, _place: usize) {}
+}
+
+// The case refused-thread: each of four workers refused in turn, the second of two, and the one that is no thread.
+#[test]
+fn a_refused_start_is_thread(rt: HostRuntime) -> Result<(), Fail> {
+    let asked = four_records(rt.alloc())?;
+    for worker in 1..5 {
+        let answer = run(&rt, rt.alloc(), &Without(worker), 4, &asked)?;
+        assert_eq!(rt; answer.err(), Some(RunFault::Thread));
+    }
+    let answer = run(&rt, rt.alloc(), &Without(2), 2, &asked)?;
+    assert_eq!(rt; answer.err(), Some(RunFault::Thread));
+    for worker in 1..3 {
+        let finished = run(&rt, rt.alloc(), &Without(worker), 1, &asked)?
+            .ok()
+            .ok_or("an answer")?;
+        assert!(rt; is_billed_once(&finished)?);
+    }
+    let finished = run(&rt, rt.alloc(), &Without(5), 4, &asked)?
+        .ok()
+        .ok_or("an answer")?;
+    assert!(rt; is_billed_once(&finished)?);
+    Ok(())
+}
+
+#[test]
+fn workers_are_1_to_64(rt: HostRuntime) -> Result<(), Fail> {
+    let asked = two_records(rt.alloc())?;
+    for workers in [0, 65, 65_535] {
+        let answer = run(&rt, rt.alloc(), &NoGate, workers, &asked)?;
+        assert_eq!(rt; answer.err(), Some(RunFault::Workers));
+    }
+    Ok(())
+}
+
+// It lacks memory at one place.
+#[derive(Clone, Copy, Debug)]
+struct LacksAt(u64);
+
+impl Craft for LacksAt {
+    fn make(&self, alloc: Global, order: Order) -> Result<Done, (Order, Memory)> {
+        if order.place() == self.0 {
+            return Err((order, Memory));
+        }
+        Adjudicates.make(alloc, order)
+    }
+}
+
+// What workers of this craft meet on the four records; where they meet nothing the desk answers.
+fn met<R: Threads + Wait + Sync>(
+    rt: &R,
+    alloc: Global,
+    craft: LacksAt,
+    workers: u16,
+) -> Result<Option<RunFault>, Fail>
+    requires { 2 ≤ workers }
+{
+    let sheet = plain_sheet(alloc)?;
+    let books = Books::from_ledger(alloc, &families(alloc)?, sheet.period())?;
+    let asked = four_records(alloc)?;
+    let desk = desk_of(alloc, lot()?, &sheet, &books, &asked)?;
+    match worked_off(rt, alloc, &NoGate, &craft, workers, desk) {
+        Ok(desk) => {
+            let finished = desk.close().ok().ok_or("the desk's answer")?;
+            if !is_billed_once(&finished)? {
+                return Err(Fail::from("another answer"));
+            }
+            Ok(None)
+        }
+        Err(fault) => Ok(Some(fault)),
+    }
+}
+
+#[test]
+fn a_worker_that_lacks_memory_ends_all(rt: HostRuntime) -> Result<(), Fail> {
+    for place in 1..5 {
+        assert_eq!(rt;
+            met(&rt, rt.alloc(), LacksAt(place), 2)?,
+            Some(RunFault::Memory)
+        );
+        assert_eq!(rt;
+            met(&rt, rt.alloc(), LacksAt(place), 4)?,
+            Some(RunFault::Memory)
+        );
+    }
+    Ok(())
+}
+
+#[test]
+fn the_desk_answers(rt: HostRuntime) -> Result<(), Fail> {
+    assert_eq!(rt; met(&rt, rt.alloc(), LacksAt(0), 2)?, None);
+    assert_eq!(rt; met(&rt, rt.alloc(), LacksAt(0), 64)?, None);
+    Ok(())
+}
+
+#[test]
+fn faults_are_numbered(rt: HostRuntime) {
+    assert_eq!(rt; RunFault::Workers.code(), 1);
+    assert_eq!(rt; RunFault::Memory.code(), 2);
+    assert_eq!(rt; RunFault::Thread.code(), 3);
+}
