@@ -16,3 +16,4 @@ pub mod Spread
 pub mod Standing
 pub mod Times
 pub mod WaveByWave
+pub mod Weighed

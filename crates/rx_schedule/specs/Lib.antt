@@ -7,3 +7,4 @@ pub mod Marked
 pub mod Queues
 pub mod Used
 pub mod Waves
+pub mod Weight

@@ -2,7 +2,7 @@
 //!
 //! In come the opening books and a batch's transmissions; out come the footprint of each record, the books that it names;
 //! the waves, in which records that share no book go together; and queues, which hand out a record once every earlier one
-//! that it shares a book with was passed.
+//! that it shares a book with was passed. The weight tells beforehand how large the named families are, up to a limit.
 //!
 //! ```rust
 //! let footprints = rx_schedule::footprints(alloc, &books, &transmissions)?;
@@ -10,13 +10,15 @@
 //! let mut queues = rx_schedule::Queues::of(alloc, &footprints)?;
 //! ```
 //!
-//! What a footprint is stands in `specs/Footprints.antt`, what waves are in `specs/Waves.antt`, and which records may go in
-//! `specs/Queues.antt`; why an order that keeps sharers apart gives what the file's order gives stands in
-//! `specs/Machine.antt`.
+//! What a footprint is stands in `specs/Footprints.antt`, what waves are in `specs/Waves.antt`, which records may go in
+//! `specs/Queues.antt`, and what a weight is in `specs/Weight.antt`; why an order that keeps sharers apart gives what the
+//! file's order gives stands in `specs/Machine.antt`.
 #![tactic(auto)]
 
+mod batch_weight;
 mod billers;
 mod event;
+mod family_weights;
 mod followers;
 mod law;
 mod links;
@@ -30,6 +32,7 @@ mod uses;
 mod wave_numbers;
 mod wave_plan;
 
+pub use batch_weight::weight;
 pub use event::Event;
 pub use law::{law_of_holder, law_of_standing, law_of_waves};
 pub use naming::footprints;

@@ -34,7 +34,7 @@ pub fn footprints(
     Ok(list)
 }
 
-fn footprint(
+pub(crate) fn footprint(
     alloc: Global,
     books: &Books,
     billers: &Billers,

@@ -2,7 +2,7 @@
 ghost use Rattle.std.specs.Prelude.{◌≤◌, ℕ};
 ghost use Rattle.rx_schedule.specs.Machine.{Was};
 
-use crate::{Queues, footprints, waves};
+use crate::{Queues, footprints, waves, weight};
 use rx_books_kept::Books;
 use rx_claim::{
     Bill, BillParts, Body, Codes, Echo, EchoParts, Heard, Rejected, Reversal, Transaction,
@@ -171,6 +171,27 @@ fn reversal_frees_a_key(rt: HostRuntime) -> Result<(), Fail> {
     assert_eq!(rt; waves.numbers.as_slice(), [1, 2, 3, 4].as_slice());
     assert_eq!(rt; waves.count, 4);
     assert_eq!(rt; waves.chain.as_slice(), [1, 2, 3, 4].as_slice());
+    Ok(())
+}
+
+// C100 has three members and a claim, C200 one member: each earlier billing of the family adds one.
+#[test]
+fn weights_counted_by_hand(rt: HostRuntime) -> Result<(), Fail> {
+    let alloc = rt.alloc();
+    let billed = books(alloc, BILLED)?;
+    let fills = three_fills(alloc)?;
+    assert_eq!(rt; weight(alloc, &billed, &fills, 1000)?, 4 + 5 + 6);
+    assert_eq!(rt;
+        weight(alloc, &books(alloc, OPENING)?, &fills, 1000)?,
+        1 + 2
+    );
+    assert_eq!(rt; weight(alloc, &billed, &fills, 9)?, 9);
+    assert_eq!(rt; weight(alloc, &billed, &fills, 8)?, 8);
+    let mut records = Vec::new(alloc);
+    put(&mut records, reversal(alloc, 123)?)?;
+    put(&mut records, bill(alloc, 123, family(b"C200")?)?)?;
+    put(&mut records, reversal(alloc, 123)?)?;
+    assert_eq!(rt; weight(alloc, &billed, &records, 1000)?, 4 + 1 + (4 + 2));
     Ok(())
 }
 
