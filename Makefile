@@ -1,20 +1,34 @@
-# make test: the gate, then the worked cases on the built program. make demo: a first job, from files to files.
-.PHONY: test cases demo
+# make look: the first job without proof. make demo: proved, built, and the first job run. make test: the gate, then the worked
+# cases on the built program. make install PREFIX=..: the built program with its manual page and completions.
+.PHONY: test cases demo look install kit
 PROGRAM = crates/rxbatch/out/rxbatch
 JOB = examples/first_job
+PREFIX = /usr/local
+DESTDIR =
+KIT = rattle-kit-13b
 
-test:
+# Without the kit nothing can be built.
+kit:
+	@command -v rt > /dev/null || { echo "make: the command rt of the kit $(KIT) isn't on the path: see \"Have it\" in README.md" >&2; exit 1; }
+	@rt version | grep -q '^$(KIT) ' || echo "make: this is proved with $(KIT), and rt is $$(rt version)" >&2
+
+look: kit
+	cd crates/rxbatch && rt try --data sheet.toml=../../$(JOB)/sheet.toml --data books.txt=../../$(JOB)/books.txt \
+	  --data batch.bin=../../$(JOB)/batch.bin -- show --sheet sheet.toml --batch batch.bin
+
+test: kit
 	rt ci
 	$(MAKE) --silent cases
 
-cases:
+cases: kit
 	python3 tests/check_docs.py
 	test -x $(PROGRAM) || (cd crates/rxbatch && rt run -- sample)
+	python3 packaging/make_pages.py $(PROGRAM) --check
 	python3 tests/run_paths.py $(PROGRAM)
 	python3 tests/run_cases.py $(PROGRAM) --plan
 	if command -v cc > /dev/null; then python3 tests/refused_memory.py $(PROGRAM); fi
 
-demo:
+demo: kit
 	cd crates/rxbatch && rt run -- sample
 	mkdir -p out
 	$(PROGRAM) run --sheet $(JOB)/sheet.toml --books $(JOB)/books.txt --batch $(JOB)/batch.bin --stamp 202603170600 \
@@ -22,3 +36,11 @@ demo:
 	cat out/settlement.txt
 	head -n 20 out/books-out.txt
 	for file in response.bin books-out.txt settlement.txt; do cmp out/$$file $(JOB)/expected/$$file || exit 1; done
+	sha256sum $(PROGRAM)
+
+install:
+	test -x $(PROGRAM) || { echo "make: $(PROGRAM) isn't there: run make demo first" >&2; exit 1; }
+	install -D -m 755 $(PROGRAM) $(DESTDIR)$(PREFIX)/bin/rxbatch
+	install -D -m 644 packaging/rxbatch.1 $(DESTDIR)$(PREFIX)/share/man/man1/rxbatch.1
+	install -D -m 644 packaging/rxbatch.bash $(DESTDIR)$(PREFIX)/share/bash-completion/completions/rxbatch
+	install -D -m 644 packaging/_rxbatch $(DESTDIR)$(PREFIX)/share/zsh/site-functions/_rxbatch

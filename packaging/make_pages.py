@@ -1,0 +1,173 @@
+#!/usr/bin/env python3
+"""Makes the manual page and the completions from what the program says of itself.
+
+    python3 packaging/make_pages.py PROGRAM           writes rxbatch.1, rxbatch.bash and _rxbatch beside this script
+    python3 packaging/make_pages.py PROGRAM --check   compares them with what would be written
+
+PROGRAM is the built program, `crates/rxbatch/out/rxbatch`. With `--check` the last line is `N passed, M failed`, and the
+exit status is 1 where M isn't 0.
+"""
+
+import os
+import pathlib
+import re
+import subprocess
+import sys
+
+OPTION = re.compile(r"^ +(?:(-\w), )? *(--[\w-]+)(?: <(\w+)>)? {2,}(.*)$")
+COMMAND = re.compile(r"^  (\w+) {2,}(.*)$")
+# What `--help` doesn't say.
+STATUSES = [
+    ("0", "It is done, or what was asked for is so."),
+    ("1", "An input is refused: the line \"refused N M P\" on standard error."),
+    ("2", "The words aren't understood, or ask for help."),
+    ("3", "A file failed: the line \"file K\" on standard error."),
+    ("4", "Of check: there are warnings alone. Of explain: there is no such claim."),
+    ("5", "Of verify and explain: a file or a reply differs."),
+]
+
+
+class Command:
+    """What the help of a command says."""
+
+    def __init__(self, name, about):
+        self.name, self.about = name, about
+        self.usage = ""
+        # (short, long, value, help)
+        self.options = []
+
+
+def help_of(program, *words):
+    """The text of `--help`, which goes to standard error."""
+    done = subprocess.run([program, *words, "--help"], capture_output=True, text=True, check=False)
+    return done.stderr or done.stdout
+
+
+def read_command(program, name, about):
+    command = Command(name, about)
+    for line in help_of(program, name).splitlines():
+        option = OPTION.match(line)
+        if line.startswith("Usage: "):
+            command.usage = re.sub(r"^Usage: \S+", "rxbatch", line)
+        elif option and option[2] != "--help":
+            command.options.append(option.groups())
+    return command
+
+
+def read_commands(program):
+    """The commands of the program, without `help`."""
+    text = help_of(program).partition("Commands:")[2].partition("Options:")[0]
+    names = [match.groups() for match in map(COMMAND.match, text.splitlines()) if match]
+    return [read_command(program, name, about) for name, about in names if name != "help"]
+
+
+def escaped(text):
+    return text.replace("\\", "\\e").replace("-", "\\-").replace("'", "\\(aq")
+
+
+def manual(commands):
+    lines = [".TH RXBATCH 1", ".SH NAME", "rxbatch \\- adjudicates pharmacy batch files", ".SH SYNOPSIS"]
+    for command in commands:
+        lines += [".B " + escaped(command.usage), ".br"]
+    lines += [
+        ".SH DESCRIPTION",
+        "Takes a batch file of pharmacy claims, a plan sheet and the books of members and standing claims, and gives the",
+        "response file, the end books and a settlement per pharmacy, byte for byte as if the file had been read one record",
+        "after another.",
+        ".SH COMMANDS",
+    ]
+    for command in commands:
+        lines += [".SS " + command.name, escaped(command.about) + "."]
+        for short, name, value, told in command.options:
+            shown = "\\fB" + escaped(", ".join(filter(None, (short, name)))) + "\\fR"
+            lines += [".TP", shown + (f" \\fI{value}\\fR" if value else ""), escaped(told) + "."]
+    lines.append(".SH EXIT STATUS")
+    for status, meaning in STATUSES:
+        lines += [".TP", status, escaped(meaning)]
+    return "\n".join(lines) + "\n"
+
+
+def bash(commands):
+    cases = []
+    for command in commands:
+        words = " ".join(name for _, name, _, _ in command.options)
+        files = "|".join(name for _, name, value, _ in command.options if value == "FILE")
+        cases.append(f"    {command.name}) words='{words}'; files='{files}' ;;")
+    names = " ".join(command.name for command in commands)
+    return f"""# Completions of rxbatch for bash.
+_rxbatch() {{
+  local word=${{COMP_WORDS[COMP_CWORD]}} before=${{COMP_WORDS[COMP_CWORD - 1]}} words files
+  if [ "$COMP_CWORD" -eq 1 ]; then
+    mapfile -t COMPREPLY < <(compgen -W '{names}' -- "$word")
+    return
+  fi
+  case ${{COMP_WORDS[1]}} in
+{chr(10).join(cases)}
+  esac
+  if [ -n "$files" ] && [[ "|$files|" == *"|$before|"* ]]; then
+    mapfile -t COMPREPLY < <(compgen -f -- "$word")
+  else
+    mapfile -t COMPREPLY < <(compgen -W "$words" -- "$word")
+  fi
+}}
+complete -o filenames -F _rxbatch rxbatch
+"""
+
+
+def zsh(commands):
+    def quoted(text):
+        return text.replace("'", "'\\''").replace("[", "\\[").replace("]", "\\]").replace(":", "\\:")
+
+    told = "\n".join(f"    '{command.name}:{quoted(command.about)}'" for command in commands)
+    cases = []
+    for command in commands:
+        options = []
+        for _, name, value, text in command.options:
+            action = {"FILE": ":file:_files", None: ""}.get(value, f":{value}:")
+            options.append(f"'{name}[{quoted(text)}]{action}'")
+        cases.append(f"    {command.name}) _arguments {' '.join(options)} ;;")
+    return f"""#compdef rxbatch
+# Completions of rxbatch for zsh.
+_rxbatch() {{
+  local -a commands=(
+{told}
+  )
+  if (( CURRENT == 2 )); then
+    _describe command commands
+    return
+  fi
+  local command=$words[2]
+  shift words
+  (( CURRENT-- ))
+  case $command in
+{chr(10).join(cases)}
+  esac
+}}
+_rxbatch "$@"
+"""
+
+
+def main():
+    words = [word for word in sys.argv[1:] if word != "--check"]
+    if len(words) != 1:
+        sys.exit(__doc__)
+    commands = read_commands(os.path.abspath(words[0]))
+    folder = pathlib.Path(__file__).parent
+    pages = {"rxbatch.1": manual(commands), "rxbatch.bash": bash(commands), "_rxbatch": zsh(commands)}
+    passed = 0
+    for name, text in pages.items():
+        path = folder / name
+        if "--check" not in sys.argv:
+            path.write_text(text)
+        elif commands and path.exists() and path.read_text() == text:
+            passed += 1
+        else:
+            print(f"packaging/{name} isn't what the program says of itself: run packaging/make_pages.py")
+    if "--check" in sys.argv:
+        print(f"{passed} passed, {len(pages) - passed} failed")
+        return 0 if passed == len(pages) else 1
+    return 0
+
+
+if __name__ == "__main__":
+    sys.exit(main())
