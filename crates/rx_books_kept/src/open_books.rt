@@ -15,7 +15,7 @@ use crate::amounts::{add_at, take_at};
 use crate::books::Books;
 use crate::opened::{fresh_slots, merged};
 use crate::opening::Opening;
-use crate::slot::{KeySlot, held_at, slot_at};
+use crate::slot::{KeySlot, held_at, is_slot_at, slot_at};
 use crate::standing::Standing;
 use rx_fields::{Id, Key, Memory, Period, Person};
 use rx_ledger::{Member, MemberKey, Row};
@@ -87,6 +87,17 @@ impl OpenBooks {
             Ok(at) => Some(at),
             Err(_) => None,
         }
+    }
+
+    /// The same, where the slot is looked for at the place `near` before the others are searched.
+    pub fn slot_near(&self, near: usize, key: &Key) -> Option<usize>
+        ensures found { IfSome result (λ at. slice_get self.now.slots at ≡ Some key.now) }
+        ensures absent { IfNone result (¬ Contains self.now.slots key.now) }
+    {
+        if is_slot_at(self.changed.as_slice(), near, key) {
+            return Some(near);
+        }
+        self.slot_of(key)
     }
 
     /// The fill key of a slot.

@@ -1,6 +1,8 @@
-ghost use Rattle.std.specs.Prelude.{◌≡◌, ◌<◌, Some, length, slice_get};
+ghost use Rattle.std.specs.Prelude.{◌≡◌, ◌<◌, IsTrue, Some, length, slice_get};
 ghost use Rattle.std.specs.Option.{option_copied, option_map};
-ghost use Rattle.rx_books_kept.specs.Store.{held};
+ghost use Rattle.rx_fields.specs.Order.{key_cmp};
+ghost use Rattle.rx_order.specs.Ascending.{IsAt};
+ghost use Rattle.rx_books_kept.specs.Store.{held, slot_key};
 
 use rx_fields::Key;
 use rx_ledger::Row;
@@ -38,4 +40,14 @@ pub(crate) fn held_at(slots: &Ascending<KeySlot>, place: usize) -> Option<&Row>
     ensures { option_map held (slice_get slots.now place) ≡ Some (option_copied result) }
 {
     slots.as_slice()[place].held.as_ref()
+}
+
+/// Whether the slot of the fill key is at the place.
+pub(crate) fn is_slot_at(slots: &[KeySlot], place: usize, key: &Key) -> bool
+    ensures { IsTrue result → IsAt key_cmp slot_key slots.now key.now place }
+{
+    match slots.get(place) {
+        Some(slot) => slot.key.cmp(key).is_eq(),
+        None => false,
+    }
 }

@@ -4,9 +4,9 @@ ghost use Rattle.rx_ledger.specs.Ledger.{is_listed, is_taken, row_under};
 ghost use Rattle.rx_ledger.specs.Members.{member_cmp, member_key, person_in};
 ghost use Rattle.rx_ledger.specs.Rows.{member_of_row};
 ghost use Rattle.rx_ledger.specs.Sums.{family_deductible_in, out_of_pocket_in};
-ghost use Rattle.rx_parcels.specs.FamilyBook.{IsOwn, book_with_member, book_with_row, book_without_row, deductible_at, empty_book, own_ledger};
+ghost use Rattle.rx_parcels.specs.FamilyBook.{AreTotals, IsOwn, book_with_member, book_with_row, book_without_row, deductible_at, empty_book, own_ledger};
 
-use crate::totals::{counted_in, place_of_member};
+use crate::totals::{FamilyTotals, counted_in, place_of_member};
 use rx_fields::{Id, Key, Memory, Period, Person};
 use rx_ledger::{Member, MemberKey, Row};
 use rx_order::{Ascending, InsertError, Keyed};
@@ -61,6 +61,34 @@ impl Family {
             deductibles: Vec::new(alloc),
             out_of_pocket: 0,
             deductible: 0,
+        }
+    }
+
+    /// The book of these members and rows, with totals that are the sums over the rows. It takes no memory.
+    pub fn of_lists(
+        family: Id,
+        period: Period,
+        members: Ascending<Member>,
+        rows: Ascending<Row>,
+        totals: FamilyTotals,
+    ) -> Family
+        requires own { IsOwn (record { family = family; period = period; members = members; rows = rows }) }
+        requires totals { AreTotals (record { family = family; period = period; members = members; rows = rows }) totals.deductibles.items totals.out_of_pocket totals.deductible }
+        ensures { result ≡ record { family = family; period = period; members = members; rows = rows } }
+    {
+        let FamilyTotals {
+            deductibles,
+            out_of_pocket,
+            deductible,
+        } = totals;
+        Family {
+            family,
+            period,
+            members,
+            rows,
+            deductibles,
+            out_of_pocket,
+            deductible,
         }
     }
 

@@ -19,4 +19,4 @@ pub use footprint::Footprint;
 pub use key_book::KeyBook;
 pub use law::law_of_locality;
 pub use parcel::Parcel;
-pub use totals::{Counted, counted_in, place_of_member};
+pub use totals::{Counted, FamilyTotals, counted_in, place_of_member};

@@ -17,6 +17,17 @@ pub struct Counted {
     pub out_of_pocket: u128,
 }
 
+/// The totals of a family's book, in cents.
+#[derive(Debug, Drop)]
+pub struct FamilyTotals {
+    /// The members' deductibles, in their order.
+    pub deductibles: Vec<u128>,
+    /// The family's out of pocket.
+    pub out_of_pocket: u128,
+    /// The family's deductible.
+    pub deductible: u128,
+}
+
 /// What a row counts in a period.
 pub fn counted_in(period: Period, row: &Row) -> Counted
     ensures deductible { result.deductible ≡ counted period deductible_paid row.now }

@@ -1,1 +1,2 @@
+pub mod NearPlaces
 pub mod Valued

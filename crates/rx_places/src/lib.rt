@@ -1,9 +1,14 @@
 //! Places of books: of each fill key and family that is named, its book, or word that the book is out.
 //!
-//! In come books that are in their places; what each is worth beside the ledger that they were taken from, and when they
+//! In come books that are in their places, and lists of places in which a book is found by a hash of its name
+//! (`Hinted`); what each is worth beside the ledger that they were taken from, and when they
 //! agree, stands in `specs/Shelves.antt`.
 #![tactic(auto)]
 
+mod hinted;
+mod near;
 mod place;
 
+pub use hinted::{Hashed, Hinted};
+pub use near::place_near;
 pub use place::{FamilyPlace, KeyPlace};

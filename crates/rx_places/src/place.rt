@@ -1,3 +1,4 @@
+use crate::hinted::{Hashed, hash_of_text, mixed};
 use rx_fields::{Id, Key};
 use rx_ledger::Row;
 use rx_order::Keyed;
@@ -22,6 +23,14 @@ impl Keyed for KeyPlace {
     }
 }
 
+impl Hashed for KeyPlace {
+    fn hash_of(key: &Key) -> u64 {
+        let hash = mixed(hash_of_text(key.provider.bytes()), key.reference.get());
+        let hash = mixed(hash, u64::from(key.date.month()));
+        mixed(hash, u64::from(key.date.day()))
+    }
+}
+
 /// The place of a family's book: the book, or nothing, where it is out.
 #[derive(Debug, Drop)]
 pub struct FamilyPlace {
@@ -38,5 +47,11 @@ impl Keyed for FamilyPlace {
 
     fn key(&self) -> Id {
         self.family
+    }
+}
+
+impl Hashed for FamilyPlace {
+    fn hash_of(family: &Id) -> u64 {
+        hash_of_text(family.bytes())
     }
 }

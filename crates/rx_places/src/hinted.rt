@@ -1,0 +1,161 @@
+ghost use Rattle.std.specs.Prelude.{◌≡◌, IfErr, IfOk, OnErr, OnOk};
+ghost use Rattle.std.specs.Option.{ok_or, option_copied};
+ghost use Rattle.rx_order.specs.Ascending.{IsAscending, IsAt, IsGap, contains_key, item_at, put};
+
+use crate::near::is_at;
+use rx_fields::Memory;
+use rx_order::{Ascending, Keyed};
+use std::alloc::Global;
+use std::marker::Model;
+
+// How many places an item is looked for at, before the list is searched.
+const TRIES: u64 = 8;
+
+// A place at which no item is.
+const EMPTY: u32 = u32::MAX;
+
+// The offset basis and the prime of FNV-1a, for 64 bits.
+const BASIS: u64 = 0xcbf2_9ce4_8422_2325;
+
+const PRIME: u64 = 0x0000_0100_0000_01b3;
+
+/// An item with a hash of its key.
+pub trait Hashed: Keyed {
+    /// A hash of the key, the same for equal keys. Nothing rests on it but speed.
+    fn hash_of(key: &Self::Key) -> u64;
+}
+
+/// A list in the ascending order of its items' keys, at most one item of a key, whose items are found by a hash of their
+/// keys. Contracts see the list: of the hints nothing is promised, for the item found is compared, and one that isn't
+/// found is searched for.
+#[derive(Debug, Drop)]
+pub struct Hinted<T: Hashed> {
+    items: Ascending<T>,
+    // Where items probably are, by the hashes of their keys.
+    hints: Vec<u32>,
+}
+
+impl<T: Hashed> Model for Hinted<T> {
+    ghost use Rattle.std.specs.Prelude.{List};
+
+    ghost Value = { List T };
+
+    ghost view = { λ h. h.items };
+}
+
+impl<T: Hashed> Hinted<T> {
+    /// The same list, with hints. On a refusal the list is dropped.
+    pub fn of(alloc: Global, items: Ascending<T>) -> Result<Hinted<T>, Memory>
+    where
+        T: Drop,
+        ensures { IfOk result (λ list. list ≡ items) }
+    {
+        let hints = hints_of(alloc, items.as_slice())?;
+        Ok(Hinted { items, hints })
+    }
+
+    /// All items, in order.
+    pub fn as_slice(&self) -> &[T]
+        ensures value { result.now ≡ self.now }
+        ensures ascending { IsAscending T.Key.cmp T.key_of self.now }
+    {
+        self.items.as_slice()
+    }
+
+    /// Where the item with the key is, or where it would go.
+    pub fn place(&self, key: &T::Key) -> Result<usize, usize>
+        ensures found { IfOk result (IsAt T.Key.cmp T.key_of self.now key.now) }
+        ensures absent { IfErr result (IsGap T.Key.cmp T.key_of self.now key.now) }
+    {
+        let hash = T::hash_of(key);
+        for step in 0..TRIES {
+            let at = nth_try(self.hints.len(), hash, step);
+            let place = self.hints.get(at).copied().unwrap_or(EMPTY) as usize;
+            if is_at(self.items.as_slice(), place, key) {
+                return Ok(place);
+            }
+        }
+        self.items.place(key)
+    }
+
+    /// The item that has the key.
+    pub fn get(&self, key: &T::Key) -> Option<&T>
+        ensures { option_copied result ≡ item_at T.Key.cmp T.key_of self.now key.now }
+    {
+        match self.place(key) {
+            Ok(at) => Some(&self.items.as_slice()[at]),
+            Err(_) => None,
+        }
+    }
+
+    /// Whether an item has the key.
+    pub fn contains_key(&self, key: &T::Key) -> bool
+        ensures { result ≡ contains_key T.Key.cmp T.key_of self.now key.now }
+    {
+        self.place(key).is_ok()
+    }
+
+    /// Writes the item over the one that has its key, which comes back. An item with a new key comes back itself, as
+    /// an `Err`. It takes no memory.
+    pub fn replace(&mut self, item: T) -> Result<T, T>
+        ensures value { result ≡ ok_or (item_at T.Key.cmp T.key_of self.old (T.key_of item)) item }
+        ensures ok { OnOk result (self.new ≡ put T.Key.cmp T.key_of self.old item) }
+        ensures err { OnErr result (self.new ≡ self.old) }
+
+        ensures ascending { IsAscending T.Key.cmp T.key_of self.old }
+    {
+        self.as_slice();
+        match self.place(&item.key()) {
+            Ok(at) => Ok(self.items.replace_at(at, item)),
+            Err(_) => Err(item),
+        }
+    }
+}
+
+// Where these items are, by the hashes of their keys; two places for each.
+fn hints_of<T: Hashed>(alloc: Global, items: &[T]) -> Result<Vec<u32>, Memory> {
+    let mut hints = vec![in alloc; EMPTY; items.len().saturating_mul(2)]?;
+    for (place, item) in items.iter().enumerate() {
+        put_hint(
+            &mut hints,
+            T::hash_of(&item.key()),
+            u32::try_from(place).unwrap_or(EMPTY),
+        );
+    }
+    Ok(hints)
+}
+
+// Writes the place where it is looked for first, of those that are free; it isn't written where none is.
+fn put_hint(hints: &mut Vec<u32>, hash: u64, place: u32) {
+    for step in 0..TRIES {
+        let at = nth_try(hints.len(), hash, step);
+        if let Some(free) = hints.get_mut(at)
+            && *free == EMPTY
+        {
+            *free = place;
+            return;
+        }
+    }
+}
+
+// Where the place under a hash is looked for, in a table of this length.
+fn nth_try(len: usize, hash: u64, step: u64) -> usize {
+    if len == 0 {
+        return 0;
+    }
+    (hash.wrapping_add(step) % len as u64) as usize
+}
+
+/// FNV-1a of a text.
+pub(crate) fn hash_of_text(text: &[u8]) -> u64 {
+    let mut hash = BASIS;
+    for byte in text {
+        hash = mixed(hash, u64::from(*byte));
+    }
+    hash
+}
+
+/// A hash with one more number, as FNV-1a has it with one more byte.
+pub(crate) fn mixed(hash: u64, number: u64) -> u64 {
+    (hash ^ number).wrapping_mul(PRIME)
+}
