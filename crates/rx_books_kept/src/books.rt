@@ -12,6 +12,7 @@ ghost use Rattle.rx_books_kept.specs.LedgerBooks.{deductible_of_family, deductib
 use crate::holders::{holders_of, one_run};
 use crate::open_books::OpenBooks;
 use crate::opening::Opening;
+use crate::places::Places;
 use rx_books_text::{BooksFault, Printed, Version, put_head, read_printed};
 use rx_fields::{Id, Key, Memory, Period, Person};
 use rx_ledger::{Ledger, Row};
@@ -42,8 +43,9 @@ impl Books {
     {
         let (members, rows) = ledger.copy(alloc)?.into_lists();
         let rows = one_run(alloc, rows)?;
-        let holders = holders_of(alloc, &members, &rows).ok_or(Memory)?;
-        let opening = Opening::of(alloc, members, rows, holders)?;
+        let places = Places::of(alloc, members.as_slice()).ok_or(Memory)?;
+        let holders = holders_of(alloc, &places, &members, &rows).ok_or(Memory)?;
+        let opening = Opening::of(alloc, members, rows, holders, places)?;
         let kept = OpenBooks::added_up(alloc, period, opening, Ascending::new(alloc))?;
         Ok(Books { kept })
     }

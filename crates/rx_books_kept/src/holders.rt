@@ -11,23 +11,19 @@ use rx_order::{Ascending, Runs};
 use std::alloc::Global;
 use std::thread::Threads;
 
-/// For each row the place of its member. None where one isn't listed, or there are 2^32 members, or for want of memory.
+/// For each row the place of its member. None where one isn't listed, or for want of memory.
 pub(crate) fn holders_of(
     alloc: Global,
+    places: &Places,
     members: &Ascending<Member>,
     rows: &Runs<Row>,
 ) -> Option<Vec<u32>>
-    ensures held { IfSome result (λ holders. AreHolders members.now rows.now holders.items) }
-    ensures few { IfSome result (λ holders. length members.now < 2 ^ 32) }
+    ensures { IfSome result (λ holders. AreHolders members.now rows.now holders.items) }
 {
-    if members.len() >= 1 << 32 {
-        return None;
-    }
-    let places = Places::of(alloc, members.as_slice())?;
     let mut holders = Vec::with_capacity(alloc, rows.len()).ok()?;
     let runs = rows.runs();
     for run in runs {
-        let more = holders_in(alloc, &places, members, run)?;
+        let more = holders_in(alloc, places, members, run)?;
         let Ok(()) = holders.extend_from_slice(&more) else {
             return None;
         };
@@ -39,17 +35,13 @@ pub(crate) fn holders_of(
 pub(crate) fn holders_in_parts<R: Threads + Sync>(
     rt: &R,
     alloc: Global,
+    places: &Places,
     members: &Ascending<Member>,
     rows: &Runs<Row>,
 ) -> Option<Vec<u32>>
-    ensures held { IfSome result (λ holders. AreHolders members.now rows.now holders.items) }
-    ensures few { IfSome result (λ holders. length members.now < 2 ^ 32) }
+    ensures { IfSome result (λ holders. AreHolders members.now rows.now holders.items) }
 {
-    if members.len() >= 1 << 32 {
-        return None;
-    }
-    let places = Places::of(alloc, members.as_slice())?;
-    let found = found_in_parts(rt, alloc, &places, members, rows.runs())?;
+    let found = found_in_parts(rt, alloc, places, members, rows.runs())?;
     joined(alloc, rows.len(), &found)
 }
 
@@ -109,7 +101,7 @@ fn holders_in(
 {
     let mut holders = Vec::with_capacity(alloc, run.len()).ok()?;
     for row in run {
-        let place = places.place_of(members, &row.member())?;
+        let place = places.kept_place_of(members, &row.member())?;
         let Ok(()) = holders.push(place) else {
             return None;
         };

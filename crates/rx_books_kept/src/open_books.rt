@@ -1,4 +1,4 @@
-ghost use Rattle.std.specs.Prelude.{◌≡◌, ◌<◌, IfOk, IfSome, IfNone, Some, true, false, is_some, length, slice_get};
+ghost use Rattle.std.specs.Prelude.{◌≡◌, ◌<◌, IfOk, IfSome, IfNone, IsTrue, Some, true, false, is_some, length, slice_get};
 ghost use Rattle.std.specs.List.{All, Contains};
 ghost use Rattle.std.specs.Option.{option_copied};
 ghost use Rattle.rx_fields.specs.Order.{key_cmp};
@@ -98,6 +98,16 @@ impl OpenBooks {
             return Some(near);
         }
         self.slot_of(key)
+    }
+
+    /// Whether the fill key has its slot at this place.
+    pub fn is_slot(&self, slot: usize, key: &Key) -> bool
+        ensures { IsTrue result → slice_get self.now.slots slot ≡ Some key.now }
+    {
+        match self.changed.as_slice().get(slot) {
+            Some(found) => found.key == *key,
+            None => false,
+        }
     }
 
     /// The fill key of a slot.
@@ -256,7 +266,7 @@ impl OpenBooks {
             family_deductibles,
         } = self;
         let fresh = fresh_slots(alloc, &opening, keys)?;
-        let changed = merged(alloc, &fresh, changed.as_slice())?;
+        let changed = merged(alloc, fresh, changed.as_slice())?;
         let _rows = opening.rows().len();
         let _slots = changed.len();
         Ok(OpenBooks {

@@ -22,7 +22,7 @@ pub(crate) fn fresh_slots(
     ensures own { IfOk result (λ slots. All (IsSlot opening.now.members) slots.items) }
     ensures there { IfOk result (λ slots. All (λ s. row_under opening.now s.key ≡ s.held) slots.items) }
 {
-    let mut slots = Vec::new(alloc);
+    let mut slots = Vec::with_capacity(alloc, keys.len())?;
     for key in keys {
         let KeySlot { key, held, holder } = fresh_slot(opening, key);
         slots.push(KeySlot { key, held, holder })?;
@@ -53,6 +53,25 @@ fn fresh_slot(opening: &Opening, key: &Key) -> KeySlot
 /// The slots of two lists, in order; where both have a fill key, the one of `over`.
 pub(crate) fn merged(
     alloc: Global,
+    under: Vec<KeySlot>,
+    over: &[KeySlot],
+) -> Result<Ascending<KeySlot>, Memory>
+    requires under { IsAscending key_cmp slot_key under.items }
+    requires over { IsAscending key_cmp slot_key over.now }
+    ensures { IfOk result (λ slots. slots ≡ put_all key_cmp slot_key under.items over.now) }
+{
+    if over.is_empty() {
+        return match Ascending::from_vec(under) {
+            Ok(slots) => Ok(slots),
+            Err(_) => unreachable!(),
+        };
+    }
+    merged_lists(alloc, &under, over)
+}
+
+// The same, where both lists have slots.
+fn merged_lists(
+    alloc: Global,
     under: &[KeySlot],
     over: &[KeySlot],
 ) -> Result<Ascending<KeySlot>, Memory>
@@ -60,7 +79,7 @@ pub(crate) fn merged(
     requires over { IsAscending key_cmp slot_key over.now }
     ensures { IfOk result (λ slots. slots ≡ put_all key_cmp slot_key under.now over.now) }
 {
-    let mut slots = Vec::new(alloc);
+    let mut slots = Vec::with_capacity(alloc, under.len().saturating_add(over.len()))?;
     let (mut low, mut high) = (0, 0);
     'slots: while let Some(next) = next_slot(under, over, low, high) {
         slots.push(next.slot)?;

@@ -9,6 +9,7 @@ ghost use Rattle.rx_books_kept.specs.LedgerBooks.{has_members};
 ghost use Rattle.rx_books_kept.specs.Opening.{name_of, names_of};
 ghost use Rattle.rx_books_kept.specs.Store.{AreHolders, AreHomes};
 
+use crate::places::Places;
 use rx_fields::{Id, Memory};
 use rx_ledger::{Member, MemberKey, Row};
 use rx_order::{Ascending, Keyed, Runs};
@@ -40,6 +41,7 @@ pub(crate) struct Lists {
     families: Ascending<FamilyName>,
     homes: Vec<u32>,
     holders: Vec<u32>,
+    places: Places,
 }
 
 impl Model for Lists {
@@ -77,13 +79,14 @@ impl Opening {
         members: Ascending<Member>,
         rows: Runs<Row>,
         holders: Vec<u32>,
+        places: Places,
     ) -> Result<Opening, Memory>
         requires few { length members < 2 ^ 32 }
         requires held { AreHolders members rows holders.items }
         ensures value { IfOk result (λ opening. opening ≡ record { members = members; rows = rows }) }
         ensures within { IfOk result (λ opening. IsLedger opening) }
     {
-        let lists = Lists::of(alloc, members, rows, holders)?;
+        let lists = Lists::of(alloc, members, rows, holders, places)?;
         let lists = Arc::new(alloc, lists)?;
         Ok(Opening { lists })
     }
@@ -133,10 +136,7 @@ impl Opening {
         ensures found { IfSome result (IsAt member_cmp member_key self.now.members key.now) }
         ensures listed { is_some result ≡ is_listed self.now key.now }
     {
-        match self.members().place(key) {
-            Ok(at) => Some(at),
-            Err(_) => None,
-        }
+        self.lists.member_of(key)
     }
 
     /// The place of a member, as a slot keeps it.
@@ -171,6 +171,7 @@ impl Lists {
         members: Ascending<Member>,
         rows: Runs<Row>,
         holders: Vec<u32>,
+        places: Places,
     ) -> Result<Lists, Memory>
         requires few { length members < 2 ^ 32 }
         requires held { AreHolders members rows holders.items }
@@ -185,6 +186,7 @@ impl Lists {
             families,
             homes,
             holders,
+            places,
         })
     }
 
@@ -219,6 +221,13 @@ impl Lists {
         }
     }
 
+    fn member_of(&self, key: &MemberKey) -> Option<usize>
+        ensures found { IfSome result (IsAt member_cmp member_key self.now.members key.now) }
+        ensures listed { is_some result ≡ is_listed self.now key.now }
+    {
+        self.places.place_of(&self.members, key)
+    }
+
     fn home(&self, member: usize) -> usize
         requires { member < length self.now.members }
         ensures { IfSome (slice_get self.now.members member) (λ m. slice_get (families_of self.now.members) result ≡ Some m.key.family) }
@@ -242,7 +251,7 @@ fn homes_of(alloc: Global, members: &[Member]) -> Result<(Ascending<FamilyName>,
     ensures homes { IfOk result (λ r. AreHomes members.now (families_of members.now) r.1.items) }
 {
     let mut families = Ascending::new(alloc);
-    let mut homes = Vec::new(alloc);
+    let mut homes = Vec::with_capacity(alloc, members.len())?;
     for member in members {
         let home = last_place(&mut families, member.key.family)?;
         homes.push(home as u32)?;

@@ -10,6 +10,7 @@ use crate::books::Books;
 use crate::holders::{holders_in_parts, holders_of};
 use crate::open_books::OpenBooks;
 use crate::opening::{FamilyName, Opening};
+use crate::places::Places;
 use rx_books_quick::{Lists, read_lists, read_lists_in_parts};
 use rx_books_text::{BooksFault, TotalLine, Version};
 use rx_order::Ascending;
@@ -23,8 +24,9 @@ impl Books {
         ensures { IfSome result (λ books. books_of text.now ≡ Ok books) }
     {
         let lists = read_lists(alloc, text)?;
-        let holders = holders_of(alloc, &lists.members, &lists.rows)?;
-        Books::of_lists(alloc, lists, holders)
+        let places = Places::of(alloc, lists.members.as_slice())?;
+        let holders = holders_of(alloc, &places, &lists.members, &lists.rows)?;
+        Books::of_lists(alloc, lists, holders, places)
     }
 
     /// The same, by a thread for each of so many parts of the lines; one part is read on the calling thread.
@@ -40,8 +42,9 @@ impl Books {
             return Books::read_quickly(alloc, text);
         }
         let lists = read_lists_in_parts(rt, alloc, parts, text)?;
-        let holders = holders_in_parts(rt, alloc, &lists.members, &lists.rows)?;
-        Books::of_lists(alloc, lists, holders)
+        let places = Places::of(alloc, lists.members.as_slice())?;
+        let holders = holders_in_parts(rt, alloc, &places, &lists.members, &lists.rows)?;
+        Books::of_lists(alloc, lists, holders, places)
     }
 
     /// The books that were read quickly, or else what the exact reader finds.
@@ -61,7 +64,7 @@ impl Books {
 
     // The books of these lists, where each figure is the sum. None where one isn't, or a family has no total line, or for
     // want of memory.
-    fn of_lists(alloc: Global, lists: Lists, holders: Vec<u32>) -> Option<Books>
+    fn of_lists(alloc: Global, lists: Lists, holders: Vec<u32>, places: Places) -> Option<Books>
         requires few { length lists.members < 2 ^ 32 }
         requires held { AreHolders lists.members lists.rows holders.items }
         ensures books { IfSome result (λ books. books ≡ unsummed (printed_lists lists)) }
@@ -74,7 +77,7 @@ impl Books {
             rows,
             totals,
         } = lists;
-        let opening = Opening::of(alloc, members, rows, holders).ok()?;
+        let opening = Opening::of(alloc, members, rows, holders, places).ok()?;
         let kept = OpenBooks::added_up(alloc, head.period, opening, Ascending::new(alloc)).ok()?;
         if !kept.prints(head.version, &deductibles, totals.as_slice()) {
             return None;

@@ -7,8 +7,8 @@ use Rattle.rx_books_kept.specs.Store.{AreHolders}
 use Rattle.rx_books_kept.proofs.Openings.{AreHolders-runs}
 use Rattle.rx_books_kept.proofs.holders.holders_in_parts.Goals as goal
 
-pub returns-clause-held : goal.returns-clause-held
-returns-clause-held g c =
+pub returns : goal.returns
+returns g c =
     let ms = c.args.members.now in
     let found = c.in_ok-found.found.items in
     let all = subst (λ (rs : List Row). AreHolders ms rs (flat_map vec_items found)) c.runs.ensures.value

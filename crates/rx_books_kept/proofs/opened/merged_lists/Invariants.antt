@@ -2,7 +2,7 @@ use Rattle.std.proofs.Common.{◌≡◌, ◌≤◌, ◌++◌, ◌+◌, ◌-◌, 
 use Rattle.rx_fields.specs.Order.{key_cmp}
 use Rattle.rx_order.specs.Ascending.{put_all}
 use Rattle.rx_books_kept.specs.Store.{slot_key}
-use Rattle.rx_books_kept.proofs.opened.merged.Given as goal
+use Rattle.rx_books_kept.proofs.opened.merged_lists.Given as goal
 
 abbrev pub invariant-slots : goal.invariant-slots
 invariant-slots l = record {
