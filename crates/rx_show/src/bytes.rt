@@ -26,7 +26,8 @@ pub fn shown(alloc: Global, text: &[u8]) -> Result<Vec<u8>, Memory>
     Ok(line)
 }
 
-fn hexadecimal(digit: u8) -> u8
+/// The character of a hexadecimal digit: 0 to 9, A to F.
+pub fn hexadecimal(digit: u8) -> u8
     requires { digit < 16 }
     ensures { result ≡ hexadecimal digit }
 {

@@ -14,8 +14,8 @@ mod bytes;
 mod lines;
 mod plan;
 
-pub use bytes::shown;
-pub use lines::show_lines;
+pub use bytes::{hexadecimal, shown};
+pub use lines::{put_codes, show_lines};
 pub use plan::plan_lines;
 
 #[cfg(test)]

@@ -136,9 +136,9 @@ fn put_key(
     text.extend_from_slice(&date_write(heard.date))
 }
 
-// The codes with a comma between each two.
+/// Puts codes at the end of a text, with a comma between each two.
 #[tactic(auto, using(std::proofs::Common::append_assoc))]
-fn put_codes(text: &mut Vec<u8>, given: &Codes) -> Result<(), AllocError>
+pub fn put_codes(text: &mut Vec<u8>, given: &Codes) -> Result<(), AllocError>
     ensures { OnOk result (text.new.items ≡ text.old.items ++ code_list given.now) }
 {
     let [first, others @ ..] = given.as_slice() else {
