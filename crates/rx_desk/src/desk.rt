@@ -7,6 +7,7 @@ ghost use Rattle.rx_desk.specs.Desks.{AreTerms, IsJob, IsNext, IsOut, MayBeTaken
 use crate::making::{all_waiting, blank_replies, in_order, terms_of};
 use crate::moves::{Taken, closed, mark_given, mark_out, note, put_in, take_books};
 use crate::next::Next;
+use crate::remains::Remains;
 use crate::same_job::{
     same_books, same_drugs, same_figures, same_record, same_records, same_terms,
 };
@@ -165,19 +166,32 @@ impl Desk {
         ensures err { OnErr result (self.new ≡ self.old) }
         ensures back { IfErr result (λ back. back ≡ done) }
     {
+        match self.give_apart(done) {
+            Ok(_remains) => Ok(()),
+            Err(back) => Err(back),
+        }
+    }
+
+    /// The same; the memory that isn't needed any more comes back, for a caller that lets it go without its lock.
+    pub fn give_apart(&mut self, done: Done) -> Result<Remains, Done>
+        ensures accepts { IsOk result ↔ IsOut self.old done.order }
+        ensures ok { OnOk result (self.new ≡ after_event self.old (Event.Give done.order.place)) }
+        ensures err { OnErr result (self.new ≡ self.old) }
+        ensures back { IfErr result (λ back. back ≡ done) }
+    {
         let order = done.order();
         let place = order.place() as usize;
         if !self.has_out(order) {
             return Err(done);
         }
         let at = place - 1;
-        let (_order, after, reply) = done.part();
+        let (order, after, reply) = done.part();
         put_in(&mut self.shelf, after);
         note(&mut self.history, Event::Give(place));
         self.queues.pass(place);
-        mark_given(&mut self.states, at);
+        let state = mark_given(&mut self.states, at);
         self.replies[at] = reply;
-        Ok(())
+        Ok(Remains { order, state })
     }
 
     // Whether the order is equal to one that is out.

@@ -19,6 +19,7 @@ mod desk;
 mod making;
 mod moves;
 mod next;
+mod remains;
 mod same_job;
 mod state;
 #[cfg(test)]
@@ -26,5 +27,6 @@ mod tests;
 
 pub use desk::Desk;
 pub use next::Next;
+pub use remains::Remains;
 pub use rx_in_order::Finished;
 pub use rx_schedule::Event;

@@ -135,10 +135,10 @@ pub(crate) fn mark_out(states: &mut Vec<State>, at: usize, kept: Parcel)
     states[at] = State::Out(kept);
 }
 
-/// Notes that a record was given.
-pub(crate) fn mark_given(states: &mut Vec<State>, at: usize)
+/// Notes that a record was given; what stood there before comes back.
+pub(crate) fn mark_given(states: &mut Vec<State>, at: usize) -> State
     requires { at < length states.old.items }
     ensures { states.new.items ≡ slice_set states.old.items at State.Given }
 {
-    states[at] = State::Given;
+    std::mem::replace(&mut states[at], State::Given)
 }

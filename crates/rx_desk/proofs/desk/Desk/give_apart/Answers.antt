@@ -1,6 +1,6 @@
 use Rattle.std.proofs.Common.{◌≡◌, refl, sym, ap, ◌∙◌}
 use Rattle.rx_desk.proofs.Steps.{books_out, gave, not_passed, room_given, was_handed}
-use Rattle.rx_desk.proofs.desk.Desk.give.Goals as goal
+use Rattle.rx_desk.proofs.desk.Desk.give_apart.Goals as goal
 
 pub put_in-requires-clause-outside : goal.put_in-requires-clause-outside
 put_in-requires-clause-outside c =
@@ -30,6 +30,6 @@ invariant_of-self c =
     let given = rw c.part-order.ensures.value at c.put_in.ensures in
     let next = rw place at c.note.ensures.items in
     let passed = rw place at c.pass.ensures.passed in
-    rw (c.mark_given.ensures, c.part-order.ensures.value, place) (gave _ _ _ _ _ _ _ _ _ c.self.invariant
+    rw (c.mark_given-state.ensures, c.part-order.ensures.value, place) (gave _ _ _ _ _ _ _ _ _ c.self.invariant
     c.args.done.order out c.args.done c.part-order.ensures.within refl c.put_in.new.shelf given _ c.note.new.history.items
     c.pass.new.self next c.note.ensures.room passed c.pass.ensures.handed c.pass.ensures.footprints)
