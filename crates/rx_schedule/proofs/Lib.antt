@@ -12,6 +12,7 @@ pub mod Replayed
 pub mod Running
 pub mod Scanned
 pub mod Shared
+pub mod Shares
 pub mod Spread
 pub mod Standing
 pub mod Times

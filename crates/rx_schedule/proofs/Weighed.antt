@@ -16,7 +16,7 @@ use Rattle.rx_ledger.proofs.Orders.{id_exact}
 use Rattle.rx_claim.specs.declared.transmission.Transmission.{Transmission}
 use Rattle.rx_parcels.specs.Footprints.{FootprintParts}
 use Rattle.rx_schedule.specs.Footprints.{footprint_of}
-use Rattle.rx_schedule.specs.Weight.{HasWeights, batch_weight, billings_in, count_kept, family_weight, one_of, record_weight}
+use Rattle.rx_schedule.specs.Weight.{HasWeights, batch_weight, billings_in, count_kept, family_weight, record_weight, share_of}
 use Rattle.rx_schedule.proofs.Noted.{footprint-next}
 
 -- sums up to the limit
@@ -29,21 +29,21 @@ least_of_both limit a b = omega arith
 pub least_reached : (limit a b : ℕ) → min limit a ≡ limit → a ≤ b → limit ≡ min limit b
 least_reached limit a b h le = omega arith
 
--- the counts with one more for a family
-pub counted : (limit : ℕ) (m n : BTreeMap (List ℕ) ℕ) (family : List ℕ) (count : ℕ) (weights : List ℕ → ℕ)
+-- the counts with so many more for a family
+pub counted : (limit : ℕ) (m n : BTreeMap (List ℕ) ℕ) (family : List ℕ) (count more : ℕ) (weights : List ℕ → ℕ)
     → ((q : List ℕ) → get id_cmp n q ≡ cond (is_at (id_cmp family) q) (Some count) (get id_cmp m q))
-    → count ≡ min limit (count_kept m family + 1)
-    → HasWeights limit m weights → HasWeights limit n (λ f. weights f + one_of family f)
-counted limit m n family count weights updates more has f = elim (cases_Bool (is_eq (id_cmp family f))) [
+    → count ≡ min limit (count_kept m family + more)
+    → HasWeights limit m weights → HasWeights limit n (λ f. weights f + share_of family more f)
+counted limit m n family count more weights updates is has f = elim (cases_Bool (is_eq (id_cmp family f))) [
   | inl here ↦
       let same : family ≡ f = id_exact family f (Equal-from_is_eq _ here) in
       let now : count_kept n f ≡ count = ap (λ o. unwrap_or o 0) (updates f) ∙ rw here refl in
-      now ∙ more ∙ ap (λ k. min limit (k + 1)) (has family) ∙ least_of_least limit (weights family) 1
-      ∙ ap (λ g. min limit (weights g + 1)) same
+      now ∙ is ∙ ap (λ k. min limit (k + more)) (has family) ∙ least_of_least limit (weights family) more
+      ∙ ap (λ g. min limit (weights g + more)) same
       ∙ rw here refl
   | inr other ↦
       let now : count_kept n f ≡ count_kept m f = ap (λ o. unwrap_or o 0) (updates f) ∙ rw other refl in
-      let none : weights f + one_of family f ≡ weights f = rw other (omega arith) in
+      let none : weights f + share_of family more f ≡ weights f = rw other (omega arith) in
       now ∙ has f ∙ ap (min limit) (sym none)
 ]
 

@@ -5,6 +5,7 @@ pub mod Links
 pub mod Machine
 pub mod Marked
 pub mod Queues
+pub mod Shares
 pub mod Used
 pub mod Waves
 pub mod Weight

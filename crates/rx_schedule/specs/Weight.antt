@@ -37,9 +37,9 @@ record_weight L records place = sum_by (family_weight L (take (place - 1) record
 abbrev pub batch_weight : Ledger → List Transmission → ℕ
 batch_weight L records = sum (map (record_weight L records) (range_with_len 1 (length records)))
 
--- one, where the families are the same
-abbrev pub one_of : List ℕ → List ℕ → ℕ
-one_of family f = cond (is_same family f) 1 0
+-- so many, where the families are the same
+abbrev pub share_of : List ℕ → ℕ → List ℕ → ℕ
+share_of family many f = cond (is_same family f) many 0
 
 -- the count that the map has for a family
 abbrev pub count_kept : BTreeMap (List ℕ) ℕ → List ℕ → ℕ

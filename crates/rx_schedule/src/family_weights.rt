@@ -1,7 +1,9 @@
 ghost use Rattle.std.specs.Prelude.{◌≡◌, ◌≤◌, ◌+◌, ℕ, List, [], IfOk, OnOk, length, min, cond};
 ghost use Rattle.std.specs.List.{filter, sum_by};
-ghost use Rattle.rx_schedule.specs.Weight.{HasWeights, billings_in, count_kept, family_weight, is_billing_of, one_of};
+ghost use Rattle.rx_schedule.specs.Shares.{share_in};
+ghost use Rattle.rx_schedule.specs.Weight.{HasWeights, billings_in, count_kept, family_weight, is_billing_of, share_of};
 
+use crate::member_shares::{Share, shares_of};
 use rx_books_kept::Books;
 use rx_claim::{Body, Heard, Transaction, Transmission};
 use rx_fields::{Id, Memory};
@@ -19,30 +21,44 @@ impl Weights {
     pub(crate) fn of(alloc: Global, books: &Books, limit: u64) -> Result<Weights, Memory>
         ensures { IfOk result (λ made. HasWeights limit made.counts (family_weight books.now.ledger [])) }
     {
-        let ledger = books.ledger(alloc)?;
-        let mut weights = Weights {
-            counts: BTreeMap::new(alloc),
-        };
-        'members: for member in ledger.members() {
-            weights.count(member.key.family, limit)?;
-        }
-        'rows: for row in ledger.rows() {
-            weights.count(row.family, limit)?;
-        }
+        let opened = books.copy(alloc, books.period())?.open(alloc, &[])?;
+        let shares = shares_of(alloc, &opened, limit)?;
+        let mut weights = Weights::none(alloc);
+        weights.count_all(&shares, limit)?;
         Ok(weights)
     }
 
-    // Counts one more for the family.
-    fn count(&mut self, family: Id, limit: u64) -> Result<(), Memory>
+    // No family has a weight.
+    fn none(alloc: Global) -> Weights
+        ensures { (limit : ℕ) → HasWeights limit result.counts (λ f. 0) }
+    {
+        Weights {
+            counts: BTreeMap::new(alloc),
+        }
+    }
+
+    // Counts these shares.
+    fn count_all(&mut self, shares: &[Share], limit: u64) -> Result<(), Memory>
         ensures { (weights : List ℕ → ℕ) → HasWeights limit self.old.counts weights
-            → OnOk result (HasWeights limit self.new.counts (λ f. weights f + one_of family f)) }
+            → OnOk result (HasWeights limit self.new.counts (λ f. weights f + sum_by (share_in f) shares.now)) }
+    {
+        'shares: for share in shares {
+            self.count(share.family, share.count, limit)?;
+        }
+        Ok(())
+    }
+
+    // Counts so many more for the family.
+    fn count(&mut self, family: Id, more: u64, limit: u64) -> Result<(), Memory>
+        ensures { (weights : List ℕ → ℕ) → HasWeights limit self.old.counts weights
+            → OnOk result (HasWeights limit self.new.counts (λ f. weights f + share_of family more f)) }
     {
         match self.counts.get_mut(&family) {
             Some(count) => {
-                *count = sum_up_to(limit, *count, 1);
+                *count = sum_up_to(limit, *count, more);
             }
             None => {
-                self.counts.insert(family, sum_up_to(limit, 0, 1))?;
+                self.counts.insert(family, sum_up_to(limit, 0, more))?;
             }
         }
         Ok(())
@@ -75,7 +91,7 @@ impl Weights {
             → OnOk result (HasWeights limit self.new.counts (λ f. weights f + cond (is_billing_of f transaction.now) 1 0)) }
     {
         match transaction {
-            Transaction::Bill(bill) => self.count(bill.parts().family, limit),
+            Transaction::Bill(bill) => self.count(bill.parts().family, 1, limit),
             Transaction::Reverse(_) => Ok(()),
             Transaction::Faulty(_) => Ok(()),
         }
@@ -105,8 +121,8 @@ impl Weights {
     }
 }
 
-// The sum, up to the limit.
-fn sum_up_to(limit: u64, total: u64, more: u64) -> u64
+/// The sum, up to the limit.
+pub(crate) fn sum_up_to(limit: u64, total: u64, more: u64) -> u64
     ensures { result ≡ min limit (total + more) }
 {
     limit.min(total.saturating_add(more))

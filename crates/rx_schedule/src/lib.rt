@@ -23,6 +23,7 @@ mod followers;
 mod law;
 mod links;
 mod marks;
+mod member_shares;
 mod naming;
 mod ordered;
 mod queues;

@@ -16,8 +16,10 @@
 mod counter;
 mod craft;
 mod decoding;
+mod gain;
 mod gate;
 mod in_order;
+mod rough;
 mod run_fault;
 #[cfg(test)]
 mod tests;

@@ -4,6 +4,7 @@ ghost use Rattle.rx_wave.specs.Workers.{RefusesOne, are_workers};
 
 use crate::counter::{Counter, DeskCounter, Turn};
 use crate::craft::{Adjudicates, Craft};
+use crate::gain::may_gain;
 use crate::gate::Gate;
 use crate::in_order::run_one;
 use crate::run_fault::RunFault;
@@ -15,15 +16,22 @@ use rx_fields::{Lot, Memory};
 use rx_in_order::Finished;
 use rx_ledger::Sheet;
 use std::alloc::Global;
-use std::sync::{Condvar, Mutex, Wait};
+use std::hint::spin_loop;
+use std::sync::{Condvar, Mutex, MutexGuard, Wait};
 use std::thread;
 use std::thread::Threads;
+
+// How often a thread tries to take the lock before it sleeps, and how many pauses go by from one try to the next.
+const TRIES: u32 = 64;
+
+const PAUSES: u32 = 4;
 
 /// Adjudicates a batch with so many workers: the books after its records, and a reply to each, as if they had been
 /// adjudicated one after another in file order (docs/PRODUCT.md, "Rules of adjudication").
 ///
 /// One worker is `run_one`. More share one desk under one lock, and each adjudicates outside of it, between `enter` and
-/// `leave` of the gate. Where no answer comes of the desk, `run_one` gives it.
+/// `leave` of the gate. Where no answer comes of the desk, `run_one` gives it; where copying the books that the records
+/// name would cost more than adjudicating, the gate is asked for each start, and `run_one` gives it too.
 ///
 /// # Errors
 ///
@@ -56,6 +64,12 @@ pub fn run_waves<R: Threads + Wait + Sync, G: Gate + Sync>(
     if workers == 1 {
         return Ok(run_one(gate, alloc, lot, sheet, books, transmissions)?);
     }
+    if !may_gain(alloc, books, transmissions)? {
+        if refuses_one(gate, workers as usize) {
+            return Err(RunFault::Thread);
+        }
+        return Ok(run_one(gate, alloc, lot, sheet, books, transmissions)?);
+    }
     let desk = desk_of(alloc, lot, sheet, books, transmissions)?;
     let desk = worked_off(rt, alloc, gate, &Adjudicates, workers, desk)?;
     if desk.job_is(lot, sheet, books, transmissions) {
@@ -64,6 +78,21 @@ pub fn run_waves<R: Threads + Wait + Sync, G: Gate + Sync>(
         }
     }
     Ok(run_one(gate, alloc, lot, sheet, books, transmissions)?)
+}
+
+// Whether the gate refuses to start one of so many workers; after one that it refuses it is asked no more.
+fn refuses_one<G: Gate>(gate: &G, workers: usize) -> bool
+    requires several { 2 ≤ workers }
+    requires few { workers < 65_536 }
+    ensures { IsTrue result → RefusesOne (G.starts gate.now) workers }
+{
+    for worker in 1..workers + 1 {
+        let starts = gate.start(worker);
+        if !starts {
+            return true;
+        }
+    }
+    false
 }
 
 // A desk of its own copies.
@@ -173,8 +202,8 @@ fn stop<R: Wait, C: Counter>(rt: &R, shared: &Mutex<C>, changed: &Condvar) {
     changed.notify_all();
 }
 
-// The work of one thread. It wakes the others where a record is left for them, and where it ends; where it waits itself,
-// another has a record out, and goes on after that.
+// The work of one thread. Where a record is left that can go, it wakes one of those that wait, which does the same; where
+// it ends, it wakes all. Where it waits itself, another has a record out, and goes on after that.
 fn work<R: Wait, G: Gate, W: Craft, C: Counter>(
     rt: &R,
     alloc: Global,
@@ -183,25 +212,39 @@ fn work<R: Wait, G: Gate, W: Craft, C: Counter>(
     shared: &Mutex<C>,
     changed: &Condvar,
 ) {
-    let mut guard = shared.lock(rt);
+    let mut guard = locked(rt, shared);
     for _ in rt.forever() {
         match guard.turn() {
             Turn::Go { order, wakes } => {
-                if wakes {
-                    changed.notify_all();
-                }
                 drop(guard);
+                if wakes {
+                    changed.notify_one();
+                }
                 let made = made_of(alloc, gate, craft, order);
-                guard = shared.lock(rt);
+                guard = locked(rt, shared);
                 guard.take_back(made);
             }
             Turn::Wait => guard = changed.wait(rt, guard),
             Turn::End => {
+                drop(guard);
                 changed.notify_all();
                 return;
             }
         }
     }
+}
+
+// The lock. It is held for less than a thread takes to sleep and wake, so a while goes by before this one sleeps.
+fn locked<'a, R: Wait, C>(rt: &R, shared: &'a Mutex<C>) -> MutexGuard<'a, C> {
+    for _ in 0..TRIES {
+        if let Some(guard) = shared.try_lock() {
+            return guard;
+        }
+        for _ in 0..PAUSES {
+            spin_loop();
+        }
+    }
+    shared.lock(rt)
 }
 
 // What is made of an order, between the two calls of the gate.

@@ -1,24 +1,21 @@
-use Rattle.std.proofs.Common.{◌+◌, length, take}
-use Rattle.std.specs.List.{filter}
-use Rattle.rx_ledger.specs.Ledger.{members_of}
-use Rattle.rx_ledger.specs.Members.{of_family}
-use Rattle.rx_ledger.specs.Rows.{claimed_by}
-use Rattle.rx_schedule.proofs.Weighed.{filtered_more, weights_are}
+use Rattle.std.proofs.Common.{◌≡◌, ◌+◌, length, ap, ◌∙◌}
+use Rattle.std.specs.Prelude.{min}
+use Rattle.std.specs.List.{sum_by}
+use Rattle.rx_books_kept.specs.LedgerBooks.{LedgerBooks}
+use Rattle.rx_ledger.specs.Ledger.{Ledger, members_of, rows_of}
+use Rattle.rx_schedule.specs.Shares.{share_in}
+use Rattle.rx_schedule.specs.Weight.{count_kept}
+use Rattle.rx_schedule.proofs.Shares.{shares_alone_counted}
 use Rattle.rx_schedule.proofs.family_weights.Weights.of.Goals as goal
 
-pub members-preserved : goal.members-preserved
-members-preserved c =
-    let items = c.members-member-items.result.now in
-    let i = c.members.member-index in
-    weights_are c.args.limit c.count.new.self.counts _ _
-    (λ f. filtered_more (of_family f) items i c.member-item.result 0 c.members-test.true c.member-item.is)
-    (c.in_ok-count.ensures (λ f. 0 + length (filter (of_family f) (take i items))) c.members.invariant)
-
-pub rows-preserved : goal.rows-preserved
-rows-preserved c =
+pub returns : goal.returns
+returns c = λ f.
     let L = c.args.books.now.ledger in
-    let items = c.rows-row-items.result.now in
-    let i = c.rows.row-index in
-    weights_are c.args.limit c.count-in-rows.new.self.counts _ _
-    (λ f. filtered_more (claimed_by f) items i c.row-item.result (length (members_of L f)) c.rows-test.true c.row-item.is)
-    (c.in_ok-count-2.ensures (λ f. length (members_of L f) + length (filter (claimed_by f) (take i items))) c.rows.invariant)
+    let same : c.in_ok-opened.opened.books.ledger ≡ L =
+    ap (λ (b : LedgerBooks). b.ledger) (c.in_ok-opened.ensures.same ∙ c.in_ok-copy.ensures) in
+    shares_alone_counted c.args.limit (count_kept c.count_all.new.self.counts f) (sum_by (share_in f) c.in_ok-shares.shares.items)
+    (length (members_of L f)) (length (rows_of L f))
+    (c.in_ok-count_all.ensures (λ g. 0) (c.none-weights.ensures c.args.limit) f
+    ∙ ap (λ xs. min c.args.limit (0 + sum_by (share_in f) xs)) c.deref.ensures.value)
+    (c.in_ok-shares.ensures f
+    ∙ ap (λ (M : Ledger). min c.args.limit (length (members_of M f) + length (rows_of M f))) same)
