@@ -49,7 +49,8 @@ fn run_has_each_option(rt: HostRuntime) -> Result<(), Fail> {
     assert!(rt; run.outputs == files);
     assert_eq!(rt; run.stamp, "202603020600");
     assert_eq!(rt; run.workers, 65535);
-    assert!(rt; !run.plain);
+    assert!(rt; !run.plain && !run.safe && !run.verbose);
+    assert_eq!(rt; run.log, None);
     Ok(())
 }
 
@@ -73,6 +74,50 @@ fn plain_may_stand_anywhere(rt: HostRuntime) -> Result<(), Fail> {
     };
     assert!(rt; run.plain);
     assert_eq!(rt; run.workers, 7);
+    Ok(())
+}
+
+#[test]
+fn a_run_that_nobody_watches(rt: HostRuntime) -> Result<(), Fail> {
+    let words = [
+        "rxbatch",
+        "run",
+        "-v",
+        "--sheet=s",
+        "--books=b",
+        "--batch=c",
+        "--stamp=d",
+        "--workers=4",
+        "--response=e",
+        "--books-out=f",
+        "--settlement=g",
+        "--safe",
+        "--log=h",
+    ];
+    let Ok(Command::Run(run)) = command(rt.alloc(), words.as_slice()) else {
+        return Err(Fail::from("no run"));
+    };
+    assert!(rt; run.safe && run.verbose && !run.plain);
+    assert_eq!(rt; run.log, Some("h"));
+    Ok(())
+}
+
+#[test]
+fn a_log_is_a_seventh_path(rt: HostRuntime) -> Result<(), Fail> {
+    let words = [
+        "rxbatch",
+        "run",
+        "--sheet=s",
+        "--books=b",
+        "--batch=c",
+        "--stamp=d",
+        "--workers=4",
+        "--response=e",
+        "--books-out=f",
+        "--settlement=g",
+        "--log=b",
+    ];
+    assert!(rt; is_refused(rt.alloc(), words.as_slice(), false));
     Ok(())
 }
 
