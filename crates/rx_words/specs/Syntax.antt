@@ -66,9 +66,13 @@ sample_line = new_app (codes "sample")
 abbrev pub with_subcommand_required : App → App
 with_subcommand_required line = record line { top = record line.top { subcommand_required = true } }
 
--- the program's name, and one of its subcommands
+-- the line with `-V` or `--version`
+abbrev pub with_version : App → App
+with_version line = record line { top = record line.top { has_version = true } }
+
+-- the program's name, its version, and one of its subcommands
 abbrev pub program : App
-program = with_subcommand_required (new_app (codes "rxbatch"))
+program = with_version (with_subcommand_required (new_app (codes "rxbatch")))
 
 -- `rxbatch run ..`, `rxbatch show ..`, `rxbatch plan ..` or `rxbatch sample`
 abbrev pub whole_line : App

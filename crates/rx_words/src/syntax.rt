@@ -8,6 +8,9 @@ ghost use Rattle.rx_words.specs.Syntax.{plan_line, run_line, show_line, whole_li
 use clap::{Arg, ArgAction, Command as Line, value_parser};
 use std::alloc::{AllocError, Global};
 
+/// What `rxbatch --version` prints behind the program's name: the version, and the kit that proved it.
+pub const VERSION: &str = "1.0.0 (rattle-kit-13b logic dac8208d650f15bf)";
+
 /// The option `--name VALUE`.
 fn option<'a>(alloc: Global, name: &'a str, value: &'a str, help: &'a str) -> Arg<'a>
     ensures rule { rule_of result ≡ required_option name.entry.now }
@@ -163,7 +166,9 @@ pub(crate) fn line<'a>(alloc: Global) -> Result<Line<'a>, AllocError>
     let show = show(alloc)?;
     let plan = plan(alloc)?;
     let sample = named(alloc, "sample", "Shows the reply to the base claim");
-    let top = named(alloc, "rxbatch", "Adjudicates pharmacy batch files").subcommand_required(true);
+    let top = named(alloc, "rxbatch", "Adjudicates pharmacy batch files")
+        .subcommand_required(true)
+        .version(VERSION);
     top.subcommand(run)?
         .subcommand(show)?
         .subcommand(plan)?

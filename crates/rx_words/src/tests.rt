@@ -148,6 +148,21 @@ fn the_other_three(rt: HostRuntime) -> Result<(), Fail> {
     Ok(())
 }
 
+#[test]
+fn the_version_is_a_line(rt: HostRuntime) -> Result<(), Fail> {
+    let alloc = rt.alloc();
+    let Err(fault) = command(alloc, &["rxbatch", "--version"]) else {
+        return Err(Fail::from("it was understood"));
+    };
+    assert!(rt; fault.is_version());
+    let text = format!(in alloc; "{fault}")?;
+    assert!(rt;
+        text.as_str().starts_with("rxbatch ") && text.as_str().ends_with(")\n"),
+        "{text}"
+    );
+    Ok(())
+}
+
 /// Whether the words are refused as Words, with a text or without.
 fn is_refused(alloc: Global, words: &[&str], with_text: bool) -> bool {
     match command(alloc, words) {
@@ -189,6 +204,7 @@ fn the_text_is_claps(rt: HostRuntime) -> Result<(), Fail> {
         return Err(Fail::from("it was understood"));
     };
     assert_eq!(rt; fault.code(), 1);
+    assert!(rt; !fault.is_version());
     let text = format!(in alloc; "{fault}")?;
     assert!(rt;
         text.as_str()

@@ -154,8 +154,8 @@ fn told_signed(alloc: Global, number: &str) -> Result<clap::Error, AllocError> {
 ///
 /// # Errors
 ///
-/// `Words` where `clap` doesn't take the words, help being asked for too, where the workers aren't digits alone, and
-/// where `run` names one path twice; `Memory` where memory was wanting.
+/// `Words` where `clap` doesn't take the words, help or the version being asked for too, where the workers aren't digits
+/// alone, and where `run` names one path twice; `Memory` where memory was wanting.
 pub fn command<'a, S: AsStr>(alloc: Global, words: &'a [S]) -> Result<Command<'a>, WordsFault>
     ensures ok { IfOk result (Holds (subcommand_of whole_line (map S.text words.now))) }
     ensures taken { IfOk result (λ _. fault_of whole_line (map S.text words.now) ≡ []) }
