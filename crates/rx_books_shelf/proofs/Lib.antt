@@ -10,3 +10,4 @@ pub mod Worth
 pub mod ClosedShelf
 pub mod Brought
 pub mod MemberPlaces
+pub mod Summed

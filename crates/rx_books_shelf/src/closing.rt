@@ -121,22 +121,25 @@ fn brought(books: OpenBooks, places: &[KeyPlace]) -> OpenBooks
     ensures { result ≡ open_over books places.now }
 {
     let mut books = books;
+    let mut near = 0;
     for place in places {
-        bring(&mut books, place);
+        bring(&mut books, &mut near, place);
     }
     books
 }
 
-// Brings the slot of a key to what its place holds.
-fn bring(books: &mut OpenBooks, place: &KeyPlace)
+// Brings the slot of a key to what its place holds. The slot is looked for at `near`, and the next one's from then on
+// behind it.
+fn bring(books: &mut OpenBooks, near: &mut usize, place: &KeyPlace)
     requires slot { HasSlot books.old.slots place.now }
     requires row { HoldsOwnRow place.now }
     requires listed { IfSome (row_held place.now) (λ r. is_listed books.old.books.ledger (member_of_row r) ≡ true) }
     ensures { books.new ≡ with_place books.old place.now }
 {
-    let Some(slot) = books.slot_of(&place.key) else {
+    let Some(slot) = books.slot_near(*near, &place.key) else {
         unreachable!()
     };
+    *near = slot.saturating_add(1);
     read_rows(books);
     empty_slot(books, slot, &place.key);
     let Some(row) = row_held(*place) else {

@@ -8,13 +8,12 @@ ghost use Rattle.rx_places.specs.Shelves.{is_family_in, is_family_out, place_fam
 ghost use Rattle.rx_books_shelf.specs.Taken.{family_book, family_given, family_taken};
 
 use rx_fields::{Id, Memory};
-use rx_order::Ascending;
 use rx_parcels::Family;
-use rx_places::FamilyPlace;
+use rx_places::{FamilyPlace, Hinted};
 use std::alloc::Global;
 
 // Whether the family has a place, and its book is there.
-fn is_family_in(places: &Ascending<FamilyPlace>, family: &Id) -> bool
+fn is_family_in(places: &Hinted<FamilyPlace>, family: &Id) -> bool
     ensures { result ≡ is_family_in (item_at id_cmp place_family places.now family.now) }
 {
     match places.get(family) {
@@ -24,7 +23,7 @@ fn is_family_in(places: &Ascending<FamilyPlace>, family: &Id) -> bool
 }
 
 // Whether the family has a place, and its book is out.
-fn is_family_out(places: &Ascending<FamilyPlace>, family: &Id) -> bool
+fn is_family_out(places: &Hinted<FamilyPlace>, family: &Id) -> bool
     ensures { result ≡ is_family_out (item_at id_cmp place_family places.now family.now) }
 {
     match places.get(family) {
@@ -34,14 +33,14 @@ fn is_family_out(places: &Ascending<FamilyPlace>, family: &Id) -> bool
 }
 
 /// Whether each of these families has a place, and its book is there.
-pub(crate) fn are_families_in(places: &Ascending<FamilyPlace>, families: &[Id]) -> bool
+pub(crate) fn are_families_in(places: &Hinted<FamilyPlace>, families: &[Id]) -> bool
     ensures { result ≡ list_all (λ f. is_family_in (item_at id_cmp place_family places.now f)) families.now }
 {
     families.iter().all(|family| is_family_in(places, family))
 }
 
 /// Whether the family of each of these books has a place, and its book is out.
-pub(crate) fn are_families_out(places: &Ascending<FamilyPlace>, books: &[Family]) -> bool
+pub(crate) fn are_families_out(places: &Hinted<FamilyPlace>, books: &[Family]) -> bool
     ensures { result ≡ list_all (λ b. is_family_out (item_at id_cmp place_family places.now b.family)) books.now }
 {
     books
@@ -59,7 +58,7 @@ pub(crate) fn family_room(alloc: Global, families: &[Id]) -> Result<Vec<Family>,
 
 /// Takes the books of these families out of their places. There is room for them in the list, which comes back with them.
 pub(crate) fn take_families(
-    places: &mut Ascending<FamilyPlace>,
+    places: &mut Hinted<FamilyPlace>,
     families: &[Id],
     room: Vec<Family>,
 ) -> Vec<Family>
@@ -79,7 +78,7 @@ pub(crate) fn take_families(
 }
 
 // Takes the book of a family out of its place, if it is there.
-fn take_family(places: &mut Ascending<FamilyPlace>, family: Id) -> Option<Family>
+fn take_family(places: &mut Hinted<FamilyPlace>, family: Id) -> Option<Family>
     ensures book { option_to_list result ≡ family_book places.old family }
     ensures places { places.new ≡ map (family_taken (family ∷ [])) places.old }
 {
@@ -90,7 +89,7 @@ fn take_family(places: &mut Ascending<FamilyPlace>, family: Id) -> Option<Family
 }
 
 /// Puts these books into the places of their families. It takes no memory.
-pub(crate) fn give_families(places: &mut Ascending<FamilyPlace>, books: Vec<Family>)
+pub(crate) fn give_families(places: &mut Hinted<FamilyPlace>, books: Vec<Family>)
     ensures { places.new ≡ map (family_given books.items) places.old }
 {
     let mut books = books;
@@ -100,7 +99,7 @@ pub(crate) fn give_families(places: &mut Ascending<FamilyPlace>, books: Vec<Fami
 }
 
 // Puts a book into the place of its family.
-fn give_family(places: &mut Ascending<FamilyPlace>, book: Family)
+fn give_family(places: &mut Hinted<FamilyPlace>, book: Family)
     ensures { places.new ≡ map (family_given (book ∷ [])) places.old }
 {
     let _before = places.replace(FamilyPlace {

@@ -10,83 +10,94 @@ ghost use Rattle.rx_parcels.specs.Footprints.{itself};
 ghost use Rattle.rx_books_shelf.specs.Gathered.{with_members, with_own_member, with_own_row, with_rows};
 ghost use Rattle.rx_books_shelf.specs.Opened.{family_book};
 
+use crate::rooms::{home_at, homes_of, rooms_of};
+use crate::unsummed::{Room, Unsummed};
 use rx_books_kept::OpenBooks;
 use rx_fields::{Id, Memory, Period};
 use rx_ledger::{Member, Row};
-use rx_order::place_of;
-use rx_parcels::Family;
+use rx_places::place_near;
 use std::alloc::Global;
 
-/// The books of these families, gathered in one pass over the rows that stand.
+/// The books of these families, gathered in one pass over the rows that stand; their totals are still to come.
 pub(crate) fn gathered(
     alloc: Global,
     open: &OpenBooks,
     families: &[Id],
-) -> Result<Vec<Family>, Memory>
+) -> Result<Vec<Unsummed>, Memory>
     requires { IsAscending id_cmp itself families.now }
     ensures value { IfOk result (λ books. books.items ≡ map (family_book open.now.books) families.now) }
     ensures own { IfOk result (λ books. All IsOwn books.items) }
 {
-    let mut books = empty_books(alloc, families, open.period())?;
-    put_members(&mut books, open)?;
-    put_rows(&mut books, open)?;
+    let homes = homes_of(alloc, open.members(), families)?;
+    let rooms = rooms_of(alloc, open, families, &homes)?;
+    let mut books = empty_books(alloc, families, open.period(), &rooms)?;
+    put_members(&mut books, open, &homes)?;
+    put_rows(&mut books, open, &homes)?;
     read_books(&books);
     Ok(books)
 }
 
 // Each book has members and rows of its own.
-fn read_books(books: &[Family])
+fn read_books(books: &[Unsummed])
     ensures { All IsOwn books.now }
 {
     for book in books {
-        book.rows();
+        book.members();
     }
 }
 
-// The books of these families, without members and rows.
-fn empty_books(alloc: Global, families: &[Id], period: Period) -> Result<Vec<Family>, Memory>
+// The books of these families, without members and rows, and with room for so many of each.
+fn empty_books(
+    alloc: Global,
+    families: &[Id],
+    period: Period,
+    rooms: &[Room],
+) -> Result<Vec<Unsummed>, Memory>
     ensures { IfOk result (λ books. books.items ≡ map (empty_book period) families.now) }
 {
     let mut books = Vec::with_capacity(alloc, families.len())?;
     for family in families {
-        books.push(Family::new(alloc, *family, period))?;
+        let room = rooms.get(books.len()).copied().unwrap_or(Room::NONE);
+        let book = Unsummed::new(alloc, *family, period, room)?;
+        books.push(book)?;
     }
     Ok(books)
 }
 
-// Puts each member into the book of its family, if it is there.
-fn put_members(books: &mut Vec<Family>, open: &OpenBooks) -> Result<(), Memory>
+// Puts each member into the book of its family, if it is there. The homes tell where to look for it.
+fn put_members(books: &mut Vec<Unsummed>, open: &OpenBooks, homes: &[u32]) -> Result<(), Memory>
     requires rise { IsAscending id_cmp family_of books.old.items }
     requires none { All (λ b. b.members ≡ []) books.old.items }
     ensures { OnOk result (books.new.items ≡ map (with_members open.now.books.ledger) books.old.items) }
 {
-    for member in open.members() {
-        put_member(books, *member)?;
+    let members = open.members();
+    for (place, member) in members.iter().enumerate() {
+        put_member(books, home_at(homes, place), *member)?;
     }
     Ok(())
 }
 
-// Puts each row that stands into the book of its family, if it is there.
-fn put_rows(books: &mut Vec<Family>, open: &OpenBooks) -> Result<(), Memory>
+// Puts each row that stands into the book of its family, if it is there. The homes tell where to look for it.
+fn put_rows(books: &mut Vec<Unsummed>, open: &OpenBooks, homes: &[u32]) -> Result<(), Memory>
     requires rise { IsAscending id_cmp family_of books.old.items }
     requires members { All (λ b. b.members ≡ members_of open.now.books.ledger b.family) books.old.items }
     requires none { All (λ b. b.rows ≡ []) books.old.items }
     ensures { OnOk result (books.new.items ≡ map (with_rows open.now.books.ledger) books.old.items) }
 {
     let mut standing = open.standing();
-    'rows: while let Some((row, _)) = standing.next_row() {
-        put_row(books, *row)?;
+    'rows: while let Some((row, member)) = standing.next_row() {
+        put_row(books, home_at(homes, member), *row)?;
     }
     Ok(())
 }
 
-// Puts a member behind the others of its family's book, if the book is there.
-fn put_member(books: &mut Vec<Family>, member: Member) -> Result<(), Memory>
+// Puts a member behind the others of its family's book, if the book is there: it is looked for at `home`.
+fn put_member(books: &mut Vec<Unsummed>, home: usize, member: Member) -> Result<(), Memory>
     requires rise { IsAscending id_cmp family_of books.old.items }
     requires past { All (λ b. is_past member_cmp member_key b.members member.key ≡ true) books.old.items }
     ensures { OnOk result (books.new.items ≡ map (with_own_member member) books.old.items) }
 {
-    match place_of(books, &member.key.family) {
+    match place_near(books, home, &member.key.family) {
         Ok(at) => {
             let book = &mut books[at];
             book.add_member(member)
@@ -95,14 +106,14 @@ fn put_member(books: &mut Vec<Family>, member: Member) -> Result<(), Memory>
     }
 }
 
-// Puts a row under its free key into its family's book, if the book is there.
-fn put_row(books: &mut Vec<Family>, row: Row) -> Result<(), Memory>
+// Puts a row under its free key into its family's book, if the book is there: it is looked for at `home`.
+fn put_row(books: &mut Vec<Unsummed>, home: usize, row: Row) -> Result<(), Memory>
     requires rise { IsAscending id_cmp family_of books.old.items }
     requires free { All (λ b. is_taken (own_ledger b) row.key ≡ false) books.old.items }
     requires listed { All (λ b. b.family ≡ row.family → is_listed (own_ledger b) (member_of_row row) ≡ true) books.old.items }
     ensures { OnOk result (books.new.items ≡ map (with_own_row row) books.old.items) }
 {
-    match place_of(books, &row.family) {
+    match place_near(books, home, &row.family) {
         Ok(at) => {
             let book = &mut books[at];
             book.add(row)

@@ -8,13 +8,12 @@ ghost use Rattle.rx_books_shelf.specs.Taken.{key_book, key_given, key_taken};
 
 use rx_fields::{Key, Memory};
 use rx_ledger::Row;
-use rx_order::Ascending;
 use rx_parcels::KeyBook;
-use rx_places::KeyPlace;
+use rx_places::{Hinted, KeyPlace};
 use std::alloc::Global;
 
 // Whether the key has a place, and its book is there.
-fn is_key_in(places: &Ascending<KeyPlace>, key: &Key) -> bool
+fn is_key_in(places: &Hinted<KeyPlace>, key: &Key) -> bool
     ensures { result ≡ is_key_in (item_at key_cmp place_key places.now key.now) }
 {
     match places.get(key) {
@@ -24,7 +23,7 @@ fn is_key_in(places: &Ascending<KeyPlace>, key: &Key) -> bool
 }
 
 // Whether the key has a place, and its book is out.
-fn is_key_out(places: &Ascending<KeyPlace>, key: &Key) -> bool
+fn is_key_out(places: &Hinted<KeyPlace>, key: &Key) -> bool
     ensures { result ≡ is_key_out (item_at key_cmp place_key places.now key.now) }
 {
     match places.get(key) {
@@ -34,14 +33,14 @@ fn is_key_out(places: &Ascending<KeyPlace>, key: &Key) -> bool
 }
 
 /// Whether each of these keys has a place, and its book is there.
-pub(crate) fn are_keys_in(places: &Ascending<KeyPlace>, keys: &[Key]) -> bool
+pub(crate) fn are_keys_in(places: &Hinted<KeyPlace>, keys: &[Key]) -> bool
     ensures { result ≡ list_all (λ k. is_key_in (item_at key_cmp place_key places.now k)) keys.now }
 {
     keys.iter().all(|key| is_key_in(places, key))
 }
 
 /// Whether the key of each of these books has a place, and its book is out.
-pub(crate) fn are_keys_out(places: &Ascending<KeyPlace>, books: &[KeyBook]) -> bool
+pub(crate) fn are_keys_out(places: &Hinted<KeyPlace>, books: &[KeyBook]) -> bool
     ensures { result ≡ list_all (λ b. is_key_out (item_at key_cmp place_key places.now b.key)) books.now }
 {
     books.iter().all(|book| is_key_out(places, &book.key))
@@ -57,7 +56,7 @@ pub(crate) fn key_room(alloc: Global, keys: &[Key]) -> Result<Vec<KeyBook>, Memo
 
 /// Takes the books of these keys out of their places. There is room for them in the list, which comes back with them.
 pub(crate) fn take_keys(
-    places: &mut Ascending<KeyPlace>,
+    places: &mut Hinted<KeyPlace>,
     keys: &[Key],
     room: Vec<KeyBook>,
 ) -> Vec<KeyBook>
@@ -76,7 +75,7 @@ pub(crate) fn take_keys(
 }
 
 // Takes the book of a key out of its place: the row that it has.
-fn take_key(places: &mut Ascending<KeyPlace>, key: Key) -> Option<Row>
+fn take_key(places: &mut Hinted<KeyPlace>, key: Key) -> Option<Row>
     ensures row { result ≡ (key_book places.old key).row }
     ensures places { places.new ≡ map (key_taken (key ∷ [])) places.old }
 {
@@ -98,7 +97,7 @@ pub(crate) fn row_held(place: KeyPlace) -> Option<Row>
 }
 
 /// Puts these books into the places of their keys. It takes no memory.
-pub(crate) fn give_keys(places: &mut Ascending<KeyPlace>, books: Vec<KeyBook>)
+pub(crate) fn give_keys(places: &mut Hinted<KeyPlace>, books: Vec<KeyBook>)
     ensures { places.new ≡ map (key_given books.items) places.old }
 {
     let mut books = books;
@@ -108,7 +107,7 @@ pub(crate) fn give_keys(places: &mut Ascending<KeyPlace>, books: Vec<KeyBook>)
 }
 
 // Puts a book into the place of its key.
-fn give_key(places: &mut Ascending<KeyPlace>, book: KeyBook)
+fn give_key(places: &mut Hinted<KeyPlace>, book: KeyBook)
     ensures { places.new ≡ map (key_given (book ∷ [])) places.old }
 {
     let _before = places.replace(KeyPlace {

@@ -22,8 +22,11 @@ mod gathering;
 mod keys;
 mod naming;
 mod placing;
+mod rooms;
 mod shelf;
+mod summing;
 mod unique;
+mod unsummed;
 
 pub use fault::{GiveFault, TakeFault};
 pub use shelf::Shelf;

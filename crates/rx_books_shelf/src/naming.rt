@@ -16,7 +16,7 @@ pub(crate) fn keys_named(alloc: Global, footprints: &[Footprint]) -> Result<Vec<
     ensures rise { IfOk result (λ keys. IsAscending key_cmp itself keys.items) }
     ensures within { IfOk result (λ _. All IsFootprint footprints.now) }
 {
-    let mut keys = Vec::new(alloc);
+    let mut keys = Vec::with_capacity(alloc, footprints.len())?;
     for footprint in footprints {
         keys.extend_from_slice(footprint.keys())?;
     }
@@ -29,7 +29,7 @@ pub(crate) fn families_named(alloc: Global, footprints: &[Footprint]) -> Result<
     ensures value { IfOk result (λ families. families.items ≡ all_families footprints.now) }
     ensures rise { IfOk result (λ families. IsAscending id_cmp itself families.items) }
 {
-    let mut families = Vec::new(alloc);
+    let mut families = Vec::with_capacity(alloc, footprints.len())?;
     for footprint in footprints {
         families.extend_from_slice(footprint.families())?;
     }

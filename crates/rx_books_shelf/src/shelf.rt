@@ -23,7 +23,7 @@ use rx_books_kept::{Books, OpenBooks};
 use rx_fields::{Memory, Period};
 use rx_order::Ascending;
 use rx_parcels::{Family, Footprint, KeyBook, Parcel};
-use rx_places::{FamilyPlace, KeyPlace};
+use rx_places::{FamilyPlace, Hinted, KeyPlace};
 use std::alloc::Global;
 use std::marker::Model;
 
@@ -34,8 +34,8 @@ use std::marker::Model;
 pub struct Shelf {
     // The books that the shelf was made of. They stay as they were.
     pub(crate) books: OpenBooks,
-    pub(crate) keys: Ascending<KeyPlace>,
-    pub(crate) families: Ascending<FamilyPlace>,
+    pub(crate) keys: Hinted<KeyPlace>,
+    pub(crate) families: Hinted<FamilyPlace>,
 }
 
 impl Model for Shelf {
@@ -63,8 +63,9 @@ impl Shelf {
         let keys = keys_named(alloc, footprints)?;
         let families = families_named(alloc, footprints)?;
         let books = books.open(alloc, &keys)?;
-        let keys = key_places(alloc, &books, &keys)?;
-        let families = family_places(alloc, gathered(alloc, &books, &families)?)?;
+        let keys = Hinted::of(alloc, key_places(alloc, &books, &keys)?)?;
+        let gathered = gathered(alloc, &books, &families)?;
+        let families = Hinted::of(alloc, family_places(alloc, &books, gathered)?)?;
         let _standing = books.standing();
         Ok(Shelf {
             books,

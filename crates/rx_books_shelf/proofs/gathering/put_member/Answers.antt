@@ -10,8 +10,8 @@ use Rattle.rx_parcels.specs.FamilyBook.{FamilyBook, book_with_member, family_of,
 use Rattle.rx_books_shelf.proofs.PutBooks.{family_at_place, member_at_place, member_nowhere, of_book, on_ok}
 use Rattle.rx_books_shelf.proofs.gathering.put_member.Goals as goal
 
-pub place_of-requires : goal.place_of-requires
-place_of-requires c = rw c.deref.ensures.value c.requires.rise
+pub place_near-requires : goal.place_near-requires
+place_near-requires c = rw c.deref.ensures.value c.requires.rise
 
 pub add_member-requires-clause-own : goal.add_member-requires-clause-own
 add_member-requires-clause-own c =

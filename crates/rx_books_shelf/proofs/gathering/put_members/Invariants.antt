@@ -7,9 +7,9 @@ use Rattle.rx_parcels.specs.FamilyBook.{family_of}
 use Rattle.rx_books_shelf.proofs.PutBooks.{Past, members_put}
 use Rattle.rx_books_shelf.proofs.gathering.put_members.Given as goal
 
-abbrev pub invariant-loop-member : goal.invariant-loop-member
-invariant-loop-member l = record {
-  put : members_put (drop l.member-index l.member-items) l.books.items ≡ members_put l.member-items l.initial.books.items;
+abbrev pub invariant-loop-place : goal.invariant-loop-place
+invariant-loop-place l = record {
+  put : members_put (drop l.place l.members) l.books.items ≡ members_put l.members l.initial.books.items;
   rise : IsAscending id_cmp family_of l.books.items;
-  past : All (Past (drop l.member-index l.member-items)) l.books.items;
+  past : All (Past (drop l.place l.members)) l.books.items;
 }

@@ -10,8 +10,8 @@ use Rattle.rx_parcels.specs.FamilyBook.{FamilyBook, book_with_row, family_of, ow
 use Rattle.rx_books_shelf.proofs.PutBooks.{family_at_place, row_at_place, row_nowhere, of_book, on_ok}
 use Rattle.rx_books_shelf.proofs.gathering.put_row.Goals as goal
 
-pub place_of-requires : goal.place_of-requires
-place_of-requires c = rw c.deref.ensures.value c.requires.rise
+pub place_near-requires : goal.place_near-requires
+place_near-requires c = rw c.deref.ensures.value c.requires.rise
 
 pub add-requires-clause-listed : goal.add-requires-clause-listed
 add-requires-clause-listed c =
