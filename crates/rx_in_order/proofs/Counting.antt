@@ -22,10 +22,11 @@ use Rattle.rx_ledger.specs.declared.member.Member.{Member}
 use Rattle.rx_ledger.specs.declared.row.Row.{Row}
 use Rattle.rx_ledger.proofs.Orders.{day_total, day_exact}
 use Rattle.rx_in_order.specs.declared.fill.Course.{Course}
+use Rattle.rx_in_order.specs.declared.fill.Entry.{Entry}
 use Rattle.rx_in_order.specs.declared.fill.Fill.{Fill}
 use Rattle.rx_in_order.specs.declared.fill.FillKey.{FillKey}
 use Rattle.rx_in_order.specs.declared.fill.When.{When}
-use Rattle.rx_in_order.specs.Fills.{AreCounted, count_at, count_in, count_of, course_cmp, fill_cmp, fill_key, fill_of, fills_in, lowered, one_of, tallied, when_cmp}
+use Rattle.rx_in_order.specs.Fills.{AreCounted, count_among, count_at, count_of, course_cmp, fill_cmp, fill_key, fill_of, fills_in, lowered, one_of, tallied, when_cmp}
 
 -- ---- the order of fills
 
@@ -221,26 +222,27 @@ module _ (counted : Course → Bool) (members : List Member) (rows : List Row) (
 -- ---- the first count
 
 -- entries that count nothing count nothing together
-pub count_in-none : (fills : List Fill) → All (λ f. f.count ≡ 0) fills → (k : FillKey) → count_in fills k ≡ 0
-count_in-none [] none k = refl
-count_in-none (x ∷ xs) none k =
-    let first : count_of k x ≡ 0 = elim (cases_Bool (is_eq (fill_cmp x.key k))) [
+pub count_among-none : (entries : List Entry) → All (λ e. e.fill.count ≡ 0) entries → (k : FillKey)
+    → count_among entries k ≡ 0
+count_among-none [] none k = refl
+count_among-none (x ∷ xs) none k =
+    let first : count_of k x.fill ≡ 0 = elim (cases_Bool (is_eq (fill_cmp x.fill.key k))) [
       | inl tied ↦ rw tied (none 0 x (omega arith))
       | inr other ↦ rw other refl
     ] in
-    let rest = count_in-none xs (All-tail (λ (f : Fill). f.count ≡ 0) x xs none) k in
-    omega (arith, first, rest, sum_by-cons (count_of k) x xs)
+    let rest = count_among-none xs (All-tail (λ (e : Entry). e.fill.count ≡ 0) x xs none) k in
+    omega (arith, first, rest, sum_by-cons (λ (e : Entry). count_of k e.fill) x xs)
 
 -- what is found so far, with the rows from r on, is all
-module _ (members : List Member) (counted : Course → Bool) (found : List Fill) (all : FillKey → ℕ) (rest left : List Row)
+module _ (members : List Member) (counted : Course → Bool) (found : List Entry) (all : FillKey → ℕ) (rest left : List Row)
     (r : Row) (is : rest ≡ r ∷ left)
-    (finding : (k : FillKey) → counted k.course ≡ true → count_in found k + fills_in members rest k ≡ all k) where
+    (finding : (k : FillKey) → counted k.course ≡ true → count_among found k + fills_in members rest k ≡ all k) where
   next_is : (k : FillKey) → fills_in members rest k ≡ one_of members k r + fills_in members left k
   next_is k = ap (λ rows. fills_in members rows k) is ∙ sum_by-cons (one_of members k) r left
 
-  pub finding-pushed : (more : List Fill)
-      → ((k : FillKey) → count_in more k ≡ count_in found k + one_of members k r)
-      → (k : FillKey) → counted k.course ≡ true → count_in more k + fills_in members left k ≡ all k
+  pub finding-pushed : (more : List Entry)
+      → ((k : FillKey) → count_among more k ≡ count_among found k + one_of members k r)
+      → (k : FillKey) → counted k.course ≡ true → count_among more k + fills_in members left k ≡ all k
   finding-pushed more pushed k own =
       let so_far = finding k own in
       let next = next_is k in
@@ -248,7 +250,7 @@ module _ (members : List Member) (counted : Course → Bool) (found : List Fill)
       omega (arith, so_far, next, one)
 
   pub finding-skipped : counted (fill_of members r).course ≡ false → (k : FillKey) → counted k.course ≡ true
-      → count_in found k + fills_in members left k ≡ all k
+      → count_among found k + fills_in members left k ≡ all k
   finding-skipped stranger k own =
       let so_far = finding k own in
       let next = next_is k in

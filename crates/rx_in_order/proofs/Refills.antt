@@ -121,6 +121,22 @@ module _ (c : Course) (xs : List Fill) (rise : IsAscending fill_cmp fill_key xs)
         ap (λ k. is_not_past c (get_or xs k d)) at ∙ not_past
   ]
 
+  -- a fill that isn't past the course has none past it before, and one that is has only such behind
+  pub none_past_before : (i : ℕ) → i < length xs → AllWithin (λ f. is_not_past c f ≡ true) xs i (i + 1)
+      → AllWithin (λ f. is_not_past c f ≡ true) xs 0 (i + 1)
+  none_past_before i within own = λ j d low high.
+      parted_not_past j i d (omega arith) within (own i d (omega arith) (omega arith))
+
+  pub all_past_behind : (i : ℕ) (f : Fill) → f ≡ get_or xs i f → is_not_past c f ≡ false
+      → AllWithin (λ g. is_not_past c g ≡ false) xs i (length xs)
+  all_past_behind i f is past = λ j d low high. elim (cases_Bool (is_not_past c (get_or xs j d))) [
+    | inl not_past ↦
+        let here : is_not_past c (get_or xs i d) ≡ true = parted_not_past i j d low high not_past in
+        let same : get_or xs i d ≡ f = get_or_default xs i d f (omega arith) ∙ sym is in
+        absurd (let e : false ≡ true = sym past ∙ ap (is_not_past c) (sym same) ∙ here in cc)
+    | inr later ↦ later
+  ]
+
 -- ---- fills that don't count
 
 module _ (f : Refill) where

@@ -13,6 +13,7 @@ use Rattle.rx_ledger.specs.declared.row.Row.{Row}
 use Rattle.rx_ledger.specs.Members.{member_cmp, member_key}
 use Rattle.rx_ledger.specs.Rows.{member_of_row}
 use Rattle.rx_in_order.specs.declared.fill.Course.{Course}
+use Rattle.rx_in_order.specs.declared.fill.Entry.{Entry}
 use Rattle.rx_in_order.specs.declared.fill.Fill.{Fill}
 use Rattle.rx_in_order.specs.declared.fill.FillKey.{FillKey}
 use Rattle.rx_in_order.specs.declared.fill.When.{When}
@@ -60,12 +61,12 @@ one_of members k r = if is_eq (fill_cmp (fill_of members r) k) then 1 else 0
 abbrev pub fills_in : List Member → List Row → FillKey → ℕ
 fills_in members rows k = sum_by (one_of members k) rows
 
--- how many of this fill an entry counts, and how many a list of entries counts together
+-- how many of this fill an entry counts, and how many the entries of transactions count together
 abbrev pub count_of : FillKey → Fill → ℕ
 count_of k f = if is_eq (fill_cmp f.key k) then f.count else 0
 
-abbrev pub count_in : List Fill → FillKey → ℕ
-count_in fills k = sum_by (count_of k) fills
+abbrev pub count_among : List Entry → FillKey → ℕ
+count_among entries k = sum_by (λ e. count_of k e.fill) entries
 
 -- how many there are by a list of counts, where a fill without an entry counts nothing
 abbrev pub count_at : List Fill → FillKey → ℕ

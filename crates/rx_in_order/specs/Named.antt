@@ -9,6 +9,7 @@ use Rattle.rx_claim.specs.declared.transmission.Body.TheVariants.{Rejected, Hear
 use Rattle.rx_claim.specs.declared.transmission.Heard.{Heard as HeardRecord}
 use Rattle.rx_claim.specs.declared.transmission.Transmission.{Transmission}
 use Rattle.rx_ledger.specs.Named.{key_in}
+use Rattle.rx_in_order.specs.declared.names.Named.{Named}
 
 -- the fill key of a transaction
 abbrev pub keys_of : HeardRecord → Transaction → List Key
@@ -24,3 +25,7 @@ keys_in (Heard h) = flat_map (keys_of h) h.list
 -- those of a batch
 abbrev pub keys_named : List Transmission → List Key
 keys_named transmissions = flat_map (λ t. keys_in t.body) transmissions
+
+-- a key that is named
+abbrev pub named_key : Named → Key
+named_key n = n.key

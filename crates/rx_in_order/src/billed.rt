@@ -2,7 +2,7 @@ ghost use Rattle.std.specs.Prelude.{◌≡◌, ◌≤◌, IfOk, IfSome, OnOk};
 ghost use Rattle.std.specs.List.{All};
 ghost use Rattle.rx_in_order.specs.Underway.{IsHolder};
 
-use crate::fill::{Course, Fill, FillKey, when_at};
+use crate::fill::{Course, Entry, Fill, FillKey, when_at};
 use rx_books_kept::OpenBooks;
 use rx_claim::{Body, Heard, Transaction, Transmission};
 use rx_fields::{Days, Memory};
@@ -14,7 +14,7 @@ use std::alloc::Global;
 pub(crate) struct Billed {
     pub(crate) holders: Vec<Option<usize>>,
     pub(crate) firsts: Vec<usize>,
-    pub(crate) own: Vec<Fill>,
+    pub(crate) own: Vec<Entry>,
 }
 
 /// What a batch bills of the members in books.
@@ -24,7 +24,7 @@ pub(crate) fn billed_by(
     transmissions: &[Transmission],
 ) -> Result<Billed, Memory>
     ensures holders { IfOk result (λ found. All (IsHolder books.now.books.ledger.members) found.holders.items) }
-    ensures own { IfOk result (λ found. All (λ f. f.count ≡ 0) found.own.items) }
+    ensures own { IfOk result (λ found. All (λ e. e.fill.count ≡ 0) found.own.items) }
 {
     let mut found = Billed {
         holders: Vec::with_capacity(alloc, transmissions.len())?,
@@ -43,15 +43,16 @@ pub(crate) fn billed_by(
 // Puts the members and fills of a record behind the others.
 fn put_holders(found: &mut Billed, books: &OpenBooks, heard: &Heard) -> Result<(), Memory>
     requires holders { All (IsHolder books.now.books.ledger.members) found.old.holders.items }
-    requires own { All (λ f. f.count ≡ 0) found.old.own.items }
+    requires own { All (λ e. e.fill.count ≡ 0) found.old.own.items }
     ensures holders { OnOk result (All (IsHolder books.now.books.ledger.members) found.new.holders.items) }
-    ensures own { OnOk result (All (λ f. f.count ≡ 0) found.new.own.items) }
+    ensures own { OnOk result (All (λ e. e.fill.count ≡ 0) found.new.own.items) }
 {
     let list = heard.list.as_slice();
     for transaction in list {
         let holder = holder_in(books, transaction);
+        let at = found.holders.len();
         found.holders.push(holder)?;
-        put_own(&mut found.own, own_fill(heard, transaction, holder))?;
+        put_own(&mut found.own, own_fill(heard, transaction, holder), at)?;
     }
     Ok(())
 }
@@ -90,15 +91,15 @@ fn own_fill(heard: &Heard, transaction: &Transaction, holder: Option<usize>) -> 
     }
 }
 
-// Puts an entry behind the others, where there is one.
-fn put_own(own: &mut Vec<Fill>, fill: Option<Fill>) -> Result<(), Memory>
-    requires own { All (λ f. f.count ≡ 0) own.old.items }
+// Puts the entry of a transaction behind the others, where there is one.
+fn put_own(own: &mut Vec<Entry>, fill: Option<Fill>, transaction: usize) -> Result<(), Memory>
+    requires own { All (λ e. e.fill.count ≡ 0) own.old.items }
     requires fill { IfSome fill (λ f. f.count ≡ 0) }
-    ensures { OnOk result (All (λ f. f.count ≡ 0) own.new.items) }
+    ensures { OnOk result (All (λ e. e.fill.count ≡ 0) own.new.items) }
 {
     match fill {
         Some(fill) => {
-            own.push(fill)?;
+            own.push(Entry { fill, transaction })?;
             Ok(())
         }
         None => Ok(()),

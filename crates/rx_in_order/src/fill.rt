@@ -1,5 +1,5 @@
-ghost use Rattle.std.specs.Prelude.{◌≡◌, OnErr, OnOk};
-ghost use Rattle.rx_order.specs.Ascending.{IsAt};
+ghost use Rattle.std.specs.Prelude.{◌≡◌, ◌-◌, IfSome, OnErr, OnOk};
+ghost use Rattle.rx_order.specs.Ascending.{IsAt, put};
 ghost use Rattle.rx_in_order.specs.Fills.{count_at, fill_at, fill_cmp, fill_key, lowered, tallied, when_of};
 
 use rx_fields::{Day, Days, Memory, Product};
@@ -33,6 +33,13 @@ pub(crate) struct FillKey {
 pub(crate) struct Fill {
     pub(crate) key: FillKey,
     pub(crate) count: u64,
+}
+
+/// An entry, and which transaction's it is, counted over all records; it is none's where it stands for a claim.
+#[derive(Clone, Copy, Debug)]
+pub(crate) struct Entry {
+    pub(crate) fill: Fill,
+    pub(crate) transaction: usize,
 }
 
 impl Keyed for Fill {
@@ -69,7 +76,37 @@ pub(crate) fn when_at(date: Day, days: Days) -> When
     }
 }
 
-/// Counts as many more of a fill as the entry does. On a refusal the counts are unchanged.
+/// Counts as many more of a fill as the entry does, which is at one of these places, or else is looked up. On a refusal
+/// the counts are unchanged.
+pub(crate) fn tally_near(
+    fills: &mut Ascending<Fill>,
+    near: &[usize],
+    fill: Fill,
+) -> Result<(), Memory>
+    ensures ok { OnOk result (fills.new ≡ tallied fills.old fill) }
+    ensures err { OnErr result (fills.new ≡ fills.old) }
+{
+    match place_near(fills, near, &fill.key) {
+        Some(place) => tally_at(fills, place, fill),
+        None => tally(fills, fill),
+    }
+}
+
+// Which of these places is that of the fill's entry.
+fn place_near(fills: &Ascending<Fill>, near: &[usize], key: &FillKey) -> Option<usize>
+    ensures { IfSome result (IsAt fill_cmp fill_key fills.now key.now) }
+{
+    let list = fills.as_slice();
+    for place in near {
+        let place = *place;
+        if place < list.len() && list[place].key == *key {
+            return Some(place);
+        }
+    }
+    None
+}
+
+/// The same, where the entry is looked up.
 pub(crate) fn tally(fills: &mut Ascending<Fill>, fill: Fill) -> Result<(), Memory>
     ensures ok { OnOk result (fills.new ≡ tallied fills.old fill) }
     ensures err { OnErr result (fills.new ≡ fills.old) }
@@ -111,16 +148,17 @@ fn tally_at(fills: &mut Ascending<Fill>, place: usize, fill: Fill) -> Result<(),
 pub(crate) fn lower(fills: &mut Ascending<Fill>, key: FillKey)
     ensures { fills.new ≡ lowered fills.old key }
 {
-    let count = count_at(fills, &key).saturating_sub(1);
-    let _ = fills.replace(Fill { key, count });
+    match fills.place(&key) {
+        Ok(place) => lower_at(fills, place, key),
+        Err(_) => (),
+    }
 }
 
-// How many there are of a fill.
-fn count_at(fills: &Ascending<Fill>, key: &FillKey) -> u64
-    ensures { result ≡ count_at fills.now key.now }
+// The same, where the fill's entry is at a place.
+fn lower_at(fills: &mut Ascending<Fill>, place: usize, key: FillKey)
+    requires { IsAt fill_cmp fill_key fills.old key place }
+    ensures { fills.new ≡ put fill_cmp fill_key fills.old (record { key = key; count = count_at fills.old key - 1 }) }
 {
-    match fills.get(key) {
-        Some(fill) => fill.count,
-        None => 0,
-    }
+    let count = fills.as_slice()[place].count.saturating_sub(1);
+    let _ = fills.replace_at(place, Fill { key, count });
 }

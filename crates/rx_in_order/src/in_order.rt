@@ -8,10 +8,11 @@ ghost use Rattle.rx_ledger.specs.TermList.{plan_of};
 ghost use Rattle.rx_in_order.specs.Underway.{IsAwaited, scope_of};
 
 use crate::billed::{Billed, billed_by, longer, longest_of};
-use crate::counted::counted;
-use crate::fill::{Fill, fill_at, lower, tally};
+use crate::counted::{Counts, counted};
+use crate::fill::{Fill, fill_at, lower, tally_near};
 use crate::marks::{has_mark, marks_of};
-use crate::names::{keys_named, unique_keys};
+use crate::names::{keys_named, slots_of, unique_keys};
+use crate::near::near_of;
 use crate::refill::Refill;
 use crate::used::used_at;
 use rx_books_kept::{Books, OpenBooks};
@@ -32,6 +33,10 @@ pub struct InOrder {
     pub(crate) holders: Vec<Option<usize>>,
     pub(crate) firsts: Vec<usize>,
     pub(crate) at: usize,
+    // Where the slots of the transactions' fill keys probably are, and the entries of their own fills, in the same order.
+    // They are compared too.
+    pub(crate) slots: Vec<usize>,
+    pub(crate) own: Vec<usize>,
     // The fills of the courses that have a mark, each with how many standing claims are such fills, and the longest days
     // supply of all.
     pub(crate) marks: Vec<bool>,
@@ -60,15 +65,17 @@ impl InOrder {
         ensures same { IfOk result (λ order. order.books ≡ books) }
         ensures awaited { IfOk result (λ order. All (IsAwaited order) transmissions.now) }
     {
-        let keys = unique_keys(keys_named(alloc, transmissions)?)?;
+        let mut named = keys_named(alloc, transmissions)?;
+        let keys = unique_keys(alloc, &mut named)?;
         let books = books.open(alloc, &keys)?;
         let Billed {
             holders,
             firsts,
             own,
         } = billed_by(alloc, &books, transmissions)?;
+        let slots = slots_of(alloc, &named, &keys, holders.len())?;
         let marks = marks_of(alloc, &own)?;
-        let fills = counted(alloc, &books, &marks, own)?;
+        let Counts { fills, places } = counted(alloc, &books, &marks, own, holders.len())?;
         let longest = longest_of(fills.as_slice());
         let _in_order = books.standing();
         Ok(InOrder {
@@ -76,6 +83,8 @@ impl InOrder {
             holders,
             firsts,
             at: 0,
+            slots,
+            own: places,
             marks,
             fills,
             longest,
@@ -132,7 +141,7 @@ impl Basis for InOrder {
     ghost scope = { λ o. scope_of o };
 
     fn row_under(&self, key: &Key) -> Option<Row> {
-        match self.books.slot_of(key) {
+        match self.slot_of(key) {
             Some(slot) => self.books.row_at(slot).copied(),
             None => unreachable!(),
         }
@@ -167,13 +176,13 @@ impl Basis for InOrder {
         let refill = Refill::of(figures, date, bill, holder);
         let _in_order = self.fills.as_slice();
         if has_mark(&self.marks, &refill.course) {
-            return refill.is_too_soon(&self.fills, self.longest);
+            return refill.is_too_soon(&self.fills, near_of(&self.own, self.at), self.longest);
         }
         is_any_row_too_soon(&self.books, figures, date, bill)
     }
 
     fn add(&mut self, row: Row) -> Result<(), Memory> {
-        let Some(slot) = self.books.slot_of(&row.key) else {
+        let Some(slot) = self.slot_of(&row.key) else {
             unreachable!()
         };
         let Some(holder) = self.holder_of(&row.member()) else {
@@ -181,14 +190,15 @@ impl Basis for InOrder {
         };
         self.longest = longer(self.longest, row.days);
         let key = fill_at(holder, &row);
-        tally(&mut self.fills, Fill { key, count: 1 })?;
+        let near = near_of(&self.own, self.at);
+        tally_near(&mut self.fills, near, Fill { key, count: 1 })?;
         let home = self.books.home_of(holder);
         self.books.add(slot, home, holder, row);
         Ok(())
     }
 
     fn remove(&mut self, key: &Key) -> Result<(), Memory> {
-        let Some(slot) = self.books.slot_of(key) else {
+        let Some(slot) = self.slot_of(key) else {
             unreachable!()
         };
         let row = self.books.remove(slot);

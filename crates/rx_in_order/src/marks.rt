@@ -1,20 +1,20 @@
 ghost use Rattle.std.specs.Prelude.{◌≡◌, ◌<◌, length};
 ghost use Rattle.rx_in_order.specs.Fills.{has_mark, mark_of};
 
-use crate::fill::{Course, Fill};
+use crate::fill::{Course, Entry};
 use rx_fields::Memory;
 use std::alloc::Global;
 
 // How many marks there are for each fill.
 const MARKS: usize = 16;
 
-/// Marks for the courses of these fills. Few other courses have a mark.
-pub(crate) fn marks_of(alloc: Global, fills: &[Fill]) -> Result<Vec<bool>, Memory> {
-    let mut marks = vec![in alloc; false; fills.len().saturating_mul(MARKS)]?;
+/// Marks for the courses of these entries' fills. Few other courses have a mark.
+pub(crate) fn marks_of(alloc: Global, entries: &[Entry]) -> Result<Vec<bool>, Memory> {
+    let mut marks = vec![in alloc; false; entries.len().saturating_mul(MARKS)]?;
     let count = marks.len();
-    for fill in fills {
+    for entry in entries {
         if count > 0 {
-            let place = mark_of(count, &fill.key.course);
+            let place = mark_of(count, &entry.fill.key.course);
             if let Some(mark) = marks.get_mut(place) {
                 *mark = true;
             }

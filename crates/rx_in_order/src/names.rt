@@ -1,62 +1,121 @@
-ghost use Rattle.std.specs.Prelude.{◌≡◌, ◌++◌, IfOk, OnOk};
+ghost use Rattle.std.specs.Prelude.{◌≡◌, ◌++◌, IfOk, OnOk, map};
 ghost use Rattle.std.specs.List.{Contains, flat_map};
 ghost use Rattle.rx_fields.specs.Order.{key_cmp};
 ghost use Rattle.rx_fields.specs.declared.key.Key.{Key};
 ghost use Rattle.rx_order.specs.Ascending.{IsAscending};
-ghost use Rattle.rx_in_order.specs.Named.{keys_named, keys_of};
+ghost use Rattle.rx_in_order.specs.Named.{keys_named, keys_of, named_key};
 
 use rx_claim::{Body, Heard, Transaction, Transmission};
 use rx_fields::{Key, Memory};
 use std::alloc::Global;
 
-/// The fill keys that a batch names, in the order in which it does.
-pub(crate) fn keys_named(alloc: Global, transmissions: &[Transmission]) -> Result<Vec<Key>, Memory>
-    ensures { IfOk result (λ keys. keys.items ≡ keys_named transmissions.now) }
-{
-    let mut keys = Vec::with_capacity(alloc, transmissions.len())?;
-    for transmission in transmissions {
-        if let Body::Heard(heard) = &transmission.body {
-            put_keys(&mut keys, heard)?;
-        }
-    }
-    Ok(keys)
+/// A fill key that a batch names, and which of its transactions does, counted over all records.
+#[derive(Clone, Copy, Debug, PartialEq, Eq, PartialOrd, Ord)]
+pub(crate) struct Named {
+    pub(crate) key: Key,
+    pub(crate) transaction: usize,
 }
 
-// Puts the fill keys of a record behind the others.
-fn put_keys(keys: &mut Vec<Key>, heard: &Heard) -> Result<(), Memory>
-    ensures { OnOk result (keys.new.items ≡ keys.old.items ++ flat_map (keys_of heard.now) heard.now.list) }
+/// The fill keys that a batch names, in the order in which it does.
+pub(crate) fn keys_named(
+    alloc: Global,
+    transmissions: &[Transmission],
+) -> Result<Vec<Named>, Memory>
+    ensures { IfOk result (λ named. map named_key named.items ≡ keys_named transmissions.now) }
+{
+    let mut named = Vec::with_capacity(alloc, transmissions.len())?;
+    let mut before = 0;
+    for transmission in transmissions {
+        if let Body::Heard(heard) = &transmission.body {
+            before = put_keys(&mut named, heard, before)?;
+        }
+    }
+    Ok(named)
+}
+
+// Puts the fill keys of a record behind the others. So many transactions come before its own, and the result is how many
+// there are with those.
+fn put_keys(named: &mut Vec<Named>, heard: &Heard, before: usize) -> Result<usize, Memory>
+    ensures { OnOk result (map named_key named.new.items
+        ≡ map named_key named.old.items ++ flat_map (keys_of heard.now) heard.now.list) }
 {
     let list = heard.list.as_slice();
+    let mut at = before;
     for transaction in list {
-        put_key(keys, heard, transaction)?;
+        put_key(named, heard, transaction, at)?;
+        at = at.saturating_add(1);
     }
-    Ok(())
+    Ok(at)
 }
 
 // Puts the fill key of a transaction behind the others.
-fn put_key(keys: &mut Vec<Key>, heard: &Heard, transaction: &Transaction) -> Result<(), Memory>
-    ensures { OnOk result (keys.new.items ≡ keys.old.items ++ keys_of heard.now transaction.now) }
+fn put_key(
+    named: &mut Vec<Named>,
+    heard: &Heard,
+    transaction: &Transaction,
+    at: usize,
+) -> Result<(), Memory>
+    ensures { OnOk result (map named_key named.new.items
+        ≡ map named_key named.old.items ++ keys_of heard.now transaction.now) }
 {
     let reference = match transaction {
         Transaction::Bill(bill) => bill.parts().reference,
         Transaction::Reverse(reversal) => reversal.reference,
         Transaction::Faulty(_) => return Ok(()),
     };
-    keys.push(Key {
+    let key = Key {
         provider: heard.provider,
         reference,
         date: heard.date,
+    };
+    named.push(Named {
+        key,
+        transaction: at,
     })?;
     Ok(())
 }
 
-/// Fill keys in order, each once.
-pub(crate) fn unique_keys(keys: Vec<Key>) -> Result<Vec<Key>, Memory>
+/// The fill keys in order, each once. From then on those that are named are in this order too.
+pub(crate) fn unique_keys(alloc: Global, named: &mut Vec<Named>) -> Result<Vec<Key>, Memory>
     ensures rise { IfOk result (λ unique. IsAscending key_cmp (λ key. key) unique.items) }
-    ensures keeps { IfOk result (λ unique. (key : Key) → Contains keys.items key → Contains unique.items key) }
+    ensures keeps { IfOk result (λ unique. (key : Key) → Contains (map named_key named.old.items) key → Contains unique.items key) }
 {
-    let mut keys = keys;
+    named.sort_unstable();
+    let mut keys = only_keys(alloc, named)?;
+    // They are in order by now, and the sort sees that in one pass.
     keys.sort()?;
     keys.dedup();
     Ok(keys)
+}
+
+// The keys that are named.
+fn only_keys(alloc: Global, named: &[Named]) -> Result<Vec<Key>, Memory>
+    ensures { IfOk result (λ keys. keys.items ≡ map named_key named.now) }
+{
+    let mut keys = Vec::with_capacity(alloc, named.len())?;
+    for name in named {
+        keys.push(name.key)?;
+    }
+    Ok(keys)
+}
+
+/// Where the fill key of each of so many transactions probably is among the keys. Both lists are in order. It promises
+/// nothing: the key that is found there is compared.
+pub(crate) fn slots_of(
+    alloc: Global,
+    named: &[Named],
+    keys: &[Key],
+    transactions: usize,
+) -> Result<Vec<usize>, Memory> {
+    let mut slots = vec![in alloc; 0usize; transactions]?;
+    let mut at = 0usize;
+    for name in named {
+        if keys.get(at) != Some(&name.key) {
+            at = at.saturating_add(1);
+        }
+        if let Some(slot) = slots.get_mut(name.transaction) {
+            *slot = at;
+        }
+    }
+    Ok(slots)
 }

@@ -1,18 +1,32 @@
-ghost use Rattle.std.specs.Prelude.{◌≡◌, ◌<◌, IfSome, is_some, length, true};
+ghost use Rattle.std.specs.Prelude.{◌≡◌, ◌<◌, IfNone, IfSome, Some, is_some, length, slice_get, true};
+ghost use Rattle.std.specs.List.{Contains};
 ghost use Rattle.rx_order.specs.Ascending.{IsAt};
 ghost use Rattle.rx_ledger.specs.Ledger.{is_listed};
 ghost use Rattle.rx_ledger.specs.Members.{member_cmp, member_key};
 ghost use Rattle.rx_books_kept.specs.LedgerBooks.{has_members};
 
 use crate::in_order::InOrder;
-use rx_fields::Id;
+use rx_fields::{Id, Key};
 use rx_ledger::MemberKey;
 
 // How many transactions a record has at most.
 const MOST: usize = 4;
 
-// The member that a record asks for is mostly near: it was found for the record's own transactions.
+// What a record asks for is mostly near: it was found for the record's own transactions.
 impl InOrder {
+    /// The place of a fill key's slot: near, or else it is looked up.
+    pub(crate) fn slot_of(&self, key: &Key) -> Option<usize>
+        ensures found { IfSome result (λ at. slice_get self.now.slots at ≡ Some key.now) }
+        ensures absent { IfNone result (¬ Contains self.now.slots key.now) }
+    {
+        for slot in near_of(&self.slots, self.at) {
+            if self.books.is_slot(*slot, key) {
+                return Some(*slot);
+            }
+        }
+        self.books.slot_of(key)
+    }
+
     /// The place of a listed member: near, or else it is looked up.
     pub(crate) fn holder_of(&self, key: &MemberKey) -> Option<usize>
         ensures found { IfSome result (IsAt member_cmp member_key self.now.books.ledger.members key.now) }
@@ -51,4 +65,11 @@ impl InOrder {
             None => None,
         }
     }
+}
+
+/// What is kept for as many transactions as a record has at most, from a place on.
+pub(crate) fn near_of(kept: &[usize], at: usize) -> &[usize] {
+    let from = at.min(kept.len());
+    let to = from.saturating_add(MOST).min(kept.len());
+    &kept[from..to]
 }

@@ -1,4 +1,4 @@
-ghost use Rattle.std.specs.Prelude.{◌≡◌, ◌≤◌, ◌*◌, ◌-ℤ◌, ◌*ℤ◌, pos, int_lt, length, true, false};
+ghost use Rattle.std.specs.Prelude.{◌≡◌, ◌≤◌, ◌<◌, ◌+◌, ◌*◌, IfSome, ◌-ℤ◌, ◌*ℤ◌, pos, int_lt, length, true, false};
 ghost use Rattle.std.specs.List.{All, AllWithin, list_any};
 ghost use Rattle.rx_order.specs.Ascending.{IsAscending};
 ghost use Rattle.rx_in_order.specs.Fills.{concerns, counts, fill_cmp, fill_key, is_early, is_not_past, is_own, refill_of};
@@ -35,15 +35,16 @@ impl Refill {
         }
     }
 
-    /// Whether some fill that stands makes it too soon. It looks back from the last fill of the course, and no further
-    /// than the longest days supply that there is could last.
-    pub(crate) fn is_too_soon(&self, fills: &Ascending<Fill>, longest: Days) -> bool
+    /// Whether some fill that stands makes it too soon. It looks back from the last fill of the course, which comes soon
+    /// behind one of these places or else is searched for, and no further than the longest days supply that there is
+    /// could last.
+    pub(crate) fn is_too_soon(&self, fills: &Ascending<Fill>, near: &[usize], longest: Days) -> bool
         requires percent { self.now.percent ≤ 100 }
         requires within { All (λ f. f.key.when.days ≤ longest) fills.now }
         ensures { result ≡ list_any (counts self.now) fills.now }
     {
         let list = fills.as_slice();
-        let mut at = self.end(list);
+        let mut at = self.end(list, near);
         'fills: while at > 0 {
             let fill = &list[at - 1];
             if self.is_early(&fill.key, longest) {
@@ -58,7 +59,55 @@ impl Refill {
     }
 
     // How many of the fills are of earlier courses or its own.
-    fn end(&self, fills: &[Fill]) -> usize
+    fn end(&self, fills: &[Fill], near: &[usize]) -> usize
+        requires { IsAscending fill_cmp fill_key fills.now }
+        ensures within { result ≤ length fills.now }
+        ensures before { AllWithin (λ f. is_not_past self.now.course f ≡ true) fills.now 0 result }
+        ensures past { AllWithin (λ f. is_not_past self.now.course f ≡ false) fills.now result (length fills.now) }
+    {
+        match self.own_near(fills, near) {
+            Some(place) => self.end_behind(fills, place),
+            None => self.end_found(fills),
+        }
+    }
+
+    // Which of these places is that of a fill of its course.
+    fn own_near(&self, fills: &[Fill], near: &[usize]) -> Option<usize>
+        ensures within { IfSome result (λ i. i < length fills.now) }
+        ensures own { IfSome result (λ i. AllWithin (λ f. is_not_past self.now.course f ≡ true) fills.now i (i + 1)) }
+    {
+        let course = self.course;
+        for place in near {
+            let place = *place;
+            if place < fills.len() && fills[place].key.course == course {
+                return Some(place);
+            }
+        }
+        None
+    }
+
+    // The same as `end`, by going on from a fill of its course.
+    fn end_behind(&self, fills: &[Fill], place: usize) -> usize
+        requires rise { IsAscending fill_cmp fill_key fills.now }
+        requires within { place < length fills.now }
+        requires own { AllWithin (λ f. is_not_past self.now.course f ≡ true) fills.now place (place + 1) }
+        ensures within { result ≤ length fills.now }
+        ensures before { AllWithin (λ f. is_not_past self.now.course f ≡ true) fills.now 0 result }
+        ensures past { AllWithin (λ f. is_not_past self.now.course f ≡ false) fills.now result (length fills.now) }
+    {
+        let course = self.course;
+        let mut end = place + 1;
+        'own: while end < fills.len() {
+            if fills[end].key.course.cmp(&course).is_gt() {
+                return end;
+            }
+            end += 1;
+        }
+        end
+    }
+
+    // The same as `end`, by a search.
+    fn end_found(&self, fills: &[Fill]) -> usize
         requires { IsAscending fill_cmp fill_key fills.now }
         ensures within { result ≤ length fills.now }
         ensures before { AllWithin (λ f. is_not_past self.now.course f ≡ true) fills.now 0 result }

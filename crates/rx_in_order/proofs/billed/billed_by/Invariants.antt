@@ -7,5 +7,5 @@ abbrev pub invariant-loop-transmission : goal.invariant-loop-transmission
 invariant-loop-transmission l =
     record {
       holders : All (IsHolder l.books.books.ledger.members) l.found.holders.items;
-      own : All (λ f. f.count ≡ 0) l.found.own.items;
+      own : All (λ e. e.fill.count ≡ 0) l.found.own.items;
     }

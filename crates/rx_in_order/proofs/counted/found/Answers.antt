@@ -6,10 +6,10 @@ use Rattle.rx_ledger.specs.declared.member.Member.{Member}
 use Rattle.rx_ledger.specs.Ledger.{Ledger}
 use Rattle.rx_ledger.specs.Members.{member_cmp, member_key}
 use Rattle.rx_ledger.specs.Rows.{member_of_row}
-use Rattle.rx_in_order.specs.declared.fill.Fill.{Fill}
+use Rattle.rx_in_order.specs.declared.fill.Entry.{Entry}
 use Rattle.rx_in_order.specs.declared.fill.FillKey.{FillKey}
-use Rattle.rx_in_order.specs.Fills.{count_in, count_of, fill_at, fill_of, fills_in, has_mark}
-use Rattle.rx_in_order.proofs.Counting.{count_in-none, finding-pushed, finding-skipped}
+use Rattle.rx_in_order.specs.Fills.{count_among, count_of, fill_at, fill_of, fills_in, has_mark}
+use Rattle.rx_in_order.proofs.Counting.{count_among-none, finding-pushed, finding-skipped}
 use Rattle.rx_in_order.proofs.Holders.{at_row}
 use Rattle.rx_in_order.proofs.counted.found.Goals as goal
 
@@ -18,7 +18,7 @@ loop-row-init c =
     let L = c.args.books.now.books.ledger in
     record {
       finding = λ k own.
-          let none = count_in-none c.args.own.items c.requires k in
+          let none = count_among-none c.args.own.items c.requires k in
           let same = ap (λ (l : Ledger). fills_in L.members l.rows k) c.standing-standing.ensures.value in
           omega (arith, none, same);
       members = ap (λ (l : Ledger). l.members) c.standing-standing.ensures.value;
@@ -33,13 +33,13 @@ loop-row-preserved-in-Continue-1 c =
     c.loop-row.invariant.members c.in-Some.ensures.holder in
     let key : c.fill_at-key.result ≡ fill_of L.members r =
     c.fill_at-key.ensures ∙ at_row L.members r c.in-Some.holder c.standing-standing.ensures.within.members_rise at in
-    let made : FillKey → Fill = λ k. record { key = k; count = 1 } in
+    let made : FillKey → Entry = λ k. record { fill = record { key = k; count = 1 }; transaction = 18446744073709551615 } in
     record {
       finding = finding-pushed L.members (has_mark c.args.marks.now) c.loop-row.found.items all c.loop-row.standing.rows
           c.next_row.new.self.rows r c.in-Some.ensures.row c.loop-row.invariant.finding c.push.new.self.items
-          (λ k. ap (λ fills. count_in fills k) c.in_ok-push.ensures.items
-          ∙ sum_by_push (count_of k) c.loop-row.found.items (made c.fill_at-key.result)
-          ∙ ap (λ j. count_in c.loop-row.found.items k + count_of k (made j)) key);
+          (λ k. ap (λ fills. count_among fills k) c.in_ok-push.ensures.items
+          ∙ sum_by_push (λ (e : Entry). count_of k e.fill) c.loop-row.found.items (made c.fill_at-key.result)
+          ∙ ap (λ j. count_among c.loop-row.found.items k + count_of k (made j).fill) key);
       members = c.next_row.ensures.members ∙ c.loop-row.invariant.members;
     }
 
@@ -50,8 +50,8 @@ loop-row-preserved c =
     let all = λ (k : FillKey). fills_in L.members L.rows k in
     let at = subst (λ (ms : List Member). IsAt member_cmp member_key ms (member_of_row r) c.in-Some.holder)
     c.loop-row.invariant.members c.in-Some.ensures.holder in
-    let key : c.fill_at-key.result ≡ fill_of L.members r =
-    c.fill_at-key.ensures ∙ at_row L.members r c.in-Some.holder c.standing-standing.ensures.within.members_rise at in
+    let key : fill_at c.in-Some.holder r ≡ fill_of L.members r =
+    at_row L.members r c.in-Some.holder c.standing-standing.ensures.within.members_rise at in
     let stranger : has_mark c.args.marks.now (fill_of L.members r).course ≡ false =
     ap (λ (k : FillKey). has_mark c.args.marks.now k.course) (sym key) ∙ sym c.has_mark.ensures ∙ c.if-has_mark.false in
     record {

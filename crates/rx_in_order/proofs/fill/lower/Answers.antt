@@ -1,15 +1,16 @@
-use Rattle.std.proofs.Common.{◌≡◌, ◌-◌}
-use Rattle.rx_order.specs.Ascending.{item_at, put}
-use Rattle.rx_in_order.specs.Fills.{count_at, fill_cmp, fill_key}
-use Rattle.rx_in_order.specs.declared.fill.Fill.{Fill}
-use Rattle.rx_in_order.proofs.Counting.{written}
+-- One less is written where the fill has an entry.
+use Rattle.std.proofs.Common.{refl}
+use Rattle.rx_order.proofs.Places.{contains_key-at, contains_key-gap}
+use Rattle.rx_in_order.specs.Fills.{fill_cmp, fill_key}
+use Rattle.rx_in_order.proofs.Counting.{fill_total}
 use Rattle.rx_in_order.proofs.fill.lower.Goals as goal
 
-pub returns : goal.returns
-returns c =
-    let fills = c.args.fills.now in
-    let x : Fill = record { key = c.args.key; count = c.saturating_sub-count.result } in
-    let less : c.saturating_sub-count.result ≡ count_at fills c.args.key - 1 = cc in
-    rw (← less)
-    (written (item_at fill_cmp fill_key fills c.args.key) c.replace.result x c.replace.new.self
-    (put fill_cmp fill_key fills x) fills c.replace.ensures.value c.replace.ensures.ok c.replace.ensures.err)
+pub returns-in-Ok : goal.returns-in-Ok
+returns-in-Ok c =
+    rw (contains_key-at fill_cmp fill_total fill_key c.args.fills.now c.args.key c.in-Ok.place c.in-Ok.ensures.found)
+    c.lower_at.ensures
+
+pub returns-in-Err : goal.returns-in-Err
+returns-in-Err c =
+    rw (contains_key-gap fill_cmp fill_total fill_key c.args.fills.now c.args.key c.in-Err.field-0 c.in-Err.ensures.absent)
+    refl

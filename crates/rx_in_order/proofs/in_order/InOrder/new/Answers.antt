@@ -12,6 +12,6 @@ returns-clause-awaited c =
       slots = c.in_ok-books.books.slots;
     } in
     let ts = c.args.transmissions.now in
-    let given = c.in_ok-keys_named in
+    let given = c.in_ok-named in
     all_awaited u ts c.in_ok-keys.keys.items (rw c.deref.ensures.value at c.in_ok-books.ensures.slots)
     (λ k there. c.in_ok-keys.ensures.keeps k (subst (λ ks. Contains ks k) (sym given.ensures) there))

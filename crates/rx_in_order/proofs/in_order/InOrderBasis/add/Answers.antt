@@ -19,8 +19,7 @@ use Rattle.rx_in_order.proofs.in_order.InOrderBasis.add.Goals as goal
 
 pub unreachable-requires : goal.unreachable-requires
 unreachable-requires c =
-    c.in_default.ensures.absent
-    (slot_there c.self.inside.books.slots c.args.row.key (rw (← c.self.view_is) at c.requires.key))
+    c.in_default.ensures.absent (slot_there c.args.self.now.slots c.args.row.key c.requires.key)
 
 pub add-requires-clause-family : goal.add-requires-clause-family
 add-requires-clause-family c =
@@ -40,7 +39,7 @@ invariant_of-self-2 c =
     let none = item_at-free key_cmp key_total row_key L.rows r.key free in
     let key = c.fill_at-key.ensures ∙ at_row L.members r c.in-Some-holder_of.holder c.self.invariant.in_order.members_rise at in
     let made : FillKey → Fill = λ k. record { key = k; count = 1 } in
-    let tallied_is = c.in_ok-tally.ensures.ok ∙ ap (λ k. tallied o.fills (made k)) key in
+    let tallied_is = c.in_ok-tally_near.ensures.ok ∙ ap (λ k. tallied o.fills (made k)) key in
     let longer = within_longer o.longest c.longer-self-inside.result o.fills c.longer-self-inside.ensures.first
     c.self.invariant.within in
     let counted = AreCounted-tallied (has_mark o.marks.items) L.members L.rows (with_row L r).rows o.fills r

@@ -18,8 +18,7 @@ use Rattle.rx_in_order.proofs.in_order.InOrderBasis.remove.Goals as goal
 
 pub unreachable-requires : goal.unreachable-requires
 unreachable-requires c =
-    c.in_default.ensures.absent
-    (slot_there c.self.inside.books.slots c.args.key.now (rw (← c.self.view_is) at c.requires.key))
+    c.in_default.ensures.absent (slot_there c.args.self.now.slots c.args.key.now c.requires.key)
 
 pub unreachable-requires-in_default-member_of : goal.unreachable-requires-in_default-member_of
 unreachable-requires-in_default-member_of c =

@@ -3,7 +3,7 @@ use Rattle.std.proofs.Common.{rules, tests}
 use Rattle.std.proofs.lemmas.List.Sorted.{IsPartitionPoint-from_clause}
 use Rattle.rx_in_order.specs.Fills.{is_not_past}
 use Rattle.rx_in_order.proofs.Refills.{parted_not_past}
-use Rattle.rx_in_order.proofs.refill.Refill.end.Goals as goal
+use Rattle.rx_in_order.proofs.refill.Refill.end_found.Goals as goal
 
 pub returns-clause-before : goal.returns-clause-before
 returns-clause-before c =
