@@ -1,8 +1,7 @@
 -- What a command holds of the words' matches: the subcommand's name and its options' values.
-use Rattle.std.specs.Prelude.{◌≡◌, ◌≤◌, ℕ, Bool, false, List, Option, Some, None, codes, option_map}
+use Rattle.std.specs.Prelude.{◌≡◌, ◌≤◌, ℕ, Bool, false, List, Option, Some, None, codes}
 use Rattle.std.specs.Option.{option_map_or}
 use Rattle.std.specs.Str.{bytes_eq}
-use Rattle.std.specs.Borrow.{Bor}
 use Rattle.std.specs.Str.Parse.{IsNumeral, digits_value}
 use Rattle.clap.specs.Words.{Row, Text, first_of}
 use Rattle.rx_words.specs.Paths.{has_twice, paths_of}
@@ -16,10 +15,6 @@ use Rattle.rx_words.specs.declared.asked.ShowWords.{ShowWords}
 -- the option's value is this text
 abbrev pub HasText : List Row → Text → Text → Type 0
 HasText rows name text = first_of name rows ≡ Some text
-
--- the option's value is this text, or it doesn't stand and there is none
-abbrev pub MayHaveText : List Row → Text → Option (Bor Text) → Type 0
-MayHaveText rows name text = option_map (λ t. t.now) text ≡ first_of name rows
 
 -- the flag stands
 abbrev pub is_set : Text → List Row → Bool
@@ -51,11 +46,8 @@ pub record HoldsRun (rows : List Row) (r : RunWords) : Type 0 where
   pub stamp : HasText rows (codes "stamp") r.stamp.now
   pub workers : HasNumber rows (codes "workers") r.workers
   pub plain : r.plain ≡ is_set (codes "plain") rows
-  pub safe : r.safe ≡ is_set (codes "safe") rows
-  pub verbose : r.verbose ≡ is_set (codes "verbose") rows
-  pub log : MayHaveText rows (codes "log") r.log
 
--- what `run` takes is the values of its options, and no path of its stands twice
+-- what `run` takes is the values of its options, and its six paths differ
 abbrev pub HoldsRunApart : List Row → RunWords → Type 0
 HoldsRunApart rows r = HoldsRun rows r × (has_twice (paths_of r) ≡ false)
 

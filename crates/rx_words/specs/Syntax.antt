@@ -14,17 +14,9 @@ required_option name = record (new_rule name) { long = Some name; value_names = 
 abbrev pub workers_option : Rule
 workers_option = record (required_option (codes "workers")) { parser = Some (vp.Signed (pos 0) (pos 65535)) }
 
--- `--name VALUE`, which may stand
-abbrev pub optional_option : Text → Rule
-optional_option name = record (required_option name) { required = false }
-
--- `--name`, which may stand
-abbrev pub flag : Text → Rule
-flag name = record (new_rule name) { long = Some name; action = Some SetTrue }
-
--- `-v` or `--verbose`, which may stand
-abbrev pub verbose_flag : Rule
-verbose_flag = record (flag (codes "verbose")) { short = Some 118 }
+-- `--plain`, which may stand
+abbrev pub plain_flag : Rule
+plain_flag = record (new_rule (codes "plain")) { long = Some (codes "plain"); action = Some SetTrue }
 
 -- the line with the three input files
 abbrev pub with_inputs : App → App
@@ -38,17 +30,11 @@ with_outputs line = with_rule (with_rule (with_rule line (required_option (codes
 
 -- the line with the options of `run` that are no files
 abbrev pub with_run_options : App → App
-with_run_options line = with_rule (with_rule (with_rule line (required_option (codes "stamp"))) workers_option)
-    (flag (codes "plain"))
+with_run_options line = with_rule (with_rule (with_rule line (required_option (codes "stamp"))) workers_option) plain_flag
 
--- the line with the options of `run` for a run that nobody watches
-abbrev pub with_watch : App → App
-with_watch line = with_rule (with_rule (with_rule line (flag (codes "safe"))) verbose_flag) (optional_option (codes "log"))
-
--- `run --sheet F --books F --batch F --response F --books-out F --settlement F --stamp S --workers N [--plain] [--safe]
--- [-v] [--log F]`
+-- `run --sheet F --books F --batch F --response F --books-out F --settlement F --stamp S --workers N [--plain]`
 abbrev pub run_line : App
-run_line = with_watch (with_run_options (with_outputs (with_inputs (new_app (codes "run")))))
+run_line = with_run_options (with_outputs (with_inputs (new_app (codes "run"))))
 
 -- `show --sheet F --batch F`
 abbrev pub show_line : App
@@ -66,13 +52,9 @@ sample_line = new_app (codes "sample")
 abbrev pub with_subcommand_required : App → App
 with_subcommand_required line = record line { top = record line.top { subcommand_required = true } }
 
--- the line with `-V` or `--version`
-abbrev pub with_version : App → App
-with_version line = record line { top = record line.top { has_version = true } }
-
--- the program's name, its version, and one of its subcommands
+-- the program's name, and one of its subcommands
 abbrev pub program : App
-program = with_version (with_subcommand_required (new_app (codes "rxbatch")))
+program = with_subcommand_required (new_app (codes "rxbatch"))
 
 -- `rxbatch run ..`, `rxbatch show ..`, `rxbatch plan ..` or `rxbatch sample`
 abbrev pub whole_line : App

@@ -1,8 +1,6 @@
 //! What the program is asked to do.
 ghost use Rattle.std.specs.Prelude.{◌≡◌, map};
-ghost use Rattle.rx_words.specs.Paths.{files_of, has_twice, paths_of};
-
-use crate::paths::has_one_twice;
+ghost use Rattle.rx_words.specs.Paths.{paths_of};
 
 /// The input files of `run` and `plan` (docs/PRODUCT.md, "The program").
 #[derive(Clone, Copy, Debug, PartialEq, Eq)]
@@ -26,7 +24,7 @@ pub struct Outputs<'a> {
     pub settlement: &'a str,
 }
 
-/// The words of `run`. Its six files and its log are different texts.
+/// The words of `run`. Its six paths are different texts.
 #[derive(Clone, Copy, Debug, PartialEq, Eq)]
 pub struct RunWords<'a> {
     pub inputs: Inputs<'a>,
@@ -37,29 +35,12 @@ pub struct RunWords<'a> {
     pub workers: u16,
     /// `--plain`: adjudicate over plain lists, one record after another.
     pub plain: bool,
-    /// `--safe`: each output takes its path only where the whole run is done.
-    pub safe: bool,
-    /// `--verbose`: the steps of the run and its faults in words.
-    pub verbose: bool,
-    /// `--log`: the file for a line about the run.
-    pub log: Option<&'a str>,
 }
 
 impl<'a> RunWords<'a> {
-    /// Tells whether a path stands twice.
-    pub(crate) fn names_one_twice(&self) -> bool
-        ensures { result ≡ has_twice (paths_of self.now) }
-    {
-        let files = self.files();
-        match self.log {
-            None => has_one_twice(files.as_slice()),
-            Some(log) => files.contains(&log) || has_one_twice(files.as_slice()),
-        }
-    }
-
-    /// The six files, inputs before outputs.
-    fn files(&self) -> [&'a str; 6]
-        ensures { map (λ p. p.now) result ≡ files_of self.now }
+    /// The six paths, inputs before outputs.
+    pub(crate) fn paths(&self) -> [&'a str; 6]
+        ensures { map (λ p. p.now) result ≡ paths_of self.now }
     {
         let (inputs, outputs) = (self.inputs, self.outputs);
         [

@@ -27,5 +27,4 @@ mod words;
 
 pub use asked::{Command, Inputs, Outputs, RunWords, ShowWords};
 pub use fault::WordsFault;
-pub use syntax::VERSION;
 pub use words::command;

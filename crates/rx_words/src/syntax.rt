@@ -1,15 +1,12 @@
 //! The command line as `clap` reads it.
 ghost use Rattle.std.specs.Prelude.{◌≡◌, false, IfOk};
 ghost use Rattle.clap.specs.Words.{app_of, new_app, rule_of};
-ghost use Rattle.rx_words.specs.Syntax.{IsLocal, flag, optional_option, required_option, verbose_flag, workers_option};
-ghost use Rattle.rx_words.specs.Syntax.{with_inputs, with_outputs, with_run_options, with_watch};
+ghost use Rattle.rx_words.specs.Syntax.{IsLocal, plain_flag, required_option, workers_option};
+ghost use Rattle.rx_words.specs.Syntax.{with_inputs, with_outputs, with_run_options};
 ghost use Rattle.rx_words.specs.Syntax.{plan_line, run_line, show_line, whole_line};
 
 use clap::{Arg, ArgAction, Command as Line, value_parser};
 use std::alloc::{AllocError, Global};
-
-/// What `rxbatch --version` prints behind the program's name: the version, and the kit that proved it.
-pub const VERSION: &str = "1.0.0 (rattle-kit-13b logic dac8208d650f15bf)";
 
 /// The option `--name VALUE`.
 fn option<'a>(alloc: Global, name: &'a str, value: &'a str, help: &'a str) -> Arg<'a>
@@ -31,14 +28,6 @@ fn file<'a>(alloc: Global, name: &'a str, help: &'a str) -> Arg<'a>
     option(alloc, name, "FILE", help)
 }
 
-/// The option `--name VALUE`, which may be absent.
-fn optional<'a>(alloc: Global, name: &'a str, value: &'a str, help: &'a str) -> Arg<'a>
-    ensures rule { rule_of result ≡ optional_option name.entry.now }
-    ensures local { result.global ≡ false }
-{
-    option(alloc, name, value, help).required(false)
-}
-
 /// The option `--workers N`.
 fn workers<'a>(alloc: Global) -> Arg<'a>
     ensures rule { rule_of result ≡ workers_option }
@@ -47,15 +36,15 @@ fn workers<'a>(alloc: Global) -> Arg<'a>
     option(alloc, "workers", "N", "Number of threads, 1 to 64").value_parser(value_parser!(u16))
 }
 
-/// The flag `--name`.
-fn flag<'a>(alloc: Global, name: &'a str, help: &'a str) -> Arg<'a>
-    ensures rule { rule_of result ≡ flag name.entry.now }
+/// The flag `--plain`.
+fn plain<'a>(alloc: Global) -> Arg<'a>
+    ensures rule { rule_of result ≡ plain_flag }
     ensures local { result.global ≡ false }
 {
-    Arg::new(alloc, name)
-        .long(name)
+    Arg::new(alloc, "plain")
+        .long("plain")
         .action(ArgAction::SetTrue)
-        .help(help)
+        .help("Work over plain lists, one record after another")
 }
 
 /// The line of this name, as yet without an option.
@@ -97,33 +86,7 @@ fn takes_run_options<'a>(alloc: Global, line: Line<'a>) -> Result<Line<'a>, Allo
     ensures local { IfOk result IsLocal }
 {
     let stamp = option(alloc, "stamp", "STAMP", "Date and time, CCYYMMDDHHMM");
-    let plain = flag(
-        alloc,
-        "plain",
-        "Work over plain lists, one record after another",
-    );
-    line.arg(stamp)?.arg(workers(alloc))?.arg(plain)
-}
-
-/// A line with the options of `run` for a run that nobody watches.
-fn takes_watch<'a>(alloc: Global, line: Line<'a>) -> Result<Line<'a>, AllocError>
-    requires { IsLocal line }
-    ensures shape { IfOk result (λ l. app_of l ≡ with_watch (app_of line.entry)) }
-    ensures local { IfOk result IsLocal }
-{
-    let safe = flag(
-        alloc,
-        "safe",
-        "Give the outputs their names only where all is done",
-    );
-    let verbose = flag(alloc, "verbose", "Tell the steps, and a fault in words").short('v');
-    let log = optional(
-        alloc,
-        "log",
-        "FILE",
-        "Log of the run, a line of JSON, to be written",
-    );
-    line.arg(safe)?.arg(verbose)?.arg(log)
+    line.arg(stamp)?.arg(workers(alloc))?.arg(plain(alloc))
 }
 
 /// The subcommand `run`.
@@ -134,8 +97,7 @@ pub(crate) fn run<'a>(alloc: Global) -> Result<Line<'a>, AllocError>
     let run = named(alloc, "run", "Adjudicates a batch file");
     let inputs = takes_inputs(alloc, run)?;
     let files = takes_outputs(alloc, inputs)?;
-    let options = takes_run_options(alloc, files)?;
-    takes_watch(alloc, options)
+    takes_run_options(alloc, files)
 }
 
 /// The subcommand `show`.
@@ -166,9 +128,7 @@ pub(crate) fn line<'a>(alloc: Global) -> Result<Line<'a>, AllocError>
     let show = show(alloc)?;
     let plan = plan(alloc)?;
     let sample = named(alloc, "sample", "Shows the reply to the base claim");
-    let top = named(alloc, "rxbatch", "Adjudicates pharmacy batch files")
-        .subcommand_required(true)
-        .version(VERSION);
+    let top = named(alloc, "rxbatch", "Adjudicates pharmacy batch files").subcommand_required(true);
     top.subcommand(run)?
         .subcommand(show)?
         .subcommand(plan)?

@@ -49,8 +49,7 @@ fn run_has_each_option(rt: HostRuntime) -> Result<(), Fail> {
     assert!(rt; run.outputs == files);
     assert_eq!(rt; run.stamp, "202603020600");
     assert_eq!(rt; run.workers, 65535);
-    assert!(rt; !run.plain && !run.safe && !run.verbose);
-    assert_eq!(rt; run.log, None);
+    assert!(rt; !run.plain);
     Ok(())
 }
 
@@ -78,50 +77,6 @@ fn plain_may_stand_anywhere(rt: HostRuntime) -> Result<(), Fail> {
 }
 
 #[test]
-fn a_run_that_nobody_watches(rt: HostRuntime) -> Result<(), Fail> {
-    let words = [
-        "rxbatch",
-        "run",
-        "-v",
-        "--sheet=s",
-        "--books=b",
-        "--batch=c",
-        "--stamp=d",
-        "--workers=4",
-        "--response=e",
-        "--books-out=f",
-        "--settlement=g",
-        "--safe",
-        "--log=h",
-    ];
-    let Ok(Command::Run(run)) = command(rt.alloc(), words.as_slice()) else {
-        return Err(Fail::from("no run"));
-    };
-    assert!(rt; run.safe && run.verbose && !run.plain);
-    assert_eq!(rt; run.log, Some("h"));
-    Ok(())
-}
-
-#[test]
-fn a_log_is_a_seventh_path(rt: HostRuntime) -> Result<(), Fail> {
-    let words = [
-        "rxbatch",
-        "run",
-        "--sheet=s",
-        "--books=b",
-        "--batch=c",
-        "--stamp=d",
-        "--workers=4",
-        "--response=e",
-        "--books-out=f",
-        "--settlement=g",
-        "--log=b",
-    ];
-    assert!(rt; is_refused(rt.alloc(), words.as_slice(), false));
-    Ok(())
-}
-
-#[test]
 fn the_other_three(rt: HostRuntime) -> Result<(), Fail> {
     let alloc = rt.alloc();
     let show = ["rxbatch", "show", "--sheet", "s", "--batch", "c"];
@@ -145,21 +100,6 @@ fn the_other_three(rt: HostRuntime) -> Result<(), Fail> {
         matches!(command(alloc, plan.as_slice()), Ok(Command::Plan(words)) if words == planned)
     );
     assert!(rt; matches!(command(alloc, sample.as_slice()), Ok(Command::Sample)));
-    Ok(())
-}
-
-#[test]
-fn the_version_is_a_line(rt: HostRuntime) -> Result<(), Fail> {
-    let alloc = rt.alloc();
-    let Err(fault) = command(alloc, &["rxbatch", "--version"]) else {
-        return Err(Fail::from("it was understood"));
-    };
-    assert!(rt; fault.is_version());
-    let text = format!(in alloc; "{fault}")?;
-    assert!(rt;
-        text.as_str().starts_with("rxbatch ") && text.as_str().ends_with(")\n"),
-        "{text}"
-    );
     Ok(())
 }
 
@@ -204,7 +144,6 @@ fn the_text_is_claps(rt: HostRuntime) -> Result<(), Fail> {
         return Err(Fail::from("it was understood"));
     };
     assert_eq!(rt; fault.code(), 1);
-    assert!(rt; !fault.is_version());
     let text = format!(in alloc; "{fault}")?;
     assert!(rt;
         text.as_str()

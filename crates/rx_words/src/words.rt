@@ -8,6 +8,7 @@ ghost use Rattle.rx_words.specs.Faults.{IsWords};
 
 use crate::asked::{Command, Inputs, Outputs, RunWords, ShowWords};
 use crate::fault::WordsFault;
+use crate::paths::names_one_twice;
 use crate::syntax::{line, run as run_line};
 use clap::ArgMatches;
 use clap::error::ErrorKind;
@@ -85,15 +86,13 @@ fn run<'a>(found: &ArgMatches<'a>) -> Option<RunWords<'a>>
     let outputs = outputs(found)?;
     let stamp = text(found, "stamp")?;
     let workers = number(found, "workers")?;
+    let plain = flag(found, "plain");
     Some(RunWords {
         inputs,
         outputs,
         stamp,
         workers,
-        plain: flag(found, "plain"),
-        safe: flag(found, "safe"),
-        verbose: flag(found, "verbose"),
-        log: text(found, "log"),
+        plain,
     })
 }
 
@@ -105,7 +104,7 @@ fn run_apart<'a>(alloc: Global, found: &ArgMatches<'a>) -> Result<RunWords<'a>, 
     let Some(run) = run(found) else {
         return Err(signed(alloc, text(found, "workers").unwrap_or("")));
     };
-    if run.names_one_twice() {
+    if names_one_twice(run.paths().as_slice()) {
         return Err(WordsFault::Words(None));
     }
     Ok(run)
@@ -150,12 +149,12 @@ fn told_signed(alloc: Global, number: &str) -> Result<clap::Error, AllocError> {
 /// What the words ask for, the program's name being the first (docs/PRODUCT.md, "The program").
 ///
 /// At `Ok` `clap` finds no fault in the words, and the command holds the subcommand and the option values that `clap`'s
-/// matches of them hold; the workers are 0 to 65535, and the paths of `run` are different texts.
+/// matches of them hold; the workers are 0 to 65535, and the six paths of `run` are different texts.
 ///
 /// # Errors
 ///
-/// `Words` where `clap` doesn't take the words, help or the version being asked for too, where the workers aren't digits
-/// alone, and where `run` names one path twice; `Memory` where memory was wanting.
+/// `Words` where `clap` doesn't take the words, help being asked for too, where the workers aren't digits alone, and
+/// where `run` names one path twice; `Memory` where memory was wanting.
 pub fn command<'a, S: AsStr>(alloc: Global, words: &'a [S]) -> Result<Command<'a>, WordsFault>
     ensures ok { IfOk result (Holds (subcommand_of whole_line (map S.text words.now))) }
     ensures taken { IfOk result (λ _. fault_of whole_line (map S.text words.now) ≡ []) }

@@ -2,14 +2,13 @@ use Rattle.std.proofs.Common.{◌∙◌, ap, ap₂}
 use Rattle.std.proofs.lemmas.Result.{IfOk-weaker}
 use Rattle.clap.specs.Words.{App, with_subcommand}
 use Rattle.clap.specs.Simple.{app_of_fields}
-use Rattle.rx_words.specs.Syntax.{with_subcommand_required, with_version}
+use Rattle.rx_words.specs.Syntax.{with_subcommand_required}
 use Rattle.rx_words.proofs.syntax.line.Goals as goal
 
 -- one subcommand after another
 pub returns : goal.returns
 returns c =
-    let required = ap app_of_fields c.subcommand_required.ensures ∙ ap with_subcommand_required c.named.ensures.shape in
-    let top = ap app_of_fields c.version-top.ensures ∙ ap with_version required in
+    let top = ap app_of_fields c.subcommand_required-top.ensures ∙ ap with_subcommand_required c.named.ensures.shape in
     let run = c.in_ok-subcommand.ensures.shape c.in_ok-run.ensures.local
     ∙ ap₂ with_subcommand top (ap (λ (a : App). a.top) c.in_ok-run.ensures.shape) in
     let show = c.in_ok-subcommand-2.ensures.shape c.in_ok-show.ensures.local
