@@ -27,7 +27,8 @@ module _ {X K : Type 0} (cmp : K → K → Ordering) (order : IsTotalOrder cmp) 
         let at : cmp (key (get_or xs i e)) k ≡ Less = subst (λ x. cmp (key x) k ≡ Less) (get_or_default xs i d e within) here in
         elim (cases_lt j i) [
           | inl below ↦ order.trans (key (get_or xs j e)) (key (get_or xs i e)) k (IsAscending-at cmp order key xs j i e rise below within) at
-          | inr above ↦ let same : j ≡ i = omega (arith, above, lt) in subst (λ n. cmp (key (get_or xs n e)) k ≡ Less) (sym same) at
+          | inr above ↦ let same : j ≡ i = omega (arith, above, lt) in
+              subst (λ n. cmp (key (get_or xs n e)) k ≡ Less) (sym same) at
         ];
   }
 
@@ -43,6 +44,7 @@ module _ {X K : Type 0} (cmp : K → K → Ordering) (order : IsTotalOrder cmp) 
           | inl above ↦ Greater-from_Less cmp order key k (key (get_or xs j e))
               (order.trans k (key (get_or xs i e)) (key (get_or xs j e)) (Less-from_Greater cmp order key (key (get_or xs i e)) k at)
               (IsAscending-at cmp order key xs i j e rise above lt))
-          | inr below ↦ let same : j ≡ i = omega (arith, below, le) in subst (λ n. cmp (key (get_or xs n e)) k ≡ Greater) (sym same) at
+          | inr below ↦ let same : j ≡ i = omega (arith, below, le) in
+              subst (λ n. cmp (key (get_or xs n e)) k ≡ Greater) (sym same) at
         ];
   }
