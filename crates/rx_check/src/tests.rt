@@ -7,9 +7,9 @@ const SHEET: &[u8] = b"";
 fn a_misspelt_key(rt: HostRuntime) -> Result<(), Fail> {
     let known = ["fee", "family_deductible", "family_maximum"];
     let found = nearest(b"family_deductable", &known);
-    assert_eq!(rt; found, Some("family_deductible"));
+    assert_eq!(rt; found.unwrap_or(""), "family_deductible");
     let found = nearest(b"colour", &known);
-    assert_eq!(rt; found, None);
+    assert!(rt; found.is_none());
     Ok(())
 }
 
