@@ -1,5 +1,5 @@
 use rx_adjudicate::{Done, Order};
-use rx_desk::{Desk, Next};
+use rx_desk::{Desk, Next, Remains};
 use rx_fields::Memory;
 
 /// What a worker does next.
@@ -19,8 +19,8 @@ pub(crate) trait Counter {
     /// The next turn of a worker.
     fn turn(&mut self) -> Turn;
 
-    /// A record comes back.
-    fn take_back(&mut self, made: Result<Done, (Order, Memory)>);
+    /// A record comes back. What is left of it may be let go once the lock is open.
+    fn take_back(&mut self, made: Result<Done, (Order, Memory)>) -> Option<Remains>;
 
     /// From now on every turn is the end.
     fn stop(&mut self);
@@ -61,15 +61,15 @@ impl Counter for DeskCounter {
         }
     }
 
-    fn take_back(&mut self, made: Result<Done, (Order, Memory)>) {
+    fn take_back(&mut self, made: Result<Done, (Order, Memory)>) -> Option<Remains> {
         match made {
-            Ok(done) => {
-                if self.desk.give(done).is_err() {
-                    self.stopped = true;
-                }
-            }
+            Ok(done) => match self.desk.give_apart(done) {
+                Ok(remains) => return Some(remains),
+                Err(_) => self.stopped = true,
+            },
             Err(_) => self.stop_for_memory(),
         }
+        None
     }
 
     fn stop(&mut self) {

@@ -213,6 +213,7 @@ fn work<R: Wait, G: Gate, W: Craft, C: Counter>(
     changed: &Condvar,
 ) {
     let mut guard = locked(rt, shared);
+    let mut remains = None;
     for _ in rt.forever() {
         match guard.turn() {
             Turn::Go { order, wakes } => {
@@ -220,9 +221,10 @@ fn work<R: Wait, G: Gate, W: Craft, C: Counter>(
                 if wakes {
                     changed.notify_one();
                 }
+                drop(remains);
                 let made = made_of(alloc, gate, craft, order);
                 guard = locked(rt, shared);
-                guard.take_back(made);
+                remains = guard.take_back(made);
             }
             Turn::Wait => guard = changed.wait(rt, guard),
             Turn::End => {
