@@ -15,9 +15,9 @@ abbrev pub is_under : Door → Detail → Bool
 is_under door d =
     nat_le 20 (length d.text) && pointwise nat_eq (take 6 d.text) door.bin && pointwise nat_eq (slice_range d.text 10 20) door.pcn
 
--- no record is under the plan's BIN and processor control number
+-- there are records, and none is under the plan's BIN and processor control number
 abbrev pub has_none_under : Door → List Detail → Bool
-has_none_under door details = not (list_any (is_under door) details)
+has_none_under door details = not (length details == 0) && not (list_any (is_under door) details)
 
 -- a standing claim has a number of this batch: the first seven of its fifteen digits are the batch number
 abbrev pub is_of_batch : ℕ → Row → Bool
@@ -29,3 +29,7 @@ adjudicated number rows = count_by (is_of_batch number) rows
 -- a record can add as many claims as it has groups, each of which a GS begins
 abbrev pub groups : Detail → ℕ
 groups d = count_by (λ b. b == 29) d.text
+
+-- books of so many lines could have more than 1,000,000 after these records
+abbrev pub may_pass : ℕ → List Detail → Bool
+may_pass lines details = nat_lt 1_000_000 (lines + sum (map groups details))

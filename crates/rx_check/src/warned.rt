@@ -1,6 +1,6 @@
 ghost use Rattle.std.specs.Prelude.{◌≡◌, ◌↔◌, false};
 ghost use Rattle.std.specs.List.{list_any};
-ghost use Rattle.rx_check.specs.Warned.{adjudicated, feeds, groups, has_none_under, is_under};
+ghost use Rattle.rx_check.specs.Warned.{adjudicated, feeds, groups, has_none_under, is_under, may_pass};
 
 use rx_batch::Detail;
 use rx_fields::{Door, Lot, Period};
@@ -23,11 +23,11 @@ pub fn period_apart(sheet: Period, books: Period) -> bool
     sheet != books
 }
 
-/// Whether no record names the plan's BIN and processor control number: the batch is of another plan, or has none.
+/// Whether there are records, and none names the plan's BIN and processor control number: the batch is of another plan.
 pub fn has_none_under(door: &Door, details: &[Detail]) -> bool
     ensures { result ≡ has_none_under door.now details.now }
 {
-    !has_under(door, details)
+    !details.is_empty() && !has_under(door, details)
 }
 
 // Whether a record names the plan's BIN and processor control number.
@@ -63,17 +63,21 @@ fn groups(detail: &Detail) -> usize
 }
 
 /// Whether books of so many lines could have more than 1,000,000 after these records, which no later run would read.
-pub fn may_pass(lines: usize, details: &[Detail]) -> bool {
+pub fn may_pass(lines: usize, details: &[Detail]) -> bool
+    ensures { result ≡ may_pass lines details.now }
+{
     if lines > MOST_LINES {
         return true;
     }
     let mut room = MOST_LINES - lines;
-    for detail in details {
+    let mut rest = details;
+    while let [detail, others @ ..] = rest {
         let groups = groups(detail);
         if groups > room {
             return true;
         }
         room -= groups;
+        rest = others;
     }
     false
 }
