@@ -4,13 +4,12 @@ ghost use Rattle.std.specs.Prelude.{◌≤◌, true};
 
 use super::{desk_of, run_waves, worked_off};
 use crate::craft::{Adjudicates, Craft};
-use crate::gain::may_gain;
 use crate::in_order::tests::{billing_of, lot, member_of, plain_sheet, status};
 use crate::{Finished, Gate, NoGate, RunFault};
 use rx_adjudicate::{Done, Order};
 use rx_books_kept::Books;
 use rx_claim::Transmission;
-use rx_fields::{Id, Memory, digits_write};
+use rx_fields::{Id, Memory};
 use rx_ledger::Ledger;
 use std::alloc::Global;
 use std::sync::Wait;
@@ -249,83 +248,6 @@ fn workers_are_1_to_64(rt: HostRuntime) -> Result<(), Fail> {
         let answer = run(&rt, rt.alloc(), &NoGate, workers, &asked)?;
         assert_eq!(rt; answer.err(), Some(RunFault::Workers));
     }
-    Ok(())
-}
-
-// One family of so many members, whose weight is their number.
-fn family_of(alloc: Global, members: u64) -> Result<Ledger, Fail> {
-    let mut ledger = Ledger::new(alloc);
-    for place in 0..members {
-        let digits: [u8; 3] = digits_write((place + 1) % 1000);
-        ledger.add_member(member_of(b"C100", &digits)?)?;
-    }
-    Ok(ledger)
-}
-
-// Whether several workers can gain where so many members have one claim.
-fn gains(alloc: Global, members: u64) -> Result<bool, Fail> {
-    let sheet = plain_sheet(alloc)?;
-    let books = Books::from_ledger(alloc, &family_of(alloc, members)?, sheet.period())?;
-    let asked = [billing_of(alloc, b"20260228", b"123", b"C100", b"001")?];
-    Ok(may_gain(alloc, &books, &asked)?)
-}
-
-#[test]
-fn a_weight_of_200_for_each_record_gains(rt: HostRuntime) -> Result<(), Fail> {
-    let alloc = rt.alloc();
-    assert!(rt; gains(alloc, 1)?);
-    assert!(rt; gains(alloc, 200)?);
-    assert!(rt; !gains(alloc, 201)?);
-    let books = Books::from_ledger(alloc, &family_of(alloc, 201)?, plain_sheet(alloc)?.period())?;
-    assert!(rt; may_gain(alloc, &books, &[])?);
-    Ok(())
-}
-
-// What workers answer of one claim in a family of 201 members, which can't gain by several.
-fn of_a_large_family<R: Threads + Wait + Sync, G: Gate + Sync>(
-    rt: &R,
-    alloc: Global,
-    gate: &G,
-    workers: u16,
-) -> Result<Result<Finished, RunFault>, Fail> {
-    let sheet = plain_sheet(alloc)?;
-    let books = Books::from_ledger(alloc, &family_of(alloc, 201)?, sheet.period())?;
-    let asked = [billing_of(alloc, b"20260228", b"123", b"C100", b"001")?];
-    Ok(run_waves(rt, alloc, gate, workers, lot()?, &sheet, &books, &asked))
-}
-
-// Every start is asked for there, too, and each place passed once.
-#[test]
-fn a_job_that_cannot_gain_asks_for_each_start(rt: HostRuntime) -> Result<(), Fail> {
-    let alloc = rt.alloc();
-    for worker in 1..5 {
-        let answer = of_a_large_family(&rt, alloc, &Without(worker), 4)?;
-        assert_eq!(rt; answer.err(), Some(RunFault::Thread));
-    }
-    for workers in [1, 2, 4, 64] {
-        let gate = Passed::new(Holds::Nobody);
-        let finished = of_a_large_family(&rt, alloc, &gate, workers)?
-            .ok()
-            .ok_or("an answer")?;
-        assert_eq!(rt; status(&finished, 0), b'P');
-        assert_eq!(rt;
-            finished.books.out_of_pocket(&Id::new(b"C100", 20)?),
-            Some(13_000)
-        );
-        assert!(rt; gate.is_once(1));
-    }
-    Ok(())
-}
-
-// A batch without details has its threads asked for, too.
-#[test]
-fn an_empty_batch_asks_for_each_start(rt: HostRuntime) -> Result<(), Fail> {
-    let answer = run(&rt, rt.alloc(), &Without(2), 2, &[])?;
-    assert_eq!(rt; answer.err(), Some(RunFault::Thread));
-    let finished = run(&rt, rt.alloc(), &NoGate, 64, &[])?
-        .ok()
-        .ok_or("an answer")?;
-    assert_eq!(rt; finished.replies.len(), 0);
     Ok(())
 }
 

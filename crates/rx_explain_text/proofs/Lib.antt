@@ -1,1 +1,0 @@
--- Lemmas of the words of an explanation.

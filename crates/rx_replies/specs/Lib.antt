@@ -1,4 +1,0 @@
-pub mod File
-pub mod Found
-pub mod Lines
-pub mod Shown

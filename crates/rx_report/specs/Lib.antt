@@ -1,3 +1,0 @@
-pub mod Cells
-pub mod Lines
-pub mod Texts
