@@ -24,8 +24,6 @@ mod marks;
 mod names;
 mod near;
 mod refill;
-#[cfg(test)]
-mod tests;
 mod used;
 
 pub use finished::Finished;
