@@ -3,8 +3,9 @@ ghost use Rattle.std.specs.Prelude.{◌≡◌, map};
 ghost use Rattle.rx_words.specs.Paths.{files_of, has_twice, paths_of};
 
 use crate::paths::has_one_twice;
+use crate::retrace::{ExplainWords, ReportWords, VerifyWords};
 
-/// The input files of `run` and `plan` (docs/PRODUCT.md, "The program").
+/// The input files of a run (docs/PRODUCT.md, "The program").
 #[derive(Clone, Copy, Debug, PartialEq, Eq)]
 pub struct Inputs<'a> {
     /// `--sheet`: the plan sheet.
@@ -15,7 +16,7 @@ pub struct Inputs<'a> {
     pub batch: &'a str,
 }
 
-/// The output files of `run`.
+/// The output files of a run.
 #[derive(Clone, Copy, Debug, PartialEq, Eq)]
 pub struct Outputs<'a> {
     /// `--response`: the response file.
@@ -80,9 +81,22 @@ pub struct ShowWords<'a> {
     pub sheet: &'a str,
     /// `--batch`: the batch file.
     pub batch: &'a str,
+    /// `--tsv`: a tab between fields, and more of them.
+    pub tsv: bool,
 }
 
-/// One of the four subcommands, with the values of its options (docs/PRODUCT.md, "The program").
+/// The words of `check`.
+#[derive(Clone, Copy, Debug, PartialEq, Eq)]
+pub struct CheckWords<'a> {
+    /// `--sheet`: the plan sheet.
+    pub sheet: &'a str,
+    /// `--books`: the books, where they are to be checked too.
+    pub books: Option<&'a str>,
+    /// `--batch`: the batch file, where it is to be checked too.
+    pub batch: Option<&'a str>,
+}
+
+/// One of the subcommands, with the values of its options (docs/PRODUCT.md, "The program").
 #[derive(Clone, Copy, Debug, PartialEq, Eq)]
 pub enum Command<'a> {
     /// `run`: adjudicates a batch file.
@@ -93,4 +107,14 @@ pub enum Command<'a> {
     Plan(Inputs<'a>),
     /// `sample`: the reply to the base claim.
     Sample,
+    /// `check`: the faults of the inputs, in words.
+    Check(CheckWords<'a>),
+    /// `explain`: why a transaction was answered so.
+    Explain(ExplainWords<'a>),
+    /// `verify`: whether the outputs are those of the inputs.
+    Verify(VerifyWords<'a>),
+    /// `report`: a line for each answer, by provider.
+    Report(ReportWords<'a>),
+    /// `replies`: one line per reply of this response file.
+    Replies(&'a str),
 }
