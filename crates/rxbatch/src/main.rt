@@ -2,9 +2,11 @@
 //!
 //! ```text
 //! rxbatch run --sheet F --books F --batch F --stamp S --workers N --response F --books-out F --settlement F [--plain]
+//!     [--safe] [--log F]
 //! rxbatch show --sheet F --batch F      a line for each transaction
 //! rxbatch plan --sheet F --books F --batch F      the waves of the records, and the chain
 //! rxbatch sample                        the reply to the base claim, on one line
+//! rxbatch --version                     the version, and the kit that proved it
 //! ```
 //!
 //! Words are read by `rx_words`, batches adjudicated by `rx_switch`; here files are opened, and refusals told.
@@ -12,8 +14,13 @@
 
 mod ending;
 mod files;
+mod log_file;
+mod logging;
+mod nodes;
+mod outputs;
 mod printing;
 mod running;
+mod safe;
 
 use ending::Ending;
 use rx_words::{Command, WordsFault, command};
@@ -40,6 +47,7 @@ fn perform<R: Threads + Wait + Sync>(rt: &HostRuntime, threads: &R) -> Result<()
         Ok(Command::Show(words)) => printing::show(rt, &words),
         Ok(Command::Sample) => printing::sample(rt),
         Ok(Command::Plan(words)) => printing::plan(rt, &words),
+        Err(fault) if fault.is_version() => printing::version(rt, &fault),
         Err(fault) => Err(Ending::Words(fault)),
     }
 }

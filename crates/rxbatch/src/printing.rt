@@ -1,7 +1,7 @@
 use crate::ending::Ending;
 use crate::files::source;
 use rx_switch::{Device, IoFault, SwitchFault, plan_text, read_all, sample_line, show_text};
-use rx_words::{Inputs, ShowWords};
+use rx_words::{Inputs, ShowWords, WordsFault};
 use std::io;
 use std::io::Write;
 
@@ -41,6 +41,14 @@ pub fn sample(rt: &HostRuntime) -> Result<(), Ending> {
         return Err(wanting);
     }
     print(rt, &line)
+}
+
+/// Prints the version, which the words ask for.
+pub fn version(rt: &HostRuntime, asked: &WordsFault) -> Result<(), Ending> {
+    match print!(rt; "{asked}") {
+        Ok(()) => Ok(()),
+        Err(_) => Err(Ending::Output),
+    }
 }
 
 // Writes a text to standard output.
