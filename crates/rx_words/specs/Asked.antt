@@ -52,7 +52,6 @@ pub record HoldsRun (rows : List Row) (r : RunWords) : Type 0 where
   pub workers : HasNumber rows (codes "workers") r.workers
   pub plain : r.plain ≡ is_set (codes "plain") rows
   pub safe : r.safe ≡ is_set (codes "safe") rows
-  pub verbose : r.verbose ≡ is_set (codes "verbose") rows
   pub log : MayHaveText rows (codes "log") r.log
 
 -- what `run` takes is the values of its options, and no path of its stands twice

@@ -22,10 +22,6 @@ optional_option name = record (required_option name) { required = false }
 abbrev pub flag : Text → Rule
 flag name = record (new_rule name) { long = Some name; action = Some SetTrue }
 
--- `-v` or `--verbose`, which may stand
-abbrev pub verbose_flag : Rule
-verbose_flag = record (flag (codes "verbose")) { short = Some 118 }
-
 -- the line with the three input files
 abbrev pub with_inputs : App → App
 with_inputs line = with_rule (with_rule (with_rule line (required_option (codes "sheet")))
@@ -43,10 +39,10 @@ with_run_options line = with_rule (with_rule (with_rule line (required_option (c
 
 -- the line with the options of `run` for a run that nobody watches
 abbrev pub with_watch : App → App
-with_watch line = with_rule (with_rule (with_rule line (flag (codes "safe"))) verbose_flag) (optional_option (codes "log"))
+with_watch line = with_rule (with_rule line (flag (codes "safe"))) (optional_option (codes "log"))
 
 -- `run --sheet F --books F --batch F --response F --books-out F --settlement F --stamp S --workers N [--plain] [--safe]
--- [-v] [--log F]`
+-- [--log F]`
 abbrev pub run_line : App
 run_line = with_watch (with_run_options (with_outputs (with_inputs (new_app (codes "run")))))
 

@@ -39,8 +39,6 @@ pub struct RunWords<'a> {
     pub plain: bool,
     /// `--safe`: each output takes its path only where the whole run is done.
     pub safe: bool,
-    /// `--verbose`: the steps of the run and its faults in words.
-    pub verbose: bool,
     /// `--log`: the file for a line about the run.
     pub log: Option<&'a str>,
 }

@@ -1,7 +1,7 @@
 //! The command line as `clap` reads it.
 ghost use Rattle.std.specs.Prelude.{◌≡◌, false, IfOk};
 ghost use Rattle.clap.specs.Words.{app_of, new_app, rule_of};
-ghost use Rattle.rx_words.specs.Syntax.{IsLocal, flag, optional_option, required_option, verbose_flag, workers_option};
+ghost use Rattle.rx_words.specs.Syntax.{IsLocal, flag, optional_option, required_option, workers_option};
 ghost use Rattle.rx_words.specs.Syntax.{with_inputs, with_outputs, with_run_options, with_watch};
 ghost use Rattle.rx_words.specs.Syntax.{plan_line, run_line, show_line, whole_line};
 
@@ -116,14 +116,13 @@ fn takes_watch<'a>(alloc: Global, line: Line<'a>) -> Result<Line<'a>, AllocError
         "safe",
         "Give the outputs their names only where all is done",
     );
-    let verbose = flag(alloc, "verbose", "Tell the steps, and a fault in words").short('v');
     let log = optional(
         alloc,
         "log",
         "FILE",
         "Log of the run, a line of JSON, to be written",
     );
-    line.arg(safe)?.arg(verbose)?.arg(log)
+    line.arg(safe)?.arg(log)
 }
 
 /// The subcommand `run`.

@@ -49,7 +49,7 @@ fn run_has_each_option(rt: HostRuntime) -> Result<(), Fail> {
     assert!(rt; run.outputs == files);
     assert_eq!(rt; run.stamp, "202603020600");
     assert_eq!(rt; run.workers, 65535);
-    assert!(rt; !run.plain && !run.safe && !run.verbose);
+    assert!(rt; !run.plain && !run.safe);
     assert_eq!(rt; run.log, None);
     Ok(())
 }
@@ -82,7 +82,6 @@ fn a_run_that_nobody_watches(rt: HostRuntime) -> Result<(), Fail> {
     let words = [
         "rxbatch",
         "run",
-        "-v",
         "--sheet=s",
         "--books=b",
         "--batch=c",
@@ -97,7 +96,7 @@ fn a_run_that_nobody_watches(rt: HostRuntime) -> Result<(), Fail> {
     let Ok(Command::Run(run)) = command(rt.alloc(), words.as_slice()) else {
         return Err(Fail::from("no run"));
     };
-    assert!(rt; run.safe && run.verbose && !run.plain);
+    assert!(rt; run.safe && !run.plain);
     assert_eq!(rt; run.log, Some("h"));
     Ok(())
 }

@@ -92,7 +92,6 @@ fn run<'a>(found: &ArgMatches<'a>) -> Option<RunWords<'a>>
         workers,
         plain: flag(found, "plain"),
         safe: flag(found, "safe"),
-        verbose: flag(found, "verbose"),
         log: text(found, "log"),
     })
 }
