@@ -11,6 +11,7 @@ cases:
 	python3 tests/check_docs.py
 	test -x $(PROGRAM) || (cd crates/rxbatch && rt run -- sample)
 	python3 tests/run_paths.py $(PROGRAM)
+	python3 tests/run_told.py $(PROGRAM)
 	python3 tests/run_cases.py $(PROGRAM) --plan
 	if command -v cc > /dev/null; then python3 tests/refused_memory.py $(PROGRAM); fi
 

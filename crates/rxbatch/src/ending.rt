@@ -1,5 +1,6 @@
 use rx_switch::{IoFault, told};
 use rx_words::WordsFault;
+use std::io;
 
 /// How the program ends where its work isn't done (docs/PRODUCT.md, "The program").
 #[derive(Debug, Drop)]
@@ -12,18 +13,23 @@ pub enum Ending {
     Words(WordsFault),
     /// The run is refused, or a file failed.
     Io(IoFault),
+    /// The run is refused, or a file failed, with a line in words.
+    InWords(IoFault, String),
+    /// A check found warnings alone.
+    Warned,
     /// Standard output failed.
     Output,
 }
 
 impl Ending {
-    /// The exit status: 1 for a refused run, 2 for words, 3 for a file.
+    /// The exit status: 1 for a refused run, 2 for words, 3 for a file, 4 for warnings alone.
     pub fn status(&self) -> u8 {
         match self {
             Ending::NoText | Ending::OneFile(..) => 2,
             Ending::Words(WordsFault::Words(_)) => 2,
             Ending::Words(WordsFault::Memory) => 1,
-            Ending::Io(fault) => told(fault).status,
+            Ending::Io(fault) | Ending::InWords(fault, _) => told(fault).status,
+            Ending::Warned => 4,
             Ending::Output => 3,
         }
     }
@@ -34,14 +40,22 @@ impl Ending {
             Ending::NoText => eprintln!(rt; "rxbatch: a word of the command line is no text"),
             Ending::OneFile(one, other) => eprintln!(rt; "rxbatch: {one} and {other} are one file"),
             Ending::Words(fault) => eprint!(rt; "{fault}"),
-            Ending::Io(fault) => {
-                let [first, second, third] = told(fault).numbers;
-                match fault {
-                    IoFault::Switch(_) => eprintln!(rt; "refused {first} {second} {third}"),
-                    _ => eprintln!(rt; "file {first}"),
-                }
+            Ending::Io(fault) => tell_numbers(rt, fault),
+            Ending::InWords(fault, line) => {
+                let _ = tell_numbers(rt, fault);
+                eprintln!(rt; "{line}")
             }
+            Ending::Warned => Ok(()),
             Ending::Output => eprintln!(rt; "file 0"),
         };
+    }
+}
+
+// Writes the line of a refused run, or of a file that failed.
+fn tell_numbers(rt: &HostRuntime, fault: &IoFault) -> io::Result<()> {
+    let [first, second, third] = told(fault).numbers;
+    match fault {
+        IoFault::Switch(_) => eprintln!(rt; "refused {first} {second} {third}"),
+        _ => eprintln!(rt; "file {first}"),
     }
 }

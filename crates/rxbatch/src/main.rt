@@ -4,16 +4,19 @@
 //! rxbatch run --sheet F --books F --batch F --stamp S --workers N --response F --books-out F --settlement F [--plain]
 //! rxbatch show --sheet F --batch F      a line for each transaction
 //! rxbatch plan --sheet F --books F --batch F      the waves of the records, and the chain
+//! rxbatch check --sheet F [--books F] [--batch F]    the faults of these files in words, and warnings
 //! rxbatch sample                        the reply to the base claim, on one line
 //! ```
 //!
 //! Words are read by `rx_words`, batches adjudicated by `rx_switch`; here files are opened, and refusals told.
 #![tactic(auto)]
 
+mod checking;
 mod ending;
 mod files;
 mod printing;
 mod running;
+mod verbose;
 
 use ending::Ending;
 use rx_words::{Command, WordsFault, command};
@@ -36,7 +39,11 @@ fn main(rt: HostRuntime) -> ExitCode {
 fn perform<R: Threads + Wait + Sync>(rt: &HostRuntime, threads: &R) -> Result<(), Ending> {
     let words = words(rt)?;
     match command(rt.alloc(), words.as_slice()) {
+        Ok(Command::Run(words)) if words.verbose => {
+            verbose::explained(rt, &words, running::run(rt, threads, &words))
+        }
         Ok(Command::Run(words)) => running::run(rt, threads, &words),
+        Ok(Command::Check(words)) => checking::check(rt, &words),
         Ok(Command::Show(words)) => printing::show(rt, &words),
         Ok(Command::Sample) => printing::sample(rt),
         Ok(Command::Plan(words)) => printing::plan(rt, &words),
