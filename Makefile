@@ -12,6 +12,7 @@ cases:
 	test -x $(PROGRAM) || (cd crates/rxbatch && rt run -- sample)
 	python3 tests/run_paths.py $(PROGRAM)
 	python3 tests/run_cases.py $(PROGRAM) --plan
+	python3 tests/run_retrace.py $(PROGRAM)
 	if command -v cc > /dev/null; then python3 tests/refused_memory.py $(PROGRAM); fi
 
 demo:

@@ -1,3 +1,4 @@
+use rx_batch::BatchFault;
 use rx_switch::{IoFault, told};
 use rx_words::WordsFault;
 
@@ -12,18 +13,24 @@ pub enum Ending {
     Words(WordsFault),
     /// The run is refused, or a file failed.
     Io(IoFault),
+    /// The text is no response file.
+    Response(BatchFault),
+    /// A file isn't what the inputs give; what differs was printed.
+    Differs,
     /// Standard output failed.
     Output,
 }
 
 impl Ending {
-    /// The exit status: 1 for a refused run, 2 for words, 3 for a file.
+    /// The exit status: 1 for a refused input, 2 for words, 3 for a file, 5 where a file differs.
     pub fn status(&self) -> u8 {
         match self {
             Ending::NoText | Ending::OneFile(..) => 2,
             Ending::Words(WordsFault::Words(_)) => 2,
             Ending::Words(WordsFault::Memory) => 1,
             Ending::Io(fault) => told(fault).status,
+            Ending::Response(_) => 1,
+            Ending::Differs => 5,
             Ending::Output => 3,
         }
     }
@@ -41,6 +48,11 @@ impl Ending {
                     _ => eprintln!(rt; "file {first}"),
                 }
             }
+            Ending::Response(fault) => {
+                let (number, place) = (fault.code(), fault.place().unwrap_or(0));
+                eprintln!(rt; "response {number} {place}")
+            }
+            Ending::Differs => Ok(()),
             Ending::Output => eprintln!(rt; "file 0"),
         };
     }

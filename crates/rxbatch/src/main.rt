@@ -13,7 +13,9 @@
 mod ending;
 mod files;
 mod printing;
+mod replying;
 mod running;
+mod verifying;
 
 use ending::Ending;
 use rx_words::{Command, WordsFault, command};
@@ -40,6 +42,9 @@ fn perform<R: Threads + Wait + Sync>(rt: &HostRuntime, threads: &R) -> Result<()
         Ok(Command::Show(words)) => printing::show(rt, &words),
         Ok(Command::Sample) => printing::sample(rt),
         Ok(Command::Plan(words)) => printing::plan(rt, &words),
+        Ok(Command::Verify(words)) => verifying::verify(rt, threads, &words),
+        Ok(Command::Replies(path)) => replying::replies(rt, path),
+        Ok(Command::Check(_) | Command::Explain(_) | Command::Report(_)) => Err(Ending::NoText),
         Err(fault) => Err(Ending::Words(fault)),
     }
 }

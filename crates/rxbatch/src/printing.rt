@@ -43,8 +43,8 @@ pub fn sample(rt: &HostRuntime) -> Result<(), Ending> {
     print(rt, &line)
 }
 
-// Writes a text to standard output.
-fn print(rt: &HostRuntime, text: &[u8]) -> Result<(), Ending> {
+/// Writes a text to standard output.
+pub fn print(rt: &HostRuntime, text: &[u8]) -> Result<(), Ending> {
     let mut out = io::writer(rt);
     if out.write_all(text).is_err() || out.flush().is_err() {
         return Err(Ending::Output);
