@@ -39,7 +39,7 @@ fn perform<R: Threads + Wait + Sync>(rt: &HostRuntime, threads: &R) -> Result<()
     let words = words(rt)?;
     match command(rt.alloc(), words.as_slice()) {
         Ok(Command::Run(words)) => running::run(rt, threads, &words),
-        Ok(Command::Show(words)) => printing::show(rt, &words),
+        Ok(Command::Show(words)) => printing::show(rt, threads, &words),
         Ok(Command::Sample) => printing::sample(rt),
         Ok(Command::Plan(words)) => printing::plan(rt, &words),
         Ok(Command::Verify(words)) => verifying::verify(rt, threads, &words),
