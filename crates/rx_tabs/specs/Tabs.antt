@@ -39,11 +39,18 @@ known (Some n) = decimal n
 abbrev pub key_cells : HeardRecord → Option ℕ → List (List ℕ)
 key_cells h reference = h.provider ∷ known reference ∷ date_text h.date ∷ []
 
--- the product, the quantity in thousandths, the days, and the amounts in cents; no code
+-- the product, the quantity in thousandths and the days
+abbrev pub measure_cells : BillParts → List (List ℕ)
+measure_cells b = digits_text 11 b.product ∷ decimal b.quantity ∷ decimal b.days ∷ []
+
+-- D9, DC, DQ and DU, in cents
+abbrev pub charge_cells : BillParts → List (List ℕ)
+charge_cells b =
+    decimal b.ingredient_cost ∷ known b.dispensing_fee ∷ known b.usual_charge ∷ known b.gross_amount ∷ []
+
+-- both, and no code
 abbrev pub asked_cells : BillParts → List (List ℕ)
-asked_cells b =
-    digits_text 11 b.product ∷ decimal b.quantity ∷ decimal b.days ∷ decimal b.ingredient_cost ∷ known b.dispensing_fee
-    ∷ known b.usual_charge ∷ known b.gross_amount ∷ [] ∷ []
+asked_cells b = measure_cells b ++ (charge_cells b ++ ([] ∷ []))
 
 abbrev pub bill_cells : HeardRecord → BillParts → List (List ℕ)
 bill_cells h b = codes "bill" ∷ (key_cells h (Some b.reference) ++ (b.family ∷ b.person ∷ asked_cells b))

@@ -2,8 +2,8 @@ ghost use Rattle.std.specs.Prelude.{◌≡◌, ◌++◌, Some, OnOk};
 ghost use Rattle.std.specs.Fmt.{decimal};
 ghost use Rattle.std.specs.List.{flat_map};
 ghost use Rattle.rx_fields.specs.Digits.{digits_text};
-ghost use Rattle.rx_tabs.specs.Tabs.{after_tab, asked_cells, bill_cells, cells_of, faulty_cells, key_cells, known};
-ghost use Rattle.rx_tabs.specs.Tabs.{reversal_cells};
+ghost use Rattle.rx_tabs.specs.Tabs.{after_tab, asked_cells, bill_cells, cells_of, charge_cells, faulty_cells, key_cells, known};
+ghost use Rattle.rx_tabs.specs.Tabs.{measure_cells, reversal_cells};
 
 use rx_claim::{BillParts, Faulty, Heard, Reversal, Transaction};
 use rx_fields::{Cents, Product, Reference, date_write};
@@ -46,14 +46,28 @@ fn put_bill(
 fn put_asked(alloc: Global, text: &mut Vec<u8>, bill: &BillParts) -> Result<(), AllocError>
     ensures { OnOk result (text.new.items ≡ text.old.items ++ flat_map after_tab (asked_cells bill.now)) }
 {
+    put_measures(alloc, text, bill)?;
+    put_charges(alloc, text, bill)?;
+    text.extend_from_slice(b"\t")
+}
+
+#[tactic(auto, using(std::proofs::Common::append_assoc))]
+fn put_measures(alloc: Global, text: &mut Vec<u8>, bill: &BillParts) -> Result<(), AllocError>
+    ensures { OnOk result (text.new.items ≡ text.old.items ++ flat_map after_tab (measure_cells bill.now)) }
+{
     put_product(text, bill.product)?;
     put_number(alloc, text, bill.quantity.get())?;
-    put_number(alloc, text, bill.days.get())?;
+    put_number(alloc, text, bill.days.get())
+}
+
+#[tactic(auto, using(std::proofs::Common::append_assoc))]
+fn put_charges(alloc: Global, text: &mut Vec<u8>, bill: &BillParts) -> Result<(), AllocError>
+    ensures { OnOk result (text.new.items ≡ text.old.items ++ flat_map after_tab (charge_cells bill.now)) }
+{
     put_number(alloc, text, bill.ingredient_cost.get())?;
     put_cents(alloc, text, bill.dispensing_fee)?;
     put_cents(alloc, text, bill.usual_charge)?;
-    put_cents(alloc, text, bill.gross_amount)?;
-    text.extend_from_slice(b"\t")
+    put_cents(alloc, text, bill.gross_amount)
 }
 
 #[tactic(auto, using(std::proofs::Common::append_assoc))]
@@ -69,7 +83,7 @@ fn put_reversal(
     put_key(alloc, text, heard, Some(reversal.reference))?;
     text.extend_from_slice(b"\t\t")?;
     put_product(text, reversal.product)?;
-    text.extend_from_slice(b"\t\t\t\t\t\t\t\t")
+    text.extend_from_slice(b"\t\t\t\t\t\t\t")
 }
 
 #[tactic(auto, using(std::proofs::Common::append_assoc))]
