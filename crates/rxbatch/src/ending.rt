@@ -12,6 +12,8 @@ pub enum Ending {
     Words(WordsFault),
     /// The run is refused, or a file failed.
     Io(IoFault),
+    /// No transaction is what was asked for.
+    NotFound,
     /// Standard output failed.
     Output,
 }
@@ -24,6 +26,7 @@ impl Ending {
             Ending::Words(WordsFault::Words(_)) => 2,
             Ending::Words(WordsFault::Memory) => 1,
             Ending::Io(fault) => told(fault).status,
+            Ending::NotFound => 4,
             Ending::Output => 3,
         }
     }
@@ -41,6 +44,7 @@ impl Ending {
                     _ => eprintln!(rt; "file {first}"),
                 }
             }
+            Ending::NotFound => eprintln!(rt; "rxbatch: no such claim"),
             Ending::Output => eprintln!(rt; "file 0"),
         };
     }

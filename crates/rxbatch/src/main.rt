@@ -11,6 +11,7 @@
 #![tactic(auto)]
 
 mod ending;
+mod explaining;
 mod files;
 mod printing;
 mod running;
@@ -38,6 +39,7 @@ fn perform<R: Threads + Wait + Sync>(rt: &HostRuntime, threads: &R) -> Result<()
     match command(rt.alloc(), words.as_slice()) {
         Ok(Command::Run(words)) => running::run(rt, threads, &words),
         Ok(Command::Show(words)) => printing::show(rt, &words),
+        Ok(Command::Explain(words)) => explaining::explain(rt, &words),
         Ok(Command::Sample) => printing::sample(rt),
         Ok(Command::Plan(words)) => printing::plan(rt, &words),
         Err(fault) => Err(Ending::Words(fault)),

@@ -44,7 +44,7 @@ pub fn sample(rt: &HostRuntime) -> Result<(), Ending> {
 }
 
 // Writes a text to standard output.
-fn print(rt: &HostRuntime, text: &[u8]) -> Result<(), Ending> {
+pub fn print(rt: &HostRuntime, text: &[u8]) -> Result<(), Ending> {
     let mut out = io::writer(rt);
     if out.write_all(text).is_err() || out.flush().is_err() {
         return Err(Ending::Output);
