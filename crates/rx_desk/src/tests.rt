@@ -9,7 +9,7 @@ use rx_claim::{
 use rx_fields::{
     Cents, Days, Door, Id, Lot, Period, Person, Product, Provider, Quantity, Reference, date_read,
 };
-use rx_ledger::{Drug, Figures, Ledger, Member, Share, Sheet};
+use rx_ledger::{Drug, Figures, Ledger, Member, Share, Sheet, plain_run};
 use std::alloc::Global;
 use std::process::Abort;
 use std::test::Fail;
@@ -50,23 +50,39 @@ fn sheet(alloc: Global) -> Result<Sheet, Fail> {
 // Books of family C100, whose persons are covered to the day.
 fn books(alloc: Global, last: &[u8]) -> Result<Books, Fail> {
     let mut ledger = Ledger::new(alloc);
+    enroll(&mut ledger, b"C100", last)?;
+    Ok(Books::from_ledger(alloc, &ledger, period()?)?)
+}
+
+// Lists three persons of a family, who are covered to the day.
+fn enroll(ledger: &mut Ledger, family: &[u8], last: &[u8]) -> Result<(), Fail> {
     for person in [b"01", b"02", b"03"] {
         let member = Member::new(
-            Id::new(b"C100", 20)?,
+            Id::new(family, 20)?,
             Person::new(person)?,
             date_read(b"20260101")?,
             date_read(last)?,
         );
         ledger.add_member(member.ok_or("a member")?)?;
     }
-    Ok(Books::from_ledger(alloc, &ledger, period()?)?)
+    Ok(())
 }
 
 // A fill of 30 units for a person of C100.
 fn fill(alloc: Global, reference: u64, person: &[u8]) -> Result<Transmission, Fail> {
+    fill_of(alloc, reference, b"C100", person)
+}
+
+// A fill of 30 units for a person of a family.
+fn fill_of(
+    alloc: Global,
+    reference: u64,
+    family: &[u8],
+    person: &[u8],
+) -> Result<Transmission, Fail> {
     let bill = Bill::new(BillParts {
         reference: Reference::new(reference).ok_or("a reference")?,
-        family: Id::new(b"C100", 20)?,
+        family: Id::new(family, 20)?,
         person: Person::new(person)?,
         product: Product::new(PRODUCT).ok_or("a product")?,
         quantity: Quantity::new(30_000).ok_or("a quantity")?,
@@ -254,6 +270,84 @@ fn comes_back_while_a_record_is_left(rt: HostRuntime) -> Result<(), Fail> {
     let _out = order(&mut desk)?;
     assert!(rt; desk.close().is_err());
     Ok(())
+}
+
+// Two families.
+fn two_families(alloc: Global) -> Result<Ledger, Fail> {
+    let mut ledger = Ledger::new(alloc);
+    enroll(&mut ledger, b"C100", b"20261231")?;
+    enroll(&mut ledger, b"C200", b"20261231")?;
+    Ok(ledger)
+}
+
+// Two fills of each, by turns.
+fn fills_by_turns(alloc: Global) -> Result<Vec<Transmission>, Fail> {
+    let mut fills = Vec::new(alloc);
+    fills.push(fill_of(alloc, 201, b"C100", b"01")?)?;
+    fills.push(fill_of(alloc, 202, b"C200", b"01")?)?;
+    fills.push(fill_of(alloc, 203, b"C100", b"02")?)?;
+    fills.push(fill_of(alloc, 204, b"C200", b"02")?)?;
+    Ok(fills)
+}
+
+// A desk of four records of which two can go at once is worked off: all that are ready go out, and of those that are out
+// the last comes back first, or the first.
+fn worked_off(alloc: Global, desk: Desk, last_first: bool) -> Result<Finished, Fail> {
+    let mut desk = desk;
+    let mut out = Vec::new(alloc);
+    for _ in 0..4 {
+        for _ in 0..4 {
+            if desk.is_ready() {
+                out.push(order(&mut desk)?)?;
+            }
+        }
+        let back = if last_first {
+            out.pop().ok_or("an order that is out")?
+        } else {
+            first_of(&mut out)?
+        };
+        if desk.give(done(alloc, back)?).is_err() {
+            return Err(Fail::from("taken back"));
+        }
+    }
+    match desk.close() {
+        Ok(finished) => Ok(finished),
+        Err(_) => Err(Fail::from("an end")),
+    }
+}
+
+fn first_of(out: &mut Vec<Order>) -> Result<Order, Fail> {
+    if out.is_empty() {
+        return Err(Fail::from("an order that is out"));
+    }
+    Ok(out.remove(0))
+}
+
+fn ends_as_in_file_order(rt: &impl Abort, alloc: Global, last_first: bool) -> Result<(), Fail> {
+    let (sheet, ledger, records) = (sheet(alloc)?, two_families(alloc)?, fills_by_turns(alloc)?);
+    let (again, books) = (
+        fills_by_turns(alloc)?,
+        Books::from_ledger(alloc, &ledger, period()?)?,
+    );
+    if records.len() > 100_000 || again.len() > 100_000 || books.period() != sheet.period() {
+        return Err(Fail::from("a job"));
+    }
+    let desk = Desk::new(alloc, lot()?, &sheet, books, records)?;
+    let finished = worked_off(alloc, desk, last_first)?;
+    let (after, replies) = plain_run(alloc, lot()?, &sheet, &ledger, &again)?;
+    assert!(rt; finished.books == Books::from_ledger(alloc, &after, period()?)?);
+    assert_eq!(rt; finished.replies.as_slice(), replies.as_slice());
+    Ok(())
+}
+
+#[test]
+fn the_first_out_may_come_back_first(rt: HostRuntime) -> Result<(), Fail> {
+    ends_as_in_file_order(&rt, rt.alloc(), false)
+}
+
+#[test]
+fn the_last_out_may_come_back_first(rt: HostRuntime) -> Result<(), Fail> {
+    ends_as_in_file_order(&rt, rt.alloc(), true)
 }
 
 // What is asked of the desk of the case: the batch number, the drugs that the sheet lists, the last day that the books
