@@ -18,12 +18,10 @@ OPTION = re.compile(r"^ +(?:(-\w), )? *(--[\w-]+)(?: <(\w+)>)? {2,}(.*)$")
 COMMAND = re.compile(r"^  (\w+) {2,}(.*)$")
 # What `--help` doesn't say.
 STATUSES = [
-    ("0", "It is done, or what was asked for is so."),
+    ("0", "It is done."),
     ("1", "An input is refused: the line \"refused N M P\" on standard error."),
     ("2", "The words aren't understood, or ask for help."),
     ("3", "A file failed: the line \"file K\" on standard error."),
-    ("4", "Of check: there are warnings alone. Of explain: there is no such claim."),
-    ("5", "Of verify and explain: a file or a reply differs."),
 ]
 
 
