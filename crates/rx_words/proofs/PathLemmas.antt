@@ -1,12 +1,13 @@
 -- A list of paths and the rest after its first.
-use Rattle.std.proofs.Common.{◌≡◌, ◌<◌, ◌-◌, Bool, ◌||◌, List, [], ◌∷◌, length, map, take, drop, ap, sym, arith, true, false, ◌∙◌}
+use Rattle.std.proofs.Common.{◌≡◌, ◌<◌, ◌-◌, Bool, ◌||◌, List, [], ◌∷◌, ◌++◌, length, map, take, drop, ap, refl, sym, arith, true, false, ◌∙◌}
+use Rattle.std.proofs.Common.{Option, Some}
 use Rattle.std.proofs.lemmas.List.{take_all}
 use Rattle.std.specs.List.{list_any, slice_index_or}
 use Rattle.std.specs.Str.{bytes_eq}
 use Rattle.std.specs.Borrow.{Bor}
 use Rattle.clap.specs.Words.{Text}
 use Rattle.clap.proofs.WalkLemmas.{list_any-map}
-use Rattle.rx_words.specs.Paths.{has_twice}
+use Rattle.rx_words.specs.Paths.{has_twice, path_of}
 
 twice_after : (p : Bor Text) (ps rest : List (Bor Text)) → rest ≡ ps
     → has_twice (map (λ x. x.now) (p ∷ ps)) ≡ (list_any (λ y. bytes_eq y.now p.now) rest || has_twice (map (λ x. x.now) rest))
@@ -34,3 +35,17 @@ pub decided_by_rest : (ps : List (Bor Text)) (d : Bor Text) (found rest : Bool) 
     → rest ≡ has_twice (map (λ x. x.now) (after_first ps)) → rest ≡ has_twice (map (λ x. x.now) ps)
 decided_by_rest ps d found rest some is none by_rest =
     by_rest ∙ sym (has_twice-first ps d some ∙ ap (λ b. b || has_twice (map (λ x. x.now) (after_first ps))) (sym is ∙ none))
+
+-- a log before the files stands twice where it is among them
+pub log_found : (log : Option (Bor Text)) (path : Bor Text) (ps : List (Bor Text)) (files : List Text) (found : Bool)
+    → log ≡ Some path → map (λ x. x.now) ps ≡ files → found ≡ list_any (λ y. bytes_eq y.now path.now) ps → found ≡ true
+    → found ≡ has_twice (path_of log ++ files)
+log_found log path ps files found is same by is_true = rw (is, ← same) (is_true
+    ∙ sym (twice_after path ps ps refl ∙ ap (λ b. b || has_twice (map (λ x. x.now) ps)) (sym by ∙ is_true)))
+
+-- and where it isn't, the files decide
+pub log_apart : (log : Option (Bor Text)) (path : Bor Text) (ps : List (Bor Text)) (files : List Text) (found rest : Bool)
+    → log ≡ Some path → map (λ x. x.now) ps ≡ files → found ≡ list_any (λ y. bytes_eq y.now path.now) ps → found ≡ false
+    → rest ≡ has_twice (map (λ x. x.now) ps) → rest ≡ has_twice (path_of log ++ files)
+log_apart log path ps files found rest is same by none by_rest = rw (is, ← same) (by_rest
+    ∙ sym (twice_after path ps ps refl ∙ ap (λ b. b || has_twice (map (λ x. x.now) ps)) (sym by ∙ none)))

@@ -1,7 +1,8 @@
 -- The faults of the command words.
-use Rattle.std.specs.Prelude.{ℕ, ⊤}
+use Rattle.std.specs.Prelude.{ℕ, ⊤, Bool, true, false, Some}
+use Rattle.clap.specs.Words.{kind_of}
 use Rattle.clap.specs.declared.error.kind.ErrorKind.{ErrorKind}
-use Rattle.clap.specs.declared.error.kind.ErrorKind.TheVariants.{OutOfMemory}
+use Rattle.clap.specs.declared.error.kind.ErrorKind.TheVariants.{DisplayVersion, OutOfMemory}
 use Rattle.rx_words.specs.declared.fault.WordsFault.{WordsFault}
 use Rattle.rx_words.specs.declared.fault.WordsFault.TheVariants.{Words, Memory}
 
@@ -14,6 +15,16 @@ number_of Memory = 2
 abbrev pub IsWords : WordsFault → Type 0
 IsWords (Words text) = ⊤
 IsWords Memory = ⊥
+
+-- what `clap` says where the words ask for the version
+abbrev pub is_version_kind : ErrorKind → Bool
+is_version_kind DisplayVersion = true
+is_version_kind _ = false
+
+-- the words ask for the version
+abbrev pub asks_version : WordsFault → Bool
+asks_version (Words (Some told)) = is_version_kind (kind_of told)
+asks_version _ = false
 
 -- memory was wanting
 abbrev pub memory_fault : WordsFault

@@ -1,8 +1,11 @@
 //! What the program is asked to do.
 ghost use Rattle.std.specs.Prelude.{◌≡◌, map};
-ghost use Rattle.rx_words.specs.Paths.{paths_of};
+ghost use Rattle.rx_words.specs.Paths.{files_of, has_twice, paths_of};
 
-/// The input files of `run` and `plan` (docs/PRODUCT.md, "The program").
+use crate::paths::has_one_twice;
+use crate::retrace::{ExplainWords, ReportWords, VerifyWords};
+
+/// The input files of a run (docs/PRODUCT.md, "The program").
 #[derive(Clone, Copy, Debug, PartialEq, Eq)]
 pub struct Inputs<'a> {
     /// `--sheet`: the plan sheet.
@@ -13,7 +16,7 @@ pub struct Inputs<'a> {
     pub batch: &'a str,
 }
 
-/// The output files of `run`.
+/// The output files of a run.
 #[derive(Clone, Copy, Debug, PartialEq, Eq)]
 pub struct Outputs<'a> {
     /// `--response`: the response file.
@@ -24,7 +27,7 @@ pub struct Outputs<'a> {
     pub settlement: &'a str,
 }
 
-/// The words of `run`. Its six paths are different texts.
+/// The words of `run`. Its six files and its log are different texts.
 #[derive(Clone, Copy, Debug, PartialEq, Eq)]
 pub struct RunWords<'a> {
     pub inputs: Inputs<'a>,
@@ -35,12 +38,29 @@ pub struct RunWords<'a> {
     pub workers: u16,
     /// `--plain`: adjudicate over plain lists, one record after another.
     pub plain: bool,
+    /// `--safe`: each output takes its path only where the whole run is done.
+    pub safe: bool,
+    /// `--verbose`: the steps of the run and its faults in words.
+    pub verbose: bool,
+    /// `--log`: the file for a line about the run.
+    pub log: Option<&'a str>,
 }
 
 impl<'a> RunWords<'a> {
-    /// The six paths, inputs before outputs.
-    pub(crate) fn paths(&self) -> [&'a str; 6]
-        ensures { map (λ p. p.now) result ≡ paths_of self.now }
+    /// Tells whether a path stands twice.
+    pub(crate) fn names_one_twice(&self) -> bool
+        ensures { result ≡ has_twice (paths_of self.now) }
+    {
+        let files = self.files();
+        match self.log {
+            None => has_one_twice(files.as_slice()),
+            Some(log) => files.contains(&log) || has_one_twice(files.as_slice()),
+        }
+    }
+
+    /// The six files, inputs before outputs.
+    fn files(&self) -> [&'a str; 6]
+        ensures { map (λ p. p.now) result ≡ files_of self.now }
     {
         let (inputs, outputs) = (self.inputs, self.outputs);
         [
@@ -61,9 +81,22 @@ pub struct ShowWords<'a> {
     pub sheet: &'a str,
     /// `--batch`: the batch file.
     pub batch: &'a str,
+    /// `--tsv`: a tab between fields, and more of them.
+    pub tsv: bool,
 }
 
-/// One of the four subcommands, with the values of its options (docs/PRODUCT.md, "The program").
+/// The words of `check`.
+#[derive(Clone, Copy, Debug, PartialEq, Eq)]
+pub struct CheckWords<'a> {
+    /// `--sheet`: the plan sheet.
+    pub sheet: &'a str,
+    /// `--books`: the books, where they are to be checked too.
+    pub books: Option<&'a str>,
+    /// `--batch`: the batch file, where it is to be checked too.
+    pub batch: Option<&'a str>,
+}
+
+/// One of the subcommands, with the values of its options (docs/PRODUCT.md, "The program").
 #[derive(Clone, Copy, Debug, PartialEq, Eq)]
 pub enum Command<'a> {
     /// `run`: adjudicates a batch file.
@@ -74,4 +107,14 @@ pub enum Command<'a> {
     Plan(Inputs<'a>),
     /// `sample`: the reply to the base claim.
     Sample,
+    /// `check`: the faults of the inputs, in words.
+    Check(CheckWords<'a>),
+    /// `explain`: why a transaction was answered so.
+    Explain(ExplainWords<'a>),
+    /// `verify`: whether the outputs are those of the inputs.
+    Verify(VerifyWords<'a>),
+    /// `report`: a line for each answer, by provider.
+    Report(ReportWords<'a>),
+    /// `replies`: one line per reply of this response file.
+    Replies(&'a str),
 }

@@ -1,7 +1,7 @@
 //! Why there is no command.
 ghost use Rattle.std.specs.Prelude.{◌≡◌, ◌≢◌};
 ghost use Rattle.clap.specs.Words.{kind_of};
-ghost use Rattle.rx_words.specs.Faults.{IsWords, memory_fault, number_of, out_of_memory};
+ghost use Rattle.rx_words.specs.Faults.{IsWords, asks_version, memory_fault, number_of, out_of_memory};
 
 use clap::error::ErrorKind;
 use std::alloc::AllocError;
@@ -12,8 +12,8 @@ use std::fmt::Write;
 /// error.
 #[derive(Debug, Drop)]
 pub enum WordsFault {
-    /// The words aren't understood, or ask for help: the text is `clap`'s. Without a text where `run` names one path
-    /// twice.
+    /// The words aren't understood, or ask for help or the version: the text is `clap`'s. Without a text where `run`
+    /// names one path twice.
     Words(Option<clap::Error>),
     /// Memory was wanting.
     Memory,
@@ -27,6 +27,16 @@ impl WordsFault {
         match self {
             WordsFault::Words(_) => 1,
             WordsFault::Memory => 2,
+        }
+    }
+
+    /// Tells whether the words ask for the version: the text, for standard output, is its line.
+    pub fn is_version(&self) -> bool
+        ensures { result ≡ asks_version self.now }
+    {
+        match self {
+            WordsFault::Words(Some(told)) => matches!(told.kind(), ErrorKind::DisplayVersion),
+            _ => false,
         }
     }
 }

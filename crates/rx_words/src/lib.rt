@@ -1,6 +1,6 @@
 //! Command words: what the program `rxbatch` is asked to do.
 //!
-//! In come the words of the command line, the program's name first; out comes a `Command`, one of the four
+//! In come the words of the command line, the program's name first; out comes a `Command`, one of the
 //! subcommands with the values of its options, or a `WordsFault`, whose `Display` is the text for standard error.
 //! The words are read by `clap`; what they hold is defined in `specs/` over `clap`'s own matches: `Syntax` has the
 //! command line, `Asked` what a command holds of the matches.
@@ -19,12 +19,18 @@
 
 mod asked;
 mod fault;
+mod misuse;
+mod options;
 mod paths;
+mod retrace;
+mod retracing;
 mod syntax;
 #[cfg(test)]
 mod tests;
 mod words;
 
-pub use asked::{Command, Inputs, Outputs, RunWords, ShowWords};
+pub use asked::{CheckWords, Command, Inputs, Outputs, RunWords, ShowWords};
 pub use fault::WordsFault;
+pub use retrace::{Asked, ExplainWords, Form, Portion, ReportWords, VerifyWords};
+pub use syntax::VERSION;
 pub use words::command;

@@ -1,73 +1,19 @@
 //! The words read.
-ghost use Rattle.std.specs.Prelude.{◌≡◌, [], true, IfErr, IfNone, IfOk, IfSome, map, option_map};
-ghost use Rattle.clap.specs.Words.{fault_of, first_of, found_of, rows_of, subcommand_of, takes};
+ghost use Rattle.std.specs.Prelude.{◌≡◌, [], true, IfErr, IfNone, IfOk, IfSome, map};
+ghost use Rattle.clap.specs.Words.{fault_of, found_of, rows_of, subcommand_of, takes};
 ghost use Rattle.rx_words.specs.Syntax.{whole_line};
-ghost use Rattle.rx_words.specs.Asked.{HasNumber, Holds, HoldsInputs, HoldsNamed, HoldsOutputs, HoldsRun, HoldsRunApart};
-ghost use Rattle.rx_words.specs.Asked.{HoldsShow, NoneHolds, is_set};
+ghost use Rattle.rx_words.specs.Asked.{Holds, HoldsCheck, HoldsNamed, HoldsRun, HoldsRunApart, HoldsShow, NoneHolds};
 ghost use Rattle.rx_words.specs.Faults.{IsWords};
 
-use crate::asked::{Command, Inputs, Outputs, RunWords, ShowWords};
+use crate::asked::{CheckWords, Command, RunWords, ShowWords};
 use crate::fault::WordsFault;
-use crate::paths::names_one_twice;
+use crate::misuse::signed;
+use crate::options::{flag, inputs, number, outputs, text};
+use crate::retracing::{explain_apart, report_apart, verify_apart};
 use crate::syntax::{line, run as run_line};
 use clap::ArgMatches;
-use clap::error::ErrorKind;
-use std::alloc::{AllocError, Global};
+use std::alloc::Global;
 use std::convert::AsStr;
-
-/// The text of an option.
-fn text<'a>(found: &ArgMatches<'a>, name: &str) -> Option<&'a str>
-    ensures { option_map (λ t. t.now) result ≡ first_of name.now (rows_of (found_of found.now)) }
-{
-    found.get_str(name)
-}
-
-/// Whether a flag stands.
-fn flag(found: &ArgMatches<'_>, name: &str) -> bool
-    ensures { result ≡ is_set name.now (rows_of (found_of found.now)) }
-{
-    matches!(text(found, name), Some("true"))
-}
-
-/// The number of an option that is written in digits alone: `clap`'s numbers may have a sign.
-fn number(found: &ArgMatches<'_>, name: &str) -> Option<u16>
-    ensures some { IfSome result (HasNumber (rows_of (found_of found.now)) name.now) }
-    ensures none { IfNone result (NoneHolds (HasNumber (rows_of (found_of found.now)) name.now)) }
-{
-    let written = text(found, name)?;
-    if matches!(written.as_bytes(), [b'+', ..]) {
-        return None;
-    }
-    written.parse().ok()
-}
-
-fn inputs<'a>(found: &ArgMatches<'a>) -> Option<Inputs<'a>>
-    ensures some { IfSome result (HoldsInputs (rows_of (found_of found.now))) }
-    ensures none { IfNone result (NoneHolds (HoldsInputs (rows_of (found_of found.now)))) }
-{
-    let sheet = text(found, "sheet")?;
-    let books = text(found, "books")?;
-    let batch = text(found, "batch")?;
-    Some(Inputs {
-        sheet,
-        books,
-        batch,
-    })
-}
-
-fn outputs<'a>(found: &ArgMatches<'a>) -> Option<Outputs<'a>>
-    ensures some { IfSome result (HoldsOutputs (rows_of (found_of found.now))) }
-    ensures none { IfNone result (NoneHolds (HoldsOutputs (rows_of (found_of found.now)))) }
-{
-    let response = text(found, "response")?;
-    let books = text(found, "books-out")?;
-    let settlement = text(found, "settlement")?;
-    Some(Outputs {
-        response,
-        books,
-        settlement,
-    })
-}
 
 fn show<'a>(found: &ArgMatches<'a>) -> Option<ShowWords<'a>>
     ensures some { IfSome result (HoldsShow (rows_of (found_of found.now))) }
@@ -75,7 +21,22 @@ fn show<'a>(found: &ArgMatches<'a>) -> Option<ShowWords<'a>>
 {
     let sheet = text(found, "sheet")?;
     let batch = text(found, "batch")?;
-    Some(ShowWords { sheet, batch })
+    let tsv = flag(found, "tsv");
+    Some(ShowWords { sheet, batch, tsv })
+}
+
+fn check<'a>(found: &ArgMatches<'a>) -> Option<CheckWords<'a>>
+    ensures some { IfSome result (HoldsCheck (rows_of (found_of found.now))) }
+    ensures none { IfNone result (NoneHolds (HoldsCheck (rows_of (found_of found.now)))) }
+{
+    let sheet = text(found, "sheet")?;
+    let books = text(found, "books");
+    let batch = text(found, "batch");
+    Some(CheckWords {
+        sheet,
+        books,
+        batch,
+    })
 }
 
 fn run<'a>(found: &ArgMatches<'a>) -> Option<RunWords<'a>>
@@ -86,13 +47,15 @@ fn run<'a>(found: &ArgMatches<'a>) -> Option<RunWords<'a>>
     let outputs = outputs(found)?;
     let stamp = text(found, "stamp")?;
     let workers = number(found, "workers")?;
-    let plain = flag(found, "plain");
     Some(RunWords {
         inputs,
         outputs,
         stamp,
         workers,
-        plain,
+        plain: flag(found, "plain"),
+        safe: flag(found, "safe"),
+        verbose: flag(found, "verbose"),
+        log: text(found, "log"),
     })
 }
 
@@ -102,9 +65,14 @@ fn run_apart<'a>(alloc: Global, found: &ArgMatches<'a>) -> Result<RunWords<'a>, 
     ensures words { IfErr result (λ e. IsWords e → NoneHolds (HoldsRunApart (rows_of (found_of found.now)))) }
 {
     let Some(run) = run(found) else {
-        return Err(signed(alloc, text(found, "workers").unwrap_or("")));
+        return Err(signed(
+            alloc,
+            run_line(alloc),
+            "rxbatch run",
+            text(found, "workers"),
+        ));
     };
-    if names_one_twice(run.paths().as_slice()) {
+    if run.names_one_twice() {
         return Err(WordsFault::Words(None));
     }
     Ok(run)
@@ -126,35 +94,31 @@ fn named<'a>(alloc: Global, name: &str, found: &ArgMatches<'a>) -> Result<Comman
             None => Err(WordsFault::Words(None)),
         },
         "sample" => Ok(Command::Sample),
+        "check" => match check(found) {
+            Some(check) => Ok(Command::Check(check)),
+            None => Err(WordsFault::Words(None)),
+        },
+        "explain" => Ok(Command::Explain(explain_apart(alloc, found)?)),
+        "verify" => Ok(Command::Verify(verify_apart(alloc, found)?)),
+        "report" => Ok(Command::Report(report_apart(alloc, found)?)),
+        "replies" => match text(found, "response") {
+            Some(response) => Ok(Command::Replies(response)),
+            None => Err(WordsFault::Words(None)),
+        },
         _ => Err(WordsFault::Words(None)),
     }
-}
-
-/// The fault of a number of workers that `clap` lets through though it has a sign, with the usage of `run`.
-fn signed(alloc: Global, number: &str) -> WordsFault {
-    match told_signed(alloc, number) {
-        Ok(told) => WordsFault::Words(Some(told)),
-        Err(_) => WordsFault::Memory,
-    }
-}
-
-fn told_signed(alloc: Global, number: &str) -> Result<clap::Error, AllocError> {
-    let text = format!(in alloc;
-        "invalid value '{number}' for '--workers <N>': a number is digits alone"
-    )?;
-    let mut line = run_line(alloc)?.bin_name("rxbatch run")?;
-    line.error(ErrorKind::ValueValidation, text.as_str())
 }
 
 /// What the words ask for, the program's name being the first (docs/PRODUCT.md, "The program").
 ///
 /// At `Ok` `clap` finds no fault in the words, and the command holds the subcommand and the option values that `clap`'s
-/// matches of them hold; the workers are 0 to 65535, and the six paths of `run` are different texts.
+/// matches of them hold; the workers are 0 to 65535, and the paths of `run` are different texts.
 ///
 /// # Errors
 ///
-/// `Words` where `clap` doesn't take the words, help being asked for too, where the workers aren't digits alone, and
-/// where `run` names one path twice; `Memory` where memory was wanting.
+/// `Words` where `clap` doesn't take the words, help or the version being asked for too, where the workers aren't digits
+/// alone, where `run` names one path twice, and where options stand together that exclude or want each other; `Memory`
+/// where memory was wanting.
 pub fn command<'a, S: AsStr>(alloc: Global, words: &'a [S]) -> Result<Command<'a>, WordsFault>
     ensures ok { IfOk result (Holds (subcommand_of whole_line (map S.text words.now))) }
     ensures taken { IfOk result (λ _. fault_of whole_line (map S.text words.now) ≡ []) }

@@ -1,5 +1,7 @@
+use rx_batch::BatchFault;
 use rx_switch::{IoFault, told};
 use rx_words::WordsFault;
+use std::io;
 
 /// How the program ends where its work isn't done (docs/PRODUCT.md, "The program").
 #[derive(Debug, Drop)]
@@ -8,23 +10,60 @@ pub enum Ending {
     NoText,
     /// The files of these two options are one plain file, as far as the system tells.
     OneFile(&'static str, &'static str),
+    /// The path of this option is there, and leads to no plain file; `--safe` replaces no other.
+    NotPlain(&'static str),
     /// The words aren't understood, or memory was wanting while they were read.
     Words(WordsFault),
     /// The run is refused, or a file failed.
     Io(IoFault),
+    /// The run is refused, or a file failed, with a line in words.
+    InWords(IoFault, String),
+    /// The text is no response file.
+    Response(BatchFault),
+    /// A check found warnings alone.
+    Warned,
+    /// No transaction is what was asked for.
+    NotFound,
+    /// A file isn't what the inputs give; what differs was printed.
+    Differs,
     /// Standard output failed.
     Output,
+    /// The log failed.
+    Log,
 }
 
 impl Ending {
-    /// The exit status: 1 for a refused run, 2 for words, 3 for a file.
+    /// The exit status: 1 for a refused input, 2 for words, 3 for a file, 4 for warnings alone and for a claim that isn't
+    /// there, 5 where a file differs.
     pub fn status(&self) -> u8 {
         match self {
-            Ending::NoText | Ending::OneFile(..) => 2,
+            Ending::NoText | Ending::OneFile(..) | Ending::NotPlain(_) => 2,
             Ending::Words(WordsFault::Words(_)) => 2,
             Ending::Words(WordsFault::Memory) => 1,
-            Ending::Io(fault) => told(fault).status,
-            Ending::Output => 3,
+            Ending::Io(fault) | Ending::InWords(fault, _) => told(fault).status,
+            Ending::Response(_) => 1,
+            Ending::Warned | Ending::NotFound => 4,
+            Ending::Differs => 5,
+            Ending::Output | Ending::Log => 3,
+        }
+    }
+
+    /// The three numbers of a refused run.
+    pub fn refused(&self) -> Option<[u64; 3]> {
+        match self {
+            Ending::Io(IoFault::Switch(fault)) | Ending::InWords(IoFault::Switch(fault), _) => Some(told(&IoFault::Switch(*fault)).numbers),
+            _ => None,
+        }
+    }
+
+    /// The number of a file that failed.
+    pub fn file(&self) -> Option<u64> {
+        match self {
+            Ending::Io(IoFault::Switch(_)) | Ending::InWords(IoFault::Switch(_), _) => None,
+            Ending::Io(fault) | Ending::InWords(fault, _) => Some(told(fault).numbers[0]),
+            Ending::Output => Some(0),
+            Ending::Log => Some(7),
+            _ => None,
         }
     }
 
@@ -33,15 +72,30 @@ impl Ending {
         let _ = match self {
             Ending::NoText => eprintln!(rt; "rxbatch: a word of the command line is no text"),
             Ending::OneFile(one, other) => eprintln!(rt; "rxbatch: {one} and {other} are one file"),
+            Ending::NotPlain(one) => eprintln!(rt; "rxbatch: {one} is no plain file"),
             Ending::Words(fault) => eprint!(rt; "{fault}"),
-            Ending::Io(fault) => {
-                let [first, second, third] = told(fault).numbers;
-                match fault {
-                    IoFault::Switch(_) => eprintln!(rt; "refused {first} {second} {third}"),
-                    _ => eprintln!(rt; "file {first}"),
-                }
+            Ending::Io(fault) => tell_numbers(rt, fault),
+            Ending::InWords(fault, line) => {
+                let _ = tell_numbers(rt, fault);
+                eprintln!(rt; "{line}")
             }
+            Ending::Response(fault) => {
+                let (number, place) = (fault.code(), fault.place().unwrap_or(0));
+                eprintln!(rt; "response {number} {place}")
+            }
+            Ending::NotFound => eprintln!(rt; "rxbatch: no such claim"),
+            Ending::Warned | Ending::Differs => Ok(()),
             Ending::Output => eprintln!(rt; "file 0"),
+            Ending::Log => eprintln!(rt; "file 7"),
         };
+    }
+}
+
+// Writes the line of a refused run, or of a file that failed.
+fn tell_numbers(rt: &HostRuntime, fault: &IoFault) -> io::Result<()> {
+    let [first, second, third] = told(fault).numbers;
+    match fault {
+        IoFault::Switch(_) => eprintln!(rt; "refused {first} {second} {third}"),
+        _ => eprintln!(rt; "file {first}"),
     }
 }

@@ -1,12 +1,12 @@
 ghost use Rattle.std.specs.Prelude.{◌≡◌, false, IfOk};
 
 use crate::ending::Ending;
-use rx_devices::{ReaderSource, Source, WriterSink};
+use crate::nodes::Node;
+use rx_devices::{ReaderSource, Source};
 use rx_switch::{Device, IoFault};
 use rx_words::{Inputs, Outputs};
 use std::fs;
 use std::fs::{File, OpenOptions};
-use std::os::unix::fs::MetadataExt;
 
 /// The file as an input, opened; one that can't be opened counts as a failed read of it.
 pub fn source(rt: &HostRuntime, path: &str, device: Device) -> Result<ReaderSource<File>, Ending>
@@ -38,6 +38,15 @@ impl InputFiles {
             books,
             batch,
         })
+    }
+
+    /// What the system tells of them, in the order of their numbers.
+    pub fn nodes(&self) -> [Node; 3] {
+        [
+            Node::of(&self.sheet),
+            Node::of(&self.books),
+            Node::of(&self.batch),
+        ]
     }
 }
 
@@ -72,6 +81,15 @@ impl OutputFile {
     // Empties a plain file.
     fn empty(&self, device: Device) -> Result<(), Ending> {
         if is_plain(&self.file) && self.file.set_len(0).is_err() {
+            return Err(Ending::Io(IoFault::Write(device)));
+        }
+        Ok(())
+    }
+
+    // Brings the bytes of a plain file to the disk; a failure of that counts as a failed write. What the system refused to
+    // keep is told here, and not only when the file is closed.
+    fn keep(&self, device: Device) -> Result<(), Ending> {
+        if is_plain(&self.file) && self.file.sync_all().is_err() {
             return Err(Ending::Io(IoFault::Write(device)));
         }
         Ok(())
@@ -116,6 +134,13 @@ impl OutputFiles {
         self.settlement.empty(Device::Settlement)
     }
 
+    /// Brings those that are plain files to the disk.
+    pub fn keep(&self) -> Result<(), Ending> {
+        self.response.keep(Device::Response)?;
+        self.books.keep(Device::EndBooks)?;
+        self.settlement.keep(Device::Settlement)
+    }
+
     /// Removes those again that this run made.
     pub fn remove_made(self, rt: &HostRuntime, paths: &Outputs<'_>) {
         self.response.remove_made(rt, paths.response);
@@ -124,81 +149,10 @@ impl OutputFiles {
     }
 }
 
-// What the system tells of an open file: its device and its number there, where it is a plain one.
-#[derive(Clone, Copy, Debug, PartialEq, Eq)]
-enum Node {
-    Plain(u64, u64),
-    // A terminal, a pipe or another device.
-    Other,
-    Untold,
-}
-
-impl Node {
-    fn of(file: &File) -> Node {
-        match file.metadata() {
-            Ok(metadata) if metadata.is_file() => Node::Plain(metadata.dev(), metadata.ino()),
-            Ok(_) => Node::Other,
-            Err(_) => Node::Untold,
-        }
-    }
-
-    // Whether these may be one plain file: they are, or the system doesn't tell.
-    fn may_be(self, other: Node) -> bool {
-        match (self, other) {
-            (Node::Other, _) | (_, Node::Other) => false,
-            (Node::Plain(..), Node::Plain(..)) => self == other,
-            _ => true,
-        }
-    }
-}
-
-fn is_plain(file: &File) -> bool {
+/// Whether the file is a plain one.
+pub fn is_plain(file: &File) -> bool {
     match file.metadata() {
         Ok(metadata) => metadata.is_file(),
         Err(_) => false,
     }
-}
-
-// The options that name the files of a run, in the order of their numbers.
-const OPTIONS: [&str; 6] = [
-    "--sheet",
-    "--books",
-    "--batch",
-    "--response",
-    "--books-out",
-    "--settlement",
-];
-
-/// The options of an output and of another file that are one plain file, as far as the system tells. Emptying that
-/// output would empty the other.
-pub fn one_file_twice(
-    inputs: &InputFiles,
-    outputs: &OutputFiles,
-) -> Option<(&'static str, &'static str)> {
-    let nodes = [
-        Node::of(&inputs.sheet),
-        Node::of(&inputs.books),
-        Node::of(&inputs.batch),
-        Node::of(&outputs.response.file),
-        Node::of(&outputs.books.file),
-        Node::of(&outputs.settlement.file),
-    ];
-    for output in 3..6 {
-        for other in 0..output {
-            if nodes[output].may_be(nodes[other]) {
-                return Some((OPTIONS[other], OPTIONS[output]));
-            }
-        }
-    }
-    None
-}
-
-/// Ends an output that was written: the bytes of a plain file are brought to the disk, and a failure of that counts as a
-/// failed write. What the system refused to keep is told here, and not only when the file is closed.
-pub fn end(sink: WriterSink<File>, device: Device) -> Result<(), Ending> {
-    let file = sink.into_inner();
-    if is_plain(&file) && file.sync_all().is_err() {
-        return Err(Ending::Io(IoFault::Write(device)));
-    }
-    Ok(())
 }

@@ -2,18 +2,37 @@
 //!
 //! ```text
 //! rxbatch run --sheet F --books F --batch F --stamp S --workers N --response F --books-out F --settlement F [--plain]
-//! rxbatch show --sheet F --batch F      a line for each transaction
+//!     [--safe] [--log F]
+//!     [-v]
+//! rxbatch show --sheet F --batch F [--tsv]      a line for each transaction
 //! rxbatch plan --sheet F --books F --batch F      the waves of the records, and the chain
+//! rxbatch check --sheet F [--books F] [--batch F]      the faults of these files in words, and warnings
+//! rxbatch explain --sheet F --books F --batch F (--record P[.N] | --number A | --rx R [--provider ID])
+//!     [--response F] [--json]           why a claim was answered as it was
+//! rxbatch verify --sheet F --books F --batch F --stamp S --response F --books-out F --settlement F [--plain]
+//!     [--workers N]                     whether the files of a run are what it gives
+//! rxbatch replies --response F          a line for each answer of a response file
 //! rxbatch sample                        the reply to the base claim, on one line
+//! rxbatch --version                     the version, and the kit that proved it
 //! ```
 //!
 //! Words are read by `rx_words`, batches adjudicated by `rx_switch`; here files are opened, and refusals told.
 #![tactic(auto)]
 
+mod checking;
 mod ending;
+mod explaining;
 mod files;
+mod log_file;
+mod logging;
+mod nodes;
+mod outputs;
 mod printing;
+mod replying;
 mod running;
+mod safe;
+mod verbose;
+mod verifying;
 
 use ending::Ending;
 use rx_words::{Command, WordsFault, command};
@@ -36,10 +55,18 @@ fn main(rt: HostRuntime) -> ExitCode {
 fn perform<R: Threads + Wait + Sync>(rt: &HostRuntime, threads: &R) -> Result<(), Ending> {
     let words = words(rt)?;
     match command(rt.alloc(), words.as_slice()) {
+        Ok(Command::Run(words)) if words.verbose => {
+            verbose::explained(rt, &words, running::run(rt, threads, &words))
+        }
         Ok(Command::Run(words)) => running::run(rt, threads, &words),
-        Ok(Command::Show(words)) => printing::show(rt, &words),
+        Ok(Command::Show(words)) => printing::show(rt, threads, &words),
         Ok(Command::Sample) => printing::sample(rt),
         Ok(Command::Plan(words)) => printing::plan(rt, &words),
+        Ok(Command::Check(words)) => checking::check(rt, &words),
+        Ok(Command::Explain(words)) => explaining::explain(rt, &words),
+        Ok(Command::Verify(words)) => verifying::verify(rt, threads, &words),
+        Ok(Command::Replies(path)) => replying::replies(rt, path),
+        Err(fault) if fault.is_version() => printing::version(rt, &fault),
         Err(fault) => Err(Ending::Words(fault)),
     }
 }

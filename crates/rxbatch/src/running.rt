@@ -1,40 +1,69 @@
 use crate::ending::Ending;
-use crate::files::{InputFiles, OutputFiles, end, one_file_twice};
+use crate::files::InputFiles;
+use crate::logging;
+use crate::nodes::one_file_twice;
+use crate::outputs::RunOutputs;
 use rx_devices::{ReaderSource, WriterSink};
-use rx_switch::{Device, run_io};
+use rx_switch::run_io;
 use rx_wave::NoGate;
 use rx_words::RunWords;
 use std::sync::Wait;
 use std::thread::Threads;
 
-/// Adjudicates a batch file: the inputs are opened, then the outputs, and only where no output is another of the six
-/// files are the outputs emptied and the run begun.
+/// Adjudicates a batch file.
 pub fn run<R: Threads + Wait + Sync>(
     rt: &HostRuntime,
     threads: &R,
     words: &RunWords<'_>,
 ) -> Result<(), Ending> {
-    let inputs = InputFiles::open(rt, &words.inputs)?;
-    let outputs = OutputFiles::open(rt, &words.outputs)?;
-    if let Some((one, other)) = one_file_twice(&inputs, &outputs) {
-        outputs.remove_made(rt, &words.outputs);
-        return Err(Ending::OneFile(one, other));
+    if let Some(path) = words.log {
+        return logging::run(rt, threads, words, path);
     }
-    outputs.empty()?;
-    on_files(rt, threads, words, inputs, outputs)
+    let RunFiles { inputs, outputs } = RunFiles::open(rt, words)?;
+    let done = on_files(rt, threads, words, &inputs, &outputs);
+    outputs.end(rt, done)
 }
 
-// The run on its files. Of one that is done each output is brought to the disk.
+/// The files of a run, opened.
+#[derive(Debug, Drop)]
+pub struct RunFiles {
+    pub inputs: InputFiles,
+    pub outputs: RunOutputs,
+}
+
+impl RunFiles {
+    /// Opens the inputs, then the outputs, and makes them ready where no output is another of the six files.
+    pub fn open(rt: &HostRuntime, words: &RunWords<'_>) -> Result<RunFiles, Ending> {
+        let inputs = InputFiles::open(rt, &words.inputs)?;
+        let outputs = RunOutputs::open(rt, words)?;
+        if let Some((one, other)) = one_twice(&inputs, &outputs) {
+            outputs.remove_made(rt, &words.outputs);
+            return Err(Ending::OneFile(one, other));
+        }
+        outputs.begin()?;
+        Ok(RunFiles { inputs, outputs })
+    }
+}
+
+// The options of an output and of another of the six files that are one.
+fn one_twice(inputs: &InputFiles, outputs: &RunOutputs) -> Option<(&'static str, &'static str)> {
+    let [sheet, books, batch] = inputs.nodes();
+    let [response, end_books, settlement] = outputs.nodes();
+    match one_file_twice([sheet, books, batch, response, end_books, settlement]) {
+        Some(options) => Some(options),
+        None => outputs.one_path_twice(),
+    }
+}
+
+// The run on its files.
 fn on_files<R: Threads + Wait + Sync>(
     rt: &HostRuntime,
     threads: &R,
     words: &RunWords<'_>,
-    inputs: InputFiles,
-    outputs: OutputFiles,
+    inputs: &InputFiles,
+    outputs: &RunOutputs,
 ) -> Result<(), Ending> {
-    let mut response = WriterSink::new(outputs.response.file);
-    let mut end_books = WriterSink::new(outputs.books.file);
-    let mut settlement = WriterSink::new(outputs.settlement.file);
+    let [response, end_books, settlement] = outputs.files();
     let done = run_io(
         threads,
         rt.alloc(),
@@ -42,15 +71,12 @@ fn on_files<R: Threads + Wait + Sync>(
         words.stamp.as_bytes(),
         words.workers,
         words.plain,
-        &mut ReaderSource::new(inputs.sheet),
-        &mut ReaderSource::new(inputs.books),
-        &mut ReaderSource::new(inputs.batch),
-        &mut response,
-        &mut end_books,
-        &mut settlement,
+        &mut ReaderSource::new(&inputs.sheet),
+        &mut ReaderSource::new(&inputs.books),
+        &mut ReaderSource::new(&inputs.batch),
+        &mut WriterSink::new(response),
+        &mut WriterSink::new(end_books),
+        &mut WriterSink::new(settlement),
     );
-    done.map_err(Ending::Io)?;
-    end(response, Device::Response)?;
-    end(end_books, Device::EndBooks)?;
-    end(settlement, Device::Settlement)
+    done.map_err(Ending::Io)
 }

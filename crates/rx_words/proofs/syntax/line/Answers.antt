@@ -1,20 +1,13 @@
-use Rattle.std.proofs.Common.{◌∙◌, ap, ap₂}
+use Rattle.std.proofs.Common.{◌∙◌, ap}
 use Rattle.std.proofs.lemmas.Result.{IfOk-weaker}
-use Rattle.clap.specs.Words.{App, with_subcommand}
 use Rattle.clap.specs.Simple.{app_of_fields}
-use Rattle.rx_words.specs.Syntax.{with_subcommand_required}
+use Rattle.rx_words.specs.Syntax.{with_adjudication, with_retracing, with_subcommand_required, with_version}
 use Rattle.rx_words.proofs.syntax.line.Goals as goal
 
--- one subcommand after another
+-- the subcommands of both kinds
 pub returns : goal.returns
 returns c =
-    let top = ap app_of_fields c.subcommand_required-top.ensures ∙ ap with_subcommand_required c.named.ensures.shape in
-    let run = c.in_ok-subcommand.ensures.shape c.in_ok-run.ensures.local
-    ∙ ap₂ with_subcommand top (ap (λ (a : App). a.top) c.in_ok-run.ensures.shape) in
-    let show = c.in_ok-subcommand-2.ensures.shape c.in_ok-show.ensures.local
-    ∙ ap₂ with_subcommand run (ap (λ (a : App). a.top) c.in_ok-show.ensures.shape) in
-    let plan = c.in_ok-subcommand-3.ensures.shape c.in_ok-plan.ensures.local
-    ∙ ap₂ with_subcommand show (ap (λ (a : App). a.top) c.in_ok-plan.ensures.shape) in
-    IfOk-weaker c.subcommand-4.result _ _
-    (λ r h. h.shape c.named-sample.ensures.local ∙ ap₂ with_subcommand plan (ap (λ (a : App). a.top) c.named-sample.ensures.shape))
-    c.subcommand-4.ensures
+    let required = ap app_of_fields c.subcommand_required.ensures ∙ ap with_subcommand_required c.named.ensures.shape in
+    let top = ap app_of_fields c.version-top.ensures ∙ ap with_version required in
+    IfOk-weaker c.takes_retracing.result _ _ (λ r h. h ∙ ap with_retracing (c.in_ok-adjudicates.ensures ∙ ap with_adjudication top))
+    c.takes_retracing.ensures

@@ -1,0 +1,116 @@
+-- The answer to a transaction is the one that its case gives.
+use Rattle.std.specs.Prelude.{not, ◌||◌, nat_lt, is_some, if◌then◌else◌, ◌==◌}
+use Rattle.std.proofs.Common.{◌≡◌, ℕ, suc, Bool, true, List, [], ◌∷◌, Option, Some, None, length, refl, sym, ap, ◌∙◌, inl, inr, arith}
+use Rattle.std.specs.List.{find, list_any}
+use Rattle.std.specs.Ordering.{is_gt, is_lt}
+use Rattle.std.proofs.lemmas.Bool.{cases_Bool}
+use Rattle.rx_claim.specs.declared.bill.BillParts.{BillParts}
+use Rattle.rx_claim.specs.declared.reply.Answer.{Answer}
+use Rattle.rx_claim.specs.declared.reply.Answer.TheVariants.{Paid}
+use Rattle.rx_claim.specs.declared.transaction.Reversal.{Reversal}
+use Rattle.rx_claim.specs.declared.transaction.Transaction.{Transaction}
+use Rattle.rx_claim.specs.declared.transaction.Transaction.TheVariants.{Bill, Reverse, Faulty}
+use Rattle.rx_fields.specs.Calendar.{day_cmp}
+use Rattle.rx_fields.specs.Numbered.{is_within}
+use Rattle.rx_fields.specs.declared.code.Code.TheVariants as code
+use Rattle.rx_ledger.specs.declared.drug.Drug.{Drug}
+use Rattle.rx_ledger.specs.declared.member.Member.{Member}
+use Rattle.rx_ledger.specs.declared.row.Row.{Row}
+use Rattle.rx_ledger.specs.Answers.{Asked, answer, answer_bill, answer_covered, answer_member, answer_new, answer_person, answer_reversal}
+use Rattle.rx_ledger.specs.Answers.{is_same_claim, is_too_soon, key_of, refused}
+use Rattle.rx_ledger.specs.Ledger.{Ledger, members_of, row_under, rows_of}
+use Rattle.rx_ledger.specs.Members.{of_family, person_in}
+use Rattle.rx_ledger.specs.Plan.{drug_of}
+use Rattle.rx_ledger.proofs.Found.{any_passes}
+use Rattle.rx_explain.specs.declared.case.Case.{Case}
+use Rattle.rx_explain.specs.declared.case.Case.TheVariants as case
+use Rattle.rx_explain.specs.declared.case.Payment.{Payment}
+use Rattle.rx_explain.specs.Cases.{answer_by, answer_to, case_after, case_bill, case_covered, case_member, case_new, case_of, case_person}
+use Rattle.rx_explain.specs.Cases.{case_reversal, payment}
+
+-- some item passes exactly where one is found
+any_found : {X : Type 0} (p : X → Bool) (xs : List X) → list_any p xs ≡ is_some (find p xs)
+any_found p [] = refl
+any_found p (x ∷ xs) = elim (cases_Bool (p x)) [
+  | inl passes ↦ rw passes refl
+  | inr fails ↦ rw fails (any_found p xs)
+]
+
+some_more : (n : ℕ) → nat_lt 0 (suc n) ≡ true
+some_more n = grind arith
+
+module _ (a : Asked) (b : BillParts) where
+  after_answer : (p : Payment) (o : Option Row)
+      → (if is_some o then refused code.RefillTooSoon b.reference
+      else Paid (record { number = a.number; reference = b.reference; pricing = p.pricing }))
+      ≡ answer_by a.number b.reference (case_after p o)
+  after_answer p None = refl
+  after_answer p (Some r) = refl
+
+  covered_answer : (rows : List Row) (drug : Option Drug)
+      → answer_covered a b rows drug ≡ answer_by a.number b.reference (case_covered a b rows drug)
+  covered_answer rows None = refl
+  covered_answer rows (Some drug) =
+      let soon = is_too_soon a.plan.figures a.date b in
+      elim (cases_Bool (nat_lt a.plan.figures.max_days b.days)) [
+        | inl many ↦ rw many refl
+        | inr few ↦ rw (few, any_found soon rows) (after_answer (payment a.plan.figures b rows drug) (find soon rows))
+      ]
+
+  new_answer : (m : Member) (rows : List Row)
+      → answer_new a b m rows ≡ answer_by a.number b.reference (case_new a b m rows)
+  new_answer m rows =
+      elim (cases_Bool (is_lt (day_cmp a.date a.plan.figures.period.first))) [
+        | inl early ↦ rw early refl
+        | inr started ↦ elim (cases_Bool (is_gt (day_cmp a.date a.lot.created))) [
+          | inl late ↦ rw (started, late) refl
+          | inr created ↦ elim (cases_Bool (not (is_within m.coverage a.date) || is_gt (day_cmp a.date a.plan.figures.period.last))) [
+            | inl outside ↦ rw (started, created, outside) refl
+            | inr inside ↦ rw (started, created, inside) (covered_answer rows (drug_of a.plan b.product))
+          ]
+        ]
+      ]
+
+  member_answer : (m : Member) (rows : List Row) (under : Option Row)
+      → answer_member a b m rows under ≡ answer_by a.number b.reference (case_member a b m rows under)
+  member_answer m rows None = new_answer m rows
+  member_answer m rows (Some r) = elim (cases_Bool (is_same_claim b r)) [
+    | inl same ↦ rw same refl
+    | inr other ↦ rw other refl
+  ]
+
+  person_answer : (found : Option Member) (rows : List Row) (under : Option Row)
+      → answer_person a b found rows under ≡ answer_by a.number b.reference (case_person a b found rows under)
+  person_answer None rows under = refl
+  person_answer (Some m) rows under = member_answer m rows under
+
+  members_answer : (ms : List Member) (rows : List Row) (under : Option Row)
+      → answer_bill a b ms rows under
+      ≡ answer_by a.number b.reference
+      (if nat_lt 0 (length ms) then case_person a b (person_in ms b.person) rows under else case.NoFamily)
+  members_answer [] rows under = refl
+  members_answer (m ∷ ms) rows under =
+      rw (some_more (length ms)) (person_answer (person_in (m ∷ ms) b.person) rows under)
+
+  bill_answer : (L : Ledger) → answer a L (Bill b) ≡ answer_by a.number b.reference (case_bill a L b)
+  bill_answer L =
+      let rows = rows_of L b.family in
+      let under = row_under L (key_of a b.reference) in
+      members_answer (members_of L b.family) rows under
+      ∙ ap
+      (λ (t : Bool). answer_by a.number b.reference
+      (if t then case_person a b (person_in (members_of L b.family) b.person) rows under else case.NoFamily))
+      (sym (any_passes (of_family b.family) L.members))
+
+reversal_answer : (a : Asked) (v : Reversal) (under : Option Row)
+    → answer_reversal a v under ≡ answer_by a.number v.reference (case_reversal v under)
+reversal_answer a v None = refl
+reversal_answer a v (Some r) = elim (cases_Bool (r.product == v.product)) [
+  | inl same ↦ rw same refl
+  | inr other ↦ rw other refl
+]
+
+pub answer_is : (a : Asked) (L : Ledger) (t : Transaction) → answer a L t ≡ answer_to a t (case_of a L t)
+answer_is a L (Bill b) = bill_answer a b L
+answer_is a L (Reverse v) = reversal_answer a v (row_under L (key_of a v.reference))
+answer_is a L (Faulty f) = refl

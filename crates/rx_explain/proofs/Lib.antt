@@ -1,0 +1,7 @@
+-- Lemmas of a claim retraced.
+pub mod Answered
+pub mod Counted
+pub mod Explanations
+pub mod Laws
+pub mod Nexts
+pub mod Sources

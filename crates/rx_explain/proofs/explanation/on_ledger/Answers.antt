@@ -1,0 +1,32 @@
+-- The transaction is asked under the occasion that the rules name, and the rows are those of the sheet's period.
+use Rattle.std.proofs.Common.{◌≡◌, ◌∙◌, refl, ap, map}
+use Rattle.rx_fields.specs.Numbered.{Span}
+use Rattle.rx_ledger.specs.Claims.{asked_on}
+use Rattle.rx_ledger.specs.Fold.{asked}
+use Rattle.rx_ledger.specs.declared.occasion.Occasion.{Occasion}
+use Rattle.rx_explain.specs.Shown.{counted_for}
+use Rattle.rx_explain.specs.Traces.{traced}
+use Rattle.rx_explain.proofs.explanation.on_ledger.Goals as goal
+
+pub returns : goal.returns
+returns c =
+    let plan = c.args.sheet.now in
+    let at = c.args.at in
+    let spot = c.args.spot.now in
+    let L = c.args.ledger.now in
+    let under : asked_on c.new-occasion.result plan.drugs ≡ asked c.args.lot plan at.place spot.heard.now at.nth =
+    rw (c.new-occasion.ensures, c.figures.ensures.value) refl in
+    record {
+      at_is = refl;
+      provider_is = refl;
+      date_is = refl;
+      number_is = ap (λ (o : Occasion). o.number) c.new-occasion.ensures;
+      transaction_is = refl;
+      case_is = rw under at c.decide.ensures.decided;
+      answer_is = rw under at c.decide.ensures.answered;
+      standing_is = c.standing.ensures;
+      counted_are = c.in_ok-counted-2.ensures
+          ∙ ap (map (traced c.args.events.now at))
+          (c.deref.ensures.value ∙ c.in_ok-counted.ensures
+          ∙ ap (λ (p : Span). counted_for p L spot.transaction.now c.decide.result.case) c.period.ensures);
+    }

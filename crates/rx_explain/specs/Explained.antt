@@ -1,0 +1,45 @@
+-- What an explanation of a transaction says.
+use Rattle.std.specs.Prelude.{◌≡◌, List, map, Option, Some, None}
+use Rattle.std.specs.Option.{option_map}
+use Rattle.rx_fields.specs.Numbered.{LotParts}
+use Rattle.rx_claim.specs.declared.transmission.Transmission.{Transmission}
+use Rattle.rx_ledger.specs.Answers.{answer}
+use Rattle.rx_ledger.specs.Fold.{asked, authorization, fold_replies}
+use Rattle.rx_ledger.specs.Ledger.{Ledger}
+use Rattle.rx_ledger.specs.Plan.{Plan}
+use Rattle.rx_explain.specs.declared.at.At.{At}
+use Rattle.rx_explain.specs.declared.events.Event.{Event}
+use Rattle.rx_explain.specs.declared.explanation.Explanation.{Explanation}
+use Rattle.rx_explain.specs.Before.{ledger_before}
+use Rattle.rx_explain.specs.Cases.{case_of}
+use Rattle.rx_explain.specs.Shown.{counted_for, row_in}
+use Rattle.rx_explain.specs.Spots.{Spot}
+use Rattle.rx_explain.specs.Traces.{events_of, traced}
+
+-- place, pharmacy, date and number; the case on the ledger and its answer; and the rows that mattered, each with its source
+-- and its end among these events
+pub record IsOnLedger (lot : LotParts) (plan : Plan) (L : Ledger) (events : List Event) (at : At) (s : Spot) (x : Explanation)
+    : Type 0 where
+  pub at_is : x.at ≡ at
+  pub provider_is : x.provider ≡ s.heard.provider
+  pub date_is : x.date ≡ s.heard.date
+  pub number_is : x.number ≡ authorization lot at.place at.nth
+  pub transaction_is : x.transaction ≡ s.transaction
+  pub case_is : x.case ≡ case_of (asked lot plan at.place s.heard at.nth) L s.transaction
+  pub answer_is : x.answer ≡ answer (asked lot plan at.place s.heard at.nth) L s.transaction
+  pub standing_is : x.standing ≡ option_map (traced events at) (row_in x.case)
+  pub counted_are : x.counted.items ≡ map (traced events at) (counted_for plan.figures.period L s.transaction x.case)
+
+module _ (lot : LotParts) (plan : Plan) (ts : List Transmission) (opening : Ledger) (at : At) where
+  -- on the ledger before the transaction, among what the batch changed
+  abbrev pub IsExplanation : Spot → Explanation → Type 0
+  IsExplanation s x =
+      IsOnLedger lot plan (ledger_before lot plan ts opening at.place s.heard at.nth)
+      (events_of 1 ts (fold_replies lot plan 1 ts opening)) at s x
+
+  -- there is an explanation exactly where there is a transaction
+  abbrev pub IsExplained : Option Spot → Option Explanation → Type 0
+  IsExplained None None = Unit {0}
+  IsExplained None (Some x) = ⊥
+  IsExplained (Some s) None = ⊥
+  IsExplained (Some s) (Some x) = IsExplanation s x

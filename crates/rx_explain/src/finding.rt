@@ -1,0 +1,143 @@
+ghost use Rattle.std.specs.Prelude.{◌≡◌, ◌++◌, ◌≤◌, [], ◌∷◌, if◌then◌else◌, IfOk, OnOk, length};
+ghost use Rattle.rx_ledger.specs.Members.{is_same};
+ghost use Rattle.rx_explain.specs.Found.{found_answers, found_in, found_record, has_number, has_reference, is_wanted};
+
+use crate::at::At;
+use rx_claim::{Answer, Body, Heard, Outcome, Reply, Transmission};
+use rx_fields::{Authorization, Memory, Provider, Reference};
+use std::alloc::{AllocError, Global};
+
+/// Which transactions of a batch are asked for.
+#[derive(Clone, Copy, Debug, PartialEq, Eq)]
+pub enum Wanted {
+    /// Those of the record at a place, from 1.
+    Place(u64),
+    /// The one at this place.
+    One(At),
+    /// Those whose answer has this authorization number: of P and A their own, of D the one that it repeats.
+    Number(Authorization),
+    /// Those with this prescription reference number.
+    Reference(Reference),
+    /// Those with this prescription reference number, of one pharmacy.
+    ReferenceAt(Reference, Provider),
+}
+
+/// Where the transactions stand that are asked for, in order, where these are the replies to the batch.
+pub fn find(
+    alloc: Global,
+    wanted: &Wanted,
+    transmissions: &[Transmission],
+    replies: &[Reply],
+) -> Result<Vec<At>, Memory>
+    requires few { length transmissions.now ≤ 100_000 }
+    requires each { length replies.now ≡ length transmissions.now }
+    ensures { IfOk result (λ found. found.items ≡ found_in wanted.now 1 transmissions.now replies.now) }
+{
+    let mut found = Vec::new(alloc);
+    for (before, transmission) in transmissions.iter().enumerate() {
+        let reply = &replies[before];
+        put_record(
+            &mut found,
+            wanted,
+            before as u64 + 1,
+            &transmission.body,
+            &reply.outcome,
+        )?;
+    }
+    Ok(found)
+}
+
+// Those of the record at a place.
+fn put_record(
+    found: &mut Vec<At>,
+    wanted: &Wanted,
+    place: u64,
+    body: &Body,
+    outcome: &Outcome,
+) -> Result<(), AllocError>
+    ensures { OnOk result (found.new.items ≡ found.old.items ++ found_record wanted.now place body.now outcome.now) }
+{
+    match (body, outcome) {
+        (Body::Heard(heard), Outcome::Heard(answers)) => {
+            put_answers(found, wanted, place, heard, answers.as_slice())
+        }
+        _ => Ok(()),
+    }
+}
+
+fn put_answers(
+    found: &mut Vec<At>,
+    wanted: &Wanted,
+    place: u64,
+    heard: &Heard,
+    answers: &[Answer],
+) -> Result<(), AllocError>
+    ensures { OnOk result (found.new.items ≡ found.old.items ++ found_answers wanted.now place heard.now 1 answers.now) }
+{
+    for (before, answer) in answers.iter().enumerate() {
+        let nth = before as u64 + 1;
+        put_answer(found, wanted, At { place, nth }, heard, answer)?;
+    }
+    Ok(())
+}
+
+fn put_answer(
+    found: &mut Vec<At>,
+    wanted: &Wanted,
+    at: At,
+    heard: &Heard,
+    answer: &Answer,
+) -> Result<(), AllocError>
+    ensures { OnOk result (found.new.items
+        ≡ found.old.items ++ (if is_wanted wanted.now at heard.now answer.now then at ∷ [] else [])) }
+{
+    if is_wanted(wanted, at, heard, answer) {
+        return Ok(found.push(at)?);
+    }
+    Ok(())
+}
+
+fn is_wanted(wanted: &Wanted, at: At, heard: &Heard, answer: &Answer) -> bool
+    ensures { result ≡ is_wanted wanted.now at heard.now answer.now }
+{
+    match wanted {
+        Wanted::Place(place) => at.place == *place,
+        Wanted::One(one) => at.place == one.place && at.nth == one.nth,
+        Wanted::Number(number) => has_number(*number, answer),
+        Wanted::Reference(reference) => has_reference(*reference, answer),
+        Wanted::ReferenceAt(reference, provider) => {
+            has_reference(*reference, answer) && is_same(&heard.provider, provider)
+        }
+    }
+}
+
+fn has_number(number: Authorization, answer: &Answer) -> bool
+    ensures { result ≡ has_number number answer.now }
+{
+    match answer {
+        Answer::Paid(paid) | Answer::Twice(paid) => paid.number == number,
+        Answer::Approved(approved) => approved.number == number,
+        Answer::Refused(_) => false,
+    }
+}
+
+fn has_reference(reference: Reference, answer: &Answer) -> bool
+    ensures { result ≡ has_reference reference answer.now }
+{
+    match answer {
+        Answer::Paid(paid) | Answer::Twice(paid) => paid.reference == reference,
+        Answer::Approved(approved) => approved.reference == reference,
+        Answer::Refused(refused) => match refused.reference {
+            Some(other) => other == reference,
+            None => false,
+        },
+    }
+}
+
+// Whether these are one pharmacy.
+#[tactic(auto, using(rx_ledger::proofs::SameText::same_text))]
+fn is_same(a: &Provider, b: &Provider) -> bool
+    ensures { result ≡ is_same a.now b.now }
+{
+    a == b
+}

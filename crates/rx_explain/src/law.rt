@@ -1,0 +1,38 @@
+ghost use Rattle.std.specs.Prelude.{◌≡◌, ◌+◌, ℕ, List, Some, filter, slice_get, sum_by, take};
+ghost use Rattle.rx_claim.specs.declared.transaction.Transaction.{Transaction};
+ghost use Rattle.rx_claim.specs.declared.transmission.Heard.{Heard as HeardRecord};
+ghost use Rattle.rx_claim.specs.declared.transmission.Transmission.{Transmission};
+ghost use Rattle.rx_fields.specs.Numbered.{LotParts, Span};
+ghost use Rattle.rx_ledger.specs.Answers.{answer};
+ghost use Rattle.rx_ledger.specs.Fold.{answers_from, asked, fold_ledger, fold_replies, ledger_from, reply_to};
+ghost use Rattle.rx_ledger.specs.Ledger.{Ledger, rows_of};
+ghost use Rattle.rx_ledger.specs.Members.{is_same};
+ghost use Rattle.rx_ledger.specs.Plan.{Plan};
+ghost use Rattle.rx_ledger.specs.Sums.{deductible, deductible_paid, family_deductible, out_of_pocket, paid_by_patient};
+ghost use Rattle.rx_explain.specs.Shown.{counted_rows};
+
+/// The answer that an explanation shows is the one in the batch's replies: the reply to a record is that on the ledger
+/// which the records before it leave, and its answers are each that on the ledger which the transactions before it leave
+/// (docs/MODEL.md, "Record and fold").
+pub fn reply_is_shown()
+    ensures record_is { (lot : LotParts) → (plan : Plan) → (ts : List Transmission) → (L : Ledger) → (before : ℕ)
+        → (t : Transmission) → slice_get ts before ≡ Some t
+        → slice_get (fold_replies lot plan 1 ts L) before
+        ≡ Some (reply_to lot plan (1 + before) t (fold_ledger lot plan 1 (take before ts) L)) }
+    ensures transaction_is { (lot : LotParts) → (plan : Plan) → (place : ℕ) → (h : HeardRecord) → (L : Ledger) → (before : ℕ)
+        → (t : Transaction) → slice_get h.list before ≡ Some t
+        → slice_get (answers_from lot plan place h 1 h.list L) before
+        ≡ Some (answer (asked lot plan place h (1 + before)) (ledger_from lot plan place h 1 (take before h.list) L) t) }
+{}
+
+/// The rows that an explanation lists for an accumulator sum to it: to a family's out of pocket and to its deductible all
+/// rows that are counted, to a member's deductible those of the person.
+pub fn sums_are_of_counted_rows()
+    ensures out_of_pocket { (period : Span) → (L : Ledger) → (family : List ℕ)
+        → out_of_pocket period L family ≡ sum_by paid_by_patient (counted_rows period L family) }
+    ensures family_deductible { (period : Span) → (L : Ledger) → (family : List ℕ)
+        → family_deductible period L family ≡ sum_by deductible_paid (counted_rows period L family) }
+    ensures deductible { (period : Span) → (L : Ledger) → (family : List ℕ) → (person : List ℕ)
+        → deductible period L family person
+        ≡ sum_by deductible_paid (filter (λ r. is_same r.person person) (counted_rows period L family)) }
+{}

@@ -1,0 +1,36 @@
+//! A claim retraced: why a transaction of a batch was answered as it was, as values.
+//!
+//! In come the plan sheet, a batch's transmissions with the replies to them, the place of a transaction and the ledger before
+//! its record; out comes its `Explanation`: the case of the tables of adjudication that decided it, with what decided, and
+//! where each standing claim that mattered came from. What an explanation says is in `specs/Explained.antt`.
+//!
+//! ```rust
+//! let explanation = rx_explain::explain(alloc, lot, &sheet, before, &transmissions, &replies, at)?;
+//! ```
+//!
+//! The replay that gives replies and ledger is left to the caller, and so are words for people.
+#![tactic(auto)]
+
+mod advancing;
+mod at;
+mod case;
+mod deciding;
+mod events;
+mod explanation;
+mod finding;
+mod law;
+mod spot;
+mod traced;
+mod workings;
+
+pub use at::At;
+pub use case::{Case, Payment};
+pub use events::{Change, Event};
+pub use explanation::{Explanation, explain};
+pub use finding::{Wanted, find};
+pub use law::{reply_is_shown, sums_are_of_counted_rows};
+pub use traced::{Source, Traced};
+pub use workings::Workings;
+
+#[cfg(test)]
+mod tests;

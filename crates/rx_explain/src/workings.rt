@@ -1,0 +1,102 @@
+ghost use Rattle.std.specs.Prelude.{◌≡◌, ◌≤◌, true};
+ghost use Rattle.std.specs.Option.{option_map};
+ghost use Rattle.rx_ledger.specs.Plan.{is_drug};
+ghost use Rattle.rx_ledger.specs.Price.{cost_of};
+ghost use Rattle.rx_ledger.specs.Share.{left, under_deductible};
+ghost use Rattle.rx_explain.specs.Workings.{share_of, workings_of};
+
+use rx_claim::Bill;
+use rx_fields::Quantity;
+use rx_ledger::{Allowance, Drug, Figures, Share, Used};
+
+/// The steps from a billing to its amounts, in cents (docs/PRODUCT.md, "Rules of adjudication").
+#[derive(Clone, Copy, Debug, PartialEq, Eq)]
+pub struct Workings {
+    /// The quantity at the plan's price, rounded down.
+    pub cost: u64,
+    /// The lower of that and the ingredient cost submitted.
+    pub ingredient_cost: u64,
+    /// The lower of the fee submitted and the plan's fee.
+    pub dispensing_fee: u64,
+    /// The charge that cost and fee together may not exceed.
+    pub cap: u64,
+    /// What is left of the member's deductible.
+    pub deductible_left: u64,
+    /// What is left of the family's deductible, where the plan has one.
+    pub family_deductible_left: Option<u64>,
+    /// What is left of the family's maximum.
+    pub room: u64,
+    /// What falls under the deductible, before the family's maximum cuts it.
+    pub under: u64,
+    /// The copay or the coinsurance of the rest, before the family's maximum cuts it.
+    pub share: u64,
+}
+
+/// The steps to the amounts of a billing for a drug, where the plan has these figures and this much of them is used.
+pub(crate) fn workings_of(figures: &Figures, bill: &Bill, drug: Drug, used: Used) -> Workings
+    requires { is_drug drug ≡ true }
+    ensures { result ≡ workings_of figures.now bill.now drug used }
+{
+    let parts = bill.parts();
+    let cost = cost_of(parts.quantity, drug.price);
+    let submitted_fee = parts.dispensing_fee.map_or(0, |fee| fee.get());
+    let allowed = Allowance::new(drug.price, figures.fee, bill).total();
+    let under = under_deductible(figures, used, allowed);
+    Workings {
+        cost,
+        ingredient_cost: parts.ingredient_cost.get().min(cost),
+        dispensing_fee: submitted_fee.min(figures.fee),
+        cap: bill.cap().get(),
+        deductible_left: left(figures.member_deductible, used.deductible),
+        family_deductible_left: family_deductible_left(figures, used),
+        room: left(figures.family_maximum, used.out_of_pocket),
+        under,
+        share: share_of(drug.share, allowed - under),
+    }
+}
+
+// The cost of a quantity at a price, in whole cents.
+fn cost_of(quantity: Quantity, price: u64) -> u64
+    requires { price ≤ 1_000_000_000 }
+    ensures { result ≡ cost_of quantity price }
+{
+    quantity.get() * price / 100_000
+}
+
+// The plan's figure less what is used of it, and 0 where that is negative.
+fn left(figure: u64, used: u128) -> u64
+    ensures { result ≡ left figure used }
+{
+    u128::from(figure).saturating_sub(used) as u64
+}
+
+fn family_deductible_left(figures: &Figures, used: Used) -> Option<u64>
+    ensures { result ≡ option_map (λ figure. left figure used.family_deductible) figures.now.family_deductible }
+{
+    match figures.family_deductible {
+        Some(figure) => Some(left(figure, used.family_deductible)),
+        None => None,
+    }
+}
+
+// What falls under the deductible.
+fn under_deductible(figures: &Figures, used: Used, allowed: u64) -> u64
+    ensures value { result ≡ under_deductible figures.now used allowed }
+    ensures within { result ≤ allowed }
+{
+    let of_member = allowed.min(left(figures.member_deductible, used.deductible));
+    match family_deductible_left(figures, used) {
+        Some(left) => of_member.min(left),
+        None => of_member,
+    }
+}
+
+fn share_of(share: Share, rest: u64) -> u64
+    requires { rest ≤ 99_999_999 }
+    ensures { result ≡ share_of share rest }
+{
+    match share {
+        Share::Copay(cents) => rest.min(cents),
+        Share::Percent(percent) => rest * u64::from(percent) / 100,
+    }
+}

@@ -1,0 +1,1 @@
+-- Lemmas of the words of an explanation.

@@ -1,0 +1,87 @@
+ghost use Rattle.std.specs.Prelude.{◌≡◌, ◌++◌, [], ◌<◌, OnOk};
+ghost use Rattle.std.specs.Fmt.{decimal};
+ghost use Rattle.rx_fields.specs.Digits.{digits_text};
+ghost use Rattle.rx_explain_text.specs.Money.{cents_text, money_text};
+
+use rx_fields::{Authorization, Day, date_write, digits_write};
+use std::alloc::{AllocError, Global};
+
+/// A text that is written from front to end.
+#[derive(Debug, Drop)]
+pub struct Page {
+    alloc: Global,
+    bytes: Vec<u8>,
+}
+
+impl Page {
+    /// An empty text.
+    pub fn new(alloc: Global) -> Page
+        ensures { result.bytes.items ≡ [] }
+    {
+        Page {
+            alloc,
+            bytes: Vec::new(alloc),
+        }
+    }
+
+    /// The bytes written.
+    pub fn into_bytes(self) -> Vec<u8>
+        ensures { result ≡ self.bytes }
+    {
+        self.bytes
+    }
+
+    /// Writes these bytes.
+    pub fn put(&mut self, bytes: &[u8]) -> Result<(), AllocError>
+        ensures { OnOk result (self.new.bytes.items ≡ self.old.bytes.items ++ bytes.now) }
+    {
+        self.bytes.extend_from_slice(bytes)
+    }
+
+    /// Writes words.
+    pub fn say(&mut self, words: &str) -> Result<(), AllocError>
+        ensures { OnOk result (self.new.bytes.items ≡ self.old.bytes.items ++ words.now) }
+    {
+        self.bytes.extend_from_slice(words.as_bytes())
+    }
+
+    /// Writes a number in decimal digits.
+    pub fn number(&mut self, number: u128) -> Result<(), AllocError>
+        ensures { OnOk result (self.new.bytes.items ≡ self.old.bytes.items ++ decimal number) }
+    {
+        let digits = format!(in self.alloc; "{number}")?;
+        self.bytes.extend_from_slice(digits.as_str().as_bytes())
+    }
+
+    /// Writes an amount of cents as dollars and cents, as `$127.05`.
+    #[tactic(auto, using(std::proofs::Common::append_assoc))]
+    pub fn money(&mut self, cents: u128) -> Result<(), AllocError>
+        ensures { OnOk result (self.new.bytes.items ≡ self.old.bytes.items ++ money_text cents) }
+    {
+        self.say("$")?;
+        self.number(cents / 100)?;
+        self.put(&cents_text((cents % 100) as u8))
+    }
+
+    /// Writes an authorization number in its 15 digits.
+    pub fn authorization(&mut self, number: Authorization) -> Result<(), AllocError>
+        ensures { OnOk result (self.new.bytes.items ≡ self.old.bytes.items ++ digits_text 15 number) }
+    {
+        let digits: [u8; 15] = digits_write(number.get());
+        self.put(&digits)
+    }
+
+    /// Writes a day as `2026-03-05`.
+    pub fn day(&mut self, day: Day) -> Result<(), AllocError> {
+        let [y0, y1, y2, y3, m0, m1, d0, d1] = date_write(day);
+        self.put(&[y0, y1, y2, y3, b'-', m0, m1, b'-', d0, d1])
+    }
+}
+
+// A point and two digits.
+fn cents_text(cents: u8) -> [u8; 3]
+    requires { cents < 100 }
+    ensures { result ≡ cents_text cents }
+{
+    [b'.', b'0' + cents / 10, b'0' + cents % 10]
+}

@@ -1,0 +1,4 @@
+pub mod File
+pub mod Found
+pub mod Lines
+pub mod Shown

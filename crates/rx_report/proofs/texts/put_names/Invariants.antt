@@ -1,0 +1,7 @@
+use Rattle.std.proofs.Common.{◌≡◌, ◌++◌, take}
+use Rattle.std.specs.List.{flat_map}
+use Rattle.rx_report.specs.Texts.{tab_name}
+use Rattle.rx_report.proofs.texts.put_names.Given as goal
+
+abbrev pub invariant-loop-column : goal.invariant-loop-column
+invariant-loop-column l = l.text.items ≡ l.fn.text.items ++ flat_map tab_name (take l.column-index l.columns)

@@ -1,0 +1,118 @@
+-- What a report says of an answer, column by column. What isn't known stays blank.
+use Rattle.std.specs.Prelude.{ℕ, ◌==◌, Bool, true, false, if◌then◌else◌, List, [], ◌∷◌, Option, Some, None, codes}
+use Rattle.std.specs.Fmt.{decimal}
+use Rattle.rx_claim.specs.Priced.{allowed, patient_pay, total_paid}
+use Rattle.rx_claim.specs.declared.pricing.Amounts.{Amounts}
+use Rattle.rx_claim.specs.declared.reply.Answer.{Answer}
+use Rattle.rx_claim.specs.declared.reply.Answer.TheVariants.{Paid, Twice, Approved, Refused}
+use Rattle.rx_report.specs.declared.column.Column.{Column}
+use Rattle.rx_report.specs.declared.column.Column.TheVariants as column
+use Rattle.rx_report.specs.declared.line.Line.{Line}
+use Rattle.rx_settle.specs.Providers.{named}
+use Rattle.rx_show.specs.Lines.{code_list}
+
+abbrev pub name_of : Column → List ℕ
+name_of column.Place = codes "record"
+name_of column.Nth = codes "nth"
+name_of column.Status = codes "answer"
+name_of column.Codes = codes "codes"
+name_of column.Provider = codes "provider"
+name_of column.Prescription = codes "prescription"
+name_of column.Date = codes "date"
+name_of column.Family = codes "family"
+name_of column.Person = codes "person"
+name_of column.Allowed = codes "allowed"
+name_of column.Deductible = codes "deductible"
+name_of column.Copay = codes "copay"
+name_of column.Coinsurance = codes "coinsurance"
+name_of column.Member = codes "member_pays"
+name_of column.Plan = codes "plan_pays"
+
+abbrev pub is_number : Column → Bool
+is_number column.Status = false
+is_number column.Codes = false
+is_number column.Provider = false
+is_number column.Date = false
+is_number column.Family = false
+is_number column.Person = false
+is_number other = true
+
+-- the columns but the first, in order
+abbrev pub others : List Column
+others =
+    column.Nth ∷ column.Status ∷ column.Codes ∷ column.Provider ∷ column.Prescription ∷ column.Date ∷ column.Family
+    ∷ column.Person ∷ column.Allowed ∷ column.Deductible ∷ column.Copay ∷ column.Coinsurance ∷ column.Member
+    ∷ column.Plan ∷ []
+
+-- P, D, A or R
+abbrev pub status_of : Answer → ℕ
+status_of (Paid p) = 80
+status_of (Twice p) = 68
+status_of (Approved a) = 65
+status_of (Refused r) = 82
+
+abbrev pub codes_cell : Answer → List ℕ
+codes_cell (Paid p) = []
+codes_cell (Twice p) = []
+codes_cell (Approved a) = []
+codes_cell (Refused r) = code_list r.codes
+
+-- the prescription reference number, where it is known
+abbrev pub known_cell : Option ℕ → List ℕ
+known_cell None = []
+known_cell (Some reference) = decimal reference
+
+abbrev pub reference_of : Answer → Option ℕ
+reference_of (Paid p) = Some p.reference
+reference_of (Twice p) = Some p.reference
+reference_of (Approved a) = Some a.reference
+reference_of (Refused r) = r.reference
+
+abbrev pub family_cell : Option (List ℕ × List ℕ) → List ℕ
+family_cell None = []
+family_cell (Some m) = m.0
+
+abbrev pub person_cell : Option (List ℕ × List ℕ) → List ℕ
+person_cell None = []
+person_cell (Some m) = m.1
+
+-- the cents of a claim in a column; what the plan pays is in the last
+abbrev pub cents_in : Column → Amounts → ℕ
+cents_in column.Allowed a = allowed a
+cents_in column.Deductible a = a.deductible
+cents_in column.Copay a = a.copay
+cents_in column.Coinsurance a = a.coinsurance
+cents_in column.Member a = patient_pay a
+cents_in other a = total_paid a
+
+-- what is given back: below zero, where it isn't zero
+abbrev pub given_back : ℕ → List ℕ
+given_back n = if n == 0 then decimal 0 else 45 ∷ decimal n
+
+abbrev pub back_cell : Column → ℕ → List ℕ
+back_cell column.Plan n = given_back n
+back_cell other n = []
+
+-- a claim that stands already shows its amounts too
+abbrev pub cents_cell : Column → Answer → List ℕ
+cents_cell c (Paid p) = decimal (cents_in c p.pricing)
+cents_cell c (Twice p) = decimal (cents_in c p.pricing)
+cents_cell c (Approved a) = back_cell c a.total_paid
+cents_cell c (Refused r) = []
+
+abbrev pub cell : Column → Line → List ℕ
+cell column.Place l = decimal l.place
+cell column.Nth l = decimal l.nth
+cell column.Status l = status_of l.answer ∷ []
+cell column.Codes l = codes_cell l.answer
+cell column.Provider l = named l.provider
+cell column.Prescription l = known_cell (reference_of l.answer)
+cell column.Date l = l.date
+cell column.Family l = family_cell l.member
+cell column.Person l = person_cell l.member
+cell column.Allowed l = cents_cell column.Allowed l.answer
+cell column.Deductible l = cents_cell column.Deductible l.answer
+cell column.Copay l = cents_cell column.Copay l.answer
+cell column.Coinsurance l = cents_cell column.Coinsurance l.answer
+cell column.Member l = cents_cell column.Member l.answer
+cell column.Plan l = cents_cell column.Plan l.answer

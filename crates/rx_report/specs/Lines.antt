@@ -1,0 +1,60 @@
+-- The lines of a report: one for each answer, in file order.
+use Rattle.std.specs.Prelude.{ℕ, ◌+◌, List, [], ◌∷◌, ◌++◌, Option, Some, None, slice_get}
+use Rattle.std.specs.Option.{option_and_then}
+use Rattle.rx_claim.specs.declared.reply.Answer.{Answer}
+use Rattle.rx_claim.specs.declared.reply.Reply.{Reply}
+use Rattle.rx_claim.specs.declared.transaction.Transaction.{Transaction}
+use Rattle.rx_claim.specs.declared.transaction.Transaction.TheVariants.{Bill, Reverse, Faulty}
+use Rattle.rx_claim.specs.declared.transmission.Body.{Body}
+use Rattle.rx_claim.specs.declared.transmission.Body.TheVariants.{Rejected, Heard}
+use Rattle.rx_claim.specs.declared.transmission.Transmission.{Transmission}
+use Rattle.rx_report.specs.declared.line.Line.{Line}
+use Rattle.rx_settle.specs.Answers.{answers_in}
+
+-- the family and the person that a transaction names
+abbrev pub member_in : Transaction → Option (List ℕ × List ℕ)
+member_in (Bill b) = Some (b.family, b.person)
+member_in (Reverse r) = None
+member_in (Faulty f) = None
+
+-- those of the transaction behind so many
+abbrev pub member_behind : List Transaction → ℕ → Option (List ℕ × List ℕ)
+member_behind list before = option_and_then member_in (slice_get list before)
+
+abbrev pub member_at : Body → ℕ → Option (List ℕ × List ℕ)
+member_at (Rejected r) before = None
+member_at (Heard h) before = member_behind h.list before
+
+-- the line of the answer behind so many to a request
+abbrev pub line_of : ℕ → Transmission → Reply → ℕ → Answer → Line
+line_of place t r before a =
+    record {
+      place = place;
+      nth = before + 1;
+      provider = r.echo.provider;
+      date = r.echo.date;
+      member = member_at t.body before;
+      answer = a;
+    }
+
+-- the lines of the answers behind so many
+abbrev pub answer_lines : ℕ → Transmission → Reply → ℕ → List Answer → List Line
+answer_lines place t r before [] = []
+answer_lines place t r before (a ∷ more) = line_of place t r before a ∷ answer_lines place t r (before + 1) more
+
+-- the lines of a record; a rejected header has as many as its count
+abbrev pub record_lines : ℕ → Transmission → Reply → List Line
+record_lines place t r = answer_lines place t r 0 (answers_in r.outcome)
+
+-- the lines of records in file order, the first of them at this place
+abbrev pub lines_from : ℕ → List Transmission → List Reply → List Line
+lines_from place [] replies = []
+lines_from place (t ∷ ts) [] = []
+lines_from place (t ∷ ts) (r ∷ rs) = record_lines place t r ++ lines_from (place + 1) ts rs
+
+abbrev pub lines_of : List Transmission → List Reply → List Line
+lines_of transmissions replies = lines_from 1 transmissions replies
+
+-- the answer of a line
+abbrev pub answer_of : Line → Answer
+answer_of l = l.answer

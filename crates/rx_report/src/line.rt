@@ -1,0 +1,19 @@
+use rx_claim::Answer;
+use rx_fields::{Id, Person};
+
+/// One answer of a batch, with what its request says of it.
+#[derive(Clone, Copy, Debug)]
+pub struct Line {
+    /// The record's place in the batch, from 1.
+    pub place: u64,
+    /// The answer's place in its reply, from 1.
+    pub nth: u64,
+    /// The service provider id of the reply, filled with blanks.
+    pub provider: [u8; 15],
+    /// The date of service of the reply, CCYYMMDD, or what stood there.
+    pub date: [u8; 8],
+    /// The family and the person that a billing names.
+    pub member: Option<(Id, Person)>,
+    /// What is answered.
+    pub answer: Answer,
+}

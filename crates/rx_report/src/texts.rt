@@ -1,0 +1,200 @@
+ghost use Rattle.std.specs.Prelude.{◌≡◌, ◌++◌, IfOk, OnOk};
+ghost use Rattle.std.specs.List.{flat_map};
+ghost use Rattle.rx_report.specs.Cells.{cell};
+ghost use Rattle.rx_report.specs.Texts.{comma_member, comma_object, heading, json_member, json_object, json_text, json_value};
+ghost use Rattle.rx_report.specs.Texts.{row, tab_cell, tab_name, tsv_text};
+
+use crate::cells::put_cell;
+use crate::column::{Column, OTHERS};
+use crate::line::Line;
+use rx_escape::{Style, put_escaped};
+use rx_fields::Memory;
+use std::alloc::{AllocError, Global};
+
+/// The lines as a table for programs: a heading with the columns' names, then a row for each line, with a tab between
+/// each two cells. Amounts are in cents.
+pub fn tsv_text(alloc: Global, lines: &[Line]) -> Result<Vec<u8>, Memory>
+    ensures { IfOk result (λ text. text.items ≡ tsv_text lines.now) }
+{
+    let mut text = Vec::new(alloc);
+    put_heading(&mut text)?;
+    put_rows(alloc, &mut text, lines)?;
+    Ok(text)
+}
+
+#[tactic(auto, using(std::proofs::Common::append_assoc))]
+fn put_heading(text: &mut Vec<u8>) -> Result<(), AllocError>
+    ensures { OnOk result (text.new.items ≡ text.old.items ++ heading) }
+{
+    text.extend_from_slice(Column::Place.name())?;
+    put_names(text, &OTHERS)?;
+    text.extend_from_slice(b"\n")
+}
+
+// Each name after a tab.
+fn put_names(text: &mut Vec<u8>, columns: &[Column]) -> Result<(), AllocError>
+    ensures { OnOk result (text.new.items ≡ text.old.items ++ flat_map tab_name columns.now) }
+{
+    for column in columns {
+        text.push(b'\t')?;
+        text.extend_from_slice(column.name())?;
+    }
+    Ok(())
+}
+
+fn put_rows(alloc: Global, text: &mut Vec<u8>, lines: &[Line]) -> Result<(), AllocError>
+    ensures { OnOk result (text.new.items ≡ text.old.items ++ flat_map row lines.now) }
+{
+    for line in lines {
+        put_row(alloc, text, line)?;
+    }
+    Ok(())
+}
+
+#[tactic(auto, using(std::proofs::Common::append_assoc))]
+fn put_row(alloc: Global, text: &mut Vec<u8>, line: &Line) -> Result<(), AllocError>
+    ensures { OnOk result (text.new.items ≡ text.old.items ++ row line.now) }
+{
+    put_cell(alloc, text, Column::Place, line)?;
+    put_cells(alloc, text, line, &OTHERS)?;
+    text.extend_from_slice(b"\n")
+}
+
+// Each cell after a tab.
+fn put_cells(
+    alloc: Global,
+    text: &mut Vec<u8>,
+    line: &Line,
+    columns: &[Column],
+) -> Result<(), AllocError>
+    ensures { OnOk result (text.new.items ≡ text.old.items ++ flat_map (tab_cell line.now) columns.now) }
+{
+    for column in columns {
+        put_tab_cell(alloc, text, line, *column)?;
+    }
+    Ok(())
+}
+
+fn put_tab_cell(
+    alloc: Global,
+    text: &mut Vec<u8>,
+    line: &Line,
+    column: Column,
+) -> Result<(), AllocError>
+    ensures { OnOk result (text.new.items ≡ text.old.items ++ tab_cell line.now column) }
+{
+    text.push(b'\t')?;
+    put_cell(alloc, text, column, line)
+}
+
+/// The lines as JSON: an array with an object for each, whose names are the columns'. What isn't known is `null`; amounts
+/// are in cents.
+#[tactic(auto, using(std::proofs::Common::append_assoc))]
+pub fn json_text(alloc: Global, lines: &[Line]) -> Result<Vec<u8>, Memory>
+    ensures { IfOk result (λ text. text.items ≡ json_text lines.now) }
+{
+    let mut text = Vec::new(alloc);
+    let [first, others @ ..] = lines else {
+        text.extend_from_slice(b"[]\n")?;
+        return Ok(text);
+    };
+    text.extend_from_slice(b"[")?;
+    put_object(alloc, &mut text, first)?;
+    put_objects(alloc, &mut text, others)?;
+    text.extend_from_slice(b"]\n")?;
+    Ok(text)
+}
+
+// Each object after a comma, on a line of its own.
+fn put_objects(alloc: Global, text: &mut Vec<u8>, lines: &[Line]) -> Result<(), AllocError>
+    ensures { OnOk result (text.new.items ≡ text.old.items ++ flat_map comma_object lines.now) }
+{
+    for line in lines {
+        put_next_object(alloc, text, line)?;
+    }
+    Ok(())
+}
+
+fn put_next_object(alloc: Global, text: &mut Vec<u8>, line: &Line) -> Result<(), AllocError>
+    ensures { OnOk result (text.new.items ≡ text.old.items ++ comma_object line.now) }
+{
+    text.extend_from_slice(b",\n")?;
+    put_object(alloc, text, line)
+}
+
+#[tactic(auto, using(std::proofs::Common::append_assoc), unfolding(crate::specs::Texts::json_object))]
+fn put_object(alloc: Global, text: &mut Vec<u8>, line: &Line) -> Result<(), AllocError>
+    ensures { OnOk result (text.new.items ≡ text.old.items ++ json_object line.now) }
+{
+    text.extend_from_slice(b"{")?;
+    put_member(alloc, text, line, Column::Place)?;
+    put_members(alloc, text, line, &OTHERS)?;
+    text.extend_from_slice(b"}")
+}
+
+// Each member after a comma.
+fn put_members(
+    alloc: Global,
+    text: &mut Vec<u8>,
+    line: &Line,
+    columns: &[Column],
+) -> Result<(), AllocError>
+    ensures { OnOk result (text.new.items ≡ text.old.items ++ flat_map (comma_member line.now) columns.now) }
+{
+    for column in columns {
+        put_next_member(alloc, text, line, *column)?;
+    }
+    Ok(())
+}
+
+fn put_next_member(
+    alloc: Global,
+    text: &mut Vec<u8>,
+    line: &Line,
+    column: Column,
+) -> Result<(), AllocError>
+    ensures { OnOk result (text.new.items ≡ text.old.items ++ comma_member line.now column) }
+{
+    text.push(b',')?;
+    put_member(alloc, text, line, column)
+}
+
+#[tactic(auto, using(std::proofs::Common::append_assoc))]
+fn put_member(
+    alloc: Global,
+    text: &mut Vec<u8>,
+    line: &Line,
+    column: Column,
+) -> Result<(), AllocError>
+    ensures { OnOk result (text.new.items ≡ text.old.items ++ json_member line.now column) }
+{
+    let value = cell_of(alloc, column, line)?;
+    text.extend_from_slice(b"\"")?;
+    text.extend_from_slice(column.name())?;
+    text.extend_from_slice(b"\":")?;
+    put_value(text, column, &value)
+}
+
+// The cell alone.
+fn cell_of(alloc: Global, column: Column, line: &Line) -> Result<Vec<u8>, AllocError>
+    ensures { IfOk result (λ text. text.items ≡ cell column line.now) }
+{
+    let mut text = Vec::new(alloc);
+    put_cell(alloc, &mut text, column, line)?;
+    Ok(text)
+}
+
+#[tactic(auto, using(std::proofs::Common::append_assoc))]
+fn put_value(text: &mut Vec<u8>, column: Column, value: &[u8]) -> Result<(), AllocError>
+    ensures { OnOk result (text.new.items ≡ text.old.items ++ json_value column value.now) }
+{
+    if value.is_empty() {
+        return text.extend_from_slice(b"null");
+    }
+    if column.is_number() {
+        return text.extend_from_slice(value);
+    }
+    text.extend_from_slice(b"\"")?;
+    put_escaped(text, Style::Json, value)?;
+    text.extend_from_slice(b"\"")
+}

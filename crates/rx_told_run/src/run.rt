@@ -1,0 +1,110 @@
+ghost use Rattle.std.specs.Prelude.{◌≡◌, IfOk, option_copied, string_bytes};
+ghost use Rattle.rx_told.specs.Places.{IsSheetPlace, books_place};
+ghost use Rattle.rx_told_run.specs.Faults.{IsTold, batch_place_in};
+
+use rx_batch::BatchFault;
+use rx_books_text::BooksFault;
+use rx_fields::{Memory, date_read};
+use rx_sheet::SheetFault;
+use rx_switch::SwitchFault;
+use rx_told::{
+    Words, batch_words, books_words, quoted, sheet_words, unread_batch_words, unread_books_words,
+    unread_sheet_words,
+};
+use std::alloc::{AllocError, Global};
+
+/// An input: its name, and its bytes where they could be read again.
+#[derive(Clone, Copy, Debug)]
+pub struct Given<'a> {
+    /// The name of the file.
+    pub name: &'a str,
+    /// Its bytes; None of a pipe, which is read once.
+    pub text: Option<&'a [u8]>,
+}
+
+/// What a run was asked for.
+#[derive(Clone, Copy, Debug)]
+pub struct Asked<'a> {
+    /// The plan sheet.
+    pub sheet: Given<'a>,
+    /// The opening books.
+    pub books: Given<'a>,
+    /// The batch file.
+    pub batch: Given<'a>,
+    /// The stamp, as it was given.
+    pub stamp: &'a str,
+    /// The number of workers.
+    pub workers: u16,
+}
+
+/// The line of a refusal in words (docs/PRODUCT.md, "The program"): the file's name and the fault's place, what is there
+/// and what is wanted. A fault of no file names the option at fault.
+///
+/// # Errors
+///
+/// Memory alone.
+pub fn fault_words(alloc: Global, fault: SwitchFault, asked: &Asked<'_>) -> Result<String, Memory>
+    ensures { IfOk result (λ line. IsTold asked.now fault (string_bytes line)) }
+{
+    match fault {
+        SwitchFault::Workers => Ok(workers_words(alloc, asked.workers)?),
+        SwitchFault::Stamp => Ok(stamp_words(alloc, asked.stamp)?),
+        SwitchFault::Sheet(fault) => {
+            words_of_sheet(alloc, fault, asked.sheet.text)?.line(alloc, asked.sheet.name)
+        }
+        SwitchFault::Books(fault) => {
+            words_of_books(alloc, fault, asked.books.text)?.line(alloc, asked.books.name)
+        }
+        SwitchFault::Batch(fault) => {
+            words_of_batch(alloc, fault, asked.batch.text)?.line(alloc, asked.batch.name)
+        }
+        SwitchFault::Memory => Ok(String::from_str(alloc, "more memory was wanted than there is")?),
+        SwitchFault::Thread => Ok(String::from_str(alloc, "a thread could not be started")?),
+    }
+}
+
+#[tactic(auto, using(crate::proofs::Wholes::whole_is_place))]
+fn words_of_sheet(alloc: Global, fault: SheetFault, text: Option<&[u8]>) -> Result<Words, Memory>
+    ensures { IfOk result (λ words. IsSheetPlace fault words.place) }
+{
+    match text {
+        Some(text) => sheet_words(alloc, fault, text),
+        None => unread_sheet_words(alloc, fault),
+    }
+}
+
+fn words_of_books(alloc: Global, fault: BooksFault, text: Option<&[u8]>) -> Result<Words, Memory>
+    ensures { IfOk result (λ words. words.place ≡ books_place fault) }
+{
+    match text {
+        Some(text) => books_words(alloc, fault, text),
+        None => unread_books_words(alloc, fault),
+    }
+}
+
+fn words_of_batch(alloc: Global, fault: BatchFault, text: Option<&[u8]>) -> Result<Words, Memory>
+    ensures { IfOk result (λ words. words.place ≡ batch_place_in (option_copied text) fault) }
+{
+    match text {
+        Some(text) => batch_words(alloc, fault, text),
+        None => unread_batch_words(alloc, fault),
+    }
+}
+
+fn workers_words(alloc: Global, workers: u16) -> Result<String, AllocError> {
+    format!(in alloc; "--workers {workers}: 1 to 64 are wanted")
+}
+
+fn stamp_words(alloc: Global, stamp: &str) -> Result<String, AllocError> {
+    let bytes = stamp.as_bytes();
+    let shown = quoted(alloc, bytes)?;
+    if bytes.len() != 12 || !bytes.iter().all(|b| b.is_ascii_digit()) {
+        return format!(in alloc;
+            "--stamp {shown}: 12 digits CCYYMMDDHHMM are wanted, as 202603020600"
+        );
+    }
+    if date_read(&bytes[..8]).is_err() {
+        return format!(in alloc; "--stamp {shown}: its first 8 digits are no day");
+    }
+    format!(in alloc; "--stamp {shown}: its last 4 digits are no time from 0000 to 2359")
+}

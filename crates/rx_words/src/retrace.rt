@@ -1,0 +1,75 @@
+//! What the commands that retrace a run are asked to do.
+
+use crate::asked::{Inputs, Outputs};
+
+/// What `explain` is asked after.
+#[derive(Clone, Copy, Debug, PartialEq, Eq)]
+pub enum Asked<'a> {
+    /// `--record PLACE[.NTH]`, as it was written.
+    Record(&'a str),
+    /// `--number AUTHORIZATION`, as it was written.
+    Number(&'a str),
+    /// `--rx REFERENCE`, of each provider or of the one that `--provider ID` names, as they were written.
+    Rx {
+        reference: &'a str,
+        provider: Option<&'a str>,
+    },
+}
+
+/// The words of `explain`.
+#[derive(Clone, Copy, Debug, PartialEq, Eq)]
+pub struct ExplainWords<'a> {
+    pub inputs: Inputs<'a>,
+    /// `--record`, `--number` or `--rx`.
+    pub asked: Asked<'a>,
+    /// `--response`: the response file that is compared, where there is one.
+    pub response: Option<&'a str>,
+    /// `--json`: the answer in JSON.
+    pub json: bool,
+}
+
+/// The words of `verify`.
+#[derive(Clone, Copy, Debug, PartialEq, Eq)]
+pub struct VerifyWords<'a> {
+    pub inputs: Inputs<'a>,
+    /// The files that are compared.
+    pub outputs: Outputs<'a>,
+    /// `--stamp`, as it was written.
+    pub stamp: &'a str,
+    /// `--workers`, 0 to 65535; 1 where it doesn't stand.
+    pub workers: u16,
+    /// `--plain`: adjudicate over plain lists, one record after another.
+    pub plain: bool,
+}
+
+/// Which lines a report has.
+#[derive(Clone, Copy, Debug, PartialEq, Eq)]
+pub enum Portion<'a> {
+    /// All of them.
+    Whole,
+    /// `--provider ID`: those of one provider.
+    Provider(&'a str),
+    /// `--family ID`: those of one family.
+    Family(&'a str),
+}
+
+/// What a report is written as.
+#[derive(Clone, Copy, Debug, PartialEq, Eq)]
+pub enum Form {
+    /// Aligned columns.
+    Columns,
+    /// `--tsv`: a tab between fields.
+    Tsv,
+    /// `--json`.
+    Json,
+    /// `--html`: one page.
+    Html,
+}
+
+/// The words of `report`.
+#[derive(Clone, Copy, Debug, PartialEq, Eq)]
+pub struct ReportWords<'a> {
+    pub inputs: Inputs<'a>,
+    pub portion: Portion<'a>,
+    pub form: Form,
+}

@@ -1,0 +1,158 @@
+//! The words of the commands that retrace a run, read.
+ghost use Rattle.std.specs.Prelude.{◌≡◌, IfErr, IfNone, IfOk, IfSome};
+ghost use Rattle.clap.specs.Words.{found_of, rows_of};
+ghost use Rattle.rx_words.specs.Asked.{HoldsAsked, HoldsExplain, HoldsPortion, HoldsReport, HoldsVerify, NoneHolds};
+ghost use Rattle.rx_words.specs.Asked.{form_in};
+ghost use Rattle.rx_words.specs.Faults.{IsWords};
+
+use crate::fault::WordsFault;
+use crate::misuse::{conflict, signed};
+use crate::options::{flag, inputs, number_or, outputs, text};
+use crate::retrace::{Asked, ExplainWords, Form, Portion, ReportWords, VerifyWords};
+use crate::syntax::{explain as explain_line, report as report_line, verify as verify_line};
+use clap::ArgMatches;
+use std::alloc::Global;
+
+fn asked<'a>(found: &ArgMatches<'a>) -> Option<Asked<'a>>
+    ensures some { IfSome result (HoldsAsked (rows_of (found_of found.now))) }
+    ensures none { IfNone result (NoneHolds (HoldsAsked (rows_of (found_of found.now)))) }
+{
+    let record = text(found, "record");
+    let number = text(found, "number");
+    let rx = text(found, "rx");
+    let provider = text(found, "provider");
+    match (record, number, rx, provider) {
+        (Some(place), None, None, None) => Some(Asked::Record(place)),
+        (None, Some(number), None, None) => Some(Asked::Number(number)),
+        (None, None, Some(reference), provider) => Some(Asked::Rx {
+            reference,
+            provider,
+        }),
+        _ => None,
+    }
+}
+
+fn explain<'a>(found: &ArgMatches<'a>) -> Option<ExplainWords<'a>>
+    ensures some { IfSome result (HoldsExplain (rows_of (found_of found.now))) }
+    ensures none { IfNone result (NoneHolds (HoldsExplain (rows_of (found_of found.now)))) }
+{
+    let inputs = inputs(found)?;
+    let asked = asked(found)?;
+    Some(ExplainWords {
+        inputs,
+        asked,
+        response: text(found, "response"),
+        json: flag(found, "json"),
+    })
+}
+
+/// `explain` that is asked after one thing.
+pub(crate) fn explain_apart<'a>(
+    alloc: Global,
+    found: &ArgMatches<'a>,
+) -> Result<ExplainWords<'a>, WordsFault>
+    ensures ok { IfOk result (HoldsExplain (rows_of (found_of found.now))) }
+    ensures words { IfErr result (λ e. IsWords e → NoneHolds (HoldsExplain (rows_of (found_of found.now)))) }
+{
+    match explain(found) {
+        Some(explain) => Ok(explain),
+        None => Err(conflict(
+            explain_line(alloc),
+            "rxbatch explain",
+            "one of '--record <PLACE>', '--number <AUTHORIZATION>' and '--rx <REFERENCE>' is wanted, and '--provider <ID>' only with '--rx'",
+        )),
+    }
+}
+
+fn verify<'a>(found: &ArgMatches<'a>) -> Option<VerifyWords<'a>>
+    ensures some { IfSome result (HoldsVerify (rows_of (found_of found.now))) }
+    ensures none { IfNone result (NoneHolds (HoldsVerify (rows_of (found_of found.now)))) }
+{
+    let inputs = inputs(found)?;
+    let outputs = outputs(found)?;
+    let stamp = text(found, "stamp")?;
+    let workers = number_or(found, "workers", 1)?;
+    let plain = flag(found, "plain");
+    Some(VerifyWords {
+        inputs,
+        outputs,
+        stamp,
+        workers,
+        plain,
+    })
+}
+
+/// `verify` whose workers are digits alone.
+pub(crate) fn verify_apart<'a>(
+    alloc: Global,
+    found: &ArgMatches<'a>,
+) -> Result<VerifyWords<'a>, WordsFault>
+    ensures ok { IfOk result (HoldsVerify (rows_of (found_of found.now))) }
+    ensures words { IfErr result (λ e. IsWords e → NoneHolds (HoldsVerify (rows_of (found_of found.now)))) }
+{
+    match verify(found) {
+        Some(verify) => Ok(verify),
+        None => Err(signed(
+            alloc,
+            verify_line(alloc),
+            "rxbatch verify",
+            text(found, "workers"),
+        )),
+    }
+}
+
+fn portion<'a>(found: &ArgMatches<'a>) -> Option<Portion<'a>>
+    ensures some { IfSome result (HoldsPortion (rows_of (found_of found.now))) }
+    ensures none { IfNone result (NoneHolds (HoldsPortion (rows_of (found_of found.now)))) }
+{
+    match (text(found, "provider"), text(found, "family")) {
+        (None, None) => Some(Portion::Whole),
+        (Some(id), None) => Some(Portion::Provider(id)),
+        (None, Some(id)) => Some(Portion::Family(id)),
+        (Some(_), Some(_)) => None,
+    }
+}
+
+fn form(found: &ArgMatches<'_>) -> Option<Form>
+    ensures { result ≡ form_in (rows_of (found_of found.now)) }
+{
+    match (flag(found, "tsv"), flag(found, "json"), flag(found, "html")) {
+        (false, false, false) => Some(Form::Columns),
+        (true, false, false) => Some(Form::Tsv),
+        (false, true, false) => Some(Form::Json),
+        (false, false, true) => Some(Form::Html),
+        _ => None,
+    }
+}
+
+fn report<'a>(found: &ArgMatches<'a>) -> Option<ReportWords<'a>>
+    ensures some { IfSome result (HoldsReport (rows_of (found_of found.now))) }
+    ensures none { IfNone result (NoneHolds (HoldsReport (rows_of (found_of found.now)))) }
+{
+    let inputs = inputs(found)?;
+    let portion = portion(found)?;
+    let form = form(found)?;
+    Some(ReportWords {
+        inputs,
+        portion,
+        form,
+    })
+}
+
+/// `report` of one portion in one form.
+pub(crate) fn report_apart<'a>(
+    alloc: Global,
+    found: &ArgMatches<'a>,
+) -> Result<ReportWords<'a>, WordsFault>
+    ensures ok { IfOk result (HoldsReport (rows_of (found_of found.now))) }
+    ensures words { IfErr result (λ e. IsWords e → NoneHolds (HoldsReport (rows_of (found_of found.now)))) }
+{
+    match report(found) {
+        Some(report) => Ok(report),
+        None => Err(conflict(
+            report_line(alloc),
+            "rxbatch report",
+            "at most one of '--provider <ID>' and '--family <ID>' is taken, and of '--tsv', '--json' and '--html'",
+        )),
+    }
+}

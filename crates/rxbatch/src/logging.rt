@@ -1,0 +1,231 @@
+//! A run that is logged: what went through its files is heard, and told in a line.
+use crate::ending::Ending;
+use crate::log_file::LogFile;
+use crate::running::RunFiles;
+use rx_devices::{ReaderSource, WriterSink};
+use rx_log::{FileLog, RunLog, Steps};
+use rx_switch::run_io;
+use rx_watch::{Heard, WatchedSink, WatchedSource};
+use rx_wave::NoGate;
+use rx_words::{RunWords, VERSION};
+use std::alloc::Global;
+use std::fs;
+use std::sync::Wait;
+use std::thread::Threads;
+use std::time::{Clock, Duration};
+
+/// Adjudicates a batch file, and writes the log, of a refused run too. A log that fails after a run that is done ends the
+/// program as a file fault.
+pub fn run<R: Threads + Wait + Sync>(
+    rt: &HostRuntime,
+    threads: &R,
+    words: &RunWords<'_>,
+    path: &str,
+) -> Result<(), Ending> {
+    let log = LogFile::open(rt, path, words)?;
+    let begin = rt.monotonic().ok();
+    let (done, heard) = match RunFiles::open(rt, words) {
+        Ok(files) => on_files(rt, threads, words, files),
+        Err(ending) => (Err(ending), RunHeard::nothing(rt.alloc())),
+    };
+    let times = Times {
+        begin,
+        end: rt.monotonic().ok(),
+    };
+    let written = match line(rt, words, &done, &heard, times) {
+        Some(line) => log.write(line.as_str()),
+        None => Err(Ending::Log),
+    };
+    match done {
+        Ok(()) => written,
+        Err(ending) => Err(ending),
+    }
+}
+
+// When a run began and ended.
+#[derive(Clone, Copy, Debug)]
+struct Times {
+    begin: Option<Duration>,
+    end: Option<Duration>,
+}
+
+// What was heard of the six files.
+#[derive(Debug, Drop)]
+struct RunHeard {
+    sheet: Heard,
+    books: Heard,
+    batch: Heard,
+    response: Heard,
+    books_out: Heard,
+    settlement: Heard,
+}
+
+impl RunHeard {
+    fn nothing(alloc: Global) -> RunHeard {
+        RunHeard {
+            sheet: Heard::new(alloc),
+            books: Heard::new(alloc),
+            batch: Heard::new(alloc),
+            response: Heard::new(alloc),
+            books_out: Heard::new(alloc),
+            settlement: Heard::new(alloc),
+        }
+    }
+
+    // How long each step took: each ends with the last call of its file, adjudication with the first call of the response.
+    fn steps(&self, times: Times) -> Steps {
+        let [sheet, books, batch] = [self.sheet.last(), self.books.last(), self.batch.last()];
+        let [response, books_out] = [self.response.last(), self.books_out.last()];
+        let settlement = self.settlement.last();
+        Steps {
+            sheet: micros(times.begin, sheet),
+            books: micros(sheet, books),
+            batch: micros(books, batch),
+            adjudicate: micros(batch, self.response.first()),
+            response: micros(self.response.first(), response),
+            books_out: micros(response, books_out),
+            settlement: micros(books_out, settlement),
+            end: micros(settlement, times.end),
+        }
+    }
+}
+
+// The microseconds between two times, where both are told.
+fn micros(from: Option<Duration>, to: Option<Duration>) -> Option<u64> {
+    let taken = to?.checked_sub(from?)?;
+    u64::try_from(taken.as_micros()).ok()
+}
+
+// The run on its files, and what was heard of them.
+fn on_files<R: Threads + Wait + Sync>(
+    rt: &HostRuntime,
+    threads: &R,
+    words: &RunWords<'_>,
+    files: RunFiles,
+) -> (Result<(), Ending>, RunHeard) {
+    let alloc = rt.alloc();
+    let RunFiles { inputs, outputs } = files;
+    let [response, books_out, settlement] = outputs.files();
+    let mut sheet = WatchedSource::new(alloc, ReaderSource::new(&inputs.sheet), rt);
+    let mut books = WatchedSource::new(alloc, ReaderSource::new(&inputs.books), rt);
+    let mut batch = WatchedSource::new(alloc, ReaderSource::new(&inputs.batch), rt);
+    let mut response = WatchedSink::new(alloc, WriterSink::new(response), rt);
+    let mut books_out = WatchedSink::new(alloc, WriterSink::new(books_out), rt);
+    let mut settlement = WatchedSink::new(alloc, WriterSink::new(settlement), rt);
+    let done = run_io(
+        threads,
+        alloc,
+        &NoGate,
+        words.stamp.as_bytes(),
+        words.workers,
+        words.plain,
+        &mut sheet,
+        &mut books,
+        &mut batch,
+        &mut response,
+        &mut books_out,
+        &mut settlement,
+    );
+    let heard = RunHeard {
+        sheet: sheet.into_heard(),
+        books: books.into_heard(),
+        batch: batch.into_heard(),
+        response: response.into_heard(),
+        books_out: books_out.into_heard(),
+        settlement: settlement.into_heard(),
+    };
+    (outputs.end(rt, done.map_err(Ending::Io)), heard)
+}
+
+// The size and the sum of what went through a file, where it was read or written.
+#[derive(Debug, Drop)]
+struct Summed {
+    bytes: Option<u64>,
+    sha256: Option<String>,
+}
+
+impl Summed {
+    fn of(alloc: Global, heard: &Heard) -> Summed {
+        if heard.last().is_none() {
+            return Summed {
+                bytes: None,
+                sha256: None,
+            };
+        }
+        let sha256 = match heard.digest() {
+            Ok(digest) => hex::encode(alloc, digest.as_slice()).ok(),
+            Err(_) => None,
+        };
+        Summed {
+            bytes: Some(heard.bytes()),
+            sha256,
+        }
+    }
+
+    fn file<'a>(&'a self, path: &'a str) -> FileLog<'a> {
+        let sha256 = match &self.sha256 {
+            Some(text) => Some(text.as_str()),
+            None => None,
+        };
+        FileLog {
+            path,
+            bytes: self.bytes,
+            sha256,
+        }
+    }
+}
+
+// The line of the log; none where memory is wanting for it.
+fn line(
+    rt: &HostRuntime,
+    words: &RunWords<'_>,
+    done: &Result<(), Ending>,
+    heard: &RunHeard,
+    times: Times,
+) -> Option<String> {
+    let alloc = rt.alloc();
+    let (status, refused, file) = match done {
+        Ok(()) => (0, None, None),
+        Err(ending) => (ending.status(), ending.refused(), ending.file()),
+    };
+    let (sheet, books) = (
+        Summed::of(alloc, &heard.sheet),
+        Summed::of(alloc, &heard.books),
+    );
+    let batch = Summed::of(alloc, &heard.batch);
+    let response = Summed::of(alloc, &heard.response);
+    let books_out = Summed::of(alloc, &heard.books_out);
+    let settlement = Summed::of(alloc, &heard.settlement);
+    let log = RunLog {
+        version: VERSION,
+        status,
+        refused,
+        file,
+        stamp: words.stamp,
+        workers: words.workers,
+        plain: words.plain,
+        safe: words.safe,
+        lot: rx_log::lot(heard.batch.front()),
+        totals: rx_log::totals(heard.settlement.end()),
+        sheet: sheet.file(words.inputs.sheet),
+        books: books.file(words.inputs.books),
+        batch: batch.file(words.inputs.batch),
+        response: response.file(words.outputs.response),
+        books_out: books_out.file(words.outputs.books),
+        settlement: settlement.file(words.outputs.settlement),
+        steps: heard.steps(times),
+        peak: peak(rt),
+    };
+    rx_log::line(alloc, &log).ok()
+}
+
+// The most memory that the program had, in kilobytes, where the system tells it.
+fn peak(rt: &HostRuntime) -> Option<u64> {
+    let status = fs::read_to_string(rt, "/proc/self/status").ok()?;
+    for line in status.as_str().lines() {
+        if let Some(rest) = line.strip_prefix("VmHWM:") {
+            return rest.trim().strip_suffix(" kB")?.parse().ok();
+        }
+    }
+    None
+}

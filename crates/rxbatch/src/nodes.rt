@@ -1,0 +1,76 @@
+use rx_switch::Device;
+use std::fs::{File, Metadata};
+use std::os::unix::fs::MetadataExt;
+
+/// What the system tells of a file: its device and its number there, where it is a plain one.
+#[derive(Clone, Copy, Debug, PartialEq, Eq)]
+pub enum Node {
+    Plain(u64, u64),
+    /// A terminal, a pipe or another device, or no file.
+    Other,
+    /// The system doesn't tell.
+    Untold,
+}
+
+impl Node {
+    /// What the system tells of an open file.
+    pub fn of(file: &File) -> Node {
+        match file.metadata() {
+            Ok(metadata) => Node::in_metadata(&metadata),
+            Err(_) => Node::Untold,
+        }
+    }
+
+    /// What the metadata of a file tell.
+    pub fn in_metadata(metadata: &Metadata) -> Node {
+        if metadata.is_file() {
+            Node::Plain(metadata.dev(), metadata.ino())
+        } else {
+            Node::Other
+        }
+    }
+
+    /// Whether these may be one plain file: they are, or the system doesn't tell.
+    pub fn may_be(self, other: Node) -> bool {
+        match (self, other) {
+            (Node::Other, _) | (_, Node::Other) => false,
+            (Node::Plain(..), Node::Plain(..)) => self == other,
+            _ => true,
+        }
+    }
+}
+
+/// The option that names the file of a run.
+pub fn option_of(device: Device) -> &'static str {
+    match device {
+        Device::Sheet => "--sheet",
+        Device::Books => "--books",
+        Device::Batch => "--batch",
+        Device::Response => "--response",
+        Device::EndBooks => "--books-out",
+        Device::Settlement => "--settlement",
+    }
+}
+
+// The files of a run, in the order of their numbers.
+const DEVICES: [Device; 6] = [
+    Device::Sheet,
+    Device::Books,
+    Device::Batch,
+    Device::Response,
+    Device::EndBooks,
+    Device::Settlement,
+];
+
+/// The options of an output and of another file that are one plain file, as far as the system tells. Writing that
+/// output would lose the other.
+pub fn one_file_twice(nodes: [Node; 6]) -> Option<(&'static str, &'static str)> {
+    for output in 3..6 {
+        for other in 0..output {
+            if nodes[output].may_be(nodes[other]) {
+                return Some((option_of(DEVICES[other]), option_of(DEVICES[output])));
+            }
+        }
+    }
+    None
+}

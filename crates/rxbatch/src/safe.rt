@@ -1,0 +1,256 @@
+//! The outputs of a run that is to leave each earlier file as it is until the whole run is done.
+use crate::ending::Ending;
+use crate::nodes::{Node, option_of};
+use rx_switch::{Device, IoFault, SwitchFault};
+use rx_words::Outputs;
+use std::fs::{File, Metadata, OpenOptions, Permissions};
+use std::io::ErrorKind;
+use std::os::unix::fs::{MetadataExt, OpenOptionsExt, PermissionsExt, fchown};
+use std::path::{Path, PathBuf};
+use std::{fs, io};
+
+// How many names are tried for a file that is written beside its path.
+const NAMES: u32 = 1_000;
+
+// The rights of a file that wasn't there: its owner reads and writes it.
+const NEW_RIGHTS: u32 = 0o600;
+
+/// An output that is written beside its path, under a name of its own.
+#[derive(Debug, Drop)]
+pub struct SafeFile {
+    pub file: File,
+    device: Device,
+    // The name of its own, until the file has its path.
+    beside: Option<PathBuf>,
+    // The path, with no link in it.
+    path: PathBuf,
+    // The folder of both.
+    folder: File,
+    // The file that has the path so far.
+    earlier: Node,
+}
+
+impl SafeFile {
+    // Makes the file; one that can't be made counts as a failed write of the output.
+    fn open(rt: &HostRuntime, path: &str, device: Device) -> Result<SafeFile, Ending> {
+        let failed = |error: io::Error| unwritten(device, &error);
+        match fs::metadata(rt, path) {
+            Ok(metadata) if metadata.is_file() => {
+                let path = fs::canonicalize(rt, path).map_err(failed)?;
+                SafeFile::over(rt, path, device)
+            }
+            Ok(_) => Err(Ending::NotPlain(option_of(device))),
+            Err(error) if error.kind() == ErrorKind::NotFound => {
+                if fs::symlink_metadata(rt, path).is_ok() {
+                    return Err(Ending::NotPlain(option_of(device)));
+                }
+                let path = new_path(rt, path).map_err(failed)?;
+                SafeFile::beside(rt, path, device).map_err(failed)
+            }
+            Err(error) => Err(unwritten(device, &error)),
+        }
+    }
+
+    // The file that is to replace an earlier one, with its rights.
+    fn over(rt: &HostRuntime, path: PathBuf, device: Device) -> Result<SafeFile, Ending> {
+        let failed = |error: io::Error| unwritten(device, &error);
+        let earlier = OpenOptions::new()
+            .write(true)
+            .open(rt, path.as_path())
+            .map_err(failed)?;
+        let metadata = earlier.metadata().map_err(failed)?;
+        let mut safe = SafeFile::beside(rt, path, device).map_err(failed)?;
+        safe.earlier = Node::of(&earlier);
+        if let Err(error) = take_rights(&safe.file, &metadata) {
+            safe.discard(rt);
+            return Err(unwritten(device, &error));
+        }
+        Ok(safe)
+    }
+
+    // The file, made beside the path.
+    fn beside(rt: &HostRuntime, path: PathBuf, device: Device) -> io::Result<SafeFile> {
+        let Some(parent) = path.parent() else {
+            return Err(io::Error::from(ErrorKind::InvalidInput));
+        };
+        let folder = fs::open(rt, parent)?;
+        let (file, beside) = make_beside(rt, parent, device)?;
+        Ok(SafeFile {
+            file,
+            device,
+            beside: Some(beside),
+            path,
+            folder,
+            earlier: Node::Other,
+        })
+    }
+
+    /// The file that has the path so far.
+    pub fn node(&self) -> Node {
+        self.earlier
+    }
+
+    // Removes the file again, where it hasn't got its path.
+    fn discard(self, rt: &HostRuntime) {
+        if let Some(beside) = self.beside {
+            let _ = fs::remove_file(rt, beside.as_path());
+        }
+    }
+
+    // Brings the bytes to the disk.
+    fn keep(&self) -> Result<(), Ending> {
+        self.file
+            .sync_all()
+            .map_err(|error| unwritten(self.device, &error))
+    }
+
+    // Gives the file its path.
+    fn rename(&mut self, rt: &HostRuntime) -> Result<(), Ending> {
+        if let Some(beside) = &self.beside {
+            fs::rename(rt, beside.as_path(), self.path.as_path()).map_err(|error| unwritten(
+                self.device,
+                &error,
+            ))?;
+        }
+        self.beside = None;
+        Ok(())
+    }
+
+    // Brings the new name to the disk.
+    fn keep_name(&self) -> Result<(), Ending> {
+        self.folder
+            .sync_all()
+            .map_err(|error| unwritten(self.device, &error))
+    }
+}
+
+/// The outputs of a run, each beside its path.
+#[derive(Debug, Drop)]
+pub struct SafeFiles {
+    pub response: SafeFile,
+    pub books: SafeFile,
+    pub settlement: SafeFile,
+}
+
+impl SafeFiles {
+    /// Makes the files, in the order of their numbers; where one can't be made, none stays.
+    pub fn open(rt: &HostRuntime, paths: &Outputs<'_>) -> Result<SafeFiles, Ending> {
+        let response = SafeFile::open(rt, paths.response, Device::Response)?;
+        let books = match SafeFile::open(rt, paths.books, Device::EndBooks) {
+            Ok(books) => books,
+            Err(ending) => {
+                response.discard(rt);
+                return Err(ending);
+            }
+        };
+        match SafeFile::open(rt, paths.settlement, Device::Settlement) {
+            Ok(settlement) => Ok(SafeFiles {
+                response,
+                books,
+                settlement,
+            }),
+            Err(ending) => {
+                response.discard(rt);
+                books.discard(rt);
+                Err(ending)
+            }
+        }
+    }
+
+    /// The options of two outputs that are to have one path.
+    pub fn one_path_twice(&self) -> Option<(&'static str, &'static str)> {
+        let files = [&self.response, &self.books, &self.settlement];
+        for later in 1..3 {
+            for earlier in 0..later {
+                if files[later].path.as_str() == files[earlier].path.as_str() {
+                    return Some((
+                        option_of(files[earlier].device),
+                        option_of(files[later].device),
+                    ));
+                }
+            }
+        }
+        None
+    }
+
+    /// Removes the files that haven't got their paths.
+    pub fn discard(self, rt: &HostRuntime) {
+        self.response.discard(rt);
+        self.books.discard(rt);
+        self.settlement.discard(rt);
+    }
+
+    /// Gives each file its path, the end books last. Where that fails, the files that haven't got theirs are removed.
+    pub fn finish(mut self, rt: &HostRuntime) -> Result<(), Ending> {
+        let done = self.rename(rt);
+        self.discard(rt);
+        done
+    }
+
+    // The names of the first two are on the disk before the end books get theirs.
+    fn rename(&mut self, rt: &HostRuntime) -> Result<(), Ending> {
+        self.response.keep()?;
+        self.books.keep()?;
+        self.settlement.keep()?;
+        self.response.rename(rt)?;
+        self.settlement.rename(rt)?;
+        self.response.keep_name()?;
+        self.settlement.keep_name()?;
+        self.books.rename(rt)?;
+        self.books.keep_name()
+    }
+}
+
+// How a run ends whose output can't be written.
+fn unwritten(device: Device, error: &io::Error) -> Ending {
+    match error.kind() {
+        ErrorKind::OutOfMemory => Ending::Io(IoFault::Switch(SwitchFault::Memory)),
+        _ => Ending::Io(IoFault::Write(device)),
+    }
+}
+
+// The path of a file that isn't there, with no link in it. One that ends in a slash names no file.
+fn new_path(rt: &HostRuntime, path: &str) -> io::Result<PathBuf> {
+    if path.ends_with('/') {
+        return Err(io::Error::from(ErrorKind::IsADirectory));
+    }
+    let path = Path::new(path);
+    let Some(name) = path.file_name() else {
+        return Err(io::Error::from(ErrorKind::InvalidInput));
+    };
+    let folder = match path.parent() {
+        Some(parent) if !parent.as_str().is_empty() => parent,
+        _ => Path::new("."),
+    };
+    Ok(fs::canonicalize(rt, folder)?.join(rt.alloc(), name)?)
+}
+
+// Makes a file in the folder, under a name that no file there has.
+fn make_beside(rt: &HostRuntime, folder: Path<'_>, device: Device) -> io::Result<(File, PathBuf)> {
+    let number = device.number();
+    for attempt in 0..NAMES {
+        let name = format!(in rt.alloc(); ".rxbatch-{number}-{attempt}")?;
+        let path = folder.join(rt.alloc(), name.as_str())?;
+        let made = OpenOptions::new()
+            .write(true)
+            .create_new(true)
+            .mode(NEW_RIGHTS)
+            .open(rt, path.as_path());
+        match made {
+            Ok(file) => return Ok((file, path)),
+            Err(error) if error.kind() == ErrorKind::AlreadyExists => {}
+            Err(error) => return Err(error),
+        }
+    }
+    Err(io::Error::from(ErrorKind::AlreadyExists))
+}
+
+// Gives the file the rights of an earlier one, its owner and its group as far as the system lets it. Where the group
+// can't be had, another group gets no rights.
+fn take_rights(file: &File, earlier: &Metadata) -> io::Result<()> {
+    let (owner, group) = (Some(earlier.uid()), Some(earlier.gid()));
+    let has_group = fchown(file, owner, group).is_ok() || fchown(file, None, group).is_ok();
+    let rights = earlier.mode() & 0o777;
+    let rights = if has_group { rights } else { rights & 0o707 };
+    file.set_permissions(Permissions::from_mode(rights))
+}

@@ -1,0 +1,129 @@
+use crate::ending::Ending;
+use crate::files::source;
+use rx_fields::Memory;
+use rx_switch::{Device, IoFault, SwitchFault, read_all};
+use rx_told_run::{Asked, Given, fault_words};
+use rx_words::RunWords;
+use std::fs;
+use std::fs::OpenOptions;
+
+/// The ending of a run that is asked to tell what it does: a fault with a line in words behind its numbers. The input at
+/// fault is read again for them; one that is no plain file, as a pipe, is told of without a quotation.
+pub fn explained(
+    rt: &HostRuntime,
+    words: &RunWords<'_>,
+    done: Result<(), Ending>,
+) -> Result<(), Ending> {
+    match done {
+        Err(Ending::Io(fault)) => match in_words(rt, words, fault) {
+            Ok(line) => Err(Ending::InWords(fault, line)),
+            Err(Memory) => Err(Ending::Io(fault)),
+        },
+        other => other,
+    }
+}
+
+fn in_words(rt: &HostRuntime, words: &RunWords<'_>, fault: IoFault) -> Result<String, Memory> {
+    match fault {
+        IoFault::Switch(refused) => refused_words(rt, words, refused),
+        IoFault::Read(device) => read_words(rt, device, path_of(words, device)),
+        IoFault::Long(device) => {
+            let (name, path) = (name_of(device), path_of(words, device));
+            Ok(format!(in rt.alloc();
+                "{name} {path}: more than 268435456 bytes, or more than 4194304 reads"
+            )?)
+        }
+        IoFault::Write(device) => write_words(rt, device, path_of(words, device)),
+    }
+}
+
+// A refusal in words.
+fn refused_words(
+    rt: &HostRuntime,
+    words: &RunWords<'_>,
+    refused: SwitchFault,
+) -> Result<String, Memory> {
+    let text = match device_of(refused) {
+        Some(device) => again(rt, path_of(words, device), device),
+        None => None,
+    };
+    let text = text.as_ref().map(|text| text.as_slice());
+    let inputs = words.inputs;
+    let asked = Asked {
+        sheet: Given {
+            name: inputs.sheet,
+            text,
+        },
+        books: Given {
+            name: inputs.books,
+            text,
+        },
+        batch: Given {
+            name: inputs.batch,
+            text,
+        },
+        stamp: words.stamp,
+        workers: words.workers,
+    };
+    fault_words(rt.alloc(), refused, &asked)
+}
+
+// The input that is at fault.
+fn device_of(refused: SwitchFault) -> Option<Device> {
+    match refused {
+        SwitchFault::Sheet(_) => Some(Device::Sheet),
+        SwitchFault::Books(_) => Some(Device::Books),
+        SwitchFault::Batch(_) => Some(Device::Batch),
+        _ => None,
+    }
+}
+
+// The bytes of a plain file once more.
+fn again(rt: &HostRuntime, path: &str, device: Device) -> Option<Vec<u8>> {
+    let metadata = fs::metadata(rt, path).ok()?;
+    if !metadata.is_file() {
+        return None;
+    }
+    let mut source = source(rt, path, device).ok()?;
+    read_all(rt.alloc(), &mut source, device).ok()
+}
+
+// Why an input can't be had: what the system answers where it is opened again.
+fn read_words(rt: &HostRuntime, device: Device, path: &str) -> Result<String, Memory> {
+    let name = name_of(device);
+    match fs::open(rt, path) {
+        Err(error) => Ok(format!(in rt.alloc(); "{name} {path}: {error}")?),
+        Ok(_) => Ok(format!(in rt.alloc(); "{name} {path}: a read failed")?),
+    }
+}
+
+// Why an output can't be had.
+fn write_words(rt: &HostRuntime, device: Device, path: &str) -> Result<String, Memory> {
+    let name = name_of(device);
+    match OpenOptions::new().write(true).open(rt, path) {
+        Err(error) => Ok(format!(in rt.alloc(); "{name} {path}: {error}")?),
+        Ok(_) => Ok(format!(in rt.alloc(); "{name} {path}: a write failed")?),
+    }
+}
+
+fn name_of(device: Device) -> &'static str {
+    match device {
+        Device::Sheet => "sheet",
+        Device::Books => "books",
+        Device::Batch => "batch",
+        Device::Response => "response",
+        Device::EndBooks => "end books",
+        Device::Settlement => "settlement",
+    }
+}
+
+fn path_of<'a>(words: &RunWords<'a>, device: Device) -> &'a str {
+    match device {
+        Device::Sheet => words.inputs.sheet,
+        Device::Books => words.inputs.books,
+        Device::Batch => words.inputs.batch,
+        Device::Response => words.outputs.response,
+        Device::EndBooks => words.outputs.books,
+        Device::Settlement => words.outputs.settlement,
+    }
+}
