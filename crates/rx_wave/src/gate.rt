@@ -14,9 +14,16 @@ pub trait Gate {
 
     /// Passed after a record's adjudication, and before its parcel is given.
     fn leave(&self, place: usize);
+
+    /// Whether records may take their time here, because `enter` or `leave` waits, or works for longer than a record is
+    /// adjudicated (about 2 us). Then several workers share the records; where it is false they go in file order, since
+    /// handing a record to a worker takes longer than adjudicating it. No answer of a run rests on it.
+    fn holds_up(&self) -> bool {
+        true
+    }
 }
 
-/// The gate that starts every worker, and does nothing.
+/// The gate that starts every worker, does nothing, and holds no record up.
 #[derive(Clone, Copy, Debug, PartialEq, Eq)]
 pub struct NoGate;
 
@@ -30,4 +37,8 @@ impl Gate for NoGate {
     fn enter(&self, _place: usize) {}
 
     fn leave(&self, _place: usize) {}
+
+    fn holds_up(&self) -> bool {
+        false
+    }
 }

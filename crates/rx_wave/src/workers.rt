@@ -30,8 +30,9 @@ const PAUSES: u32 = 4;
 /// adjudicated one after another in file order (docs/PRODUCT.md, "Rules of adjudication").
 ///
 /// One worker is `run_one`. More share one desk under one lock, and each adjudicates outside of it, between `enter` and
-/// `leave` of the gate. Where no answer comes of the desk, `run_one` gives it; where copying the books that the records
-/// name would cost more than adjudicating, the gate is asked for each start, and `run_one` gives it too.
+/// `leave` of the gate. Where no answer comes of the desk, `run_one` gives it. Where sharing can't gain, the gate is asked
+/// for each start, and `run_one` gives it too: where the gate holds no record up, and where copying the books that the
+/// records name would cost more than adjudicating.
 ///
 /// # Errors
 ///
@@ -64,7 +65,7 @@ pub fn run_waves<R: Threads + Wait + Sync, G: Gate + Sync>(
     if workers == 1 {
         return Ok(run_one(gate, alloc, lot, sheet, books, transmissions)?);
     }
-    if !may_gain(alloc, books, transmissions)? {
+    if !gate.holds_up() || !may_gain(alloc, books, transmissions)? {
         if refuses_one(gate, workers as usize) {
             return Err(RunFault::Thread);
         }
