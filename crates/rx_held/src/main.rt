@@ -44,7 +44,10 @@ fn status_of(rt: &HostRuntime, done: Result<u64, IoFault>) -> ExitCode {
         Err(fault) => {
             let told = told(&fault);
             let [first, second, third] = told.numbers;
-            let _ = eprintln!(rt; "fault {first} {second} {third}");
+            let _ = match fault {
+                IoFault::Switch(_) => eprintln!(rt; "refused {first} {second} {third}"),
+                _ => eprintln!(rt; "file {first}"),
+            };
             ExitCode::from(told.status)
         }
     }

@@ -12,7 +12,7 @@ loop-entry-preserved c = λ k.
     let e = c.entry-item.result in
     let at = c.loop-entry.entry-index in
     let within : at < length found = omega arith in
-    rw c.in_ok-tally.ensures.ok
+    rw c.in_ok-tally_near.ensures.ok
     (count_at-tallied c.loop-entry.fills e.fill k ∙ ap (λ n. n + count_of k e.fill) (c.loop-entry.invariant k)
     ∙ ap (λ (g : Entry). count_among (take at found) k + count_of k g.fill) c.entry-item.is
     ∙ sym (sum_by_more (λ (g : Entry). count_of k g.fill) found at e within))
