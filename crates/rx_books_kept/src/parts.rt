@@ -46,7 +46,11 @@ impl Books {
     ) -> Result<Vec<u8>, Memory>
         ensures { IfOk result (λ text. text.items ≡ books_text Version.Three self.now.period self.now.ledger) }
     {
-        self.kept.write_in_parts(rt, alloc, parts)
+        match self.kept.write_in_parts(rt, alloc, parts) {
+            Ok(text) => Ok(text),
+            // Where threads or memory for parts are wanting, one part may do.
+            Err(Memory) => self.write(alloc),
+        }
     }
 }
 

@@ -53,26 +53,29 @@ pub fn response_in_parts<R: Threads + Sync>(
     requires within { length details.now ≤ 100_000 }
     ensures { IfOk result (λ text. text.items ≡ response_text head.now stamp details.now replies.now) }
 {
-    if parts <= 1 {
-        return in_one_part(alloc, head, stamp, details, replies);
+    if parts > 1 {
+        // Where threads or memory for pieces are wanting, one part may do.
+        if let Ok(text) = in_pieces(rt, alloc, parts, head, &stamp, details, replies) {
+            return Ok(text);
+        }
     }
-    in_pieces(rt, alloc, parts, head, stamp, details, replies)
+    in_one_part(alloc, head, &stamp, details, replies)
 }
 
 #[tactic(auto, using(crate::proofs::Joined::as_many, std::proofs::Common::append_assoc))]
 fn in_one_part(
     alloc: Global,
     head: &Head,
-    stamp: Stamp,
+    stamp: &Stamp,
     details: &[Detail],
     replies: &[Reply],
 ) -> Result<Vec<u8>, Memory>
     requires equally_many { length details.now ≡ length replies.now }
     requires within { length details.now ≤ 100_000 }
-    ensures { IfOk result (λ text. text.items ≡ response_text head.now stamp details.now replies.now) }
+    ensures { IfOk result (λ text. text.items ≡ response_text head.now stamp.now details.now replies.now) }
 {
     let mut text = Vec::with_capacity(alloc, room(details.len()).saturating_add(ENDS))?;
-    put_header(&mut text, &sent_back(head, stamp))?;
+    put_header(&mut text, &sent_back(head, *stamp))?;
     put_answers(&mut text, details, replies)?;
     put_end(&mut text, head, details)?;
     Ok(text)
@@ -84,18 +87,18 @@ fn in_pieces<R: Threads + Sync>(
     alloc: Global,
     parts: usize,
     head: &Head,
-    stamp: Stamp,
+    stamp: &Stamp,
     details: &[Detail],
     replies: &[Reply],
 ) -> Result<Vec<u8>, Memory>
     requires some { 0 < parts }
     requires equally_many { length details.now ≡ length replies.now }
     requires within { length details.now ≤ 100_000 }
-    ensures { IfOk result (λ text. text.items ≡ response_text head.now stamp details.now replies.now) }
+    ensures { IfOk result (λ text. text.items ≡ response_text head.now stamp.now details.now replies.now) }
 {
     let pieces = render(rt, alloc, details.len() / parts, details, replies)?;
     let mut text = Vec::with_capacity(alloc, file_len(&pieces))?;
-    put_header(&mut text, &sent_back(head, stamp))?;
+    put_header(&mut text, &sent_back(head, *stamp))?;
     put_pieces(&mut text, &pieces)?;
     put_end(&mut text, head, details)?;
     Ok(text)

@@ -16,9 +16,11 @@ const FEWEST_DETAILS: usize = 16;
 /// The transmission of each detail, in order, at a plan's door, decoded by as many threads as there are processors
 /// (docs/FORMATS.md, "Request transmission").
 ///
+/// Where `rayon` gives up, they are decoded without it.
+///
 /// # Errors
 ///
-/// `Memory` where a growth was refused, or where `rayon` gave up, which tells no more.
+/// `Memory` where a growth was refused.
 pub fn decode_all<R: Threads + Sync>(
     rt: &R,
     alloc: Global,
@@ -27,15 +29,17 @@ pub fn decode_all<R: Threads + Sync>(
 ) -> Result<Vec<Transmission>, Memory>
     ensures { IfOk result (λ transmissions. transmissions.items ≡ transmissions_of door.now details.now) }
 {
-    decode_in_pieces(rt, alloc, FEWEST_DETAILS, door, details)
+    decode_beside(rt, alloc, FEWEST_DETAILS, door, details)
 }
 
 /// The same transmissions, decoded in at most this many parts beside one another; one part is decoded by the calling
 /// thread, and none starts one.
 ///
+/// Where `rayon` gives up, they are decoded without it.
+///
 /// # Errors
 ///
-/// `Memory` where a growth was refused, or where `rayon` gave up, which tells no more.
+/// `Memory` where a growth was refused.
 pub fn decode_in_parts<R: Threads + Sync>(
     rt: &R,
     alloc: Global,
@@ -48,7 +52,24 @@ pub fn decode_in_parts<R: Threads + Sync>(
     if parts <= 1 {
         return decode_in_one(alloc, door, details);
     }
-    decode_in_pieces(rt, alloc, details.len() / parts, door, details)
+    decode_beside(rt, alloc, details.len() / parts, door, details)
+}
+
+// The transmissions of pieces of at least so many details, beside one another; one after another, where threads or memory
+// for that are wanting.
+fn decode_beside<R: Threads + Sync>(
+    rt: &R,
+    alloc: Global,
+    least: usize,
+    door: &Door,
+    details: &[Detail],
+) -> Result<Vec<Transmission>, Memory>
+    ensures { IfOk result (λ transmissions. transmissions.items ≡ transmissions_of door.now details.now) }
+{
+    match decode_in_pieces(rt, alloc, least, door, details) {
+        Ok(transmissions) => Ok(transmissions),
+        Err(Memory) => decode_in_one(alloc, door, details),
+    }
 }
 
 // The transmissions of pieces of at least so many details.
