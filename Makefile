@@ -2,6 +2,7 @@
 # cases on the built program. make install PREFIX=..: the built program with its manual page and completions.
 .PHONY: test cases demo look install kit
 PROGRAM = crates/rxbatch/out/rxbatch
+HELD = crates/rx_held/out/rx_held
 JOB = examples/first_job
 PREFIX = /usr/local
 DESTDIR =
@@ -26,6 +27,8 @@ cases: kit
 	python3 packaging/make_pages.py $(PROGRAM) --check
 	python3 tests/run_paths.py $(PROGRAM)
 	python3 tests/run_cases.py $(PROGRAM) --plan
+	test -x $(HELD) || (cd crates/rx_held && rt run)
+	python3 tests/run_held.py $(HELD)
 	if command -v cc > /dev/null; then python3 tests/refused_memory.py $(PROGRAM); fi
 
 demo: kit

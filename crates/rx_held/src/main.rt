@@ -1,14 +1,20 @@
-//! `rxbatch run` at a gate that holds each record up for a moment, so that several workers share the records. The gate of
-//! `rxbatch` itself holds no record up, and its records go in file order (docs/DECISIONS.md, "Jobs that can't gain by
-//! several workers"); tests of contended runs start this program.
+//! `rxbatch run` at a gate that holds records up, so that several workers share them. The gate of `rxbatch` itself holds
+//! no record up, and its records go in file order (docs/DECISIONS.md, "Jobs that can't gain by several workers"); tests of
+//! contended runs start this program.
 //!
-//! It takes the words of `rxbatch run`, writes the same outputs, ends with the same statuses, and says how many records
-//! it held up. What the program asks of its paths is left out.
+//! Its first word is a place, or 0: the first record and the one at that place wait until both are out. The other words
+//! are those of `rxbatch run`. It writes the same outputs, ends with the same statuses and lines, and says, where two wait
+//! for one another, how many records passed the gate and whether the two met. What the program asks of its paths is left
+//! out.
+//!
+//! ```text
+//! rx_held 500 run --sheet F --books F --batch F --stamp S --workers N --response F --books-out F --settlement F
+//! ```
 #![tactic(auto)]
 
 mod gate;
 
-use gate::Spinning;
+use gate::Meeting;
 use rx_devices::{ReaderSource, WriterSink};
 use rx_switch::{Device, IoFault, run_io, told};
 use rx_words::{Command, RunWords, command};
@@ -22,23 +28,32 @@ fn main(rt: HostRuntime) -> ExitCode {
     let Ok(given) = env::args(&rt) else {
         return ExitCode::from(2);
     };
+    let mut place = None;
     let mut words = Vec::new(rt.alloc());
-    for word in given {
-        if words.push(word).is_err() {
+    for (at, word) in given.enumerate() {
+        if at == 1 {
+            place = word.parse().ok();
+        } else if words.push(word).is_err() {
             return ExitCode::from(1);
         }
     }
-    match command(rt.alloc(), words.as_slice()) {
-        Ok(Command::Run(words)) => status_of(&rt, held_up(&rt, &rt, &words)),
+    match (place, command(rt.alloc(), words.as_slice())) {
+        (Some(place), Ok(Command::Run(words))) => {
+            let gate = Meeting::of_the_first_with(place);
+            status_of(&rt, &gate, held_up(&rt, &rt, &gate, &words))
+        }
         _ => ExitCode::from(2),
     }
 }
 
-// Tells how many records were held up, or the fault.
-fn status_of(rt: &HostRuntime, done: Result<u64, IoFault>) -> ExitCode {
+// Tells what passed the gate, or the fault.
+fn status_of(rt: &HostRuntime, gate: &Meeting, done: Result<(), IoFault>) -> ExitCode {
     match done {
-        Ok(count) => {
-            let _ = println!(rt; "{count} records were held up");
+        Ok(()) => {
+            let (count, met) = (gate.count(), gate.met());
+            if gate.holds_two() {
+                let _ = println!(rt; "{count} records passed the gate; met: {met}");
+            }
             ExitCode::SUCCESS
         }
         Err(fault) => {
@@ -57,14 +72,14 @@ fn status_of(rt: &HostRuntime, done: Result<u64, IoFault>) -> ExitCode {
 fn held_up<R: Threads + Wait + Sync>(
     rt: &HostRuntime,
     threads: &R,
+    gate: &Meeting,
     words: &RunWords<'_>,
-) -> Result<u64, IoFault> {
-    let gate = Spinning::new();
+) -> Result<(), IoFault> {
     let (inputs, outputs) = (&words.inputs, &words.outputs);
     run_io(
         threads,
         rt.alloc(),
-        &gate,
+        gate,
         words.stamp.as_bytes(),
         words.workers,
         words.plain,
@@ -74,8 +89,7 @@ fn held_up<R: Threads + Wait + Sync>(
         &mut WriterSink::new(output(rt, outputs.response, Device::Response)?),
         &mut WriterSink::new(output(rt, outputs.books, Device::EndBooks)?),
         &mut WriterSink::new(output(rt, outputs.settlement, Device::Settlement)?),
-    )?;
-    Ok(gate.count())
+    )
 }
 
 fn input(rt: &HostRuntime, path: &str, device: Device) -> Result<File, IoFault> {

@@ -242,6 +242,18 @@ fn a_refused_start_is_thread(rt: HostRuntime) -> Result<(), Fail> {
 }
 
 #[test]
+fn a_gate_that_does_nothing_starts_every_worker(rt: HostRuntime) -> Result<(), Fail> {
+    let asked = two_records(rt.alloc())?;
+    for workers in [2, 4, 64] {
+        let finished = run(&rt, rt.alloc(), &NoGate, workers, &asked)?
+            .ok()
+            .ok_or("an answer")?;
+        assert!(rt; is_billed_once(&finished)?);
+    }
+    Ok(())
+}
+
+#[test]
 fn workers_are_1_to_64(rt: HostRuntime) -> Result<(), Fail> {
     let asked = two_records(rt.alloc())?;
     for workers in [0, 65, 65_535] {
