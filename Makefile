@@ -26,6 +26,8 @@ cases: kit
 	test -x $(PROGRAM) || (cd crates/rxbatch && rt run -- sample)
 	python3 packaging/make_pages.py $(PROGRAM) --check
 	python3 tests/run_paths.py $(PROGRAM)
+	python3 tests/run_safe.py $(PROGRAM)
+	python3 tests/run_log.py $(PROGRAM)
 	python3 tests/run_cases.py $(PROGRAM) --plan
 	test -x $(HELD) || (cd crates/rx_held && rt run)
 	python3 tests/run_held.py $(HELD)

@@ -11,7 +11,7 @@ use clap::{Arg, ArgAction, Command as Line, value_parser};
 use std::alloc::{AllocError, Global};
 
 /// What `rxbatch --version` prints behind the program's name: the version, and the kit that proved it.
-pub const VERSION: &str = "1.0.0 (rattle-kit-13b logic dac8208d650f15bf)";
+pub const VERSION: &str = "0.1.0 (rattle-kit-13b logic dac8208d650f15bf)";
 
 /// The option `--name VALUE`.
 fn option<'a>(alloc: Global, name: &'a str, value: &'a str, help: &'a str) -> Arg<'a>

@@ -51,7 +51,10 @@ impl Ending {
     /// The three numbers of a refused run.
     pub fn refused(&self) -> Option<[u64; 3]> {
         match self {
-            Ending::Io(IoFault::Switch(fault)) | Ending::InWords(IoFault::Switch(fault), _) => Some(told(&IoFault::Switch(*fault)).numbers),
+            Ending::Io(fault) | Ending::InWords(fault, _) => match fault {
+                IoFault::Switch(_) => Some(told(fault).numbers),
+                _ => None,
+            },
             _ => None,
         }
     }
@@ -59,8 +62,10 @@ impl Ending {
     /// The number of a file that failed.
     pub fn file(&self) -> Option<u64> {
         match self {
-            Ending::Io(IoFault::Switch(_)) | Ending::InWords(IoFault::Switch(_), _) => None,
-            Ending::Io(fault) | Ending::InWords(fault, _) => Some(told(fault).numbers[0]),
+            Ending::Io(fault) | Ending::InWords(fault, _) => match fault {
+                IoFault::Switch(_) => None,
+                _ => Some(told(fault).numbers[0]),
+            },
             Ending::Output => Some(0),
             Ending::Log => Some(7),
             _ => None,

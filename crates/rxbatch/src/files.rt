@@ -5,8 +5,8 @@ use crate::nodes::Node;
 use rx_devices::{ReaderSource, Source};
 use rx_switch::{Device, IoFault};
 use rx_words::{Inputs, Outputs};
-use std::fs;
 use std::fs::{File, OpenOptions};
+use std::{fs, io};
 
 /// The file as an input, opened; one that can't be opened counts as a failed read of it.
 pub fn source(rt: &HostRuntime, path: &str, device: Device) -> Result<ReaderSource<File>, Ending>
@@ -59,8 +59,8 @@ pub struct OutputFile {
 }
 
 impl OutputFile {
-    // Opens an output, which is made where it isn't there; one that can't be had counts as a failed write of it.
-    fn open(rt: &HostRuntime, path: &str, device: Device) -> Result<OutputFile, Ending> {
+    /// Opens the file, which is made where it isn't there.
+    pub fn open(rt: &HostRuntime, path: &str) -> io::Result<OutputFile> {
         if let Ok(file) = OpenOptions::new()
             .write(true)
             .create_new(true)
@@ -72,31 +72,38 @@ impl OutputFile {
             return Ok(OutputFile { file, made: false });
         }
         // A link to a file that isn't there: opening it makes the file.
-        match OpenOptions::new().write(true).create(true).open(rt, path) {
-            Ok(file) => Ok(OutputFile { file, made: true }),
-            Err(_) => Err(Ending::Io(IoFault::Write(device))),
+        let file = OpenOptions::new().write(true).create(true).open(rt, path)?;
+        Ok(OutputFile { file, made: true })
+    }
+
+    /// Empties a plain file.
+    pub fn empty(&self) -> io::Result<()> {
+        if self.is_plain() {
+            self.file.set_len(0)
+        } else {
+            Ok(())
         }
     }
 
-    // Empties a plain file.
-    fn empty(&self, device: Device) -> Result<(), Ending> {
-        if is_plain(&self.file) && self.file.set_len(0).is_err() {
-            return Err(Ending::Io(IoFault::Write(device)));
+    /// Brings the bytes of a plain file to the disk. What the system refused to keep is told here, and not only when the
+    /// file is closed.
+    pub fn keep(&self) -> io::Result<()> {
+        if self.is_plain() {
+            self.file.sync_all()
+        } else {
+            Ok(())
         }
-        Ok(())
     }
 
-    // Brings the bytes of a plain file to the disk; a failure of that counts as a failed write. What the system refused to
-    // keep is told here, and not only when the file is closed.
-    fn keep(&self, device: Device) -> Result<(), Ending> {
-        if is_plain(&self.file) && self.file.sync_all().is_err() {
-            return Err(Ending::Io(IoFault::Write(device)));
+    fn is_plain(&self) -> bool {
+        match self.file.metadata() {
+            Ok(metadata) => metadata.is_file(),
+            Err(_) => false,
         }
-        Ok(())
     }
 
-    // Removes the file at this path again, where this run made it. What can't be removed stays, empty.
-    fn remove_made(self, rt: &HostRuntime, path: &str) {
+    /// Removes the file at this path again, where this run made it. What can't be removed stays, empty.
+    pub fn remove_made(self, rt: &HostRuntime, path: &str) {
         if !self.made {
             return;
         }
@@ -117,9 +124,9 @@ pub struct OutputFiles {
 impl OutputFiles {
     /// Opens the outputs, in the order of their numbers, and empties none.
     pub fn open(rt: &HostRuntime, paths: &Outputs<'_>) -> Result<OutputFiles, Ending> {
-        let response = OutputFile::open(rt, paths.response, Device::Response)?;
-        let books = OutputFile::open(rt, paths.books, Device::EndBooks)?;
-        let settlement = OutputFile::open(rt, paths.settlement, Device::Settlement)?;
+        let response = written(OutputFile::open(rt, paths.response), Device::Response)?;
+        let books = written(OutputFile::open(rt, paths.books), Device::EndBooks)?;
+        let settlement = written(OutputFile::open(rt, paths.settlement), Device::Settlement)?;
         Ok(OutputFiles {
             response,
             books,
@@ -129,16 +136,16 @@ impl OutputFiles {
 
     /// Empties those that are plain files.
     pub fn empty(&self) -> Result<(), Ending> {
-        self.response.empty(Device::Response)?;
-        self.books.empty(Device::EndBooks)?;
-        self.settlement.empty(Device::Settlement)
+        written(self.response.empty(), Device::Response)?;
+        written(self.books.empty(), Device::EndBooks)?;
+        written(self.settlement.empty(), Device::Settlement)
     }
 
     /// Brings those that are plain files to the disk.
     pub fn keep(&self) -> Result<(), Ending> {
-        self.response.keep(Device::Response)?;
-        self.books.keep(Device::EndBooks)?;
-        self.settlement.keep(Device::Settlement)
+        written(self.response.keep(), Device::Response)?;
+        written(self.books.keep(), Device::EndBooks)?;
+        written(self.settlement.keep(), Device::Settlement)
     }
 
     /// Removes those again that this run made.
@@ -149,10 +156,7 @@ impl OutputFiles {
     }
 }
 
-/// Whether the file is a plain one.
-pub fn is_plain(file: &File) -> bool {
-    match file.metadata() {
-        Ok(metadata) => metadata.is_file(),
-        Err(_) => false,
-    }
+// What was done to an output; a fault counts as a failed write of it.
+fn written<T: Drop>(done: io::Result<T>, device: Device) -> Result<T, Ending> {
+    done.map_err(|_error| Ending::Io(IoFault::Write(device)))
 }

@@ -2,18 +2,17 @@
 //!
 //! ```text
 //! rxbatch run --sheet F --books F --batch F --stamp S --workers N --response F --books-out F --settlement F [--plain]
-//!     [--safe] [--log F]
-//!     [-v]
-//! rxbatch show --sheet F --batch F [--tsv]      a line for each transaction
-//! rxbatch plan --sheet F --books F --batch F      the waves of the records, and the chain
-//! rxbatch check --sheet F [--books F] [--batch F]      the faults of these files in words, and warnings
+//!     [--safe] [--log F] [-v]
+//! rxbatch show --sheet F --batch F [--tsv]          a line for each transaction
+//! rxbatch plan --sheet F --books F --batch F        the waves of the records, and the chain
+//! rxbatch check --sheet F [--books F] [--batch F]   the faults of these files in words, and warnings
 //! rxbatch explain --sheet F --books F --batch F (--record P[.N] | --number A | --rx R [--provider ID])
-//!     [--response F] [--json]           why a claim was answered as it was
+//!     [--response F] [--json]                       why a claim was answered as it was
 //! rxbatch verify --sheet F --books F --batch F --stamp S --response F --books-out F --settlement F [--plain]
-//!     [--workers N]                     whether the files of a run are what it gives
-//! rxbatch replies --response F          a line for each answer of a response file
-//! rxbatch sample                        the reply to the base claim, on one line
-//! rxbatch --version                     the version, and the kit that proved it
+//!     [--workers N]                                 whether the files of a run are what it gives
+//! rxbatch replies --response F                      a line for each answer of a response file
+//! rxbatch sample                                    the reply to the base claim, on one line
+//! rxbatch --version                                 the version, and the kit that proved it
 //! ```
 //!
 //! Words are read by `rx_words`, batches adjudicated by `rx_switch`; here files are opened, and refusals told.

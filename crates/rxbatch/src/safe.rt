@@ -12,6 +12,9 @@ use std::{fs, io};
 // How many names are tried for a file that is written beside its path.
 const NAMES: u32 = 1_000;
 
+// How the names of such files begin. No output has a name like it, since another output's file could take it.
+const BESIDE: &str = ".rxbatch-";
+
 // The rights of a file that wasn't there: its owner reads and writes it.
 const NEW_RIGHTS: u32 = 0o600;
 
@@ -70,9 +73,12 @@ impl SafeFile {
 
     // The file, made beside the path.
     fn beside(rt: &HostRuntime, path: PathBuf, device: Device) -> io::Result<SafeFile> {
-        let Some(parent) = path.parent() else {
+        let (Some(parent), Some(name)) = (path.parent(), path.file_name()) else {
             return Err(io::Error::from(ErrorKind::InvalidInput));
         };
+        if name.starts_with(BESIDE) {
+            return Err(io::Error::from(ErrorKind::InvalidInput));
+        }
         let folder = fs::open(rt, parent)?;
         let (file, beside) = make_beside(rt, parent, device)?;
         Ok(SafeFile {
@@ -92,7 +98,7 @@ impl SafeFile {
 
     // Removes the file again, where it hasn't got its path.
     fn discard(self, rt: &HostRuntime) {
-        if let Some(beside) = self.beside {
+        if let Some(beside) = &self.beside {
             let _ = fs::remove_file(rt, beside.as_path());
         }
     }
@@ -209,9 +215,9 @@ fn unwritten(device: Device, error: &io::Error) -> Ending {
     }
 }
 
-// The path of a file that isn't there, with no link in it. One that ends in a slash names no file.
+// The path of a file that isn't there, with no link in it. One that ends as the path of a folder names no file.
 fn new_path(rt: &HostRuntime, path: &str) -> io::Result<PathBuf> {
-    if path.ends_with('/') {
+    if path.ends_with('/') || path.ends_with("/.") {
         return Err(io::Error::from(ErrorKind::IsADirectory));
     }
     let path = Path::new(path);
@@ -229,7 +235,7 @@ fn new_path(rt: &HostRuntime, path: &str) -> io::Result<PathBuf> {
 fn make_beside(rt: &HostRuntime, folder: Path<'_>, device: Device) -> io::Result<(File, PathBuf)> {
     let number = device.number();
     for attempt in 0..NAMES {
-        let name = format!(in rt.alloc(); ".rxbatch-{number}-{attempt}")?;
+        let name = format!(in rt.alloc(); "{BESIDE}{number}-{attempt}")?;
         let path = folder.join(rt.alloc(), name.as_str())?;
         let made = OpenOptions::new()
             .write(true)

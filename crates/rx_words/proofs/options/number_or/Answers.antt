@@ -1,4 +1,4 @@
-use Rattle.std.proofs.Common.{◌≡◌, ◌∙◌, ◌⊎◌, ℕ, List, Option, Some, None, IfNone, ap, sym, inl, inr, option_map}
+use Rattle.std.proofs.Common.{◌≡◌, ◌∙◌, ℕ, List, Option, Some, None, IfNone, ap, sym, inl, inr, option_map}
 use Rattle.clap.specs.Words.{Row, Text, first_of, found_of, rows_of}
 use Rattle.rx_words.specs.Asked.{HasNumber, HasNumberOr, NoneHolds}
 use Rattle.rx_words.proofs.options.number_or.Goals as goal

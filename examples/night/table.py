@@ -1,0 +1,41 @@
+#!/usr/bin/env python3
+"""Collects the logs of a night into one table, a line for each pair, with a tab between fields.
+
+    table.py FOLDER..      the folders of the pairs, out/*/
+
+A pair without a log was refused by `check`; one whose log has no whole line was cut.
+"""
+import json
+import pathlib
+import sys
+
+COUNTS = ("paid", "duplicate", "approved", "rejected", "net")
+
+
+def log_of(folder):
+    """The log of a pair; None where it was cut, and where there is none."""
+    try:
+        return json.loads((folder / "log.json").read_text())
+    except (OSError, ValueError):
+        return None
+
+
+def why_of(log):
+    if log["refused"]:
+        return "refused " + " ".join(map(str, log["refused"]))
+    return "" if log["file"] is None else f"file {log['file']}"
+
+
+def fields(folder):
+    log = log_of(folder)
+    if log is None:
+        return [folder.name, "cut" if (folder / "log.json").exists() else "check", "", *[""] * len(COUNTS), "", ""]
+    totals = log["totals"] or {}
+    counts = [totals.get(name, "") for name in COUNTS]
+    seconds = sum(step or 0 for step in log["microseconds"].values()) / 1e6
+    return [folder.name, log["status"], why_of(log), *counts, f"{seconds:.3f}", log["peak_kilobytes"]]
+
+
+print("\t".join(["name", "status", "why", *COUNTS, "seconds", "peak_kilobytes"]))
+for word in sys.argv[1:]:
+    print("\t".join(map(str, fields(pathlib.Path(word)))))

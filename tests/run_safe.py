@@ -1,0 +1,391 @@
+#!/usr/bin/env python3
+"""Runs a program with rxbatch's words by `run --safe`, and looks at what is left: a refused run and one that can't be
+written leave the earlier outputs as they were and nothing beside them; a run that is done leaves the three outputs
+whole, with the rights that they had (docs/PRODUCT.md, "The program").
+
+    run_safe.py PROGRAM [--kills] [--disk]
+
+With --kills (it needs strace) a run is also killed before and after each of its system calls, and each system call that
+writes, syncs or renames is made to fail. After each the three outputs have to be the earlier or the new ones, each whole,
+and the end books new only where all are; and a run after it has to be done. With --disk (it needs root) a run is done on
+small disks, page by page larger, until one holds it.
+"""
+import argparse
+import collections
+import os
+import pathlib
+import re
+import resource
+import shutil
+import signal
+import subprocess
+import sys
+import tempfile
+
+JOB = pathlib.Path(__file__).resolve().parent / "cases" / "one-billing"
+INPUTS = {"--sheet": "sheet.toml", "--books": "books.txt", "--batch": "batch.bin"}
+OUTPUTS = {"--response": "response.bin", "--books-out": "books-out.txt", "--settlement": "settlement.txt"}
+NUMBERS = {"--response": 4, "--books-out": 5, "--settlement": 6}
+EARLIER = b"earlier\n"
+WRITING = ("write", "fsync", "rename", "renameat", "renameat2", "fchmod", "fchown")
+
+
+class Folder:
+    """A folder with the inputs of a case, and earlier outputs where they are wanted."""
+
+    def __init__(self, path, earlier=True):
+        self.path = pathlib.Path(path)
+        for name in INPUTS.values():
+            shutil.copy(JOB / name, self.path)
+        if earlier:
+            for name in OUTPUTS.values():
+                (self.path / name).write_bytes(EARLIER)
+                (self.path / name).chmod(0o640)
+
+    def words(self, changed=()):
+        paths = {**INPUTS, **OUTPUTS, **dict(changed)}
+        stamp = (JOB / "stamp").read_text()
+        return ["run", "--safe", "--stamp", stamp, "--workers", "2"] + [word for pair in paths.items() for word in pair]
+
+    def texts(self):
+        return {name: (self.path / name).read_bytes() if (self.path / name).exists() else None
+                for name in OUTPUTS.values()}
+
+    def names(self):
+        return {path.name for path in self.path.iterdir()}
+
+    def run(self, program, changed=(), before=(), first=None):
+        return subprocess.run([*before, program, *self.words(changed)], cwd=self.path, stdin=subprocess.DEVNULL,
+                              capture_output=True, preexec_fn=first)
+
+
+WHOLE = {name: (JOB / name).read_bytes() for name in OUTPUTS.values()}
+PLAIN_NAMES = set(INPUTS.values()) | set(OUTPUTS.values())
+
+
+def answered(ended, status, told):
+    if ended.returncode != status:
+        return f"status {ended.returncode} and not {status} ({ended.stderr[:80]!r})"
+    if ended.stdout or ended.stderr != told:
+        return f"{ended.stderr!r} on standard error and not {told!r}"
+    return None
+
+
+def untouched(folder, names):
+    if folder.names() != names:
+        return f"other files: {sorted(folder.names() ^ names)}"
+    if any(text != EARLIER for text in folder.texts().values()):
+        return "an earlier output was changed"
+    return None
+
+
+def without_rights(folder):
+    """The words before a program that runs as a user who may not write everywhere, to whom the folder belongs."""
+    if os.geteuid() != 0:
+        return ()
+    for path in (folder.path, *folder.path.iterdir()):
+        os.chown(path, 65534, 65534)
+    return ("setpriv", "--reuid=65534", "--regid=65534", "--clear-groups")
+
+
+# ---------------------------------------------------------------- the cases
+
+def new_outputs(program, path):
+    """Outputs that weren't there."""
+    folder = Folder(path, earlier=False)
+    fault = answered(folder.run(program), 0, b"")
+    if fault or folder.texts() != WHOLE or folder.names() != PLAIN_NAMES:
+        return fault or "the outputs aren't the run's"
+    rights = {(folder.path / name).stat().st_mode & 0o777 for name in OUTPUTS.values()}
+    return None if rights == {0o600} else "a new output has other rights than 0600"
+
+
+def earlier_outputs(program, path):
+    """Outputs that were there."""
+    folder = Folder(path)
+    fault = answered(folder.run(program), 0, b"")
+    if fault or folder.texts() != WHOLE or folder.names() != PLAIN_NAMES:
+        return fault or "the outputs aren't the run's"
+    rights = {(folder.path / name).stat().st_mode & 0o777 for name in OUTPUTS.values()}
+    return None if rights == {0o640} else "an output lost its rights"
+
+
+def refused_run(program, path):
+    """A run that is refused."""
+    folder = Folder(path)
+    (folder.path / "sheet.toml").write_bytes(b"fee = ")
+    ended = folder.run(program)
+    if ended.returncode != 1 or not ended.stderr.startswith(b"refused 3 "):
+        return f"status {ended.returncode}, {ended.stderr!r}"
+    return untouched(folder, PLAIN_NAMES)
+
+
+def absent_input(program, path):
+    """An input that isn't there."""
+    folder = Folder(path)
+    (folder.path / "batch.bin").unlink()
+    return answered(folder.run(program), 3, b"file 3\n") or untouched(folder, PLAIN_NAMES - {"batch.bin"})
+
+
+def absent_folder(program, path):
+    """A folder that isn't there."""
+    folder = Folder(path)
+    fault = answered(folder.run(program, {"--settlement": "no/settlement.txt"}), 3, b"file 6\n")
+    return fault or untouched(folder, PLAIN_NAMES)
+
+
+def locked_folder(program, path):
+    """A folder that can't be written (as a user who may not write everywhere)."""
+    folder = Folder(path)
+    locked = folder.path / "locked"
+    locked.mkdir(mode=0o500)
+    before = without_rights(folder)
+    fault = answered(folder.run(program, {"--books-out": "locked/out.txt"}, before), 3, b"file 5\n")
+    return fault or untouched(folder, PLAIN_NAMES | {"locked"})
+
+
+def followed_link(program, path):
+    """An output that is a link."""
+    folder = Folder(path)
+    kept = folder.path / "kept"
+    kept.mkdir()
+    (folder.path / "books-out.txt").rename(kept / "books-2.txt")
+    (folder.path / "books-out.txt").symlink_to("kept/books-2.txt")
+    fault = answered(folder.run(program), 0, b"")
+    if fault or folder.texts() != WHOLE or folder.names() != PLAIN_NAMES | {"kept"}:
+        return fault or "the outputs aren't the run's"
+    if not (folder.path / "books-out.txt").is_symlink() or {path.name for path in kept.iterdir()} != {"books-2.txt"}:
+        return "the link wasn't followed"
+    return None
+
+
+def link_to_nothing(program, path):
+    """An output that is a link to nothing."""
+    folder = Folder(path)
+    (folder.path / "link.txt").symlink_to("nothing.txt")
+    ended = folder.run(program, {"--settlement": "link.txt"})
+    fault = answered(ended, 2, b"rxbatch: --settlement is no plain file\n")
+    return fault or untouched(folder, PLAIN_NAMES | {"link.txt"})
+
+
+def device(program, path):
+    """An output that is a device."""
+    folder = Folder(path)
+    ended = folder.run(program, {"--response": "/dev/null"})
+    return answered(ended, 2, b"rxbatch: --response is no plain file\n") or untouched(folder, PLAIN_NAMES)
+
+
+def protected_file(program, path):
+    """An output that nobody may write."""
+    folder = Folder(path)
+    (folder.path / "books-out.txt").chmod(0o440)
+    before = without_rights(folder)
+    return answered(folder.run(program, (), before), 3, b"file 5\n") or untouched(folder, PLAIN_NAMES)
+
+
+def one_file(program, path):
+    """Two outputs that are one file, by two names."""
+    folder = Folder(path)
+    (folder.path / "again.txt").hardlink_to(folder.path / "response.bin")
+    ended = folder.run(program, {"--settlement": "again.txt"})
+    fault = answered(ended, 2, b"rxbatch: --response and --settlement are one file\n")
+    return fault or untouched(folder, PLAIN_NAMES | {"again.txt"})
+
+
+def one_new_file(program, path):
+    """Two outputs that are to be one new file."""
+    folder = Folder(path)
+    ended = folder.run(program, {"--response": "new.bin", "--books-out": "./new.bin"})
+    fault = answered(ended, 2, b"rxbatch: --response and --books-out are one file\n")
+    return fault or untouched(folder, PLAIN_NAMES)
+
+
+def name_of_a_file_beside(program, path):
+    """An output with a name that a file beside another may have."""
+    folder = Folder(path)
+    ended = folder.run(program, {"--response": ".rxbatch-5-0"})
+    return answered(ended, 3, b"file 4\n") or untouched(folder, PLAIN_NAMES)
+
+
+def path_of_a_folder(program, path):
+    """An output that ends as the path of a folder."""
+    folder = Folder(path)
+    for end in ("no/", "no/.", ".."):
+        wanted = (2, b"rxbatch: --settlement is no plain file\n") if end == ".." else (3, b"file 6\n")
+        fault = answered(folder.run(program, {"--settlement": end}), *wanted) or untouched(folder, PLAIN_NAMES)
+        if fault:
+            return f"{end}: {fault}"
+    return None
+
+
+def left_by_a_kill(program, path):
+    """Files beside the outputs that an earlier run left."""
+    folder = Folder(path)
+    left = {".rxbatch-4-0", ".rxbatch-5-0", ".rxbatch-5-1", ".rxbatch-6-0"}
+    for name in left:
+        (folder.path / name).write_bytes(b"left\n")
+    fault = answered(folder.run(program), 0, b"")
+    if fault or folder.texts() != WHOLE or folder.names() != PLAIN_NAMES | left:
+        return fault or "the outputs aren't the run's"
+    return None if all((folder.path / name).read_bytes() == b"left\n" for name in left) else "a file was written over"
+
+
+def limited_size(program, path):
+    """Files that may not grow past a size."""
+    sizes = sorted(len(text) for text in WHOLE.values())
+    for limit in (0, *(size - 1 for size in sizes)):
+        with tempfile.TemporaryDirectory(dir=path) as inner:
+            folder = Folder(inner)
+
+            def first():
+                signal.signal(signal.SIGXFSZ, signal.SIG_IGN)
+                resource.setrlimit(resource.RLIMIT_FSIZE, (limit, limit))
+
+            larger = [NUMBERS[option] for option, name in OUTPUTS.items() if len(WHOLE[name]) > limit]
+            fault = answered(folder.run(program, (), (), first), 3, f"file {min(larger)}\n".encode())
+            fault = fault or untouched(folder, PLAIN_NAMES)
+            if fault:
+                return f"{limit}: {fault}"
+    return None
+
+
+def output_over_input(program, path):
+    """An output that is an input."""
+    folder = Folder(path)
+    ended = folder.run(program, {"--books-out": "./books.txt"})
+    fault = answered(ended, 2, b"rxbatch: --books and --books-out are one file\n")
+    return fault or untouched(folder, PLAIN_NAMES)
+
+
+CASES = (
+    new_outputs, earlier_outputs, refused_run, absent_input, absent_folder, locked_folder, followed_link, link_to_nothing,
+    device, protected_file, one_file, one_new_file, output_over_input, name_of_a_file_beside, path_of_a_folder,
+    left_by_a_kill, limited_size,
+)
+
+
+# ---------------------------------------------------------------- kills and faults, by strace
+
+def torn(folder):
+    """What is wrong with the outputs after a run that was cut."""
+    texts = folder.texts()
+    for name, text in texts.items():
+        if text not in (EARLIER, WHOLE[name]):
+            return f"{name} is torn"
+    if texts["books-out.txt"] != EARLIER and texts != WHOLE:
+        return "the end books are new, and another output isn't"
+    return None
+
+
+def calls_of(program, path):
+    """The system calls of a run, each with how often it comes."""
+    folder = Folder(path)
+    trace = folder.path.parent / "trace"
+    ended = folder.run(program, (), ("strace", "-f", "-o", str(trace)))
+    if ended.returncode != 0:
+        sys.exit(f"strace: {ended.stderr!r}")
+    counts = collections.Counter()
+    for line in trace.read_text().splitlines():
+        found = re.match(r"\d+ +(\w+)\(", line)
+        if found:
+            counts[found.group(1)] += 1
+    return counts
+
+
+def cut_runs(program):
+    """Runs that are killed, or of which a call fails: how many, and what is wrong after one."""
+    with tempfile.TemporaryDirectory(prefix="rxbatch-safe-") as top:
+        os.mkdir(os.path.join(top, "first"))
+        counts = calls_of(program, os.path.join(top, "first"))
+    tried, faults = 0, []
+    for call, count in sorted(counts.items()):
+        if call in ("execve", "exit_group", "exit"):
+            continue
+        ways = [f"{call}:signal=KILL:when={at}" for at in range(1, count + 1)]
+        if call in WRITING:
+            ways += [f"{call}:error={error}:when={at}" for at in range(1, count + 1) for error in ("ENOSPC", "EIO")]
+        for way in ways:
+            with tempfile.TemporaryDirectory(prefix="rxbatch-safe-") as path:
+                folder = Folder(path)
+                ended = folder.run(program, (), ("strace", "-f", "-o", "/dev/null", "-e", f"inject={way}"))
+                tried += 1
+                fault = torn(folder)
+                if not fault and ":error=" in way:
+                    if ended.returncode not in (0, 3) or folder.names() != PLAIN_NAMES:
+                        fault = f"status {ended.returncode}, {sorted(folder.names() - PLAIN_NAMES)} left"
+                if not fault and (folder.run(program).returncode != 0 or folder.texts() != WHOLE):
+                    fault = "a run after it isn't done"
+                if fault:
+                    faults.append(f"{way}: {fault}")
+    return tried, faults
+
+
+def small_disks(program):
+    """Runs on small disks: how many, and what is wrong after one."""
+    tried, faults = 0, []
+    for pages in range(3, 16):
+        with tempfile.TemporaryDirectory(prefix="rxbatch-safe-") as path:
+            disk = pathlib.Path(path) / "disk"
+            disk.mkdir()
+            subprocess.run(["mount", "-t", "tmpfs", "-o", f"size={pages * 4}k", "tmpfs", str(disk)], check=True)
+            try:
+                ended, fault = on_disk(program, path, disk)
+            finally:
+                subprocess.run(["umount", str(disk)], check=True)
+        tried += 1
+        if fault:
+            faults.append(f"{pages} pages: {fault}")
+        if ended.returncode == 0:
+            return tried, faults
+    return tried, faults + ["no disk held a run"]
+
+
+def on_disk(program, path, disk):
+    """A run whose outputs are on this disk, and what is wrong after it."""
+    folder = Folder(path, earlier=False)
+    for name in OUTPUTS.values():
+        (disk / name).write_bytes(EARLIER)
+    ended = folder.run(program, {option: f"disk/{name}" for option, name in OUTPUTS.items()})
+    texts = {name: (disk / name).read_bytes() for name in OUTPUTS.values()}
+    if ended.returncode == 0:
+        return ended, None if texts == WHOLE else "the outputs aren't the run's"
+    fault = None
+    if ended.returncode != 3 or ended.stderr not in [f"file {number}\n".encode() for number in NUMBERS.values()]:
+        fault = f"status {ended.returncode}, {ended.stderr!r}"
+    elif any(text != EARLIER for text in texts.values()) or {file.name for file in disk.iterdir()} != set(texts):
+        fault = "an earlier output was changed, or a file is left"
+    return ended, fault
+
+
+def main(words):
+    parser = argparse.ArgumentParser(description=__doc__, formatter_class=argparse.RawDescriptionHelpFormatter)
+    parser.add_argument("program", metavar="PROGRAM")
+    parser.add_argument("--kills", action="store_true", help="kill a run at each system call, too")
+    parser.add_argument("--disk", action="store_true", help="run on small disks, too")
+    options = parser.parse_args(words)
+    program = str(pathlib.Path(options.program).resolve())
+    failed = 0
+    for case in CASES:
+        with tempfile.TemporaryDirectory(prefix="rxbatch-safe-") as path:
+            fault = case(program, path)
+        if fault:
+            failed += 1
+            print(f"{case.__doc__} {fault}")
+    print(f"{len(CASES) - failed} passed, {failed} failed")
+    if options.kills:
+        tried, faults = cut_runs(program)
+        for fault in faults:
+            print(fault)
+        print(f"{tried - len(faults)} cut runs passed, {len(faults)} failed")
+        failed += len(faults)
+    if options.disk:
+        tried, faults = small_disks(program)
+        for fault in faults:
+            print(fault)
+        print(f"{tried - len(faults)} runs on small disks passed, {len(faults)} failed")
+        failed += len(faults)
+    return 1 if failed else 0
+
+
+if __name__ == "__main__":
+    sys.exit(main(sys.argv[1:]))
