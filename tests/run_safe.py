@@ -3,15 +3,18 @@
 written leave the earlier outputs as they were and nothing beside them; a run that is done leaves the three outputs
 whole, with the rights that they had (docs/PRODUCT.md, "The program").
 
-    run_safe.py PROGRAM [--kills] [--disk]
+    run_safe.py PROGRAM [--kills] [--disk] [--memory]
 
 With --kills (it needs strace) a run is also killed before and after each of its system calls, and each system call that
 writes, syncs or renames is made to fail. After each the three outputs have to be the earlier or the new ones, each whole,
 and the end books new only where all are; and a run after it has to be done. With --disk (it needs root) a run is done on
-small disks, page by page larger, until one holds it.
+small disks, page by page larger, until one holds it. With --memory (it needs `cc`) a run with a log is done while its Nth
+request for memory is refused, for N = 1, 2 and on.
 """
 import argparse
 import collections
+import itertools
+import json
 import os
 import pathlib
 import re
@@ -21,6 +24,8 @@ import signal
 import subprocess
 import sys
 import tempfile
+
+import refused_memory
 
 JOB = pathlib.Path(__file__).resolve().parent / "cases" / "one-billing"
 INPUTS = {"--sheet": "sheet.toml", "--books": "books.txt", "--batch": "batch.bin"}
@@ -54,9 +59,9 @@ class Folder:
     def names(self):
         return {path.name for path in self.path.iterdir()}
 
-    def run(self, program, changed=(), before=(), first=None):
+    def run(self, program, changed=(), before=(), first=None, surroundings=None):
         return subprocess.run([*before, program, *self.words(changed)], cwd=self.path, stdin=subprocess.DEVNULL,
-                              capture_output=True, preexec_fn=first)
+                              capture_output=True, preexec_fn=first, env=surroundings)
 
 
 WHOLE = {name: (JOB / name).read_bytes() for name in OUTPUTS.values()}
@@ -357,11 +362,43 @@ def on_disk(program, path, disk):
     return ended, fault
 
 
+# ---------------------------------------------------------------- refused requests for memory
+
+def refused_requests(program):
+    """Runs of which a request for memory is refused: how many, and what is wrong after one."""
+    faults = []
+    with tempfile.TemporaryDirectory(prefix="rxbatch-safe-") as top:
+        library = refused_memory.compiled(top)
+        for request in itertools.count(1):
+            with tempfile.TemporaryDirectory(dir=top) as path:
+                folder, met = Folder(path), pathlib.Path(top) / f"met-{request}"
+                surroundings = {**os.environ, "LD_PRELOAD": library, "REFUSED_REQUEST": str(request), "REFUSED_MET": str(met)}
+                ended = folder.run(program, {"--log": "log.json"}, (), None, surroundings)
+                fault = torn(folder) or without_memory(folder, ended)
+            if fault:
+                faults.append(f"request {request}: {fault}")
+            if not met.exists():
+                return request, faults
+
+
+def without_memory(folder, ended):
+    """What is wrong with the end of a run that may lack memory."""
+    if ended.returncode == 0:
+        return None if folder.texts() == WHOLE else "the outputs aren't the run's"
+    log = folder.path / "log.json"
+    if folder.names() - {"log.json"} != PLAIN_NAMES or ended.returncode not in (1, 3):
+        return f"status {ended.returncode}, {ended.stderr!r}, {sorted(folder.names() - PLAIN_NAMES)} left"
+    if log.exists() and log.read_bytes() and json.loads(log.read_bytes())["status"] not in (0, ended.returncode):
+        return f"the log tells another status than {ended.returncode}"
+    return None
+
+
 def main(words):
     parser = argparse.ArgumentParser(description=__doc__, formatter_class=argparse.RawDescriptionHelpFormatter)
     parser.add_argument("program", metavar="PROGRAM")
     parser.add_argument("--kills", action="store_true", help="kill a run at each system call, too")
     parser.add_argument("--disk", action="store_true", help="run on small disks, too")
+    parser.add_argument("--memory", action="store_true", help="refuse each request for memory, too")
     options = parser.parse_args(words)
     program = str(pathlib.Path(options.program).resolve())
     failed = 0
@@ -372,18 +409,15 @@ def main(words):
             failed += 1
             print(f"{case.__doc__} {fault}")
     print(f"{len(CASES) - failed} passed, {failed} failed")
-    if options.kills:
-        tried, faults = cut_runs(program)
-        for fault in faults:
-            print(fault)
-        print(f"{tried - len(faults)} cut runs passed, {len(faults)} failed")
-        failed += len(faults)
-    if options.disk:
-        tried, faults = small_disks(program)
-        for fault in faults:
-            print(fault)
-        print(f"{tried - len(faults)} runs on small disks passed, {len(faults)} failed")
-        failed += len(faults)
+    sweeps = ((options.kills, cut_runs, "cut runs"), (options.disk, small_disks, "runs on small disks"),
+              (options.memory, refused_requests, "runs without memory"))
+    for wanted, sweep, name in sweeps:
+        if wanted:
+            tried, faults = sweep(program)
+            for fault in faults:
+                print(fault)
+            print(f"{name}: {tried - len(faults)} passed, {len(faults)} failed")
+            failed += len(faults)
     return 1 if failed else 0
 
 
