@@ -30,3 +30,6 @@ mod unsummed;
 
 pub use fault::{GiveFault, TakeFault};
 pub use shelf::Shelf;
+
+#[cfg(test)]
+mod tests;

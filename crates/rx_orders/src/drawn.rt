@@ -49,7 +49,11 @@ pub fn drawn_ledger(alloc: Global, draw: &mut Draw, profile: Profile) -> Result<
 fn enroll(ledger: &mut Ledger, nth: u32, of_person: u32) -> Result<(), Miss> {
     let (family, person, period) = (family(nth)?, person(of_person)?, period()?);
     let member = Member::new(family, person, period.first(), period.last()).ok_or(Miss::Value)?;
-    ledger.add_member(member).map_err(|_error| Miss::Value)
+    match ledger.add_member(member) {
+        Ok(()) => Ok(()),
+        Err(AddError::Memory) => Err(Miss::Memory),
+        Err(AddError::There | AddError::Unknown) => Err(Miss::Value),
+    }
 }
 
 fn drawn_row(draw: &mut Draw, profile: Profile) -> Result<Row, Miss> {

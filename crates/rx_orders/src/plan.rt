@@ -3,7 +3,7 @@
 use crate::draw::Draw;
 use crate::miss::Miss;
 use rx_fields::{Day, Door, Lot, Period, Product, date_read};
-use rx_ledger::{Drug, Figures, Share, Sheet};
+use rx_ledger::{AddFault, Drug, Figures, Share, Sheet};
 use std::alloc::Global;
 
 /// The sheet.
@@ -46,9 +46,11 @@ fn sheet(
 
 fn list(sheet: &mut Sheet, digits: &[u8], share: Share, price: u64) -> Result<(), Miss> {
     let product = product(digits)?;
-    sheet
-        .add(product, Drug { share, price })
-        .map_err(|_fault| Miss::Value)
+    match sheet.add(product, Drug { share, price }) {
+        Ok(()) => Ok(()),
+        Err(AddFault::Memory) => Err(Miss::Memory),
+        Err(AddFault::Range | AddFault::There) => Err(Miss::Value),
+    }
 }
 
 /// The benefit period.
