@@ -70,8 +70,7 @@ impl Warnings {
 
     // What the batch tells beside the sheet.
     pub(crate) fn of_batch(&mut self, sheet: &Sheet, batch: &Batch) {
-        let details = batch.details.as_slice();
-        self.none_under = !details.is_empty() && has_none_under(sheet.door(), details);
+        self.none_under = has_none_under(sheet.door(), batch.details.as_slice());
     }
 
     // What the batch tells beside the books.

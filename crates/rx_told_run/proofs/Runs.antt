@@ -16,12 +16,12 @@ use Rattle.rx_ledger.specs.Plan.{Plan}
 use Rattle.rx_sheet.specs.SheetText.{sheet_of_text}
 use Rattle.rx_sheet.specs.declared.fault.SheetFault.{SheetFault}
 use Rattle.rx_switch.specs.Output.{Given, Inputs, IsRefused, StandFor, stamp_for}
-use Rattle.rx_switch.specs.Output.IsRefused as refused
+use Rattle.rx_switch.specs.Output.IsRefused.{sheet as refused_sheet, books as refused_books, batch as refused_batch}
 use Rattle.rx_check.specs.Found.{first_fault}
 use Rattle.rx_told_run.specs.Refusals.{told_as}
 
 -- what the reading of a text of books says of it
-abbrev Says : List ℕ → Result LedgerBooks BooksFault → Type 0
+abbrev pub Says : List ℕ → Result LedgerBooks BooksFault → Type 0
 Says text (Ok b) = IsBooksText text b.period b.ledger
 Says text (Err f) = HasBooksFault text f
 
@@ -32,11 +32,11 @@ pub runs : (g : Given) (s : Stamp) → stamp_for g.workers g.stamp ≡ Ok s
     → (c : Result Batch BatchFault) → batch_of g.batch ≡ c
     → MatchOption (option_map told_as (first_fault (result_err a) (result_err b) (result_err c)))
     ((x : Inputs) × StandFor g x) (IsRefused g)
-runs g s stamp (Err f) sheet b books c batch = refused.sheet s f stamp sheet
+runs g s stamp (Err f) sheet b books c batch = refused_sheet s f stamp sheet
 runs g s stamp (Ok plan) sheet (Err f) books c batch =
-    refused.books s plan f stamp sheet (subst (Says g.books) books (says g.books))
+    refused_books s plan f stamp sheet (subst (Says g.books) books (says g.books))
 runs g s stamp (Ok plan) sheet (Ok b) books (Err f) batch =
-    refused.batch s plan b.period b.ledger f stamp sheet (subst (Says g.books) books (says g.books))
+    refused_batch s plan b.period b.ledger f stamp sheet (subst (Says g.books) books (says g.books))
     (fault_is_there g.batch f batch)
 runs g s stamp (Ok plan) sheet (Ok b) books (Ok c) batch = (
   record {

@@ -15,7 +15,7 @@ mod law;
 mod refusing;
 mod run;
 
-pub use law::first_fault_is_the_runs;
+pub use law::{faults_of_some_are_the_runs, first_fault_is_the_runs};
 pub use refusing::refusal;
 pub use run::{Asked, Given, fault_words};
 

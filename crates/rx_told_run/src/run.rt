@@ -83,7 +83,7 @@ fn words_of_books(alloc: Global, fault: BooksFault, text: Option<&[u8]>) -> Resu
 }
 
 fn words_of_batch(alloc: Global, fault: BatchFault, text: Option<&[u8]>) -> Result<Words, Memory>
-    ensures { IfOk result (λ words. words.place ≡ batch_place_in (option_copied text) fault) }
+    ensures { IfOk result (λ words. words.place ≡ batch_place_in (option_copied text.entry) fault) }
 {
     match text {
         Some(text) => batch_words(alloc, fault, text),

@@ -1,7 +1,7 @@
 //! What was heard of a device.
 ghost use Rattle.std.specs.Prelude.{◌≡◌, ◌+◌, ◌-◌, ◌^◌, [], ℕ, IfOk, List, length, min};
 ghost use Rattle.sha2.specs.Sha256.{sha256};
-ghost use Rattle.rx_watch.specs.Heard.{HasHeard, HearsOn};
+ghost use Rattle.rx_watch.specs.Heard.{HasHeard, HearsOn, count_of};
 
 use sha2::{Digest, Sha256};
 use std::alloc::{AllocError, Global};
@@ -10,10 +10,15 @@ use std::time::Duration;
 // How many bytes are kept of the front and of the end.
 const KEPT: usize = 256;
 
+// The byte with which a record of a batch begins.
+const STX: u8 = 2;
+
 /// What was heard of a device so far.
 #[derive(Debug, Drop)]
 pub struct Heard {
     bytes: u64,
+    line_feeds: u64,
+    starts: u64,
     sum: Sha256,
     front: Vec<u8>,
     end: Vec<u8>,
@@ -26,9 +31,13 @@ impl Heard {
     pub fn new(alloc: Global) -> Heard
         ensures heard { HasHeard result [] }
         ensures bytes { result.bytes ≡ 0 }
+        ensures line_feeds { result.line_feeds ≡ 0 }
+        ensures starts { result.starts ≡ 0 }
     {
         Heard {
             bytes: 0,
+            line_feeds: 0,
+            starts: 0,
             sum: Sha256::new(),
             front: Vec::new(alloc),
             end: Vec::new(alloc),
@@ -41,9 +50,13 @@ impl Heard {
     pub fn hear(&mut self, piece: &[u8])
         ensures heard { HearsOn self.old self.new piece.now }
         ensures bytes { self.new.bytes ≡ min (self.old.bytes + length piece.now) (2 ^ 64 - 1) }
+        ensures line_feeds { self.new.line_feeds ≡ min (self.old.line_feeds + count_of 10 piece.now) (2 ^ 64 - 1) }
+        ensures starts { self.new.starts ≡ min (self.old.starts + count_of 2 piece.now) (2 ^ 64 - 1) }
     {
         self.sum.update(piece);
         self.bytes = self.bytes.saturating_add(piece.len() as u64);
+        self.line_feeds = self.line_feeds.saturating_add(count_of(b'\n', piece));
+        self.starts = self.starts.saturating_add(count_of(STX, piece));
         keep_front(&mut self.front, piece);
         keep_end(&mut self.end, piece);
     }
@@ -52,6 +65,8 @@ impl Heard {
     pub fn at(&mut self, begin: Option<Duration>, end: Option<Duration>)
         ensures sum { self.new.sum ≡ self.old.sum }
         ensures bytes { self.new.bytes ≡ self.old.bytes }
+        ensures line_feeds { self.new.line_feeds ≡ self.old.line_feeds }
+        ensures starts { self.new.starts ≡ self.old.starts }
     {
         if self.first.is_none() {
             self.first = begin;
@@ -64,6 +79,20 @@ impl Heard {
         ensures { result ≡ self.now.bytes }
     {
         self.bytes
+    }
+
+    /// How many of them are line feeds, 2^64 - 1 where there are more.
+    pub fn line_feeds(&self) -> u64
+        ensures { result ≡ self.now.line_feeds }
+    {
+        self.line_feeds
+    }
+
+    /// How many of them are X'02', with which each record of a batch begins, 2^64 - 1 where there are more.
+    pub fn starts(&self) -> u64
+        ensures { result ≡ self.now.starts }
+    {
+        self.starts
     }
 
     /// The first 256 bytes, where memory wasn't wanting for them.
@@ -96,6 +125,13 @@ impl Heard {
     {
         Ok(self.sum.clone()?.finalize())
     }
+}
+
+// How many of the bytes are this one.
+fn count_of(mark: u8, bytes: &[u8]) -> u64
+    ensures { result ≡ count_of mark bytes.now }
+{
+    bytes.iter().filter(|byte| **byte == mark).count() as u64
 }
 
 // Keeps what the piece adds to the front.

@@ -48,6 +48,16 @@ fn the_first_and_the_last_bytes_are_kept(rt: HostRuntime) -> Result<(), Fail> {
 }
 
 #[test]
+fn lines_and_records_are_counted(rt: HostRuntime) -> Result<(), Fail> {
+    let mut heard = Heard::new(rt.alloc());
+    heard.hear(b"\x0200\x03\n\x02G1\x03");
+    heard.hear(b"\x0299\x03\n");
+    assert_eq!(rt; heard.line_feeds(), 2);
+    assert_eq!(rt; heard.starts(), 3);
+    Ok(())
+}
+
+#[test]
 fn a_failed_write_is_not_heard(rt: HostRuntime) -> Result<(), Fail> {
     let alloc = rt.alloc();
     let sink = VecSink::new(alloc, 8).failing_after(0);

@@ -1,0 +1,173 @@
+ghost use Rattle.std.specs.Prelude.{◌≡◌, ◌++◌, IfOk, OnOk};
+ghost use Rattle.rx_steps.specs.Lines.{answers_part, answers_text, counted_part, counted_text, done_text, ending, named};
+ghost use Rattle.rx_steps.specs.Lines.{peak_part, progress_text, size_part, step_text, time_part};
+
+use crate::numbers::{put_grouped, put_net, put_size, put_time};
+use crate::step::{Answers, Counted, Done, Step};
+use std::alloc::{AllocError, Global};
+
+/// The line of a step: what it does, what was counted, its bytes and its time.
+///
+/// # Errors
+///
+/// Memory was wanting.
+#[tactic(auto, using(std::proofs::Common::append_assoc))]
+pub fn step_line(alloc: Global, step: &Step) -> Result<Vec<u8>, AllocError>
+    ensures { IfOk result (λ line. line.items ≡ step_text step.now) }
+{
+    let mut line = Vec::new(alloc);
+    line.extend_from_slice(step.name.label().as_bytes())?;
+    put_counted(alloc, &mut line, step.counted)?;
+    put_size_part(alloc, &mut line, step.bytes)?;
+    put_time_part(alloc, &mut line, step.micros)?;
+    line.push(b'\n')?;
+    Ok(line)
+}
+
+/// The line of a run that goes on: how many records of how many are adjudicated.
+///
+/// # Errors
+///
+/// Memory was wanting.
+#[tactic(auto, using(std::proofs::Common::append_assoc))]
+pub fn progress_line(alloc: Global, adjudicated: u64, records: u64) -> Result<Vec<u8>, AllocError>
+    ensures { IfOk result (λ line. line.items ≡ progress_text adjudicated records) }
+{
+    let mut line = Vec::new(alloc);
+    line.extend_from_slice(b"adjudicated  ")?;
+    put_grouped(alloc, &mut line, adjudicated)?;
+    line.extend_from_slice(b" of ")?;
+    put_grouped(alloc, &mut line, records)?;
+    line.extend_from_slice(b" records\n")?;
+    Ok(line)
+}
+
+/// The line of a run that is done: its answers, the most memory that it had, and its time.
+///
+/// # Errors
+///
+/// Memory was wanting.
+#[tactic(auto, using(std::proofs::Common::append_assoc))]
+pub fn done_line(alloc: Global, done: &Done) -> Result<Vec<u8>, AllocError>
+    ensures { IfOk result (λ line. line.items ≡ done_text done.now) }
+{
+    let mut line = Vec::new(alloc);
+    line.extend_from_slice(b"done       ")?;
+    put_answers_part(alloc, &mut line, done.answers)?;
+    put_peak_part(alloc, &mut line, done.peak)?;
+    put_time_part(alloc, &mut line, done.micros)?;
+    line.push(b'\n')?;
+    Ok(line)
+}
+
+#[tactic(auto, using(std::proofs::Common::append_assoc))]
+fn put_counted(
+    alloc: Global,
+    line: &mut Vec<u8>,
+    counted: Option<Counted>,
+) -> Result<(), AllocError>
+    ensures { OnOk result (line.new.items ≡ line.old.items ++ counted_part counted) }
+{
+    let Some(counted) = counted else {
+        return Ok(());
+    };
+    line.extend_from_slice(b"  ")?;
+    put_count(alloc, line, counted)
+}
+
+#[tactic(auto, using(std::proofs::Common::append_assoc))]
+fn put_count(alloc: Global, line: &mut Vec<u8>, counted: Counted) -> Result<(), AllocError>
+    ensures { OnOk result (line.new.items ≡ line.old.items ++ counted_text counted) }
+{
+    match counted {
+        Counted::Lines(count) => {
+            put_grouped(alloc, line, count)?;
+            line.extend_from_slice(b" line")?;
+            put_ending(line, count)
+        }
+        Counted::Records(count) => {
+            put_grouped(alloc, line, count)?;
+            line.extend_from_slice(b" record")?;
+            put_ending(line, count)
+        }
+    }
+}
+
+// The ending of the plural.
+fn put_ending(line: &mut Vec<u8>, count: u64) -> Result<(), AllocError>
+    ensures { OnOk result (line.new.items ≡ line.old.items ++ ending count) }
+{
+    if count == 1 {
+        return Ok(());
+    }
+    line.push(b's')?;
+    Ok(())
+}
+
+#[tactic(auto, using(std::proofs::Common::append_assoc))]
+fn put_size_part(alloc: Global, line: &mut Vec<u8>, bytes: Option<u64>) -> Result<(), AllocError>
+    ensures { OnOk result (line.new.items ≡ line.old.items ++ size_part bytes) }
+{
+    let Some(bytes) = bytes else {
+        return Ok(());
+    };
+    line.extend_from_slice(b"  ")?;
+    put_size(alloc, line, bytes)
+}
+
+#[tactic(auto, using(std::proofs::Common::append_assoc))]
+fn put_time_part(alloc: Global, line: &mut Vec<u8>, micros: Option<u64>) -> Result<(), AllocError>
+    ensures { OnOk result (line.new.items ≡ line.old.items ++ time_part micros) }
+{
+    let Some(micros) = micros else {
+        return Ok(());
+    };
+    line.extend_from_slice(b"  ")?;
+    put_time(alloc, line, micros)
+}
+
+#[tactic(auto, using(std::proofs::Common::append_assoc))]
+fn put_peak_part(alloc: Global, line: &mut Vec<u8>, peak: Option<u64>) -> Result<(), AllocError>
+    ensures { OnOk result (line.new.items ≡ line.old.items ++ peak_part peak) }
+{
+    let Some(peak) = peak else {
+        return Ok(());
+    };
+    line.extend_from_slice(b"  peak ")?;
+    put_size(alloc, line, peak)
+}
+
+#[tactic(auto, using(std::proofs::Common::append_assoc))]
+fn put_answers_part(
+    alloc: Global,
+    line: &mut Vec<u8>,
+    answers: Option<Answers>,
+) -> Result<(), AllocError>
+    ensures { OnOk result (line.new.items ≡ line.old.items ++ answers_part answers) }
+{
+    let Some(answers) = answers else {
+        return Ok(());
+    };
+    line.extend_from_slice(b"  ")?;
+    put_answers(alloc, line, &answers)
+}
+
+#[tactic(auto, using(std::proofs::Common::append_assoc))]
+fn put_answers(alloc: Global, line: &mut Vec<u8>, answers: &Answers) -> Result<(), AllocError>
+    ensures { OnOk result (line.new.items ≡ line.old.items ++ answers_text answers.now) }
+{
+    put_named(alloc, line, answers.paid, " paid, ")?;
+    put_named(alloc, line, answers.duplicate, " duplicate, ")?;
+    put_named(alloc, line, answers.approved, " approved, ")?;
+    put_named(alloc, line, answers.rejected, " rejected, net ")?;
+    put_net(alloc, line, answers.net)
+}
+
+// A count, and what is counted.
+#[tactic(auto, using(std::proofs::Common::append_assoc), unfolding(crate::specs::Lines::named))]
+fn put_named(alloc: Global, line: &mut Vec<u8>, count: u64, name: &str) -> Result<(), AllocError>
+    ensures { OnOk result (line.new.items ≡ line.old.items ++ named count name.now) }
+{
+    put_grouped(alloc, line, count)?;
+    line.extend_from_slice(name.as_bytes())
+}
