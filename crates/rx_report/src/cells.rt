@@ -11,7 +11,16 @@ use rx_fields::{Id, Person, Provider, Reference};
 use rx_show::put_codes;
 use std::alloc::{AllocError, Global};
 
-/// Puts what a report says of an answer in a column.
+/// What a report says of an answer in a column, as its bytes are; blank where it isn't known. Amounts are in cents.
+pub fn cell_of(alloc: Global, column: Column, line: &Line) -> Result<Vec<u8>, AllocError>
+    ensures { IfOk result (λ text. text.items ≡ cell column line.now) }
+{
+    let mut text = Vec::new(alloc);
+    put_cell(alloc, &mut text, column, line)?;
+    Ok(text)
+}
+
+// Puts it.
 pub(crate) fn put_cell(
     alloc: Global,
     text: &mut Vec<u8>,

@@ -19,6 +19,7 @@ mod line;
 mod lines;
 mod texts;
 
+pub use cells::cell_of;
 pub use column::Column;
 pub use line::Line;
 pub use lines::report_lines;

@@ -4,7 +4,7 @@ ghost use Rattle.rx_report.specs.Cells.{cell};
 ghost use Rattle.rx_report.specs.Texts.{comma_member, comma_object, heading, json_member, json_object, json_text, json_value};
 ghost use Rattle.rx_report.specs.Texts.{row, tab_cell, tab_name, tsv_text};
 
-use crate::cells::put_cell;
+use crate::cells::{cell_of, put_cell};
 use crate::column::{Column, OTHERS};
 use crate::line::Line;
 use rx_escape::{Style, put_escaped};
@@ -173,15 +173,6 @@ fn put_member(
     text.extend_from_slice(column.name())?;
     text.extend_from_slice(b"\":")?;
     put_value(text, column, &value)
-}
-
-// The cell alone.
-fn cell_of(alloc: Global, column: Column, line: &Line) -> Result<Vec<u8>, AllocError>
-    ensures { IfOk result (λ text. text.items ≡ cell column line.now) }
-{
-    let mut text = Vec::new(alloc);
-    put_cell(alloc, &mut text, column, line)?;
-    Ok(text)
 }
 
 #[tactic(auto, using(std::proofs::Common::append_assoc))]

@@ -8,6 +8,8 @@
 //! let text = rx_settle::settle(alloc, lot, stamp, replies.as_slice())?;
 //! ```
 //!
+//! `tally_replies` gives the same counts as numbers.
+//!
 //! Which answer a transaction gets is left to the crates below; the response file is written elsewhere.
 #![tactic(auto)]
 
@@ -18,4 +20,6 @@ mod tally;
 #[cfg(test)]
 mod tests;
 
-pub use settlement::settle;
+pub use provider::{Field, known_or_blank};
+pub use settlement::{ByProvider, Settled, settle, tally_replies};
+pub use tally::Tally;

@@ -8,7 +8,7 @@ use rx_fields::Provider;
 use std::alloc::AllocError;
 
 /// A provider as a reply's field has it, filled with blanks to 15 bytes; blanks alone stand for all that are no id.
-pub(crate) type Field = [u8; 15];
+pub type Field = [u8; 15];
 
 /// The provider of a reply.
 pub(crate) fn provider_field(reply: &Reply) -> Field
@@ -17,8 +17,8 @@ pub(crate) fn provider_field(reply: &Reply) -> Field
     known_or_blank(reply.echo.parts().provider)
 }
 
-// The field where it names a provider, else blanks.
-fn known_or_blank(field: Field) -> Field
+/// The field where it names a provider, else blanks: what stands for the provider among the tallies.
+pub fn known_or_blank(field: Field) -> Field
     ensures { result ≡ field_text (named field) }
 {
     if Provider::new(&field).is_ok() {

@@ -18,14 +18,16 @@ const LINE: usize = 48;
 
 const ENDS: usize = 96;
 
-// A tally for each provider, in order of first appearance.
-type Tallies = IndexMap<Field, Tally>;
+/// A tally for each provider, in order of first appearance.
+pub type ByProvider = IndexMap<Field, Tally>;
 
-// The tallies of a batch's replies.
+/// The tallies of a batch's replies.
 #[derive(Drop)]
-struct Tallied {
-    providers: Tallies,
-    total: Tally,
+pub struct Settled {
+    /// By provider.
+    pub providers: ByProvider,
+    /// Over all replies.
+    pub total: Tally,
 }
 
 /// The settlement of a batch's replies: counts of their answers and the net in cents, per provider in order of first
@@ -43,8 +45,8 @@ pub fn settle(alloc: Global, lot: Lot, stamp: Stamp, replies: &[Reply]) -> Resul
     Ok(text)
 }
 
-// Counts each reply's answers once, for its provider and in all.
-fn tally_replies(alloc: Global, replies: &[Reply]) -> Result<Tallied, Memory>
+/// Counts each reply's answers once, for its provider and in all: what the lines of the settlement say.
+pub fn tally_replies(alloc: Global, replies: &[Reply]) -> Result<Settled, Memory>
     ensures providers { IfOk result (λ t. t.providers.entries ≡ tallies_of replies.now) }
     ensures total { IfOk result (λ t. t.total ≡ tally (answers_of replies.now)) }
 {
@@ -55,11 +57,11 @@ fn tally_replies(alloc: Global, replies: &[Reply]) -> Result<Tallied, Memory>
         count(&mut providers, provider_field(reply), more)?;
         total = total.plus(more);
     }
-    Ok(Tallied { providers, total })
+    Ok(Settled { providers, total })
 }
 
 // Adds a reply's counts to its provider's.
-fn count(providers: &mut Tallies, field: Field, more: Tally) -> Result<(), Memory>
+fn count(providers: &mut ByProvider, field: Field, more: Tally) -> Result<(), Memory>
     requires { weight (tally_at field providers.old.entries) + weight more < 2 ^ 128 }
     ensures { OnOk result (providers.new.entries ≡ counted field more providers.old.entries) }
 {
@@ -73,7 +75,7 @@ fn count(providers: &mut Tallies, field: Field, more: Tally) -> Result<(), Memor
 }
 
 // The providers' lines.
-fn put_lines(alloc: Global, text: &mut Vec<u8>, providers: &Tallies) -> Result<(), AllocError>
+fn put_lines(alloc: Global, text: &mut Vec<u8>, providers: &ByProvider) -> Result<(), AllocError>
     ensures { OnOk result (text.new.items ≡ text.old.items ++ flat_map line providers.now.entries) }
 {
     for (field, tally) in providers {

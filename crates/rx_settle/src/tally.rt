@@ -6,7 +6,7 @@ use rx_claim::{Answer, Outcome};
 /// How many answers of each status there are, and the cents that they move. Its numbers are wide enough for all
 /// replies that fit in memory.
 #[derive(Clone, Copy, Debug, Default, PartialEq, Eq)]
-pub(crate) struct Tally {
+pub struct Tally {
     /// Status P.
     pub paid: u128,
     /// Status D.
@@ -49,8 +49,8 @@ impl Tally {
         tally
     }
 
-    // One answer's count.
-    fn of_answer(answer: &Answer) -> Tally
+    /// One answer's count.
+    pub fn of_answer(answer: &Answer) -> Tally
         ensures value { result ≡ tally (answer.now ∷ []) }
         ensures within { weight result ≤ 100_000_000 }
     {

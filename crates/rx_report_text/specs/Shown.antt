@@ -1,0 +1,54 @@
+-- What a report for people says of an answer, column by column. What isn't known stays blank.
+use Rattle.std.specs.Prelude.{ℕ, Bool, true, false, List, [], ◌∷◌, ◌++◌, Option, Some, None, codes, drop, take}
+use Rattle.rx_report.specs.Cells.{cell}
+use Rattle.rx_report.specs.declared.column.Column.TheVariants as column
+use Rattle.rx_report.specs.declared.line.Line.{Line}
+use Rattle.rx_report_text.specs.declared.shown.Shown.{Shown}
+use Rattle.rx_report_text.specs.declared.shown.Shown.TheVariants as shown
+use Rattle.rx_report_text.specs.Money.{dollars}
+
+abbrev pub heading_of : Shown → List ℕ
+heading_of shown.Record = codes "record"
+heading_of shown.Answer = codes "ans"
+heading_of shown.Codes = codes "codes"
+heading_of shown.Prescription = codes "rx"
+heading_of shown.Date = codes "date"
+heading_of shown.Member = codes "member"
+heading_of shown.Allowed = codes "allowed"
+heading_of shown.Deductible = codes "deduct."
+heading_of shown.Copay = codes "copay"
+heading_of shown.Coinsurance = codes "coins."
+heading_of shown.MemberPays = codes "member pays"
+heading_of shown.PlanPays = codes "plan pays"
+
+abbrev pub is_amount : Shown → Bool
+is_amount shown.Record = false
+is_amount shown.Answer = false
+is_amount shown.Codes = false
+is_amount shown.Prescription = false
+is_amount shown.Date = false
+is_amount shown.Member = false
+is_amount other = true
+
+-- a date of eight digits, as 2026-03-01
+abbrev pub dashed : List ℕ → List ℕ
+dashed date = take 4 date ++ (45 ∷ (take 2 (drop 4 date) ++ (45 ∷ drop 2 (drop 4 date))))
+
+-- the family and the person, as F1/02
+abbrev pub member_text : Option (List ℕ × List ℕ) → List ℕ
+member_text None = []
+member_text (Some m) = m.0 ++ (47 ∷ m.1)
+
+abbrev pub shown_cell : Shown → Line → List ℕ
+shown_cell shown.Record l = cell column.Place l ++ (46 ∷ cell column.Nth l)
+shown_cell shown.Answer l = cell column.Status l
+shown_cell shown.Codes l = cell column.Codes l
+shown_cell shown.Prescription l = cell column.Prescription l
+shown_cell shown.Date l = dashed l.date
+shown_cell shown.Member l = member_text l.member
+shown_cell shown.Allowed l = dollars (cell column.Allowed l)
+shown_cell shown.Deductible l = dollars (cell column.Deductible l)
+shown_cell shown.Copay l = dollars (cell column.Copay l)
+shown_cell shown.Coinsurance l = dollars (cell column.Coinsurance l)
+shown_cell shown.MemberPays l = dollars (cell column.Member l)
+shown_cell shown.PlanPays l = dollars (cell column.Plan l)
