@@ -1,9 +1,12 @@
 -- Which texts are response files: as batch files are, but with type R (NCPDP Batch Standard 1.2).
-use Rattle.std.specs.Prelude.{ℕ, ◌==◌, if◌then◌else◌, List, [], ◌∷◌, ◌++◌, take, Result, Ok}
+use Rattle.std.specs.Prelude.{◌≡◌, ℕ, ◌==◌, if◌then◌else◌, List, ◌∷◌, ◌++◌, take, Result, Ok}
 use Rattle.rx_batch.specs.declared.batch.Batch.{Batch}
+use Rattle.rx_batch.specs.declared.detail.Detail.{Detail}
 use Rattle.rx_batch.specs.declared.fault.BatchFault.{BatchFault}
+use Rattle.rx_batch.specs.declared.head.Head.{Head}
 use Rattle.rx_batch.specs.declared.head.Kind.TheVariants.{Response}
 use Rattle.rx_batch.specs.Fault.{◌>>=◌}
+use Rattle.rx_batch.specs.Grammar.{IsFile}
 use Rattle.rx_batch.specs.Reading.{batch_of, gap, unskipped}
 
 -- T for R, and R for T
@@ -18,6 +21,12 @@ exchanged_in short = short
 -- the text with the type of its header exchanged, behind the CR and LF before it
 abbrev pub as_batch : List ℕ → List ℕ
 as_batch bytes = take (gap bytes) bytes ++ exchanged_in (unskipped bytes)
+
+-- the bytes are a response file of this head and these details: with the type exchanged a batch file of them
+pub record IsResponse (bytes : List ℕ) (head : Head) (details : List Detail) : Type 0 where
+  pub asked : Head
+  pub file : IsFile (as_batch bytes) asked details
+  pub head_is : head ≡ record asked { kind = Response }
 
 abbrev pub with_kind : Batch → Batch
 with_kind batch = record batch { head = record batch.head { kind = Response } }

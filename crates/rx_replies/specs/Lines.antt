@@ -12,7 +12,6 @@ use Rattle.rx_claim.specs.declared.reply.Outcome.{Outcome}
 use Rattle.rx_claim.specs.declared.reply.Outcome.TheVariants as outcome
 use Rattle.rx_claim.specs.declared.reply.Paid.{Paid}
 use Rattle.rx_claim.specs.declared.reply.Refused.{Refused}
-use Rattle.rx_claim.specs.declared.reply.Reply.{Reply}
 use Rattle.rx_claim.specs.Priced.{patient_pay, total_paid}
 use Rattle.rx_reply.specs.Fault.{fault_code}
 use Rattle.rx_settle.specs.Providers.{named}

@@ -1,9 +1,9 @@
-ghost use Rattle.std.specs.Prelude.{◌≡◌, ◌++◌, ◌≤◌, length};
+ghost use Rattle.std.specs.Prelude.{◌≡◌, ◌++◌, ◌≤◌, IfErr, IfOk, Ok, length};
 ghost use Rattle.std.specs.List.{prefix_len};
-ghost use Rattle.rx_batch.specs.Fault.{Gives};
+ghost use Rattle.rx_batch.specs.Fault.{Gives, UnlessMemory};
 ghost use Rattle.rx_batch.specs.Grammar.{is_skipped};
-ghost use Rattle.rx_batch.specs.Reading.{batch_of};
-ghost use Rattle.rx_replies.specs.File.{as_batch, exchanged, exchanged_in, response_of};
+ghost use Rattle.rx_batch.specs.Reading.{HasFault, batch_of};
+ghost use Rattle.rx_replies.specs.File.{IsResponse, as_batch, exchanged, exchanged_in, response_of};
 
 use rx_batch::{Batch, BatchFault, Head, Kind, Pieces};
 use std::alloc::Global;
@@ -15,7 +15,13 @@ use std::alloc::Global;
 ///
 /// The first fault, as of a batch file, with its place in bytes; Memory.
 pub fn read_response(alloc: Global, bytes: &[u8]) -> Result<Batch, BatchFault>
-    ensures { Gives result (response_of bytes.now) }
+    ensures ok { IfOk result (λ batch. IsResponse bytes.now batch.head batch.details) }
+    // A response file is read as its head and details, unless memory was wanting.
+    ensures reads { (batch : Batch) → IsResponse bytes.now batch.head batch.details → Gives result (Ok batch) }
+    // A fault is that of the batch file.
+    ensures refuses { IfErr result (λ fault. UnlessMemory fault (HasFault (as_batch bytes.now) fault)) }
+    // The same, computed.
+    ensures value { Gives result (response_of bytes.now) }
 {
     let Batch { head, details } = read_exchanged(alloc, bytes)?;
     Ok(Batch {
