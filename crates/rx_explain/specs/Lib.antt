@@ -2,6 +2,7 @@ pub mod Before
 pub mod Cases
 pub mod Explained
 pub mod Found
+pub mod Opens
 pub mod Shown
 pub mod Spots
 pub mod Traces

@@ -9,7 +9,7 @@ ghost use Rattle.rx_ledger.specs.Ledger.{row_under, rows_of};
 ghost use Rattle.rx_ledger.specs.Members.{is_same};
 ghost use Rattle.rx_ledger.specs.Plan.{drug_of, is_drug};
 ghost use Rattle.rx_ledger.specs.declared.sheet.Listed.{Listed};
-ghost use Rattle.rx_ledger.specs.Rows.{claimed_by};
+ghost use Rattle.rx_explain.specs.Opens.{is_early_fill};
 ghost use Rattle.rx_explain.specs.Cases.{answer_to, case_bill, case_covered, case_member, case_new, case_of, case_reversal, payment};
 
 use crate::case::{Case, Payment};
@@ -190,14 +190,14 @@ fn earlier_fill(occasion: &Occasion, sheet: &Sheet, ledger: &Ledger, bill: &Bill
     ledger
         .rows()
         .iter()
-        .find(|row| is_too_soon_of(figures, occasion.date, bill, row))
+        .find(|row| is_early_fill(figures, occasion.date, bill, row))
         .copied()
 }
 
-// Whether the row is one of the billing's family, and makes it too soon.
-fn is_too_soon_of(figures: &Figures, date: Day, bill: &Bill, row: &Row) -> bool
+/// Whether the row is one of the billing's family, and makes it too soon on a date.
+pub(crate) fn is_early_fill(figures: &Figures, date: Day, bill: &Bill, row: &Row) -> bool
     requires { figures.now.refill_percent ≤ 100 }
-    ensures { result ≡ (claimed_by bill.now.family row.now && is_too_soon figures.now date bill.now row.now) }
+    ensures { result ≡ is_early_fill figures.now date bill.now row.now }
 {
     is_same(&row.family, &bill.parts().family) && is_too_soon(figures, date, bill, row)
 }

@@ -14,6 +14,7 @@ use crate::at::At;
 use crate::case::Case;
 use crate::deciding::{Decision, decide};
 use crate::events::{Event, events_of};
+use crate::open_from::open_from;
 use crate::spot::{Spot, spot_at};
 use crate::traced::{Traced, trace, trace_each};
 use rx_claim::{Answer, Reply, Transaction, Transmission};
@@ -40,6 +41,9 @@ pub struct Explanation {
     pub answer: Answer,
     /// The standing claim that decided, where one did.
     pub standing: Option<Traced>,
+    /// Of a claim that is too soon: the first date, from its own on, on which none of the member's fills of the product that
+    /// stand before it is too soon any more; None where the calendar ends before.
+    pub open_from: Option<Day>,
     /// Of a claim that is paid: the family's claims that count in the benefit period, ascending by fill key.
     pub counted: Vec<Traced>,
 }
@@ -120,6 +124,13 @@ fn on_ledger(
         case,
         answer,
         standing: standing(events, at, &case),
+        open_from: open_from(
+            sheet.figures(),
+            spot.heard.date,
+            ledger,
+            spot.transaction,
+            &case,
+        ),
         counted,
     })
 }

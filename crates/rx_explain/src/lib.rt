@@ -19,6 +19,7 @@ mod events;
 mod explanation;
 mod finding;
 mod law;
+mod open_from;
 mod spot;
 mod traced;
 mod workings;

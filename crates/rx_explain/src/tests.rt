@@ -112,6 +112,7 @@ fn a_maximum_is_told_with_the_claims_that_used_it(rt: HostRuntime) -> Result<(),
         billing(b"03", 203, b"20260228")?,
     ];
     let third = explained(alloc, &batch, 3)?;
+    let third = &third;
     let Case::Payable(payment) = third.case else {
         return Err("paid".into());
     };
@@ -145,5 +146,20 @@ fn an_early_refill_is_told_with_the_earlier_fill(rt: HostRuntime) -> Result<(), 
     assert_eq!(rt; standing.row.key.reference.get(), 123);
     assert_eq!(rt; standing.source, Source::Record(At { place: 1, nth: 1 }));
     assert_eq!(rt; standing.taken_back, None);
+    // 75 percent of 30 days are over on the 23rd day after.
+    assert_eq!(rt; second.open_from, Some(day(b"20260224")?));
+    Ok(())
+}
+
+#[test]
+fn a_first_date_passes_the_end_of_a_month(rt: HostRuntime) -> Result<(), Fail> {
+    let batch = [
+        billing(b"01", 123, b"20260226")?,
+        billing(b"01", 124, b"20260226")?,
+    ];
+    let second = explained(rt.alloc(), &batch, 2)?;
+    assert_eq!(rt; second.open_from, Some(day(b"20260321")?));
+    let first = explained(rt.alloc(), &batch, 1)?;
+    assert_eq!(rt; first.open_from, None);
     Ok(())
 }

@@ -1,3 +1,4 @@
+use rx_explain::Case;
 use rx_fields::Code;
 
 /// The name of a reject code, in the standard's words.
@@ -37,44 +38,62 @@ pub fn name(code: Code) -> &'static str {
     }
 }
 
-/// What the table of reject codes wants, where a transaction has the code (docs/FORMATS.md, "Request transmission").
-pub fn meaning(code: Code) -> &'static str {
+/// What the tables of header codes and group codes want in place of what a request has (docs/FORMATS.md, "Request
+/// transmission"); of a code of adjudication what the rules want (docs/PRODUCT.md, "Billing").
+pub fn wanted(code: Code) -> &'static str {
     match code {
-        Code::Bin => "the BIN (101-A1) must be the plan's",
-        Code::Version => "the version (102-A2) must be D0",
-        Code::TransactionCode => "the transaction code (103-A3) must be B1 or B2",
-        Code::ProcessorControlNumber => "the processor control number (104-A4) must be the plan's",
-        Code::Provider => "the provider id (201-B1) must be an id of at most 15 bytes",
-        Code::Cardholder => "the cardholder id (302-C2) must be there, an id of at most 20 bytes",
-        Code::OtherCoverage => "the other coverage code (308-C8) must be 0 or 1, or absent",
-        Code::DateOfService => "the date of service (401-D1) must be a date that exists",
-        Code::Reference => "the prescription reference number (402-D2) must be 1 to 12 digits",
-        Code::DaysSupply => "the days supply (405-D5) must be 1 to 3 digits, and not zero",
-        Code::Compound => "the compound code (406-D6) must be 0 or 1, or absent",
-        Code::ProductId => "the product id (407-D7) must be 11 digits",
-        Code::IngredientCost =>
-            "the ingredient cost (409-D9) must be there, readable and not negative",
-        Code::UnknownCardholder => "the family must have a member",
-        Code::Person => "the person code (303-C3) must be readable, and one of the family",
-        Code::NotCovered => "the member must be covered on the date of service",
-        Code::ProductNotCovered => "the product must be in the plan sheet",
-        Code::PlanLimits => "the days supply must be within the plan's limit",
-        Code::RefillTooSoon => "enough days of the earlier fill must have passed",
-        Code::TooOld => "the date of service must not be before the benefit period",
-        Code::PostDated => "the date of service must not be after the batch's creation date",
-        Code::DuplicatePaid => "no other claim may stand under the fill key",
-        Code::ReversalNotProcessed => "the claim with the product must stand under the fill key",
-        Code::TransactionCount =>
-            "the transaction count (109-A9) must be 1 to 4, and the number of groups",
-        Code::DispensingFee =>
-            "the dispensing fee (412-DC) must be readable and not negative, or absent",
-        Code::UsualCharge =>
-            "the usual and customary charge (426-DQ) must be readable and not negative, or stand as 430-DU",
-        Code::GrossAmount =>
-            "the gross amount due (430-DU) must be readable and not negative, or absent",
-        Code::ProductQualifier => "the product id qualifier (436-E1) must be 03",
-        Code::Quantity => "the quantity dispensed (442-E7) must be 1 to 10 digits, and not zero",
-        Code::ReferenceQualifier => "the prescription reference qualifier (455-EM) must be 1",
-        Code::Syntax => "the text must keep the syntax of separators and fields",
+        Code::Bin => "the plan's BIN",
+        Code::Version => "D0",
+        Code::TransactionCode => "B1 or B2",
+        Code::ProcessorControlNumber => "the plan's processor control number",
+        Code::Provider => "an id of at most 15 bytes",
+        Code::Cardholder => "an id of at most 20 bytes",
+        Code::OtherCoverage => "0 or 1 in one or two digits, or no such field",
+        Code::DateOfService => "a date CCYYMMDD that exists",
+        Code::Reference => "1 to 12 digits",
+        Code::DaysSupply => "1 to 3 digits that aren't all zero",
+        Code::Compound => "0 or 1, or no such field",
+        Code::ProductId => "11 digits",
+        Code::IngredientCost => "an amount that isn't negative",
+        Code::UnknownCardholder => "a family that has a member",
+        Code::Person => "an id of at most 3 bytes, or no such field",
+        Code::NotCovered => "a date of service within the coverage and the benefit period",
+        Code::ProductNotCovered => "a product of the plan sheet",
+        Code::PlanLimits => "a days supply within the plan's limit",
+        Code::RefillTooSoon => "enough days of each earlier fill gone by",
+        Code::TooOld => "a date of service in the benefit period",
+        Code::PostDated => "a date of service no later than the batch's creation date",
+        Code::DuplicatePaid => "no other claim under the fill key",
+        Code::ReversalNotProcessed => "a claim of the product under the fill key",
+        Code::TransactionCount => "1 to 4, and as many groups",
+        Code::DispensingFee => "an amount that isn't negative, or no such field",
+        Code::UsualCharge => "an amount that isn't negative, or 430-DU in its place",
+        Code::GrossAmount => "an amount that isn't negative, or no such field",
+        Code::ProductQualifier => "03",
+        Code::Quantity => "1 to 10 digits that aren't all zero",
+        Code::ReferenceQualifier => "1",
+        Code::Syntax =>
+            "56 printable bytes of header, and parts, segments and fields as the separators cut them",
+    }
+}
+
+/// The name of a case, for programs.
+pub(crate) fn case_name(case: &Case) -> &'static str {
+    match case {
+        Case::NoFamily => "no family",
+        Case::NoPerson => "no person",
+        Case::SameStands(_) => "same claim stands",
+        Case::OtherStands(_) => "other claim stands",
+        Case::BeforePeriod => "before period",
+        Case::AfterCreation => "after creation",
+        Case::NotCovered(_) => "not covered",
+        Case::NotListed => "not listed",
+        Case::TooManyDays => "too many days",
+        Case::TooSoon(_) => "too soon",
+        Case::Payable(_) => "payable",
+        Case::NoneStands => "none stands",
+        Case::OtherProduct(_) => "other product",
+        Case::TakenBack(_) => "taken back",
+        Case::Unread(_) => "unread",
     }
 }

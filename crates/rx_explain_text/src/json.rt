@@ -1,38 +1,75 @@
-use crate::code_words::{meaning, name};
+use crate::code_words::{case_name, name, wanted};
+use crate::compared::Compared;
 use crate::page::Page;
-use rx_claim::{Amounts, Answer, Bill, Codes, Pricing, Rejected, Transaction};
+use crate::reasons::without_end;
+use crate::request_field::{field_bytes, field_name};
+use rx_claim::{Amounts, Answer, Bill, Codes, Pricing, Refused, Rejected, Transaction};
+use rx_escape::Style;
 use rx_explain::{At, Case, Explanation, Payment, Source, Traced};
-use rx_fields::Memory;
+use rx_fields::{Code, Day, Lot, Memory};
 use rx_ledger::{Figures, Share};
 use std::alloc::{AllocError, Global};
 
-/// An explanation as one JSON object on one line. Amounts are in cents.
+/// An explanation as one JSON object on one line. Amounts are in cents. `request` is the text of the record's transmission.
 pub fn explanation_json(
     alloc: Global,
+    lot: Lot,
     figures: &Figures,
     explanation: &Explanation,
+    request: &[u8],
+    compared: Option<Compared>,
 ) -> Result<Vec<u8>, Memory> {
     let mut page = Page::new(alloc);
     page.say("{")?;
-    put_header(&mut page, explanation)?;
-    put_case(&mut page, explanation)?;
+    put_header(&mut page, explanation, request)?;
+    page.say(",\"case\":\"")?;
+    page.say(case_name(&explanation.case))?;
+    page.say("\"")?;
+    put_case(&mut page, lot, figures, explanation)?;
+    put_standing(&mut page, explanation)?;
     put_figures(&mut page, figures, explanation)?;
+    put_compared(&mut page, compared)?;
     page.say("}\n")?;
     Ok(page.into_bytes())
 }
 
 /// The same of a record whose header is rejected.
-pub fn rejection_json(alloc: Global, place: u64, rejected: &Rejected) -> Result<Vec<u8>, Memory> {
+pub fn rejection_json(
+    alloc: Global,
+    place: u64,
+    rejected: &Rejected,
+    request: &[u8],
+    compared: Option<Compared>,
+) -> Result<Vec<u8>, Memory> {
     let mut page = Page::new(alloc);
     page.say("{\"place\":")?;
     page.number(u128::from(place))?;
-    page.say(",\"answer\":\"rejected\"")?;
-    put_codes(&mut page, &rejected.codes)?;
+    page.say(",\"pharmacy\":")?;
+    put_bytes(&mut page, field_bytes(request, 0, Code::Provider))?;
+    page.say(",\"date\":")?;
+    put_bytes(&mut page, field_bytes(request, 0, Code::DateOfService))?;
+    page.say(",\"answer\":\"header rejected\"")?;
+    put_codes(&mut page, &rejected.codes, request, 0)?;
+    put_compared(&mut page, compared)?;
     page.say("}\n")?;
     Ok(page.into_bytes())
 }
 
-fn put_header(page: &mut Page, explanation: &Explanation) -> Result<(), AllocError> {
+// What a response file has at the place of the record.
+fn put_compared(page: &mut Page, compared: Option<Compared>) -> Result<(), AllocError> {
+    match compared {
+        None => Ok(()),
+        Some(Compared::Same) => page.say(",\"response\":\"same\""),
+        Some(Compared::Differs) => page.say(",\"response\":\"differs\""),
+        Some(Compared::Absent) => page.say(",\"response\":\"absent\""),
+    }
+}
+
+fn put_header(
+    page: &mut Page,
+    explanation: &Explanation,
+    request: &[u8],
+) -> Result<(), AllocError> {
     page.say("\"place\":")?;
     page.number(u128::from(explanation.at.place))?;
     page.say(",\"nth\":")?;
@@ -43,7 +80,7 @@ fn put_header(page: &mut Page, explanation: &Explanation) -> Result<(), AllocErr
     page.day(explanation.date)?;
     page.say("\"")?;
     put_asked(page, &explanation.transaction)?;
-    put_answer(page, &explanation.answer)
+    put_answer(page, explanation, request)
 }
 
 fn put_asked(page: &mut Page, transaction: &Transaction) -> Result<(), AllocError> {
@@ -74,8 +111,12 @@ fn put_bill(page: &mut Page, bill: &Bill) -> Result<(), AllocError> {
     put_number(page, "days", parts.days.get())
 }
 
-fn put_answer(page: &mut Page, answer: &Answer) -> Result<(), AllocError> {
-    match answer {
+fn put_answer(
+    page: &mut Page,
+    explanation: &Explanation,
+    request: &[u8],
+) -> Result<(), AllocError> {
+    match &explanation.answer {
         Answer::Paid(paid) => {
             page.say(",\"answer\":\"paid\",\"number\":\"")?;
             page.authorization(paid.number)?;
@@ -96,7 +137,7 @@ fn put_answer(page: &mut Page, answer: &Answer) -> Result<(), AllocError> {
         }
         Answer::Refused(refused) => {
             page.say(",\"answer\":\"refused\"")?;
-            put_codes(page, &refused.codes)
+            put_refused(page, explanation, refused, request)
         }
     }
 }
@@ -118,7 +159,20 @@ fn put_pricing(page: &mut Page, pricing: &Pricing) -> Result<(), AllocError> {
     put_number(page, "total_paid", pricing.total_paid())
 }
 
-fn put_codes(page: &mut Page, codes: &Codes) -> Result<(), AllocError> {
+// The code of a case, or each code of a transaction that can't be read.
+fn put_refused(
+    page: &mut Page,
+    explanation: &Explanation,
+    refused: &Refused,
+    request: &[u8],
+) -> Result<(), AllocError> {
+    match &explanation.transaction {
+        Transaction::Faulty(_) => put_codes(page, &refused.codes, request, explanation.at.nth),
+        _ => put_decided(page, &refused.codes),
+    }
+}
+
+fn put_decided(page: &mut Page, codes: &Codes) -> Result<(), AllocError> {
     let mut before = ",\"codes\":[";
     for code in codes.as_slice() {
         page.say(before)?;
@@ -127,27 +181,97 @@ fn put_codes(page: &mut Page, codes: &Codes) -> Result<(), AllocError> {
         put_text(page, &code.text())?;
         page.say(",\"name\":\"")?;
         page.say(name(*code))?;
-        page.say("\",\"wanted\":\"")?;
-        page.say(meaning(*code))?;
         page.say("\"}")?;
     }
     page.say("]")
 }
 
-// The claim that decided, or the member's coverage.
-fn put_case(page: &mut Page, explanation: &Explanation) -> Result<(), AllocError> {
-    if let Case::NotCovered(member) = &explanation.case {
-        page.say(",\"covered_from\":\"")?;
-        page.day(member.coverage.first())?;
-        page.say("\",\"covered_to\":\"")?;
-        page.day(member.coverage.last())?;
-        page.say("\"")?;
+// Each code with its name, the field that it speaks of, that field's bytes and what is wanted.
+fn put_codes(page: &mut Page, codes: &Codes, request: &[u8], nth: u64) -> Result<(), AllocError> {
+    let mut before = ",\"codes\":[";
+    for code in codes.as_slice() {
+        page.say(before)?;
+        before = ",";
+        put_code(page, *code, request, nth)?;
     }
-    if let Some(traced) = &explanation.standing {
-        page.say(",\"standing\":")?;
-        put_traced(page, traced)?;
+    page.say("]")
+}
+
+fn put_code(page: &mut Page, code: Code, request: &[u8], nth: u64) -> Result<(), AllocError> {
+    page.say("{\"code\":")?;
+    put_text(page, &code.text())?;
+    page.say(",\"name\":\"")?;
+    page.say(name(code))?;
+    page.say("\",\"wanted\":\"")?;
+    page.say(wanted(code))?;
+    page.say("\"")?;
+    if let Some(field) = field_name(code) {
+        page.say(",\"field\":\"")?;
+        page.say(field)?;
+        page.say("\",\"bytes\":")?;
+        put_bytes(page, field_bytes(request, nth, code))?;
+    } else if matches!(code, Code::Syntax) {
+        page.say(",\"bytes\":")?;
+        put_bytes(page, field_bytes(request, nth, code))?;
     }
-    Ok(())
+    page.say("}")
+}
+
+// Bytes of a request as a string, in which each byte is a character; `null` where a field is absent.
+fn put_bytes(page: &mut Page, bytes: Option<&[u8]>) -> Result<(), AllocError> {
+    match bytes {
+        Some(bytes) => put_text(page, bytes),
+        None => page.say("null"),
+    }
+}
+
+// What decided a billing that isn't paid.
+fn put_case(
+    page: &mut Page,
+    lot: Lot,
+    figures: &Figures,
+    explanation: &Explanation,
+) -> Result<(), AllocError> {
+    match &explanation.case {
+        Case::BeforePeriod => put_day(page, "period_first", figures.period.first()),
+        Case::AfterCreation => put_day(page, "created", lot.created()),
+        Case::NotCovered(member) => {
+            put_day(page, "covered_first", member.coverage.first())?;
+            put_day(page, "covered_last", member.coverage.last())?;
+            put_day(page, "period_last", figures.period.last())
+        }
+        Case::TooManyDays => put_number(page, "most_days", figures.max_days),
+        Case::TooSoon(row) => {
+            let passed = i64::from(explanation.date.number()) - i64::from(row.key.date.number());
+            put_number(page, "days_passed", passed.unsigned_abs())?;
+            put_number(page, "refill_percent", figures.refill_percent)?;
+            match explanation.open_from {
+                Some(day) => put_day(page, "first_date", day),
+                None => page.say(",\"first_date\":null"),
+            }
+        }
+        _ => Ok(()),
+    }
+}
+
+fn put_day(page: &mut Page, name: &str, day: Day) -> Result<(), AllocError> {
+    page.say(",\"")?;
+    page.say(name)?;
+    page.say("\":\"")?;
+    page.day(day)?;
+    page.say("\"")
+}
+
+// The claim that decided. One that this transaction takes back is taken back by no later one.
+fn put_standing(page: &mut Page, explanation: &Explanation) -> Result<(), AllocError> {
+    let Some(traced) = &explanation.standing else {
+        return Ok(());
+    };
+    page.say(",\"standing\":")?;
+    match explanation.case {
+        Case::TakenBack(_) => put_traced(page, &without_end(traced)),
+        _ => put_traced(page, traced),
+    }
 }
 
 // The steps to the amounts of a claim that is paid, and the claims that count.
@@ -157,12 +281,32 @@ fn put_figures(
     explanation: &Explanation,
 ) -> Result<(), AllocError> {
     match (&explanation.transaction, &explanation.case) {
-        (Transaction::Bill(_), Case::Payable(payment)) => {
+        (Transaction::Bill(bill), Case::Payable(payment)) => {
+            put_price(page, figures, bill, payment)?;
             put_workings(page, figures, payment)?;
             put_counted(page, &explanation.counted)
         }
         _ => Ok(()),
     }
+}
+
+// What was submitted and what the plan has beside it; the price is in hundredths of a cent.
+fn put_price(
+    page: &mut Page,
+    figures: &Figures,
+    bill: &Bill,
+    payment: &Payment,
+) -> Result<(), AllocError> {
+    let parts = bill.parts();
+    put_number(page, "submitted_cost", parts.ingredient_cost.get())?;
+    put_number(page, "price_hundredths", payment.drug.price)?;
+    let submitted_fee = parts.dispensing_fee.map_or(0, |fee| fee.get());
+    put_number(page, "submitted_fee", submitted_fee)?;
+    put_number(page, "plan_fee", figures.fee)?;
+    page.say(match parts.usual_charge {
+        Some(_) => ",\"charge_field\":\"DQ\"",
+        None => ",\"charge_field\":\"DU\"",
+    })
 }
 
 fn put_workings(page: &mut Page, figures: &Figures, payment: &Payment) -> Result<(), AllocError> {
@@ -251,14 +395,9 @@ fn put_total(page: &mut Page, name: &str, number: u128) -> Result<(), AllocError
     page.number(number)
 }
 
-// A text of printable bytes in quotes; a quote and a backslash stand after a backslash.
+// Bytes in quotes.
 fn put_text(page: &mut Page, text: &[u8]) -> Result<(), AllocError> {
     page.say("\"")?;
-    for byte in text {
-        if *byte == b'"' || *byte == b'\\' {
-            page.put(b"\\")?;
-        }
-        page.put(&[*byte])?;
-    }
+    page.escaped(Style::Json, text)?;
     page.say("\"")
 }

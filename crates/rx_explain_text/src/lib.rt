@@ -1,23 +1,28 @@
 //! An explanation in words, for people in dollars and cents, and as JSON for programs, in cents.
 //!
 //! ```rust
-//! let text = rx_explain_text::explanation_text(alloc, lot, sheet.figures(), &explanation)?;
+//! let text = rx_explain_text::explanation_text(alloc, lot, sheet.figures(), &explanation, request, None)?;
 //! ```
 //!
 //! What is explained is decided by `rx_explain`; nothing is adjudicated here.
 #![tactic(auto)]
 
 mod code_words;
+mod codes;
+mod compared;
 mod figures;
 mod header;
 mod json;
 mod page;
 mod reasons;
+mod request_field;
 
-pub use code_words::{meaning, name};
+pub use code_words::{name, wanted};
+pub use compared::Compared;
 pub use header::{explanation_text, rejection_text};
 pub use json::{explanation_json, rejection_json};
 pub use page::Page;
+pub use request_field::{field_bytes, field_name};
 
 #[cfg(test)]
 mod tests;

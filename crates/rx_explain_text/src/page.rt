@@ -1,8 +1,10 @@
 ghost use Rattle.std.specs.Prelude.{◌≡◌, ◌++◌, [], ◌<◌, OnOk};
 ghost use Rattle.std.specs.Fmt.{decimal};
+ghost use Rattle.rx_escape.specs.Escape.{escaped};
 ghost use Rattle.rx_fields.specs.Digits.{digits_text};
 ghost use Rattle.rx_explain_text.specs.Money.{cents_text, money_text};
 
+use rx_escape::{Style, put_escaped};
 use rx_fields::{Authorization, Day, date_write, digits_write};
 use std::alloc::{AllocError, Global};
 
@@ -38,6 +40,13 @@ impl Page {
         self.bytes.extend_from_slice(bytes)
     }
 
+    /// Writes bytes as a terminal or a JSON string shows them.
+    pub fn escaped(&mut self, style: Style, bytes: &[u8]) -> Result<(), AllocError>
+        ensures { OnOk result (self.new.bytes.items ≡ self.old.bytes.items ++ escaped style bytes.now) }
+    {
+        put_escaped(&mut self.bytes, style, bytes)
+    }
+
     /// Writes words.
     pub fn say(&mut self, words: &str) -> Result<(), AllocError>
         ensures { OnOk result (self.new.bytes.items ≡ self.old.bytes.items ++ words.now) }
@@ -61,6 +70,44 @@ impl Page {
         self.say("$")?;
         self.number(cents / 100)?;
         self.put(&cents_text((cents % 100) as u8))
+    }
+
+    /// Writes an amount at the right end of a column of this width, in bytes.
+    pub fn column(&mut self, width: usize, cents: u128) -> Result<(), AllocError> {
+        let mut amount = Page::new(self.alloc);
+        amount.money(cents)?;
+        let amount = amount.into_bytes();
+        self.blanks(width.saturating_sub(amount.len()))?;
+        self.put(&amount)
+    }
+
+    /// Writes so many blanks.
+    pub fn blanks(&mut self, count: usize) -> Result<(), AllocError> {
+        for _ in 0..count {
+            self.put(b" ")?;
+        }
+        Ok(())
+    }
+
+    /// Writes a number of thousandths, as `30` or `0.500`.
+    pub fn thousandths(&mut self, number: u64) -> Result<(), AllocError> {
+        self.number(u128::from(number / 1000))?;
+        if number % 1000 > 0 {
+            let digits: [u8; 3] = digits_write(number % 1000);
+            self.say(".")?;
+            self.put(&digits)?;
+        }
+        Ok(())
+    }
+
+    /// Writes a price in hundredths of a cent as dollars, as `$9.50` or `$0.0375`.
+    pub fn price(&mut self, hundredths: u64) -> Result<(), AllocError> {
+        self.money(u128::from(hundredths / 100))?;
+        if hundredths % 100 > 0 {
+            let digits: [u8; 2] = digits_write(hundredths % 100);
+            self.put(&digits)?;
+        }
+        Ok(())
     }
 
     /// Writes an authorization number in its 15 digits.

@@ -1,8 +1,10 @@
-use crate::header::{put_at, put_codes};
+use crate::codes::put_codes;
+use crate::header::put_at;
 use crate::page::Page;
 use rx_claim::{Bill, Pricing, Transaction};
+use rx_escape::Style;
 use rx_explain::{Case, Explanation, Source, Traced};
-use rx_fields::Lot;
+use rx_fields::{Id, Lot, Person};
 use rx_ledger::{Figures, Member};
 use std::alloc::AllocError;
 
@@ -12,13 +14,20 @@ pub(crate) fn put_reason(
     lot: Lot,
     figures: &Figures,
     explanation: &Explanation,
+    request: &[u8],
 ) -> Result<(), AllocError> {
     match &explanation.transaction {
         Transaction::Bill(bill) => put_bill_reason(page, lot, figures, explanation, bill),
         Transaction::Reverse(reversal) => {
             put_reversal_reason(page, explanation, reversal.product.digits())
         }
-        Transaction::Faulty(faulty) => put_codes(page, &faulty.codes),
+        Transaction::Faulty(faulty) => put_codes(
+            page,
+            &figures.door,
+            &faulty.codes,
+            request,
+            explanation.at.nth,
+        ),
     }
 }
 
@@ -29,20 +38,8 @@ fn put_bill_reason(
     explanation: &Explanation,
     bill: &Bill,
 ) -> Result<(), AllocError> {
-    let parts = bill.parts();
     match &explanation.case {
-        Case::NoFamily => {
-            page.say("  the books list no member of family ")?;
-            page.put(parts.family.bytes())?;
-            page.say("\n")
-        }
-        Case::NoPerson => {
-            page.say("  family ")?;
-            page.put(parts.family.bytes())?;
-            page.say(" has no person ")?;
-            page.put(parts.person.bytes())?;
-            page.say(" in the books\n")
-        }
+        Case::NoFamily | Case::NoPerson => put_unknown(page, &explanation.case, bill),
         Case::SameStands(row) => put_same(page, explanation, &row.pricing),
         Case::OtherStands(_) => put_other(page, explanation),
         Case::BeforePeriod => {
@@ -56,20 +53,54 @@ fn put_bill_reason(
             page.say("\n")
         }
         Case::NotCovered(member) => put_coverage(page, figures, explanation, member),
+        Case::NotListed | Case::TooManyDays => {
+            put_unpaid(page, figures, &explanation.case, bill)
+        }
+        Case::TooSoon(_) => put_too_soon(page, figures, explanation),
+        _ => Ok(()),
+    }
+}
+
+// The books don't know who is billed.
+fn put_unknown(page: &mut Page, case: &Case, bill: &Bill) -> Result<(), AllocError> {
+    let parts = bill.parts();
+    match case {
+        Case::NoFamily => {
+            page.say("  the books list no member of family ")?;
+            page.escaped(Style::Terminal, parts.family.bytes())?;
+            page.say("\n")
+        }
+        _ => {
+            page.say("  the books list family ")?;
+            page.escaped(Style::Terminal, parts.family.bytes())?;
+            page.say(", but no person ")?;
+            page.escaped(Style::Terminal, parts.person.bytes())?;
+            page.say(" of it\n")
+        }
+    }
+}
+
+// The plan doesn't pay for the product, or for so many days.
+fn put_unpaid(
+    page: &mut Page,
+    figures: &Figures,
+    case: &Case,
+    bill: &Bill,
+) -> Result<(), AllocError> {
+    let parts = bill.parts();
+    match case {
         Case::NotListed => {
             page.say("  the plan sheet doesn't list product ")?;
             page.put(&parts.product.digits())?;
             page.say("\n")
         }
-        Case::TooManyDays => {
-            page.say("  ")?;
+        _ => {
+            page.say("  a supply for ")?;
             page.number(u128::from(parts.days.get()))?;
-            page.say(" days; the plan pays at most ")?;
+            page.say(" days; the plan pays for at most ")?;
             page.number(u128::from(figures.max_days))?;
             page.say("\n")
         }
-        Case::TooSoon(_) => put_too_soon(page, figures, explanation),
-        _ => Ok(()),
     }
 }
 
@@ -162,7 +193,19 @@ fn put_too_soon(
         row.days.get(),
         figures.refill_percent,
     )?;
-    page.say("\n")
+    put_open_from(page, explanation)
+}
+
+// From when on it isn't too soon, and the line's end.
+fn put_open_from(page: &mut Page, explanation: &Explanation) -> Result<(), AllocError> {
+    match explanation.open_from {
+        Some(day) => {
+            page.say("; first date ")?;
+            page.day(day)?;
+            page.say("\n")
+        }
+        None => page.say("; the calendar has no date that is late enough\n"),
+    }
 }
 
 // Days passed times 100 against days times the percentage.
@@ -178,10 +221,20 @@ fn put_sum(page: &mut Page, passed: u64, days: u64, percent: u64) -> Result<(), 
     page.number(u128::from(days) * u128::from(percent))
 }
 
+// The claim that decided. One that this transaction takes back is taken back by no later one.
 fn put_standing(page: &mut Page, explanation: &Explanation) -> Result<(), AllocError> {
-    match &explanation.standing {
-        Some(traced) => put_traced(page, traced),
-        None => Ok(()),
+    match (&explanation.standing, &explanation.case) {
+        (Some(traced), Case::TakenBack(_)) => put_traced(page, &without_end(traced)),
+        (Some(traced), _) => put_traced(page, traced),
+        (None, _) => Ok(()),
+    }
+}
+
+/// The same claim, with nothing of what takes it back.
+pub(crate) fn without_end(traced: &Traced) -> Traced {
+    Traced {
+        taken_back: None,
+        ..*traced
     }
 }
 
@@ -191,10 +244,21 @@ pub(crate) fn put_traced(page: &mut Page, traced: &Traced) -> Result<(), AllocEr
     page.number(u128::from(traced.row.key.reference.get()))?;
     page.say(" of ")?;
     page.day(traced.row.key.date)?;
+    page.say(" at ")?;
+    page.escaped(Style::Terminal, traced.row.key.provider.bytes())?;
+    put_for(page, &traced.row.family, &traced.row.person)?;
+    put_source(page, traced)
+}
+
+fn put_for(page: &mut Page, family: &Id, person: &Person) -> Result<(), AllocError> {
     page.say(" for ")?;
-    page.put(traced.row.family.bytes())?;
+    page.escaped(Style::Terminal, family.bytes())?;
     page.say("/")?;
-    page.put(traced.row.person.bytes())?;
+    page.escaped(Style::Terminal, person.bytes())
+}
+
+// Where a claim comes from, and what takes it back later.
+fn put_source(page: &mut Page, traced: &Traced) -> Result<(), AllocError> {
     match traced.source {
         Source::Opening => page.say(" (opening books")?,
         Source::Record(at) => {

@@ -25,6 +25,7 @@ returns c =
       case_is = rw under at c.decide.ensures.decided;
       answer_is = rw under at c.decide.ensures.answered;
       standing_is = c.standing.ensures;
+      open_from_is = rw c.figures-2.ensures.value at c.open_from.ensures;
       counted_are = c.in_ok-counted-2.ensures
           ∙ ap (map (traced c.args.events.now at))
           (c.deref.ensures.value ∙ c.in_ok-counted.ensures
