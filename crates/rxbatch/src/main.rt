@@ -62,7 +62,7 @@ fn perform<R: Threads + Wait + Sync>(rt: &HostRuntime, threads: &R) -> Result<()
         Ok(Command::Sample) => printing::sample(rt),
         Ok(Command::Plan(words)) => printing::plan(rt, &words),
         Ok(Command::Check(words)) => checking::check(rt, &words),
-        Ok(Command::Explain(words)) => explaining::explain(rt, &words),
+        Ok(Command::Explain(words)) => explaining::explain(rt, threads, &words),
         Ok(Command::Verify(words)) => verifying::verify(rt, threads, &words),
         Ok(Command::Replies(path)) => replying::replies(rt, path),
         Err(fault) if fault.is_version() => printing::version(rt, &fault),

@@ -1,0 +1,16 @@
+-- One more transaction is explained.
+use Rattle.std.proofs.Common.{◌<◌, length, arith}
+use Rattle.rx_explain.specs.Explained.{IsExplained}
+use Rattle.rx_explain.specs.Spots.{spot_at}
+use Rattle.rx_explain_run.proofs.Listed.{zipped_more}
+use Rattle.rx_explain_run.proofs.retracing.explain_each.Goals as goal
+
+pub loop-nth-preserved : goal.loop-nth-preserved
+loop-nth-preserved c =
+    let asked = c.args.asked.now in
+    let opening = c.args.opening.now.ledger in
+    let within : c.loop-nth.nth < length c.args.found.now = omega arith in
+    rw c.in_ok-push.ensures.items
+    (zipped_more (λ at x. IsExplained c.args.lot c.args.sheet.now asked opening at (spot_at asked at) x)
+    c.args.found.now c.loop-nth.explanations.items c.loop-nth.nth c.found_at-at.result c.in_ok-explanation.explanation
+    within c.found_at-at.ensures c.loop-nth.invariant c.in_ok-explanation.ensures)

@@ -1,0 +1,11 @@
+-- Each of the transactions so far, explained.
+use Rattle.std.proofs.Common.{take}
+use Rattle.std.specs.List.{AllZip}
+use Rattle.rx_explain.specs.Explained.{IsExplained}
+use Rattle.rx_explain.specs.Spots.{spot_at}
+use Rattle.rx_explain_run.proofs.retracing.explain_each.Given as goal
+
+abbrev pub invariant-loop-nth : goal.invariant-loop-nth
+invariant-loop-nth l =
+    AllZip (λ at x. IsExplained l.lot l.sheet l.asked l.opening.ledger at (spot_at l.asked at) x)
+    (take l.nth l.found) l.explanations.items

@@ -1,0 +1,3 @@
+pub mod Compared
+pub mod Courses
+pub mod Retraced
