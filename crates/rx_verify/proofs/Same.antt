@@ -1,12 +1,12 @@
 -- Files are found the same exactly where they are the output.
-use Rattle.std.proofs.Common.{◌≡◌, ◌↔◌, ℕ, Bool, true, false, not, ◌&&◌, List, Option, Some, None, length, get_or, refl, sym, ap, subst, arith}
+use Rattle.std.proofs.Common.{◌≡◌, ◌↔◌, ℕ, Bool, true, false, not, ◌&&◌, List, Option, Some, None, length, get_or, refl, ap, subst, arith}
 use Rattle.std.specs.Option.{is_some}
-use Rattle.rx_differ.specs.Difference.{DiffersAt, IsFirstDifference}
+use Rattle.rx_differ.specs.Difference.{DiffersAt}
 use Rattle.rx_differ.specs.Difference.DiffersAt.{byte, ours_ends, theirs_ends}
 use Rattle.rx_switch.specs.Output.{Given, IsOutput, Texts}
 use Rattle.rx_switch.proofs.OneOutput.{same_texts}
 use Rattle.rx_verify.specs.declared.files.Differences.{Differences}
-use Rattle.rx_verify.specs.Verified.{AreDifferences, IsDifference, IsVerified, are_none}
+use Rattle.rx_verify.specs.Verified.{AreDifferences, IsDifference, are_none}
 
 -- ---- one file
 

@@ -18,10 +18,14 @@ grouped n =
     else (if nat_lt n 1_000_000 then decimal (n / 1000) ++ 44 ∷ digits_text 3 (n % 1000)
     else decimal (n / 1_000_000) ++ 44 ∷ (digits_text 3 (n / 1000 % 1000) ++ 44 ∷ digits_text 3 (n % 1000)))
 
+-- a file's size, behind the words that tell which it is
+unfoldable pub sized : List ℕ → List ℕ → List ℕ
+sized words file = words ++ grouped (length file)
+
 abbrev pub same_line : Texts → List ℕ
 same_line t =
-    codes "same: response " ++ (grouped (length t.response) ++ (codes " bytes, books " ++ (grouped (length t.books)
-    ++ (codes ", settlement " ++ (grouped (length t.settlement) ++ 10 ∷ [])))))
+    sized (codes "same: response ") t.response
+    ++ (sized (codes " bytes, books ") t.books ++ (sized (codes ", settlement ") t.settlement ++ 10 ∷ []))
 
 -- the byte that ends a line or a record, the word for it, and the number of the first: a record 0 is the header
 abbrev pub end_of : Cut → ℕ

@@ -3,7 +3,7 @@ ghost use Rattle.std.specs.Fmt.{decimal};
 ghost use Rattle.rx_fields.specs.Digits.{digits_text};
 ghost use Rattle.rx_switch.specs.Job.{texts_in};
 ghost use Rattle.rx_verify.specs.Told.{difference_lines, end_of, first_of, grouped, option_line, place_line, place_words};
-ghost use Rattle.rx_verify.specs.Told.{same_line, shown_piece, verdict_text, word_of};
+ghost use Rattle.rx_verify.specs.Told.{same_line, shown_piece, sized, verdict_text, word_of};
 ghost use Rattle.rx_verify.specs.Verified.{texts_in_files};
 
 use crate::files::{Files, Verified};
@@ -76,19 +76,19 @@ pub fn verdict_text(
 fn put_same(alloc: Global, text: &mut Vec<u8>, output: &Output) -> Result<(), AllocError>
     ensures { OnOk result (text.new.items ≡ text.old.items ++ same_line (texts_in output.now)) }
 {
-    put_size(alloc, text, b"same: response ", output.response.len())?;
-    put_size(alloc, text, b" bytes, books ", output.books.len())?;
-    put_size(alloc, text, b", settlement ", output.settlement.len())?;
+    put_size(alloc, text, b"same: response ", &output.response)?;
+    put_size(alloc, text, b" bytes, books ", &output.books)?;
+    put_size(alloc, text, b", settlement ", &output.settlement)?;
     text.extend_from_slice(b"\n")
 }
 
-// A size, behind the words that tell whose it is.
-#[tactic(auto, using(std::proofs::Common::append_assoc))]
-fn put_size(alloc: Global, text: &mut Vec<u8>, words: &[u8], size: usize) -> Result<(), AllocError>
-    ensures { OnOk result (text.new.items ≡ text.old.items ++ (words.now ++ grouped size)) }
+// A file's size, behind the words that tell which it is.
+#[tactic(auto, using(std::proofs::Common::append_assoc), unfolding(crate::specs::Told::sized))]
+fn put_size(alloc: Global, text: &mut Vec<u8>, words: &[u8], file: &[u8]) -> Result<(), AllocError>
+    ensures { OnOk result (text.new.items ≡ text.old.items ++ sized words.now file.now) }
 {
     text.extend_from_slice(words)?;
-    put_grouped(alloc, text, size)
+    put_grouped(alloc, text, file.len())
 }
 
 // A number with a comma before each of its last two groups of three digits.

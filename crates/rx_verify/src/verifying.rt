@@ -1,6 +1,6 @@
-ghost use Rattle.std.specs.Prelude.{◌≡◌, ◌↔◌, IfErr, IfOk, true};
+ghost use Rattle.std.specs.Prelude.{◌≡◌, ◌↔◌, Err, IfErr, IfOk, true};
 ghost use Rattle.rx_switch.specs.Job.{given_by, texts_in};
-ghost use Rattle.rx_switch.specs.Output.{IsOutput, IsRefused};
+ghost use Rattle.rx_switch.specs.Output.{IsOutput, IsRefused, RefusesOne, stamp_for};
 ghost use Rattle.rx_verify.specs.Verified.{AreDifferences, IsVerified, are_none, texts_in_files};
 
 use crate::files::{Differences, Files, Verified};
@@ -18,7 +18,7 @@ use std::thread::Threads;
 ///
 /// # Errors
 ///
-/// As of a run: the first of Workers, Stamp, Sheet, Books and Batch; Memory and Thread.
+/// As of a run: the first of Workers, Stamp, Sheet, Books and Batch; Memory; Thread, but never of a plain job.
 pub fn verify<R: Threads + Wait + Sync, G: Gate + Sync>(
     rt: &R,
     alloc: Global,
@@ -31,6 +31,8 @@ pub fn verify<R: Threads + Wait + Sync, G: Gate + Sync>(
     ensures places { IfOk result (λ v.
         IsVerified (given_by job.now) (texts_in v.output) (texts_in_files files.now) v.differences) }
     ensures refused { IfErr result (λ fault. IsRefused (given_by job.now) fault) }
+    ensures words { (fault : SwitchFault) → stamp_for job.now.workers job.now.stamp.now ≡ Err fault → result ≡ Err fault }
+    ensures thread { result ≡ Err SwitchFault.Thread → RefusesOne job.now.plain (G.starts gate.now) job.now.workers }
 {
     let output = run(rt, alloc, gate, job)?;
     let differences = differences(&output, files);
