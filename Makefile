@@ -26,6 +26,7 @@ cases: kit
 	python3 packaging/make_pages.py $(PROGRAM) --check
 	python3 tests/run_paths.py $(PROGRAM)
 	python3 tests/run_cases.py $(PROGRAM) --plan
+	python3 tests/run_report.py $(PROGRAM)
 	if command -v cc > /dev/null; then python3 tests/refused_memory.py $(PROGRAM); fi
 
 demo: kit
