@@ -29,6 +29,7 @@ cases: kit
 	python3 tests/run_safe.py $(PROGRAM)
 	python3 tests/run_log.py $(PROGRAM)
 	python3 tests/run_cases.py $(PROGRAM) --plan
+	python3 tests/run_report.py $(PROGRAM)
 	test -x $(HELD) || (cd crates/rx_held && rt run)
 	python3 tests/run_held.py $(HELD)
 	if command -v cc > /dev/null; then python3 tests/refused_memory.py $(PROGRAM); fi

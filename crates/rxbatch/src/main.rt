@@ -10,6 +10,8 @@
 //!     [--response F] [--json]                       why a claim was answered as it was
 //! rxbatch verify --sheet F --books F --batch F --stamp S --response F --books-out F --settlement F [--plain]
 //!     [--workers N]                                 whether the files of a run are what it gives
+//! rxbatch report --sheet F --books F --batch F [--provider ID | --family ID] [--tsv | --json | --html]
+//!                                                   a line for each answer, by provider, with counts and net
 //! rxbatch replies --response F                      a line for each answer of a response file
 //! rxbatch sample                                    the reply to the base claim, on one line
 //! rxbatch --version                                 the version, and the kit that proved it
@@ -28,6 +30,7 @@ mod nodes;
 mod outputs;
 mod printing;
 mod replying;
+mod reporting;
 mod running;
 mod safe;
 mod verbose;
@@ -64,6 +67,7 @@ fn perform<R: Threads + Wait + Sync>(rt: &HostRuntime, threads: &R) -> Result<()
         Ok(Command::Check(words)) => checking::check(rt, &words),
         Ok(Command::Explain(words)) => explaining::explain(rt, threads, &words),
         Ok(Command::Verify(words)) => verifying::verify(rt, threads, &words),
+        Ok(Command::Report(words)) => reporting::report(rt, threads, &words),
         Ok(Command::Replies(path)) => replying::replies(rt, path),
         Err(fault) if fault.is_version() => printing::version(rt, &fault),
         Err(fault) => Err(Ending::Words(fault)),

@@ -1,0 +1,14 @@
+use rx_fields::Lot;
+use rx_report::Line;
+use rx_settle::Settled;
+
+/// What a batch is answered, line by line and in all.
+#[derive(Drop)]
+pub struct Report {
+    /// The batch.
+    pub lot: Lot,
+    /// The lines of its answers, in file order.
+    pub lines: Vec<Line>,
+    /// The tallies of its settlement.
+    pub settled: Settled,
+}
