@@ -31,6 +31,8 @@ mod printing;
 mod replying;
 mod running;
 mod safe;
+mod telling;
+mod told_source;
 mod verbose;
 mod verifying;
 
