@@ -503,7 +503,8 @@ STEPS = input_steps(PLAIN)
 ENDINGS = (
     Ending("check without a batch file", with_words(("check",) + INPUTS, batch="none.bin"), 3,
            "batch none.bin: No such file or directory (os error 2)\n", "file 3\n"),
-    Ending("check of a folder", with_words(("check",) + INPUTS, books="."), 3, "books .: a read failed\n", "file 2\n"),
+    Ending("check of a folder", with_words(("check",) + INPUTS, books="."), 3,
+           "books .: Is a directory (os error 21)\n", "file 2\n"),
     Ending("check of the sheet alone", ("check", "--sheet", "sheet.toml"), 0, "", ""),
     Ending("check of sheet and batch", ("check", "--sheet", "sheet.toml", "--batch", "batch.bin"), 0, "", ""),
     Ending("check of an empty sheet", ("check", "--sheet", "/dev/null"), 1,
@@ -512,6 +513,8 @@ ENDINGS = (
            "file 1\nsheet none.toml: No such file or directory (os error 2)\n"),
     Ending("run -v into a folder that isn't there", with_words(("run", "-v") + INPUTS + RUN, response="none/r"), 3, "",
            "file 4\nresponse none/r: No such file or directory (os error 2)\n"),
+    Ending("run -v into a folder", with_words(("run", "-v") + INPUTS + RUN, settlement="."), 3, "",
+           "file 6\nsettlement .: Is a directory (os error 21)\n"),
     Ending("run --verbose with 65 workers", with_words(("run", "--verbose") + INPUTS + RUN, workers="65"), 1, "",
            STEPS + "refused 1 0 0\n--workers 65: 1 to 64 are wanted\n"),
     Ending("run -v with no such hour", with_words(("run", "-v") + INPUTS + RUN, stamp="202603022460"), 1, "",

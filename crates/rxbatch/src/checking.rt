@@ -1,7 +1,9 @@
 use crate::ending::Ending;
 use crate::files::source;
 use crate::printing::print;
+use crate::verbose::{long_words, read_words};
 use rx_check::{Files, Names, check as look_at, report};
+use rx_fields::Memory;
 use rx_switch::{Device, IoFault, SwitchFault, read_all};
 use rx_told_run::refusal;
 use rx_words::CheckWords;
@@ -49,10 +51,45 @@ fn text_if_given(
     }
 }
 
+// The ending where a file can't be read; why, is printed.
+fn unread(rt: &HostRuntime, words: &CheckWords<'_>, ending: Ending) -> Ending {
+    let line = match &ending {
+        Ending::Io(IoFault::Read(device)) => read_words(rt, *device, path_of(words, *device)),
+        Ending::Io(IoFault::Long(device)) => long_words(rt, *device, path_of(words, *device)),
+        _ => return ending,
+    };
+    match told(rt, line) {
+        Ok(()) => ending,
+        Err(output) => output,
+    }
+}
+
+// Prints a line, where there was memory for it.
+fn told(rt: &HostRuntime, line: Result<String, Memory>) -> Result<(), Ending> {
+    let Ok(mut line) = line else {
+        return Ok(());
+    };
+    if line.push('\n').is_err() {
+        return Ok(());
+    }
+    print(rt, line.as_str().as_bytes())
+}
+
+fn path_of<'a>(words: &CheckWords<'a>, device: Device) -> &'a str {
+    match device {
+        Device::Books => words.books.unwrap_or(""),
+        Device::Batch => words.batch.unwrap_or(""),
+        _ => words.sheet,
+    }
+}
+
 /// Prints the first fault of each input file in words, and what a run would take and an operator would hardly mean. It
 /// ends with the first fault, as a run would, and where there are warnings alone with a status of its own.
 pub fn check(rt: &HostRuntime, words: &CheckWords<'_>) -> Result<(), Ending> {
-    let texts = Texts::read(rt, words)?;
+    let texts = match Texts::read(rt, words) {
+        Ok(texts) => texts,
+        Err(ending) => return Err(unread(rt, words, ending)),
+    };
     let files = texts.files();
     let names = Names {
         sheet: words.sheet,

@@ -2,11 +2,13 @@
 use crate::ending::Ending;
 use crate::log_file::LogFile;
 use crate::running::RunFiles;
-use rx_devices::{ReaderSource, WriterSink};
+use crate::telling::Teller;
+use crate::told_source::ToldSource;
+use rx_devices::WriterSink;
 use rx_log::{FileLog, RunLog, Steps};
+use rx_steps::Name;
 use rx_switch::run_io;
-use rx_watch::{Heard, WatchedSink, WatchedSource};
-use rx_wave::NoGate;
+use rx_watch::{Heard, WatchedSink};
 use rx_words::{RunWords, VERSION};
 use std::alloc::Global;
 use std::fs;
@@ -23,15 +25,7 @@ pub fn run<R: Threads + Wait + Sync>(
     path: &str,
 ) -> Result<(), Ending> {
     let log = LogFile::open(rt, path, words)?;
-    let begin = rt.monotonic().ok();
-    let (done, heard) = match RunFiles::open(rt, words) {
-        Ok(files) => on_files(rt, threads, words, files),
-        Err(ending) => (Err(ending), RunHeard::nothing(rt.alloc())),
-    };
-    let times = Times {
-        begin,
-        end: rt.monotonic().ok(),
-    };
+    let WatchedRun { done, heard, times } = watched(rt, threads, words);
     let written = match line(rt, words, &done, &heard, times) {
         Some(line) => log.write(line.as_str()),
         None => Err(Ending::Log),
@@ -42,22 +36,51 @@ pub fn run<R: Threads + Wait + Sync>(
     }
 }
 
-// When a run began and ended.
-#[derive(Clone, Copy, Debug)]
-struct Times {
-    begin: Option<Duration>,
-    end: Option<Duration>,
+/// A run that was watched.
+#[derive(Debug, Drop)]
+pub struct WatchedRun {
+    pub done: Result<(), Ending>,
+    pub heard: RunHeard,
+    pub times: Times,
 }
 
-// What was heard of the six files.
+/// Adjudicates a batch file, and watches its files. The steps are told on standard error where that is asked for.
+pub fn watched<R: Threads + Wait + Sync>(
+    rt: &HostRuntime,
+    threads: &R,
+    words: &RunWords<'_>,
+) -> WatchedRun {
+    let teller = Teller::new(rt, words.verbose);
+    let (done, heard) = match RunFiles::open(rt, words) {
+        Ok(files) => on_files(rt, threads, words, files, &teller),
+        Err(ending) => (Err(ending), RunHeard::nothing(rt.alloc())),
+    };
+    let times = Times {
+        begin: teller.begin(),
+        end: rt.monotonic().ok(),
+    };
+    if done.is_ok() {
+        teller.tell_done(&heard, times);
+    }
+    WatchedRun { done, heard, times }
+}
+
+/// When a run began and ended.
+#[derive(Clone, Copy, Debug)]
+pub struct Times {
+    pub begin: Option<Duration>,
+    pub end: Option<Duration>,
+}
+
+/// What was heard of the six files.
 #[derive(Debug, Drop)]
-struct RunHeard {
-    sheet: Heard,
-    books: Heard,
-    batch: Heard,
-    response: Heard,
-    books_out: Heard,
-    settlement: Heard,
+pub struct RunHeard {
+    pub sheet: Heard,
+    pub books: Heard,
+    pub batch: Heard,
+    pub response: Heard,
+    pub books_out: Heard,
+    pub settlement: Heard,
 }
 
 impl RunHeard {
@@ -72,8 +95,8 @@ impl RunHeard {
         }
     }
 
-    // How long each step took: each ends with the last call of its file, adjudication with the first call of the response.
-    fn steps(&self, times: Times) -> Steps {
+    /// How long each step took: each ends with the last call of its file, adjudication with the first call of the response.
+    pub fn steps(&self, times: Times) -> Steps {
         let [sheet, books, batch] = [self.sheet.last(), self.books.last(), self.batch.last()];
         let [response, books_out] = [self.response.last(), self.books_out.last()];
         let settlement = self.settlement.last();
@@ -90,8 +113,8 @@ impl RunHeard {
     }
 }
 
-// The microseconds between two times, where both are told.
-fn micros(from: Option<Duration>, to: Option<Duration>) -> Option<u64> {
+/// The microseconds between two times, where both are told.
+pub fn micros(from: Option<Duration>, to: Option<Duration>) -> Option<u64> {
     let taken = to?.checked_sub(from?)?;
     u64::try_from(taken.as_micros()).ok()
 }
@@ -102,20 +125,21 @@ fn on_files<R: Threads + Wait + Sync>(
     threads: &R,
     words: &RunWords<'_>,
     files: RunFiles,
+    teller: &Teller<'_>,
 ) -> (Result<(), Ending>, RunHeard) {
     let alloc = rt.alloc();
     let RunFiles { inputs, outputs } = files;
     let [response, books_out, settlement] = outputs.files();
-    let mut sheet = WatchedSource::new(alloc, ReaderSource::new(&inputs.sheet), rt);
-    let mut books = WatchedSource::new(alloc, ReaderSource::new(&inputs.books), rt);
-    let mut batch = WatchedSource::new(alloc, ReaderSource::new(&inputs.batch), rt);
+    let mut sheet = ToldSource::new(rt, &inputs.sheet, Name::Sheet, teller);
+    let mut books = ToldSource::new(rt, &inputs.books, Name::Books, teller);
+    let mut batch = ToldSource::new(rt, &inputs.batch, Name::Batch, teller);
     let mut response = WatchedSink::new(alloc, WriterSink::new(response), rt);
     let mut books_out = WatchedSink::new(alloc, WriterSink::new(books_out), rt);
     let mut settlement = WatchedSink::new(alloc, WriterSink::new(settlement), rt);
     let done = run_io(
         threads,
         alloc,
-        &NoGate,
+        teller,
         words.stamp.as_bytes(),
         words.workers,
         words.plain,
@@ -219,8 +243,8 @@ fn line(
     rx_log::line(alloc, &log).ok()
 }
 
-// The most memory that the program had, in kilobytes, where the system tells it.
-fn peak(rt: &HostRuntime) -> Option<u64> {
+/// The most memory that the program had, in kilobytes, where the system tells it.
+pub fn peak(rt: &HostRuntime) -> Option<u64> {
     let status = fs::read_to_string(rt, "/proc/self/status").ok()?;
     for line in status.as_str().lines() {
         if let Some(rest) = line.strip_prefix("VmHWM:") {

@@ -33,6 +33,8 @@ mod replying;
 mod reporting;
 mod running;
 mod safe;
+mod telling;
+mod told_source;
 mod verbose;
 mod verifying;
 

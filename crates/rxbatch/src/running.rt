@@ -19,6 +19,9 @@ pub fn run<R: Threads + Wait + Sync>(
     if let Some(path) = words.log {
         return logging::run(rt, threads, words, path);
     }
+    if words.verbose {
+        return logging::watched(rt, threads, words).done;
+    }
     let RunFiles { inputs, outputs } = RunFiles::open(rt, words)?;
     let done = on_files(rt, threads, words, &inputs, &outputs);
     outputs.end(rt, done)

@@ -4,8 +4,9 @@ use rx_fields::Memory;
 use rx_switch::{Device, IoFault, SwitchFault, read_all};
 use rx_told_run::{Asked, Given, fault_words};
 use rx_words::RunWords;
-use std::fs;
 use std::fs::OpenOptions;
+use std::io::Read;
+use std::{fs, io};
 
 /// The ending of a run that is asked to tell what it does: a fault with a line in words behind its numbers. The input at
 /// fault is read again for them; one that is no plain file, as a pipe, is told of without a quotation.
@@ -27,12 +28,7 @@ fn in_words(rt: &HostRuntime, words: &RunWords<'_>, fault: IoFault) -> Result<St
     match fault {
         IoFault::Switch(refused) => refused_words(rt, words, refused),
         IoFault::Read(device) => read_words(rt, device, path_of(words, device)),
-        IoFault::Long(device) => {
-            let (name, path) = (name_of(device), path_of(words, device));
-            Ok(format!(in rt.alloc();
-                "{name} {path}: more than 268435456 bytes, or more than 4194304 reads"
-            )?)
-        }
+        IoFault::Long(device) => long_words(rt, device, path_of(words, device)),
         IoFault::Write(device) => write_words(rt, device, path_of(words, device)),
     }
 }
@@ -48,20 +44,22 @@ fn refused_words(
         None => None,
     };
     let text = text.as_ref().map(|text| text.as_slice());
-    let inputs = words.inputs;
+    let sheet = Given {
+        name: words.inputs.sheet,
+        text,
+    };
+    let books = Given {
+        name: words.inputs.books,
+        text,
+    };
+    let batch = Given {
+        name: words.inputs.batch,
+        text,
+    };
     let asked = Asked {
-        sheet: Given {
-            name: inputs.sheet,
-            text,
-        },
-        books: Given {
-            name: inputs.books,
-            text,
-        },
-        batch: Given {
-            name: inputs.batch,
-            text,
-        },
+        sheet,
+        books,
+        batch,
         stamp: words.stamp,
         workers: words.workers,
     };
@@ -88,21 +86,59 @@ fn again(rt: &HostRuntime, path: &str, device: Device) -> Option<Vec<u8>> {
     read_all(rt.alloc(), &mut source, device).ok()
 }
 
-// Why an input can't be had: what the system answers where it is opened again.
-fn read_words(rt: &HostRuntime, device: Device, path: &str) -> Result<String, Memory> {
+/// An input that is too long.
+pub fn long_words(rt: &HostRuntime, device: Device, path: &str) -> Result<String, Memory> {
     let name = name_of(device);
-    match fs::open(rt, path) {
+    Ok(format!(in rt.alloc();
+        "{name} {path}: more than 268435456 bytes, or more than 4194304 reads"
+    )?)
+}
+
+/// Why an input can't be had: what the system answers where it is opened and read again.
+pub fn read_words(rt: &HostRuntime, device: Device, path: &str) -> Result<String, Memory> {
+    let name = name_of(device);
+    match read_again(rt, path) {
         Err(error) => Ok(format!(in rt.alloc(); "{name} {path}: {error}")?),
-        Ok(_) => Ok(format!(in rt.alloc(); "{name} {path}: a read failed")?),
+        Ok(()) => Ok(format!(in rt.alloc(); "{name} {path}: a read failed")?),
     }
 }
 
-// Why an output can't be had.
+// Reads a byte of a plain file or a folder. A pipe could wait for ever, and isn't opened again.
+fn read_again(rt: &HostRuntime, path: &str) -> io::Result<()> {
+    let metadata = fs::metadata(rt, path)?;
+    if metadata.is_file() || metadata.is_dir() {
+        let mut file = fs::open(rt, path)?;
+        file.read(&mut [0])?;
+    }
+    Ok(())
+}
+
+// Why an output can't be had: what the system answers where it is opened or made again.
 fn write_words(rt: &HostRuntime, device: Device, path: &str) -> Result<String, Memory> {
     let name = name_of(device);
-    match OpenOptions::new().write(true).open(rt, path) {
+    match open_again(rt, path) {
         Err(error) => Ok(format!(in rt.alloc(); "{name} {path}: {error}")?),
-        Ok(_) => Ok(format!(in rt.alloc(); "{name} {path}: a write failed")?),
+        Ok(()) => Ok(format!(in rt.alloc(); "{name} {path}: a write failed")?),
+    }
+}
+
+// Opens a plain file or a folder for writing, and makes a file that isn't there, for a moment. A pipe could wait for ever,
+// and isn't opened again.
+fn open_again(rt: &HostRuntime, path: &str) -> io::Result<()> {
+    match fs::metadata(rt, path) {
+        Ok(metadata) => {
+            if metadata.is_file() || metadata.is_dir() {
+                OpenOptions::new().write(true).open(rt, path)?;
+            }
+            Ok(())
+        }
+        Err(_) => {
+            OpenOptions::new()
+                .write(true)
+                .create_new(true)
+                .open(rt, path)?;
+            fs::remove_file(rt, path)
+        }
     }
 }
 

@@ -1,0 +1,178 @@
+//! What a run tells on standard error while it goes on.
+use crate::logging::{RunHeard, Times, micros, peak};
+use rx_log::totals;
+use rx_steps::{Answers, Counted, Done, Name, Step, done_line, progress_line, step_line};
+use rx_watch::Heard;
+use rx_wave::Gate;
+use std::alloc::AllocError;
+use std::io::Write;
+use std::sync::atomic::{AtomicU64, Ordering};
+use std::time::{Clock, Duration};
+
+// Progress is told from so many milliseconds on, and again after so many at the soonest.
+const FIRST: u64 = 1_000;
+
+const BETWEEN: u64 = 200;
+
+// A batch file has two records more than details: header and trailer.
+const NO_DETAILS: u64 = 2;
+
+/// What tells of a run, where that is asked for: its steps, and how many of its records are adjudicated.
+#[derive(Debug, Drop)]
+pub struct Teller<'a> {
+    rt: &'a HostRuntime,
+    is_asked: bool,
+    begin: Option<Duration>,
+    // The details of the batch file.
+    records: AtomicU64,
+    // How many of them are adjudicated.
+    adjudicated: AtomicU64,
+    // When progress was told last, in milliseconds from the begin.
+    told: AtomicU64,
+}
+
+impl<'a> Teller<'a> {
+    /// Of a run that begins now.
+    pub fn new(rt: &'a HostRuntime, is_asked: bool) -> Teller<'a> {
+        Teller {
+            rt,
+            is_asked,
+            begin: rt.monotonic().ok(),
+            records: AtomicU64::new(0),
+            adjudicated: AtomicU64::new(0),
+            told: AtomicU64::new(0),
+        }
+    }
+
+    /// When the run began.
+    pub fn begin(&self) -> Option<Duration> {
+        self.begin
+    }
+
+    /// Tells the step of an input that was read to its end.
+    pub fn tell_input(&self, name: Name, heard: &Heard) {
+        let counted = match name {
+            Name::Batch => {
+                let records = heard.starts().saturating_sub(NO_DETAILS);
+                self.records.store(records, Ordering::SeqCst);
+                Counted::Records(records)
+            }
+            _ => lines(heard),
+        };
+        let micros = micros(heard.first(), heard.last());
+        self.tell_file(name, counted, heard, micros);
+    }
+
+    /// Tells the later steps of a run that is done, and its end.
+    pub fn tell_done(&self, heard: &RunHeard, times: Times) {
+        let steps = heard.steps(times);
+        let records = Counted::Records(self.records.load(Ordering::SeqCst));
+        self.tell_step(Name::Adjudicate, Some(records), steps.adjudicate);
+        self.tell_file(Name::Response, records, &heard.response, steps.response);
+        let (books, settlement) = (&heard.books_out, &heard.settlement);
+        self.tell_file(Name::EndBooks, lines(books), books, steps.books_out);
+        self.tell_file(
+            Name::Settlement,
+            lines(settlement),
+            settlement,
+            steps.settlement,
+        );
+        self.tell_step(Name::Disk, None, steps.end);
+        let done = Done {
+            answers: answers(settlement),
+            peak: peak(self.rt).and_then(|kilobytes| kilobytes.checked_mul(1_024)),
+            micros: micros(times.begin, times.end),
+        };
+        self.tell(done_line(self.rt.alloc(), &done));
+    }
+
+    // Tells a step that reads or writes a file.
+    fn tell_file(&self, name: Name, counted: Counted, heard: &Heard, micros: Option<u64>) {
+        let step = Step {
+            name,
+            counted: Some(counted),
+            bytes: Some(heard.bytes()),
+            micros,
+        };
+        self.tell(step_line(self.rt.alloc(), &step));
+    }
+
+    // Tells another step.
+    fn tell_step(&self, name: Name, counted: Option<Counted>, micros: Option<u64>) {
+        let step = Step {
+            name,
+            counted,
+            bytes: None,
+            micros,
+        };
+        self.tell(step_line(self.rt.alloc(), &step));
+    }
+
+    // Tells how many records are adjudicated, where it is time for that.
+    fn tell_progress(&self, adjudicated: u64) {
+        let Some(micros) = micros(self.begin, self.rt.monotonic().ok()) else {
+            return;
+        };
+        let now = micros / 1_000;
+        let told = self.told.load(Ordering::SeqCst);
+        if now < FIRST || now.saturating_sub(told) < BETWEEN {
+            return;
+        }
+        let is_ours = self
+            .told
+            .compare_exchange(told, now, Ordering::SeqCst, Ordering::SeqCst)
+            .is_ok();
+        if is_ours {
+            let records = self.records.load(Ordering::SeqCst);
+            self.tell(progress_line(self.rt.alloc(), adjudicated, records));
+        }
+    }
+
+    // Writes a line to standard error. What can't be told there isn't told.
+    fn tell(&self, line: Result<Vec<u8>, AllocError>) {
+        if let (true, Ok(line)) = (self.is_asked, line) {
+            let _ = self.rt.stderr().write_all(line.as_slice());
+        }
+    }
+}
+
+fn lines(heard: &Heard) -> Counted {
+    Counted::Lines(heard.line_feeds())
+}
+
+// The answers that the last line of a settlement counts.
+fn answers(settlement: &Heard) -> Option<Answers> {
+    let totals = totals(settlement.end())?;
+    Some(Answers {
+        paid: totals.paid,
+        duplicate: totals.duplicate,
+        approved: totals.approved,
+        rejected: totals.rejected,
+        net: totals.net,
+    })
+}
+
+/// It starts every worker, and counts the records that leave.
+impl Gate for Teller<'_> {
+    ghost use Rattle.std.specs.Prelude.{true};
+
+    ghost starts = { λ _ _. true };
+
+    fn start(&self, _worker: usize) -> bool {
+        true
+    }
+
+    fn enter(&self, _place: usize) {}
+
+    fn leave(&self, _place: usize) {
+        if self.is_asked {
+            let before = self.adjudicated.fetch_add(1, Ordering::SeqCst);
+            self.tell_progress(before.saturating_add(1));
+        }
+    }
+
+    // It counts, which takes less time than the record.
+    fn holds_up(&self) -> bool {
+        false
+    }
+}

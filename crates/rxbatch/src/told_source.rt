@@ -1,0 +1,57 @@
+//! An input of a run that is watched.
+ghost use Rattle.std.specs.Prelude.{◌≡◌, false};
+
+use crate::telling::Teller;
+use rx_devices::{Failed, ReaderSource, Source};
+use rx_steps::Name;
+use rx_watch::{Heard, WatchedSource};
+use std::fs::File;
+
+/// An input of a run, whose step is told when its end is read.
+#[derive(Debug, Drop)]
+pub struct ToldSource<'a> {
+    source: WatchedSource<'a, ReaderSource<&'a File>, HostRuntime>,
+    name: Name,
+    teller: &'a Teller<'a>,
+}
+
+impl<'a> ToldSource<'a> {
+    /// The file, of which nothing was read.
+    pub fn new(
+        rt: &'a HostRuntime,
+        file: &'a File,
+        name: Name,
+        teller: &'a Teller<'a>,
+    ) -> ToldSource<'a>
+        ensures { ⟦<ToldSource<'a> as Source>⟧.failed result ≡ false }
+    {
+        ToldSource {
+            source: WatchedSource::new(rt.alloc(), ReaderSource::new(file), rt),
+            name,
+            teller,
+        }
+    }
+
+    /// What was heard; the device is let go.
+    pub fn into_heard(self) -> Heard {
+        self.source.into_heard()
+    }
+}
+
+impl<'a> Source for ToldSource<'a> {
+    ghost left = { λ s. ⟦<WatchedSource<'a, ReaderSource<&'a File>, HostRuntime> as Source>⟧.left s.source };
+
+    ghost failed = { λ s. ⟦<WatchedSource<'a, ReaderSource<&'a File>, HostRuntime> as Source>⟧.failed s.source };
+
+    ghost reads = { λ s. ⟦<WatchedSource<'a, ReaderSource<&'a File>, HostRuntime> as Source>⟧.reads s.source };
+
+    ghost cramped = { λ s. ⟦<WatchedSource<'a, ReaderSource<&'a File>, HostRuntime> as Source>⟧.cramped s.source };
+
+    fn read(&mut self, buffer: &mut [u8]) -> Result<usize, Failed> {
+        let count = self.source.read(buffer)?;
+        if count == 0 {
+            self.teller.tell_input(self.name, self.source.heard());
+        }
+        Ok(count)
+    }
+}
