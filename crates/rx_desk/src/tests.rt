@@ -9,7 +9,7 @@ use rx_claim::{
 use rx_fields::{
     Cents, Days, Door, Id, Lot, Period, Person, Product, Provider, Quantity, Reference, date_read,
 };
-use rx_ledger::{Drug, Figures, Ledger, Member, Share, Sheet};
+use rx_ledger::{Drug, Figures, Ledger, Member, Share, Sheet, plain_run};
 use std::alloc::Global;
 use std::process::Abort;
 use std::test::Fail;
@@ -50,23 +50,39 @@ fn sheet(alloc: Global) -> Result<Sheet, Fail> {
 // Books of family C100, whose persons are covered to the day.
 fn books(alloc: Global, last: &[u8]) -> Result<Books, Fail> {
     let mut ledger = Ledger::new(alloc);
+    enroll(&mut ledger, b"C100", last)?;
+    Ok(Books::from_ledger(alloc, &ledger, period()?)?)
+}
+
+// Lists three persons of a family, who are covered to the day.
+fn enroll(ledger: &mut Ledger, family: &[u8], last: &[u8]) -> Result<(), Fail> {
     for person in [b"01", b"02", b"03"] {
         let member = Member::new(
-            Id::new(b"C100", 20)?,
+            Id::new(family, 20)?,
             Person::new(person)?,
             date_read(b"20260101")?,
             date_read(last)?,
         );
         ledger.add_member(member.ok_or("a member")?)?;
     }
-    Ok(Books::from_ledger(alloc, &ledger, period()?)?)
+    Ok(())
 }
 
 // A fill of 30 units for a person of C100.
 fn fill(alloc: Global, reference: u64, person: &[u8]) -> Result<Transmission, Fail> {
+    fill_of(alloc, reference, b"C100", person)
+}
+
+// A fill of 30 units for a person of a family.
+fn fill_of(
+    alloc: Global,
+    reference: u64,
+    family: &[u8],
+    person: &[u8],
+) -> Result<Transmission, Fail> {
     let bill = Bill::new(BillParts {
         reference: Reference::new(reference).ok_or("a reference")?,
-        family: Id::new(b"C100", 20)?,
+        family: Id::new(family, 20)?,
         person: Person::new(person)?,
         product: Product::new(PRODUCT).ok_or("a product")?,
         quantity: Quantity::new(30_000).ok_or("a quantity")?,
@@ -117,8 +133,12 @@ fn lot() -> Result<Lot, Fail> {
 }
 
 fn desk(alloc: Global, last: &[u8]) -> Result<Desk, Fail> {
-    let (sheet, books) = (sheet(alloc)?, books(alloc, last)?);
-    let records = fills(alloc)?;
+    desk_of(alloc, books(alloc, last)?, fills(alloc)?)
+}
+
+// A desk of these books and records, under the plain sheet.
+fn desk_of(alloc: Global, books: Books, records: Vec<Transmission>) -> Result<Desk, Fail> {
+    let sheet = sheet(alloc)?;
     if records.len() > 100_000 {
         return Err(Fail::from("a batch"));
     }
@@ -254,6 +274,115 @@ fn comes_back_while_a_record_is_left(rt: HostRuntime) -> Result<(), Fail> {
     let _out = order(&mut desk)?;
     assert!(rt; desk.close().is_err());
     Ok(())
+}
+
+// Two families.
+fn two_families(alloc: Global) -> Result<Ledger, Fail> {
+    let mut ledger = Ledger::new(alloc);
+    enroll(&mut ledger, b"C100", b"20261231")?;
+    enroll(&mut ledger, b"C200", b"20261231")?;
+    Ok(ledger)
+}
+
+// Two fills of each, by turns.
+fn fills_by_turns(alloc: Global) -> Result<Vec<Transmission>, Fail> {
+    let mut fills = Vec::new(alloc);
+    fills.push(fill_of(alloc, 201, b"C100", b"01")?)?;
+    fills.push(fill_of(alloc, 202, b"C200", b"01")?)?;
+    fills.push(fill_of(alloc, 203, b"C100", b"02")?)?;
+    fills.push(fill_of(alloc, 204, b"C200", b"02")?)?;
+    Ok(fills)
+}
+
+// Which of the records that are out comes back first.
+#[derive(Clone, Copy)]
+enum Back {
+    First,
+    Last,
+}
+
+// All that are ready go out, of four records at most.
+fn all_taken(desk: &mut Desk, out: &mut Vec<Order>) -> Result<(), Fail> {
+    for _ in 0..4 {
+        if desk.is_ready() {
+            out.push(order(desk)?)?;
+        }
+    }
+    Ok(())
+}
+
+// One of the orders that are out.
+fn picked(out: &mut Vec<Order>, back: Back) -> Result<Order, Fail> {
+    if out.is_empty() {
+        return Err(Fail::from("an order that is out"));
+    }
+    match back {
+        Back::First => Ok(out.remove(0)),
+        Back::Last => Ok(out.pop().ok_or("the last order")?),
+    }
+}
+
+fn given(alloc: Global, desk: &mut Desk, order: Order) -> Result<(), Fail> {
+    match desk.give(done(alloc, order)?) {
+        Ok(()) => Ok(()),
+        Err(_) => Err(Fail::from("taken back")),
+    }
+}
+
+// A desk of four records is worked off: all that are ready go out, and one of those that are out comes back.
+fn worked_off(alloc: Global, desk: Desk, back: Back) -> Result<Finished, Fail> {
+    let mut desk = desk;
+    let mut out = Vec::new(alloc);
+    for _ in 0..4 {
+        all_taken(&mut desk, &mut out)?;
+        let order = picked(&mut out, back)?;
+        given(alloc, &mut desk, order)?;
+    }
+    match desk.close() {
+        Ok(finished) => Ok(finished),
+        Err(_) => Err(Fail::from("an end")),
+    }
+}
+
+// The books after the records, and the replies to them, one after another in file order.
+fn in_file_order(
+    alloc: Global,
+    ledger: &Ledger,
+    records: &[Transmission],
+) -> Result<Finished, Fail> {
+    if records.len() > 100_000 {
+        return Err(Fail::from("a batch"));
+    }
+    let (after, replies) = plain_run(alloc, lot()?, &sheet(alloc)?, ledger, records)?;
+    let books = Books::from_ledger(alloc, &after, period()?)?;
+    Ok(Finished { books, replies })
+}
+
+// What a desk ends with, where this one of the records that are out comes back first.
+fn ended(alloc: Global, ledger: &Ledger, back: Back) -> Result<Finished, Fail> {
+    let books = Books::from_ledger(alloc, ledger, period()?)?;
+    let desk = desk_of(alloc, books, fills_by_turns(alloc)?)?;
+    worked_off(alloc, desk, back)
+}
+
+fn ends_as_in_file_order(rt: &impl Abort, alloc: Global, back: Back) -> Result<(), Fail> {
+    let ledger = two_families(alloc)?;
+    let finished = ended(alloc, &ledger, back)?;
+    let records = fills_by_turns(alloc)?;
+    let wanted = in_file_order(alloc, &ledger, &records)?;
+    assert!(rt; finished.books == wanted.books);
+    assert_eq!(rt; finished.replies.as_slice(), wanted.replies.as_slice());
+    Ok(())
+}
+
+#[test]
+fn the_first_out_may_come_back_first(rt: HostRuntime) -> Result<(), Fail> {
+    ends_as_in_file_order(&rt, rt.alloc(), Back::First)
+}
+
+#[test]
+fn the_last_out_may_come_back_first(rt: HostRuntime) -> Result<(), Fail> {
+    ends_as_in_file_order(&rt, rt.alloc(), Back::Last)
 }
 
 // What is asked of the desk of the case: the batch number, the drugs that the sheet lists, the last day that the books
