@@ -13,9 +13,11 @@ kit:
 	@command -v rt > /dev/null || { echo "make: the command rt of the kit $(KIT) isn't on the path: see \"Have it\" in README.md" >&2; exit 1; }
 	@rt version | grep -q '^$(KIT) ' || echo "make: this is proved with $(KIT), and rt is $$(rt version)" >&2
 
+FILES = --data sheet.toml=../../$(JOB)/sheet.toml --data books.txt=../../$(JOB)/books.txt --data batch.bin=../../$(JOB)/batch.bin
+
 look: kit
-	cd crates/rxbatch && rt try --data sheet.toml=../../$(JOB)/sheet.toml --data books.txt=../../$(JOB)/books.txt \
-	  --data batch.bin=../../$(JOB)/batch.bin -- show --sheet sheet.toml --batch batch.bin
+	cd crates/rxbatch && rt try $(FILES) -- report --sheet sheet.toml --books books.txt --batch batch.bin
+	cd crates/rxbatch && rt try $(FILES) -- explain --sheet sheet.toml --books books.txt --batch batch.bin --record 2
 
 test: kit
 	rt ci
@@ -29,6 +31,10 @@ cases: kit
 	python3 tests/run_safe.py $(PROGRAM)
 	python3 tests/run_log.py $(PROGRAM)
 	python3 tests/run_cases.py $(PROGRAM) --plan
+	python3 tests/run_told.py $(PROGRAM)
+	python3 tests/run_explain.py $(PROGRAM)
+	python3 tests/run_verify.py $(PROGRAM)
+	python3 tests/run_replies.py $(PROGRAM)
 	python3 tests/run_report.py $(PROGRAM)
 	test -x $(HELD) || (cd crates/rx_held && rt run)
 	python3 tests/run_held.py $(HELD)

@@ -2,7 +2,8 @@ use crate::{Groups, Portion, account_of, kept_lines};
 use rx_claim::{Answer, Answers, Codes, Echo, EchoParts, Outcome, Refused, Reply};
 use rx_fields::{Code, Id, Person};
 use rx_report::Line;
-use rx_settle::tally_replies;
+use rx_settle::{Settled, tally_replies};
+use std::alloc::Global;
 use std::test::Fail;
 
 fn refused() -> Answer {
@@ -53,26 +54,40 @@ fn lines_stand_by_provider(rt: HostRuntime) -> Result<(), Fail> {
         replies.push(Reply { echo, outcome })?;
     }
     let settled = tally_replies(rt.alloc(), &replies)?;
-    let cases: [(Portion, &[&[u64]], u128); 6] = [
-        (Portion::Whole, &[&[1, 4], &[2], &[3]], 4),
-        (Portion::Provider(b"9876543213"), &[&[1, 4]], 2),
-        (Portion::Provider(b""), &[&[3]], 1),
-        (Portion::Provider(b"987654321"), &[], 0),
-        (Portion::Family(b"F2"), &[&[2], &[3], &[4]], 3),
-        (Portion::Family(b"F"), &[], 0),
-    ];
-    for (portion, wanted, count) in cases {
-        let kept = kept_lines(rt.alloc(), portion, &lines)?;
-        let groups = Groups::new(rt.alloc(), &kept)?;
-        let account = account_of(rt.alloc(), portion, &settled, &kept, &groups)?;
-        assert_eq!(rt; account.total.rejected, count);
-        assert_eq!(rt; account.sections.len(), wanted.len());
-        for (section, places) in account.sections.iter().zip(wanted) {
-            assert_eq!(rt; section.tally.rejected, places.len() as u128);
-            for (line, place) in section.lines.iter().zip(*places) {
-                assert_eq!(rt; line.place, *place);
-            }
-        }
-    }
+    let whole = places(rt.alloc(), Portion::Whole, &lines, &settled)?;
+    assert!(rt; whole.as_slice() == [1, 4, 0, 2, 0, 3, 0]);
+    let one = places(
+        rt.alloc(),
+        Portion::Provider(b"9876543213"),
+        &lines,
+        &settled,
+    )?;
+    assert!(rt; one.as_slice() == [1, 4, 0]);
+    let nameless = places(rt.alloc(), Portion::Provider(b""), &lines, &settled)?;
+    assert!(rt; nameless.as_slice() == [3, 0]);
+    let family = places(rt.alloc(), Portion::Family(b"F2"), &lines, &settled)?;
+    assert!(rt; family.as_slice() == [2, 0, 3, 0, 4, 0]);
+    let nobody = places(rt.alloc(), Portion::Family(b"F"), &lines, &settled)?;
+    assert!(rt; nobody.is_empty());
     Ok(())
+}
+
+// The places of the lines of each section, each section's ended by a 0.
+fn places(
+    alloc: Global,
+    portion: Portion<'_>,
+    lines: &[Line],
+    settled: &Settled,
+) -> Result<Vec<u64>, Fail> {
+    let kept = kept_lines(alloc, portion, lines)?;
+    let groups = Groups::new(alloc, &kept)?;
+    let account = account_of(alloc, portion, settled, &kept, &groups)?;
+    let mut places = Vec::new(alloc);
+    for section in account.sections.iter() {
+        for line in section.lines.iter() {
+            places.push(line.place)?;
+        }
+        places.push(0)?;
+    }
+    Ok(places)
 }
