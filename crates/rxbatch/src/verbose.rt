@@ -43,19 +43,9 @@ fn refused_words(
         Some(device) => again(rt, path_of(words, device), device),
         None => None,
     };
-    let text = text.as_ref().map(|text| text.as_slice());
-    let sheet = Given {
-        name: words.inputs.sheet,
-        text,
-    };
-    let books = Given {
-        name: words.inputs.books,
-        text,
-    };
-    let batch = Given {
-        name: words.inputs.batch,
-        text,
-    };
+    let sheet = given(words.inputs.sheet, &text);
+    let books = given(words.inputs.books, &text);
+    let batch = given(words.inputs.batch, &text);
     let asked = Asked {
         sheet,
         books,
@@ -64,6 +54,17 @@ fn refused_words(
         workers: words.workers,
     };
     fault_words(rt.alloc(), refused, &asked)
+}
+
+// A file with this name, and its bytes where they are there.
+fn given<'a>(name: &'a str, text: &'a Option<Vec<u8>>) -> Given<'a> {
+    match text {
+        Some(text) => Given {
+            name,
+            text: Some(text.as_slice()),
+        },
+        None => Given { name, text: None },
+    }
 }
 
 // The input that is at fault.
