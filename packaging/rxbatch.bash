@@ -2,14 +2,19 @@
 _rxbatch() {
   local word=${COMP_WORDS[COMP_CWORD]} before=${COMP_WORDS[COMP_CWORD - 1]} words files
   if [ "$COMP_CWORD" -eq 1 ]; then
-    mapfile -t COMPREPLY < <(compgen -W 'run show plan sample' -- "$word")
+    mapfile -t COMPREPLY < <(compgen -W 'run show plan sample check explain verify report replies' -- "$word")
     return
   fi
   case ${COMP_WORDS[1]} in
-    run) words='--sheet --books --batch --response --books-out --settlement --stamp --workers --plain'; files='--sheet|--books|--batch|--response|--books-out|--settlement' ;;
-    show) words='--sheet --batch'; files='--sheet|--batch' ;;
+    run) words='--sheet --books --batch --response --books-out --settlement --stamp --workers --plain --safe --verbose --log'; files='--sheet|--books|--batch|--response|--books-out|--settlement|--log' ;;
+    show) words='--sheet --batch --tsv'; files='--sheet|--batch' ;;
     plan) words='--sheet --books --batch'; files='--sheet|--books|--batch' ;;
     sample) words=''; files='' ;;
+    check) words='--sheet --books --batch'; files='--sheet|--books|--batch' ;;
+    explain) words='--sheet --books --batch --record --number --rx --provider --response --json'; files='--sheet|--books|--batch|--response' ;;
+    verify) words='--sheet --books --batch --response --books-out --settlement --stamp --workers --plain'; files='--sheet|--books|--batch|--response|--books-out|--settlement' ;;
+    report) words='--sheet --books --batch --provider --family --tsv --json --html'; files='--sheet|--books|--batch' ;;
+    replies) words='--response'; files='--response' ;;
   esac
   if [ -n "$files" ] && [[ "|$files|" == *"|$before|"* ]]; then
     mapfile -t COMPREPLY < <(compgen -f -- "$word")
