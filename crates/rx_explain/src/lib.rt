@@ -32,6 +32,3 @@ pub use finding::{Wanted, find};
 pub use law::{reply_is_shown, sums_are_of_counted_rows};
 pub use traced::{Source, Traced};
 pub use workings::Workings;
-
-#[cfg(test)]
-mod tests;
