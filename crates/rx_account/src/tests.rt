@@ -55,18 +55,18 @@ fn lines_stand_by_provider(rt: HostRuntime) -> Result<(), Fail> {
     }
     let settled = tally_replies(rt.alloc(), &replies)?;
     let whole = places(rt.alloc(), Portion::Whole, &lines, &settled)?;
-    assert!(rt; whole.as_slice() == [1, 4, 0, 2, 0, 3, 0]);
+    assert!(rt; whole.as_slice() == [1, 4, 0, 2, 0, 3, 0].as_slice());
     let one = places(
         rt.alloc(),
         Portion::Provider(b"9876543213"),
         &lines,
         &settled,
     )?;
-    assert!(rt; one.as_slice() == [1, 4, 0]);
+    assert!(rt; one.as_slice() == [1, 4, 0].as_slice());
     let nameless = places(rt.alloc(), Portion::Provider(b""), &lines, &settled)?;
-    assert!(rt; nameless.as_slice() == [3, 0]);
+    assert!(rt; nameless.as_slice() == [3, 0].as_slice());
     let family = places(rt.alloc(), Portion::Family(b"F2"), &lines, &settled)?;
-    assert!(rt; family.as_slice() == [2, 0, 3, 0, 4, 0]);
+    assert!(rt; family.as_slice() == [2, 0, 3, 0, 4, 0].as_slice());
     let nobody = places(rt.alloc(), Portion::Family(b"F"), &lines, &settled)?;
     assert!(rt; nobody.is_empty());
     Ok(())
