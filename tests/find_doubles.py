@@ -1,0 +1,130 @@
+#!/usr/bin/env python3
+"""Finds code and definitions that stand twice: six or more lines that are equal, names aside.
+
+    python3 tests/find_doubles.py [FOLDER] [--least N] [--most N] [--crate NAME]
+
+Read are crates/*/src and crates/*/specs below FOLDER. Blank lines, comments, imports and lines of brackets alone are
+passed over. Lines are equal, names aside, where one becomes the other by giving each name, number and text another one
+throughout; keywords stay. Six lines of fewer than four forms are a table, as a `match` of codes or a list of fields,
+and no double.
+
+One line is printed for each double, the longest first: how many lines, and the places. The last line counts them; the
+exit status is 1 where there are any. --least asks for longer ones, --crate for those that touch a crate.
+"""
+
+import argparse
+import collections
+import pathlib
+import re
+import sys
+
+TOKEN = re.compile(r'b?"(?:\\.|[^"\\])*"|b?\'(?:\\.|[^\'\\])\'|[^\W\d][\w\'-]*|\d[\w.]*|\S')
+WORD = re.compile(r"[^\W\d]")
+NUMBER_OR_TEXT = re.compile(r"\d|b?[\"']")
+IMPORT = re.compile(r"(pub )?(ghost )?(use|mod)\b|#!?\[")
+KEYWORDS = set("""
+    abbrev as break const continue data elim else ensures enum fn for ghost if impl in invariant let loop match mod move mut
+    open pub record ref requires return self Self struct then trait type unfoldable unfolding use where while
+    bool char false i64 str true u128 u16 u32 u64 u8 usize Bool Err List None Ok Option Result Some Type Vec
+""".split())
+FORMS = 4
+
+
+def lines_of(path):
+    """The lines of a file that count, each as (its number, its tokens)."""
+    found, in_import = [], False
+    for number, line in enumerate(path.read_text().splitlines(), 1):
+        text = re.sub(r"//.*$" if path.suffix == ".rt" else r"-- .*$|--$", "", line).strip()
+        if in_import or IMPORT.match(text):
+            in_import = "{" in text and "}" not in text or in_import and "}" not in text
+            continue
+        tokens = TOKEN.findall(text)
+        if any(WORD.match(token) or NUMBER_OR_TEXT.match(token) for token in tokens):
+            found.append((number, tokens))
+    return found
+
+
+def is_name(token):
+    return token not in KEYWORDS and (WORD.match(token) or NUMBER_OR_TEXT.match(token))
+
+
+def form_of(tokens):
+    """A line with every name left out."""
+    return " ".join("_" if is_name(token) else token for token in tokens)
+
+
+def shape_of(lines):
+    """Lines with each name given a number, by where it stands first."""
+    numbers = {}
+    return "\n".join(" ".join(str(numbers.setdefault(token, len(numbers))) if is_name(token) else token for token in tokens)
+                     for _, tokens in lines)
+
+
+def windows_of(files, least):
+    """For each shape of `least` lines the places, as (file, index of the first line); tables are left out."""
+    places = collections.defaultdict(list)
+    for file, lines in files.items():
+        for at in range(len(lines) - least + 1):
+            window = lines[at:at + least]
+            if len({form_of(tokens) for _, tokens in window}) >= FORMS:
+                places[shape_of(window)].append((file, at))
+    return places
+
+
+def pairs_of(places, least):
+    """The pairs of places, the earlier first, at which equal windows begin that don't overlap."""
+    pairs = set()
+    for found in places.values():
+        found = sorted(found)
+        for at, one in enumerate(found):
+            pairs.update((one, other) for other in found[at + 1:] if one[0] != other[0] or other[1] - one[1] >= least)
+    return pairs
+
+
+def runs_of(files, places, least):
+    """The doubles, each as long as it can be: {(file, index, how many lines): the other places}."""
+    pairs, runs = pairs_of(places, least), collections.defaultdict(set)
+    done = set()
+    for (file, at), (other, there) in sorted(pairs):
+        if ((file, at), (other, there)) in done:
+            continue
+        lines, room = least, there - at if file == other else len(files[file])
+        while (lines < room and ((file, at + lines - least + 1), (other, there + lines - least + 1)) in pairs
+               and shape_of(files[file][at:at + lines + 1]) == shape_of(files[other][there:there + lines + 1])):
+            lines += 1
+        done.update(((file, at + step), (other, there + step)) for step in range(lines))
+        runs[file, at, lines].add((other, there))
+    return runs
+
+
+def told(root, files, file, at, lines):
+    numbers = [number for number, _ in files[file][at:at + lines]]
+    return f"{file.relative_to(root)}:{numbers[0]}-{numbers[-1]}"
+
+
+def main():
+    words = argparse.ArgumentParser(description=__doc__.splitlines()[0])
+    words.add_argument("folder", nargs="?", default=pathlib.Path(__file__).parent.parent)
+    words.add_argument("--least", type=int, default=6)
+    words.add_argument("--most", type=int)
+    words.add_argument("--crate")
+    asked = words.parse_args()
+    root = pathlib.Path(asked.folder)
+    paths = sorted(root.glob("crates/*/src/**/*.rt")) + sorted(root.glob("crates/*/specs/**/*.antt"))
+    files = {path: lines_of(path) for path in paths}
+    runs = runs_of(files, windows_of(files, asked.least), asked.least)
+    rows, seen = [], set()
+    for (file, at, lines), others in sorted(runs.items(), key=lambda run: (-run[0][2], run[0])):
+        places = [told(root, files, *place, lines) for place in [(file, at)] + sorted(others)]
+        if seen.issuperset(places) or (asked.crate and not any(asked.crate in place.split("/") for place in places)):
+            continue
+        seen.update(places)
+        rows.append(f"{lines:4} lines  " + " = ".join(places))
+    for row in rows[:asked.most]:
+        print(row)
+    print(f"{len(rows)} doubles of {asked.least} lines or more in {len(files)} files")
+    return 1 if rows else 0
+
+
+if __name__ == "__main__":
+    sys.exit(main())
