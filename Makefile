@@ -15,9 +15,9 @@ kit:
 
 FILES = --data sheet.toml=../../$(JOB)/sheet.toml --data books.txt=../../$(JOB)/books.txt --data batch.bin=../../$(JOB)/batch.bin
 
+# One build; each file of look/ is a case, whose words stand in NAME.args.
 look: kit
-	cd crates/rxbatch && rt try $(FILES) -- report --sheet sheet.toml --books books.txt --batch batch.bin
-	cd crates/rxbatch && rt try $(FILES) -- explain --sheet sheet.toml --books books.txt --batch batch.bin --record 2
+	cd crates/rxbatch && rt try $(FILES) --cases ../../$(JOB)/look
 
 test: kit
 	rt ci

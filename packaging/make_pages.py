@@ -22,6 +22,8 @@ STATUSES = [
     ("1", "An input is refused: the line \"refused N M P\" on standard error."),
     ("2", "The words aren't understood, or ask for help."),
     ("3", "A file failed: the line \"file K\" on standard error."),
+    ("4", "check found warnings alone; explain found no such transaction."),
+    ("5", "verify: a file isn't what the run gives. explain: the response file hasn't this reply."),
 ]
 
 

@@ -6,6 +6,8 @@
 - Each call in docs/CALLS.md under a crate's heading is a public call of that crate, or of one that it passes on, with these
   parameters and this answer. Of parameters the types are compared; `alloc`, `rt` and `self` are left out on both sides, and
   a parameter that is told by its name alone (`workers`) by that name.
+- Each clause in docs/PROVED.md and docs/CARRIED.md, written `call` (clause), is a clause of that call, and each edit of
+  docs/CARRIED.md is in the must-fail folder of its crate.
 - Each crate of crates.txt has one line in docs/MAP.md, with the libraries that it uses.
 - Each path in a page is there, and each heading, or term in bold, that a page or the code names stands in the page that it
   names.
@@ -20,10 +22,15 @@ import sys
 CALL = re.compile(r"`(?P<name>[A-Za-z_:]+)(?:<[^`(]*>)?\((?P<parameters>[^`]*?)\)(?: -> (?P<answer>[^`]+))?`")
 FUNCTION = re.compile(r"(?:pub )?fn (?P<name>\w+)\s*(?:<(?P<generics>[^{;]*?)>)?\((?P<parameters>.*?)\)"
                       r"(?:\s*->\s*(?P<answer>.*?))?\s*(?=\brequires\b|\bensures\b|\{|;\s*\n)", re.S)
+FREE = re.compile(r"^pub fn (\w+)", re.M)
 HEADING = re.compile(r"^#+ (.+)$|\*\*([^*\n]+?)\.?\*\*", re.M)
 REFERENCE = re.compile(r"`?(docs/[A-Z]+\.md)`?(?: says under)?, \"([^\"]+)\"|`(docs/[A-Z]+\.md)` says under \"([^\"]+)\"")
 PATH = re.compile(r"`((?:docs|crates|tests|bench|examples|\.ci)/[A-Za-z0-9_./-]*)`")
 LINK = re.compile(r"\]\(([^)#\s]+)(?:#[^)]*)?\)")
+CLAUSES = re.compile(r"`([^`]+)`|\(([a-z_]+(?:, [a-z_]+)*)\)")
+BODY = re.compile(r"\bfn (\w+)(.*?)(?=\n\s*(?:pub(?:\(crate\))? )?fn |\Z)", re.S)
+LABEL = re.compile(r"ensures\*? (\w+) \{")
+EDITS = re.compile(r"`(rx\w*)`: ((?:`\w+`(?:, )?)+)")
 LEFT_OUT = {"alloc", "rt", "self", "&self", "&mut self", "mut self"}
 
 
@@ -121,11 +128,17 @@ def meets(told_parameters, told_answer, functions):
 
 
 def passed_on(crate, crates):
-    """The crate and those whose names it passes on; the program's calls are those of its words."""
-    names = [crate] + ["rx_words"] * (crate == "rxbatch")
+    """The functions of the crate and those that it passes on; the program's calls are those of its words."""
+    found = functions_of(crates / crate)
+    others = [("rx_words", None)] * (crate == "rxbatch")
     for path in (crates / crate / "src").glob("*.rt"):
-        names += re.findall(r"pub use (rx_\w+)::", path.read_text())
-    return names
+        others += re.findall(r"pub use (rx_\w+)::([^;]+);", path.read_text())
+    for other, names in others:
+        free = {name for path in (crates / other).glob("src/**/*.rt") for name in FREE.findall(path.read_text())}
+        for name, signatures in functions_of(crates / other).items():
+            if names is None or name not in free or re.search(rf"\b{name}\b", names):
+                found.setdefault(name, []).extend(signatures)
+    return found
 
 
 def check_calls(root, checks):
@@ -137,9 +150,8 @@ def check_calls(root, checks):
             continue
         functions = {}
         for crate in crates:
-            for name in passed_on(crate, root / "crates"):
-                for function, signatures in functions_of(root / "crates" / name).items():
-                    functions.setdefault(function, []).extend(signatures)
+            for function, signatures in passed_on(crate, root / "crates").items():
+                functions.setdefault(function, []).extend(signatures)
         for match in CALL.finditer(text):
             name = match["name"].split("::")[-1]
             if name[0].isupper():
@@ -148,6 +160,39 @@ def check_calls(root, checks):
             told = match[0].strip("`")
             checks.expect(there is not None and meets(match["parameters"], match["answer"], there),
                           f"docs/CALLS.md: {heading}: {told}: " + ("no such call" if there is None else f"it is {there}"))
+
+
+def labels_of(root):
+    """The names of the clauses of each function, by the function's name."""
+    found = {}
+    for path in root.glob("crates/*/src/**/*.rt"):
+        for name, text in BODY.findall(re.sub(r"//[^\n]*", "", path.read_text())):
+            found.setdefault(name, set()).update(LABEL.findall(text))
+    return found
+
+
+def names_in(call):
+    """The functions of a call as the pages write it: `Books::{read, write}` are two."""
+    inside = re.search(r"\{([^}]*)\}", call)
+    return inside[1].split(", ") if inside else [call.split("::")[-1]]
+
+
+def check_clauses(root, checks):
+    labels = labels_of(root)
+    for page in ("docs/PROVED.md", "docs/CARRIED.md"):
+        text = (root / page).read_text()
+        for line in filter(lambda line: line.startswith("|"), text.splitlines()):
+            calls = []
+            for call, clauses in CLAUSES.findall(line):
+                calls += names_in(call) if call else []
+                there = set().union(*(labels.get(name, set()) for name in calls))
+                for clause in clauses.split(", ") if clauses and calls else []:
+                    checks.expect(clause in there, f"{page}: {', '.join(calls)}: no clause {clause}")
+                calls = [] if clauses else calls
+        for crate, edits in EDITS.findall(text):
+            for edit in re.findall(r"\w+", edits):
+                checks.expect((root / "crates" / crate / "must-fail" / f"{edit}.edit").exists(),
+                              f"{page}: {crate}: no edit {edit}")
 
 
 def libraries(root):
@@ -206,6 +251,7 @@ def main():
     root = pathlib.Path(sys.argv[1] if len(sys.argv) > 1 else pathlib.Path(__file__).parent.parent)
     checks = Checks()
     check_calls(root, checks)
+    check_clauses(root, checks)
     check_crates(root, checks)
     check_places(root, checks)
     print(f"{checks.passed} passed, {checks.failed} failed")
