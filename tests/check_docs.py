@@ -9,6 +9,7 @@
 - Each clause in docs/PROVED.md and docs/CARRIED.md, written `call` (clause), is a clause of that call, and each edit of
   docs/CARRIED.md is in the must-fail folder of its crate.
 - Each crate of crates.txt has one line in docs/MAP.md, with the libraries that it uses.
+- The headline stands in the README and in the code as docs/PRODUCT.md has it.
 - Each path in a page is there, and each heading, or term in bold, that a page or the code names stands in the page that it
   names.
 
@@ -221,6 +222,14 @@ def check_crates(root, checks):
         checks.expect(crate in libraries(root), f"docs/MAP.md: {crate}: crates.txt has no such crate")
 
 
+def check_headline(root, checks):
+    """The headline promise, word for word, in the README and above the function that carries it."""
+    headline = re.search(r"^> (.*)$", (root / "docs/PRODUCT.md").read_text(), re.M)[1]
+    for path in ("README.md", "crates/rx_switch/src/running.rt"):
+        text = " ".join(re.sub(r"^\s*///", "", (root / path).read_text(), flags=re.M).split())
+        checks.expect(headline in text, f"{path}: the headline isn't that of docs/PRODUCT.md")
+
+
 def headings_of(page):
     """What a page can be quoted by: its headings, and its terms in bold."""
     return {re.sub(r"[`*]", "", "".join(match)) for match in HEADING.findall(page)}
@@ -253,6 +262,7 @@ def main():
     check_calls(root, checks)
     check_clauses(root, checks)
     check_crates(root, checks)
+    check_headline(root, checks)
     check_places(root, checks)
     print(f"{checks.passed} passed, {checks.failed} failed")
     return 1 if checks.failed else 0
