@@ -13,6 +13,7 @@ pub mod Opens
 pub mod ReadLists
 pub mod Same
 pub mod SameRows
+pub mod Sides
 pub mod Split
 pub mod Stored
 pub mod VersionThree

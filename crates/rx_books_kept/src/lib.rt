@@ -30,6 +30,7 @@ mod opening;
 mod parts;
 mod places;
 mod reading;
+mod search;
 mod slot;
 mod standing;
 mod summing;

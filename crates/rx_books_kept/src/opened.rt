@@ -6,13 +6,15 @@ ghost use Rattle.rx_ledger.specs.Ledger.{row_under};
 ghost use Rattle.rx_books_kept.specs.Store.{IsSlot, slot_key, slot_keys};
 
 use crate::opening::Opening;
+use crate::search::{guess_from, place_near};
 use crate::slot::KeySlot;
 use rx_fields::{Key, Memory};
 use rx_order::Ascending;
 use std::alloc::Global;
 use std::cmp::Ordering;
 
-/// A slot for each of these fill keys, with the row of the opening lists that stands under it, or none.
+/// A slot for each of these fill keys, with the row of the opening lists that stands under it, or none. Each is looked for
+/// from the one before on, so that keys that ascend are found in one pass.
 pub(crate) fn fresh_slots(
     alloc: Global,
     opening: &Opening,
@@ -23,20 +25,22 @@ pub(crate) fn fresh_slots(
     ensures there { IfOk result (λ slots. All (λ s. row_under opening.now s.key ≡ s.held) slots.items) }
 {
     let mut slots = Vec::with_capacity(alloc, keys.len())?;
+    let mut near = 0;
     for key in keys {
-        let KeySlot { key, held, holder } = fresh_slot(opening, key);
+        near = guess_from(opening.rows(), near, key);
+        let KeySlot { key, held, holder } = fresh_slot(opening, near, key);
         slots.push(KeySlot { key, held, holder })?;
     }
     Ok(slots)
 }
 
-// The slot of a fill key, with the row of the opening lists.
-fn fresh_slot(opening: &Opening, key: &Key) -> KeySlot
+// The slot of a fill key, with the row of the opening lists, which is near a place or else searched for.
+fn fresh_slot(opening: &Opening, near: usize, key: &Key) -> KeySlot
     ensures key { result.key ≡ key.now }
     ensures own { IsSlot opening.now.members result }
     ensures there { row_under opening.now key.now ≡ result.held }
 {
-    match opening.rows().place(key) {
+    match place_near(opening.rows(), near, key) {
         Ok(at) => KeySlot {
             key: *key,
             held: Some(*opening.rows().at(at)),

@@ -11,7 +11,8 @@ use Rattle.rx_ledger.specs.Ledger.{Ledger, IsLedger}
 use Rattle.rx_books_kept.specs.LedgerBooks.{LedgerBooks}
 use Rattle.rx_books_kept.specs.OpenBooks.{OpenParts}
 use Rattle.rx_in_order.specs.declared.fill.Fill.{Fill}
-use Rattle.rx_in_order.specs.Fills.{AreCounted, has_mark}
+use Rattle.rx_in_order.specs.declared.fill.FirstDay.{FirstDay}
+use Rattle.rx_in_order.specs.Fills.{AreCounted, is_counted}
 
 -- the books, and the fill keys that have a slot
 pub record Underway : Type 0 where
@@ -40,11 +41,11 @@ IsAwaited u t = (L : Ledger) → HoldsRecord (scope_of u) L t.body
 abbrev pub IsHolder : List Member → Option ℕ → Type 0
 IsHolder members holder = IfSome holder (λ i. i < length members)
 
--- what is kept: books in order, the counts of the courses that have a mark, none of a longer fill than the longest, and
--- where members are listed
-pub record IsUnderway (o : OpenParts) (marks : List Bool) (fills : List Fill) (longest : ℕ) (holders : List (Option ℕ))
-    : Type 0 where
+-- what is kept: books in order, the counts of the fills of courses that have a mark, as far as they last until the first
+-- day, none of a longer fill than the longest, and where members are listed
+pub record IsUnderway (o : OpenParts) (marks : List Bool) (first : FirstDay) (fills : List Fill) (longest : ℕ)
+    (holders : List (Option ℕ)) : Type 0 where
   pub in_order : IsLedger o.books.ledger
-  pub counted : AreCounted (has_mark marks) o.books.ledger.members o.books.ledger.rows fills
+  pub counted : AreCounted (is_counted marks first) o.books.ledger.members o.books.ledger.rows fills
   pub within : All (λ f. f.key.when.days ≤ longest) fills
   pub near : All (IsHolder o.books.ledger.members) holders

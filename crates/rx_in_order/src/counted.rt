@@ -1,37 +1,39 @@
-ghost use Rattle.std.specs.Prelude.{◌≡◌, IfOk, true};
+ghost use Rattle.std.specs.Prelude.{◌≡◌, ◌≤◌, IfOk, IsTrue, true};
 ghost use Rattle.std.specs.List.{All};
 ghost use Rattle.rx_in_order.specs.declared.fill.FillKey.{FillKey};
-ghost use Rattle.rx_in_order.specs.Fills.{AreCounted, count_among, count_at, fills_in, has_mark};
+ghost use Rattle.rx_in_order.specs.Fills.{AreCounted, concerns, count_among, count_at, fills_in, is_counted};
 
-use crate::fill::{Course, Entry, Fill, FillKey, fill_at, tally_near};
+use crate::fill::{Entry, Fill, FillKey, FirstDay, fill_at, tally_near};
 use crate::marks::has_mark;
+use crate::refill::{Refill, are_left};
 use rx_books_kept::OpenBooks;
 use rx_fields::Memory;
 use rx_order::Ascending;
 use std::alloc::Global;
 
-/// The counts of the fills of the courses that have a mark; and for each transaction of the batch, where the entry of its
-/// own fill is among them, if it has one. What is looked up there is compared.
+/// The counts of fills; and for each transaction of the batch, where the entry of its own fill is among them, if it has
+/// one. What is looked up there is compared.
 #[derive(Debug, Drop)]
 pub(crate) struct Counts {
     pub(crate) fills: Ascending<Fill>,
     pub(crate) places: Vec<usize>,
 }
 
-/// The counts for so many transactions. There is an entry for each of the batch's own fills, so that counting these asks
-/// for no memory later on.
+/// The counts for so many transactions, of the fills of courses that have a mark, as far as days of them are left on the
+/// first day. There is an entry for each of the batch's own fills, so that counting these asks for no memory later on.
 pub(crate) fn counted(
     alloc: Global,
     books: &OpenBooks,
     marks: &[bool],
+    first_day: FirstDay,
     own: Vec<Entry>,
     transactions: usize,
 ) -> Result<Counts, Memory>
     requires { All (λ e. e.fill.count ≡ 0) own.items }
     ensures { let L = books.now.books.ledger in
-        IfOk result (λ counted. AreCounted (has_mark marks.now) L.members L.rows counted.fills) }
+        IfOk result (λ counted. AreCounted (is_counted marks.now first_day) L.members L.rows counted.fills) }
 {
-    let mut found = found(books, marks, own)?;
+    let mut found = found(books, marks, first_day, own)?;
     found.sort_unstable_by_key(|entry| packed(&entry.fill.key));
     all_tallied(alloc, &found, transactions)
 }
@@ -44,22 +46,50 @@ fn packed(key: &FillKey) -> u128 {
     (course << 42) | (day << 10) | u128::from(key.when.days.get())
 }
 
-// These entries, and one for each standing claim of a course that has a mark.
-fn found(books: &OpenBooks, marks: &[bool], own: Vec<Entry>) -> Result<Vec<Entry>, Memory>
+/// The first day of these entries' fills; the last day of all where there is none.
+pub(crate) fn first_day_of(entries: &[Entry]) -> FirstDay {
+    let mut number = i32::MAX;
+    for entry in entries {
+        number = number.min(entry.fill.key.when.number);
+    }
+    FirstDay { number }
+}
+
+/// Whether all fills that concern a refill are counted.
+pub(crate) fn are_counted_for(marks: &[bool], first_day: FirstDay, refill: &Refill) -> bool
+    requires { refill.now.percent ≤ 100 }
+    ensures { IsTrue result → (k : FillKey) → concerns refill.now k ≡ true → is_counted marks.now first_day k ≡ true }
+{
+    if refill.number < first_day.number {
+        return false;
+    }
+    has_mark(marks, &refill.course)
+}
+
+// Whether the fill is counted: one of a course that has a mark, of which days are left on the first day.
+fn is_counted(marks: &[bool], first_day: FirstDay, key: &FillKey) -> bool
+    ensures { result ≡ is_counted marks.now first_day key.now }
+{
+    are_left(first_day.number, key.when.number, key.when.days, 100) && has_mark(marks, &key.course)
+}
+
+// These entries, and one for each standing claim whose fill is counted.
+fn found(
+    books: &OpenBooks,
+    marks: &[bool],
+    first_day: FirstDay,
+    own: Vec<Entry>,
+) -> Result<Vec<Entry>, Memory>
     requires { All (λ e. e.fill.count ≡ 0) own.items }
     ensures { let L = books.now.books.ledger in
-        IfOk result (λ found. (k : FillKey) → has_mark marks.now k.course ≡ true
+        IfOk result (λ found. (k : FillKey) → is_counted marks.now first_day k ≡ true
         → count_among found.items k ≡ fills_in L.members L.rows k) }
 {
     let mut found = own;
     let mut standing = books.standing();
     while let Some((row, holder)) = standing.next_row() {
-        let course = Course {
-            holder,
-            product: row.product,
-        };
-        if has_mark(marks, &course) {
-            let key = fill_at(holder, row);
+        let key = fill_at(holder, row);
+        if is_counted(marks, first_day, &key) {
             found.push(Entry {
                 fill: Fill { key, count: 1 },
                 transaction: usize::MAX,

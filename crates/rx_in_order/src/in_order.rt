@@ -8,9 +8,9 @@ ghost use Rattle.rx_ledger.specs.TermList.{plan_of};
 ghost use Rattle.rx_in_order.specs.Underway.{IsAwaited, scope_of};
 
 use crate::billed::{Billed, billed_by, longer, longest_of};
-use crate::counted::{Counts, counted};
-use crate::fill::{Fill, fill_at, lower, tally_near};
-use crate::marks::{has_mark, marks_of};
+use crate::counted::{Counts, are_counted_for, counted, first_day_of};
+use crate::fill::{Fill, FirstDay, fill_at, lower, tally_near};
+use crate::marks::marks_of;
 use crate::names::{keys_named, slots_of, unique_keys};
 use crate::near::near_of;
 use crate::refill::Refill;
@@ -37,9 +37,10 @@ pub struct InOrder {
     // They are compared too.
     pub(crate) slots: Vec<usize>,
     pub(crate) own: Vec<usize>,
-    // The fills of the courses that have a mark, each with how many standing claims are such fills, and the longest days
-    // supply of all.
+    // The fills of the courses that have a mark, as far as days of them are left on the first day, each with how many
+    // standing claims are such fills, and the longest days supply of all.
     pub(crate) marks: Vec<bool>,
+    pub(crate) first_day: FirstDay,
     pub(crate) fills: Ascending<Fill>,
     pub(crate) longest: Days,
 }
@@ -51,7 +52,7 @@ impl Model for InOrder {
 
     ghost view = { λ o. record { books = o.books.books; slots = o.books.slots } };
 
-    ghost invariant = { λ o. IsUnderway o.books o.marks.items o.fills o.longest o.holders.items };
+    ghost invariant = { λ o. IsUnderway o.books o.marks.items o.first_day o.fills o.longest o.holders.items };
 }
 
 impl InOrder {
@@ -75,7 +76,15 @@ impl InOrder {
         } = billed_by(alloc, &books, transmissions)?;
         let slots = slots_of(alloc, &named, &keys, holders.len())?;
         let marks = marks_of(alloc, &own)?;
-        let Counts { fills, places } = counted(alloc, &books, &marks, own, holders.len())?;
+        let first_day = first_day_of(&own);
+        let Counts { fills, places } = counted(
+            alloc,
+            &books,
+            &marks,
+            first_day,
+            own,
+            holders.len(),
+        )?;
         let longest = longest_of(fills.as_slice());
         let _in_order = books.standing();
         Ok(InOrder {
@@ -86,6 +95,7 @@ impl InOrder {
             slots,
             own: places,
             marks,
+            first_day,
             fills,
             longest,
         })
@@ -175,7 +185,7 @@ impl Basis for InOrder {
         };
         let refill = Refill::of(figures, date, bill, holder);
         let _in_order = self.fills.as_slice();
-        if has_mark(&self.marks, &refill.course) {
+        if are_counted_for(&self.marks, self.first_day, &refill) {
             return refill.is_too_soon(&self.fills, near_of(&self.own, self.at), self.longest);
         }
         is_any_row_too_soon(&self.books, figures, date, bill)
