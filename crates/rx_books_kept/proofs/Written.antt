@@ -5,6 +5,7 @@ use Rattle.std.specs.List.{AllZip, flat_map}
 use Rattle.std.specs.Vec.{vec_items}
 use Rattle.std.specs.declared.vec.Vec.{Vec}
 use Rattle.std.proofs.lemmas.Grind.{flat_map-append}
+use Rattle.std.proofs.lemmas.List.{append-nil}
 use Rattle.rx_ledger.specs.declared.member.Member.{Member}
 use Rattle.rx_ledger.specs.declared.row.Row.{Row}
 use Rattle.rx_books_text.specs.declared.line.Line.{Line}
@@ -49,3 +50,10 @@ texts-pieces rows_of (piece ∷ pieces) [] all = absurd all
 texts-pieces rows_of (piece ∷ pieces) (text ∷ texts) all =
     (λ i. all.0 i ++ texts-pieces rows_of pieces texts all.1 i)
     ∙ sym (flat_map-append (λ (r : Bor Row). line_of (line.Claim r.now)) (rows_of piece) (flat_map rows_of pieces))
+
+-- the text of pieces that stand between two
+pub pieces-between : {Z : Type 0} (above below : Vec ℕ Z) (pieces : List (Vec ℕ Z))
+    → flat_map vec_items ((above ∷ pieces) ++ below ∷ []) ≡ above.items ++ (flat_map vec_items pieces ++ below.items)
+pieces-between above below pieces =
+    ap (λ t. above.items ++ t) (flat_map-append vec_items pieces (below ∷ [])
+    ∙ ap (λ t. flat_map vec_items pieces ++ t) (append-nil below.items))

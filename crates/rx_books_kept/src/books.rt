@@ -128,7 +128,7 @@ impl Books {
     pub fn write(&self, alloc: Global) -> Result<Vec<u8>, Memory>
         ensures { IfOk result (λ text. text.items ≡ books_text Version.Three self.now.period self.now.ledger) }
     {
-        self.kept.write(alloc)
+        self.kept.write_over(Vec::new(alloc))
     }
 
     /// The period that the totals are of.

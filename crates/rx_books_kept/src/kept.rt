@@ -16,7 +16,7 @@ use crate::opening::{FamilyName, Opening};
 use crate::slot::KeySlot;
 use crate::standing::Standing;
 use crate::summing::{Figures, summed};
-use crate::writing::{CLAIM, claims_in_parts, put_members, put_texts, put_totals};
+use crate::writing::{CLAIM, claims_in_parts, put_members, put_totals};
 use rx_books_text::{TotalLine, Version, put_claim, put_head};
 use rx_fields::{Key, Memory, Period};
 use rx_ledger::{Ledger, Row};
@@ -160,11 +160,14 @@ impl OpenBooks {
         theirs.next_row().is_none()
     }
 
-    /// The text of the books, in version 3 (docs/FORMATS.md, "Books file").
-    pub(crate) fn write(&self, alloc: Global) -> Result<Vec<u8>, Memory>
+    /// The text of the books, in version 3 (docs/FORMATS.md, "Books file"), written over a text that isn't needed any more:
+    /// its memory is used again.
+    pub(crate) fn write_over(&self, spent: Vec<u8>) -> Result<Vec<u8>, Memory>
         ensures { IfOk result (λ text. text.items ≡ books_text Version.Three self.now.books.period self.now.books.ledger) }
     {
-        let mut text = Vec::with_capacity(alloc, self.room())?;
+        let mut text = spent;
+        text.clear();
+        text.reserve(self.room())?;
         put_head(&mut text, self.period)?;
         put_members(
             &mut text,
@@ -181,35 +184,39 @@ impl OpenBooks {
         Ok(text)
     }
 
-    /// The same, where so many parts of the claims are written by threads of their own; one part is written on the calling
-    /// thread.
-    pub(crate) fn write_in_parts<R: Threads + Sync>(
+    /// The same in pieces, one behind the other: so many parts of the claims are written by threads of their own, between
+    /// what stands above and below them. One part is written on the calling thread, and is one piece.
+    pub(crate) fn write_pieces<R: Threads + Sync>(
         &self,
         rt: &R,
         alloc: Global,
         parts: usize,
-    ) -> Result<Vec<u8>, Memory>
-        ensures { IfOk result (λ text. text.items ≡ books_text Version.Three self.now.books.period self.now.books.ledger) }
+        spent: Vec<u8>,
+    ) -> Result<Vec<Vec<u8>>, Memory>
+        ensures { IfOk result (λ pieces. flat_map vec_items pieces.items ≡ books_text Version.Three self.now.books.period self.now.books.ledger) }
     {
         if parts < 2 {
-            return self.write(alloc);
+            return in_one_piece(alloc, self.write_over(spent)?);
         }
-        let claims = self.claims_in_parts(rt, alloc, parts)?;
-        let mut text = Vec::with_capacity(alloc, self.room())?;
-        put_head(&mut text, self.period)?;
+        let mut pieces = self.claims_in_parts(rt, alloc, parts)?;
+        let mut above = spent;
+        above.clear();
+        put_head(&mut above, self.period)?;
         put_members(
-            &mut text,
+            &mut above,
             self.opening.members().as_slice(),
             &self.deductibles,
         )?;
-        put_texts(&mut text, &claims)?;
+        pieces.insert(0, above)?;
+        let mut below = Vec::new(alloc);
         put_totals(
-            &mut text,
+            &mut below,
             self.opening.families(),
             &self.out_of_pockets,
             &self.family_deductibles,
         )?;
-        Ok(text)
+        pieces.push(below)?;
+        Ok(pieces)
     }
 
     // The lines of the rows that stand, in so many texts.
@@ -230,8 +237,8 @@ impl OpenBooks {
         claims_in_parts(rt, alloc, &rows, rows.len() / parts + 1)
     }
 
-    // About the bytes of the text.
-    fn room(&self) -> usize {
+    /// About the bytes of the text.
+    pub(crate) fn room(&self) -> usize {
         let claims = self.opening.rows().len().saturating_mul(CLAIM);
         let others = self.opening.members().len().saturating_mul(OTHER);
         claims.saturating_add(others)
@@ -255,6 +262,15 @@ impl OpenBooks {
     {
         have_totals(self.opening.families(), totals)
     }
+}
+
+// A text as its one piece.
+fn in_one_piece(alloc: Global, text: Vec<u8>) -> Result<Vec<Vec<u8>>, Memory>
+    ensures { IfOk result (λ pieces. flat_map vec_items pieces.items ≡ text.items) }
+{
+    let mut pieces = Vec::new(alloc);
+    pieces.push(text)?;
+    Ok(pieces)
 }
 
 // Whether each of these families has its total line.

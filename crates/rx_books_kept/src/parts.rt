@@ -1,4 +1,6 @@
 ghost use Rattle.std.specs.Prelude.{◌≡◌, IfErr, IfOk, Ok};
+ghost use Rattle.std.specs.List.{flat_map};
+ghost use Rattle.std.specs.Vec.{vec_items};
 ghost use Rattle.rx_fields.specs.Numbered.{Span};
 ghost use Rattle.rx_ledger.specs.Ledger.{Ledger};
 ghost use Rattle.rx_books_kept.specs.BooksFile.{HasBooksFault, IsBooksText};
@@ -7,6 +9,7 @@ ghost use Rattle.rx_books_kept.specs.Figures.{books_of};
 ghost use Rattle.rx_books_text.specs.Fault.{Gives, UnlessMemory};
 
 use crate::books::Books;
+use crate::writing::put_texts;
 use rx_books_text::{BooksFault, Version};
 use rx_fields::Memory;
 use std::alloc::Global;
@@ -46,10 +49,32 @@ impl Books {
     ) -> Result<Vec<u8>, Memory>
         ensures { IfOk result (λ text. text.items ≡ books_text Version.Three self.now.period self.now.ledger) }
     {
-        match self.kept.write_in_parts(rt, alloc, parts) {
-            Ok(text) => Ok(text),
+        if parts < 2 {
+            return self.write(alloc);
+        }
+        let pieces = self.write_pieces(rt, alloc, parts, Vec::new(alloc))?;
+        let mut text = Vec::with_capacity(alloc, self.kept.room())?;
+        put_texts(&mut text, &pieces)?;
+        Ok(text)
+    }
+
+    /// The text of `write` in pieces, one behind the other, which no copy joins: so many parts of the claims are written by
+    /// threads of their own; one part is written on the calling thread, and is one piece. The spent text is one that isn't
+    /// needed any more: its memory is used again.
+    pub fn write_pieces<R: Threads + Sync>(
+        &self,
+        rt: &R,
+        alloc: Global,
+        parts: usize,
+        spent: Vec<u8>,
+    ) -> Result<Vec<Vec<u8>>, Memory>
+        ensures { IfOk result (λ pieces.
+            flat_map vec_items pieces.items ≡ books_text Version.Three self.now.period self.now.ledger) }
+    {
+        match self.kept.write_pieces(rt, alloc, parts, spent) {
+            Ok(pieces) => Ok(pieces),
             // Where threads or memory for parts are wanting, one part may do.
-            Err(Memory) => self.write(alloc),
+            Err(Memory) => self.kept.write_pieces(rt, alloc, 1, Vec::new(alloc)),
         }
     }
 }

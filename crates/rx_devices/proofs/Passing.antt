@@ -1,9 +1,14 @@
 -- How pieces that were read, or written, make up the whole.
-use Rattle.std.proofs.Common.{◌≡◌, ◌≤◌, ◌<◌, ◌+◌, ◌-◌, ℕ, Bool, List, [], ◌++◌, length, take, drop, Option, Some, None, IfSome, refl, sym, ◌∙◌, ap, subst, append_assoc, arith}
-use Rattle.std.proofs.lemmas.List.{append-nil, length-append, length-drop, take_all}
-use Rattle.std.proofs.Math.Seq.{take-add}
+use Rattle.std.proofs.Common.{◌≡◌, ◌≤◌, ◌<◌, ◌+◌, ◌-◌, ℕ, Bool, List, [], ◌∷◌, ◌++◌, length, get_or, take, drop, Option, Some, None, IfSome, refl, sym, ◌∙◌, ap, subst, append_assoc, arith}
+use Rattle.std.specs.List.{flat_map}
+use Rattle.std.specs.Vec.{vec_items}
+use Rattle.std.specs.declared.vec.Vec.{Vec}
+use Rattle.std.proofs.lemmas.Grind.{flat_map-append}
+use Rattle.std.proofs.lemmas.List.{append-nil, drop_more, length-append, length-drop, take-append-drop, take-append-le, take_all}
+use Rattle.std.proofs.Math.Seq.{take-add, take-append-add}
 use Rattle.std.specs.Io.KnownBytes.{Appends, Consumes, IsAtEnd}
 use Rattle.rx_devices.specs.Reading.{AreFewReads, IsFrontOf, IsWhole, PassesAll, PassesFront, PassesPiece, TakesNothing, most_bytes, most_reads}
+use Rattle.rx_devices.specs.Writing.{AppendsFront}
 
 -- no byte was read yet
 pub Consumes-nothing : (left : Option (List ℕ)) → Consumes left left []
@@ -112,3 +117,33 @@ Appends-on None between after text m n p q = tt
 Appends-on (Some first) None after text m n p q = absurd p
 Appends-on (Some first) (Some second) None text m n p q = absurd q
 Appends-on (Some first) (Some second) (Some third) text m n p q = q ∙ ap (λ l. l ++ take n (drop m text)) p ∙ append_assoc first (take m text) (take n (drop m text)) ∙ ap (λ l. first ++ l) (sym (take-add m n text))
+
+-- ---- a text in pieces
+
+-- a front was written, and then what follows
+pub Appends-then : (before between after : Option (List ℕ)) (xs ys : List ℕ) → Appends before between xs → Appends between after ys → Appends before after (xs ++ ys)
+Appends-then None between after xs ys p q = tt
+Appends-then (Some first) None after xs ys p q = absurd p
+Appends-then (Some first) (Some second) None xs ys p q = absurd q
+Appends-then (Some first) (Some second) (Some third) xs ys p q = q ∙ ap (λ l. l ++ ys) p ∙ append_assoc first xs ys
+
+-- the text of the pieces: those before one, that one, and those behind it
+pub pieces-at : {Z : Type 0} (pieces : List (Vec ℕ Z)) (i : ℕ) (piece : Vec ℕ Z) → i < length pieces → piece ≡ get_or pieces i piece
+    → flat_map vec_items pieces
+    ≡ flat_map vec_items (take i pieces) ++ (piece.items ++ flat_map vec_items (drop (i + 1) pieces))
+pieces-at pieces i piece within is =
+    let on : drop i pieces ≡ piece ∷ drop (i + 1) pieces =
+    drop_more pieces i piece within ∙ ap (λ x. x ∷ drop (i + 1) pieces) (sym is) in
+    ap (flat_map vec_items) (sym (take-append-drop i pieces)) ∙ flat_map-append vec_items (take i pieces) (drop i pieces)
+    ∙ ap (λ l. flat_map vec_items (take i pieces) ++ flat_map vec_items l) on
+
+-- of the piece behind what was written a front was written, and so of the whole
+pub AppendsFront-on : (before between after : Option (List ℕ)) (front piece rest : List ℕ) → Appends before between front
+    → AppendsFront between after piece → AppendsFront before after (front ++ (piece ++ rest))
+AppendsFront-on before between after front piece rest one two = record {
+  count = length front + two.count;
+  within = (let here = two.within in let all = length-append front (piece ++ rest) in let behind = length-append piece rest in omega arith);
+  appended = subst (λ text. Appends before after text)
+      (sym (take-append-add front (piece ++ rest) two.count ∙ ap (λ l. front ++ l) (take-append-le two.count piece rest two.within)))
+      (Appends-then before between after front (take two.count piece) one two.appended);
+}

@@ -26,6 +26,6 @@ pub use consumer::Consumer;
 pub use fault::{Failed, ReadFault};
 pub use memory::{SliceSource, VecSink};
 pub use reading::{read_all, read_each};
-pub use sink::{Sink, write_all};
+pub use sink::{Sink, write_all, write_pieces};
 pub use source::Source;
 pub use wrapped::{ReaderSource, WriterSink};

@@ -1,5 +1,7 @@
 ghost use Rattle.std.specs.Prelude.{◌≡◌, ◌||◌, ℕ, Bool, List, Option, false, is_err, OnOk, length};
 ghost use Rattle.std.specs.Io.{WritesAtMost};
+ghost use Rattle.std.specs.List.{flat_map};
+ghost use Rattle.std.specs.Vec.{vec_items};
 ghost use Rattle.std.specs.Io.KnownBytes.{Appends, WriteAppends};
 ghost use Rattle.rx_devices.specs.Writing.{AppendsFront, is_failed_write};
 
@@ -39,6 +41,23 @@ pub fn write_all<S: Sink>(sink: &mut S, text: &[u8]) -> Result<(), Failed>
             return Err(Failed);
         }
         done += taken;
+    }
+    Ok(())
+}
+
+/// Writes a text that is in pieces to its end, one piece after the other, as `write_all` writes each.
+///
+/// # Errors
+///
+/// `Failed` where a write failed.
+pub fn write_pieces<S: Sink>(sink: &mut S, pieces: &[Vec<u8>]) -> Result<(), Failed>
+    requires { S.failed sink.old ≡ false }
+    ensures whole { OnOk result (Appends (S.written sink.old) (S.written sink.new) (flat_map vec_items pieces.now)) }
+    ensures front { AppendsFront (S.written sink.old) (S.written sink.new) (flat_map vec_items pieces.now) }
+    ensures failed { S.failed sink.new ≡ is_err result }
+{
+    for piece in pieces {
+        write_all(sink, piece)?;
     }
     Ok(())
 }

@@ -1,7 +1,7 @@
 // What no clause says: that a reading succeeds, which call of a device fails, and devices that don't tell their bytes.
 use crate::{
     Consumer, Failed, ReadFault, ReaderSource, SliceSource, Source, VecSink, WriterSink, read_all,
-    read_each, write_all,
+    read_each, write_all, write_pieces,
 };
 use rx_fields::Memory;
 use std::io;
@@ -161,6 +161,23 @@ fn leaves_a_front_after_a_failure(rt: HostRuntime) {
         );
         assert_eq!(rt; sink.bytes(), &TEXT[..4 * calls]);
     }
+}
+
+// Four bytes a call: the third call is for the last byte.
+#[test]
+fn writes_pieces_of_a_text_in_order(rt: HostRuntime) -> Result<(), Fail> {
+    let alloc = rt.alloc();
+    let mut pieces = Vec::new(alloc);
+    pieces.push(b"SETT".to_vec(alloc)?)?;
+    pieces.push(Vec::new(alloc))?;
+    pieces.push(b"LE|1|".to_vec(alloc)?)?;
+    let mut sink = VecSink::new(alloc, 4);
+    assert_eq!(rt; write_pieces(&mut sink, &pieces), Ok(()));
+    assert_eq!(rt; sink.bytes(), TEXT);
+    let mut sink = VecSink::new(alloc, 4).failing_after(2);
+    assert_eq!(rt; write_pieces(&mut sink, &pieces), Err(Failed));
+    assert_eq!(rt; sink.bytes(), b"SETTLE|1".as_slice());
+    Ok(())
 }
 
 #[test]

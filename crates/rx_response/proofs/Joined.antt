@@ -2,6 +2,7 @@
 use Rattle.std.proofs.Common.{◌≡◌, List, [], ◌∷◌, ◌++◌, map, ℕ, ◌+◌, ◌<◌, ◌≤◌, Result, Ok, Err, length, get_or, drop, append_assoc, refl, sym, ap, ◌∙◌, arith}
 use Rattle.std.specs.Prelude.{IfOk, IsOkAnd, MatchResult, zip}
 use Rattle.std.specs.List.{AllZip, flat_map}
+use Rattle.std.specs.Vec.{vec_items}
 use Rattle.std.specs.declared.vec.Vec.{Vec}
 use Rattle.std.proofs.lemmas.List.{append-nil, length-map, drop_more, drop_all}
 use Rattle.std.proofs.lemmas.Slice.Zip.{length-zip}
@@ -10,7 +11,7 @@ use Rattle.rayon.specs.Lists.{Folds}
 use Rattle.rayon.proofs.Reducing.{Folds-elim}
 use Rattle.rx_batch.specs.declared.detail.Detail.{Detail}
 use Rattle.rx_claim.specs.declared.reply.Reply.{Reply}
-use Rattle.rx_response.specs.Pieces.{answer_text, pieces_text, records_text}
+use Rattle.rx_response.specs.Pieces.{answer_text, records_text}
 use Rattle.rx_response.specs.Response.{response_detail, response_details}
 
 -- what holds of a result's value, where it is said of both outcomes
@@ -42,13 +43,20 @@ module _ {X Z : Type 0} (E : Type 0) (record_of : X → List ℕ) where
   -- the pieces that a fold gives, where each was made, have the records of all items
   pub joined : (pieces : List (List X)) (ys : List (Vec ℕ Z))
       → AllZip (λ xs (r : Result (Vec ℕ Z) E). (e : Result (Vec ℕ Z) E) × IfOk e (λ (t : Vec ℕ Z). t.items ≡ []) × Folds AddsOne e xs r) pieces (map Ok ys)
-      → pieces_text ys ≡ flat_map record_of (flat_map (λ l. l) pieces)
+      → flat_map vec_items ys ≡ flat_map record_of (flat_map (λ l. l) pieces)
   joined [] [] h = refl
   joined [] (y ∷ ys) h = absurd h
   joined (xs ∷ rest) [] h = absurd h
   joined (xs ∷ rest) (y ∷ ys) h =
       (λ j. piece xs h.0.0 (Ok y) h.0.1 h.0.2 j ++ joined rest ys h.1 j)
       ∙ sym (flat_map-append record_of xs (flat_map (λ l. l) rest))
+
+-- the text of pieces that stand between two
+pub pieces-between : {Z : Type 0} (above below : Vec ℕ Z) (pieces : List (Vec ℕ Z))
+    → flat_map vec_items ((above ∷ pieces) ++ below ∷ []) ≡ above.items ++ (flat_map vec_items pieces ++ below.items)
+pieces-between above below pieces =
+    ap (λ t. above.items ++ t) (flat_map-append vec_items pieces (below ∷ [])
+    ∙ ap (λ t. flat_map vec_items pieces ++ t) (append-nil below.items))
 
 -- there is an answer for each detail
 pub as_many : (details : List Detail) (replies : List Reply) → length details ≡ length replies

@@ -1,7 +1,6 @@
 -- The records of a response file, made in pieces.
 use Rattle.std.specs.Prelude.{ℕ, List}
 use Rattle.std.specs.List.{flat_map}
-use Rattle.std.specs.declared.vec.Vec.{Vec}
 use Rattle.rx_batch.specs.declared.detail.Detail.{Detail}
 use Rattle.rx_batch.specs.Grammar.{record_text}
 use Rattle.rx_batch.specs.Writing.{detail_text}
@@ -15,7 +14,3 @@ answer_text detail reply = record_text (detail_text (response_detail detail repl
 -- the records of details, one after another
 abbrev pub records_text : List Detail → List ℕ
 records_text details = flat_map (λ d. record_text (detail_text d)) details
-
--- the pieces, one after another
-abbrev pub pieces_text : {Z : Type 0} → List (Vec ℕ Z) → List ℕ
-pieces_text pieces = flat_map (λ piece. piece.items) pieces

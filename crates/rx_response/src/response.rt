@@ -1,7 +1,9 @@
 ghost use Rattle.std.specs.Prelude.{◌≡◌, ◌+◌, ◌≤◌, ◌<◌, ◌++◌, [], length, IfOk, IsOkAnd, OnOk};
+ghost use Rattle.std.specs.List.{flat_map};
+ghost use Rattle.std.specs.Vec.{vec_items};
 ghost use Rattle.rx_batch.specs.Grammar.{record_text};
 ghost use Rattle.rx_batch.specs.Writing.{trailer_text};
-ghost use Rattle.rx_response.specs.Pieces.{answer_text, pieces_text, records_text};
+ghost use Rattle.rx_response.specs.Pieces.{answer_text, records_text};
 ghost use Rattle.rx_response.specs.Response.{response_head, response_details, response_text};
 
 use rayon::current_num_threads;
@@ -53,13 +55,49 @@ pub fn response_in_parts<R: Threads + Sync>(
     requires within { length details.now ≤ 100_000 }
     ensures { IfOk result (λ text. text.items ≡ response_text head.now stamp details.now replies.now) }
 {
+    let pieces = response_pieces(rt, alloc, parts, head, stamp, details, replies)?;
+    one_text(alloc, pieces)
+}
+
+/// The same text in pieces, one behind the other, which no copy joins. What one part renders is one piece.
+pub fn response_pieces<R: Threads + Sync>(
+    rt: &R,
+    alloc: Global,
+    parts: usize,
+    head: &Head,
+    stamp: Stamp,
+    details: &[Detail],
+    replies: &[Reply],
+) -> Result<Vec<Vec<u8>>, Memory>
+    requires equally_many { length details.now ≡ length replies.now }
+    requires within { length details.now ≤ 100_000 }
+    ensures { IfOk result (λ pieces.
+        flat_map vec_items pieces.items ≡ response_text head.now stamp details.now replies.now) }
+{
     if parts > 1 {
         // Where threads or memory for pieces are wanting, one part may do.
-        if let Ok(text) = in_pieces(rt, alloc, parts, head, &stamp, details, replies) {
+        if let Ok(pieces) = in_pieces(rt, alloc, parts, head, &stamp, details, replies) {
+            return Ok(pieces);
+        }
+    }
+    let mut pieces = Vec::new(alloc);
+    pieces.push(in_one_part(alloc, head, &stamp, details, replies)?)?;
+    Ok(pieces)
+}
+
+/// The pieces of a text, as one text. A piece that is alone isn't copied.
+pub fn one_text(alloc: Global, pieces: Vec<Vec<u8>>) -> Result<Vec<u8>, Memory>
+    ensures { IfOk result (λ text. text.items ≡ flat_map vec_items pieces.items) }
+{
+    let mut pieces = pieces;
+    if pieces.len() == 1 {
+        if let Some(text) = pieces.pop() {
             return Ok(text);
         }
     }
-    in_one_part(alloc, head, &stamp, details, replies)
+    let mut text = Vec::with_capacity(alloc, len_of(&pieces))?;
+    put_pieces(&mut text, &pieces)?;
+    Ok(text)
 }
 
 #[tactic(auto, using(crate::proofs::Joined::as_many, std::proofs::Common::append_assoc))]
@@ -81,7 +119,7 @@ fn in_one_part(
     Ok(text)
 }
 
-#[tactic(auto, using(crate::proofs::Joined::as_many, std::proofs::Common::append_assoc))]
+// The header, the records in pieces, and the trailer.
 fn in_pieces<R: Threads + Sync>(
     rt: &R,
     alloc: Global,
@@ -90,18 +128,21 @@ fn in_pieces<R: Threads + Sync>(
     stamp: &Stamp,
     details: &[Detail],
     replies: &[Reply],
-) -> Result<Vec<u8>, Memory>
+) -> Result<Vec<Vec<u8>>, Memory>
     requires some { 0 < parts }
     requires equally_many { length details.now ≡ length replies.now }
     requires within { length details.now ≤ 100_000 }
-    ensures { IfOk result (λ text. text.items ≡ response_text head.now stamp.now details.now replies.now) }
+    ensures { IfOk result (λ pieces.
+        flat_map vec_items pieces.items ≡ response_text head.now stamp.now details.now replies.now) }
 {
-    let pieces = render(rt, alloc, details.len() / parts, details, replies)?;
-    let mut text = Vec::with_capacity(alloc, file_len(&pieces))?;
-    put_header(&mut text, &sent_back(head, *stamp))?;
-    put_pieces(&mut text, &pieces)?;
-    put_end(&mut text, head, details)?;
-    Ok(text)
+    let mut header = Vec::new(alloc);
+    put_header(&mut header, &sent_back(head, *stamp))?;
+    let mut trailer = Vec::new(alloc);
+    put_end(&mut trailer, head, details)?;
+    let mut pieces = render(rt, alloc, details.len() / parts, details, replies)?;
+    pieces.insert(0, header)?;
+    pieces.push(trailer)?;
+    Ok(pieces)
 }
 
 // The trailer of the response.
@@ -139,7 +180,7 @@ fn render<R: Threads + Sync>(
     details: &[Detail],
     replies: &[Reply],
 ) -> Result<Vec<Vec<u8>>, Memory>
-    ensures { IfOk result (λ pieces. pieces_text pieces.items ≡ records_text (response_details details.now replies.now)) }
+    ensures { IfOk result (λ pieces. flat_map vec_items pieces.items ≡ records_text (response_details details.now replies.now)) }
 {
     let room = room(least.saturating_add(1));
     details
@@ -194,7 +235,7 @@ fn put_answers(text: &mut Vec<u8>, details: &[Detail], replies: &[Reply]) -> Res
 
 // The pieces, one after another.
 fn put_pieces(text: &mut Vec<u8>, pieces: &[Vec<u8>]) -> Result<(), AllocError>
-    ensures { OnOk result (text.new.items ≡ text.old.items ++ pieces_text pieces.now) }
+    ensures { OnOk result (text.new.items ≡ text.old.items ++ flat_map vec_items pieces.now) }
 {
     for piece in pieces {
         text.extend_from_slice(piece)?;
@@ -202,9 +243,9 @@ fn put_pieces(text: &mut Vec<u8>, pieces: &[Vec<u8>]) -> Result<(), AllocError>
     Ok(())
 }
 
-// How many bytes the file has, so that its text grows once.
-fn file_len(pieces: &[Vec<u8>]) -> usize {
-    let mut len = ENDS;
+// How many bytes the pieces have, so that the text grows once.
+fn len_of(pieces: &[Vec<u8>]) -> usize {
+    let mut len: usize = 0;
     for piece in pieces {
         len = len.saturating_add(piece.len());
     }

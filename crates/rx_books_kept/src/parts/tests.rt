@@ -132,6 +132,11 @@ fn claims_are_read_and_written_in_any_parts(rt: HostRuntime) -> Result<(), Fail>
         assert_eq!(rt; books.out_of_pocket(&family), Some(13_000));
         let written = books.write_in_parts(&rt, alloc, parts)?;
         assert!(rt; written.as_slice() == BOOKS);
+        let mut all = Vec::new(alloc);
+        for piece in &books.write_pieces(&rt, alloc, parts, MEMBERS.to_vec(alloc)?)? {
+            all.extend_from_slice(piece)?;
+        }
+        assert!(rt; all.as_slice() == BOOKS);
     }
     Ok(())
 }
