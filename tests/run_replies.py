@@ -12,16 +12,14 @@ A case that differs has one line. The last line is `N passed, M failed`; the exi
 and 2 where no case was found.
 """
 
-import argparse
 import concurrent.futures
 import os
-import shlex
-import shutil
 import subprocess
 import sys
 import tempfile
 from typing import NamedTuple, Optional
 
+from options import parser_of, read_options
 from run_cases import HERE, read
 
 JOB = os.path.join(HERE, "cases", "one-billing")
@@ -202,20 +200,13 @@ def full_fault(settings):
 
 
 def main(words):
-    parser = argparse.ArgumentParser(description=__doc__, formatter_class=argparse.RawDescriptionHelpFormatter)
-    parser.add_argument("program", metavar="PROGRAM")
+    parser = parser_of(__doc__)
     parser.add_argument("--cases", help="only the cases below this folder")
-    parser.add_argument("--only", default="", help="only cases with this word in their name")
-    parser.add_argument("--jobs", type=int, default=os.cpu_count() or 1)
-    parser.add_argument("--seconds", type=float, default=60, help="for one run of the program; default: 60")
-    options = parser.parse_args(words)
-    program = [os.path.abspath(word) if os.path.exists(word) else word for word in shlex.split(options.program)]
-    if not program or shutil.which(program[0]) is None:
-        parser.error(f"can't run {options.program}")
+    options = read_options(parser, words)
     cases = list(stored_cases(options.cases or os.path.join(HERE, "cases"), options.only))
     if options.cases is None:
         cases += [case for case in made_cases() if options.only in case.name]
-    settings = Settings(program, options.seconds)
+    settings = Settings(options.program, options.seconds)
     tasks = [(case.name, fault_of, (settings, case)) for case in cases]
     if options.cases is None and os.path.exists("/dev/full"):
         tasks.append(("standard output that is full", full_fault, (settings,)))

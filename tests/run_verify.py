@@ -17,17 +17,15 @@ A case that differs has one line with its first difference. The last line is `N 
 0 where M is 0, else 1, and 2 where no case was found.
 """
 
-import argparse
 import concurrent.futures
 import os
 import random
-import shlex
-import shutil
 import subprocess
 import sys
 import tempfile
 from typing import NamedTuple
 
+from options import parser_of, read_options
 from run_cases import HERE, INPUTS, OUTPUTS, case_folders, numbers_of_workers, read
 
 # The files of a run by their options, in the order of their numbers: 1 is the sheet, 6 the settlement.
@@ -242,21 +240,14 @@ def cases_below(top, only):
 
 
 def main(words):
-    parser = argparse.ArgumentParser(description=__doc__, formatter_class=argparse.RawDescriptionHelpFormatter)
-    parser.add_argument("program", metavar="PROGRAM")
+    parser = parser_of(__doc__)
     parser.add_argument("--cases", default=os.path.join(HERE, "cases"))
-    parser.add_argument("--only", default="", help="only cases with this word in their path")
     parser.add_argument("--changes", type=int, default=4, help="changed bytes in each file; default: 4")
     parser.add_argument("--all-bytes", default="one-billing", help="default: one-billing")
     parser.add_argument("--brief", action="store_true", help="one run on each case's files, and the changed bytes")
     parser.add_argument("--seed", default="1")
-    parser.add_argument("--jobs", type=int, default=os.cpu_count() or 1)
-    parser.add_argument("--seconds", type=float, default=60, help="for one run of the program; default: 60")
-    options = parser.parse_args(words)
-    program = [os.path.abspath(word) if os.path.exists(word) else word for word in shlex.split(options.program)]
-    if not program or shutil.which(program[0]) is None:
-        parser.error(f"can't run {options.program}")
-    settings = Settings(program, options.changes, options.all_bytes, options.brief, options.seed, options.seconds)
+    options = read_options(parser, words)
+    settings = Settings(options.program, options.changes, options.all_bytes, options.brief, options.seed, options.seconds)
     cases = cases_below(options.cases, options.only)
     done = [case for case in cases if int(read(case, "status")) == 0]
     tasks = [("words", try_words, case) for case in done[:1]]
