@@ -3,6 +3,7 @@ ghost use Rattle.std.specs.List.{All, AllZip};
 ghost use Rattle.rx_explain.specs.Explained.{IsExplained};
 ghost use Rattle.rx_explain.specs.Found.{found_in};
 ghost use Rattle.rx_explain.specs.Spots.{spot_at};
+ghost use Rattle.rx_explain.specs.Traces.{events_of};
 ghost use Rattle.rx_ledger.specs.Fold.{fold_replies};
 ghost use Rattle.rx_switch.specs.Planned.{IsNotPlanned};
 ghost use Rattle.rx_explain_run.specs.Retraced.{AreExplained, IsRetraced};
@@ -13,7 +14,7 @@ use crate::replay::{Course, Stop, ledger_before, replay};
 use rx_batch::{Details, read_batch};
 use rx_books_kept::Books;
 use rx_claim::{Reply, Transmission};
-use rx_explain::{At, Explanation, Wanted, explain, find};
+use rx_explain::{At, Events, Explanation, Wanted, explain, find};
 use rx_fields::{Lot, Memory};
 use rx_ledger::{Figures, Sheet};
 use rx_sheet::read_sheet;
@@ -98,7 +99,8 @@ fn answer(
     let copy = opening.copy(alloc, sheet.period())?;
     let Course { replies, stops, .. } = replay(alloc, lot, sheet, copy, asked, &places)?;
     let found = find(alloc, wanted, asked, &replies)?;
-    let explanations = explain_each(alloc, lot, sheet, &opening, asked, &replies, &stops, &found)?;
+    let events = Events::of(alloc, asked, &replies)?;
+    let explanations = explain_each(alloc, lot, sheet, &opening, asked, &events, &stops, &found)?;
     Ok(Answered {
         replies,
         explanations,
@@ -112,13 +114,12 @@ fn explain_each(
     sheet: &Sheet,
     opening: &Books,
     asked: &[Transmission],
-    replies: &[Reply],
+    events: &Events,
     stops: &[Stop],
     found: &[At],
 ) -> Result<Vec<Option<Explanation>>, Memory>
     requires few { length asked.now ≤ 100_000 }
-    requires replied { replies.now ≡ fold_replies lot sheet.now 1 asked.now opening.now.ledger }
-    requires each { length replies.now ≡ length asked.now }
+    requires events { events.now ≡ events_of 1 asked.now (fold_replies lot sheet.now 1 asked.now opening.now.ledger) }
     requires stops { All (IsStop lot sheet.now asked.now opening.now.ledger) stops.now }
     ensures { IfOk result (λ all. AllZip
         (λ at x. IsExplained lot sheet.now asked.now opening.now.ledger at (spot_at asked.now at) x) found.now all.items) }
@@ -126,7 +127,7 @@ fn explain_each(
     let mut explanations = Vec::with_capacity(alloc, found.len())?;
     for nth in 0..found.len() {
         let at = found_at(found, nth);
-        let explanation = explain_at(alloc, lot, sheet, opening, asked, replies, stops, at)?;
+        let explanation = explain_at(alloc, lot, sheet, opening, asked, events, stops, at)?;
         explanations.push(explanation)?;
     }
     Ok(explanations)
@@ -146,17 +147,16 @@ fn explain_at(
     sheet: &Sheet,
     opening: &Books,
     asked: &[Transmission],
-    replies: &[Reply],
+    events: &Events,
     stops: &[Stop],
     at: At,
 ) -> Result<Option<Explanation>, Memory>
     requires few { length asked.now ≤ 100_000 }
-    requires replied { replies.now ≡ fold_replies lot sheet.now 1 asked.now opening.now.ledger }
-    requires each { length replies.now ≡ length asked.now }
+    requires events { events.now ≡ events_of 1 asked.now (fold_replies lot sheet.now 1 asked.now opening.now.ledger) }
     requires stops { All (IsStop lot sheet.now asked.now opening.now.ledger) stops.now }
     ensures { IfOk result
         (IsExplained lot sheet.now asked.now opening.now.ledger at (spot_at asked.now at)) }
 {
     let before = ledger_before(alloc, lot, sheet, opening, asked, stops, at.place)?;
-    explain(alloc, lot, sheet, before, asked, replies, at)
+    explain(alloc, lot, sheet, before, asked, events, at)
 }
