@@ -12,6 +12,8 @@
 - The headline stands in the README and in the code as docs/PRODUCT.md has it.
 - Each path in a page is there, and each heading, or term in bold, that a page or the code names stands in the page that it
   names.
+- Each wrong body that docs/PROMISES.md wants refused has its line in docs/CARRIED.md, in the same order, and each edit, case
+  and test that these lines and tests/README.md name is there.
 
 The last line is `N passed, M failed`; the exit status is 1 where M isn't 0.
 """
@@ -256,6 +258,32 @@ def check_places(root, checks):
             checks.expect(holds, f"{source.relative_to(root)}: {page} has no heading {heading!r}")
 
 
+def rows_under(page, heading):
+    """The rows of the first table under a heading, each as its cells."""
+    section = re.split(rf"^## {re.escape(heading)}$", page, flags=re.M)[1].split("\n## ")[0]
+    rows = [line.strip("| ").split(" | ") for line in section.splitlines() if line.startswith("| ")]
+    return rows[1:]
+
+
+def check_wrong_bodies(root, checks):
+    wanted = rows_under((root / "docs/PROMISES.md").read_text(), "Wrong bodies that must be refused")
+    told = rows_under((root / "docs/CARRIED.md").read_text(), "Wrong bodies")
+    checks.expect(len(wanted) == len(told), f"docs/CARRIED.md: {len(told)} wrong bodies, wanted {len(wanted)}")
+    for (body, _), (line, refused_by) in zip(wanted, told):
+        checks.expect(body.startswith(line), f"docs/CARRIED.md: {line}: docs/PROMISES.md has {body}")
+        crate = None
+        for name in re.findall(r"`([^`]+)`", refused_by):
+            if (root / "crates" / name / "src").is_dir():
+                crate = name
+            elif "/" not in name:
+                there = crate and (root / f"crates/{crate}/must-fail/{name}.edit").exists()
+                checks.expect(there, f"docs/CARRIED.md: {line}: {crate} has no edit {name}")
+    tests = (root / "crates/rx_wave/src/workers/tests.rt").read_text()
+    for line, refused_by in rows_under((root / "tests/README.md").read_text(), "What only the tests of the workers refuse"):
+        for name in re.findall(r"`([^`]+)`", refused_by):
+            checks.expect(f"#[test]\nfn {name}(" in tests, f"tests/README.md: {line}: rx_wave has no test {name}")
+
+
 def main():
     root = pathlib.Path(sys.argv[1] if len(sys.argv) > 1 else pathlib.Path(__file__).parent.parent)
     checks = Checks()
@@ -264,6 +292,7 @@ def main():
     check_crates(root, checks)
     check_headline(root, checks)
     check_places(root, checks)
+    check_wrong_bodies(root, checks)
     print(f"{checks.passed} passed, {checks.failed} failed")
     return 1 if checks.failed else 0
 

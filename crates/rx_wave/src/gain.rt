@@ -10,7 +10,7 @@ use std::alloc::Global;
 // The weight, for each record, up to which several workers may gain. On a parcel of 100 claims a record takes 0.6 us, on
 // one of 1,000 claims 8.2 us, each with one copy of three that a desk makes or compares; on the books themselves it takes
 // 2 us, whatever the family (bench/README.md, "One record on its parcel" and "File order on the books").
-const MOST_FOR_A_RECORD: u64 = 200;
+pub(crate) const MOST_FOR_A_RECORD: u64 = 200;
 
 /// Whether several workers can gain: not where the books that the records name are so large, or so shared, that copying
 /// them costs more than adjudicating on them. Nothing is promised of it, for the answer of a run is the same.

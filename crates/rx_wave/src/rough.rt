@@ -113,13 +113,15 @@ fn claims_of(alloc: Global, opened: &OpenBooks) -> Result<Vec<u64>, Memory> {
     Ok(claims)
 }
 
-// The bucket of a family, by FNV-1a of its bytes.
+// The bucket of a family, by FNV-1a of its bytes. The last bytes hardly reach the hash's high bits, and ids that are
+// numbered differ in these alone, so all of its bits are folded into one bucket.
 fn bucket_of(family: &Id) -> usize {
     let mut hash = BASIS;
     for byte in family.bytes() {
         hash = (hash ^ u64::from(*byte)).wrapping_mul(PRIME);
     }
-    (hash >> 48) as usize
+    let half = (hash >> 32) ^ hash;
+    (((half >> 16) ^ half) % BUCKETS as u64) as usize
 }
 
 // The bucket of a reference number.

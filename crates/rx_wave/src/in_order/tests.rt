@@ -112,9 +112,14 @@ fn reversal(alloc: Global) -> Result<Transmission, Fail> {
 
 // The claim of the case reversal-of-last-years-claim.
 fn last_years_claim() -> Result<Row, Fail> {
+    last_years_claim_under(90)
+}
+
+// The same under another reference number.
+pub(crate) fn last_years_claim_under(reference: u64) -> Result<Row, Fail> {
     let key = Key {
         provider: Provider::new(b"1234567893")?,
-        reference: Reference::new(90).ok_or("a reference")?,
+        reference: Reference::new(reference).ok_or("a reference")?,
         date: day(b"20251230")?,
     };
     let amounts = Amounts {

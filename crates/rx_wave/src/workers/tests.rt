@@ -4,7 +4,10 @@ ghost use Rattle.std.specs.Prelude.{◌≤◌, true};
 
 use super::{desk_of, run_waves, worked_off};
 use crate::craft::{Adjudicates, Craft};
-use crate::in_order::tests::{billing_of, lot, member_of, plain_sheet, status};
+use crate::gain::{MOST_FOR_A_RECORD, may_gain};
+use crate::in_order::tests::{
+    billing_of, last_years_claim_under, lot, member_of, plain_sheet, status,
+};
 use crate::{Finished, Gate, NoGate, RunFault};
 use rx_adjudicate::{Done, Order};
 use rx_books_kept::Books;
@@ -59,11 +62,22 @@ fn run<R: Threads + Wait + Sync, G: Gate + Sync>(
     workers: u16,
     asked: &[Transmission],
 ) -> Result<Result<Finished, RunFault>, Fail> {
+    run_on(rt, alloc, gate, workers, &families(alloc)?, asked)
+}
+
+fn run_on<R: Threads + Wait + Sync, G: Gate + Sync>(
+    rt: &R,
+    alloc: Global,
+    gate: &G,
+    workers: u16,
+    ledger: &Ledger,
+    asked: &[Transmission],
+) -> Result<Result<Finished, RunFault>, Fail> {
     if asked.len() > 100 {
         return Err(Fail::from("too many records"));
     }
     let sheet = plain_sheet(alloc)?;
-    let books = Books::from_ledger(alloc, &families(alloc)?, sheet.period())?;
+    let books = Books::from_ledger(alloc, ledger, sheet.period())?;
     Ok(run_waves(rt, alloc, gate, workers, lot()?, &sheet, &books, asked))
 }
 
@@ -87,10 +101,13 @@ enum Holds {
     Both,
 }
 
-// It counts how often each place is passed, and holds records back, for so many turns at most.
+// It notes whose start it is asked for, counts how often each place is passed, and holds records back, for so many turns
+// at most.
 #[derive(Drop)]
 struct Passed {
     holds: Holds,
+    // The workers' numbers as digits, in the order of asking.
+    asked: AtomicU64,
     entered: AtomicU64,
     left: AtomicU64,
     gave_up: AtomicU64,
@@ -111,6 +128,7 @@ impl Passed {
     fn new(holds: Holds) -> Passed {
         Passed {
             holds,
+            asked: AtomicU64::new(0),
             entered: AtomicU64::new(0),
             left: AtomicU64::new(0),
             gave_up: AtomicU64::new(0),
@@ -138,7 +156,10 @@ impl Passed {
 impl Gate for Passed {
     ghost starts = { λ _ _. true };
 
-    fn start(&self, _worker: usize) -> bool {
+    fn start(&self, worker: usize) -> bool {
+        let asked = self.asked.load(Ordering::SeqCst).saturating_mul(10);
+        self.asked
+            .store(asked.saturating_add(worker as u64), Ordering::SeqCst);
         true
     }
 
@@ -238,6 +259,9 @@ fn a_refused_start_is_thread(rt: HostRuntime) -> Result<(), Fail> {
         .ok()
         .ok_or("an answer")?;
     assert!(rt; is_billed_once(&finished)?);
+    // A batch without records, too.
+    let answer = run(&rt, rt.alloc(), &Without(2), 2, &[])?;
+    assert_eq!(rt; answer.err(), Some(RunFault::Thread));
     Ok(())
 }
 
@@ -259,6 +283,44 @@ fn workers_are_1_to_64(rt: HostRuntime) -> Result<(), Fail> {
     for workers in [0, 65, 65_535] {
         let answer = run(&rt, rt.alloc(), &NoGate, workers, &asked)?;
         assert_eq!(rt; answer.err(), Some(RunFault::Workers));
+    }
+    Ok(())
+}
+
+// One member with so many claims.
+fn large_family(alloc: Global, claims: u64) -> Result<Ledger, Fail> {
+    let mut ledger = Ledger::new(alloc);
+    ledger.add_member(member_of(b"C100", b"01")?)?;
+    for claim in 0..claims {
+        ledger.add_row(last_years_claim_under(claim + 1)?)?;
+    }
+    Ok(ledger)
+}
+
+// A fill and its refill on the same day, in a family so large that sharing can't gain: each start is asked for, and a
+// refused one is Thread, as where the desk answers.
+#[test]
+fn a_job_that_cannot_gain_asks_for_each_start(rt: HostRuntime) -> Result<(), Fail> {
+    let alloc = rt.alloc();
+    let ledger = large_family(alloc, MOST_FOR_A_RECORD)?;
+    let asked = [
+        claim(alloc, b"123", b"C100")?,
+        claim(alloc, b"124", b"C100")?,
+    ];
+    let books = Books::from_ledger(alloc, &ledger, plain_sheet(alloc)?.period())?;
+    assert!(rt; !may_gain(alloc, &books, &asked)?);
+    for worker in 1..5 {
+        let answer = run_on(&rt, alloc, &Without(worker), 4, &ledger, &asked)?;
+        assert_eq!(rt; answer.err(), Some(RunFault::Thread));
+    }
+    for (workers, starts) in [(1, 0), (2, 12), (4, 1_234)] {
+        let gate = Passed::new(Holds::Nobody);
+        let finished = run_on(&rt, alloc, &gate, workers, &ledger, &asked)?
+            .ok()
+            .ok_or("an answer")?;
+        assert_eq!(rt; (status(&finished, 0), status(&finished, 1)), (b'P', b'R'));
+        assert_eq!(rt; gate.asked.load(Ordering::SeqCst), starts);
+        assert!(rt; gate.is_once(11));
     }
     Ok(())
 }
