@@ -1,5 +1,7 @@
 -- A file of the grammar is a good front with the trailer, and the other way round.
-use Rattle.std.proofs.Common.{◌≡◌, ◌≤◌, ◌<◌, ◌⊎◌, ℕ, ◌+◌, Bool, true, false, not, ◌||◌, cond, eqb, leb, ltb, List, [], ◌∷◌, ◌++◌, codes, length, append_assoc, append-nil, length-append, refl, sym, ap, ◌∙◌, subst, arith, inl, inr, Result, Ok, Err, Option, Some, None}
+use Rattle.std.proofs.Common.{◌≡◌, ◌≤◌, ◌<◌, ◌⊎◌, ℕ, ◌+◌, Bool, true, false, not, ◌||◌, cond, eqb, leb, ltb, List, [], ◌∷◌}
+use Rattle.std.proofs.Common.{◌++◌, codes, length, append_assoc, append-nil, length-append, refl, sym, ap, ◌∙◌, subst, arith}
+use Rattle.std.proofs.Common.{inl, inr, Result, Ok, Err, Option, Some, None}
 use Rattle.std.specs.List.{AllZip, flat_map}
 use Rattle.std.specs.Option.{ok_or}
 use Rattle.std.proofs.lemmas.Bool.{cases_Bool}
@@ -16,7 +18,9 @@ use Rattle.rx_batch.specs.declared.head.Head.{Head}
 use Rattle.rx_batch.specs.declared.trailer.Trailer.{Trailer}
 use Rattle.rx_batch.specs.Fault.{◌>>=◌}
 use Rattle.rx_batch.specs.Header.{is_kind, head_of, trailer_of}
-use Rattle.rx_batch.specs.Grammar.{is_skipped, IsInside, record_text, with_record, header, detail, agreeing, trailer, with_detail, with_trailer, record_of, record_at, IsFront, Spaced, spaced_text, IsGap, IsSpaced, IsHeader, IsDetail, IsTrailer, IsFile}
+use Rattle.rx_batch.specs.Grammar.{is_skipped, IsInside, record_text, with_record, header, detail, agreeing, trailer}
+use Rattle.rx_batch.specs.Grammar.{with_detail, with_trailer, record_of, record_at, IsFront, Spaced, spaced_text, IsGap}
+use Rattle.rx_batch.specs.Grammar.{IsSpaced, IsHeader, IsDetail, IsTrailer, IsFile}
 use Rattle.rx_batch.specs.Grammar.IsFront.{empty, skipped, good}
 
 -- ---- from the grammar to good fronts
@@ -33,31 +37,44 @@ gap_reached (b ∷ gap) bytes s ds is h =
     (gap_reached gap (bytes ++ b ∷ []) s ds (All-tail (λ (x : ℕ). is_skipped x ≡ true) b gap is) one)
 
 -- a record that is good wherever it stands makes the front longer
-record_reached : (r : Spaced) (bytes : List ℕ) (s t : Stage) (ds es : List Detail) → IsSpaced r → ((n : ℕ) → record_of (record { stage = s; details = ds; length = n }) r.body ≡ Ok (record { stage = t; details = es; length = n + (length r.body + 2) })) → Reached bytes s ds → Reached (bytes ++ spaced_text r) t es
+record_reached : (r : Spaced) (bytes : List ℕ) (s t : Stage) (ds es : List Detail) → IsSpaced r
+    → ((n : ℕ) → record_of (record { stage = s; details = ds; length = n }) r.body
+    ≡ Ok (record { stage = t; details = es; length = n + (length r.body + 2) })) → Reached bytes s ds
+    → Reached (bytes ++ spaced_text r) t es
 record_reached r bytes s t ds es is read h =
     let gap = gap_reached r.gap bytes s ds is.0 h in
-    let body : Reached ((bytes ++ r.gap) ++ record_text r.body) t es = (gap.0 + (length r.body + 2), good r.body _ gap.1 is.1 (read gap.0)) in
+    let body : Reached ((bytes ++ r.gap) ++ record_text r.body) t es =
+    (gap.0 + (length r.body + 2), good r.body _ gap.1 is.1 (read gap.0)) in
     subst (λ (bs : List ℕ). Reached bs t es) (append_assoc bytes r.gap (record_text r.body)) body
 
-header_good : (body : List ℕ) (head : Head) → IsHeader body head → (n : ℕ) → record_of (record { stage = Start; details = []; length = n }) body ≡ Ok (record { stage = Headed head; details = []; length = n + (length body + 2) })
+header_good : (body : List ℕ) (head : Head) → IsHeader body head → (n : ℕ)
+    → record_of (record { stage = Start; details = []; length = n }) body
+    ≡ Ok (record { stage = Headed head; details = []; length = n + (length body + 2) })
 header_good body head is n = rw (is.0, is.1) refl
 
-detail_good : (body : List ℕ) (head : Head) (ds : List Detail) (d : Detail) → length ds < 100000 → IsDetail body d → (n : ℕ) → record_of (record { stage = Headed head; details = ds; length = n }) body ≡ Ok (record { stage = Headed head; details = ds ++ d ∷ []; length = n + (length body + 2) })
+detail_good : (body : List ℕ) (head : Head) (ds : List Detail) (d : Detail) → length ds < 100000 → IsDetail body d
+    → (n : ℕ) → record_of (record { stage = Headed head; details = ds; length = n }) body
+    ≡ Ok (record { stage = Headed head; details = ds ++ d ∷ []; length = n + (length body + 2) })
 detail_good body head ds d few is n =
     let long : ltb (length body) 12 ≡ false = grind (arith, nat_tests, is.1) in
     let room : leb 100000 (length ds) ≡ false = grind (arith, nat_tests) in
     rw (is.0, long, room, is.2) refl
 
-details_reached : (records : List Spaced) (head : Head) (bytes : List ℕ) (before details : List Detail) → AllZip (λ r d. IsSpaced r × IsDetail r.body d) records details → length before + length details ≤ 100000 → Reached bytes (Headed head) before → Reached (bytes ++ flat_map spaced_text records) (Headed head) (before ++ details)
+details_reached : (records : List Spaced) (head : Head) (bytes : List ℕ) (before details : List Detail)
+    → AllZip (λ r d. IsSpaced r × IsDetail r.body d) records details → length before + length details ≤ 100000
+    → Reached bytes (Headed head) before → Reached (bytes ++ flat_map spaced_text records) (Headed head) (before ++ details)
 details_reached [] head bytes before [] are few h = rw (append-nil bytes, append-nil before) h
 details_reached [] head bytes before (d ∷ details) are few h = absurd are
 details_reached (r ∷ records) head bytes before [] are few h = absurd are
 details_reached (r ∷ records) head bytes before (d ∷ details) are few h =
-    let one = record_reached r bytes (Headed head) (Headed head) before (before ++ d ∷ []) are.0.0 (detail_good r.body head before d (omega arith) are.0.1) h in
+    let one = record_reached r bytes (Headed head) (Headed head) before (before ++ d ∷ []) are.0.0
+    (detail_good r.body head before d (omega arith) are.0.1) h in
     let room : length (before ++ d ∷ []) + length details ≤ 100000 = omega (arith, length-append before (d ∷ [])) in
     let all = details_reached records head (bytes ++ spaced_text r) (before ++ d ∷ []) details are.1 room one in
-    subst (λ (ds : List Detail). Reached (bytes ++ flat_map spaced_text (r ∷ records)) (Headed head) ds) (append_assoc before (d ∷ []) details)
-    (subst (λ (bs : List ℕ). Reached bs (Headed head) ((before ++ d ∷ []) ++ details)) (append_assoc bytes (spaced_text r) (flat_map spaced_text records)) all)
+    subst (λ (ds : List Detail). Reached (bytes ++ flat_map spaced_text (r ∷ records)) (Headed head) ds)
+    (append_assoc before (d ∷ []) details)
+    (subst (λ (bs : List ℕ). Reached bs (Headed head) ((before ++ d ∷ []) ++ details))
+    (append_assoc bytes (spaced_text r) (flat_map spaced_text records)) all)
 
 -- a record of one kind is of no other
 kinds_differ : (x y : ℕ) (rest : List ℕ) → is_kind (codes "99") (x ∷ y ∷ rest) ≡ true → is_kind (codes "G1") (x ∷ y ∷ rest) ≡ false
@@ -75,7 +92,9 @@ count_agrees : (count n : ℕ) → (count ≡ n) ⊎ (count ≡ n + 2) → not (
 count_agrees count n (inl e) = grind (arith, nat_tests)
 count_agrees count n (inr e) = grind (arith, nat_tests)
 
-trailer_good : (body : List ℕ) (head : Head) (ds : List Detail) → IsTrailer body head ds → (n : ℕ) → record_of (record { stage = Headed head; details = ds; length = n }) body ≡ Ok (record { stage = Whole head; details = ds; length = n + (length body + 2) })
+trailer_good : (body : List ℕ) (head : Head) (ds : List Detail) → IsTrailer body head ds → (n : ℕ)
+    → record_of (record { stage = Headed head; details = ds; length = n }) body
+    ≡ Ok (record { stage = Whole head; details = ds; length = n + (length body + 2) })
 trailer_good body head ds is n =
     let other : is_kind (codes "G1") body ≡ false = other_kind body is.kind in
     let number : not (eqb is.trailer.number head.lot.number) ≡ false = let e = is.number in grind (arith, nat_tests) in
@@ -84,10 +103,16 @@ trailer_good body head ds is n =
 -- a file is a good front up to its end, with the trailer
 pub file_reached : (bytes : List ℕ) (head : Head) (details : List Detail) → IsFile bytes head details → Reached bytes (Whole head) details
 file_reached bytes head details file =
-    let one = record_reached file.header [] Start (Headed head) [] [] file.header_is.0 (header_good file.header.body head file.header_is.1) (0, empty) in
-    let all = details_reached file.records head (spaced_text file.header) [] details file.details_are (let few : 0 + length details ≤ 100000 = let le = file.few in omega arith in few) one in
-    let two = record_reached file.trailer (spaced_text file.header ++ flat_map spaced_text file.records) (Headed head) (Whole head) details details file.trailer_is.0 (trailer_good file.trailer.body head details file.trailer_is.1) all in
-    let end = gap_reached file.gap ((spaced_text file.header ++ flat_map spaced_text file.records) ++ spaced_text file.trailer) (Whole head) details file.gap_is two in
+    let one = record_reached file.header [] Start (Headed head) [] [] file.header_is.0
+    (header_good file.header.body head file.header_is.1) (0, empty) in
+    let all = details_reached file.records head (spaced_text file.header) [] details file.details_are
+    (let few : 0 + length details ≤ 100000 = let le = file.few in omega arith in few) one in
+    let two = record_reached file.trailer (spaced_text file.header ++ flat_map spaced_text file.records)
+    (Headed head) (Whole head) details details file.trailer_is.0
+    (trailer_good file.trailer.body head details file.trailer_is.1) all in
+    let end = gap_reached file.gap
+    ((spaced_text file.header ++ flat_map spaced_text file.records) ++ spaced_text file.trailer) (Whole head)
+    details file.gap_is two in
     let joined : ((spaced_text file.header ++ flat_map spaced_text file.records) ++ spaced_text file.trailer) ++ file.gap ≡ bytes =
     append_assoc (spaced_text file.header ++ flat_map spaced_text file.records) (spaced_text file.trailer) file.gap
     ∙ append_assoc (spaced_text file.header) (flat_map spaced_text file.records) (spaced_text file.trailer ++ file.gap) ∙ sym file.whole in
@@ -121,7 +146,9 @@ gap_shape (Headed head) bytes ds b h is = record {
   header = h.header;
   records = h.records;
   gap = h.gap ++ b ∷ [];
-  whole = ap (λ (bs : List ℕ). bs ++ b ∷ []) h.whole ∙ append_assoc (spaced_text h.header) (flat_map spaced_text h.records ++ h.gap) (b ∷ []) ∙ ap (λ (bs : List ℕ). spaced_text h.header ++ bs) (append_assoc (flat_map spaced_text h.records) h.gap (b ∷ []));
+  whole = ap (λ (bs : List ℕ). bs ++ b ∷ []) h.whole
+      ∙ append_assoc (spaced_text h.header) (flat_map spaced_text h.records ++ h.gap) (b ∷ [])
+      ∙ ap (λ (bs : List ℕ). spaced_text h.header ++ bs) (append_assoc (flat_map spaced_text h.records) h.gap (b ∷ []));
   header_is = h.header_is;
   details_are = h.details_are;
   few = h.few;
@@ -132,7 +159,11 @@ gap_shape (Whole head) bytes ds b h is = record {
   records = h.records;
   trailer = h.trailer;
   gap = h.gap ++ b ∷ [];
-  whole = ap (λ (bs : List ℕ). bs ++ b ∷ []) h.whole ∙ append_assoc (spaced_text h.header) (flat_map spaced_text h.records ++ (spaced_text h.trailer ++ h.gap)) (b ∷ []) ∙ ap (λ (bs : List ℕ). spaced_text h.header ++ bs) (append_assoc (flat_map spaced_text h.records) (spaced_text h.trailer ++ h.gap) (b ∷ []) ∙ ap (λ (bs : List ℕ). flat_map spaced_text h.records ++ bs) (append_assoc (spaced_text h.trailer) h.gap (b ∷ [])));
+  whole = ap (λ (bs : List ℕ). bs ++ b ∷ []) h.whole
+      ∙ append_assoc (spaced_text h.header) (flat_map spaced_text h.records ++ (spaced_text h.trailer ++ h.gap))
+      (b ∷ []) ∙ ap (λ (bs : List ℕ). spaced_text h.header ++ bs)
+      (append_assoc (flat_map spaced_text h.records) (spaced_text h.trailer ++ h.gap) (b ∷ [])
+      ∙ ap (λ (bs : List ℕ). flat_map spaced_text h.records ++ bs) (append_assoc (spaced_text h.trailer) h.gap (b ∷ [])));
   header_is = h.header_is;
   details_are = h.details_are;
   few = h.few;
@@ -150,7 +181,8 @@ granted : {A : Type 0} (b : Bool) (e : BatchFault) (r : Result A BatchFault) (v 
 granted true e r v is = (refl, is)
 granted false e r v is = absurd cc
 
-both_ok : {A B : Type 0} (r : Result A BatchFault) (f : A → Result B BatchFault) (y : B) → (r >>= f) ≡ Ok y → (x : A) × (r ≡ Ok x) × (f x ≡ Ok y)
+both_ok : {A B : Type 0} (r : Result A BatchFault) (f : A → Result B BatchFault) (y : B) → (r >>= f) ≡ Ok y
+    → (x : A) × (r ≡ Ok x) × (f x ≡ Ok y)
 both_ok (Ok x) f y is = (x, refl, is)
 both_ok (Err e) f y is = absurd cc
 
@@ -181,7 +213,8 @@ header_is n body head is =
     let kind = granted (is_kind (codes "00") body) (fault.NoHeader n) (ok_or (head_of body) (fault.HeaderShape n)) head is in
     (kind.0, there (head_of body) (fault.HeaderShape n) head kind.1)
 
-detail_is : (n : ℕ) (ds : List Detail) (body : List ℕ) (d : Detail) → is_kind (codes "G1") body ≡ true → detail n ds body ≡ Ok d → IsDetail body d × (length ds < 100000)
+detail_is : (n : ℕ) (ds : List Detail) (body : List ℕ) (d : Detail) → is_kind (codes "G1") body ≡ true
+    → detail n ds body ≡ Ok d → IsDetail body d × (length ds < 100000)
 detail_is n ds body d kind is =
     let long = refused (ltb (length body) 12) (fault.DetailShape n) _ d is in
     let room = refused (leb 100000 (length ds)) (fault.TooMuch n) _ d long.1 in
@@ -195,7 +228,8 @@ counted count n is = elim (cases_Bool (eqb count n)) [
   | inr ne ↦ inr (let same : count ≡ n + 2 = grind (arith, nat_tests) in same)
 ]
 
-trailer_is : (n : ℕ) (head : Head) (ds : List Detail) (body : List ℕ) (t : Trailer) → is_kind (codes "99") body ≡ true → trailer n head ds body ≡ Ok t → IsTrailer body head ds
+trailer_is : (n : ℕ) (head : Head) (ds : List Detail) (body : List ℕ) (t : Trailer)
+    → is_kind (codes "99") body ≡ true → trailer n head ds body ≡ Ok t → IsTrailer body head ds
 trailer_is n head ds body t kind is =
     let shape = both_ok (ok_or (trailer_of body) (fault.TrailerShape n)) (agreeing n head ds) t is in
     let number = refused (not (eqb shape.0.number head.lot.number)) (fault.NumberDiffers n) _ t shape.2 in
@@ -210,7 +244,8 @@ trailer_is n head ds body t kind is =
 
 -- ---- the shape with one more record
 
-header_shape : (bytes body : List ℕ) (head : Head) (ds : List Detail) → IsGap bytes → ds ≡ [] → IsInside body → IsHeader body head → IsBegun (bytes ++ record_text body) head ds
+header_shape : (bytes body : List ℕ) (head : Head) (ds : List Detail) → IsGap bytes → ds ≡ [] → IsInside body
+    → IsHeader body head → IsBegun (bytes ++ record_text body) head ds
 header_shape bytes body head ds gap none inside is =
     let begun : IsBegun (bytes ++ record_text body) head [] = record {
       header = record { gap = bytes; body = body };
@@ -224,19 +259,24 @@ header_shape bytes body head ds gap none inside is =
     } in
     subst (λ (es : List Detail). IsBegun (bytes ++ record_text body) head es) (sym none) begun
 
-details_push : (records : List Spaced) (ds : List Detail) (r : Spaced) (d : Detail) → AllZip (λ r d. IsSpaced r × IsDetail r.body d) records ds → IsSpaced r × IsDetail r.body d → AllZip (λ r d. IsSpaced r × IsDetail r.body d) (records ++ r ∷ []) (ds ++ d ∷ [])
+details_push : (records : List Spaced) (ds : List Detail) (r : Spaced) (d : Detail)
+    → AllZip (λ r d. IsSpaced r × IsDetail r.body d) records ds → IsSpaced r × IsDetail r.body d
+    → AllZip (λ r d. IsSpaced r × IsDetail r.body d) (records ++ r ∷ []) (ds ++ d ∷ [])
 details_push [] [] r d are is = (is, tt)
 details_push [] (e ∷ ds) r d are is = absurd are
 details_push (q ∷ records) [] r d are is = absurd are
 details_push (q ∷ records) (e ∷ ds) r d are is = (are.0, details_push records ds r d are.1 is)
 
 -- a list of records with their gaps, and one more behind the last gap
-one_more : (front gap body : List ℕ) (records : List Spaced) → (front ++ (flat_map spaced_text records ++ gap)) ++ record_text body ≡ front ++ (flat_map spaced_text records ++ (gap ++ record_text body))
+one_more : (front gap body : List ℕ) (records : List Spaced)
+    → (front ++ (flat_map spaced_text records ++ gap)) ++ record_text body ≡ front
+    ++ (flat_map spaced_text records ++ (gap ++ record_text body))
 one_more front gap body records =
     append_assoc front (flat_map spaced_text records ++ gap) (record_text body)
     ∙ ap (λ (bs : List ℕ). front ++ bs) (append_assoc (flat_map spaced_text records) gap (record_text body))
 
-detail_shape : (bytes body : List ℕ) (head : Head) (ds : List Detail) (d : Detail) → IsBegun bytes head ds → IsInside body → IsDetail body d → length ds < 100000 → IsBegun (bytes ++ record_text body) head (ds ++ d ∷ [])
+detail_shape : (bytes body : List ℕ) (head : Head) (ds : List Detail) (d : Detail) → IsBegun bytes head ds
+    → IsInside body → IsDetail body d → length ds < 100000 → IsBegun (bytes ++ record_text body) head (ds ++ d ∷ [])
 detail_shape bytes body head ds d h inside is few =
     let r : Spaced = record { gap = h.gap; body = body } in
     record {
@@ -245,14 +285,16 @@ detail_shape bytes body head ds d h inside is few =
       gap = [];
       whole = ap (λ (bs : List ℕ). bs ++ record_text body) h.whole ∙ one_more (spaced_text h.header) h.gap body h.records
           ∙ ap (λ (bs : List ℕ). spaced_text h.header ++ (flat_map spaced_text h.records ++ bs)) (sym (append-nil (spaced_text r)))
-          ∙ ap (λ (bs : List ℕ). spaced_text h.header ++ bs) (sym (flat_map-append spaced_text h.records (r ∷ [])) ∙ sym (append-nil (flat_map spaced_text (h.records ++ r ∷ []))));
+          ∙ ap (λ (bs : List ℕ). spaced_text h.header ++ bs)
+          (sym (flat_map-append spaced_text h.records (r ∷ [])) ∙ sym (append-nil (flat_map spaced_text (h.records ++ r ∷ []))));
       header_is = h.header_is;
       details_are = details_push h.records ds r d h.details_are ((h.gap_is, inside), is);
       few = omega (arith, length-append ds (d ∷ []));
       gap_is = All-nil (λ (b : ℕ). is_skipped b ≡ true);
     }
 
-trailer_shape : (bytes body : List ℕ) (head : Head) (ds : List Detail) → IsBegun bytes head ds → IsInside body → IsTrailer body head ds → IsFile (bytes ++ record_text body) head ds
+trailer_shape : (bytes body : List ℕ) (head : Head) (ds : List Detail) → IsBegun bytes head ds → IsInside body
+    → IsTrailer body head ds → IsFile (bytes ++ record_text body) head ds
 trailer_shape bytes body head ds h inside is = record {
   header = h.header;
   records = h.records;
@@ -274,24 +316,32 @@ chosen false x y z e = inr (refl, e)
 abbrev pub ShapeOf : Front → List ℕ → Type 0
 ShapeOf f bytes = Shape f.stage bytes f.details
 
-with_record_shape : (f g : Front) (body bytes : List ℕ) (s : Stage) (ds : List Detail) → front_ok (with_record f body s ds) ≡ front_ok g → Shape s bytes ds → ShapeOf g bytes
+with_record_shape : (f g : Front) (body bytes : List ℕ) (s : Stage) (ds : List Detail)
+    → front_ok (with_record f body s ds) ≡ front_ok g → Shape s bytes ds → ShapeOf g bytes
 with_record_shape f g body bytes s ds e h = subst (λ (x : Front). ShapeOf x bytes) (same_front (with_record f body s ds) g e) h
 
-record_shape : (f g : Front) (s : Stage) (bytes body : List ℕ) → f.stage ≡ s → Shape s bytes f.details → IsInside body → record_at s f body ≡ Ok g → ShapeOf g (bytes ++ record_text body)
+record_shape : (f g : Front) (s : Stage) (bytes body : List ℕ) → f.stage ≡ s → Shape s bytes f.details
+    → IsInside body → record_at s f body ≡ Ok g → ShapeOf g (bytes ++ record_text body)
 record_shape f g Start bytes body at h inside is =
     let read = both_ok (header f.length body) (λ (head : Head). front_ok (with_record f body (Headed head) f.details)) g is in
-    with_record_shape f g body (bytes ++ record_text body) (Headed read.0) f.details read.2 (header_shape bytes body read.0 f.details h.0 h.1 inside (header_is f.length body read.0 read.1))
-record_shape f g (Headed head) bytes body at h inside is = elim (chosen (is_kind (codes "G1") body) (with_detail f body) _ (front_ok g) is) [
-  | inl detail_is_read ↦ (
-      let read = both_ok (detail f.length f.details body) (λ (d : Detail). front_ok (with_record f body f.stage (f.details ++ d ∷ []))) g detail_is_read.1 in
-      let is_good = detail_is f.length f.details body read.0 detail_is_read.0 read.1 in
-      with_record_shape f g body (bytes ++ record_text body) f.stage (f.details ++ read.0 ∷ []) read.2
-      (subst (λ (s : Stage). Shape s (bytes ++ record_text body) (f.details ++ read.0 ∷ [])) (sym at) (detail_shape bytes body head f.details read.0 h inside is_good.0 is_good.1)))
-  | inr other ↦ (
-      let kind = granted (is_kind (codes "99") body) (fault.RecordKind f.length) (with_trailer f head body) g other.1 in
-      let read = both_ok (trailer f.length head f.details body) (λ (t : Trailer). front_ok (with_record f body (Whole head) f.details)) g kind.1 in
-      with_record_shape f g body (bytes ++ record_text body) (Whole head) f.details read.2 (trailer_shape bytes body head f.details h inside (trailer_is f.length head f.details body read.0 kind.0 read.1)))
-]
+    with_record_shape f g body (bytes ++ record_text body) (Headed read.0) f.details read.2
+    (header_shape bytes body read.0 f.details h.0 h.1 inside (header_is f.length body read.0 read.1))
+record_shape f g (Headed head) bytes body at h inside is =
+    elim (chosen (is_kind (codes "G1") body) (with_detail f body) _ (front_ok g) is) [
+      | inl detail_is_read ↦ (
+          let read = both_ok (detail f.length f.details body)
+          (λ (d : Detail). front_ok (with_record f body f.stage (f.details ++ d ∷ []))) g detail_is_read.1 in
+          let is_good = detail_is f.length f.details body read.0 detail_is_read.0 read.1 in
+          with_record_shape f g body (bytes ++ record_text body) f.stage (f.details ++ read.0 ∷ []) read.2
+          (subst (λ (s : Stage). Shape s (bytes ++ record_text body) (f.details ++ read.0 ∷ [])) (sym at)
+          (detail_shape bytes body head f.details read.0 h inside is_good.0 is_good.1)))
+      | inr other ↦ (
+          let kind = granted (is_kind (codes "99") body) (fault.RecordKind f.length) (with_trailer f head body) g other.1 in
+          let read = both_ok (trailer f.length head f.details body)
+          (λ (t : Trailer). front_ok (with_record f body (Whole head) f.details)) g kind.1 in
+          with_record_shape f g body (bytes ++ record_text body) (Whole head) f.details read.2
+          (trailer_shape bytes body head f.details h inside (trailer_is f.length head f.details body read.0 kind.0 read.1)))
+    ]
 record_shape f g (Whole head) bytes body at h inside is = absurd cc
 
 -- the bytes of a good front have the shape of its stage

@@ -1,5 +1,7 @@
 -- What a reader's steps make of the text that it has read so far.
-use Rattle.std.proofs.Common.{◌≡◌, ◌≢◌, cond, eqb, add-zero, ℕ, suc, Bool, true, false, List, [], ◌∷◌, ◌++◌, length, drop, append_assoc, append-nil, refl, sym, ap, ◌∙◌, subst, arith, take, get_or, take_all, length-drop, ◌-◌, ◌<◌, inl, inr, Result, Ok, Err, Option, Some, None, MatchOption}
+use Rattle.std.proofs.Common.{◌≡◌, ◌≢◌, cond, eqb, add-zero, ℕ, suc, Bool, true, false, List, [], ◌∷◌, ◌++◌, length, drop}
+use Rattle.std.proofs.Common.{append_assoc, append-nil, refl, sym, ap, ◌∙◌, subst, arith, take, get_or, take_all, length-drop}
+use Rattle.std.proofs.Common.{◌-◌, ◌<◌, inl, inr, Result, Ok, Err, Option, Some, None, MatchOption}
 use Rattle.std.specs.List.{prefix_len}
 use Rattle.std.proofs.lemmas.Bool.{cases_Bool, ne_eqb}
 use Rattle.std.proofs.lemmas.Bool.Decides.{nat_tests}
@@ -46,20 +48,23 @@ as_between r text is h = subst (λ (b : Option (List ℕ)). IsRead (record { fro
 pub as_within : (r : Reader) (text body : List ℕ) → r.begun ≡ Some body → IsRead r text → IsRead (within r.front body) text
 as_within r text body is h = subst (λ (b : Option (List ℕ)). IsRead (record { front = r.front; begun = b }) text) is h
 
-pub one_skipped : (f : Front) (text rest : List ℕ) (b : ℕ) → is_skipped b ≡ true → IsReadUpTo (between f) text (b ∷ rest) → IsReadUpTo (between (past 1 f)) text rest
+pub one_skipped : (f : Front) (text rest : List ℕ) (b : ℕ) → is_skipped b ≡ true
+    → IsReadUpTo (between f) text (b ∷ rest) → IsReadUpTo (between (past 1 f)) text rest
 one_skipped f text rest b is h = record {
   before = h.before ++ b ∷ [];
   whole = h.whole ∙ sym (append_assoc h.before (b ∷ []) rest);
   is_read = record {
     bytes = h.is_read.bytes ++ b ∷ [];
     good = skipped b h.is_read.good is;
-    whole = ap (λ (bs : List ℕ). bs ++ b ∷ []) (h.is_read.whole ∙ append-nil h.is_read.bytes) ∙ sym (append-nil (h.is_read.bytes ++ b ∷ []));
+    whole = ap (λ (bs : List ℕ). bs ++ b ∷ []) (h.is_read.whole ∙ append-nil h.is_read.bytes)
+        ∙ sym (append-nil (h.is_read.bytes ++ b ∷ []));
     can_begin = tt;
   };
 }
 
 -- the skipped bytes at the front of what comes make the good front longer
-pub gap_read : (f : Front) (text bytes : List ℕ) → IsReadUpTo (between f) text bytes → IsReadUpTo (between (past (prefix_len is_skipped bytes) f)) text (drop (prefix_len is_skipped bytes) bytes)
+pub gap_read : (f : Front) (text bytes : List ℕ) → IsReadUpTo (between f) text bytes
+    → IsReadUpTo (between (past (prefix_len is_skipped bytes) f)) text (drop (prefix_len is_skipped bytes) bytes)
 gap_read f text [] h = rw (past_none f) h
 gap_read f text (b ∷ bytes) h = elim (cases_Bool (is_skipped b)) [
   | inl is ↦ (
@@ -85,18 +90,21 @@ gap_over (x ∷ bytes) b rest e = elim (cases_Bool (is_skipped x)) [
 ]
 
 -- the text is what stands before the last bytes, and these
-read_from : (f : Front) (text rest more : List ℕ) (h : IsReadUpTo (between f) text rest) → batch_of (text ++ more) ≡ batch_from f (rest ++ more)
+read_from : (f : Front) (text rest more : List ℕ) (h : IsReadUpTo (between f) text rest)
+    → batch_of (text ++ more) ≡ batch_from f (rest ++ more)
 read_from f text rest more h =
     ap (λ (bs : List ℕ). batch_of (bs ++ more)) (h.whole ∙ ap (λ (bs : List ℕ). bs ++ rest) (h.is_read.whole ∙ append-nil h.is_read.bytes))
     ∙ ap batch_of (append_assoc h.is_read.bytes rest more) ∙ front_of h.is_read.good (rest ++ more)
 
 -- a byte that begins no record
-pub stray_read : (f : Front) (text rest : List ℕ) (b : ℕ) → is_skipped b ≡ false → begins f b ≡ false → IsReadUpTo (between f) text (b ∷ rest) → IsFaultOf (stray f) text
+pub stray_read : (f : Front) (text rest : List ℕ) (b : ℕ) → is_skipped b ≡ false → begins f b ≡ false
+    → IsReadUpTo (between f) text (b ∷ rest) → IsFaultOf (stray f) text
 stray_read f text rest b other early h =
     unless (stray f) (λ more. read_from f text (b ∷ rest) more h ∙ from_stray f b (rest ++ more) other early)
 
 -- STX begins a record
-pub begun_read : (f : Front) (text rest : List ℕ) → is_whole f.stage ≡ false → IsReadUpTo (between f) text (2 ∷ rest) → IsReadUpTo (within f []) text rest
+pub begun_read : (f : Front) (text rest : List ℕ) → is_whole f.stage ≡ false → IsReadUpTo (between f) text (2 ∷ rest)
+    → IsReadUpTo (within f []) text rest
 begun_read f text rest early h = record {
   before = h.before ++ 2 ∷ [];
   whole = h.whole ∙ sym (append_assoc h.before (2 ∷ []) rest);
@@ -111,7 +119,8 @@ begun_read f text rest early h = record {
 -- ---- within a record
 
 -- bytes other than STX and ETX belong to it
-pub more_read : (f : Front) (text body run rest : List ℕ) → IsInside run → IsReadUpTo (within f body) text (run ++ rest) → IsReadUpTo (within f (body ++ run)) text rest
+pub more_read : (f : Front) (text body run rest : List ℕ) → IsInside run
+    → IsReadUpTo (within f body) text (run ++ rest) → IsReadUpTo (within f (body ++ run)) text rest
 more_read f text body run rest inside h = record {
   before = h.before ++ run;
   whole = h.whole ∙ sym (append_assoc h.before run rest);
@@ -124,32 +133,37 @@ more_read f text body run rest inside h = record {
 }
 
 -- its ETX makes it a part of the good front, where it is a good record
-pub closed_read : (f g : Front) (text body rest : List ℕ) → record_of f body ≡ Ok g → IsReadUpTo (within f body) text (3 ∷ rest) → IsReadUpTo (between g) text rest
+pub closed_read : (f g : Front) (text body rest : List ℕ) → record_of f body ≡ Ok g
+    → IsReadUpTo (within f body) text (3 ∷ rest) → IsReadUpTo (between g) text rest
 closed_read f g text body rest is h = record {
   before = h.before ++ 3 ∷ [];
   whole = h.whole ∙ sym (append_assoc h.before (3 ∷ []) rest);
   is_read = record {
     bytes = h.is_read.bytes ++ record_text body;
     good = good body g h.is_read.good h.is_read.can_begin.0 is;
-    whole = ap (λ (bs : List ℕ). bs ++ 3 ∷ []) h.is_read.whole ∙ append_assoc h.is_read.bytes (2 ∷ body) (3 ∷ []) ∙ sym (append-nil (h.is_read.bytes ++ record_text body));
+    whole = ap (λ (bs : List ℕ). bs ++ 3 ∷ []) h.is_read.whole ∙ append_assoc h.is_read.bytes (2 ∷ body) (3 ∷ [])
+        ∙ sym (append-nil (h.is_read.bytes ++ record_text body));
     can_begin = tt;
   };
 }
 
 -- the text is a good front, the record so far and the last bytes
-begun_from : (f : Front) (text body rest more : List ℕ) (h : IsReadUpTo (within f body) text rest) → batch_of (text ++ more) ≡ batch_from f (2 ∷ (body ++ (rest ++ more)))
+begun_from : (f : Front) (text body rest more : List ℕ) (h : IsReadUpTo (within f body) text rest)
+    → batch_of (text ++ more) ≡ batch_from f (2 ∷ (body ++ (rest ++ more)))
 begun_from f text body rest more h =
     ap (λ (bs : List ℕ). batch_of (bs ++ more)) (h.whole ∙ ap (λ (bs : List ℕ). bs ++ rest) h.is_read.whole)
     ∙ ap batch_of (append_assoc (h.is_read.bytes ++ 2 ∷ body) rest more ∙ append_assoc h.is_read.bytes (2 ∷ body) (rest ++ more))
     ∙ front_of h.is_read.good (2 ∷ (body ++ (rest ++ more)))
 
 -- another STX before its ETX
-pub second_read : (f : Front) (text body rest : List ℕ) → IsReadUpTo (within f body) text (2 ∷ rest) → IsFaultOf (fault.Unclosed f.length) text
+pub second_read : (f : Front) (text body rest : List ℕ) → IsReadUpTo (within f body) text (2 ∷ rest)
+    → IsFaultOf (fault.Unclosed f.length) text
 second_read f text body rest h more =
     begun_from f text body (2 ∷ rest) more h ∙ from_second f body (rest ++ more) h.is_read.can_begin.1 h.is_read.can_begin.0
 
 -- its ETX, where it is no good record
-pub bad_read : (f : Front) (text body rest : List ℕ) (e : BatchFault) → UnlessMemory e (record_of f body ≡ Err e) → IsReadUpTo (within f body) text (3 ∷ rest) → IsFaultOf e text
+pub bad_read : (f : Front) (text body rest : List ℕ) (e : BatchFault) → UnlessMemory e (record_of f body ≡ Err e)
+    → IsReadUpTo (within f body) text (3 ∷ rest) → IsFaultOf e text
 bad_read f text body rest e is h =
     let said : record_of f body ≡ Err e → (more : List ℕ) → batch_of (text ++ more) ≡ Err e = λ bad more.
     begun_from f text body (3 ∷ rest) more h ∙ from_record f body (rest ++ more) h.is_read.can_begin.1 h.is_read.can_begin.0
@@ -178,13 +192,15 @@ fault_here f text h =
     unless_so f said h
 
 -- what a call answers for a fault that is kept
-answered : (o : Option BatchFault) (r : Reader) (text : List ℕ) (e : BatchFault) → Err e ≡ answer_of o → MatchOption o (IsRead r text) (λ f. IsFaultOf f text) → UnlessMemory e (batch_of text ≡ Err e)
+answered : (o : Option BatchFault) (r : Reader) (text : List ℕ) (e : BatchFault) → Err e ≡ answer_of o
+    → MatchOption o (IsRead r text) (λ f. IsFaultOf f text) → UnlessMemory e (batch_of text ≡ Err e)
 answered None r text e is h = cc
 answered (Some f) r text e is h =
     let same : f ≡ e = cc in
     subst (λ (x : BatchFault). UnlessMemory x (batch_of text ≡ Err x)) same (fault_here f text h)
 
-pub fed_fault : (fed : Fed) (text : List ℕ) (e : BatchFault) → Err e ≡ answer_of fed.fault → StandsFor fed text → UnlessMemory e (batch_of text ≡ Err e)
+pub fed_fault : (fed : Fed) (text : List ℕ) (e : BatchFault) → Err e ≡ answer_of fed.fault → StandsFor fed text
+    → UnlessMemory e (batch_of text ≡ Err e)
 fed_fault fed text e is h = answered fed.fault fed.reader text e is h
 
 -- a piece comes behind the text so far
@@ -215,25 +231,34 @@ same_front : (f g : Front) → passed f ≡ passed g → f ≡ g
 same_front f g e = cc
 
 -- behind the skipped bytes
-pub gap_passed : (r : Reader) (g : Front) (text bytes rest : List ℕ) (n : ℕ) → r.begun ≡ None → n ≡ prefix_len is_skipped bytes → passed (past n r.front) ≡ passed g → rest ≡ drop n bytes → IsReadUpTo r text bytes → IsReadUpTo (record { front = g; begun = None }) text rest
+pub gap_passed : (r : Reader) (g : Front) (text bytes rest : List ℕ) (n : ℕ) → r.begun ≡ None
+    → n ≡ prefix_len is_skipped bytes → passed (past n r.front) ≡ passed g → rest ≡ drop n bytes
+    → IsReadUpTo r text bytes → IsReadUpTo (record { front = g; begun = None }) text rest
 gap_passed r g text bytes rest n none count front left h =
-    let here : IsReadUpTo (record { front = r.front; begun = None }) text bytes = subst (λ (b : Option (List ℕ)). IsReadUpTo (record { front = r.front; begun = b }) text bytes) none h in
+    let here : IsReadUpTo (record { front = r.front; begun = None }) text bytes =
+    subst (λ (b : Option (List ℕ)). IsReadUpTo (record { front = r.front; begun = b }) text bytes) none h in
     let over = gap_read r.front text bytes here in
     rw (← same_front (past n r.front) g front, left, count) over
 
 -- a byte behind the skipped bytes is none of these
-pub gap_ended : (bytes rest : List ℕ) (n : ℕ) → n ≡ prefix_len is_skipped bytes → rest ≡ drop n bytes → 0 < length rest → is_skipped (get_or rest 0 0) ≡ false
+pub gap_ended : (bytes rest : List ℕ) (n : ℕ) → n ≡ prefix_len is_skipped bytes → rest ≡ drop n bytes
+    → 0 < length rest → is_skipped (get_or rest 0 0) ≡ false
 gap_ended bytes rest n count left some =
     gap_over bytes (get_or rest 0 0) (take (length rest - 1) (drop 1 rest)) (rw (← count, ← left) (first_of_all rest some))
 
-pub stray_passed : (f : Front) (text rest : List ℕ) → 0 < length rest → is_skipped (get_or rest 0 0) ≡ false → begins f (get_or rest 0 0) ≡ false → IsReadUpTo (record { front = f; begun = None }) text rest → IsFaultOf (stray f) text
+pub stray_passed : (f : Front) (text rest : List ℕ) → 0 < length rest → is_skipped (get_or rest 0 0) ≡ false
+    → begins f (get_or rest 0 0) ≡ false → IsReadUpTo (record { front = f; begun = None }) text rest → IsFaultOf (stray f) text
 stray_passed f text rest some other early h =
-    stray_read f text (take (length rest - 1) (drop 1 rest)) (get_or rest 0 0) other early (subst (λ (bs : List ℕ). IsReadUpTo (between f) text bs) (first_of_all rest some) h)
+    stray_read f text (take (length rest - 1) (drop 1 rest)) (get_or rest 0 0) other early
+    (subst (λ (bs : List ℕ). IsReadUpTo (between f) text bs) (first_of_all rest some) h)
 
-pub begun_passed : (f : Front) (text rest : List ℕ) → 0 < length rest → get_or rest 0 0 ≡ 2 → is_whole f.stage ≡ false → IsReadUpTo (record { front = f; begun = None }) text rest → IsReadUpTo (record { front = f; begun = Some [] }) text (take (length rest - 1) (drop 1 rest))
+pub begun_passed : (f : Front) (text rest : List ℕ) → 0 < length rest → get_or rest 0 0 ≡ 2
+    → is_whole f.stage ≡ false → IsReadUpTo (record { front = f; begun = None }) text rest
+    → IsReadUpTo (record { front = f; begun = Some [] }) text (take (length rest - 1) (drop 1 rest))
 begun_passed f text rest some stx early h =
     begun_read f text (take (length rest - 1) (drop 1 rest)) early
-    (subst (λ (bs : List ℕ). IsReadUpTo (between f) text bs) (first_of_all rest some ∙ ap (λ (b : ℕ). b ∷ take (length rest - 1) (drop 1 rest)) stx) h)
+    (subst (λ (bs : List ℕ). IsReadUpTo (between f) text bs)
+    (first_of_all rest some ∙ ap (λ (b : ℕ). b ∷ take (length rest - 1) (drop 1 rest)) stx) h)
 
 pub filled : (n : ℕ) (b : Bool) → b ≡ eqb n 0 → b ≡ false → 0 < n
 filled n b is some = grind (arith, nat_tests)
@@ -276,17 +301,23 @@ module _ (bytes : List ℕ) (n : ℕ) (first : IsFirstByte (is_byte2 2 3) bytes 
   mark_is ne = grind (arith, nat_tests, marked)
 
   module _ (f : Front) (text body : List ℕ) (h : IsReadUpTo (within f body) text bytes) where
-    upto_mark : (b : ℕ) → get_or (drop n bytes) 0 0 ≡ b → IsReadUpTo (within f (body ++ take n bytes)) text (b ∷ take (length (drop n bytes) - 1) (drop 1 (drop n bytes)))
+    upto_mark : (b : ℕ) → get_or (drop n bytes) 0 0 ≡ b
+        → IsReadUpTo (within f (body ++ take n bytes)) text (b ∷ take (length (drop n bytes) - 1) (drop 1 (drop n bytes)))
     upto_mark b is =
         let parts : bytes ≡ take n bytes ++ (b ∷ take (length (drop n bytes) - 1) (drop 1 (drop n bytes))) =
-        sym (take-append-drop n bytes) ∙ ap (λ (bs : List ℕ). take n bytes ++ bs) (first_of_all (drop n bytes) some_left ∙ ap (λ (x : ℕ). x ∷ take (length (drop n bytes) - 1) (drop 1 (drop n bytes))) is) in
+        sym (take-append-drop n bytes)
+        ∙ ap (λ (bs : List ℕ). take n bytes ++ bs)
+        (first_of_all (drop n bytes) some_left
+        ∙ ap (λ (x : ℕ). x ∷ take (length (drop n bytes) - 1) (drop 1 (drop n bytes))) is) in
         more_read f text body (take n bytes) _ inside_front (subst (λ (bs : List ℕ). IsReadUpTo (within f body) text bs) parts h)
 
     pub second_passed : get_or (drop n bytes) 0 0 ≡ 2 → IsFaultOf (fault.Unclosed f.length) text
     second_passed stx = second_read f text (body ++ take n bytes) _ (upto_mark 2 stx)
 
-    pub bad_passed : (e : BatchFault) → get_or (drop n bytes) 0 0 ≢ 2 → UnlessMemory e (record_of f (body ++ take n bytes) ≡ Err e) → IsFaultOf e text
+    pub bad_passed : (e : BatchFault) → get_or (drop n bytes) 0 0 ≢ 2
+        → UnlessMemory e (record_of f (body ++ take n bytes) ≡ Err e) → IsFaultOf e text
     bad_passed e other bad = bad_read f text (body ++ take n bytes) _ e bad (upto_mark 3 (mark_is other))
 
-    pub closed_passed : (g : Front) → get_or (drop n bytes) 0 0 ≢ 2 → record_of f (body ++ take n bytes) ≡ Ok g → IsReadUpTo (between g) text (take (length (drop n bytes) - 1) (drop 1 (drop n bytes)))
+    pub closed_passed : (g : Front) → get_or (drop n bytes) 0 0 ≢ 2 → record_of f (body ++ take n bytes) ≡ Ok g
+        → IsReadUpTo (between g) text (take (length (drop n bytes) - 1) (drop 1 (drop n bytes)))
     closed_passed g other is = closed_read f g text (body ++ take n bytes) _ is (upto_mark 3 (mark_is other))

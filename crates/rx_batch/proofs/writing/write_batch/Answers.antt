@@ -6,8 +6,11 @@ use Rattle.rx_batch.proofs.writing.write_batch.Goals as goal
 
 pub loop-detail-preserved : goal.loop-detail-preserved
 loop-detail-preserved c = record {
-  text = details_more (record_text (header_text c.args.head.now)) c.loop-detail.text.items c.put_detail.new.text.items c.args.details.now c.loop-detail.detail-index c.detail-item.result c.loop-detail-test.true c.detail-item.is c.loop-detail.invariant.text c.in_ok-put_detail.ensures.text;
-  again = again_more c.args.details.now c.loop-detail.detail-index c.detail-item.result c.loop-detail-test.true c.detail-item.is c.loop-detail.invariant.again c.in_ok-put_detail.ensures.again;
+  text = details_more (record_text (header_text c.args.head.now)) c.loop-detail.text.items
+      c.put_detail.new.text.items c.args.details.now c.loop-detail.detail-index c.detail-item.result
+      c.loop-detail-test.true c.detail-item.is c.loop-detail.invariant.text c.in_ok-put_detail.ensures.text;
+  again = again_more c.args.details.now c.loop-detail.detail-index c.detail-item.result c.loop-detail-test.true
+      c.detail-item.is c.loop-detail.invariant.again c.in_ok-put_detail.ensures.again;
 }
 
 pub returns-clause-again : goal.returns-clause-again
@@ -15,7 +18,9 @@ returns-clause-again c fields =
     let head = c.args.head.now in
     let details = c.args.details.now in
     file_again_is c.put_trailer.new.text.items head details
-    (all_written head details c.loop-detail.detail-index c.number.result c.loop-detail.text.items c.put_trailer.new.text.items c.loop-detail-test.false c.number.ensures.value c.loop-detail.invariant.text c.in_ok-put_trailer.ensures.text)
+    (all_written head details c.loop-detail.detail-index c.number.result c.loop-detail.text.items
+    c.put_trailer.new.text.items c.loop-detail-test.false c.number.ensures.value c.loop-detail.invariant.text
+    c.in_ok-put_trailer.ensures.text)
     c.requires fields (c.in_ok-put_header.ensures.again fields.kind)
     (all_again details c.loop-detail.detail-index c.loop-detail-test.false c.loop-detail.invariant.again)
     (trailer_same c.number.result head.lot.number (length details + 2) c.number.ensures.value c.in_ok-put_trailer.ensures.again)
