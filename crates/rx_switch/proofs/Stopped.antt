@@ -9,9 +9,9 @@ use Rattle.rx_wave.specs.declared.run_fault.RunFault.TheVariants as run
 use Rattle.rx_wave.specs.Workers.{RefusesOne as GateRefusesOne, are_workers}
 use Rattle.rx_switch.specs.declared.fault.SwitchFault.{SwitchFault}
 use Rattle.rx_switch.specs.declared.fault.SwitchFault.TheVariants as fault
-use Rattle.rx_switch.specs.declared.job.Output.{Output}
+use Rattle.rx_switch.specs.declared.job.OutputPieces.{OutputPieces}
 use Rattle.rx_switch.specs.Fault.{of_run}
-use Rattle.rx_switch.specs.Job.{texts_in}
+use Rattle.rx_switch.specs.Job.{texts_in_pieces}
 use Rattle.rx_switch.specs.Output.{Given, Inputs, IsOutput, IsRefused, IsStopped, RefusesOne, StandFor, stamp_for, texts_of}
 use Rattle.rx_switch.specs.Output.IsRefused.{memory as refused_memory, thread as refused_thread}
 
@@ -35,7 +35,7 @@ module _ (plain : Bool) (starts : ℕ → Bool) (workers : ℕ) where
   of_workers parallel good run.Thread outside refuses = record { parallel = parallel; of_gate = refuses refl }
 
   -- the definitions refuse a run that is stopped
-  refuses : (g : Given) (s : Stamp) → stamp_for g.workers g.stamp ≡ Ok s → (f : SwitchFault)
+  pub refuses : (g : Given) (s : Stamp) → stamp_for g.workers g.stamp ≡ Ok s → (f : SwitchFault)
       → IsStopped plain starts workers f → IsRefused g f
   refuses g s read fault.Workers h = absurd h
   refuses g s read fault.Stamp h = absurd h
@@ -45,17 +45,17 @@ module _ (plain : Bool) (starts : ℕ → Bool) (workers : ℕ) where
   refuses g s read fault.Memory h = refused_memory s read
   refuses g s read fault.Thread h = refused_thread s read
 
-  pub if_refused : (g : Given) (s : Stamp) → stamp_for g.workers g.stamp ≡ Ok s → (r : Result Output SwitchFault)
+  pub if_refused : {T : Type 0} (g : Given) (s : Stamp) → stamp_for g.workers g.stamp ≡ Ok s → (r : Result T SwitchFault)
       → IfErr r (λ f. IsStopped plain starts workers f) → IfErr r (λ f. IsRefused g f)
   if_refused g s read (Ok x) h = tt
   if_refused g s read (Err f) h = refuses g s read f h
 
-  pub if_thread : (r : Result Output SwitchFault) → IfErr r (λ f. IsStopped plain starts workers f)
+  pub if_thread : {T : Type 0} (r : Result T SwitchFault) → IfErr r (λ f. IsStopped plain starts workers f)
       → r ≡ Err fault.Thread → RefusesOne plain starts workers
   if_thread r h e = IfErr-at_err (λ f. IsStopped plain starts workers f) e h
 
 -- the texts are the output of what was given
-pub if_output : (g : Given) (x : Inputs) → StandFor g x → (r : Result Output SwitchFault)
-    → IfOk r (λ output. texts_in output ≡ texts_of x) → IfOk r (λ output. IsOutput g (texts_in output))
+pub if_output : (g : Given) (x : Inputs) → StandFor g x → (r : Result OutputPieces SwitchFault)
+    → IfOk r (λ output. texts_in_pieces output ≡ texts_of x) → IfOk r (λ output. IsOutput g (texts_in_pieces output))
 if_output g x accepted (Ok output) h = record { inputs = x; accepted = accepted; texts_are = h }
 if_output g x accepted (Err f) h = tt

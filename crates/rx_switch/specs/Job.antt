@@ -1,11 +1,14 @@
 -- A job as what it gives a run, and an output as its texts.
 use Rattle.std.specs.Prelude.{ℕ, List}
+use Rattle.std.specs.List.{flat_map}
+use Rattle.std.specs.Vec.{vec_items}
 use Rattle.rx_batch.specs.declared.batch.Batch.{Batch}
 use Rattle.rx_books_kept.specs.LedgerBooks.{LedgerBooks}
 use Rattle.rx_fields.specs.declared.stamp.Stamp.{Stamp}
 use Rattle.rx_ledger.specs.Plan.{Plan}
 use Rattle.rx_switch.specs.declared.job.Job.{Job}
 use Rattle.rx_switch.specs.declared.job.Output.{Output}
+use Rattle.rx_switch.specs.declared.job.OutputPieces.{OutputPieces}
 use Rattle.rx_switch.specs.Output.{Given, Inputs, Texts}
 
 abbrev pub given_by : Job → Given
@@ -28,6 +31,15 @@ texts_in output =
     record {
       response = output.response.items;
       books = output.books.items;
+      settlement = output.settlement.items;
+    }
+
+-- the same of an output in pieces
+abbrev pub texts_in_pieces : OutputPieces → Texts
+texts_in_pieces output =
+    record {
+      response = flat_map vec_items output.response.items;
+      books = flat_map vec_items output.books.items;
       settlement = output.settlement.items;
     }
 

@@ -1,18 +1,18 @@
 ghost use Rattle.std.specs.Prelude.{◌≡◌, ◌≤◌, IfErr, IfOk, length, true};
 ghost use Rattle.rx_ledger.specs.Fold.{fold_ledger, fold_replies};
-ghost use Rattle.rx_switch.specs.Job.{inputs_of, texts_in};
+ghost use Rattle.rx_switch.specs.Job.{inputs_of, texts_in_pieces};
 ghost use Rattle.rx_switch.specs.Output.{IsStopped, texts_of};
 ghost use Rattle.rx_wave.specs.Workers.{are_workers};
 
 use crate::fault::SwitchFault;
-use crate::job::Output;
+use crate::job::OutputPieces;
 use rx_batch::Batch;
 use rx_books_kept::Books;
 use rx_claim::{Reply, Transmission};
 use rx_fields::{Lot, Memory, Stamp};
 use rx_in_order::Finished;
 use rx_ledger::{Sheet, plain_run};
-use rx_response::response_in_parts;
+use rx_response::response_pieces;
 use rx_settle::settle;
 use rx_wave::{Gate, decode_in_parts, run_waves};
 use std::alloc::Global;
@@ -34,7 +34,7 @@ pub(crate) fn parts_of(workers: u16, bytes: usize) -> usize {
 
 /// The texts of adjudicating the details, as if one after another in file order: by so many workers on the books
 /// themselves or, plainly, over lists. Decoding, rendering and writing go in so many parts beside one another; one part
-/// starts no thread.
+/// starts no thread. The memory of the spent text is used again.
 #[tactic(auto, using(crate::proofs::Replied::replied))]
 pub(crate) fn adjudicate<R: Threads + Wait + Sync, G: Gate + Sync>(
     rt: &R,
@@ -47,20 +47,23 @@ pub(crate) fn adjudicate<R: Threads + Wait + Sync, G: Gate + Sync>(
     sheet: &Sheet,
     books: Books,
     batch: &Batch,
-) -> Result<Output, SwitchFault>
+    spent: Vec<u8>,
+) -> Result<OutputPieces, SwitchFault>
     requires few { length batch.now.details ≤ 100_000 }
     requires workers { are_workers workers ≡ true }
-    ensures output { IfOk result (λ output. texts_in output ≡ texts_of (inputs_of stamp.now sheet.now books batch.now)) }
+    ensures output { IfOk result (λ output.
+        texts_in_pieces output ≡ texts_of (inputs_of stamp.now sheet.now books batch.now)) }
     ensures stopped { IfErr result (λ fault. IsStopped plain (G.starts gate.now) workers fault) }
 {
     let details = batch.details.as_slice();
     let asked = decode_in_parts(rt, alloc, parts, sheet.door(), details)?;
     let lot = batch.head.lot();
     let (books, replies) = finish(rt, alloc, gate, workers, plain, lot, sheet, books, &asked)?;
-    let response = response_in_parts(rt, alloc, parts, &batch.head, *stamp, details, &replies)?;
-    let books = books.write_in_parts(rt, alloc, parts)?;
+    drop(asked);
+    let response = response_pieces(rt, alloc, parts, &batch.head, *stamp, details, &replies)?;
+    let books = books.write_pieces(rt, alloc, parts, spent)?;
     let settlement = settle(alloc, lot, *stamp, &replies)?;
-    Ok(Output {
+    Ok(OutputPieces {
         response,
         books,
         settlement,

@@ -1,3 +1,10 @@
+ghost use Rattle.std.specs.Prelude.{◌≡◌, IfOk};
+ghost use Rattle.rx_switch.specs.Job.{texts_in, texts_in_pieces};
+
+use rx_fields::Memory;
+use rx_response::one_text;
+use std::alloc::Global;
+
 /// What a run is given (docs/PRODUCT.md, "The program").
 #[derive(Clone, Copy, Debug)]
 pub struct Job<'a> {
@@ -24,4 +31,30 @@ pub struct Output {
     pub books: Vec<u8>,
     /// The settlement's text.
     pub settlement: Vec<u8>,
+}
+
+/// The same, where the response and the end books are in pieces, one behind the other.
+#[derive(Debug, Drop)]
+pub(crate) struct OutputPieces {
+    pub(crate) response: Vec<Vec<u8>>,
+    pub(crate) books: Vec<Vec<u8>>,
+    pub(crate) settlement: Vec<u8>,
+}
+
+impl OutputPieces {
+    /// The three texts, each whole.
+    pub(crate) fn joined(self, alloc: Global) -> Result<Output, Memory>
+        ensures { IfOk result (λ output. texts_in output ≡ texts_in_pieces self) }
+    {
+        let OutputPieces {
+            response,
+            books,
+            settlement,
+        } = self;
+        Ok(Output {
+            response: one_text(alloc, response)?,
+            books: one_text(alloc, books)?,
+            settlement,
+        })
+    }
 }

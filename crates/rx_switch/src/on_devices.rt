@@ -5,7 +5,7 @@ ghost use Rattle.rx_batch.specs.Pieces.{StandsFor};
 ghost use Rattle.rx_batch.specs.Reading.{HasFault};
 ghost use Rattle.rx_devices.specs.Reading.{AreFewReads};
 ghost use Rattle.rx_switch.specs.Devices.{IsBroken, IsDone, devices, has_failed};
-ghost use Rattle.rx_switch.specs.Job.{given_read, texts_in};
+ghost use Rattle.rx_switch.specs.Job.{given_read, texts_in_pieces};
 ghost use Rattle.rx_switch.specs.Output.{IsOutput, IsRefused, RefusesOne};
 ghost use Rattle.rx_switch.specs.declared.fault.Device.TheVariants as device;
 ghost use Rattle.rx_switch.specs.declared.fault.IoFault.TheVariants as io;
@@ -13,7 +13,7 @@ ghost use Rattle.rx_switch.specs.declared.fault.IoFault.TheVariants as io;
 use crate::adjudicating::{adjudicate, parts_of};
 use crate::fault::{IoFault, SwitchFault};
 use crate::inputs::{ReadInputs, read_inputs};
-use crate::job::Output;
+use crate::job::OutputPieces;
 use crate::outputs::write_outputs;
 use crate::running::stamp_for;
 use rx_batch::{Batch, BatchFault, Pieces};
@@ -104,10 +104,10 @@ fn output_of<R: Threads + Wait + Sync, G: Gate + Sync>(
     workers: u16,
     plain: bool,
     read: ReadInputs,
-) -> Result<Output, SwitchFault>
+) -> Result<OutputPieces, SwitchFault>
     requires { (batch : List ℕ) × StandsFor read.batch batch }
     ensures output { (batch : List ℕ) → StandsFor read.batch batch
-        → IfOk result (λ output. IsOutput (given_read stamp.now workers read.sheet.items read.books.items batch) (texts_in output)) }
+        → IfOk result (λ output. IsOutput (given_read stamp.now workers read.sheet.items read.books.items batch) (texts_in_pieces output)) }
     ensures refused { (batch : List ℕ) → StandsFor read.batch batch
         → IfErr result (λ fault. IsRefused (given_read stamp.now workers read.sheet.items read.books.items batch) fault) }
     ensures thread { result ≡ Err SwitchFault.Thread → RefusesOne plain (G.starts gate.now) workers }
@@ -121,12 +121,18 @@ fn output_of<R: Threads + Wait + Sync, G: Gate + Sync>(
     let sheet = read_sheet(alloc, sheet.as_slice())?;
     let parts = parts_of(workers, books.len());
     let opening = Books::read_in_parts(rt, alloc, parts, books.as_slice())?;
-    drop(books);
     let batch = finished(batch)?;
     let parts = parts.max(parts_of(workers, batch.details.len() * DETAIL_BYTES));
+    let spent = spent_for(alloc, parts, books);
     adjudicate(
-        rt, alloc, gate, workers, parts, plain, &stamp, &sheet, opening, &batch,
+        rt, alloc, gate, workers, parts, plain, &stamp, &sheet, opening, &batch, spent,
     )
+}
+
+// The text whose memory the end books are written over: the opening books' for one part. Several parts are written at
+// once, each into memory of its own, and there the text goes at once.
+fn spent_for(alloc: Global, parts: usize, text: Vec<u8>) -> Vec<u8> {
+    if parts < 2 { text } else { Vec::new(alloc) }
 }
 
 // The batch of the pieces.

@@ -43,7 +43,7 @@ pub fn run<R: Threads + Wait + Sync, G: Gate + Sync>(
     let books = Books::read_in_parts(rt, alloc, parts, job.books)?;
     let batch = read_batch(alloc, job.batch)?;
     let parts = parts_of(job.workers, job.books.len().max(job.batch.len()));
-    adjudicate(
+    let pieces = adjudicate(
         rt,
         alloc,
         gate,
@@ -54,7 +54,9 @@ pub fn run<R: Threads + Wait + Sync, G: Gate + Sync>(
         &sheet,
         books,
         &batch,
-    )
+        Vec::new(alloc),
+    )?;
+    Ok(pieces.joined(alloc)?)
 }
 
 // The run's date and time.

@@ -1,6 +1,7 @@
 // What no clause says: which refusal a run on devices answers.
+use crate::job::OutputPieces;
 use crate::outputs::write_outputs;
-use crate::{Device, IoFault, Output, SwitchFault, read_all, run_io};
+use crate::{Device, IoFault, SwitchFault, read_all, run_io};
 use rx_devices::{SliceSource, VecSink};
 use rx_wave::NoGate;
 use std::test::Fail;
@@ -96,9 +97,9 @@ fn reads_on_after_a_fault_of_the_batch(rt: HostRuntime) {
 
 #[test]
 fn tells_which_output_broke_off(rt: HostRuntime) -> Result<(), Fail> {
-    let output = Output {
-        response: b"RS".to_vec(rt.alloc())?,
-        books: b"BK".to_vec(rt.alloc())?,
+    let output = OutputPieces {
+        response: vec![in rt.alloc(); b"RS".to_vec(rt.alloc())?]?,
+        books: vec![in rt.alloc(); b"B".to_vec(rt.alloc())?, b"K".to_vec(rt.alloc())?]?,
         settlement: b"ST".to_vec(rt.alloc())?,
     };
     let mut response = VecSink::new(rt.alloc(), 1);

@@ -2,7 +2,7 @@ use Rattle.std.proofs.Common.{◌∙◌, IfErr, refl, sym}
 use Rattle.std.proofs.lemmas.Result.{IfErr-at_err, IfErr-weaker, on_ok_weaker, err_from_is_err_and}
 use Rattle.rx_switch.specs.Devices.{IsUnread, IsUnwritten, left}
 use Rattle.rx_switch.specs.Devices.IsBroken.{unread, refused, unwritten}
-use Rattle.rx_switch.specs.Job.{given_read, texts_in}
+use Rattle.rx_switch.specs.Job.{given_read, texts_in_pieces}
 use Rattle.rx_switch.specs.declared.fault.Device.TheVariants as device
 use Rattle.rx_switch.proofs.Unread.{given_is, unread_without_thread}
 use Rattle.rx_switch.proofs.Unwritten.{only_outputs, unwritten_without_thread}
@@ -34,7 +34,7 @@ returns-clause-done g c =
     let read = c.in_ok-read.ensures.read in
     on_ok_weaker c.write_outputs.result (λ all. record {
       g = given_read c.args.stamp.now c.args.workers c.in_ok-read.read.sheet.items c.in_ok-read.read.books.items read.batch_is.bytes;
-      texts = texts_in c.in_ok-output.output;
+      texts = texts_in_pieces c.in_ok-output.output;
       given_is = given_is c.args.stamp.now c.args.workers _ _ _ _ _ read;
       texts_are = c.in_ok-output.ensures.output read.batch_is.bytes read.batch_is.stands;
       written_are = all;
@@ -44,7 +44,7 @@ pub returns-clause-broken : goal.returns-clause-broken
 returns-clause-broken g c =
     let read = c.in_ok-read.ensures.read in
     IfErr-weaker c.write_outputs.result _ _
-    (λ f broken. unwritten _ (texts_in c.in_ok-output.output) f (given_is c.args.stamp.now c.args.workers _ _ _ _ _ read)
+    (λ f broken. unwritten _ (texts_in_pieces c.in_ok-output.output) f (given_is c.args.stamp.now c.args.workers _ _ _ _ _ read)
     (c.in_ok-output.ensures.output read.batch_is.bytes read.batch_is.stands) broken)
     c.write_outputs.ensures.unwritten
 

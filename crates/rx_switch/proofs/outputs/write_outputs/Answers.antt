@@ -1,5 +1,8 @@
-use Rattle.std.proofs.Common.{refl}
-use Rattle.std.proofs.lemmas.Result.{err_from_is_err_and}
+use Rattle.std.proofs.Common.{◌≡◌, ◌∙◌, refl, ap}
+use Rattle.std.specs.List.{flat_map}
+use Rattle.std.specs.Vec.{vec_items}
+use Rattle.std.proofs.lemmas.List.{append-nil}
+use Rattle.std.proofs.lemmas.Result.{err_from_is_err_and, on_ok_weaker}
 use Rattle.rx_switch.specs.Devices.IsUnwritten.{response, books, settlement}
 use Rattle.rx_switch.specs.declared.fault.Device.TheVariants as device
 use Rattle.rx_switch.specs.declared.fault.IoFault.TheVariants as io
@@ -9,20 +12,34 @@ use Rattle.rx_switch.proofs.outputs.write_outputs.Goals as goal
 pub returns-in_err-write_text-clause-unwritten : goal.returns-in_err-write_text-clause-unwritten
 returns-in_err-write_text-clause-unwritten g c =
     let p = err_from_is_err_and c.from_residual.result c.from_residual.ensures.1 in
-    let front = rw c.as_slice.ensures.value at c.in_err-write_text.ensures.front in
+    let front = rw c.deref.ensures.value at c.in_err-write_text.ensures.front in
     rw (p.1, p.2, c.in_err-write_text.ensures.fault) (response front refl refl)
 
 pub returns-in_err-write_text-2-clause-unwritten : goal.returns-in_err-write_text-2-clause-unwritten
 returns-in_err-write_text-2-clause-unwritten g c =
     let p = err_from_is_err_and c.from_residual-in_err-write_text-2.result c.from_residual-in_err-write_text-2.ensures.1 in
-    let whole = rw c.as_slice.ensures.value at c.in_ok-write_text.ensures.whole in
-    let front = rw c.as_slice-2.ensures.value at c.in_err-write_text-2.ensures.front in
+    let whole = rw c.deref.ensures.value at c.in_ok-write_text.ensures.whole in
+    let front = rw c.deref-2.ensures.value at c.in_err-write_text-2.ensures.front in
     rw (p.1, p.2, c.in_err-write_text-2.ensures.fault) (books whole front refl)
 
 pub returns-clause-unwritten : goal.returns-clause-unwritten
 returns-clause-unwritten g c =
-    let first = rw c.as_slice.ensures.value at c.in_ok-write_text.ensures.whole in
-    let second = rw c.as_slice-2.ensures.value at c.in_ok-write_text-2.ensures.whole in
-    let front = rw c.as_slice-3.ensures.value at c.write_text-3.ensures.front in
+    let first = rw c.deref.ensures.value at c.in_ok-write_text.ensures.whole in
+    let second = rw c.deref-2.ensures.value at c.in_ok-write_text-2.ensures.whole in
+    let alone : flat_map vec_items c.from_ref.result.now ≡ c.args.output.now.settlement.items =
+    ap (flat_map vec_items) c.from_ref.ensures.value ∙ append-nil c.args.output.now.settlement.items in
+    let front = rw alone at c.write_text-3.ensures.front in
     at_only_fault c.write_text-3.result (io.Write device.Settlement) _ c.write_text-3.ensures.fault
     (settlement first second front)
+
+pub returns-clause-done : goal.returns-clause-done
+returns-clause-done g c =
+    let first = rw c.deref.ensures.value at c.in_ok-write_text.ensures.whole in
+    let second = rw c.deref-2.ensures.value at c.in_ok-write_text-2.ensures.whole in
+    let alone : flat_map vec_items c.from_ref.result.now ≡ c.args.output.now.settlement.items =
+    ap (flat_map vec_items) c.from_ref.ensures.value ∙ append-nil c.args.output.now.settlement.items in
+    on_ok_weaker c.write_text-3.result (λ all. record {
+      response_is = first;
+      books_is = second;
+      settlement_is = rw (← alone) all;
+    }) c.write_text-3.ensures.whole
