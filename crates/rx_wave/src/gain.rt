@@ -7,9 +7,9 @@ use rx_fields::Memory;
 use rx_schedule::weight;
 use std::alloc::Global;
 
-// The weight, for each record, up to which several workers may gain. On a parcel of 100 claims a record takes 0.6 us, on
-// one of 1,000 claims 8.2 us, each with one copy of three that a desk makes or compares; on the books themselves it takes
-// 2 us, whatever the family (bench/README.md, "One record on its parcel" and "File order on the books").
+// The weight, for each record, up to which several workers share. Where a record is held up for 10 us, one worker takes 0.23
+// to 0.25 s whether a family has 100, 200, 400 or 1,000 claims, and four at a desk take 0.21, 0.29, 0.35 and 0.79 s; at 30 us
+// one takes 0.64 s, and four take 0.33, 0.32, 0.43 and 0.70 s (bench/README.md, "Workers at a gate").
 pub(crate) const MOST_FOR_A_RECORD: u64 = 200;
 
 /// Whether several workers can gain: not where the books that the records name are so large, or so shared, that copying

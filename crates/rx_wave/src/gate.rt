@@ -15,9 +15,9 @@ pub trait Gate {
     /// Passed after a record's adjudication, and before its parcel is given.
     fn leave(&self, place: usize);
 
-    /// Whether records may take their time here, because `enter` or `leave` waits, or works for longer than a record is
-    /// adjudicated (about 2 us). Then several workers share the records; where it is false they go in file order, since
-    /// handing a record to a worker takes longer than adjudicating it. No answer of a run rests on it.
+    /// Whether records may take their time here, because `enter` or `leave` waits, or works for longer than handing a record
+    /// to a worker takes (some 10 us; bench/README.md, "Workers at a gate"). Then several workers share the records; where it
+    /// is false they go in file order, as adjudicating one takes about 2 us. No answer of a run rests on it.
     fn holds_up(&self) -> bool {
         true
     }

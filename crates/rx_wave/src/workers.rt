@@ -21,8 +21,10 @@ use std::sync::{Condvar, Mutex, MutexGuard, Wait};
 use std::thread;
 use std::thread::Threads;
 
-// How often a thread tries to take the lock before it sleeps, and how many pauses go by from one try to the next.
-const TRIES: u32 = 64;
+// How often a thread tries to take the lock before it sleeps, and how many pauses go by from one try to the next. Four
+// workers at 10 us a record took 389 to 571 ms without a try, 269 to 388 with 64, 246 to 300 with 256 and 222 to 312 with
+// 1,000; at 30 us and more the number makes no difference (bench/README.md, "Workers at a gate").
+const TRIES: u32 = 256;
 
 const PAUSES: u32 = 4;
 
