@@ -14,5 +14,5 @@ pub use rx_claim::{
     Heard, Outcome, Paid, Pricing, Refused, Rejected, Reply, Reversal, Transaction, Transactions,
     Transmission,
 };
-pub use rx_reply::{ReplyFault, decode_reply, encode};
-pub use rx_request::decode;
+pub use rx_reply::{ReplyFault, decode_reply, encode, put_reply, read_back};
+pub use rx_request::{decode, written_is_heard};
