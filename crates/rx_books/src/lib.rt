@@ -10,6 +10,6 @@
 //! ```
 #![tactic(auto)]
 
-pub use rx_books_kept::{Books, OpenBooks, Standing, one_reading};
+pub use rx_books_kept::{Books, OpenBooks, Standing};
 pub use rx_books_shelf::{GiveFault, Shelf, TakeFault};
 pub use rx_parcels::{Family, Footprint, KeyBook, Parcel};
