@@ -46,7 +46,7 @@ rise_map : (ts : List TotalLine) → IsAscending id_cmp total_family ts → IsAs
 rise_map [] rise = tt
 rise_map (t ∷ ts) rise = (below_map t.family ts rise.0, rise_map ts rise.1)
 
-total_there : (ts : List TotalLine) (f : List ℕ) → has_total ts f ≡ true → Contains (map total_family ts) f
+pub total_there : (ts : List TotalLine) (f : List ℕ) → has_total ts f ≡ true → Contains (map total_family ts) f
 total_there ts f has = by_item (item_at id_cmp total_family ts f) refl
   where
     by_item : (o : Option TotalLine) → item_at id_cmp total_family ts f ≡ o → Contains (map total_family ts) f
@@ -118,7 +118,7 @@ parts_are q is right =
 -- ---- a text
 
 -- what the reading of a text says of it
-abbrev Says : List ℕ → Result LedgerBooks BooksFault → Type 0
+abbrev pub Says : List ℕ → Result LedgerBooks BooksFault → Type 0
 Says text (Ok b) = IsBooksText text b.period b.ledger
 Says text (Err f) = HasBooksFault text f
 
@@ -160,10 +160,14 @@ pub refused : (text : List ℕ) (r : Result LedgerBooks BooksFault) → Gives r 
 refused text (Ok b) is = tt
 refused text (Err f) is = unless_so f (λ e. subst (Says text) e (says text)) is
 
+-- the text of books is read as those
+pub read_as : (text : List ℕ) (p : Span) (L : Ledger) → IsBooksText text p L
+    → books_of text ≡ unless_wrong (record { period = p; ledger = L }) None
+read_as text p L books =
+    let q : PrintedParts = parts_of books.version p L in
+    ap books_of books.is_text ∙ ap (λ s. s >>= books_of_parts) (printed_again q books.printed)
+    ∙ ap (unless_wrong (unsummed q)) (parts_right books.version p L books.printed)
+
 pub reads : (text : List ℕ) (r : Result LedgerBooks BooksFault) → Gives r (books_of text) → (p : Span) (L : Ledger)
     → IsBooksText text p L → Gives r (Ok (record { period = p; ledger = L }))
-reads text r is p L books =
-    let q : PrintedParts = parts_of books.version p L in
-    let read : books_of text ≡ books_of_parts q =
-    ap books_of books.is_text ∙ ap (λ s. s >>= books_of_parts) (printed_again q books.printed) in
-    subst (Gives r) (read ∙ ap (unless_wrong (unsummed q)) (parts_right books.version p L books.printed)) is
+reads text r is p L books = subst (Gives r) (read_as text p L books) is

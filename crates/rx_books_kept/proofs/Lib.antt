@@ -7,6 +7,7 @@ pub mod KeptFigures
 pub mod KeptText
 pub mod Limits
 pub mod Merging
+pub mod OneReading
 pub mod Openings
 pub mod Passes
 pub mod Opens

@@ -86,12 +86,12 @@ is_printed (Some n) x is = rw is (same_number x)
 
 module _ (p : Span) (L : Ledger) where
   -- a listed member, or a family that has one
-  abbrev IsKnown : Line → Type 0
+  abbrev pub IsKnown : Line → Type 0
   IsKnown (line.Member m) = is_listed L m.member.key ≡ true
   IsKnown (line.Claim r) = Unit {0}
   IsKnown (line.Total t) = has_members L t.family ≡ true
 
-  sums_of : (l : Line) → IsRight p L l → HasSums p L l
+  pub sums_of : (l : Line) → IsRight p L l → HasSums p L l
   sums_of (line.Member m) is = figure_is (is_listed L m.member.key)
       (deductible p L m.member.key.family m.member.key.person) m.deductible is
   sums_of (line.Claim r) is = tt
@@ -103,7 +103,7 @@ module _ (p : Span) (L : Ledger) where
         if_printed_is t.deductible b (family_deductible p L t.family) parts.1,
       )
 
-  right_of : (l : Line) → IsKnown l → HasSums p L l → IsRight p L l
+  pub right_of : (l : Line) → IsKnown l → HasSums p L l → IsRight p L l
   right_of (line.Member m) known is =
       let listed : is_listed L (record { family = m.member.key.family; person = m.member.key.person }) ≡ true = known in
       rw (listed, is) (same_number (deductible p L m.member.key.family m.member.key.person))
@@ -135,7 +135,7 @@ module _ (p : Span) (L : Ledger) where
 
 -- ---- a whole file
 
-all_known : (q : PrintedParts) → IsPrinted q → All (IsKnown q.head.period q.ledger) (lines_of q)
+pub all_known : (q : PrintedParts) → IsPrinted q → All (IsKnown q.head.period q.ledger) (lines_of q)
 all_known q is =
     let p = q.head.period in
     let L = q.ledger in

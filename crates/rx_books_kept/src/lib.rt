@@ -24,6 +24,7 @@ mod books;
 mod figures;
 mod holders;
 mod kept;
+mod law;
 mod open_books;
 mod opened;
 mod opening;
@@ -37,5 +38,6 @@ mod summing;
 mod writing;
 
 pub use books::Books;
+pub use law::one_reading;
 pub use open_books::OpenBooks;
 pub use standing::Standing;

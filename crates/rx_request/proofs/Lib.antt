@@ -6,6 +6,10 @@ pub mod Runs
 pub mod Fields
 pub mod Names
 pub mod Tables
+pub mod Written
+pub mod WrittenFields
+pub mod WrittenHeader
+pub mod WrittenRequest
 pub mod Faults
 pub mod Lists
 pub mod Bodies

@@ -9,3 +9,4 @@ pub mod Slots
 pub mod Steps
 pub mod Values
 pub mod Views
+pub mod Written

@@ -1,5 +1,5 @@
 // Worked cases: transmissions and what docs/FORMATS.md makes of them (docs/CASES.md has those with a name there).
-use crate::decode;
+use crate::{decode, written_is_heard};
 use rx_claim::{Body, Codes, Transaction, Transmission};
 use rx_fields::{Door, date_write};
 use std::alloc::Global;
@@ -274,6 +274,7 @@ fn largest(rt: HostRuntime) -> Result<(), Fail> {
 
 #[test]
 fn cut(rt: HostRuntime) -> Result<(), Fail> {
+    written_is_heard();
     expect_all(
         &rt,
         rt.alloc(),

@@ -2,7 +2,8 @@
 //!
 //! In comes any byte string, and the plan's door, which a request has to name. Out comes the transmission that the
 //! request grammar makes of it: what is asked, or the reject codes. `specs/Request.antt` says which, over the tables
-//! of `specs/Codes.antt`.
+//! of `specs/Codes.antt`. How a request is written stands in `specs/Written.antt`, and that it is heard as it was written is the
+//! law `written_is_heard`.
 //!
 //! ```rust
 //! let transmission = rx_request::decode(alloc, &sheet.door(), bytes)?;
@@ -18,10 +19,12 @@ mod codes;
 mod field;
 mod header;
 mod known;
+mod law;
 mod marks;
 mod part;
 mod piece;
 mod request;
 mod value;
 
+pub use law::written_is_heard;
 pub use request::decode;

@@ -1,4 +1,4 @@
-use crate::Books;
+use crate::{Books, one_reading};
 use rx_books_text::BooksFault;
 use rx_claim::Amounts;
 use rx_fields::{
@@ -145,6 +145,7 @@ fn what_is_written_is_read(rt: HostRuntime) -> Result<(), Fail> {
 // Case damaged-books, with one member: a total that differs, a deductible that differs, no total line.
 #[test]
 fn a_figure_that_is_no_sum_is_told(rt: HostRuntime) -> Result<(), Fail> {
+    one_reading();
     let total = b"BOOKS|1|20260101|20261231\nM|C100|01|20260101|20261231|0\nT|C100|5\n";
     assert_eq!(rt;
         Books::read(rt.alloc(), total).err(),

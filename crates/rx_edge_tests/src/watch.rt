@@ -1,5 +1,5 @@
-use super::*;
 use rx_devices::{Sink, SliceSource, VecSink, read_all, write_all};
+use rx_watch::{Heard, WatchedSink, WatchedSource};
 use std::test::*;
 use std::time::Duration;
 

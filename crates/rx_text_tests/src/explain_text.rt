@@ -1,5 +1,5 @@
-use crate::{Page, field_bytes};
 use rx_escape::Style;
+use rx_explain_text::{Page, field_bytes};
 use rx_fields::Code;
 use std::test::Fail;
 

@@ -1,4 +1,4 @@
-use crate::{Style, put_escaped};
+use rx_escape::{Style, put_escaped};
 use std::test::Fail;
 
 // The wanted texts are what Python's html, json and repr read as these bytes.

@@ -1,6 +1,6 @@
 // The texts are those of one-billing (docs/CASES.md).
-use crate::{Differences, Files, Verified, verdict_text, verify};
 use rx_switch::{Job, Output, SwitchFault};
+use rx_verify::{Differences, Files, Verified, verdict_text, verify};
 use rx_wave::NoGate;
 use std::alloc::{AllocError, Global};
 use std::test::Fail;

@@ -1,6 +1,6 @@
-use crate::{Asked, Given, fault_words, refusal};
 use rx_check::{Files, check};
 use rx_switch::SwitchFault;
+use rx_told_run::{Asked, Given, fault_words, refusal};
 use std::test::Fail;
 
 #[test]

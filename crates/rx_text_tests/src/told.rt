@@ -1,6 +1,6 @@
-use crate::{batch_words, books_words, sheet_words};
 use rx_batch::read_batch;
 use rx_sheet::read_sheet;
+use rx_told::{batch_words, books_words, sheet_words};
 use std::alloc::Global;
 use std::test::Fail;
 

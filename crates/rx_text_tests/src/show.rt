@@ -1,5 +1,4 @@
 // The lines of the worked cases (docs/CASES.md, "shown-texts").
-use crate::{show_lines, shown};
 use rx_claim::{
     Bill, BillParts, Body, Codes, Echo, EchoParts, Faulty, Heard, Rejected, Reversal, Transaction,
     Transactions, Transmission,
@@ -7,6 +6,7 @@ use rx_claim::{
 use rx_fields::{
     Cents, Code, Count, Days, Id, Person, Product, Provider, Quantity, Reference, date_read,
 };
+use rx_show::{show_lines, shown};
 use std::alloc::Global;
 use std::test::Fail;
 

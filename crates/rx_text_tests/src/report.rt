@@ -1,9 +1,9 @@
-use crate::{json_text, report_lines, tsv_text};
 use rx_claim::{
     Amounts, Answer, Answers, Approved, Body, Codes, Echo, EchoParts, Outcome, Paid, Pricing,
     Rejected, Reply, Transmission,
 };
 use rx_fields::{Authorization, Cents, Code, Count, Reference};
+use rx_report::{json_text, report_lines, tsv_text};
 use std::alloc::Global;
 use std::test::Fail;
 

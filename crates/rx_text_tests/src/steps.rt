@@ -1,4 +1,4 @@
-use super::*;
+use rx_steps::{Answers, Counted, Done, Name, Step, done_line, progress_line, step_line};
 use std::test::*;
 
 #[test]

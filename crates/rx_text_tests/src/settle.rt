@@ -1,9 +1,9 @@
-use crate::settle;
 use rx_claim::{
     Amounts, Answer, Answers, Approved, Codes, Echo, EchoParts, Outcome, Paid, Pricing, Refused,
     Rejected, Reply,
 };
 use rx_fields::{Authorization, Cents, Code, Count, Lot, Reference, Stamp, date_read};
+use rx_settle::settle;
 use std::alloc::Global;
 use std::test::Fail;
 

@@ -1,4 +1,7 @@
-use super::*;
+use rx_words::{
+    Asked, CheckWords, Command, Form, Inputs, Outputs, Portion, ReportWords, ShowWords, WordsFault,
+    command,
+};
 use std::alloc::{AllocError, Global};
 use std::test::*;
 

@@ -1,4 +1,4 @@
-use crate::{Files, check, nearest};
+use rx_check::{Files, check, nearest};
 use std::test::Fail;
 
 const SHEET: &[u8] = b"";

@@ -1,4 +1,4 @@
-use super::*;
+use rx_log::{FileLog, Lot, RunLog, Steps, Totals, line, lot, totals};
 use std::test::*;
 
 const FILE: FileLog<'static> = FileLog {

@@ -1,4 +1,4 @@
-use crate::{Groups, Portion, account_of, kept_lines};
+use rx_account::{Groups, Portion, account_of, kept_lines};
 use rx_claim::{Answer, Answers, Codes, Echo, EchoParts, Outcome, Refused, Reply};
 use rx_fields::{Code, Id, Person};
 use rx_report::Line;

@@ -1,4 +1,4 @@
-use crate::{first_difference, pieces_before, rest_of_piece};
+use rx_differ::{first_difference, pieces_before, rest_of_piece};
 use std::test::Fail;
 
 #[test]

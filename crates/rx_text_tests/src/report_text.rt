@@ -1,4 +1,4 @@
-use crate::put_dollars;
+use rx_report_text::put_dollars;
 use std::test::Fail;
 
 #[test]

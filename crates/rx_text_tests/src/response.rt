@@ -1,9 +1,9 @@
 //! The response files of the worked cases (docs/CASES.md), to the byte, and one that is made in several pieces.
 
-use crate::{response_file, response_in_parts};
 use rx_batch::{Detail, FileType, Head, Kind, Text};
 use rx_fields::{Lot, Stamp, Time, date_read, digits_write};
 use rx_reply::decode_reply;
+use rx_response::{response_file, response_in_parts};
 use std::alloc::{AllocError, Global};
 use std::test::Fail;
 

@@ -1,6 +1,6 @@
 // The response files of the worked cases (docs/CASES.md, docs/FORMATS.md).
-use crate::replies_text;
 use rx_batch::BatchFault;
+use rx_replies::replies_text;
 use std::alloc::{AllocError, Global};
 use std::test::Fail;
 

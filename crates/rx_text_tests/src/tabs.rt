@@ -1,5 +1,4 @@
 // The transactions of the worked case shown-texts (docs/CASES.md), as a table.
-use crate::show_table;
 use rx_claim::{
     Bill, BillParts, Body, Codes, Echo, EchoParts, Faulty, Heard, Rejected, Reversal, Transaction,
     Transactions, Transmission,
@@ -7,6 +6,7 @@ use rx_claim::{
 use rx_fields::{
     Cents, Code, Count, Days, Id, Person, Product, Provider, Quantity, Reference, date_read,
 };
+use rx_tabs::show_table;
 use std::alloc::Global;
 use std::test::Fail;
 

@@ -1,5 +1,5 @@
-use crate::Page;
 use rx_fields::Provider;
+use rx_report_page::Page;
 use std::test::Fail;
 
 #[test]
