@@ -11,13 +11,16 @@ use std::marker::Model;
 // How many places an item is looked for at, before the list is searched.
 const TRIES: u64 = 8;
 
-// A place at which no item is.
-const EMPTY: u32 = u32::MAX;
+// A hint at no item.
+const EMPTY: u64 = u64::MAX;
 
-// The offset basis and the prime of FNV-1a, for 64 bits.
+// The bits of the lower half of a number.
+const LOWER: u64 = 0xffff_ffff;
+
+// What a hash begins with, and 2^64 divided by the golden ratio, which spreads its bits.
 const BASIS: u64 = 0xcbf2_9ce4_8422_2325;
 
-const PRIME: u64 = 0x0000_0100_0000_01b3;
+const GOLDEN: u64 = 0x9e37_79b9_7f4a_7c15;
 
 /// An item with a hash of its key.
 pub trait Hashed: Keyed {
@@ -31,8 +34,9 @@ pub trait Hashed: Keyed {
 #[derive(Debug, Drop)]
 pub struct Hinted<T: Hashed> {
     items: Ascending<T>,
-    // Where items probably are, by the hashes of their keys.
-    hints: Vec<u32>,
+    // Where items probably are, by the upper halves of the hashes of their keys: each place below the lower half, so that
+    // hardly any item is looked at but the one that is looked for.
+    hints: Vec<u64>,
 }
 
 impl<T: Hashed> Model for Hinted<T> {
@@ -70,8 +74,9 @@ impl<T: Hashed> Hinted<T> {
         let hash = T::hash_of(key);
         for step in 0..TRIES {
             let at = nth_try(self.hints.len(), hash, step);
-            let place = self.hints.get(at).copied().unwrap_or(EMPTY) as usize;
-            if is_at(self.items.as_slice(), place, key) {
+            let hint = self.hints.get(at).copied().unwrap_or(EMPTY);
+            let place = (hint & LOWER) as usize;
+            if hint >> 32 == hash & LOWER && is_at(self.items.as_slice(), place, key) {
                 return Ok(place);
             }
         }
@@ -113,49 +118,52 @@ impl<T: Hashed> Hinted<T> {
 }
 
 // Where these items are, by the hashes of their keys; two places for each.
-fn hints_of<T: Hashed>(alloc: Global, items: &[T]) -> Result<Vec<u32>, Memory> {
+fn hints_of<T: Hashed>(alloc: Global, items: &[T]) -> Result<Vec<u64>, Memory> {
     let mut hints = vec![in alloc; EMPTY; items.len().saturating_mul(2)]?;
     for (place, item) in items.iter().enumerate() {
-        put_hint(
-            &mut hints,
-            T::hash_of(&item.key()),
-            u32::try_from(place).unwrap_or(EMPTY),
-        );
+        put_hint(&mut hints, T::hash_of(&item.key()), place as u64);
     }
     Ok(hints)
 }
 
 // Writes the place where it is looked for first, of those that are free; it isn't written where none is.
-fn put_hint(hints: &mut Vec<u32>, hash: u64, place: u32) {
+fn put_hint(hints: &mut Vec<u64>, hash: u64, place: u64) {
     for step in 0..TRIES {
         let at = nth_try(hints.len(), hash, step);
         if let Some(free) = hints.get_mut(at)
             && *free == EMPTY
         {
-            *free = place;
+            *free = (hash << 32) | (place & LOWER);
             return;
         }
     }
 }
 
-// Where the place under a hash is looked for, in a table of this length.
+// Where the place under a hash is looked for, in a table of this length: one after another from where its upper half
+// stands among all halves.
 fn nth_try(len: usize, hash: u64, step: u64) -> usize {
-    if len == 0 {
-        return 0;
-    }
-    (hash.wrapping_add(step) % len as u64) as usize
+    let first = (hash >> 32).wrapping_mul(len as u64) >> 32;
+    let at = first.wrapping_add(step) as usize;
+    if at < len { at } else { at.wrapping_sub(len) }
 }
 
-/// FNV-1a of a text.
+/// A hash of a text, eight bytes at once.
 pub(crate) fn hash_of_text(text: &[u8]) -> u64 {
     let mut hash = BASIS;
-    for byte in text {
-        hash = mixed(hash, u64::from(*byte));
+    let mut rest = text;
+    'words: while let Some((word, others)) = rest.split_first_chunk::<8>() {
+        hash = mixed(hash, u64::from_le_bytes(*word));
+        rest = others;
     }
-    hash
+    let mut last: u64 = 0;
+    for byte in rest {
+        last = last.wrapping_mul(256).wrapping_add(u64::from(*byte));
+    }
+    mixed(hash, last)
 }
 
-/// A hash with one more number, as FNV-1a has it with one more byte.
+/// A hash with one more number.
 pub(crate) fn mixed(hash: u64, number: u64) -> u64 {
-    (hash ^ number).wrapping_mul(PRIME)
+    let spread = (hash ^ number).wrapping_mul(GOLDEN);
+    spread ^ (spread >> 32)
 }

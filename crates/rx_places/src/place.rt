@@ -26,8 +26,12 @@ impl Keyed for KeyPlace {
 impl Hashed for KeyPlace {
     fn hash_of(key: &Key) -> u64 {
         let hash = mixed(hash_of_text(key.provider.bytes()), key.reference.get());
-        let hash = mixed(hash, u64::from(key.date.month()));
-        mixed(hash, u64::from(key.date.day()))
+        let day = u64::from(key.date.day());
+        mixed(
+            hash,
+            day.wrapping_mul(16)
+                .wrapping_add(u64::from(key.date.month())),
+        )
     }
 }
 
