@@ -1,11 +1,11 @@
 #!/usr/bin/env python3
 """Runs a program with rxbatch's words on worked cases while its Nth request for memory is refused, for N = 1, 2 and on.
 
-    tests/refused_memory.py PROGRAM [--only WORD] [--all] [--step N] [--seconds S]
+    tests/refused_memory.py PROGRAM [--only WORD] [--workers N] [--all] [--step N] [--seconds S]
 
 PROGRAM is a path or a command line. A library is compiled with `cc` from refused_memory.c beside this file and preloaded
-into the program; without `cc` nothing can be tried. Each job runs plainly and with 1 and 2 workers. With `--all` each
-later request is refused too; with `--step N` only each Nth is tried.
+into the program; without `cc` nothing can be tried. Each job runs plainly and with 1 and 2 workers; with `--workers N` by so
+many alone. With `--all` each later request is refused too; with `--step N` only each Nth is tried.
 
 A run has to end by itself. It answers what it answers with ample memory, or want of memory: status 1 with the line
 `refused 6 0 0` (or without a line, where no memory is left to write one), and then its outputs are empty; or, where a
@@ -104,6 +104,7 @@ def main(words):
     parser = argparse.ArgumentParser(description=__doc__, formatter_class=argparse.RawDescriptionHelpFormatter)
     parser.add_argument("program", metavar="PROGRAM")
     parser.add_argument("--only", default="", help="only cases with this word in their path")
+    parser.add_argument("--workers", help="only runs with so many workers, and none plainly")
     parser.add_argument("--all", action="store_true", help="refuse all later requests too")
     parser.add_argument("--step", type=int, default=1)
     parser.add_argument("--seconds", type=float, default=60, help="for one run of the program; default: 60")
@@ -113,11 +114,12 @@ def main(words):
         parser.error(f"can't run {options.program}")
     if shutil.which("cc") is None:
         parser.error("there is no cc to compile refused_memory.c with")
+    ways = [(options.workers, False)] if options.workers else WAYS
     passed = failed = 0
     with tempfile.TemporaryDirectory(prefix="rxbatch-refused-") as top:
         settings = Settings(program, compiled(top), options.all, options.step, options.seconds)
         for folder in swept_folders(options.only):
-            for number, plain in WAYS:
+            for number, plain in ways:
                 kinds, found = sweep(settings, folder, number, plain, os.path.join(top, "case"))
                 name = f"{os.path.relpath(folder, os.path.join(HERE, 'cases'))}, workers {number}{', plain' * plain}"
                 counts = ", ".join(f"{count} times {kind}" for kind, count in sorted(kinds.items()))
