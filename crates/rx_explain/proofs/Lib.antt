@@ -1,6 +1,5 @@
 -- Lemmas of a claim retraced.
 pub mod Answered
-pub mod Claimed
 pub mod Counted
 pub mod Explanations
 pub mod Laws

@@ -1,8 +1,7 @@
--- In which part a text and a fill key are kept; and lists that are kept in parts.
+-- In which part a fill key is kept; and events that are kept in parts.
 use Rattle.std.specs.Prelude.{◌≡◌, ℕ, ◌+◌, ◌*◌, ◌%◌, ◌<◌, ◌==◌, List, Vec, get_or, length}
 use Rattle.std.specs.List.{filter, fold}
 use Rattle.rx_fields.specs.declared.key.Key.{Key}
-use Rattle.rx_ledger.specs.declared.row.Row.{Row}
 use Rattle.rx_explain.specs.declared.events.Event.{Event}
 
 -- so many parts
@@ -25,9 +24,3 @@ pub record AreEventParts {Z : Type 0} (parts : List (Vec Event Z)) (events : Lis
   pub as_many : length parts ≡ parts_count
   pub own : (part : ℕ) (d : Vec Event Z) → part < parts_count
       → (get_or parts part d).items ≡ filter (λ e. part_of_key e.key == part) events
-
--- each part has its own of the claims, in their order
-pub record AreClaims (rows : List Row) (parts : List (List Row)) : Type 0 where
-  pub as_many : length parts ≡ parts_count
-  pub own : (part : ℕ) (d : List Row) → part < parts_count
-      → get_or parts part d ≡ filter (λ r. part_of_text r.family == part) rows

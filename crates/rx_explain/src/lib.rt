@@ -15,7 +15,6 @@
 mod advancing;
 mod at;
 mod case;
-mod claims;
 mod deciding;
 mod events;
 mod explanation;
@@ -29,7 +28,6 @@ mod workings;
 
 pub use at::At;
 pub use case::{Case, Payment};
-pub use claims::Claims;
 pub use events::{Change, Event, Events};
 pub use explanation::{Explanation, explain, explain_on};
 pub use finding::{Wanted, find};
