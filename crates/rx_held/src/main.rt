@@ -17,16 +17,17 @@ mod gate;
 use gate::Meeting;
 use rx_devices::{ReaderSource, WriterSink};
 use rx_switch::{Device, IoFault, run_io, told};
-use rx_words::{Command, RunWords, command};
+use rx_words::{Command, RunWords, WordsFault, command};
 use std::fs::{File, OpenOptions};
 use std::process::ExitCode;
 use std::sync::Wait;
 use std::thread::Threads;
-use std::{env, fs};
+use std::{env, fs, io};
 
 fn main(rt: HostRuntime) -> ExitCode {
-    let Ok(given) = env::args(&rt) else {
-        return ExitCode::from(2);
+    let given = match env::args(&rt) {
+        Ok(given) => given,
+        Err(error) => return status_of_words(error.kind() == io::ErrorKind::OutOfMemory),
     };
     let mut place = None;
     let mut words = Vec::new(rt.alloc());
@@ -42,8 +43,14 @@ fn main(rt: HostRuntime) -> ExitCode {
             let gate = Meeting::of_the_first_with(place);
             status_of(&rt, &gate, held_up(&rt, &rt, &gate, &words))
         }
-        _ => ExitCode::from(2),
+        (_, Err(WordsFault::Memory)) => status_of_words(true),
+        _ => status_of_words(false),
     }
+}
+
+// The exit status where the words can't be had, or aren't understood.
+fn status_of_words(lacks_memory: bool) -> ExitCode {
+    ExitCode::from(if lacks_memory { 1 } else { 2 })
 }
 
 // Tells what passed the gate, or the fault.
