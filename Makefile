@@ -38,7 +38,8 @@ cases: kit
 	python3 tests/run_report.py $(PROGRAM)
 	test -x $(HELD) || (cd crates/rx_held && rt run > /dev/null || true)
 	python3 tests/run_held.py $(HELD)
-	if command -v cc > /dev/null; then python3 tests/refused_memory.py $(PROGRAM); fi
+	if command -v cc > /dev/null; then python3 tests/refused_memory.py $(PROGRAM) && \
+	  python3 tests/refused_memory.py "$(HELD) 0" --workers 2; fi
 
 demo: kit
 	cd crates/rxbatch && rt run -- sample
