@@ -28,6 +28,8 @@ const ROUNDS: u32 = 5;
 
 const MOST: usize = 100_000;
 
+const PARTS: usize = 4;
+
 fn main(rt: HostRuntime) -> io::Result<()> {
     let mut words = env::args(&rt)?;
     let _program = words.next();
@@ -98,24 +100,26 @@ fn run<R: Print + Clock + Threads + Sync>(
         return Ok(None);
     };
     watch.lap(rt, "brought to the period")?;
-    opened(rt, alloc, &mut watch, &books, &asked)?;
+    opened(rt, alloc, &mut watch, &books, 1, &asked)?;
+    opened(rt, alloc, &mut watch, &books, PARTS, &asked)?;
     finished(rt, alloc, watch, job, &sheet, &batch, books, &asked)
 }
 
-// Opens a copy of the books for the batch, and closes it.
-fn opened<R: Print + Clock>(
+// Opens a copy of the books for the batch in so many parts, and closes it.
+fn opened<R: Print + Clock + Threads + Sync>(
     rt: &R,
     alloc: Global,
     watch: &mut Watch,
     books: &Books,
+    parts: usize,
     asked: &[Transmission],
 ) -> io::Result<()> {
     let Ok(copy) = books.copy(alloc, books.period()) else {
         return Ok(());
     };
     watch.lap(rt, "books copied")?;
-    let order = InOrder::new(alloc, copy, asked);
-    watch.lap(rt, "copy opened")?;
+    let order = InOrder::new_in_parts(rt, alloc, parts, copy, asked);
+    watch.lap(rt, if parts > 1 { "copy opened in 4 parts" } else { "copy opened" })?;
     drop(order);
     watch.lap(rt, "copy dropped")
 }

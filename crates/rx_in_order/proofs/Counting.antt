@@ -118,7 +118,7 @@ count_there fills k i x rise at is =
 
 -- ---- counts follow the rows
 
-module _ (counted : Course → Bool) (members : List Member) (rows after : List Row) (fills : List Fill) (r : Row)
+module _ (counted : FillKey → Bool) (members : List Member) (rows after : List Row) (fills : List Fill) (r : Row)
     (is : AreCounted counted members rows fills) where
   -- where the rows have one more, and where they have one less
   pub AreCounted-tallied : ((k : FillKey) → fills_in members after k ≡ fills_in members rows k + one_of members k r)
@@ -177,9 +177,9 @@ positive n is = grind (arith, nat_tests)
 is_positive : (n : ℕ) → 0 < n → nat_lt 0 n ≡ true
 is_positive n some = grind (arith, nat_tests)
 
-module _ (counted : Course → Bool) (members : List Member) (rows : List Row) (fills : List Fill) (found : FillKey → Bool)
+module _ (counted : FillKey → Bool) (members : List Member) (rows : List Row) (fills : List Fill) (found : FillKey → Bool)
     (rise : IsAscending fill_cmp fill_key fills) (is : AreCounted counted members rows fills)
-    (own : (k : FillKey) → found k ≡ true → counted k.course ≡ true) where
+    (own : (k : FillKey) → found k ≡ true → counted k ≡ true) where
   abbrev standing : Fill → Bool
   standing f = nat_lt 0 f.count && found f.key
 
@@ -234,22 +234,22 @@ count_among-none (x ∷ xs) none k =
     omega (arith, first, rest, sum_by-cons (λ (e : Entry). count_of k e.fill) x xs)
 
 -- what is found so far, with the rows from r on, is all
-module _ (members : List Member) (counted : Course → Bool) (found : List Entry) (all : FillKey → ℕ) (rest left : List Row)
+module _ (members : List Member) (counted : FillKey → Bool) (found : List Entry) (all : FillKey → ℕ) (rest left : List Row)
     (r : Row) (is : rest ≡ r ∷ left)
-    (finding : (k : FillKey) → counted k.course ≡ true → count_among found k + fills_in members rest k ≡ all k) where
+    (finding : (k : FillKey) → counted k ≡ true → count_among found k + fills_in members rest k ≡ all k) where
   next_is : (k : FillKey) → fills_in members rest k ≡ one_of members k r + fills_in members left k
   next_is k = ap (λ rows. fills_in members rows k) is ∙ sum_by-cons (one_of members k) r left
 
   pub finding-pushed : (more : List Entry)
       → ((k : FillKey) → count_among more k ≡ count_among found k + one_of members k r)
-      → (k : FillKey) → counted k.course ≡ true → count_among more k + fills_in members left k ≡ all k
+      → (k : FillKey) → counted k ≡ true → count_among more k + fills_in members left k ≡ all k
   finding-pushed more pushed k own =
       let so_far = finding k own in
       let next = next_is k in
       let one = pushed k in
       omega (arith, so_far, next, one)
 
-  pub finding-skipped : counted (fill_of members r).course ≡ false → (k : FillKey) → counted k.course ≡ true
+  pub finding-skipped : counted (fill_of members r) ≡ false → (k : FillKey) → counted k ≡ true
       → count_among found k + fills_in members left k ≡ all k
   finding-skipped stranger k own =
       let so_far = finding k own in
@@ -258,7 +258,7 @@ module _ (members : List Member) (counted : Course → Bool) (found : List Entry
         | inl tied ↦
             let same : fill_of members r ≡ k = fill_exact (fill_of members r) k (Equal-from_is_eq _ tied) in
             absurd (let e : false ≡ true =
-            sym stranger ∙ ap (λ (x : FillKey). counted x.course) same ∙ own in cc)
+            sym stranger ∙ ap counted same ∙ own in cc)
         | inr apart ↦ rw apart refl
       ] in
       omega (arith, so_far, next, other)

@@ -7,7 +7,7 @@ use Rattle.std.specs.Ordering.{int_cmp, is_eq, is_le, is_lt, ordering_then}
 use Rattle.std.specs.Prelude.{int_lt}
 use Rattle.std.specs.declared.cmp.Ordering.{Ordering}
 use Rattle.std.specs.declared.cmp.Ordering.TheVariants.{Less, Equal, Greater}
-use Rattle.std.proofs.Math.Nat.{mul-le-mul_right}
+use Rattle.std.proofs.Math.Nat.{mul-le-mul_left, mul-le-mul_right}
 use Rattle.std.proofs.lemmas.Bool.{and_parts, cases_Bool, cases_lt}
 use Rattle.std.proofs.lemmas.Bool.Decides.{Decides-eqb}
 use Rattle.std.proofs.lemmas.Cmp.{tied_itself}
@@ -29,8 +29,9 @@ use Rattle.rx_ledger.specs.Rows.{claimed_by, member_of_row}
 use Rattle.rx_in_order.specs.declared.fill.Course.{Course}
 use Rattle.rx_in_order.specs.declared.fill.Fill.{Fill}
 use Rattle.rx_in_order.specs.declared.fill.FillKey.{FillKey}
+use Rattle.rx_in_order.specs.declared.fill.FirstDay.{FirstDay}
 use Rattle.rx_in_order.specs.declared.refill.Refill.{Refill}
-use Rattle.rx_in_order.specs.Fills.{are_left, concerns, counts, course_cmp, fill_cmp, fill_key, fill_of, is_early, is_not_past, is_own, refill_of, when_cmp}
+use Rattle.rx_in_order.specs.Fills.{are_left, concerns, counts, course_cmp, fill_cmp, fill_key, fill_of, is_early, is_not_past, is_own, lasts, refill_of, when_cmp}
 use Rattle.rx_in_order.proofs.Counting.{course_exact, course_total, fill_total}
 use Rattle.rx_in_order.proofs.Holders.{by_holder}
 
@@ -87,6 +88,14 @@ still_left at earlier later days longest percent le short left =
 no_later : (a b : ℤ) → (int_cmp a b ≡ Less) ⊎ (int_cmp a b ≡ Equal) → a ≤ℤ b
 no_later a b (inl less) = grind (arith, ints, tests)
 no_later a b (inr tied) = grind (arith, ints, tests)
+
+-- a supply of which fewer than a percentage is over at a day lasts on each day before
+pub still_lasts : (day at number : ℤ) (days percent : ℕ) → day ≤ℤ at → percent ≤ 100
+    → int_lt ((at -ℤ number) *ℤ pos 100) (pos (days * percent)) ≡ true
+    → int_lt ((day -ℤ number) *ℤ pos 100) (pos (days * 100)) ≡ true
+still_lasts day at number days percent le most left =
+    let more = mul-le-mul_left days most in
+    grind (arith, ints, tests)
 
 -- ---- where fills stand
 
@@ -230,6 +239,14 @@ concerned_row figures date b ms i r rise at =
     let left : Bool = int_lt ((day_number date -ℤ day_number r.key.date) *ℤ pos 100) (pos (r.days * figures.refill_percent)) in
     ap (λ t. t && (r.product == b.product) && dated && left) own
     ∙ and_moved (is_same r.family b.family) (is_same r.person b.person) (r.product == b.product) dated left
+
+-- a fill that concerns a refill of the first day or later lasts on that day
+pub concerned_lasts : (f : Refill) (first : FirstDay) (k : FillKey) → first.number ≤ℤ f.number → f.percent ≤ 100
+    → concerns f k ≡ true → lasts first k.when ≡ true
+concerned_lasts f first k le most h =
+    let dated : Bool = is_own f k && is_le (day_cmp k.when.date f.date) in
+    let parts = and_parts dated (are_left f k.when.number k.when.days) h in
+    still_lasts first.number f.number k.when.number k.when.days f.percent le most parts.1
 
 -- a fill that concerns a refill is of its course
 pub concerned_course : (f : Refill) (k : FillKey) → concerns f k ≡ true → k.course ≡ f.course

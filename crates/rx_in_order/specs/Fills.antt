@@ -16,6 +16,7 @@ use Rattle.rx_in_order.specs.declared.fill.Course.{Course}
 use Rattle.rx_in_order.specs.declared.fill.Entry.{Entry}
 use Rattle.rx_in_order.specs.declared.fill.Fill.{Fill}
 use Rattle.rx_in_order.specs.declared.fill.FillKey.{FillKey}
+use Rattle.rx_in_order.specs.declared.fill.FirstDay.{FirstDay}
 use Rattle.rx_in_order.specs.declared.fill.When.{When}
 use Rattle.rx_in_order.specs.declared.refill.Refill.{Refill}
 
@@ -72,10 +73,10 @@ count_among entries k = sum_by (λ e. count_of k e.fill) entries
 abbrev pub count_at : List Fill → FillKey → ℕ
 count_at fills k = unwrap_or (option_map (λ f. f.count) (item_at fill_cmp fill_key fills k)) 0
 
--- the counts of these courses are those of the rows
-abbrev pub AreCounted : (Course → Bool) → List Member → List Row → List Fill → Type 0
+-- the counts of these fills are those of the rows
+abbrev pub AreCounted : (FillKey → Bool) → List Member → List Row → List Fill → Type 0
 AreCounted counted members rows fills =
-    (k : FillKey) → counted k.course ≡ true → count_at fills k ≡ fills_in members rows k
+    (k : FillKey) → counted k ≡ true → count_at fills k ≡ fills_in members rows k
 
 -- the counts with those of one more entry, and with one fill less where it has an entry
 abbrev pub tallied : List Fill → Fill → List Fill
@@ -95,6 +96,16 @@ mark_of marks c = ((c.holder * 11400714819323198485) % 2 ^ 64 + c.product) % 2 ^
 -- the course has a mark; others can have the same
 abbrev pub has_mark : List Bool → Course → Bool
 has_mark marks c = slice_index_or marks (mark_of (length marks) c) false
+
+-- ---- what is counted
+
+-- some days of the supply are left on the first day
+abbrev pub lasts : FirstDay → When → Bool
+lasts first w = int_lt ((first.number -ℤ w.number) *ℤ pos 100) (pos (w.days * 100))
+
+-- the fill is of a course that has a mark, and some of its days are left on the first day
+abbrev pub is_counted : List Bool → FirstDay → FillKey → Bool
+is_counted marks first k = lasts first k.when && has_mark marks k.course
 
 -- ---- a refill
 

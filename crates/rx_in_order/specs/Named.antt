@@ -1,6 +1,7 @@
 -- The fill keys that a batch names.
 use Rattle.std.specs.Prelude.{List, [], ◌∷◌}
-use Rattle.std.specs.List.{flat_map}
+use Rattle.std.specs.List.{Contains, flat_map}
+use Rattle.rx_fields.specs.Order.{key_cmp}
 use Rattle.rx_fields.specs.declared.key.Key.{Key}
 use Rattle.rx_claim.specs.declared.transaction.Transaction.{Transaction}
 use Rattle.rx_claim.specs.declared.transaction.Transaction.TheVariants.{Bill, Reverse, Faulty}
@@ -9,7 +10,9 @@ use Rattle.rx_claim.specs.declared.transmission.Body.TheVariants.{Rejected, Hear
 use Rattle.rx_claim.specs.declared.transmission.Heard.{Heard as HeardRecord}
 use Rattle.rx_claim.specs.declared.transmission.Transmission.{Transmission}
 use Rattle.rx_ledger.specs.Named.{key_in}
+use Rattle.rx_order.specs.Ascending.{IsAscending}
 use Rattle.rx_in_order.specs.declared.names.Named.{Named}
+use Rattle.rx_in_order.specs.declared.names.Names.{Names}
 
 -- the fill key of a transaction
 abbrev pub keys_of : HeardRecord → Transaction → List Key
@@ -25,6 +28,11 @@ keys_in (Heard h) = flat_map (keys_of h) h.list
 -- those of a batch
 abbrev pub keys_named : List Transmission → List Key
 keys_named transmissions = flat_map (λ t. keys_in t.body) transmissions
+
+-- keys in order, among which are those that a batch names
+pub record AreNames (transmissions : List Transmission) (names : Names) : Type 0 where
+  pub rise : IsAscending key_cmp (λ key. key) names.keys.items
+  pub keeps : (key : Key) → Contains (keys_named transmissions) key → Contains names.keys.items key
 
 -- a key that is named
 abbrev pub named_key : Named → Key

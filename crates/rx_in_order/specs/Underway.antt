@@ -1,5 +1,5 @@
 -- A batch underway: the books so far, and what was looked up for it once.
-use Rattle.std.specs.Prelude.{ℕ, ◌<◌, ◌≤◌, Bool, true, IfSome, List, Option, Some, length}
+use Rattle.std.specs.Prelude.{◌≡◌, ℕ, ◌<◌, ◌≤◌, Bool, true, IfSome, List, Option, Some, length}
 use Rattle.std.specs.List.{All}
 use Rattle.rx_fields.specs.Order.{key_cmp}
 use Rattle.rx_fields.specs.declared.key.Key.{Key}
@@ -11,7 +11,12 @@ use Rattle.rx_ledger.specs.Ledger.{Ledger, IsLedger}
 use Rattle.rx_books_kept.specs.LedgerBooks.{LedgerBooks}
 use Rattle.rx_books_kept.specs.OpenBooks.{OpenParts}
 use Rattle.rx_in_order.specs.declared.fill.Fill.{Fill}
-use Rattle.rx_in_order.specs.Fills.{AreCounted, has_mark}
+use Rattle.rx_in_order.specs.declared.prepared.Prepared.{Prepared}
+use Rattle.rx_in_order.specs.declared.billed.Billed.{Billed}
+use Rattle.rx_in_order.specs.declared.fill.Entry.{Entry}
+use Rattle.rx_in_order.specs.declared.fill.FillKey.{FillKey}
+use Rattle.rx_in_order.specs.declared.fill.FirstDay.{FirstDay}
+use Rattle.rx_in_order.specs.Fills.{AreCounted, count_among, fills_in, is_counted, lasts}
 
 -- the books, and the fill keys that have a slot
 pub record Underway : Type 0 where
@@ -40,11 +45,28 @@ IsAwaited u t = (L : Ledger) → HoldsRecord (scope_of u) L t.body
 abbrev pub IsHolder : List Member → Option ℕ → Type 0
 IsHolder members holder = IfSome holder (λ i. i < length members)
 
--- what is kept: books in order, the counts of the courses that have a mark, none of a longer fill than the longest, and
--- where members are listed
-pub record IsUnderway (o : OpenParts) (marks : List Bool) (fills : List Fill) (longest : ℕ) (holders : List (Option ℕ))
-    : Type 0 where
+-- what a batch bills: where members are listed, and entries that count nothing
+pub record IsBilled (members : List Member) (billed : Billed) : Type 0 where
+  pub holders : All (IsHolder members) billed.holders.items
+  pub own : All (λ e. e.fill.count ≡ 0) billed.own.items
+
+-- entries of the rows, as far as their fills last until the first day
+abbrev pub AreLasting : FirstDay → Ledger → List Entry → Type 0
+AreLasting first L entries =
+    (k : FillKey) → lasts first k.when ≡ true → count_among entries k ≡ fills_in L.members L.rows k
+
+-- what is looked up for a batch in a ledger: the counts of the fills of courses that have a mark, as far as they last until
+-- the first day, none of a longer fill than the longest, and where members are listed
+pub record IsPrepared (L : Ledger) (p : Prepared) : Type 0 where
+  pub counted : AreCounted (is_counted p.marks.items p.first_day) L.members L.rows p.fills
+  pub within : All (λ f. f.key.when.days ≤ p.longest) p.fills
+  pub near : All (IsHolder L.members) p.holders.items
+
+-- what is kept: books in order, the counts of the fills of courses that have a mark, as far as they last until the first day, none
+-- of a longer fill than the longest, and where members are listed
+pub record IsUnderway (o : OpenParts) (marks : List Bool) (first : FirstDay) (fills : List Fill) (longest : ℕ)
+    (holders : List (Option ℕ)) : Type 0 where
   pub in_order : IsLedger o.books.ledger
-  pub counted : AreCounted (has_mark marks) o.books.ledger.members o.books.ledger.rows fills
+  pub counted : AreCounted (is_counted marks first) o.books.ledger.members o.books.ledger.rows fills
   pub within : All (λ f. f.key.when.days ≤ longest) fills
   pub near : All (IsHolder o.books.ledger.members) holders

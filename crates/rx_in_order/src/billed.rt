@@ -1,11 +1,11 @@
-ghost use Rattle.std.specs.Prelude.{◌≡◌, ◌≤◌, IfOk, IfSome, OnOk};
+ghost use Rattle.std.specs.Prelude.{◌≡◌, ◌<◌, ◌≤◌, IfOk, IfSome, OnOk, length};
 ghost use Rattle.std.specs.List.{All};
-ghost use Rattle.rx_in_order.specs.Underway.{IsHolder};
+ghost use Rattle.rx_in_order.specs.Underway.{IsBilled, IsHolder};
 
-use crate::fill::{Course, Entry, Fill, FillKey, when_at};
+use crate::fill::{Course, Entry, Fill, FillKey, FirstDay, when_at};
 use rx_books_kept::OpenBooks;
 use rx_claim::{Body, Heard, Transaction, Transmission};
-use rx_fields::{Days, Memory};
+use rx_fields::{Days, Id, Memory, Person};
 use std::alloc::Global;
 
 /// Where the members of a batch's transactions are listed, in order, with None where there is none; where those of each
@@ -17,14 +17,26 @@ pub(crate) struct Billed {
     pub(crate) own: Vec<Entry>,
 }
 
+/// The first day on which a batch bills; the last day of all where it bills nothing.
+pub(crate) fn first_billed(transmissions: &[Transmission]) -> FirstDay {
+    let mut number = i32::MAX;
+    for transmission in transmissions {
+        if let Body::Heard(heard) = &transmission.body
+            && let Some(Transaction::Bill(_)) = heard.list.as_slice().first()
+        {
+            number = number.min(heard.date.number());
+        }
+    }
+    FirstDay { number }
+}
+
 /// What a batch bills of the members in books.
 pub(crate) fn billed_by(
     alloc: Global,
     books: &OpenBooks,
     transmissions: &[Transmission],
 ) -> Result<Billed, Memory>
-    ensures holders { IfOk result (λ found. All (IsHolder books.now.books.ledger.members) found.holders.items) }
-    ensures own { IfOk result (λ found. All (λ e. e.fill.count ≡ 0) found.own.items) }
+    ensures { IfOk result (IsBilled books.now.books.ledger.members) }
 {
     let mut found = Billed {
         holders: Vec::with_capacity(alloc, transmissions.len())?,
@@ -48,8 +60,10 @@ fn put_holders(found: &mut Billed, books: &OpenBooks, heard: &Heard) -> Result<(
     ensures own { OnOk result (All (λ e. e.fill.count ≡ 0) found.new.own.items) }
 {
     let list = heard.list.as_slice();
+    let mut before = None;
     for transaction in list {
-        let holder = holder_in(books, transaction);
+        let holder = holder_in(books, before, transaction);
+        before = holder;
         let at = found.holders.len();
         found.holders.push(holder)?;
         put_own(&mut found.own, own_fill(heard, transaction, holder), at)?;
@@ -57,17 +71,29 @@ fn put_holders(found: &mut Billed, books: &OpenBooks, heard: &Heard) -> Result<(
     Ok(())
 }
 
-// Where the member of a billing is listed.
-fn holder_in(books: &OpenBooks, transaction: &Transaction) -> Option<usize>
+// Where the member of a billing is listed: mostly where that of the transaction before it is.
+fn holder_in(books: &OpenBooks, before: Option<usize>, transaction: &Transaction) -> Option<usize>
+    requires { IsHolder books.now.books.ledger.members before }
     ensures { IsHolder books.now.books.ledger.members result }
 {
-    match transaction {
-        Transaction::Bill(bill) => {
-            let parts = bill.parts();
-            books.member_of(&parts.family, &parts.person)
-        }
-        Transaction::Reverse(_) | Transaction::Faulty(_) => None,
+    let Transaction::Bill(bill) = transaction else {
+        return None;
+    };
+    let parts = bill.parts();
+    if let Some(holder) = before
+        && is_member(books, holder, &parts.family, &parts.person)
+    {
+        return before;
     }
+    books.member_of(&parts.family, &parts.person)
+}
+
+// Whether the member at a place is this person of the family.
+fn is_member(books: &OpenBooks, holder: usize, family: &Id, person: &Person) -> bool
+    requires { holder < length books.now.books.ledger.members }
+{
+    let key = books.member_at(holder).key;
+    key.family == *family && key.person == *person
 }
 
 // An entry for the fill of a billing whose member is listed. It counts nothing yet.

@@ -35,6 +35,12 @@ pub(crate) struct Fill {
     pub(crate) count: u64,
 }
 
+/// The first day on which a batch bills, as a number. No fill that is over by then makes one of its own too soon.
+#[derive(Clone, Copy, Debug)]
+pub(crate) struct FirstDay {
+    pub(crate) number: i32,
+}
+
 /// An entry, and which transaction's it is, counted over all records; it is none's where it stands for a claim.
 #[derive(Clone, Copy, Debug)]
 pub(crate) struct Entry {

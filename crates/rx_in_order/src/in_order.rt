@@ -5,14 +5,14 @@ ghost use Rattle.rx_ledger.specs.Fold.{ledger_after, reply_to};
 ghost use Rattle.rx_ledger.specs.Ledger.{rows_of};
 ghost use Rattle.rx_ledger.specs.Members.{is_same};
 ghost use Rattle.rx_ledger.specs.TermList.{plan_of};
-ghost use Rattle.rx_in_order.specs.Underway.{IsAwaited, scope_of};
+ghost use Rattle.rx_in_order.specs.Underway.{IsAwaited, IsPrepared, scope_of};
 
-use crate::billed::{Billed, billed_by, longer, longest_of};
-use crate::counted::{Counts, counted};
-use crate::fill::{Fill, fill_at, lower, tally_near};
-use crate::marks::{has_mark, marks_of};
-use crate::names::{keys_named, slots_of, unique_keys};
+use crate::billed::longer;
+use crate::counted::are_counted_for;
+use crate::fill::{Fill, FirstDay, fill_at, lower, tally_near};
+use crate::names::{Names, names_of, slots_of};
 use crate::near::near_of;
+use crate::prepared::{Prepared, names_beside, prepare};
 use crate::refill::Refill;
 use crate::used::used_at;
 use rx_books_kept::{Books, OpenBooks};
@@ -22,6 +22,10 @@ use rx_ledger::{Basis, Figures, Member, MemberKey, Row, Terms, Used, answer_reco
 use rx_order::Ascending;
 use std::alloc::Global;
 use std::marker::Model;
+use std::thread::Threads;
+
+// The fewest records that are worth a thread.
+const FEWEST: usize = 4096;
 
 /// Books on which the records of a batch are adjudicated one after another. Contracts see the books so far, and the fill
 /// keys that the batch names.
@@ -37,9 +41,10 @@ pub struct InOrder {
     // They are compared too.
     pub(crate) slots: Vec<usize>,
     pub(crate) own: Vec<usize>,
-    // The fills of the courses that have a mark, each with how many standing claims are such fills, and the longest days
-    // supply of all.
+    // The fills of the courses that have a mark, as far as days of them are left on the first day, each with how many
+    // standing claims are such fills, and the longest days supply of all.
     pub(crate) marks: Vec<bool>,
+    pub(crate) first_day: FirstDay,
     pub(crate) fills: Ascending<Fill>,
     pub(crate) longest: Days,
 }
@@ -51,7 +56,7 @@ impl Model for InOrder {
 
     ghost view = { λ o. record { books = o.books.books; slots = o.books.slots } };
 
-    ghost invariant = { λ o. IsUnderway o.books o.marks.items o.fills o.longest o.holders.items };
+    ghost invariant = { λ o. IsUnderway o.books o.marks.items o.first_day o.fills o.longest o.holders.items };
 }
 
 impl InOrder {
@@ -65,18 +70,55 @@ impl InOrder {
         ensures same { IfOk result (λ order. order.books ≡ books) }
         ensures awaited { IfOk result (λ order. All (IsAwaited order) transmissions.now) }
     {
-        let mut named = keys_named(alloc, transmissions)?;
-        let keys = unique_keys(alloc, &mut named)?;
-        let books = books.open(alloc, &keys)?;
-        let Billed {
+        let names = names_of(alloc, transmissions)?;
+        let books = books.open(alloc, &names.keys)?;
+        let prepared = prepare(alloc, &books, transmissions)?;
+        let order = InOrder::of(alloc, books, &names, prepared)?;
+        Ok(order)
+    }
+
+    /// The same, where the batch is looked through in so many parts beside one another, by threads of their own; one part,
+    /// or a batch of few records, starts no thread.
+    pub fn new_in_parts<R: Threads + Sync>(
+        rt: &R,
+        alloc: Global,
+        parts: usize,
+        books: Books,
+        transmissions: &[Transmission],
+    ) -> Result<InOrder, Memory>
+        ensures same { IfOk result (λ order. order.books ≡ books) }
+        ensures awaited { IfOk result (λ order. All (IsAwaited order) transmissions.now) }
+    {
+        if parts < 2 || transmissions.len() < FEWEST {
+            return InOrder::new(alloc, books, transmissions);
+        }
+        let unnamed = books.open(alloc, &[])?;
+        let (names, prepared) = names_beside(rt, alloc, &unnamed, transmissions)?;
+        let books = unnamed.close().open(alloc, &names.keys)?;
+        let order = InOrder::of(alloc, books, &names, prepared)?;
+        Ok(order)
+    }
+
+    // Open books with the slots of these names, and what is looked up for a batch in them.
+    fn of(
+        alloc: Global,
+        books: OpenBooks,
+        names: &Names,
+        prepared: Prepared,
+    ) -> Result<InOrder, Memory>
+        requires { IsPrepared books.books.ledger prepared }
+        ensures { IfOk result (λ order. order ≡ record { books = books.books; slots = books.slots }) }
+    {
+        let Prepared {
             holders,
             firsts,
-            own,
-        } = billed_by(alloc, &books, transmissions)?;
-        let slots = slots_of(alloc, &named, &keys, holders.len())?;
-        let marks = marks_of(alloc, &own)?;
-        let Counts { fills, places } = counted(alloc, &books, &marks, own, holders.len())?;
-        let longest = longest_of(fills.as_slice());
+            places,
+            marks,
+            first_day,
+            fills,
+            longest,
+        } = prepared;
+        let slots = slots_of(alloc, names, holders.len())?;
         let _in_order = books.standing();
         Ok(InOrder {
             books,
@@ -86,6 +128,7 @@ impl InOrder {
             slots,
             own: places,
             marks,
+            first_day,
             fills,
             longest,
         })
@@ -175,7 +218,7 @@ impl Basis for InOrder {
         };
         let refill = Refill::of(figures, date, bill, holder);
         let _in_order = self.fills.as_slice();
-        if has_mark(&self.marks, &refill.course) {
+        if are_counted_for(&self.marks, self.first_day, &refill) {
             return refill.is_too_soon(&self.fills, near_of(&self.own, self.at), self.longest);
         }
         is_any_row_too_soon(&self.books, figures, date, bill)

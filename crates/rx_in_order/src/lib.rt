@@ -23,8 +23,12 @@ mod in_order;
 mod marks;
 mod names;
 mod near;
+mod prepared;
 mod refill;
 mod used;
 
 pub use finished::Finished;
 pub use in_order::InOrder;
+
+#[cfg(test)]
+mod tests;

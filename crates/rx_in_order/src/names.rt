@@ -3,24 +3,39 @@ ghost use Rattle.std.specs.List.{Contains, flat_map};
 ghost use Rattle.rx_fields.specs.Order.{key_cmp};
 ghost use Rattle.rx_fields.specs.declared.key.Key.{Key};
 ghost use Rattle.rx_order.specs.Ascending.{IsAscending};
-ghost use Rattle.rx_in_order.specs.Named.{keys_named, keys_of, named_key};
+ghost use Rattle.rx_in_order.specs.Named.{AreNames, keys_named, keys_of, named_key};
 
 use rx_claim::{Body, Heard, Transaction, Transmission};
 use rx_fields::{Key, Memory};
 use std::alloc::Global;
 
-/// A fill key that a batch names, and which of its transactions does, counted over all records.
-#[derive(Clone, Copy, Debug, PartialEq, Eq, PartialOrd, Ord)]
+/// A fill key that a batch names, and which of its transactions does, counted over all records. By their ranks most keys
+/// are in order.
+#[derive(Clone, Copy, Debug)]
 pub(crate) struct Named {
+    pub(crate) rank: u128,
     pub(crate) key: Key,
     pub(crate) transaction: usize,
 }
 
-/// The fill keys that a batch names, in the order in which it does.
-pub(crate) fn keys_named(
-    alloc: Global,
-    transmissions: &[Transmission],
-) -> Result<Vec<Named>, Memory>
+/// The fill keys of a batch in order, each once; and those that it names, mostly in the same order.
+#[derive(Debug, Drop)]
+pub(crate) struct Names {
+    pub(crate) keys: Vec<Key>,
+    pub(crate) named: Vec<Named>,
+}
+
+/// The names of a batch.
+pub(crate) fn names_of(alloc: Global, transmissions: &[Transmission]) -> Result<Names, Memory>
+    ensures { IfOk result (AreNames transmissions.now) }
+{
+    let mut named = keys_named(alloc, transmissions)?;
+    let keys = unique_keys(alloc, &mut named)?;
+    Ok(Names { keys, named })
+}
+
+// The fill keys that a batch names, in the order in which it does.
+fn keys_named(alloc: Global, transmissions: &[Transmission]) -> Result<Vec<Named>, Memory>
     ensures { IfOk result (λ named. map named_key named.items ≡ keys_named transmissions.now) }
 {
     let mut named = Vec::with_capacity(alloc, transmissions.len())?;
@@ -69,20 +84,31 @@ fn put_key(
         date: heard.date,
     };
     named.push(Named {
+        rank: rank_of(&key),
         key,
         transaction: at,
     })?;
     Ok(())
 }
 
-/// The fill keys in order, each once. From then on those that are named are in this order too.
-pub(crate) fn unique_keys(alloc: Global, named: &mut Vec<Named>) -> Result<Vec<Key>, Memory>
+// A number by which most keys are in order: 88 bits for the first eleven bytes of the pharmacy's id, and 40 for the
+// reference number. Nothing is promised of it: keys in another order are sorted again.
+fn rank_of(key: &Key) -> u128 {
+    let mut first = [0u8; 16];
+    for (to, byte) in first.iter_mut().zip(key.provider.bytes()) {
+        *to = *byte;
+    }
+    ((u128::from_be_bytes(first) >> 40) << 40) | u128::from(key.reference.get())
+}
+
+// The fill keys in order, each once. From then on most of those that are named are in this order too.
+fn unique_keys(alloc: Global, named: &mut Vec<Named>) -> Result<Vec<Key>, Memory>
     ensures rise { IfOk result (λ unique. IsAscending key_cmp (λ key. key) unique.items) }
     ensures keeps { IfOk result (λ unique. (key : Key) → Contains (map named_key named.old.items) key → Contains unique.items key) }
 {
-    named.sort_unstable();
+    named.sort_unstable_by_key(|name| name.rank);
     let mut keys = only_keys(alloc, named)?;
-    // They are in order by now, and the sort sees that in one pass.
+    // Mostly they are in order by now, and the sort sees that in one pass.
     keys.sort()?;
     keys.dedup();
     Ok(keys)
@@ -99,14 +125,14 @@ fn only_keys(alloc: Global, named: &[Named]) -> Result<Vec<Key>, Memory>
     Ok(keys)
 }
 
-/// Where the fill key of each of so many transactions probably is among the keys. Both lists are in order. It promises
-/// nothing: the key that is found there is compared.
+/// Where the fill key of each of so many transactions probably is among the keys. Both lists are mostly in one order. It
+/// promises nothing: the key that is found there is compared.
 pub(crate) fn slots_of(
     alloc: Global,
-    named: &[Named],
-    keys: &[Key],
+    names: &Names,
     transactions: usize,
 ) -> Result<Vec<usize>, Memory> {
+    let Names { keys, named } = names;
     let mut slots = vec![in alloc; 0usize; transactions]?;
     let mut at = 0usize;
     for name in named {

@@ -151,8 +151,8 @@ impl Refill {
     }
 }
 
-// Whether fewer than the percentage of so many days from one day on are over at another.
-fn are_left(at: i32, from: i32, days: Days, percent: u64) -> bool
+/// Whether fewer than the percentage of so many days from one day on are over at another.
+pub(crate) fn are_left(at: i32, from: i32, days: Days, percent: u64) -> bool
     requires { percent ≤ 100 }
     ensures { result ≡ int_lt ((at -ℤ from) *ℤ pos 100) (pos (days * percent)) }
 {

@@ -1,5 +1,7 @@
 ghost use Rattle.std.specs.Prelude.{◌≡◌, ◌≤◌, IfOk, length};
+ghost use Rattle.std.specs.List.{All};
 ghost use Rattle.rx_ledger.specs.Fold.{fold_ledger, fold_replies};
+ghost use Rattle.rx_in_order.specs.Underway.{IsAwaited};
 
 use crate::gate::Gate;
 use rx_books_kept::Books;
@@ -8,6 +10,7 @@ use rx_fields::{Lot, Memory};
 use rx_in_order::{Finished, InOrder};
 use rx_ledger::Sheet;
 use std::alloc::Global;
+use std::thread::Threads;
 
 /// Adjudicates a batch's records one after another in file order, on a copy of the books: the books after them, and a
 /// reply to each (docs/PRODUCT.md, "Rules of adjudication"). The gate is passed before and after each record; no worker
@@ -50,7 +53,54 @@ pub fn run_one_on<G: Gate>(
     ensures replies { IfOk result (λ finished.
         finished.replies.items ≡ fold_replies lot sheet.now 1 transmissions.now books.ledger) }
 {
-    let mut order = InOrder::new(alloc, books, transmissions)?;
+    let order = InOrder::new(alloc, books, transmissions)?;
+    adjudicated(gate, alloc, lot, sheet, order, transmissions)
+}
+
+/// The same as `run_one`, where the batch is looked through beforehand in so many parts beside one another.
+pub(crate) fn run_one_in_parts<R: Threads + Sync, G: Gate>(
+    rt: &R,
+    alloc: Global,
+    gate: &G,
+    parts: usize,
+    lot: Lot,
+    sheet: &Sheet,
+    books: &Books,
+    transmissions: &[Transmission],
+) -> Result<Finished, Memory>
+    requires { length transmissions.now ≤ 100_000 }
+    ensures books { IfOk result (λ finished. finished.books ≡ record {
+      period = sheet.now.figures.period;
+      ledger = fold_ledger lot sheet.now 1 transmissions.now books.now.ledger;
+    }) }
+    ensures replies { IfOk result (λ finished.
+        finished.replies.items ≡ fold_replies lot sheet.now 1 transmissions.now books.now.ledger) }
+{
+    let copy = books.copy(alloc, sheet.period())?;
+    let order = InOrder::new_in_parts(rt, alloc, parts, copy, transmissions)?;
+    adjudicated(gate, alloc, lot, sheet, order, transmissions)
+}
+
+// Adjudicates the records one after another on books that are open for them.
+fn adjudicated<G: Gate>(
+    gate: &G,
+    alloc: Global,
+    lot: Lot,
+    sheet: &Sheet,
+    order: InOrder,
+    transmissions: &[Transmission],
+) -> Result<Finished, Memory>
+    requires period { order.books.period ≡ sheet.now.figures.period }
+    requires few { length transmissions.now ≤ 100_000 }
+    requires awaited { All (IsAwaited order) transmissions.now }
+    ensures books { IfOk result (λ finished. finished.books ≡ record {
+      period = sheet.now.figures.period;
+      ledger = fold_ledger lot sheet.now 1 transmissions.now order.books.ledger;
+    }) }
+    ensures replies { IfOk result (λ finished.
+        finished.replies.items ≡ fold_replies lot sheet.now 1 transmissions.now order.books.ledger) }
+{
+    let mut order = order;
     let mut replies = Vec::with_capacity(alloc, transmissions.len())?;
     for (at, transmission) in transmissions.iter().enumerate() {
         let place = at + 1;

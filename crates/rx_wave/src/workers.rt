@@ -6,7 +6,7 @@ use crate::counter::{Counter, DeskCounter, Turn};
 use crate::craft::{Adjudicates, Craft};
 use crate::gain::may_gain;
 use crate::gate::Gate;
-use crate::in_order::run_one;
+use crate::in_order::{run_one, run_one_in_parts};
 use crate::run_fault::RunFault;
 use rx_adjudicate::{Done, Order};
 use rx_books_kept::Books;
@@ -69,7 +69,8 @@ pub fn run_waves<R: Threads + Wait + Sync, G: Gate + Sync>(
         if refuses_one(gate, workers as usize) {
             return Err(RunFault::Thread);
         }
-        return Ok(run_one(gate, alloc, lot, sheet, books, transmissions)?);
+        let parts = workers as usize;
+        return Ok(run_one_in_parts(rt, alloc, gate, parts, lot, sheet, books, transmissions)?);
     }
     let desk = desk_of(alloc, lot, sheet, books, transmissions)?;
     let desk = worked_off(rt, alloc, gate, &Adjudicates, workers, desk)?;

@@ -8,4 +8,5 @@ invariant-loop-transaction l =
     record {
       holders : All (IsHolder l.books.books.ledger.members) l.found.holders.items;
       own : All (λ e. e.fill.count ≡ 0) l.found.own.items;
+      before : IsHolder l.books.books.ledger.members l.before;
     }

@@ -17,9 +17,9 @@ returns-clause-rise c =
 pub returns-clause-keeps : goal.returns-clause-keeps
 returns-clause-keeps c = λ key there.
     let given = map named_key c.args.named.now.items in
-    let named = map named_key c.sort_unstable.new.self.items in
-    let moved = IsPermutation-map named_key c.args.named.now.items c.sort_unstable.new.self.items
-    c.sort_unstable.ensures.permutation in
+    let named = map named_key c.sort_unstable_by_key.new.self.items in
+    let moved = IsPermutation-map named_key c.args.named.now.items c.sort_unstable_by_key.new.self.items
+    c.sort_unstable_by_key.ensures.permutation in
     let among = Contains-permutation given named key moved there in
     unique_keeps key_cmp key_total key_exact same.eq key_decides c.in_ok-keys.keys.items c.sort.new.self.items c.dedup.new.self.items
     c.in_ok-sort.ensures.permutation c.in_ok-sort.ensures.sorted c.dedup.ensures.filtered key

@@ -10,7 +10,7 @@ use Rattle.rx_ledger.proofs.Ledgers.{IsLedger-with_row}
 use Rattle.rx_ledger.proofs.Orders.{key_total}
 use Rattle.rx_in_order.specs.declared.fill.Fill.{Fill}
 use Rattle.rx_in_order.specs.declared.fill.FillKey.{FillKey}
-use Rattle.rx_in_order.specs.Fills.{fill_of, has_mark, one_of, tallied}
+use Rattle.rx_in_order.specs.Fills.{fill_of, is_counted, one_of, tallied}
 use Rattle.rx_in_order.proofs.Counting.{AreCounted-tallied}
 use Rattle.rx_in_order.proofs.Holders.{at_row}
 use Rattle.rx_in_order.proofs.Longest.{within_longer, within_tallied}
@@ -42,7 +42,7 @@ invariant_of-self-2 c =
     let tallied_is = c.in_ok-tally_near.ensures.ok ∙ ap (λ k. tallied o.fills (made k)) key in
     let longer = within_longer o.longest c.longer-self-inside.result o.fills c.longer-self-inside.ensures.first
     c.self.invariant.within in
-    let counted = AreCounted-tallied (has_mark o.marks.items) L.members L.rows (with_row L r).rows o.fills r
+    let counted = AreCounted-tallied (is_counted o.marks.items o.first_day) L.members L.rows (with_row L r).rows o.fills r
     c.self.invariant.counted
     (λ k. sum_by-put_free key_cmp key_total row_key (one_of L.members k) L.rows r none) in
     rw (c.add.ensures, tallied_is)

@@ -7,13 +7,13 @@ use Rattle.rx_ledger.specs.Answers.{is_too_soon}
 use Rattle.rx_ledger.specs.Rows.{claimed_by}
 use Rattle.rx_ledger.proofs.Found.{any_of_passed}
 use Rattle.rx_in_order.specs.declared.refill.Refill.{Refill}
-use Rattle.rx_in_order.specs.Fills.{concerns, fill_of, has_mark, refill_of}
+use Rattle.rx_in_order.specs.Fills.{concerns, fill_of, is_counted, refill_of}
 use Rattle.rx_in_order.proofs.Counting.{any_filled}
-use Rattle.rx_in_order.proofs.Refills.{concerned_course, concerned_row}
+use Rattle.rx_in_order.proofs.Refills.{concerned_row}
 use Rattle.rx_in_order.proofs.in_order.InOrderBasis.is_too_soon.Goals as goal
 
-pub returns-then-has_mark : goal.returns-then-has_mark
-returns-then-has_mark c =
+pub returns-then-are_counted_for : goal.returns-then-are_counted_for
+returns-then-are_counted_for c =
     let L = c.self.inside.books.books.ledger in
     let figures = c.args.figures.now in
     let date = c.args.date in
@@ -21,11 +21,10 @@ returns-then-has_mark c =
     let i = c.in-Some.holder in
     let f : Refill = refill_of figures date b i in
     let found = rw (← c.self.view_is, c.parts-parts.ensures) at c.in-Some.ensures.found in
-    let marked : has_mark c.self.inside.marks.items f.course ≡ true =
-    sym (rw (c.deref.ensures.value, c.of-refill.ensures) at c.has_mark.ensures) ∙ c.if-has_mark.true in
-    let filled = any_filled (has_mark c.self.inside.marks.items) L.members L.rows c.self.inside.fills (concerns f)
-    c.as_slice-in_order.ensures.ascending c.self.invariant.counted
-    (λ k h. ap (has_mark c.self.inside.marks.items) (concerned_course f k h) ∙ marked) in
+    let covers = rw (c.deref.ensures.value, c.of-refill.ensures) at c.are_counted_for.ensures in
+    let filled = any_filled (is_counted c.self.inside.marks.items c.self.inside.first_day) L.members L.rows
+    c.self.inside.fills (concerns f) c.as_slice-in_order.ensures.ascending c.self.invariant.counted
+    (covers c.if-are_counted_for.true) in
     let of_fill : Row → Bool = λ r. concerns f (fill_of L.members r) in
     let of_row : Row → Bool = λ r. claimed_by b.family r && is_too_soon figures date b r in
     let same : of_fill ≡ of_row = λ j r.

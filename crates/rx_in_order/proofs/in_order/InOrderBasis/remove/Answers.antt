@@ -9,7 +9,7 @@ use Rattle.rx_ledger.specs.Rows.{member_of_row, row_key}
 use Rattle.rx_ledger.proofs.Ledgers.{IsLedger-without_row}
 use Rattle.rx_ledger.proofs.Orders.{key_total}
 use Rattle.rx_ledger.proofs.Passed.{passed_found}
-use Rattle.rx_in_order.specs.Fills.{fill_of, has_mark, lowered, one_of}
+use Rattle.rx_in_order.specs.Fills.{fill_of, is_counted, lowered, one_of}
 use Rattle.rx_in_order.proofs.Counting.{AreCounted-lowered}
 use Rattle.rx_in_order.proofs.Holders.{at_row}
 use Rattle.rx_in_order.proofs.Longest.{within_lowered}
@@ -40,7 +40,7 @@ invariant_of-self c =
     let at = rw c.remove-row.ensures.books at c.in-Some-member_of.ensures.found in
     let key = c.fill_at.ensures ∙ at_row L.members r c.in-Some-member_of.holder c.self.invariant.in_order.members_rise at in
     let lowered_is = c.lower.ensures ∙ ap (λ k. lowered o.fills k) key in
-    let counted = AreCounted-lowered (has_mark o.marks.items) L.members L.rows (without_row L r.key).rows o.fills r
+    let counted = AreCounted-lowered (is_counted o.marks.items o.first_day) L.members L.rows (without_row L r.key).rows o.fills r
     c.self.invariant.counted
     (λ k. sum_by-without key_cmp key_total row_key (one_of L.members k) L.rows r.key r c.self.invariant.in_order.rows_rise
     c.remove-row.ensures.row) in

@@ -1,14 +1,14 @@
 -- What is found so far, with the fills of the rows still to come, is what all rows are.
 use Rattle.std.proofs.Common.{◌≡◌, ◌+◌, length, true}
 use Rattle.rx_in_order.specs.declared.fill.FillKey.{FillKey}
-use Rattle.rx_in_order.specs.Fills.{count_among, fills_in, has_mark}
-use Rattle.rx_in_order.proofs.counted.found.Given as goal
+use Rattle.rx_in_order.specs.Fills.{count_among, fills_in, lasts}
+use Rattle.rx_in_order.proofs.counted.lasting.Given as goal
 
 abbrev pub invariant-loop-row : goal.invariant-loop-row
 invariant-loop-row l =
     let L = l.books.books.ledger in
     record {
-      finding : (k : FillKey) → has_mark l.marks k.course ≡ true
+      finding : (k : FillKey) → lasts l.first_day k.when ≡ true
           → count_among l.found.items k + fills_in L.members l.standing.rows k ≡ fills_in L.members L.rows k;
       members : l.standing.members ≡ L.members;
     }

@@ -1,5 +1,5 @@
--- The next row is found where its course has a mark, and is none that matters where not.
-use Rattle.std.proofs.Common.{◌≡◌, ◌+◌, false, subst, sym, ap, ◌∙◌, List, [], ◌∷◌, ◌++◌, arith}
+-- The next row is found where its fill lasts, and is none that matters where not.
+use Rattle.std.proofs.Common.{◌≡◌, ◌+◌, Bool, false, subst, sym, ap, ◌∙◌, List, [], ◌∷◌, ◌++◌, arith}
 use Rattle.std.proofs.lemmas.List.Sums.{sum_by_push}
 use Rattle.rx_order.specs.Ascending.{IsAt}
 use Rattle.rx_ledger.specs.declared.member.Member.{Member}
@@ -8,17 +8,17 @@ use Rattle.rx_ledger.specs.Members.{member_cmp, member_key}
 use Rattle.rx_ledger.specs.Rows.{member_of_row}
 use Rattle.rx_in_order.specs.declared.fill.Entry.{Entry}
 use Rattle.rx_in_order.specs.declared.fill.FillKey.{FillKey}
-use Rattle.rx_in_order.specs.Fills.{count_among, count_of, fill_at, fill_of, fills_in, has_mark}
-use Rattle.rx_in_order.proofs.Counting.{count_among-none, finding-pushed, finding-skipped}
+use Rattle.rx_in_order.specs.Fills.{count_among, count_of, fill_of, fills_in, lasts}
+use Rattle.rx_in_order.proofs.Counting.{finding-pushed, finding-skipped}
 use Rattle.rx_in_order.proofs.Holders.{at_row}
-use Rattle.rx_in_order.proofs.counted.found.Goals as goal
+use Rattle.rx_in_order.proofs.counted.lasting.Goals as goal
 
 pub loop-row-init : goal.loop-row-init
 loop-row-init c =
     let L = c.args.books.now.books.ledger in
     record {
       finding = λ k own.
-          let none = count_among-none c.args.own.items c.requires k in
+          let none = ap (λ entries. count_among entries k) c.new-found.ensures.items in
           let same = ap (λ (l : Ledger). fills_in L.members l.rows k) c.standing-standing.ensures.value in
           omega (arith, none, same);
       members = ap (λ (l : Ledger). l.members) c.standing-standing.ensures.value;
@@ -29,13 +29,14 @@ loop-row-preserved-in-Continue-1 c =
     let L = c.args.books.now.books.ledger in
     let r = c.in-Some.row.now in
     let all = λ (k : FillKey). fills_in L.members L.rows k in
+    let own : FillKey → Bool = λ k. lasts c.args.first_day k.when in
     let at = subst (λ (ms : List Member). IsAt member_cmp member_key ms (member_of_row r) c.in-Some.holder)
     c.loop-row.invariant.members c.in-Some.ensures.holder in
     let key : c.fill_at-key.result ≡ fill_of L.members r =
     c.fill_at-key.ensures ∙ at_row L.members r c.in-Some.holder c.standing-standing.ensures.within.members_rise at in
     let made : FillKey → Entry = λ k. record { fill = record { key = k; count = 1 }; transaction = 18446744073709551615 } in
     record {
-      finding = finding-pushed L.members (has_mark c.args.marks.now) c.loop-row.found.items all c.loop-row.standing.rows
+      finding = finding-pushed L.members own c.loop-row.found.items all c.loop-row.standing.rows
           c.next_row.new.self.rows r c.in-Some.ensures.row c.loop-row.invariant.finding c.push.new.self.items
           (λ k. ap (λ fills. count_among fills k) c.in_ok-push.ensures.items
           ∙ sum_by_push (λ (e : Entry). count_of k e.fill) c.loop-row.found.items (made c.fill_at-key.result)
@@ -48,14 +49,15 @@ loop-row-preserved c =
     let L = c.args.books.now.books.ledger in
     let r = c.in-Some.row.now in
     let all = λ (k : FillKey). fills_in L.members L.rows k in
+    let own : FillKey → Bool = λ k. lasts c.args.first_day k.when in
     let at = subst (λ (ms : List Member). IsAt member_cmp member_key ms (member_of_row r) c.in-Some.holder)
     c.loop-row.invariant.members c.in-Some.ensures.holder in
-    let key : fill_at c.in-Some.holder r ≡ fill_of L.members r =
-    at_row L.members r c.in-Some.holder c.standing-standing.ensures.within.members_rise at in
-    let stranger : has_mark c.args.marks.now (fill_of L.members r).course ≡ false =
-    ap (λ (k : FillKey). has_mark c.args.marks.now k.course) (sym key) ∙ sym c.has_mark.ensures ∙ c.if-has_mark.false in
+    let key : c.fill_at-key.result ≡ fill_of L.members r =
+    c.fill_at-key.ensures ∙ at_row L.members r c.in-Some.holder c.standing-standing.ensures.within.members_rise at in
+    let stranger : lasts c.args.first_day (fill_of L.members r).when ≡ false =
+    ap own (sym key) ∙ sym c.lasts.ensures ∙ c.if-lasts.false in
     record {
-      finding = finding-skipped L.members (has_mark c.args.marks.now) c.loop-row.found.items all c.loop-row.standing.rows
+      finding = finding-skipped L.members own c.loop-row.found.items all c.loop-row.standing.rows
           c.next_row.new.self.rows r c.in-Some.ensures.row c.loop-row.invariant.finding stranger;
       members = c.next_row.ensures.members ∙ c.loop-row.invariant.members;
     }
