@@ -1,10 +1,20 @@
 -- One more row, of those of a family that count in a period.
-use Rattle.std.specs.Prelude.{◌&&◌}
-use Rattle.std.proofs.Common.{◌≡◌, ℕ, ◌+◌, ◌<◌, ◌++◌, Bool, true, false, List, [], ◌∷◌, length, take, get_or, refl, sym, ap, ◌∙◌, inl, inr}
-use Rattle.std.specs.List.{filter}
+use Rattle.std.specs.Prelude.{◌&&◌, IfOk, IfSome, Result, Ok, Err, Vec}
+use Rattle.std.proofs.Common.{◌≡◌, ℕ, ◌+◌, ◌<◌, ◌++◌, Bool, true, false, List, [], ◌∷◌, Option, Some, None, length, take, get_or, refl, sym, ap, ◌∙◌, inl, inr}
+use Rattle.std.specs.List.{filter, list_any}
 use Rattle.std.proofs.lemmas.Bool.{cases_Bool}
 use Rattle.std.proofs.lemmas.List.{append-nil, take_more}
 use Rattle.std.proofs.lemmas.List.Elements.{filter-append}
+use Rattle.rx_claim.specs.declared.bill.BillParts.{BillParts}
+use Rattle.rx_fields.specs.Calendar.{Civil}
+use Rattle.rx_fields.specs.Numbered.{Span}
+use Rattle.rx_ledger.specs.declared.figures.Figures.{Figures}
+use Rattle.rx_ledger.specs.declared.row.Row.{Row}
+use Rattle.rx_ledger.specs.Answers.{is_too_soon}
+use Rattle.rx_ledger.specs.Ledger.{Ledger, rows_of}
+use Rattle.rx_ledger.specs.Rows.{claimed_by}
+use Rattle.rx_explain.specs.Opens.{is_early_fill}
+use Rattle.rx_explain.specs.Shown.{counts_in, is_counted}
 
 module _ {X : Type 0} (p : X → Bool) (xs : List X) (i : ℕ) (x : X) (within : i < length xs) (is : x ≡ get_or xs i x) where
   one_more : take (i + 1) xs ≡ take i xs ++ x ∷ []
@@ -26,3 +36,41 @@ filter_both p q (x ∷ xs) = elim (cases_Bool (p x)) [
   ]
   | inr fails ↦ rw fails (filter_both p q xs)
 ]
+
+-- some item passes both tests where one that passes the first passes the second
+pub any_of_passed : {X : Type 0} (p q : X → Bool) (xs : List X) → list_any (λ x. p x && q x) xs ≡ list_any q (filter p xs)
+any_of_passed p q [] = refl
+any_of_passed p q (x ∷ xs) = elim (cases_Bool (p x)) [
+  | inl passes ↦ rw passes (elim (cases_Bool (q x)) [
+    | inl both ↦ rw both refl
+    | inr one ↦ rw one (any_of_passed p q xs)
+  ])
+  | inr fails ↦ rw fails (any_of_passed p q xs)
+]
+
+-- ---- rows among which a family's are the ledger's
+
+module _ (L : Ledger) (rows : List Row) (family : List ℕ) (has : filter (claimed_by family) rows ≡ rows_of L family) where
+  pub any_among : (q : Row → Bool) → list_any (λ r. claimed_by family r && q r) rows
+      ≡ list_any (λ r. claimed_by family r && q r) L.rows
+  any_among q =
+      any_of_passed (claimed_by family) q rows ∙ ap (list_any q) has ∙ sym (any_of_passed (claimed_by family) q L.rows)
+
+  pub kept_among : (q : Row → Bool) → filter (λ r. claimed_by family r && q r) rows
+      ≡ filter (λ r. claimed_by family r && q r) L.rows
+  kept_among q =
+      filter_both (claimed_by family) q rows ∙ ap (filter q) has ∙ sym (filter_both (claimed_by family) q L.rows)
+
+pub none_among : (L : Ledger) (rows : List Row) (f : Figures) (b : BillParts)
+    → filter (claimed_by b.family) rows ≡ rows_of L b.family → (o : Option Civil)
+    → IfSome o (λ d. list_any (is_early_fill f d b) rows ≡ false)
+    → IfSome o (λ d. list_any (is_early_fill f d b) L.rows ≡ false)
+none_among L rows f b has None none = tt
+none_among L rows f b has (Some d) none = sym (any_among L rows b.family has (is_too_soon f d b)) ∙ none
+
+pub counted_among : {E Z : Type 0} (L : Ledger) (rows : List Row) (period : Span) (b : BillParts)
+    → filter (claimed_by b.family) rows ≡ rows_of L b.family → (found : Result (Vec Row Z) E)
+    → IfOk found (λ v. v.items ≡ filter (is_counted period b.family) rows)
+    → IfOk found (λ v. v.items ≡ filter (is_counted period b.family) L.rows)
+counted_among L rows period b has (Ok v) is = is ∙ kept_among L rows b.family has (counts_in period)
+counted_among L rows period b has (Err e) is = tt

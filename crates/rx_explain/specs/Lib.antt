@@ -1,8 +1,10 @@
+pub mod Around
 pub mod Before
 pub mod Cases
 pub mod Explained
 pub mod Found
 pub mod Opens
+pub mod Parts
 pub mod Shown
 pub mod Spots
 pub mod Traces

@@ -57,7 +57,13 @@ fn step_bill(
     ensures { let a = asked_on occasion.now sheet.now.drugs in
         OnOk result (ledger.new ≡ after a ledger.old (asks.Bill bill.now) (answer a ledger.old (asks.Bill bill.now))) }
 {
-    let decision = decide(occasion, sheet, ledger, &Transaction::Bill(*bill));
+    let decision = decide(
+        occasion,
+        sheet,
+        &*ledger,
+        ledger.rows(),
+        &Transaction::Bill(*bill),
+    );
     if let Answer::Paid(paid) = &decision.answer {
         ledger.add(occasion.row(bill, paid))?;
     }

@@ -1,10 +1,14 @@
-ghost use Rattle.std.specs.Prelude.{◌≡◌, ◌++◌, ◌≤◌, IfOk, OnOk, length};
+ghost use Rattle.std.specs.Prelude.{◌≡◌, ◌++◌, ◌==◌, ◌≤◌, [], IfOk, OnOk, filter, length};
+ghost use Rattle.std.specs.List.{All};
+ghost use Rattle.rx_explain.specs.Parts.{AreEventParts, part_of_key};
 ghost use Rattle.rx_explain.specs.Traces.{answer_events, event_of, events_of, record_events};
 
 use crate::at::At;
+use crate::part::{PARTS, part_of_key};
 use rx_claim::{Answer, Body, Heard, Outcome, Reply, Transmission};
 use rx_fields::{Key, Memory};
 use std::alloc::{AllocError, Global};
+use std::marker::Model;
 
 /// What a transaction did to the claim under its fill key.
 #[derive(Clone, Copy, Debug, PartialEq, Eq)]
@@ -26,8 +30,74 @@ pub struct Event {
     pub change: Change,
 }
 
-/// The transactions of a batch that changed the ledger, in order, where these are the replies to its records.
-pub(crate) fn events_of(
+/// The transactions of a batch that changed the ledger, in order. They are also kept in parts by the fill keys of their
+/// claims, so that for a claim only few are gone through.
+#[derive(Debug, Drop)]
+pub struct Events {
+    all: Vec<Event>,
+    parts: Vec<Vec<Event>>,
+}
+
+impl Model for Events {
+    ghost use Rattle.std.specs.Prelude.{List};
+    ghost use Rattle.rx_explain.specs.Parts.{AreEventParts};
+    ghost use Rattle.rx_explain.specs.declared.events.Event.{Event};
+
+    ghost Value = { List Event };
+
+    ghost view = { λ e. e.all.items };
+
+    ghost invariant = { λ e. AreEventParts e.parts.items e.all.items };
+}
+
+impl Events {
+    /// Those of a batch's records to which these are the replies.
+    pub fn of(
+        alloc: Global,
+        transmissions: &[Transmission],
+        replies: &[Reply],
+    ) -> Result<Events, Memory>
+        requires few { length transmissions.now ≤ 100_000 }
+        requires each { length replies.now ≡ length transmissions.now }
+        ensures { IfOk result (λ events. events ≡ events_of 1 transmissions.now replies.now) }
+    {
+        let all = events_of(alloc, transmissions, replies)?;
+        let parts = in_parts(alloc, &all)?;
+        Ok(Events { all, parts })
+    }
+
+    /// Those of the part of a fill key.
+    pub(crate) fn near(&self, key: &Key) -> &[Event]
+        ensures { result.now ≡ filter (λ e. part_of_key e.key == part_of_key key.now) self.now }
+    {
+        &self.parts[part_of_key(key)]
+    }
+}
+
+// The events in parts.
+fn in_parts(alloc: Global, events: &[Event]) -> Result<Vec<Vec<Event>>, Memory>
+    ensures { IfOk result (λ parts. AreEventParts parts.items events.now) }
+{
+    let mut parts = empty_parts(alloc)?;
+    for event in events {
+        parts[part_of_key(&event.key)].push(*event)?;
+    }
+    Ok(parts)
+}
+
+fn empty_parts(alloc: Global) -> Result<Vec<Vec<Event>>, Memory>
+    ensures many { IfOk result (λ parts. length parts.items ≡ 65_536) }
+    ensures empty { IfOk result (λ parts. All (λ v. v.items ≡ []) parts.items) }
+{
+    let mut parts = Vec::with_capacity(alloc, PARTS)?;
+    for _ in 0..PARTS {
+        parts.push(Vec::new(alloc))?;
+    }
+    Ok(parts)
+}
+
+// The transactions of a batch that changed the ledger, in order, where these are the replies to its records.
+fn events_of(
     alloc: Global,
     transmissions: &[Transmission],
     replies: &[Reply],

@@ -1,25 +1,28 @@
 ghost use Rattle.std.specs.Prelude.{◌≡◌, ◌≤◌, ◌-◌, IfOk, filter, length, take};
 ghost use Rattle.std.specs.Option.{option_map};
 ghost use Rattle.rx_ledger.specs.Fold.{fold_replies, ledger_from};
-ghost use Rattle.rx_ledger.specs.Ledger.{Ledger};
+ghost use Rattle.rx_ledger.specs.Basis.{Holds};
+ghost use Rattle.rx_ledger.specs.Ledger.{Ledger as LedgerLists};
+ghost use Rattle.rx_ledger.specs.Named.{key_in};
 ghost use Rattle.rx_explain.specs.Before.{ledger_at};
 ghost use Rattle.rx_ledger.specs.Members.{is_same};
+ghost use Rattle.rx_explain.specs.Around.{HasRows};
 ghost use Rattle.rx_explain.specs.Explained.{IsExplained, IsOnLedger};
 ghost use Rattle.rx_explain.specs.Shown.{counted_for, is_counted, row_in};
 ghost use Rattle.rx_explain.specs.Spots.{Spot as SpotParts, spot_at};
-ghost use Rattle.rx_explain.specs.Traces.{traced};
+ghost use Rattle.rx_explain.specs.Traces.{events_of, traced};
 
 use crate::advancing::advance;
 use crate::at::At;
 use crate::case::Case;
 use crate::deciding::{Decision, decide};
-use crate::events::{Event, events_of};
+use crate::events::Events;
 use crate::open_from::open_from;
 use crate::spot::{Spot, spot_at};
 use crate::traced::{Traced, trace, trace_each};
-use rx_claim::{Answer, Reply, Transaction, Transmission};
+use rx_claim::{Answer, Heard, Transaction, Transmission};
 use rx_fields::{Authorization, Day, Id, Lot, Memory, Period, Provider};
-use rx_ledger::{Ledger, Occasion, Row, Sheet};
+use rx_ledger::{Basis, Ledger, Occasion, Row, Sheet};
 use std::alloc::Global;
 
 /// Why a transaction was answered as it was.
@@ -48,28 +51,26 @@ pub struct Explanation {
     pub counted: Vec<Traced>,
 }
 
-/// The explanation of the transaction at a place of a batch, given the ledger before its record and the replies to the
-/// batch, which are those of adjudicating it on some opening ledger; None where there is no such transaction.
+/// The explanation of the transaction at a place of a batch, given the ledger before its record, and what the batch
+/// changed when it was adjudicated on some opening ledger; None where there is no such transaction.
 pub fn explain(
     alloc: Global,
     lot: Lot,
     sheet: &Sheet,
     before: Ledger,
     transmissions: &[Transmission],
-    replies: &[Reply],
+    events: &Events,
     at: At,
 ) -> Result<Option<Explanation>, Memory>
     requires few { length transmissions.now ≤ 100_000 }
-    requires each { length replies.now ≡ length transmissions.now }
-    ensures { (opening : Ledger) → before ≡ ledger_at lot sheet.now transmissions.now opening at.place
-        → replies.now ≡ fold_replies lot sheet.now 1 transmissions.now opening
+    ensures { (opening : LedgerLists) → before ≡ ledger_at lot sheet.now transmissions.now opening at.place
+        → events.now ≡ events_of 1 transmissions.now (fold_replies lot sheet.now 1 transmissions.now opening)
         → IfOk result (IsExplained lot sheet.now transmissions.now opening at (spot_at transmissions.now at)) }
 {
     let Some(spot) = spot_at(transmissions, at) else {
         return Ok(None);
     };
-    let events = events_of(alloc, transmissions, replies)?;
-    let explanation = in_record(alloc, lot, sheet, before, &events, at, &spot)?;
+    let explanation = in_record(alloc, lot, sheet, before, events, at, &spot)?;
     Ok(Some(explanation))
 }
 
@@ -79,7 +80,7 @@ fn in_record(
     lot: Lot,
     sheet: &Sheet,
     before: Ledger,
-    events: &[Event],
+    events: &Events,
     at: At,
     spot: &Spot<'_>,
 ) -> Result<Explanation, Memory>
@@ -93,50 +94,60 @@ fn in_record(
     let mut ledger = before;
     let earlier = &spot.heard.list.as_slice()[..(at.nth - 1) as usize];
     advance(&mut ledger, lot, sheet, at.place, spot.heard, earlier)?;
-    on_ledger(alloc, lot, sheet, &ledger, events, at, spot)
+    let rows = ledger.rows();
+    explain_on(
+        alloc,
+        lot,
+        sheet,
+        &ledger,
+        rows,
+        events,
+        at,
+        spot.heard,
+        spot.transaction,
+    )
 }
 
-// The explanation on the ledger before the transaction.
-fn on_ledger(
+/// The explanation of a transaction on what answers as the ledger before it. `rows` are the claims that are gone through:
+/// those of a billing's family are all among them, in the order of their keys; `events` are what the batch changed.
+pub fn explain_on<S: Basis>(
     alloc: Global,
     lot: Lot,
     sheet: &Sheet,
-    ledger: &Ledger,
-    events: &[Event],
+    basis: &S,
+    rows: &[Row],
+    events: &Events,
     at: At,
-    spot: &Spot<'_>,
+    heard: &Heard,
+    transaction: &Transaction,
 ) -> Result<Explanation, Memory>
     requires place { at.place ≤ 100_000 }
     requires nth { at.nth ≤ 4 }
-    ensures { IfOk result (IsOnLedger lot sheet.now ledger.now events.now at
-        (record { heard = spot.now.heard.now; transaction = spot.now.transaction.now })) }
+    requires held { Holds (S.scope basis.now) (key_in heard.now) (S.ledger basis.now) transaction.now }
+    requires rows { HasRows (S.ledger basis.now) rows.now transaction.now }
+    ensures { IfOk result (IsOnLedger lot sheet.now (S.ledger basis.now) events.now at
+        (record { heard = heard.now; transaction = transaction.now })) }
 {
-    let occasion = Occasion::new(lot, sheet.figures(), at.place, spot.heard, at.nth);
-    let Decision { case, answer } = decide(&occasion, sheet, ledger, spot.transaction);
-    let counted = counted_for(alloc, sheet.period(), ledger, spot.transaction, &case)?;
+    let occasion = Occasion::new(lot, sheet.figures(), at.place, heard, at.nth);
+    let Decision { case, answer } = decide(&occasion, sheet, basis, rows, transaction);
+    let counted = counted_for(alloc, sheet.period(), rows, transaction, &case)?;
     let counted = trace_each(alloc, events, at, &counted)?;
     Ok(Explanation {
         at,
-        provider: spot.heard.provider,
-        date: spot.heard.date,
+        provider: heard.provider,
+        date: heard.date,
         number: occasion.number,
-        transaction: *spot.transaction,
+        transaction: *transaction,
         case,
         answer,
         standing: standing(events, at, &case),
-        open_from: open_from(
-            sheet.figures(),
-            spot.heard.date,
-            ledger,
-            spot.transaction,
-            &case,
-        ),
+        open_from: open_from(sheet.figures(), heard.date, rows, transaction, &case),
         counted,
     })
 }
 
 // The row that decided, with its source and its end.
-fn standing(events: &[Event], at: At, case: &Case) -> Option<Traced>
+fn standing(events: &Events, at: At, case: &Case) -> Option<Traced>
     ensures { result ≡ option_map (traced events.now at) (row_in case.now) }
 {
     match case {
@@ -153,15 +164,16 @@ fn standing(events: &[Event], at: At, case: &Case) -> Option<Traced>
 fn counted_for(
     alloc: Global,
     period: Period,
-    ledger: &Ledger,
+    rows: &[Row],
     transaction: &Transaction,
     case: &Case,
 ) -> Result<Vec<Row>, Memory>
-    ensures { IfOk result (λ rows. rows.items ≡ counted_for period ledger.now transaction.now case.now) }
+    ensures { (L : LedgerLists) → HasRows L rows.now transaction.now
+        → IfOk result (λ counted. counted.items ≡ counted_for period L transaction.now case.now) }
 {
     match (transaction, case) {
         (Transaction::Bill(bill), Case::Payable(_)) => {
-            counted_rows(alloc, period, ledger.rows(), &bill.parts().family)
+            counted_rows(alloc, period, rows, &bill.parts().family)
         }
         _ => Ok(Vec::new(alloc)),
     }

@@ -1,11 +1,12 @@
 //! A claim retraced: why a transaction of a batch was answered as it was, as values.
 //!
-//! In come the plan sheet, a batch's transmissions with the replies to them, the place of a transaction and the ledger before
-//! its record; out comes its `Explanation`: the case of the tables of adjudication that decided it, with what decided, and
-//! where each standing claim that mattered came from. What an explanation says is in `specs/Explained.antt`.
+//! In come the plan sheet, a batch's transmissions with what they changed (`Events`), the place of a transaction and the
+//! ledger before its record, or whatever answers as the ledger before it; out comes its `Explanation`: the case of the tables
+//! of adjudication that decided it, with what decided, and where each standing claim that mattered came from. What an
+//! explanation says is in `specs/Explained.antt`.
 //!
 //! ```rust
-//! let explanation = rx_explain::explain(alloc, lot, &sheet, before, &transmissions, &replies, at)?;
+//! let explanation = rx_explain::explain(alloc, lot, &sheet, before, &transmissions, &events, at)?;
 //! ```
 //!
 //! The replay that gives replies and ledger is left to the caller, and so are words for people.
@@ -14,20 +15,23 @@
 mod advancing;
 mod at;
 mod case;
+mod claims;
 mod deciding;
 mod events;
 mod explanation;
 mod finding;
 mod law;
 mod open_from;
+mod part;
 mod spot;
 mod traced;
 mod workings;
 
 pub use at::At;
 pub use case::{Case, Payment};
-pub use events::{Change, Event};
-pub use explanation::{Explanation, explain};
+pub use claims::Claims;
+pub use events::{Change, Event, Events};
+pub use explanation::{Explanation, explain, explain_on};
 pub use finding::{Wanted, find};
 pub use law::{reply_is_shown, sums_are_of_counted_rows};
 pub use traced::{Source, Traced};

@@ -1,32 +1,32 @@
 ghost use Rattle.std.specs.Prelude.{◌≡◌, ◌≤◌, ◌&&◌, IfSome, false};
 ghost use Rattle.std.specs.List.{list_any};
+ghost use Rattle.rx_ledger.specs.Ledger.{Ledger};
+ghost use Rattle.rx_explain.specs.Around.{HasRows};
 ghost use Rattle.rx_explain.specs.Opens.{IsOpenFrom, is_early_fill};
 
 use crate::case::Case;
 use crate::deciding::is_early_fill;
 use rx_claim::{Bill, Transaction};
 use rx_fields::{Day, date_read, digits_write};
-use rx_ledger::{Figures, Ledger, Row};
+use rx_ledger::{Figures, Row};
 
 // How many days the calendar of the years 0000 to 9999 has.
 const ALL_DAYS: u32 = 3_652_425;
 
 /// Of a billing that is too soon: the first date, from its own on, on which none of the member's fills of the product is
-/// too soon any more, as they stand; None where the calendar ends before, and of every other transaction.
+/// too soon any more, as they stand among these rows; None where the calendar ends before, and of every other transaction.
 pub(crate) fn open_from(
     figures: &Figures,
     date: Day,
-    ledger: &Ledger,
+    rows: &[Row],
     transaction: &Transaction,
     case: &Case,
 ) -> Option<Day>
     requires { figures.now.refill_percent ≤ 100 }
-    ensures { IsOpenFrom figures.now ledger.now transaction.now result }
+    ensures { (L : Ledger) → HasRows L rows.now transaction.now → IsOpenFrom figures.now L transaction.now result }
 {
     match (transaction, case) {
-        (Transaction::Bill(bill), Case::TooSoon(_)) => {
-            first_open(figures, date, bill, ledger.rows())
-        }
+        (Transaction::Bill(bill), Case::TooSoon(_)) => first_open(figures, date, bill, rows),
         _ => None,
     }
 }

@@ -4,7 +4,7 @@ ghost use Rattle.rx_fields.specs.Order.{key_cmp};
 ghost use Rattle.rx_explain.specs.Traces.{pays_before, returns_after, source_of, taken_back_at, traced};
 
 use crate::at::At;
-use crate::events::{Change, Event};
+use crate::events::{Change, Event, Events};
 use rx_fields::{Key, Memory};
 use rx_ledger::Row;
 use std::alloc::Global;
@@ -31,9 +31,10 @@ pub struct Traced {
 }
 
 /// The row, which stands before the transaction, with its source and its end.
-pub(crate) fn trace(events: &[Event], at: At, row: Row) -> Traced
+pub(crate) fn trace(events: &Events, at: At, row: Row) -> Traced
     ensures { result ≡ traced events.now at row }
 {
+    let events = events.near(&row.key);
     Traced {
         row,
         source: source_of(events, &row.key, at),
@@ -44,7 +45,7 @@ pub(crate) fn trace(events: &[Event], at: At, row: Row) -> Traced
 /// The same of each of these rows.
 pub(crate) fn trace_each(
     alloc: Global,
-    events: &[Event],
+    events: &Events,
     at: At,
     rows: &[Row],
 ) -> Result<Vec<Traced>, Memory>

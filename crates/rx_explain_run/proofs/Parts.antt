@@ -1,9 +1,8 @@
 -- The records of a batch in two parts, one after the other.
 use Rattle.std.proofs.Common.{◌≡◌, ℕ, suc, ◌+◌, ◌-◌, ◌≤◌, ◌++◌, List, [], ◌∷◌, length, take, drop, slice_range, take-add, length-take-le, refl, sym, ap, ◌∙◌, arith}
-use Rattle.rx_claim.specs.declared.reply.Reply.{Reply}
 use Rattle.rx_claim.specs.declared.transmission.Transmission.{Transmission}
 use Rattle.rx_fields.specs.Numbered.{LotParts}
-use Rattle.rx_ledger.specs.Fold.{fold_ledger, fold_replies, ledger_after, reply_to}
+use Rattle.rx_ledger.specs.Fold.{fold_ledger, ledger_after}
 use Rattle.rx_ledger.specs.Ledger.{Ledger}
 use Rattle.rx_ledger.specs.Plan.{Plan}
 
@@ -26,37 +25,14 @@ module _ (lot : LotParts) (plan : Plan) where
       ledger_append xs ys (place + 1) next
       ∙ ap (λ n. fold_ledger lot plan n ys (fold_ledger lot plan (place + 1) xs next)) (one_more place (length xs))
 
-  replies_append : (xs ys : List Transmission) (place : ℕ) (L : Ledger)
-      → fold_replies lot plan place (xs ++ ys) L
-      ≡ fold_replies lot plan place xs L ++ fold_replies lot plan (place + length xs) ys (fold_ledger lot plan place xs L)
-  replies_append [] ys place L = ap (λ n. fold_replies lot plan n ys L) (no_more place)
-  replies_append (x ∷ xs) ys place L =
-      let next = ledger_after lot plan place x L in
-      ap (λ rs. reply_to lot plan place x L ∷ rs)
-      (replies_append xs ys (place + 1) next
-      ∙ ap
-      (λ n. fold_replies lot plan (place + 1) xs next ++ fold_replies lot plan n ys (fold_ledger lot plan (place + 1) xs next))
-      (one_more place (length xs)))
-
   module _ (ts : List Transmission) (i j : ℕ) (le : i ≤ j) (within : j ≤ length ts) (opening : Ledger) where
     first_is : 1 + length (take i ts) ≡ 1 + i
     first_is = ap (λ n. 1 + n) (length-take-le i ts (omega arith))
 
-    -- the ledger and the replies after the first j records, from those after the first i
+    -- the ledger after the first j records, from that after the first i
     pub ledger_on : fold_ledger lot plan (1 + i) (slice_range ts i j) (fold_ledger lot plan 1 (take i ts) opening)
         ≡ fold_ledger lot plan 1 (take j ts) opening
     ledger_on =
         ap (λ n. fold_ledger lot plan n (slice_range ts i j) (fold_ledger lot plan 1 (take i ts) opening)) (sym first_is)
         ∙ sym (ledger_append (take i ts) (slice_range ts i j) 1 opening)
         ∙ ap (λ xs. fold_ledger lot plan 1 xs opening) (sym (take_split ts i j le))
-
-    pub replies_on : fold_replies lot plan 1 (take i ts) opening
-        ++ fold_replies lot plan (1 + i) (slice_range ts i j) (fold_ledger lot plan 1 (take i ts) opening)
-        ≡ fold_replies lot plan 1 (take j ts) opening
-    replies_on =
-        ap
-        (λ n. fold_replies lot plan 1 (take i ts) opening
-        ++ fold_replies lot plan n (slice_range ts i j) (fold_ledger lot plan 1 (take i ts) opening))
-        (sym first_is)
-        ∙ sym (replies_append (take i ts) (slice_range ts i j) 1 opening)
-        ∙ ap (λ xs. fold_replies lot plan 1 xs opening) (sym (take_split ts i j le))

@@ -1,5 +1,5 @@
 -- The transactions of a job that are asked for, explained.
-use Rattle.std.specs.Prelude.{◌≡◌, ℕ, List, Option, Ok}
+use Rattle.std.specs.Prelude.{◌≡◌, ◌≤◌, ℕ, List, Option, Ok, length}
 use Rattle.std.specs.List.{AllZip}
 use Rattle.rx_fields.specs.Numbered.{LotParts, Span}
 use Rattle.rx_batch.specs.Grammar.{IsFile}
@@ -17,6 +17,7 @@ use Rattle.rx_ledger.specs.Ledger.{Ledger}
 use Rattle.rx_ledger.specs.Plan.{Plan}
 use Rattle.rx_sheet.specs.SheetText.{sheet_of_text}
 use Rattle.rx_wave.specs.Decoding.{transmissions_of}
+use Rattle.rx_explain_run.specs.declared.retracing.Replayed.{Replayed}
 use Rattle.rx_explain_run.specs.declared.retracing.Retraced.{Retraced}
 
 -- of each transaction that is asked for, in order, its explanation
@@ -25,18 +26,25 @@ abbrev pub AreExplained : LotParts → Plan → List Transmission → Ledger →
 AreExplained lot plan asked opening wanted replies explanations =
     AllZip (λ at x. IsExplained lot plan asked opening at (spot_at asked at) x) (found_in wanted 1 asked replies) explanations
 
--- sheet, books and batch are accepted; these are what the batch asks at the plan's door, the replies of adjudicating that
--- one record after another, and the explanations of what is asked for
-pub record IsRetraced (sheet books batch : List ℕ) (wanted : Wanted) (r : Retraced) : Type 0 where
-  pub plan : Plan
+-- sheet, books and batch are accepted; this is the plan, these are the opening books and what the batch asks at the
+-- plan's door, and the replies of adjudicating that one record after another
+pub record IsReplayed (sheet books batch : List ℕ) (r : Replayed) : Type 0 where
   pub period : Span
-  pub opening : Ledger
   pub head : Head
-  pub sheet_is : sheet_of_text sheet ≡ Ok plan
-  pub books_are : IsBooksText books period opening
+  pub sheet_is : sheet_of_text sheet ≡ Ok r.sheet
+  pub books_are : IsBooksText books period r.opening.ledger
   pub batch_is : IsFile batch head r.details
   pub lot_is : r.lot ≡ head.lot
-  pub figures_are : r.figures ≡ plan.figures
-  pub asked_are : r.asked.items ≡ transmissions_of plan.figures.door r.details
-  pub replies_are : r.replies.items ≡ fold_replies head.lot plan 1 r.asked.items opening
-  pub explanations_are : AreExplained head.lot plan r.asked.items opening wanted r.replies.items r.explanations.items
+  pub asked_are : r.asked.items ≡ transmissions_of r.sheet.figures.door r.details
+  pub replies_are : r.replies.items ≡ fold_replies r.lot r.sheet 1 r.asked.items r.opening.ledger
+
+-- and these are the explanations of what is asked for
+pub record IsRetraced (sheet books batch : List ℕ) (wanted : Wanted) (r : Retraced) : Type 0 where
+  pub replayed : IsReplayed sheet books batch r.batch
+  pub explanations_are : AreExplained r.batch.lot r.batch.sheet r.batch.asked.items r.batch.opening.ledger wanted
+      r.batch.replies.items r.explanations.items
+
+-- the replies are those of so few records, adjudicated one after another on the opening books
+pub record IsReady (r : Replayed) : Type 0 where
+  pub few : length r.asked.items ≤ 100_000
+  pub replies_are : r.replies.items ≡ fold_replies r.lot r.sheet 1 r.asked.items r.opening.ledger

@@ -2,7 +2,7 @@
 //!
 //! In come the texts of plan sheet, opening books and batch file, and which transactions are asked for; out come their
 //! explanations, with the replies to the whole batch. What they are is in `specs/Retraced.antt`. The records are
-//! adjudicated once, in file order; a ledger is kept where a transaction is likely to be asked for.
+//! adjudicated once, in file order, for the replies, and once more up to the last transaction that is asked for.
 //!
 //! ```rust
 //! let retraced = rx_explain_run::retrace(rt, alloc, sheet, books, batch, &wanted)?;
@@ -12,11 +12,10 @@
 //! The words of a command line and the files themselves are left to the program.
 #![tactic(auto)]
 
-mod likely;
 mod replay;
 mod response;
 mod retracing;
 mod telling;
 
-pub use retracing::{Retraced, retrace};
-pub use telling::{Told, tell};
+pub use retracing::{Replayed, Retraced, explanations, replayed, retrace};
+pub use telling::{Told, tell, words_of};

@@ -1,8 +1,8 @@
 use crate::response::compare;
-use crate::retracing::Retraced;
+use crate::retracing::{Replayed, Retraced};
 use rx_batch::Detail;
 use rx_claim::{Body, Rejected};
-use rx_explain::{Explanation, Wanted};
+use rx_explain::{At, Explanation, Wanted};
 use rx_explain_text::{
     Compared, explanation_json, explanation_text, rejection_json, rejection_text,
 };
@@ -42,6 +42,25 @@ pub fn tell(
     Ok(told)
 }
 
+/// The explanation of an answer of a batch in words, as `explain` prints it without a response file; of an answer to a
+/// record whose header is rejected that of the record.
+pub fn words_of(
+    alloc: Global,
+    batch: &Replayed,
+    at: At,
+    explanation: Option<&Explanation>,
+) -> Result<Vec<u8>, Memory> {
+    let figures = batch.sheet.figures();
+    let request = request_at(batch, at.place);
+    if let Some(explanation) = explanation {
+        return explanation_text(alloc, batch.lot, figures, explanation, request, None);
+    }
+    match rejected_in(batch, at) {
+        Some(rejected) => rejection_text(alloc, figures, at.place, rejected, request, None),
+        None => Ok(Vec::new(alloc)),
+    }
+}
+
 // The record whose header is rejected, where it or one of its answers is asked for by its place.
 fn rejected_at<'a>(retraced: &'a Retraced, wanted: &Wanted) -> Option<(u64, &'a Rejected)> {
     let (place, nth) = match wanted {
@@ -49,10 +68,16 @@ fn rejected_at<'a>(retraced: &'a Retraced, wanted: &Wanted) -> Option<(u64, &'a 
         Wanted::One(at) => (at.place, at.nth),
         _ => return None,
     };
-    let transmission = retraced.asked.get(place.checked_sub(1)? as usize)?;
+    let rejected = rejected_in(&retraced.batch, At { place, nth })?;
+    Some((place, rejected))
+}
+
+// The record at a place whose header is rejected, where it has an answer there.
+fn rejected_in(batch: &Replayed, at: At) -> Option<&Rejected> {
+    let transmission = batch.asked.get(at.place.checked_sub(1)? as usize)?;
     match &transmission.body {
-        Body::Rejected(rejected) if nth >= 1 && nth <= rejected.groups.get() => {
-            Some((place, rejected))
+        Body::Rejected(rejected) if at.nth >= 1 && at.nth <= rejected.groups.get() => {
+            Some(rejected)
         }
         _ => None,
     }
@@ -68,11 +93,18 @@ fn tell_rejection(
     json: bool,
 ) -> Result<(), Memory> {
     let compared = compared(alloc, told, retraced, place, response)?;
-    let request = request_at(retraced, place);
+    let request = request_at(&retraced.batch, place);
     let text = if json {
         rejection_json(alloc, place, rejected, request, compared)?
     } else {
-        rejection_text(alloc, &retraced.figures, place, rejected, request, compared)?
+        rejection_text(
+            alloc,
+            retraced.batch.sheet.figures(),
+            place,
+            rejected,
+            request,
+            compared,
+        )?
     };
     Ok(told.text.extend_from_slice(&text)?)
 }
@@ -87,8 +119,8 @@ fn tell_one(
 ) -> Result<(), Memory> {
     let place = explanation.at.place;
     let compared = compared(alloc, told, retraced, place, response)?;
-    let request = request_at(retraced, place);
-    let (lot, figures) = (retraced.lot, &retraced.figures);
+    let request = request_at(&retraced.batch, place);
+    let (lot, figures) = (retraced.batch.lot, retraced.batch.sheet.figures());
     let text = if json {
         explanation_json(alloc, lot, figures, explanation, request, compared)?
     } else {
@@ -108,7 +140,7 @@ fn compared(
     let Some(details) = response else {
         return Ok(None);
     };
-    let compared = compare(alloc, &retraced.replies, details, place)?;
+    let compared = compare(alloc, &retraced.batch.replies, details, place)?;
     if compared != Compared::Same {
         told.differs = true;
     }
@@ -116,8 +148,8 @@ fn compared(
 }
 
 // The text of the transmission at a place.
-fn request_at(retraced: &Retraced, place: u64) -> &[u8] {
-    match retraced
+fn request_at(batch: &Replayed, place: u64) -> &[u8] {
+    match batch
         .details
         .as_slice()
         .get((place.saturating_sub(1)) as usize)

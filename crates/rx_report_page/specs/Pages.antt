@@ -1,5 +1,6 @@
 -- What a page has of a file's bytes: each is escaped.
-use Rattle.std.specs.Prelude.{ℕ, List, option_map, codes}
+use Rattle.std.specs.Prelude.{ℕ, ◌==◌, if◌then◌else◌, List, [], ◌∷◌, option_map, codes}
+use Rattle.std.specs.List.{flat_map}
 use Rattle.std.specs.Option.{unwrap_or}
 use Rattle.std.specs.Result.{result_ok}
 use Rattle.rx_escape.specs.Escape.{escaped}
@@ -16,3 +17,10 @@ provider_text field = unwrap_or (option_map (escaped Html) (result_ok (id_of 15 
 -- what stands for an answer in a column
 abbrev pub cell_text : Shown → Line → List ℕ
 cell_text shown l = escaped Html (shown_cell shown l)
+
+-- lines of a text: each byte as text, but the line feeds
+abbrev pub line_byte : ℕ → List ℕ
+line_byte b = if b == 10 then b ∷ [] else escaped Html (b ∷ [])
+
+abbrev pub escaped_lines : List ℕ → List ℕ
+escaped_lines text = flat_map line_byte text

@@ -1,15 +1,17 @@
 use crate::page::Page;
+use crate::why::{Why, why_of};
 use rx_account::Section;
 use rx_claim::Answer;
 use rx_report::Line;
 use rx_report_text::Shown;
 use std::alloc::AllocError;
 
-/// A provider's claims, a line each that unfolds to its figures.
+/// A provider's claims, a line each that unfolds to its figures and to why they are so.
 pub(crate) fn put_claims(
     page: &mut Page,
     before: usize,
     section: &Section<'_>,
+    whys: &[Why],
 ) -> Result<(), AllocError> {
     page.markup("<section id=\"p")?;
     page.number(before as u128)?;
@@ -20,12 +22,12 @@ pub(crate) fn put_claims(
     )?;
     page.markup("<b>Member pays</b><b>Plan pays</b></div>\n")?;
     for line in section.lines {
-        put_claim(page, line)?;
+        put_claim(page, line, whys)?;
     }
     page.markup("</section>\n")
 }
 
-fn put_claim(page: &mut Page, line: &Line) -> Result<(), AllocError> {
+fn put_claim(page: &mut Page, line: &Line, whys: &[Why]) -> Result<(), AllocError> {
     page.markup(match &line.answer {
         Answer::Twice(_) => "<details class=\"twice\"><summary>",
         Answer::Paid(_) | Answer::Approved(_) | Answer::Refused(_) => "<details><summary>",
@@ -39,9 +41,22 @@ fn put_claim(page: &mut Page, line: &Line) -> Result<(), AllocError> {
     put_span(page, "<span class=\"plan\">", Shown::PlanPays, line)?;
     page.markup("</summary>\n<dl>")?;
     put_figures(page, line)?;
-    page.markup("<dt>Why</dt><dd><code>rxbatch explain --sheet F --books F --batch F --record ")?;
-    page.cell(Shown::Record, line)?;
-    page.markup("</code></dd></dl></details>\n")
+    page.markup("</dl>")?;
+    put_why(page, line, whys)?;
+    page.markup("</details>\n")
+}
+
+// Its explanation, or the command by which it is had.
+fn put_why(page: &mut Page, line: &Line, whys: &[Why]) -> Result<(), AllocError> {
+    page.markup("<pre>")?;
+    match why_of(whys, line) {
+        Some(text) => page.lines(text)?,
+        None => {
+            page.markup("rxbatch explain --sheet F --books F --batch F --record ")?;
+            page.cell(Shown::Record, line)?;
+        }
+    }
+    page.markup("</pre>")
 }
 
 fn put_span(

@@ -4,7 +4,7 @@ ghost use Rattle.rx_escape.specs.Escape.{escaped};
 ghost use Rattle.rx_escape.specs.declared.style.Style.TheVariants.{Html};
 ghost use Rattle.rx_report_text.specs.Money.{dollars};
 ghost use Rattle.rx_settle.specs.Settlement.{net};
-ghost use Rattle.rx_report_page.specs.Pages.{cell_text, provider_text};
+ghost use Rattle.rx_report_page.specs.Pages.{cell_text, escaped_lines, line_byte, provider_text};
 
 use rx_escape::{Style, put_escaped};
 use rx_fields::Provider;
@@ -50,6 +50,27 @@ impl Page {
         ensures { OnOk result (self.new.bytes.items ≡ self.old.bytes.items ++ escaped Html bytes.now) }
     {
         put_escaped(&mut self.bytes, Style::Html, bytes)
+    }
+
+    /// Writes lines of a text, each read as text; between two of them, and behind the last, is a line feed.
+    pub fn lines(&mut self, text: &[u8]) -> Result<(), AllocError>
+        ensures { OnOk result (self.new.bytes.items ≡ self.old.bytes.items ++ escaped_lines text.now) }
+    {
+        for byte in text {
+            self.line_byte(*byte)?;
+        }
+        Ok(())
+    }
+
+    // Writes a byte of a line, or its line feed.
+    fn line_byte(&mut self, byte: u8) -> Result<(), AllocError>
+        ensures { OnOk result (self.new.bytes.items ≡ self.old.bytes.items ++ line_byte byte) }
+    {
+        if byte == b'\n' {
+            Ok(self.bytes.push(byte)?)
+        } else {
+            self.text(&[byte])
+        }
     }
 
     /// Writes a number in decimal digits.

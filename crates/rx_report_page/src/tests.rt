@@ -16,3 +16,12 @@ fn an_id_is_text(rt: HostRuntime) -> Result<(), Fail> {
     assert_eq!(rt; page.into_bytes().as_slice(), wanted.as_bytes());
     Ok(())
 }
+
+#[test]
+fn lines_are_text(rt: HostRuntime) -> Result<(), Fail> {
+    let mut page = Page::new(rt.alloc());
+    page.lines(b"a < b\n  \"c\"\n")?;
+    let wanted = "a &#x3C; b\n  &#x22;c&#x22;\n";
+    assert_eq!(rt; page.into_bytes().as_slice(), wanted.as_bytes());
+    Ok(())
+}

@@ -2,6 +2,7 @@ use crate::claims::put_claims;
 use crate::page::Page;
 use crate::providers::put_providers;
 use crate::style::STYLE;
+use crate::why::Why;
 use rx_account::{Account, Portion};
 use rx_fields::{Lot, Memory, date_write, digits_write};
 use std::alloc::{AllocError, Global};
@@ -9,20 +10,21 @@ use std::alloc::{AllocError, Global};
 /// How many lines of a whole batch a page shows at most; of more it has the table of providers alone.
 pub const MOST_LINES: usize = 2000;
 
-/// The account of a batch as an HTML page.
+/// The account of a batch as an HTML page, where the answers that it shows are explained so, in the order of the batch.
 pub fn report_page(
     alloc: Global,
     lot: Lot,
     portion: Portion<'_>,
     account: &Account<'_>,
+    whys: &[Why],
 ) -> Result<Vec<u8>, Memory> {
     let mut page = Page::new(alloc);
     put_head(&mut page, lot)?;
     put_title(&mut page, lot, portion)?;
-    let unfolds = is_whole_shown(portion, account);
+    let unfolds = shows_claims(portion, account);
     put_providers(&mut page, portion, account, unfolds)?;
     if unfolds {
-        put_sections(&mut page, account)?;
+        put_sections(&mut page, account, whys)?;
     } else {
         put_command(&mut page)?;
     }
@@ -30,8 +32,9 @@ pub fn report_page(
     Ok(page.into_bytes())
 }
 
-// Whether the claims are shown too.
-fn is_whole_shown(portion: Portion<'_>, account: &Account<'_>) -> bool {
+/// Whether the page of an account has its claims, and not the table of providers alone: a portion's, and those of a whole
+/// batch up to `MOST_LINES`.
+pub fn shows_claims(portion: Portion<'_>, account: &Account<'_>) -> bool {
     match portion {
         Portion::Whole => count_lines(account) <= MOST_LINES,
         Portion::Provider(_) | Portion::Family(_) => true,
@@ -90,9 +93,9 @@ fn put_title(page: &mut Page, lot: Lot, portion: Portion<'_>) -> Result<(), Allo
 }
 
 // Each provider's claims.
-fn put_sections(page: &mut Page, account: &Account<'_>) -> Result<(), AllocError> {
+fn put_sections(page: &mut Page, account: &Account<'_>, whys: &[Why]) -> Result<(), AllocError> {
     for (before, section) in account.sections.iter().enumerate() {
-        put_claims(page, before, section)?;
+        put_claims(page, before, section, whys)?;
     }
     Ok(())
 }

@@ -1,4 +1,4 @@
-use rx_fields::Lot;
+use rx_explain_run::Replayed;
 use rx_report::Line;
 use rx_settle::Settled;
 
@@ -6,7 +6,7 @@ use rx_settle::Settled;
 #[derive(Drop)]
 pub struct Report {
     /// The batch.
-    pub lot: Lot,
+    pub batch: Replayed,
     /// The lines of its answers, in file order.
     pub lines: Vec<Line>,
     /// The tallies of its settlement.

@@ -1,21 +1,14 @@
-ghost use Rattle.std.specs.Prelude.{◌≡◌, ◌≤◌, IfErr, IfOk, length};
-ghost use Rattle.rx_ledger.specs.Fold.{fold_replies};
-ghost use Rattle.rx_retrace.specs.Reported.{IsReported, IsTold, replies_at};
+ghost use Rattle.std.specs.Prelude.{◌≡◌, IfErr, IfOk};
+ghost use Rattle.rx_explain_run.specs.Retraced.{IsReady};
+ghost use Rattle.rx_retrace.specs.Reported.{IsReported, IsTold};
 ghost use Rattle.rx_switch.specs.Planned.{IsNotPlanned};
-ghost use Rattle.rx_wave.specs.Decoding.{transmissions_of};
 
 use crate::report::Report;
-use rx_batch::{Batch, read_batch};
-use rx_books_kept::Books;
-use rx_claim::{Reply, Transmission};
-use rx_fields::{Lot, Memory};
-use rx_in_order::Finished;
-use rx_ledger::Sheet;
+use rx_explain_run::{Replayed, replayed};
+use rx_fields::Memory;
 use rx_report::report_lines;
 use rx_settle::tally_replies;
-use rx_sheet::read_sheet;
 use rx_switch::SwitchFault;
-use rx_wave::{NoGate, decode_in_parts, run_one_on};
 use std::alloc::Global;
 use std::thread::Threads;
 
@@ -33,55 +26,26 @@ pub fn job_report<R: Threads + Sync>(
     batch: &[u8],
 ) -> Result<Report, SwitchFault>
     ensures reported { IfOk result (λ report. IsReported sheet.now books.now batch.now report) }
+    ensures ready { IfOk result (λ report. IsReady report.batch) }
     ensures refused { IfErr result (λ fault. IsNotPlanned sheet.now books.now batch.now fault) }
 {
-    let sheet = read_sheet(alloc, sheet)?;
-    let books = Books::read(alloc, books)?;
-    let batch = read_batch(alloc, batch)?;
-    let report = told(rt, alloc, &sheet, books, &batch)?;
+    let batch = replayed(rt, alloc, sheet, books, batch)?;
+    let report = told(alloc, batch)?;
     Ok(report)
 }
 
-// What the batch is answered on these books.
-fn told<R: Threads + Sync>(
-    rt: &R,
-    alloc: Global,
-    sheet: &Sheet,
-    books: Books,
-    batch: &Batch,
-) -> Result<Report, Memory>
-    requires { length batch.now.details ≤ 100_000 }
-    ensures lot { IfOk result (λ report. report.lot ≡ batch.now.head.lot) }
-    ensures told { IfOk result (λ report. IsTold (transmissions_of sheet.now.figures.door batch.now.details)
-        (replies_at batch.now.head sheet.now books.ledger (transmissions_of sheet.now.figures.door batch.now.details))
-        report) }
+// What the batch is answered.
+#[tactic(auto, using(rx_switch::proofs::Replied::one_each))]
+fn told(alloc: Global, batch: Replayed) -> Result<Report, Memory>
+    requires { IsReady batch }
+    ensures same { IfOk result (λ report. report.batch ≡ batch) }
+    ensures told { IfOk result (λ report. IsTold batch.asked.items batch.replies.items report) }
 {
-    let asked = decode_in_parts(rt, alloc, 1, sheet.door(), batch.details.as_slice())?;
-    let lot = batch.head.lot();
-    let replies = replies_to(alloc, lot, sheet, books, &asked)?;
-    let lines = report_lines(alloc, &asked, &replies)?;
-    let settled = tally_replies(alloc, &replies)?;
+    let lines = report_lines(alloc, &batch.asked, &batch.replies)?;
+    let settled = tally_replies(alloc, &batch.replies)?;
     Ok(Report {
-        lot,
+        batch,
         lines,
         settled,
     })
-}
-
-// The replies to the records, one after another.
-#[tactic(auto, using(rx_switch::proofs::Replied::one_each))]
-fn replies_to(
-    alloc: Global,
-    lot: Lot,
-    sheet: &Sheet,
-    books: Books,
-    asked: &[Transmission],
-) -> Result<Vec<Reply>, Memory>
-    requires { length asked.now ≤ 100_000 }
-    ensures replies { IfOk result (λ replies. replies.items ≡ fold_replies lot sheet.now 1 asked.now books.ledger) }
-    ensures one_each { IfOk result (λ replies. length asked.now ≡ length replies.items) }
-{
-    let books = books.with_period(alloc, sheet.period())?;
-    let Finished { books: _, replies } = run_one_on(&NoGate, alloc, lot, sheet, books, asked)?;
-    Ok(replies)
 }

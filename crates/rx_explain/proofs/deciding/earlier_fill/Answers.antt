@@ -1,7 +1,6 @@
 -- The first row that is of the family and too soon is the first too soon of the family's rows.
 use Rattle.std.specs.Prelude.{◌&&◌}
-use Rattle.std.proofs.Common.{◌∙◌, ap, rules, tests}
-use Rattle.std.specs.List.{find}
+use Rattle.std.proofs.Common.{◌∙◌, rules, tests}
 use Rattle.std.proofs.lemmas.Iterator.{YieldsList-from_slice}
 use Rattle.std.proofs.lemmas.Iterator.Search.{find_from_yields_List}
 use Rattle.rx_ledger.specs.Answers.{is_too_soon}
@@ -15,6 +14,5 @@ returns c =
     let own = claimed_by c.args.bill.now.family in
     let soon = is_too_soon c.args.sheet.now.figures c.args.occasion.now.date c.args.bill.now in
     let found = find_from_yields_List (λ (r : Row). own r && soon r) _ _ c.find.result c.find.ensures.ran
-    (YieldsList-from_slice c.rows.result.now cc) (λ x b q k. search (rules, tests)) in
-    c.copied.ensures ∙ found ∙ ap (find (λ (r : Row). own r && soon r)) c.rows.ensures.value
-    ∙ find_of_passed own soon c.args.ledger.now.rows
+    (YieldsList-from_slice c.args.rows.now cc) (λ x b q k. search (rules, tests)) in
+    c.copied.ensures ∙ found ∙ find_of_passed own soon c.args.rows.now

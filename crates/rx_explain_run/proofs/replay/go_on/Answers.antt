@@ -1,11 +1,11 @@
--- The next record is awaited, and its reply and ledger are those of the whole sheet.
-use Rattle.std.proofs.Common.{◌≡◌, ◌+◌, ◌<◌, ◌++◌, [], ◌∷◌, get_or, length, sym, ap, subst, ◌∙◌, arith}
+-- The next record is awaited, and its ledger is that of the whole sheet.
+use Rattle.std.proofs.Common.{◌≡◌, ◌+◌, ◌<◌, get_or, length, sym, ap, subst, ◌∙◌, arith}
 use Rattle.std.proofs.lemmas.Option.{same_Some}
 use Rattle.rx_claim.specs.declared.transmission.Transmission.{Transmission}
 use Rattle.rx_ledger.specs.Basis.{HoldsRecord, Scope}
-use Rattle.rx_ledger.specs.Fold.{ledger_after, reply_to}
+use Rattle.rx_ledger.specs.Fold.{ledger_after}
 use Rattle.rx_in_order.specs.Underway.{IsAwaited}
-use Rattle.rx_explain_run.proofs.Steps.{ledger_next, replies_next}
+use Rattle.rx_explain_run.proofs.Steps.{ledger_next}
 use Rattle.rx_explain_run.proofs.replay.go_on.Goals as goal
 
 pub record-requires-clause-awaited : goal.record-requires-clause-awaited
@@ -25,19 +25,11 @@ loop-at-preserved c =
     let now = c.loop-at.order.books.ledger in
     let next = c.record.new.self.books.ledger in
     let within : at < length list = omega arith in
-    let replied : c.in_ok-reply.reply ≡ reply_to c.args.lot plan (at + first) t now =
-    c.in_ok-reply.ensures.value ∙ c.terms-terms.ensures.same_reply (at + first) now in
     let changed : next ≡ ledger_after c.args.lot plan (at + first) t now =
-    c.in_ok-reply.ensures.after ∙ c.terms-terms.ensures.same_ledger (at + first) now in
-    let pushed : c.push.new.self.items ≡ c.loop-at.replies.items ++ c.in_ok-reply.reply ∷ [] = c.in_ok-push.ensures.items in
-    let scope = c.in_ok-reply.ensures.scope in
+    c.in_ok-record.ensures.after ∙ c.terms-terms.ensures.same_ledger (at + first) now in
+    let scope = c.in_ok-record.ensures.scope in
     record {
-      replies = rw pushed
-          (replies_next c.args.lot plan list at first t now next c.in_ok-reply.reply within c.index-part-at.is replied
-          changed c.loop-at.replies.items)
-          ∙ c.loop-at.invariant.replies;
-      ledger = ledger_next c.args.lot plan list at first t now next c.in_ok-reply.reply within c.index-part-at.is replied
-          changed
+      ledger = ledger_next c.args.lot plan list at first t now next within c.index-part-at.is changed
           ∙ c.loop-at.invariant.ledger;
       period = same_Some _ _ (ap (λ (s : Scope). s.period) scope) ∙ c.loop-at.invariant.period;
       awaited = λ i d inside L.

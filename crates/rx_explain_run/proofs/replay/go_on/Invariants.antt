@@ -1,8 +1,7 @@
--- The replies so far, followed by those from here on, are the replies; the ledger from here on is the ledger after; and
--- every record is one that is awaited.
-use Rattle.std.proofs.Common.{◌≡◌, ◌+◌, ◌++◌, drop}
+-- The ledger from here on is the ledger after, and every record is one that is awaited.
+use Rattle.std.proofs.Common.{◌≡◌, ◌+◌, drop}
 use Rattle.std.specs.List.{All}
-use Rattle.rx_ledger.specs.Fold.{fold_ledger, fold_replies}
+use Rattle.rx_ledger.specs.Fold.{fold_ledger}
 use Rattle.rx_in_order.specs.Underway.{IsAwaited}
 use Rattle.rx_explain_run.proofs.replay.go_on.Given as goal
 
@@ -11,8 +10,6 @@ invariant-loop-at l =
     let now = l.order.books.ledger in
     let before = l.initial.order.books.ledger in
     record {
-      replies : l.replies.items ++ fold_replies l.lot l.sheet (l.at + (1 + l.done)) (drop l.at l.part) now
-          ≡ l.fn.replies.items ++ fold_replies l.lot l.sheet (1 + l.done) l.part before;
       ledger : fold_ledger l.lot l.sheet (l.at + (1 + l.done)) (drop l.at l.part) now
           ≡ fold_ledger l.lot l.sheet (1 + l.done) l.part before;
       period : l.order.books.period ≡ l.sheet.figures.period;

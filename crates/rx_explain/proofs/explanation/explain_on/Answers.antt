@@ -6,15 +6,14 @@ use Rattle.rx_ledger.specs.Fold.{asked}
 use Rattle.rx_ledger.specs.declared.occasion.Occasion.{Occasion}
 use Rattle.rx_explain.specs.Shown.{counted_for}
 use Rattle.rx_explain.specs.Traces.{traced}
-use Rattle.rx_explain.proofs.explanation.on_ledger.Goals as goal
+use Rattle.rx_explain.proofs.explanation.explain_on.Goals as goal
 
 pub returns : goal.returns
-returns c =
+returns g c =
     let plan = c.args.sheet.now in
     let at = c.args.at in
-    let spot = c.args.spot.now in
-    let L = c.args.ledger.now in
-    let under : asked_on c.new-occasion.result plan.drugs ≡ asked c.args.lot plan at.place spot.heard.now at.nth =
+    let L = g.S.Basis.ledger c.args.basis.now in
+    let under : asked_on c.new-occasion.result plan.drugs ≡ asked c.args.lot plan at.place c.args.heard.now at.nth =
     rw (c.new-occasion.ensures, c.figures.ensures.value) refl in
     record {
       at_is = refl;
@@ -25,9 +24,9 @@ returns c =
       case_is = rw under at c.decide.ensures.decided;
       answer_is = rw under at c.decide.ensures.answered;
       standing_is = c.standing.ensures;
-      open_from_is = rw c.figures-2.ensures.value at c.open_from.ensures;
+      open_from_is = rw c.figures-2.ensures.value at (c.open_from.ensures L c.requires.rows);
       counted_are = c.in_ok-counted-2.ensures
           ∙ ap (map (traced c.args.events.now at))
-          (c.deref.ensures.value ∙ c.in_ok-counted.ensures
-          ∙ ap (λ (p : Span). counted_for p L spot.transaction.now c.decide.result.case) c.period.ensures);
+          (c.deref.ensures.value ∙ c.in_ok-counted.ensures L c.requires.rows
+          ∙ ap (λ (p : Span). counted_for p L c.args.transaction.now c.decide.result.case) c.period.ensures);
     }

@@ -1,0 +1,28 @@
+ghost use Rattle.std.specs.Prelude.{◌≡◌, ◌<◌};
+ghost use Rattle.rx_explain.specs.Parts.{part_of_key, part_of_text};
+
+use rx_fields::Key;
+
+/// In how many parts events and claims are kept, so that only one of them is gone through.
+pub(crate) const PARTS: usize = 65_536;
+
+/// The part of a text.
+pub(crate) fn part_of_text(bytes: &[u8]) -> usize
+    ensures value { result ≡ part_of_text bytes.now }
+    ensures within { result < 65_536 }
+{
+    let mut part: usize = 0;
+    for byte in bytes {
+        part = (part * 31 + usize::from(*byte)) % PARTS;
+    }
+    part
+}
+
+/// The part of a fill key.
+pub(crate) fn part_of_key(key: &Key) -> usize
+    ensures value { result ≡ part_of_key key.now }
+    ensures within { result < 65_536 }
+{
+    let reference = key.reference.get() as usize;
+    (part_of_text(key.provider.bytes()) + reference) % PARTS
+}
