@@ -17,5 +17,5 @@ mod response;
 mod retracing;
 mod telling;
 
-pub use retracing::{Replayed, Retraced, explanations, replayed, retrace};
+pub use retracing::{Replayed, Retraced, explanations, replay_batch, retrace};
 pub use telling::{Told, tell, words_of};

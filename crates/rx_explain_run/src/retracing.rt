@@ -63,7 +63,7 @@ pub fn retrace<R: Threads + Sync>(
     ensures retraced { IfOk result (λ retraced. IsRetraced sheet.now books.now batch.now wanted.now retraced) }
     ensures refused { IfErr result (λ fault. IsNotPlanned sheet.now books.now batch.now fault) }
 {
-    let batch = replayed(rt, alloc, sheet, books, batch)?;
+    let batch = replay_batch(rt, alloc, sheet, books, batch)?;
     let explanations = explain_wanted(
         alloc,
         batch.lot,
@@ -84,7 +84,7 @@ pub fn retrace<R: Threads + Sync>(
 /// # Errors
 ///
 /// Those of `retrace`.
-pub fn replayed<R: Threads + Sync>(
+pub fn replay_batch<R: Threads + Sync>(
     rt: &R,
     alloc: Global,
     sheet: &[u8],

@@ -4,7 +4,7 @@ ghost use Rattle.rx_retrace.specs.Reported.{IsReported, IsTold};
 ghost use Rattle.rx_switch.specs.Planned.{IsNotPlanned};
 
 use crate::report::Report;
-use rx_explain_run::{Replayed, replayed};
+use rx_explain_run::{Replayed, replay_batch};
 use rx_fields::Memory;
 use rx_report::report_lines;
 use rx_settle::tally_replies;
@@ -29,7 +29,7 @@ pub fn job_report<R: Threads + Sync>(
     ensures ready { IfOk result (λ report. IsReady report.batch) }
     ensures refused { IfErr result (λ fault. IsNotPlanned sheet.now books.now batch.now fault) }
 {
-    let batch = replayed(rt, alloc, sheet, books, batch)?;
+    let batch = replay_batch(rt, alloc, sheet, books, batch)?;
     let report = told(alloc, batch)?;
     Ok(report)
 }

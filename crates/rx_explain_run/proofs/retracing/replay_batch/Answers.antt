@@ -1,7 +1,7 @@
 use Rattle.std.proofs.lemmas.Result.{err_from_is_err_and}
 use Rattle.rx_switch.specs.Planned.IsNotPlanned.{memory}
 use Rattle.rx_switch.proofs.Unplanned.{batch_not_planned, books_not_planned, sheet_not_planned}
-use Rattle.rx_explain_run.proofs.retracing.replayed.Goals as goal
+use Rattle.rx_explain_run.proofs.retracing.replay_batch.Goals as goal
 
 pub returns-in_err-sheet-clause-refused : goal.returns-in_err-sheet-clause-refused
 returns-in_err-sheet-clause-refused g c =
