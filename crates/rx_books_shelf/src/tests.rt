@@ -106,6 +106,11 @@ fn closed(shelf: Shelf) -> Option<Books> {
 
 // The row that the first of the three fills adds.
 fn first_fill() -> Result<Row, Fail> {
+    fill_of(b"01")
+}
+
+// The same, of another person.
+fn fill_of(person: &[u8]) -> Result<Row, Fail> {
     let amounts = Amounts {
         ingredient_cost: 30_000,
         dispensing_fee: 175,
@@ -116,7 +121,7 @@ fn first_fill() -> Result<Row, Fail> {
     let row = Row::new(
         key(201)?,
         c100()?,
-        Person::new(b"01")?,
+        Person::new(person)?,
         Product::new(b"00002000202").ok_or("a product")?,
         Quantity::new(30_000).ok_or("a quantity")?,
         Days::new(30).ok_or("days")?,
@@ -176,18 +181,6 @@ fn a_parcel_of_another_period_comes_back(rt: HostRuntime) -> Result<(), Fail> {
     Ok(())
 }
 
-// A parcel with other members is accepted for an equal name and period; the shelf then has no books to close to.
-#[test]
-fn a_shelf_with_other_members_comes_back(rt: HostRuntime) -> Result<(), Fail> {
-    let mut shelf = shelf(rt.alloc())?;
-    let _out = taken(rt.alloc(), &mut shelf, 201)?;
-    let other = first_of(rt.alloc(), opening_with(rt.alloc(), b"04")?)?;
-    assert!(rt; shelf.give(other).is_ok());
-    assert!(rt; shelf.agrees());
-    assert!(rt; closed(shelf).is_none());
-    Ok(())
-}
-
 fn put(parcel: &mut Parcel, row: Row) -> Result<(), Fail> {
     if !parcel.agrees() || !parcel.has_key(&row.key) || !parcel.has_family(&row.family) {
         return Err(Fail::from("the books of the row"));
@@ -217,6 +210,52 @@ fn what_is_added_to_a_parcel_is_in_the_books(rt: HostRuntime) -> Result<(), Fail
     assert_eq!(rt; books.row(&key(201)?).copied(), Some(first_fill()?));
     assert_eq!(rt; books.out_of_pocket(&family), Some(13_000));
     assert_eq!(rt; books.deductible(&family, &person), Some(10_000));
+    Ok(())
+}
+
+// The text of the books where C100 has the persons 01, 02 and 04, and the fill is of the last of these.
+const OTHER_MEMBERS: &[u8] = b"BOOKS|3|20260101|20261231\n\
+M|C100|01|20260101|20261231|0\n\
+M|C100|02|20260101|20261231|0\n\
+M|C100|04|20260101|20261231|10000\n\
+M|C200|01|20260101|20261231|0\n\
+C|1234567893|201|20260228|C100|04|00002000202|30000|30|30000|175|10000|3000|0|000004200000011\n\
+T|C100|13000|10000\n\
+T|C200|0|0\n";
+
+// The books of a shelf that was given a parcel with other members, which is accepted for its name and period.
+fn with_other_members(alloc: Global) -> Result<Books, Fail> {
+    let mut shelf = shelf(alloc)?;
+    let _out = taken(alloc, &mut shelf, 201)?;
+    let mut other = first_of(alloc, opening_with(alloc, b"04")?)?;
+    put(&mut other, fill_of(b"04")?)?;
+    match shelf.give(other) {
+        Ok(()) => Ok(closed(shelf).ok_or("closed")?),
+        Err(_) => Err(Fail::from("given")),
+    }
+}
+
+#[test]
+fn other_members_are_in_the_books(rt: HostRuntime) -> Result<(), Fail> {
+    let books = with_other_members(rt.alloc())?;
+    let (family, person) = (c100()?, Person::new(b"04")?);
+    assert_eq!(rt; books.row(&key(201)?).copied(), Some(fill_of(b"04")?));
+    assert_eq!(rt; books.out_of_pocket(&family), Some(13_000));
+    assert_eq!(rt; books.family_deductible(&family), Some(10_000));
+    assert_eq!(rt; books.deductible(&family, &person), Some(10_000));
+    assert_eq!(rt; books.deductible(&family, &Person::new(b"03")?), None);
+    assert!(rt; books.write(rt.alloc())?.as_slice() == OTHER_MEMBERS);
+    Ok(())
+}
+
+#[test]
+fn books_with_other_members_are_those_of_their_text(rt: HostRuntime) -> Result<(), Fail> {
+    let books = with_other_members(rt.alloc())?;
+    let read = Books::read(rt.alloc(), OTHER_MEMBERS)?;
+    assert!(rt; books == read && read == books);
+    assert!(rt; books != opening(rt.alloc())?);
+    assert!(rt; books.copy(rt.alloc(), books.period())? == read);
+    assert!(rt; books.open(rt.alloc(), &[])?.close() == read);
     Ok(())
 }
 

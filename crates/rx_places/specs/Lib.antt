@@ -1,2 +1,3 @@
+pub mod Amended
 pub mod Near
 pub mod Shelves

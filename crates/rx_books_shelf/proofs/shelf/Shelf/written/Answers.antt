@@ -1,7 +1,6 @@
-use Rattle.std.proofs.Common.{◌≡◌, List, true, refl, sym, ap, subst, ◌∙◌}
+use Rattle.std.proofs.Common.{◌≡◌, List, true, sym, ap, subst, ◌∙◌}
 use Rattle.std.specs.Prelude.{IfSome}
 use Rattle.std.specs.List.{All}
-use Rattle.std.proofs.lemmas.Bool.{and_from, and_parts}
 use Rattle.rx_fields.specs.Order.{key_cmp}
 use Rattle.rx_order.specs.Overlaid.{overlaid}
 use Rattle.rx_ledger.specs.declared.row.Row.{Row}
@@ -11,11 +10,11 @@ use Rattle.rx_parcels.specs.Books.{book}
 use Rattle.rx_books_kept.specs.LedgerBooks.{LedgerBooks}
 use Rattle.rx_books_kept.specs.OpenBooks.{OpenParts}
 use Rattle.rx_places.specs.declared.place.KeyPlace.{KeyPlace}
-use Rattle.rx_places.specs.Shelves.{AreAllAgreed, HoldsOwnRow, ShelfParts, are_all_in, place_key, row_held, value_of}
+use Rattle.rx_places.specs.Shelves.{AreAllAgreed, HoldsOwnRow, ShelfParts, place_key, row_held, value_of}
 use Rattle.rx_books_shelf.specs.Closed.{HasSlot, are_members_kept}
-use Rattle.rx_books_shelf.proofs.ClosedShelf.{places_listed, same_as_beside, tests_keep, values_closed}
+use Rattle.rx_books_shelf.proofs.ClosedShelf.{places_listed, values_closed}
 use Rattle.rx_books_shelf.proofs.ShelfKept.{shelf_parts}
-use Rattle.rx_books_shelf.proofs.shelf.Shelf.close.Goals as goal
+use Rattle.rx_books_shelf.proofs.shelf.Shelf.written.Goals as goal
 
 pub brought-books-requires-clause-slots : goal.brought-books-requires-clause-slots
 brought-books-requires-clause-slots c = subst (All (HasSlot c.self.inside.books.slots)) (sym c.as_slice.ensures.value) c.self.invariant.1
@@ -26,27 +25,10 @@ brought-books-requires-clause-rows c = subst (All HoldsOwnRow) (sym c.as_slice.e
 pub brought-books-requires-clause-listed : goal.brought-books-requires-clause-listed
 brought-books-requires-clause-listed c =
     let s : ShelfParts = shelf_parts c.self.inside.books.books c.self.inside.keys c.self.inside.families in
-    let both = and_parts _ _ (sym c.can_be_closed.ensures.value ∙ c.if-not-can_be_closed.false) in
-    let agreed : AreAllAgreed (value_of s) = rw (← c.self.view_is) at (c.requires both.0) in
-    let kept : are_members_kept s ≡ true = rw (← c.self.view_is) at both.1 in
+    let agreed : AreAllAgreed (value_of s) = rw (← c.self.view_is) at c.requires.agreed in
+    let kept : are_members_kept s ≡ true = rw (← c.self.view_is) at c.requires.members in
     subst (All (λ p. IfSome (row_held p) (λ (r : Row). is_listed s.rest (member_of_row r) ≡ true))) (sym c.as_slice.ensures.value)
     (places_listed s c.self.invariant.0 agreed kept)
-
-pub returns-then-not-can_be_closed-clause-ok : goal.returns-then-not-can_be_closed-clause-ok
-returns-then-not-can_be_closed-clause-ok c =
-    let told = c.can_be_closed.ensures.value in
-    let within = c.can_be_closed.ensures.within in
-    let refused = c.if-not-can_be_closed.true in (
-      λ e. absurd (cc e),
-      λ both.
-          let kept = and_from (are_all_in c.args.self) (are_members_kept c.args.self) both.0 (tests_keep c.args.self within both.1) in
-          sym refused ∙ told ∙ kept,
-    )
-
-pub returns-clause-ok : goal.returns-clause-ok
-returns-clause-ok c =
-    let both = and_parts _ _ (sym c.can_be_closed.ensures.value ∙ c.if-not-can_be_closed.false) in
-    (λ _. (both.0, same_as_beside c.args.self c.can_be_closed.ensures.within both.1), λ _. refl)
 
 pub returns-clause-period : goal.returns-clause-period
 returns-clause-period c =
@@ -55,9 +37,8 @@ returns-clause-period c =
 pub returns-clause-values : goal.returns-clause-values
 returns-clause-values c =
     let s : ShelfParts = shelf_parts c.self.inside.books.books c.self.inside.keys c.self.inside.families in
-    let both = and_parts _ _ (sym c.can_be_closed.ensures.value ∙ c.if-not-can_be_closed.false) in
-    let agreed : AreAllAgreed (value_of s) = rw (← c.self.view_is) at (c.requires both.0) in
-    let kept : are_members_kept s ≡ true = rw (← c.self.view_is) at both.1 in
+    let agreed : AreAllAgreed (value_of s) = rw (← c.self.view_is) at c.requires.agreed in
+    let kept : are_members_kept s ≡ true = rw (← c.self.view_is) at c.requires.members in
     rw (← c.self.view_is) (λ b.
     ap (λ (x : LedgerBooks). book b x.ledger) (c.close.ensures ∙ ap (λ (o : OpenParts). o.books) c.brought-books.ensures)
     ∙ ap (λ (ks : List KeyPlace). book b (record {

@@ -3,8 +3,8 @@ use Rattle.std.proofs.Common.{◌≡◌, None, not, take}
 use Rattle.std.specs.List.{position}
 use Rattle.rx_books_text.specs.Printed.{member_lines}
 use Rattle.rx_books_kept.specs.Figures.{are_sums}
-use Rattle.rx_books_kept.proofs.books.Books.wrong_member.Given as goal
+use Rattle.rx_books_kept.proofs.open_books.OpenBooks.wrong_member.Given as goal
 
 abbrev pub invariant-loop-at : goal.invariant-loop-at
 invariant-loop-at l =
-    position (λ x. not (are_sums l.self x)) (member_lines (take l.at l.members) (take l.at l.deductibles)) ≡ None
+    position (λ x. not (are_sums l.self.books x)) (member_lines (take l.at l.members) (take l.at l.deductibles)) ≡ None

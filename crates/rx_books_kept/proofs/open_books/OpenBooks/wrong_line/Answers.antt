@@ -9,7 +9,7 @@ use Rattle.rx_books_kept.specs.BooksText.{families_of}
 use Rattle.rx_books_kept.specs.Figures.{are_sums, has_all_totals, has_total, unsummed}
 use Rattle.rx_books_kept.specs.LedgerBooks.{LedgerBooks}
 use Rattle.rx_books_kept.proofs.Wrong.{none-wrong, one-missing, wrong-member, wrong-total}
-use Rattle.rx_books_kept.proofs.books.Books.wrong_line.Goals as goal
+use Rattle.rx_books_kept.proofs.open_books.OpenBooks.wrong_line.Goals as goal
 
 -- what the search among the member lines and among the total lines answered, in the file's own words
 module _ (p : PrintedParts) (b : LedgerBooks) (own : b ≡ unsummed p) where
@@ -31,16 +31,16 @@ pub returns-in-Some : goal.returns-in-Some
 returns-in-Some c =
     let p = c.args.printed.now in
     let ms = c.members-members.ensures.value ∙ ap (λ (L : Ledger). L.members) c.ledger.ensures in
-    let first = members_said p c.args.self.now c.requires.own _ _ _ c.wrong_member.ensures ms c.deductibles.ensures in
+    let first = members_said p c.args.self.now.books c.requires.own _ _ _ c.wrong_member.ensures ms c.deductibles.ensures in
     sym (wrong-member p c.requires.one_each c.in-Some.at (first ∙ c.in-Some.is))
 
 pub returns-in-Some-wrong_total : goal.returns-in-Some-wrong_total
 returns-in-Some-wrong_total c =
     let p = c.args.printed.now in
     let ms = c.members-members.ensures.value ∙ ap (λ (L : Ledger). L.members) c.ledger.ensures in
-    let none = members_said p c.args.self.now c.requires.own _ _ _ c.wrong_member.ensures ms c.deductibles.ensures
+    let none = members_said p c.args.self.now.books c.requires.own _ _ _ c.wrong_member.ensures ms c.deductibles.ensures
     ∙ c.in_default.is in
-    let second = totals_said p c.args.self.now c.requires.own _ _ c.wrong_total.ensures c.totals.ensures.value in
+    let second = totals_said p c.args.self.now.books c.requires.own _ _ c.wrong_total.ensures c.totals.ensures.value in
     let lm = ap length ms in
     let lr = ap length (c.rows-rows.ensures.value ∙ ap (λ (L : Ledger). L.rows) c.ledger-2.ensures) in
     let found = wrong-total p c.requires.one_each none c.in-Some-wrong_total.at (second ∙ c.in-Some-wrong_total.is) in
@@ -52,12 +52,12 @@ pub returns-then-all_have_totals : goal.returns-then-all_have_totals
 returns-then-all_have_totals c =
     let p = c.args.printed.now in
     let ms = c.members-members.ensures.value ∙ ap (λ (L : Ledger). L.members) c.ledger.ensures in
-    let none = members_said p c.args.self.now c.requires.own _ _ _ c.wrong_member.ensures ms c.deductibles.ensures
+    let none = members_said p c.args.self.now.books c.requires.own _ _ _ c.wrong_member.ensures ms c.deductibles.ensures
     ∙ c.in_default.is in
-    let second = totals_said p c.args.self.now c.requires.own _ _ c.wrong_total.ensures c.totals.ensures.value in
-    let own : c.self.inside.kept.books.ledger ≡ p.ledger = ap (λ (b : LedgerBooks). b.ledger) (c.self.view_is ∙ c.requires.own) in
+    let second = totals_said p c.args.self.now.books c.requires.own _ _ c.wrong_total.ensures c.totals.ensures.value in
+    let own : c.args.self.now.books.ledger ≡ p.ledger = ap (λ (b : LedgerBooks). b.ledger) c.requires.own in
     let has : c.all_have_totals.result ≡ has_all_totals p = c.all_have_totals.ensures
-    ∙ ap (λ ts. list_all (has_total ts) (families_of c.self.inside.kept.books.ledger.members)) c.totals-2.ensures.value
+    ∙ ap (λ ts. list_all (has_total ts) (families_of c.args.self.now.books.ledger.members)) c.totals-2.ensures.value
     ∙ ap (λ (L : Ledger). list_all (has_total p.totals) (families_of L.members)) own in
     sym (none-wrong p c.requires.one_each none (second ∙ c.in_default-wrong_total.is)
     (sym has ∙ c.if-all_have_totals.true))
@@ -66,14 +66,14 @@ pub returns : goal.returns
 returns c =
     let p = c.args.printed.now in
     let ms = c.members-members.ensures.value ∙ ap (λ (L : Ledger). L.members) c.ledger.ensures in
-    let none = members_said p c.args.self.now c.requires.own _ _ _ c.wrong_member.ensures ms c.deductibles.ensures
+    let none = members_said p c.args.self.now.books c.requires.own _ _ _ c.wrong_member.ensures ms c.deductibles.ensures
     ∙ c.in_default.is in
-    let second = totals_said p c.args.self.now c.requires.own _ _ c.wrong_total.ensures c.totals.ensures.value in
+    let second = totals_said p c.args.self.now.books c.requires.own _ _ c.wrong_total.ensures c.totals.ensures.value in
     let lm = ap length ms in
     let lr = ap length (c.rows-rows.ensures.value ∙ ap (λ (L : Ledger). L.rows) c.ledger-2.ensures) in
-    let own : c.self.inside.kept.books.ledger ≡ p.ledger = ap (λ (b : LedgerBooks). b.ledger) (c.self.view_is ∙ c.requires.own) in
+    let own : c.args.self.now.books.ledger ≡ p.ledger = ap (λ (b : LedgerBooks). b.ledger) c.requires.own in
     let has : c.all_have_totals.result ≡ has_all_totals p = c.all_have_totals.ensures
-    ∙ ap (λ ts. list_all (has_total ts) (families_of c.self.inside.kept.books.ledger.members)) c.totals-2.ensures.value
+    ∙ ap (λ ts. list_all (has_total ts) (families_of c.args.self.now.books.ledger.members)) c.totals-2.ensures.value
     ∙ ap (λ (L : Ledger). list_all (has_total p.totals) (families_of L.members)) own in
     let missing = one-missing p c.requires.one_each none (second ∙ c.in_default-wrong_total.is)
     (sym has ∙ c.if-all_have_totals.false) in

@@ -5,7 +5,7 @@ use Rattle.rx_books_text.specs.declared.line.Line.TheVariants as line
 use Rattle.rx_books_text.specs.Printed.{member_lines}
 use Rattle.rx_books_kept.specs.Figures.{are_sums, is_figure}
 use Rattle.rx_books_kept.proofs.Wrong.{figure_tested, member-right, member-wrong}
-use Rattle.rx_books_kept.proofs.books.Books.wrong_member.Goals as goal
+use Rattle.rx_books_kept.proofs.open_books.OpenBooks.wrong_member.Goals as goal
 
 pub returns-then-ne : goal.returns-then-ne
 returns-then-ne c =
@@ -13,7 +13,7 @@ returns-then-ne c =
     let ds = c.args.deductibles.now in
     let i = c.loop-at.at in
     let m = c.index-members-at.result in
-    let wrong : Line → Bool = λ l. not (are_sums c.args.self.now l) in
+    let wrong : Line → Bool = λ l. not (are_sums c.args.self.now.books l) in
     let one : wrong (line.Member (record { member = m; deductible = get_or ds i 0 })) ≡ true =
     ap (λ s. not (is_figure s (get_or ds i 0))) (sym c.deductible-sum.ensures)
     ∙ ap not (figure_tested c.deductible-sum.result (get_or ds i 0)) ∙ sym c.ne.ensures ∙ c.if-ne.true in
@@ -27,7 +27,7 @@ loop-at-preserved c =
     let ds = c.args.deductibles.now in
     let i = c.loop-at.at in
     let m = c.index-members-at.result in
-    let wrong : Line → Bool = λ l. not (are_sums c.args.self.now l) in
+    let wrong : Line → Bool = λ l. not (are_sums c.args.self.now.books l) in
     let one : wrong (line.Member (record { member = m; deductible = get_or ds i 0 })) ≡ false =
     ap (λ s. not (is_figure s (get_or ds i 0))) (sym c.deductible-sum.ensures)
     ∙ ap not (figure_tested c.deductible-sum.result (get_or ds i 0)) ∙ sym c.ne.ensures ∙ c.if-ne.false in

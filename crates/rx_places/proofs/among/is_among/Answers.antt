@@ -2,8 +2,8 @@ use Rattle.std.proofs.Common.{◌≡◌, Some, sym, ap, ◌∙◌}
 use Rattle.rx_order.proofs.Places.{item_at-at, item_at-gap}
 use Rattle.rx_ledger.specs.Members.{member_cmp, member_key}
 use Rattle.rx_ledger.proofs.Orders.{member_total}
-use Rattle.rx_books_shelf.specs.Closed.{is_member_found}
-use Rattle.rx_books_shelf.proofs.closing.has_member.Goals as goal
+use Rattle.rx_places.specs.Amended.{is_member_found}
+use Rattle.rx_places.proofs.among.is_among.Goals as goal
 
 pub returns-in-Ok : goal.returns-in-Ok
 returns-in-Ok c =
