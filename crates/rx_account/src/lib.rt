@@ -24,6 +24,3 @@ pub use groups::Groups;
 pub use portion::{Portion, kept_lines};
 pub use section::{Account, Section};
 pub use tallying::tally_lines;
-
-#[cfg(test)]
-mod tests;

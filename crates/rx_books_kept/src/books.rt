@@ -188,6 +188,3 @@ impl PartialEq for Books {
 impl Eq for Books {
     ghost laws = { same_equivalence books_row.coded };
 }
-
-#[cfg(test)]
-mod tests;

@@ -53,6 +53,3 @@ impl Books {
         }
     }
 }
-
-#[cfg(test)]
-mod tests;

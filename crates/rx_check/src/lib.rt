@@ -29,6 +29,3 @@ pub use likeness::nearest;
 pub use reporting::{Names, report};
 pub use warned::{adjudicated, feeds, has_none_under, may_pass, period_apart};
 pub use warnings::Warnings;
-
-#[cfg(test)]
-mod tests;

@@ -19,6 +19,3 @@ mod pieces;
 
 pub use difference::first_difference;
 pub use pieces::{pieces_before, rest_of_piece};
-
-#[cfg(test)]
-mod tests;

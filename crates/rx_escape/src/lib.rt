@@ -17,6 +17,3 @@ mod style;
 pub use escaping::put_escaped;
 pub use law::{no_mark_is_written, read_back};
 pub use style::Style;
-
-#[cfg(test)]
-mod tests;

@@ -23,6 +23,3 @@ pub use header::{explanation_text, rejection_text};
 pub use json::{explanation_json, rejection_json};
 pub use page::Page;
 pub use request_field::{field_bytes, field_name};
-
-#[cfg(test)]
-mod tests;

@@ -13,8 +13,6 @@
 mod inputs;
 mod json;
 mod log;
-#[cfg(test)]
-mod tests;
 
 pub use inputs::{lot, totals};
 pub use json::line;

@@ -19,6 +19,3 @@ pub use file::read_response;
 pub use found::{Found, find_replies};
 pub use lines::reply_lines;
 pub use text::replies_text;
-
-#[cfg(test)]
-mod tests;

@@ -24,6 +24,3 @@ pub use column::Column;
 pub use line::Line;
 pub use lines::report_lines;
 pub use texts::{json_text, tsv_text};
-
-#[cfg(test)]
-mod tests;

@@ -20,6 +20,3 @@ mod whole;
 
 pub use page::Page;
 pub use whole::{MOST_LINES, report_page};
-
-#[cfg(test)]
-mod tests;

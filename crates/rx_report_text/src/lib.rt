@@ -20,6 +20,3 @@ pub use columns::columns_text;
 pub use json::json_text;
 pub use money::{net_cents, put_dollars, put_net};
 pub use shown::{COLUMNS, Shown, shown_cell};
-
-#[cfg(test)]
-mod tests;

@@ -12,7 +12,5 @@
 #![tactic(auto)]
 
 mod response;
-#[cfg(test)]
-mod tests;
 
 pub use response::{response_file, response_in_parts};

@@ -12,6 +12,3 @@ mod inputs;
 mod line;
 
 pub use line::sample_line;
-
-#[cfg(test)]
-mod tests;

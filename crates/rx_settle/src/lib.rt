@@ -17,8 +17,6 @@ mod lines;
 mod provider;
 mod settlement;
 mod tally;
-#[cfg(test)]
-mod tests;
 
 pub use provider::{Field, known_or_blank};
 pub use settlement::{ByProvider, Settled, settle, tally_replies};

@@ -17,6 +17,3 @@ mod plan;
 pub use bytes::{hexadecimal, shown};
 pub use lines::{put_codes, show_lines};
 pub use plan::plan_lines;
-
-#[cfg(test)]
-mod tests;

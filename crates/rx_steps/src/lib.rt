@@ -13,8 +13,6 @@
 mod lines;
 mod numbers;
 mod step;
-#[cfg(test)]
-mod tests;
 
 pub use lines::{done_line, progress_line, step_line};
 pub use step::{Answers, Counted, Done, Name, Step};

@@ -15,6 +15,3 @@ mod cells;
 mod rows;
 
 pub use rows::show_table;
-
-#[cfg(test)]
-mod tests;

@@ -34,6 +34,3 @@ pub use place::Place;
 pub use quoting::quoted;
 pub use sheet::{sheet_words, unread_sheet_words};
 pub use words::Words;
-
-#[cfg(test)]
-mod tests;

@@ -18,6 +18,3 @@ mod run;
 pub use law::{faults_of_some_are_the_runs, first_fault_is_the_runs};
 pub use refusing::refusal;
 pub use run::{Asked, Given, fault_words};
-
-#[cfg(test)]
-mod tests;

@@ -19,6 +19,3 @@ mod verifying;
 pub use files::{Differences, Files, Verified};
 pub use telling::verdict_text;
 pub use verifying::verify;
-
-#[cfg(test)]
-mod tests;

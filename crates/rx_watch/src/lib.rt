@@ -15,8 +15,6 @@
 mod heard;
 mod sink;
 mod source;
-#[cfg(test)]
-mod tests;
 
 pub use heard::Heard;
 pub use sink::WatchedSink;

@@ -25,8 +25,6 @@ mod paths;
 mod retrace;
 mod retracing;
 mod syntax;
-#[cfg(test)]
-mod tests;
 mod words;
 
 pub use asked::{CheckWords, Command, Inputs, Outputs, RunWords, ShowWords};

@@ -1,0 +1,64 @@
+use rx_steps::{Answers, Counted, Done, Name, Step, done_line, progress_line, step_line};
+use std::test::*;
+
+#[test]
+fn books_of_a_million_lines(rt: HostRuntime) -> Result<(), Fail> {
+    let step = Step {
+        name: Name::Books,
+        counted: Some(Counted::Lines(990_001)),
+        bytes: Some(78_041_222),
+        micros: Some(214_999),
+    };
+    let line = step_line(rt.alloc(), &step)?;
+    assert_eq!(rt;
+        line.as_slice(),
+        b"books        990,001 lines  78.0 MB  0.21 s\n".as_slice()
+    );
+    Ok(())
+}
+
+#[test]
+fn a_step_of_which_little_is_known(rt: HostRuntime) -> Result<(), Fail> {
+    let step = Step {
+        name: Name::Batch,
+        counted: Some(Counted::Records(1)),
+        bytes: Some(999_999),
+        micros: None,
+    };
+    let line = step_line(rt.alloc(), &step)?;
+    assert_eq!(rt;
+        line.as_slice(),
+        b"batch        1 record  999,999 bytes\n".as_slice()
+    );
+    Ok(())
+}
+
+#[test]
+fn a_run_that_goes_on(rt: HostRuntime) -> Result<(), Fail> {
+    let line = progress_line(rt.alloc(), 45_120, 100_000)?;
+    assert_eq!(rt;
+        line.as_slice(),
+        b"adjudicated  45,120 of 100,000 records\n".as_slice()
+    );
+    Ok(())
+}
+
+#[test]
+fn a_run_that_is_done(rt: HostRuntime) -> Result<(), Fail> {
+    let done = Done {
+        answers: Some(Answers {
+            paid: 12,
+            duplicate: 1,
+            approved: 2,
+            rejected: 8_000,
+            net: -7_980,
+        }),
+        peak: Some(512_300_000),
+        micros: Some(1_420_000),
+    };
+    let line = done_line(rt.alloc(), &done)?;
+    let wanted =
+        b"done         12 paid, 1 duplicate, 2 approved, 8,000 rejected, net -79.80  peak 512.3 MB  1.42 s\n";
+    assert_eq!(rt; line.as_slice(), wanted.as_slice());
+    Ok(())
+}

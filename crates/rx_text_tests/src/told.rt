@@ -1,0 +1,36 @@
+use rx_batch::read_batch;
+use rx_sheet::read_sheet;
+use rx_told::{batch_words, books_words, sheet_words};
+use std::alloc::Global;
+use std::test::Fail;
+
+// The line of the fault of a text that is no plan sheet.
+fn of_sheet(alloc: Global, text: &[u8]) -> Result<String, Fail> {
+    match read_sheet(alloc, text) {
+        Ok(_) => Ok(String::from_str(alloc, "a plan sheet")?),
+        Err(fault) => match sheet_words(alloc, fault, text) {
+            Ok(words) => Ok(words.line(alloc, "sheet.toml").ok().ok_or("memory")?),
+            Err(_) => Err(Fail::from("memory")),
+        },
+    }
+}
+
+#[test]
+fn a_key_that_is_missing(rt: HostRuntime) -> Result<(), Fail> {
+    let line = of_sheet(rt.alloc(), b"")?;
+    assert_eq!(rt;
+        line.as_str(),
+        "sheet.toml: bin is missing: 6 digits in quotes are wanted, as \"900001\""
+    );
+    Ok(())
+}
+
+#[test]
+fn a_sheet_that_is_a_books_file(rt: HostRuntime) -> Result<(), Fail> {
+    let line = of_sheet(rt.alloc(), b"BOOKS|3|20260101|20261231\n")?;
+    assert_eq!(rt;
+        line.as_str(),
+        "sheet.toml: not TOML: this looks like a books file"
+    );
+    Ok(())
+}
