@@ -1,6 +1,6 @@
 # make look: the first job without proof. make demo: proved, built, and the first job run. make test: the gate, then the worked
 # cases on the built program. make install PREFIX=..: the built program with its manual page and completions.
-.PHONY: test cases demo look install kit
+.PHONY: test all-edits cases demo look install kit
 PROGRAM = crates/rxbatch/out/rxbatch
 HELD = crates/rx_held/out/rx_held
 JOB = examples/first_job
@@ -20,7 +20,12 @@ look: kit
 	cd crates/rxbatch && rt try $(FILES) --cases ../../$(JOB)/look
 
 test: kit
-	rt ci
+	python3 tests/gate.py
+	$(MAKE) --silent cases
+
+# The gate again, with the must-fail edits of those crates too that are as they were when these were last tried.
+all-edits: kit
+	python3 tests/gate.py --all
 	$(MAKE) --silent cases
 
 cases: kit

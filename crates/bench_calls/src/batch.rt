@@ -1,58 +1,36 @@
-//! The batch reader on a file: read in one go, in pieces of 64 KiB, and beside both a plain copy of its bytes.
+//! The batch reader: a file read in one go, in pieces of 64 KiB, and beside both a plain copy of its bytes.
 
-ghost use Rattle.std.specs.Prelude.{◌<◌};
-
-use crate::one_billing::BATCH;
-use crate::timing::{ROUNDS, Watch, speed};
+use crate::inputs::Inputs;
+use crate::timing::{Watch, length};
 use rx_batch::{Batch, BatchFault, Pieces, read_batch};
 use std::alloc::Global;
-use std::{fs, io};
+use std::rt::Clock;
 
 const PIECE: usize = 65_536;
 
-/// Says how many details are found in a small file both ways.
-pub fn small_round(rt: &HostRuntime) -> io::Result<()> {
-    let whole = details(&read_batch(rt.alloc(), BATCH));
-    let pieces = details(&in_pieces(rt.alloc(), BATCH, 7));
-    println!(rt; "batch: {whole} detail in one go, {pieces} in pieces")
+/// Reads the batch both ways.
+pub fn round<R: Clock>(watch: &mut Watch<R>, inputs: &Inputs) {
+    let (alloc, bytes) = (watch.alloc, inputs.batch.as_slice());
+    watch.begin();
+    let copy = Vec::from_slice(alloc, bytes);
+    watch.lap("bytes copied", length(&copy));
+    let whole = read_batch(alloc, bytes);
+    watch.lap("details in one go", details(&whole));
+    let fed = in_pieces(alloc, bytes);
+    watch.lap("details in pieces", details(&fed));
 }
 
-/// Times both ways on the file of a path.
-pub fn timed(rt: &HostRuntime, path: &str) -> io::Result<()> {
-    let bytes = fs::read(rt, path)?;
-    for _ in 0..ROUNDS {
-        let mut watch = Watch::new(rt)?;
-        let copy = Vec::from_slice(rt.alloc(), &bytes)?;
-        let copied = watch.lap(rt)?;
-        let whole = read_batch(rt.alloc(), &copy);
-        let in_one_go = watch.lap(rt)?;
-        let fed = in_pieces(rt.alloc(), &copy, PIECE);
-        let in_parts = watch.lap(rt)?;
-        println!(rt;
-            "{} and {} details; copy {} MB/s, in one go {} MB/s, in pieces {} MB/s",
-            details(&whole),
-            details(&fed),
-            speed(bytes.len(), copied),
-            speed(bytes.len(), in_one_go),
-            speed(bytes.len(), in_parts)
-        )?;
-    }
-    Ok(())
-}
-
-fn in_pieces(alloc: Global, bytes: &[u8], size: usize) -> Result<Batch, BatchFault>
-    requires { 0 < size }
-{
-    let mut pieces = Pieces::new(alloc);
-    for piece in bytes.chunks(size) {
-        pieces.feed(piece)?;
-    }
-    pieces.finish()
-}
-
-fn details(outcome: &Result<Batch, BatchFault>) -> usize {
-    match outcome {
+fn details(batch: &Result<Batch, BatchFault>) -> usize {
+    match batch {
         Ok(batch) => batch.details.len(),
         Err(_) => 0,
     }
+}
+
+fn in_pieces(alloc: Global, bytes: &[u8]) -> Result<Batch, BatchFault> {
+    let mut pieces = Pieces::new(alloc);
+    for piece in bytes.chunks(PIECE) {
+        pieces.feed(piece)?;
+    }
+    pieces.finish()
 }

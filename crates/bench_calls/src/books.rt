@@ -1,91 +1,66 @@
-//! Books on a file: read on one thread and in parts, copied to the same period and to another, and written on one thread
-//! and in parts; and beside them a plain count of its lines.
+//! Books: the lists of their lines and the books read on one thread and in parts, copied to the same period and to another,
+//! and written on one thread and in parts; and beside them a plain count of the lines.
 
-use crate::one_billing::BOOKS;
-use crate::timing::{ROUNDS, Watch};
+use crate::inputs::Inputs;
+use crate::timing::{Watch, length};
 use memchr::memchr_iter;
 use rx_books_kept::Books;
+use rx_books_quick::{read_lists, read_lists_in_parts};
 use rx_fields::Period;
-use std::alloc::Global;
 use std::rt::Clock;
 use std::thread::Threads;
-use std::{fs, io};
 
 const PARTS: usize = 4;
 
-/// Says how long the text of small books is, once they are read, copied and written.
-pub fn small_round<R: Print + Clock + Threads + Sync>(rt: &R, alloc: Global) -> io::Result<()> {
-    let written = rewritten(alloc, BOOKS);
-    println!(rt; "books: {written} bytes read, copied and written")
+/// Reads, copies and writes the books.
+pub fn round<R: Clock + Threads + Sync>(watch: &mut Watch<R>, inputs: &Inputs) -> Option<()> {
+    let text = inputs.books.as_slice();
+    watch.begin();
+    watch.lap("lines counted", memchr_iter(b'\n', text).count());
+    lists(watch, text);
+    lists_in_parts(watch, text);
+    read_in_parts(watch, text);
+    let books = Books::read(watch.alloc, text).ok()?;
+    watch.lap("bytes read", text.len());
+    copies(watch, &books);
+    written(watch, &books);
+    Some(())
 }
 
-/// Times all of it on the file of a path.
-pub fn timed<R: Print + Clock + Threads + Sync>(
-    rt: &HostRuntime,
-    threads: &R,
-    path: &str,
-) -> io::Result<()> {
-    let text = fs::read(rt, path)?;
-    for _ in 0..ROUNDS {
-        round(threads, rt.alloc(), &text)?;
-    }
-    Ok(())
+fn lists<R: Clock>(watch: &mut Watch<R>, text: &[u8]) {
+    let lists = read_lists(watch.alloc, text).is_some();
+    watch.lap("lists read", usize::from(lists));
 }
 
-// How long the text of the books is, once they are read and copied.
-fn rewritten(alloc: Global, text: &[u8]) -> usize {
-    let Ok(books) = Books::read(alloc, text) else {
-        return 0;
-    };
-    let Ok(copy) = books.copy(alloc, books.period()) else {
-        return 0;
-    };
-    match copy.write(alloc) {
-        Ok(text) => text.len(),
-        Err(_) => 0,
-    }
+fn lists_in_parts<R: Clock + Threads + Sync>(watch: &mut Watch<R>, text: &[u8]) {
+    let lists = read_lists_in_parts(watch.rt, watch.alloc, PARTS, text).is_some();
+    watch.lap("lists read in 4 parts", usize::from(lists));
 }
 
-// Reads, copies and writes the books once.
-fn round<R: Print + Clock + Threads + Sync>(rt: &R, alloc: Global, text: &[u8]) -> io::Result<()> {
-    let mut watch = Watch::new(rt)?;
-    let lines = memchr_iter(b'\n', text).count();
-    println!(rt;
-        "{lines} lines counted in {} ms",
-        watch.lap(rt)?.as_millis()
-    )?;
-    let parts = Books::read_in_parts(rt, alloc, PARTS, text).is_ok();
-    println!(rt;
-        "read in {PARTS} parts ({parts}) in {} ms",
-        watch.lap(rt)?.as_millis()
-    )?;
-    let Ok(books) = Books::read(alloc, text) else {
-        return println!(rt; "refused");
-    };
-    println!(rt; "read in {} ms", watch.lap(rt)?.as_millis())?;
-    copies(rt, alloc, &books)?;
-    let mut watch = Watch::new(rt)?;
-    let written = books.write(alloc).is_ok();
-    println!(rt; "written ({written}) in {} ms", watch.lap(rt)?.as_millis())?;
-    let written = books.write_in_parts(rt, alloc, PARTS).is_ok();
-    println!(rt;
-        "written in {PARTS} parts ({written}) in {} ms",
-        watch.lap(rt)?.as_millis()
-    )
+fn read_in_parts<R: Clock + Threads + Sync>(watch: &mut Watch<R>, text: &[u8]) {
+    let read = Books::read_in_parts(watch.rt, watch.alloc, PARTS, text).is_ok();
+    watch.lap("books read in 4 parts", usize::from(read));
 }
 
 // Copies the books, to their own period and to its first day alone.
-fn copies<R: Print + Clock>(rt: &R, alloc: Global, books: &Books) -> io::Result<()> {
+fn copies<R: Clock>(watch: &mut Watch<R>, books: &Books) {
     let own = books.period();
-    let mut watch = Watch::new(rt)?;
-    let copied = books.copy(alloc, own).is_ok();
-    println!(rt; "copied ({copied}) in {} ms", watch.lap(rt)?.as_millis())?;
-    let Some(other) = Period::new(own.first(), own.first()) else {
-        return Ok(());
-    };
-    let copied = books.copy(alloc, other).is_ok();
-    println!(rt;
-        "copied to another period ({copied}) in {} ms",
-        watch.lap(rt)?.as_millis()
-    )
+    copied(watch, "books copied", books, own);
+    if let Some(day) = Period::new(own.first(), own.first()) {
+        copied(watch, "books copied to another period", books, day);
+    }
+}
+
+fn copied<R: Clock>(watch: &mut Watch<R>, name: &'static str, books: &Books, period: Period) {
+    watch.begin();
+    let copied = books.copy(watch.alloc, period).is_ok();
+    watch.lap(name, usize::from(copied));
+}
+
+fn written<R: Clock + Threads + Sync>(watch: &mut Watch<R>, books: &Books) {
+    watch.begin();
+    let text = books.write(watch.alloc);
+    watch.lap("bytes written", length(&text));
+    let again = books.write_in_parts(watch.rt, watch.alloc, PARTS);
+    watch.lap("bytes written in 4 parts", length(&again));
 }

@@ -1,67 +1,89 @@
-//! The files of a run.
+//! The inputs of a run, read and decoded.
 
-use crate::one_billing::{BATCH, BOOKS, SHEET, STAMP};
+ghost use Rattle.std.specs.Prelude.{IfSome, ◌≡◌};
+
+use crate::inputs::Inputs;
+use rx_batch::{Batch, read_batch};
+use rx_books_kept::Books;
+use rx_claim::Transmission;
+use rx_desk::Desk;
+use rx_fields::Lot;
+use rx_ledger::Sheet;
+use rx_sheet::read_sheet;
+use rx_wave::decode_in_parts;
 use std::alloc::Global;
-use std::io::Read;
-use std::rt::Files;
-use std::{fs, io};
+use std::thread::Threads;
 
-/// The inputs of a run.
+/// How many records a batch has at most.
+pub const MOST: usize = 100_000;
+
+/// What a run is made of.
 #[derive(Drop)]
 pub struct Job {
-    pub sheet: Vec<u8>,
-    pub books: Vec<u8>,
-    pub batch: Vec<u8>,
-    pub stamp: Vec<u8>,
+    pub sheet: Sheet,
+    pub books: Books,
+    pub batch: Batch,
+    pub asked: Vec<Transmission>,
 }
 
 impl Job {
-    /// The files of a folder.
-    pub fn read<R: Files>(rt: &R, alloc: Global, folder: &str) -> io::Result<Job> {
-        Ok(Job {
-            sheet: file(rt, alloc, folder, "sheet.toml")?,
-            books: file(rt, alloc, folder, "books.txt")?,
-            batch: file(rt, alloc, folder, "batch.bin")?,
-            stamp: file(rt, alloc, folder, "stamp")?,
-        })
+    /// The job of these inputs; None where one of them is refused, or memory was wanting.
+    pub fn of<R: Threads + Sync>(rt: &R, alloc: Global, inputs: &Inputs) -> Option<Job> {
+        let sheet = read_sheet(alloc, &inputs.sheet).ok()?;
+        let (batch, asked) = requests(rt, alloc, &sheet, &inputs.batch)?;
+        match Books::read(alloc, &inputs.books) {
+            Ok(books) => Some(Job {
+                sheet,
+                books,
+                batch,
+                asked,
+            }),
+            Err(_) => None,
+        }
     }
 
-    /// One-billing (docs/CASES.md), with one member and one drug.
-    pub fn of_one_claim(alloc: Global) -> io::Result<Job> {
-        Ok(Job {
-            sheet: SHEET.to_vec(alloc)?,
-            books: BOOKS.to_vec(alloc)?,
-            batch: BATCH.to_vec(alloc)?,
-            stamp: STAMP.to_vec(alloc)?,
-        })
+    /// The books, brought to the period of the sheet.
+    pub fn books(&self, alloc: Global) -> Option<Books>
+        ensures { IfSome result (λ books. books.period ≡ self.now.sheet.figures.period) }
+    {
+        self.books.copy(alloc, self.sheet.period()).ok()
     }
-}
 
-/// The outputs of a run.
-#[derive(Drop)]
-pub struct Texts {
-    pub response: Vec<u8>,
-    pub books: Vec<u8>,
-    pub settlement: Vec<u8>,
-}
-
-impl Texts {
-    /// Writes the files into a folder.
-    pub fn write<R: Files>(&self, rt: &R, alloc: Global, folder: &str) -> io::Result<()> {
-        put(rt, alloc, folder, "response.bin", &self.response)?;
-        put(rt, alloc, folder, "books-out.txt", &self.books)?;
-        put(rt, alloc, folder, "settlement.txt", &self.settlement)
+    /// The desk of the job; None without memory.
+    pub fn into_desk(self, alloc: Global) -> Option<Desk> {
+        let Job {
+            sheet,
+            books,
+            batch,
+            asked,
+        } = self;
+        desk_of(alloc, batch.head.lot(), &sheet, books, asked)
     }
 }
 
-fn file<R: Files>(rt: &R, alloc: Global, folder: &str, name: &str) -> io::Result<Vec<u8>> {
-    let path = format!(in alloc; "{folder}/{name}")?;
-    let mut bytes = Vec::new(alloc);
-    fs::open(rt, path.as_str())?.read_to_end(&mut bytes)?;
-    Ok(bytes)
+fn desk_of(
+    alloc: Global,
+    lot: Lot,
+    sheet: &Sheet,
+    books: Books,
+    asked: Vec<Transmission>,
+) -> Option<Desk> {
+    if asked.len() > MOST {
+        return None;
+    }
+    let books = books.with_period(alloc, sheet.period()).ok()?;
+    Desk::new(alloc, lot, sheet, books, asked).ok()
 }
 
-fn put<R: Files>(rt: &R, alloc: Global, folder: &str, name: &str, text: &[u8]) -> io::Result<()> {
-    let path = format!(in alloc; "{folder}/{name}")?;
-    fs::write(rt, path.as_str(), text)
+fn requests<R: Threads + Sync>(
+    rt: &R,
+    alloc: Global,
+    sheet: &Sheet,
+    text: &[u8],
+) -> Option<(Batch, Vec<Transmission>)> {
+    let batch = read_batch(alloc, text).ok()?;
+    match decode_in_parts(rt, alloc, 1, sheet.door(), batch.details.as_slice()) {
+        Ok(asked) => Some((batch, asked)),
+        Err(_) => None,
+    }
 }

@@ -1,71 +1,139 @@
-//! Times single calls, a module for each: `bench_calls NAME WORD`, where the word is a path or a number, as
-//! `bench/README.md` says. Without a word each makes a short round, and says in a line what it found.
+//! Times single calls, a module for each: `bench_calls NAME [FOLDER [MICROS]]`, on the inputs of a folder as
+//! `bench/make_job.py` writes them, or on one-billing (docs/CASES.md); `bench/README.md` has the figures. Without a word
+//! each makes a short round on one-billing, and says what it found.
 #![tactic(auto)]
 
 mod adjudicate;
 mod batch;
 mod books;
-mod books_quick;
-mod d0;
+mod desk;
 mod in_order;
+mod inputs;
 mod job;
-mod one_billing;
 mod reply;
-mod response;
+mod requests;
 mod schedule;
 mod shelf;
 mod timing;
+mod waves;
 
+use inputs::Inputs;
+use std::alloc::Global;
 use std::rt::{Clock, Files};
+use std::sync::Wait;
 use std::thread::Threads;
-use std::{env, io};
+use std::{env, fs, io};
+use timing::{ROUNDS, Watch};
+
+const NAMES: [&str; 10] = [
+    "adjudicate",
+    "batch",
+    "books",
+    "desk",
+    "in_order",
+    "reply",
+    "requests",
+    "schedule",
+    "shelf",
+    "waves",
+];
+
+// How often a call is made that is too short to be timed alone.
+const TURNS: u32 = 200_000;
+
+// How long the gate of `waves` holds a record up where no word says it.
+const MICROS: u64 = 10;
 
 fn main(rt: HostRuntime) -> io::Result<()> {
     let mut words = env::args(&rt)?;
     let _program = words.next();
-    match (words.next(), words.next()) {
-        (Some(name), Some(word)) => timed(&rt, &rt, name.as_str(), word.as_str()),
-        (Some(name), None) => timed(&rt, &rt, name.as_str(), ""),
-        (None, _) => small_rounds(&rt, &rt),
+    match words.next() {
+        Some(name) => timed(&rt, rt.alloc(), name.as_str(), words.next(), words.next()),
+        None => short_rounds(&rt, rt.alloc()),
     }
 }
 
-fn small_rounds<R: Print + Clock + Threads + Sync>(
-    rt: &HostRuntime,
-    threads: &R,
-) -> io::Result<()> {
-    adjudicate::small_round(rt)?;
-    batch::small_round(rt)?;
-    books::small_round(threads, rt.alloc())?;
-    books_quick::small_round(threads, rt.alloc())?;
-    d0::small_round(rt)?;
-    in_order::small_round(threads, rt.alloc())?;
-    reply::small_round(rt)?;
-    response::small_round(threads, rt.alloc())?;
-    schedule::small_round(rt)?;
-    shelf::small_round(threads, rt.alloc())
+fn short_rounds<R: Print + Clock + Threads + Wait + Sync>(rt: &R, alloc: Global) -> io::Result<()> {
+    let inputs = Inputs::of_one_billing(alloc)?;
+    for name in NAMES {
+        short_round(rt, alloc, name, &inputs)?;
+    }
+    Ok(())
 }
 
-fn timed<R: Print + Clock + Files + Threads + Sync>(
-    rt: &HostRuntime,
-    threads: &R,
+fn short_round<R: Print + Clock + Threads + Wait + Sync>(
+    rt: &R,
+    alloc: Global,
     name: &str,
-    word: &str,
+    inputs: &Inputs,
 ) -> io::Result<()> {
-    match name {
-        "adjudicate" => adjudicate::timed(rt),
-        "batch" => batch::timed(rt, word),
-        "books" => books::timed(rt, threads, word),
-        "books_quick" => books_quick::timed(rt, threads, word),
-        "d0" => d0::timed(rt, word),
-        "in_order" => in_order::timed(threads, rt.alloc(), word),
-        "reply" => reply::timed(rt, word),
-        "response" => response::timed(threads, rt.alloc(), word),
-        "schedule" => schedule::timed(rt, word),
-        "shelf" => shelf::timed(rt, threads, word),
-        _ => {
-            eprintln!(rt; "bench_calls: no calls are named {name}: see bench/README.md")?;
-            Err(io::Error::from(io::ErrorKind::InvalidInput))
+    let mut watch = Watch::new(rt, alloc, 1);
+    let _done = round(&mut watch, name, inputs, MICROS);
+    watch.tell_found(name)
+}
+
+fn timed<R: Print + Clock + Files + Threads + Wait + Sync>(
+    rt: &R,
+    alloc: Global,
+    name: &str,
+    folder: Option<String>,
+    micros: Option<String>,
+) -> io::Result<()> {
+    let micros = micros.and_then(|word| word.parse().ok()).unwrap_or(MICROS);
+    let inputs = match folder {
+        Some(folder) => Inputs::read(rt, alloc, folder.as_str())?,
+        None => Inputs::of_one_billing(alloc)?,
+    };
+    rounds(rt, alloc, name, &inputs, micros)?;
+    peak(rt, alloc)
+}
+
+fn rounds<R: Print + Clock + Threads + Wait + Sync>(
+    rt: &R,
+    alloc: Global,
+    name: &str,
+    inputs: &Inputs,
+    micros: u64,
+) -> io::Result<()> {
+    let mut watch = Watch::new(rt, alloc, TURNS);
+    for place in 0..ROUNDS {
+        watch.round = place;
+        if round(&mut watch, name, inputs, micros).is_none() {
+            return Err(io::Error::from(io::ErrorKind::InvalidInput));
         }
     }
+    watch.tell_times()
+}
+
+// A round of the calls of a name; None where there are none, one is refused, or memory was wanting.
+fn round<R: Clock + Threads + Wait + Sync>(
+    watch: &mut Watch<R>,
+    name: &str,
+    inputs: &Inputs,
+    micros: u64,
+) -> Option<()> {
+    match name {
+        "adjudicate" => adjudicate::round(watch, inputs),
+        "batch" => Some(batch::round(watch, inputs)),
+        "books" => books::round(watch, inputs),
+        "desk" => desk::round(watch, inputs),
+        "in_order" => in_order::round(watch, inputs),
+        "reply" => reply::round(watch),
+        "requests" => requests::round(watch, inputs),
+        "schedule" => schedule::round(watch, inputs),
+        "shelf" => shelf::round(watch, inputs),
+        "waves" => waves::round(watch, inputs, micros),
+        _ => None,
+    }
+}
+
+// Prints the most memory that was taken, as the kernel tells it.
+fn peak<R: Print + Files>(rt: &R, alloc: Global) -> io::Result<()> {
+    let status = io::read_to_string(alloc, fs::open(rt, "/proc/self/status")?)?;
+    for line in status.as_str().lines() {
+        if line.starts_with("VmHWM:") {
+            println!(rt; "{line}")?;
+        }
+    }
+    Ok(())
 }

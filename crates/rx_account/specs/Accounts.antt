@@ -1,4 +1,4 @@
--- The lines of a portion of a report, and its tallies.
+-- Meaning: the lines of a portion of a report, and its tallies.
 use Rattle.std.specs.Prelude.{◌≡◌, ℕ, Bool, true, false, List, [], ◌∷◌, Option, Some, None, map}
 use Rattle.std.specs.List.{filter}
 use Rattle.rx_account.specs.declared.portion.Portion.{Portion}

@@ -1,4 +1,4 @@
--- A record with the parcel that it is adjudicated on, and what comes of it.
+-- Meaning: a record with the parcel that it is adjudicated on, and what comes of it.
 use Rattle.std.specs.Prelude.{◌≡◌, ℕ, ◌≤◌, true}
 use Rattle.rx_claim.specs.declared.reply.Reply.{Reply}
 use Rattle.rx_claim.specs.declared.transmission.Transmission.{Transmission}

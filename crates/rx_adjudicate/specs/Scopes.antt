@@ -1,4 +1,4 @@
--- What a parcel answers for while a record is adjudicated on it.
+-- Plumbing: what a parcel answers for while a record is adjudicated on it.
 use Rattle.std.specs.Prelude.{ℕ, List, Some}
 use Rattle.rx_fields.specs.Numbered.{Span}
 use Rattle.rx_ledger.specs.declared.row.Row.{Row}

@@ -16,8 +16,6 @@ mod agreed;
 mod done;
 mod fitting;
 mod order;
-#[cfg(test)]
-mod tests;
 
 pub use done::{Done, adjudicate};
 pub use fitting::fits;

@@ -1,4 +1,4 @@
--- The numbers and places of the faults, and what a call answers that may want memory.
+-- Meaning: the numbers and places of the faults, and what a call answers that may want memory.
 use Rattle.std.specs.Prelude.{◌≡◌, ℕ, Option, Some, None, Result, Ok, Err, MatchResult}
 use Rattle.rx_batch.specs.declared.fault.BatchFault.{BatchFault}
 use Rattle.rx_batch.specs.declared.fault.BatchFault.TheVariants as fault

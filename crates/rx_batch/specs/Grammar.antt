@@ -1,4 +1,4 @@
--- The records of a batch file in their order, and which bytes are a file (NCPDP Batch Standard 1.2).
+-- Meaning: the records of a batch file in their order, and which bytes are a file (NCPDP Batch Standard 1.2).
 use Rattle.std.specs.Prelude.{◌≡◌, ◌≤◌, ◌⊎◌, ℕ, ◌+◌, Bool, true, false, not, ◌||◌, nat_lt, nat_le, ◌==◌, if◌then◌else◌, List}
 use Rattle.std.specs.Prelude.{[], ◌∷◌, ◌++◌, codes, length, drop, slice_range, All, Some, Result, Ok, Err}
 use Rattle.std.specs.List.{flat_map, AllZip}

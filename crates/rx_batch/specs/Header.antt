@@ -1,4 +1,4 @@
--- The fields of a batch header and of a trailer, each at its place between STX and ETX (NCPDP Batch Standard 1.2).
+-- Meaning: the fields of a batch header and of a trailer, each at its place between STX and ETX (NCPDP Batch Standard 1.2).
 use Rattle.std.specs.Prelude.{ℕ, Bool, ◌&&◌, nat_eq, nat_le, ◌==◌, if◌then◌else◌, List, codes, length, slice_index, slice_range}
 use Rattle.std.specs.Prelude.{Option, Some, None}
 use Rattle.std.specs.List.{starts_with}

@@ -1,3 +1,4 @@
+-- Plumbing: which files there are.
 pub mod Fault
 pub mod Grammar
 pub mod Header

@@ -1,4 +1,4 @@
--- What a batch that comes in pieces stands for.
+-- Plumbing: what a batch that comes in pieces stands for.
 use Rattle.std.specs.Prelude.{◌≡◌, ℕ, false, List, [], ◌∷◌, ◌++◌, Option, Some, None, Result, Ok, Err, MatchOption}
 use Rattle.rx_batch.specs.declared.fault.BatchFault.{BatchFault}
 use Rattle.rx_batch.specs.declared.front.Front.{Front}

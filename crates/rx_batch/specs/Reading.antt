@@ -1,4 +1,4 @@
--- What a text is read as: its batch, or its first fault with the place.
+-- Meaning: what a text is read as: its batch, or its first fault with the place.
 use Rattle.std.specs.Prelude.{◌≡◌, ℕ, Bool, true, false, ◌==◌, if◌then◌else◌, List, [], ◌∷◌, ◌++◌, drop, Result, Ok, Err}
 use Rattle.std.specs.List.{prefix_len, slice_split, list_any}
 use Rattle.rx_batch.specs.declared.batch.Batch.{Batch}

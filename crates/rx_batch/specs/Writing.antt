@@ -1,4 +1,4 @@
--- The one text of a batch file.
+-- Meaning: the one text of a batch file.
 use Rattle.std.specs.Prelude.{◌≡◌, ℕ, ◌+◌, All, Some, List, ◌∷◌, ◌++◌, codes, length, replicate}
 use Rattle.std.specs.List.{flat_map}
 use Rattle.rx_fields.specs.Digits.{digits_text}

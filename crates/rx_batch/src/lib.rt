@@ -32,6 +32,3 @@ pub use law::one_reading;
 pub use pieces::Pieces;
 pub use reading::read_batch;
 pub use writing::{put_detail, put_header, put_trailer, write_batch};
-
-#[cfg(test)]
-mod tests;

@@ -1,4 +1,4 @@
--- The definitions that the contracts of books and parcels cite, for the crates above.
+-- Plumbing: the definitions that the contracts of books and parcels cite, for the crates above.
 pub use Rattle.rx_books_kept.specs.BooksFile
 pub use Rattle.rx_books_kept.specs.BooksText
 pub use Rattle.rx_books_kept.specs.LedgerBooks

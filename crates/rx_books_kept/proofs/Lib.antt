@@ -18,6 +18,7 @@ pub mod Sides
 pub mod Split
 pub mod Stored
 pub mod VersionThree
+pub mod WholeBooks
 pub mod Written
 pub mod Wrong
 pub mod WrongLine

@@ -1,4 +1,4 @@
--- What a books file is, and the first fault of a text that is none (docs/FORMATS.md, "Books file").
+-- Meaning: what a books file is, and the first fault of a text that is none (docs/FORMATS.md, "Books file").
 use Rattle.std.specs.Prelude.{◌≡◌, ℕ, ◌+◌, true, List, ◌∷◌, ◌++◌, length, Option, Some, None}
 use Rattle.std.specs.List.{All}
 use Rattle.rx_fields.specs.Numbered.{Span}

@@ -1,4 +1,4 @@
--- The text of the books: the one text of a ledger with its sums (docs/FORMATS.md, "Books file").
+-- Meaning: the text of the books: the one text of a ledger with its sums (docs/FORMATS.md, "Books file").
 use Rattle.std.specs.Prelude.{ℕ, not, List, [], ◌∷◌, Option, Some, None, filter, map}
 use Rattle.std.specs.List.{flat_map}
 use Rattle.rx_fields.specs.Numbered.{Span}

@@ -1,4 +1,4 @@
--- All books: a ledger, and the figures that are looked up in it.
+-- Meaning: all books: a ledger, and the figures that are looked up in it.
 use Rattle.std.specs.Prelude.{ℕ, Bool, List, Option, Some, None, if◌then◌else◌}
 use Rattle.std.specs.List.{list_any}
 use Rattle.rx_fields.specs.Numbered.{Span}

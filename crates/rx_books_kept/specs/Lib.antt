@@ -1,9 +1,12 @@
+-- Plumbing: which files there are.
 pub mod BooksFile
 pub mod BooksText
 pub mod Figures
+pub mod Form
 pub mod LedgerBooks
 pub mod Lists
 pub mod OpenBooks
 pub mod Opening
 pub mod Standing
 pub mod Store
+pub mod WholeBooks

@@ -1,4 +1,4 @@
--- The lists that a books text prints, where its figures are the sums of its claims.
+-- Plumbing: the lists that a books text prints, where its figures are the sums of its claims.
 use Rattle.std.specs.Prelude.{◌≡◌, ℕ, List, [], ◌∷◌}
 use Rattle.rx_ledger.specs.Ledger.{IsLedger}
 use Rattle.rx_books_text.specs.declared.line.TotalLine.{TotalLine}

@@ -1,4 +1,4 @@
--- Open books: the books, and the fill keys that have a slot.
+-- Plumbing: open books: the books, and the fill keys that have a slot.
 use Rattle.std.specs.Prelude.{List}
 use Rattle.rx_fields.specs.declared.key.Key.{Key}
 use Rattle.rx_ledger.specs.declared.row.Row.{Row}

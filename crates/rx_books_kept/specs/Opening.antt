@@ -1,4 +1,4 @@
--- The families of the lists that books were made from.
+-- Plumbing: the families of the lists that books were made from.
 use Rattle.std.specs.Prelude.{ℕ, List, [], ◌∷◌, Some, map}
 use Rattle.std.specs.List.{flat_map}
 use Rattle.std.specs.Borrow.{Bor}

@@ -1,4 +1,4 @@
--- A pass over the rows that stand, side by side with the slots.
+-- Plumbing: a pass over the rows that stand, side by side with the slots.
 use Rattle.std.specs.Prelude.{ℕ, ◌≤◌, Bool, true, false, not, List, [], ◌∷◌, Option, Some, None, cond, drop, length}
 use Rattle.std.specs.List.{All}
 use Rattle.std.specs.Ordering.{is_eq, is_lt}

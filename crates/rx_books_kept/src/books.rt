@@ -1,22 +1,19 @@
-ghost use Rattle.std.specs.Prelude.{◌≡◌, ◌↔◌, ◌<◌, ◌^◌, IfErr, IfOk, IsTrue, Ok, length};
+ghost use Rattle.std.specs.Prelude.{◌≡◌, ◌↔◌, IfErr, IfOk, IfSome, IsTrue, Ok};
 ghost use Rattle.std.specs.Option.{option_copied};
 ghost use Rattle.rx_fields.specs.Numbered.{Span};
 ghost use Rattle.rx_ledger.specs.Ledger.{Ledger, row_under};
 ghost use Rattle.rx_books_kept.specs.BooksFile.{HasBooksFault, IsBooksText};
 ghost use Rattle.rx_books_kept.specs.BooksText.{books_text};
 ghost use Rattle.rx_books_text.specs.Fault.{Gives, UnlessMemory};
-ghost use Rattle.rx_books_text.specs.Printed.{lines_of};
-ghost use Rattle.rx_books_kept.specs.Figures.{books_of, unsummed, wrong_line};
+ghost use Rattle.rx_books_kept.specs.Figures.{books_of};
 ghost use Rattle.rx_books_kept.specs.LedgerBooks.{deductible_of_family, deductible_of_member, out_of_pocket_of_family};
 
-use crate::holders::{holders_of, one_run};
+use crate::amended::AmendedBooks;
 use crate::open_books::OpenBooks;
-use crate::opening::Opening;
-use crate::places::Places;
-use rx_books_text::{BooksFault, Printed, Version, put_head, read_printed};
+use crate::whole::Whole;
+use rx_books_text::{BooksFault, Version, read_printed};
 use rx_fields::{Id, Key, Memory, Period, Person};
 use rx_ledger::{Ledger, Row};
-use rx_order::Ascending;
 use std::alloc::Global;
 use std::marker::Model;
 
@@ -25,7 +22,15 @@ use std::marker::Model;
 /// "Accumulators").
 #[derive(Debug, Drop)]
 pub struct Books {
-    pub(crate) kept: OpenBooks,
+    pub(crate) form: Form,
+}
+
+/// The two forms of books: as all are that were read or made of a ledger, and as a shelf leaves them where a family has
+/// other members than the opening's.
+#[derive(Debug, Drop)]
+pub(crate) enum Form {
+    Plain(OpenBooks),
+    Amended(AmendedBooks),
 }
 
 impl Model for Books {
@@ -33,7 +38,9 @@ impl Model for Books {
 
     ghost Value = { LedgerBooks };
 
-    ghost view = { λ b. b.kept.books };
+    ghost use Rattle.rx_books_kept.specs.Form.{books_in};
+
+    ghost view = { λ b. books_in b.form };
 }
 
 impl Books {
@@ -41,13 +48,7 @@ impl Books {
     pub fn from_ledger(alloc: Global, ledger: &Ledger, period: Period) -> Result<Books, Memory>
         ensures { IfOk result (λ books. books ≡ record { period = period; ledger = ledger.now }) }
     {
-        let (members, rows) = ledger.copy(alloc)?.into_lists();
-        let rows = one_run(alloc, rows)?;
-        let places = Places::of(alloc, members.as_slice()).ok_or(Memory)?;
-        let holders = holders_of(alloc, &places, &members, &rows).ok_or(Memory)?;
-        let opening = Opening::of(alloc, members, rows, holders, places)?;
-        let kept = OpenBooks::added_up(alloc, period, opening, Ascending::new(alloc))?;
-        Ok(Books { kept })
+        Ok(OpenBooks::from_ledger(alloc, ledger, period)?.close())
     }
 
     /// The books of a text, or its first fault (docs/FORMATS.md, "Books file"). A text is accepted exactly where it is the
@@ -73,100 +74,127 @@ impl Books {
         ensures { Gives result (books_of text.now) }
     {
         let printed = read_printed(alloc, text)?;
-        let books = Books::from_ledger(alloc, printed.ledger(), printed.head().period)?;
+        let books = OpenBooks::from_ledger(alloc, printed.ledger(), printed.head().period)?;
         match books.wrong_line(&printed) {
             Some(line) => Err(BooksFault::Totals(line)),
-            None => Ok(books),
+            None => Ok(books.close()),
         }
-    }
-
-    // The number of the first line of which a figure isn't the sum, or of a missing total line.
-    fn wrong_line(&self, printed: &Printed) -> Option<u64>
-        requires own { self.now ≡ unsummed printed.now }
-        requires one_each { length printed.now.deductibles ≡ length printed.now.ledger.members }
-        requires few { length (lines_of printed.now) < 2 ^ 32 }
-        ensures { result ≡ wrong_line printed.now }
-    {
-        let (members, rows) = (printed.ledger().members(), printed.ledger().rows());
-        if let Some(at) = self.wrong_member(members, printed.deductibles()) {
-            return Some(at as u64 + 2);
-        }
-        let above = (members.len() + rows.len() + 2) as u64;
-        if let Some(at) = self.wrong_total(printed.totals()) {
-            return Some(above + at as u64);
-        }
-        if self.kept.all_have_totals(printed.totals()) {
-            return None;
-        }
-        Some(above + printed.totals().len() as u64)
     }
 
     /// The plain ledger: all members and rows.
     pub fn ledger(&self, alloc: Global) -> Result<Ledger, Memory>
         ensures { IfOk result (λ ledger. ledger ≡ self.now.ledger) }
     {
-        self.kept.ledger(alloc)
+        match &self.form {
+            Form::Plain(books) => books.ledger(alloc),
+            Form::Amended(books) => books.whole().ledger(alloc),
+        }
     }
 
     /// The same members and rows, with the totals of this period.
     pub fn copy(&self, alloc: Global, period: Period) -> Result<Books, Memory>
         ensures { IfOk result (λ books. books ≡ record { period = period; ledger = self.now.ledger }) }
     {
-        let kept = self.kept.copy(alloc, period)?;
-        Ok(Books { kept })
+        match &self.form {
+            Form::Plain(books) => Ok(books.copy(alloc, period)?.close()),
+            Form::Amended(books) => Ok(books.whole().made_plain(alloc, period)?.close()),
+        }
     }
 
     /// These books, with the totals of this period.
     pub fn with_period(self, alloc: Global, period: Period) -> Result<Books, Memory>
         ensures { IfOk result (λ books. books ≡ record { period = period; ledger = self.ledger }) }
     {
-        let kept = self.kept.with_period(alloc, period)?;
-        Ok(Books { kept })
+        let Books { form } = self;
+        match form {
+            Form::Plain(books) => Ok(books.with_period(alloc, period)?.close()),
+            Form::Amended(books) => Ok(books.whole().made_plain(alloc, period)?.close()),
+        }
     }
 
     /// The text of the books, in version 3 (docs/FORMATS.md, "Books file").
     pub fn write(&self, alloc: Global) -> Result<Vec<u8>, Memory>
         ensures { IfOk result (λ text. text.items ≡ books_text Version.Three self.now.period self.now.ledger) }
     {
-        self.kept.write_over(Vec::new(alloc))
+        match &self.form {
+            Form::Plain(books) => books.write_over(Vec::new(alloc)),
+            Form::Amended(books) => {
+                let books = books.whole();
+                books
+                    .made_plain(alloc, books.period())?
+                    .write_over(Vec::new(alloc))
+            }
+        }
     }
 
     /// The period that the totals are of.
     pub fn period(&self) -> Period
         ensures { result ≡ self.now.period }
     {
-        self.kept.period()
+        match &self.form {
+            Form::Plain(books) => books.period(),
+            Form::Amended(books) => books.whole().period(),
+        }
     }
 
     /// The row under a fill key.
     pub fn row(&self, key: &Key) -> Option<&Row>
         ensures { option_copied result ≡ row_under self.now.ledger key.now }
     {
-        self.kept.row(key)
+        match &self.form {
+            Form::Plain(books) => books.row(key),
+            Form::Amended(books) => books.whole().row(key),
+        }
     }
 
     /// The deductible of a person so far, in cents; None where that is no listed member.
     pub fn deductible(&self, family: &Id, person: &Person) -> Option<u128>
         ensures { result ≡ deductible_of_member self.now family.now person.now }
     {
-        let at = self.kept.member_of(family, person)?;
-        Some(self.kept.deductible_at(at))
+        match &self.form {
+            Form::Plain(books) => books.deductible(family, person),
+            Form::Amended(books) => books.whole().deductible(family, person),
+        }
     }
 
     /// The out of pocket of a family so far, in cents; None where it has no member.
     pub fn out_of_pocket(&self, family: &Id) -> Option<u128>
         ensures { result ≡ out_of_pocket_of_family self.now family.now }
     {
-        let at = self.kept.family_of(family)?;
-        Some(self.kept.out_of_pocket_at(at))
+        match &self.form {
+            Form::Plain(books) => books.out_of_pocket(family),
+            Form::Amended(books) => books.whole().out_of_pocket(family),
+        }
     }
 
     /// The deductible of a family so far, in cents; None where it has no member.
     pub fn family_deductible(&self, family: &Id) -> Option<u128>
         ensures { result ≡ deductible_of_family self.now family.now }
     {
-        let at = self.kept.family_of(family)?;
-        Some(self.kept.family_deductible_at(at))
+        match &self.form {
+            Form::Plain(books) => books.family_deductible(family),
+            Form::Amended(books) => books.whole().family_deductible(family),
+        }
+    }
+
+    // The open books that these are, where they are plain.
+    pub(crate) fn plain(&self) -> Option<&OpenBooks>
+        ensures { IfSome result (λ books. books.now.books ≡ self.now) }
+    {
+        match &self.form {
+            Form::Plain(books) => Some(books),
+            Form::Amended(_) => None,
+        }
+    }
+
+    // All of them, in whichever form.
+    fn whole(&self) -> Whole<'_>
+        ensures { result ≡ self.now }
+    {
+        match &self.form {
+            Form::Plain(books) => Whole::alone(books),
+            Form::Amended(books) => books.whole(),
+        }
     }
 }
 
@@ -181,13 +209,13 @@ impl PartialEq for Books {
     fn eq(&self, other: &Books) -> bool
         ensures { IsTrue result ↔ (self.now ≡ other.now) }
     {
-        self.kept.is_same(&other.kept)
+        match (self.plain(), other.plain()) {
+            (Some(ours), Some(theirs)) => ours.is_same(theirs),
+            _ => self.whole().is_same(&other.whole()),
+        }
     }
 }
 
 impl Eq for Books {
     ghost laws = { same_equivalence books_row.coded };
 }
-
-#[cfg(test)]
-mod tests;

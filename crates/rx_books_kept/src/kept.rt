@@ -11,8 +11,10 @@ ghost use Rattle.rx_books_kept.specs.Figures.{has_total};
 ghost use Rattle.rx_books_kept.specs.Store.{IsSlot, slot_keys, standing};
 
 use crate::figures::has_total;
+use crate::holders::{holders_of, one_run};
 use crate::open_books::OpenBooks;
 use crate::opening::{FamilyName, Opening};
+use crate::places::Places;
 use crate::slot::KeySlot;
 use crate::standing::Standing;
 use crate::summing::{Figures, summed};
@@ -28,6 +30,22 @@ use std::thread::Threads;
 const OTHER: usize = 64;
 
 impl OpenBooks {
+    /// The books of a ledger, each total summed once over the rows of the period.
+    pub(crate) fn from_ledger(
+        alloc: Global,
+        ledger: &Ledger,
+        period: Period,
+    ) -> Result<OpenBooks, Memory>
+        ensures { IfOk result (λ b. b.books ≡ record { period = period; ledger = ledger.now }) }
+    {
+        let (members, rows) = ledger.copy(alloc)?.into_lists();
+        let rows = one_run(alloc, rows)?;
+        let places = Places::of(alloc, members.as_slice()).ok_or(Memory)?;
+        let holders = holders_of(alloc, &places, &members, &rows).ok_or(Memory)?;
+        let opening = Opening::of(alloc, members, rows, holders, places)?;
+        OpenBooks::added_up(alloc, period, opening, Ascending::new(alloc))
+    }
+
     /// The books of what stands, their figures added up.
     pub(crate) fn added_up(
         alloc: Global,
@@ -117,8 +135,8 @@ impl OpenBooks {
         Ok(Ledger::from_lists(members, rows))
     }
 
-    // The rows that stand.
-    fn rows(&self, alloc: Global) -> Result<Ascending<Row>, Memory>
+    /// The rows that stand.
+    pub(crate) fn rows(&self, alloc: Global) -> Result<Ascending<Row>, Memory>
         ensures value { IfOk result (λ rows. rows ≡ self.now.books.ledger.rows) }
         ensures within { IsLedger self.now.books.ledger }
     {
@@ -264,8 +282,8 @@ impl OpenBooks {
     }
 }
 
-// A text as its one piece.
-fn in_one_piece(alloc: Global, text: Vec<u8>) -> Result<Vec<Vec<u8>>, Memory>
+/// A text as its one piece.
+pub(crate) fn in_one_piece(alloc: Global, text: Vec<u8>) -> Result<Vec<Vec<u8>>, Memory>
     ensures { IfOk result (λ pieces. flat_map vec_items pieces.items ≡ text.items) }
 {
     let mut pieces = Vec::new(alloc);

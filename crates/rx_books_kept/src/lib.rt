@@ -12,15 +12,19 @@
 //! ```
 //!
 //! The lists that books were made from never change, and copies share them (`opening`). Over them stand the slots
-//! (`slot`): what stands now is the opening rows with what each slot holds (`specs/Store.antt`).
+//! (`slot`): what stands now is the opening rows with what each slot holds (`specs/Store.antt`). Where a shelf was given
+//! books with other members than these, its own places stand instead (`amended`, `specs/WholeBooks.antt`).
 //!
 //! What a books file is, and which fault a text has that is none, stands in `specs/BooksFile.antt`; what a total is in
 //! `rx_ledger`'s `specs/Sums.antt`, what a line is in `rx_books_text`'s `specs/`. Which claims are added and taken out
 //! is left to the crates above.
 #![tactic(auto)]
 
+mod amended;
 mod amounts;
 mod books;
+mod collecting;
+mod comparing;
 mod figures;
 mod holders;
 mod kept;
@@ -35,6 +39,7 @@ mod search;
 mod slot;
 mod standing;
 mod summing;
+mod whole;
 mod writing;
 
 pub use books::Books;

@@ -1,4 +1,4 @@
-ghost use Rattle.std.specs.Prelude.{◌≡◌, ◌<◌, IfOk, IfSome, IfNone, IsTrue, Some, true, false, is_some, length, slice_get};
+ghost use Rattle.std.specs.Prelude.{◌≡◌, ◌<◌, ◌↔◌, IfOk, IfSome, IfNone, IsTrue, Some, true, false, is_some, length, slice_get};
 ghost use Rattle.std.specs.List.{All, Contains};
 ghost use Rattle.std.specs.Option.{option_copied};
 ghost use Rattle.rx_fields.specs.Order.{key_cmp};
@@ -12,7 +12,7 @@ ghost use Rattle.rx_books_kept.specs.LedgerBooks.{has_members};
 ghost use Rattle.rx_books_kept.specs.OpenBooks.{open_with, open_without};
 
 use crate::amounts::{add_at, take_at};
-use crate::books::Books;
+use crate::books::{Books, Form};
 use crate::opened::{fresh_slots, merged};
 use crate::opening::Opening;
 use crate::slot::{KeySlot, held_at, is_slot_at, slot_at};
@@ -58,8 +58,15 @@ impl Books {
         ensures same { IfOk result (λ opened. opened.books ≡ self) }
         ensures slots { IfOk result (λ opened. All (Contains opened.slots) keys.now) }
     {
-        let Books { kept } = self;
-        kept.opened(alloc, keys)
+        let Books { form } = self;
+        match form {
+            Form::Plain(books) => books.opened(alloc, keys),
+            Form::Amended(books) => {
+                let books = books.whole();
+                let books = books.made_plain(alloc, books.period())?;
+                books.opened(alloc, keys)
+            }
+        }
     }
 }
 
@@ -75,7 +82,9 @@ impl OpenBooks {
     pub fn close(self) -> Books
         ensures { result ≡ self.books }
     {
-        Books { kept: self }
+        Books {
+            form: Form::Plain(self),
+        }
     }
 
     /// The place of a fill key's slot; None where the key has none.
@@ -102,7 +111,7 @@ impl OpenBooks {
 
     /// Whether the fill key has its slot at this place.
     pub fn is_slot(&self, slot: usize, key: &Key) -> bool
-        ensures { IsTrue result → slice_get self.now.slots slot ≡ Some key.now }
+        ensures { IsTrue result ↔ (slice_get self.now.slots slot ≡ Some key.now) }
     {
         match self.changed.as_slice().get(slot) {
             Some(found) => found.key == *key,

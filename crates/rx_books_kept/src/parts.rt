@@ -9,6 +9,7 @@ ghost use Rattle.rx_books_kept.specs.Figures.{books_of};
 ghost use Rattle.rx_books_text.specs.Fault.{Gives, UnlessMemory};
 
 use crate::books::Books;
+use crate::kept::in_one_piece;
 use crate::writing::put_texts;
 use rx_books_text::{BooksFault, Version};
 use rx_fields::Memory;
@@ -53,7 +54,11 @@ impl Books {
             return self.write(alloc);
         }
         let pieces = self.write_pieces(rt, alloc, parts, Vec::new(alloc))?;
-        let mut text = Vec::with_capacity(alloc, self.kept.room())?;
+        let room = match self.plain() {
+            Some(books) => books.room(),
+            None => 0,
+        };
+        let mut text = Vec::with_capacity(alloc, room)?;
         put_texts(&mut text, &pieces)?;
         Ok(text)
     }
@@ -71,13 +76,13 @@ impl Books {
         ensures { IfOk result (λ pieces.
             flat_map vec_items pieces.items ≡ books_text Version.Three self.now.period self.now.ledger) }
     {
-        match self.kept.write_pieces(rt, alloc, parts, spent) {
+        let Some(books) = self.plain() else {
+            return in_one_piece(alloc, self.write(alloc)?);
+        };
+        match books.write_pieces(rt, alloc, parts, spent) {
             Ok(pieces) => Ok(pieces),
             // Where threads or memory for parts are wanting, one part may do.
-            Err(Memory) => self.kept.write_pieces(rt, alloc, 1, Vec::new(alloc)),
+            Err(Memory) => books.write_pieces(rt, alloc, 1, Vec::new(alloc)),
         }
     }
 }
-
-#[cfg(test)]
-mod tests;

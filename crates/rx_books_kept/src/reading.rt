@@ -62,13 +62,25 @@ impl Books {
         }
     }
 
-    // The books of these lists, where each figure is the sum. None where one isn't, or a family has no total line, or for
-    // want of memory.
+    // The books of these lists, where each figure is the sum.
     fn of_lists(alloc: Global, lists: Lists, holders: Vec<u32>, places: Places) -> Option<Books>
         requires few { length lists.members < 2 ^ 32 }
         requires held { AreHolders lists.members lists.rows holders.items }
         ensures books { IfSome result (λ books. books ≡ unsummed (printed_lists lists)) }
         ensures sums { IfSome result (λ books. AreSummed (printed_lists lists)) }
+    {
+        Some(OpenBooks::of_lists(alloc, lists, holders, places)?.close())
+    }
+}
+
+impl OpenBooks {
+    // The open books of these lists, where each figure is the sum. None where one isn't, or a family has no total line, or for
+    // want of memory.
+    fn of_lists(alloc: Global, lists: Lists, holders: Vec<u32>, places: Places) -> Option<OpenBooks>
+        requires few { length lists.members < 2 ^ 32 }
+        requires held { AreHolders lists.members lists.rows holders.items }
+        ensures books { IfSome result (λ kept. kept.books ≡ unsummed (printed_lists lists)) }
+        ensures sums { IfSome result (λ kept. AreSummed (printed_lists lists)) }
     {
         let Lists {
             head,
@@ -82,11 +94,9 @@ impl Books {
         if !kept.prints(head.version, &deductibles, totals.as_slice()) {
             return None;
         }
-        Some(Books { kept })
+        Some(kept)
     }
-}
 
-impl OpenBooks {
     // Whether these are the figures of the members and the total lines of the families in a version.
     fn prints(&self, version: Version, deductibles: &[u128], totals: &[TotalLine]) -> bool
         ensures members { IsTrue result → deductibles.now ≡ deductibles_of self.now.books.period self.now.books.ledger }

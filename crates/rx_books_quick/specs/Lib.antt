@@ -1,3 +1,4 @@
+-- Plumbing: which files there are.
 pub mod Fields
 pub mod Lists
 pub mod Parts

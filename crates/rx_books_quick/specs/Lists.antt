@@ -1,4 +1,4 @@
--- The lists that a books text prints, before anything is looked up in them (docs/FORMATS.md, "Books file").
+-- Plumbing: the lists that a books text prints, before anything is looked up in them (docs/FORMATS.md, "Books file").
 use Rattle.std.specs.Prelude.{◌≡◌, ℕ, ◌≤◌, List, ◌++◌, length, map, All}
 use Rattle.std.specs.List.{flat_map}
 use Rattle.rx_order.specs.Ascending.{IsAscending}

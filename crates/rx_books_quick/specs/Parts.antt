@@ -1,4 +1,4 @@
--- Parts of the lines of a books file, and how they are put behind one another.
+-- Plumbing: parts of the lines of a books file, and how they are put behind one another.
 use Rattle.std.specs.Prelude.{◌≡◌, ◌+◌, ◌<◌, Bool, ◌&&◌, ◌||◌, ◌==◌, List, length}
 use Rattle.std.specs.List.{flat_map}
 use Rattle.std.specs.Vec.{vec_items}

@@ -1,4 +1,4 @@
--- The tests by which it is told whether all books of a shelf are in and agree.
+-- Plumbing: the tests by which it is told whether all books of a shelf are in and agree.
 use Rattle.std.specs.Prelude.{Bool, true, ◌&&◌, ◌||◌, Option, Some, None}
 use Rattle.std.specs.List.{list_all}
 use Rattle.rx_ledger.specs.declared.row.Row.{Row}

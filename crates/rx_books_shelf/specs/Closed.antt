@@ -1,52 +1,35 @@
--- The books that a closed shelf makes.
-use Rattle.std.specs.Prelude.{◌≡◌, ℕ, Bool, true, false, ◌&&◌, List, Option, Some, None}
+-- Plumbing: the books that a closed shelf makes.
+use Rattle.std.specs.Prelude.{Bool, true, ◌&&◌, List, Option, Some, None}
 use Rattle.std.specs.List.{Contains, list_all}
 use Rattle.rx_fields.specs.Order.{key_cmp}
 use Rattle.rx_fields.specs.declared.key.Key.{Key}
-use Rattle.rx_order.specs.Ascending.{item_at}
 use Rattle.rx_order.specs.Overlaid.{overlaid, with_slot}
 use Rattle.rx_ledger.specs.declared.member.Member.{Member}
 use Rattle.rx_ledger.specs.declared.row.Row.{Row}
-use Rattle.rx_ledger.specs.contracts.member.MemberPartialEq.TheImpl.{ghosts as member}
-use Rattle.rx_ledger.specs.Ledger.{members_of}
-use Rattle.rx_ledger.specs.Members.{member_cmp, member_key}
 use Rattle.rx_ledger.specs.Rows.{row_key}
-use Rattle.rx_parcels.specs.Books.{OfFamily}
 use Rattle.rx_books_kept.specs.OpenBooks.{OpenParts}
 use Rattle.rx_places.specs.declared.place.FamilyPlace.{FamilyPlace}
 use Rattle.rx_places.specs.declared.place.KeyPlace.{KeyPlace}
-use Rattle.rx_places.specs.Shelves.{ShelfParts, family_place, family_value, place_key, row_held, value_of}
+use Rattle.rx_places.specs.Amended.{is_among, members_held}
+use Rattle.rx_places.specs.Shelves.{ShelfParts, family_place, place_key, row_held}
 
 -- ---- the members
-
--- what was found is the member
-abbrev pub is_member_found : Member → Option Member → Bool
-is_member_found m None = false
-is_member_found m (Some n) = member.eq n m
-
--- a member of these is the member
-abbrev pub is_among : List Member → Member → Bool
-is_among members m = is_member_found m (item_at member_cmp member_key members m.key)
 
 -- the member is in the book of the family, where that has a place
 abbrev pub is_in_place : Option FamilyPlace → Member → Bool
 is_in_place None m = true
-is_in_place (Some p) m = is_among (family_value p).members m
+is_in_place (Some p) m = is_among (members_held p) m
 
 abbrev pub is_member_held : ShelfParts → Member → Bool
 is_member_held s m = is_in_place (family_place s m.key.family) m
 
 -- each member of the family's book is one beside
 abbrev pub does_book_keep : ShelfParts → FamilyPlace → Bool
-does_book_keep s p = list_all (is_among s.rest.members) (family_value p).members
+does_book_keep s p = list_all (is_among s.rest.members) (members_held p)
 
 -- the books have the members that the families have beside
 abbrev pub are_members_kept : ShelfParts → Bool
 are_members_kept s = list_all (is_member_held s) s.rest.members && list_all (does_book_keep s) s.families
-
--- that is: the value of each family has the members that the family has beside
-abbrev pub KeepsMembers : ShelfParts → Type 0
-KeepsMembers s = (f : List ℕ) → (value_of s (OfFamily f)).members ≡ members_of s.rest f
 
 -- ---- the rows
 

@@ -1,4 +1,4 @@
--- The numbers of the faults.
+-- Meaning: the numbers of the faults.
 use Rattle.std.specs.Prelude.{ℕ}
 use Rattle.rx_books_shelf.specs.declared.fault.TakeFault.{TakeFault}
 use Rattle.rx_books_shelf.specs.declared.fault.TakeFault.TheVariants as take

@@ -1,4 +1,4 @@
--- Books of families while members and rows are put into them.
+-- Plumbing: books of families while members and rows are put into them.
 use Rattle.std.specs.Prelude.{ℕ, if◌then◌else◌}
 use Rattle.rx_ledger.specs.declared.member.Member.{Member}
 use Rattle.rx_ledger.specs.declared.row.Row.{Row}

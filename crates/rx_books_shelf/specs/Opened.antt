@@ -1,4 +1,4 @@
--- The shelf of books, with all of them in: a place for each book that a footprint names.
+-- Meaning: the shelf of books, with all of them in: a place for each book that a footprint names.
 use Rattle.std.specs.Prelude.{ℕ, Bool, List, [], Some, map}
 use Rattle.std.specs.List.{list_any}
 use Rattle.rx_fields.specs.Numbered.{Span}

@@ -1,4 +1,4 @@
--- What is taken from a shelf, and what is given back to it.
+-- Meaning: what is taken from a shelf, and what is given back to it.
 use Rattle.std.specs.Prelude.{ℕ, Bool, ◌&&◌, List, Option, Some, None, if◌then◌else◌, map}
 use Rattle.std.specs.List.{flat_map, list_all}
 use Rattle.std.specs.Option.{option_and_then, option_to_list}

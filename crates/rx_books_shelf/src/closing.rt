@@ -1,49 +1,66 @@
-ghost use Rattle.std.specs.Prelude.{◌≡◌, ◌↔◌, ◌&&◌, IfErr, IfOk, IfSome, IsOk, Some, false, slice_get, true};
+ghost use Rattle.std.specs.Prelude.{◌≡◌, ◌↔◌, IfErr, IfOk, IfSome, IsOk, Some, false, slice_get, true};
 ghost use Rattle.std.specs.List.{All, list_all};
-ghost use Rattle.rx_order.specs.Ascending.{IsAscending};
 ghost use Rattle.rx_ledger.specs.Ledger.{IsLedger, is_listed, is_taken};
-ghost use Rattle.rx_ledger.specs.Members.{member_cmp, member_key};
 ghost use Rattle.rx_ledger.specs.Rows.{member_of_row};
 ghost use Rattle.rx_parcels.specs.Books.{Book, book};
 ghost use Rattle.rx_books_kept.specs.OpenBooks.{open_with, open_without};
-ghost use Rattle.rx_places.specs.Shelves.{AreAllAgreed, HoldsOwnRow, IsShelf, are_all_in, family_value, row_held, value_of};
-ghost use Rattle.rx_books_shelf.specs.Closed.{HasSlot, KeepsMembers, are_members_kept, does_book_keep, is_among, is_member_held, open_over, with_place};
+ghost use Rattle.rx_places.specs.Shelves.{AreAllAgreed, HoldsOwnRow, IsShelf, are_all_in, row_held, value_of};
+ghost use Rattle.rx_books_shelf.specs.Closed.{HasSlot, are_members_kept, does_book_keep, is_member_held, open_over, with_place};
 
 use crate::keys::row_held;
 use crate::shelf::Shelf;
 use rx_books_kept::{Books, OpenBooks};
 use rx_fields::Key;
 use rx_ledger::{Member, Row};
-use rx_order::place_of;
-use rx_places::{FamilyPlace, KeyPlace};
+use rx_places::{FamilyPlace, KeyPlace, is_among};
 
 impl Shelf {
-    /// The books of all values. It takes no memory. While a book is out the shelf comes back, and where a family's book
-    /// has other members than the books that the shelf was made of.
+    /// The books of all values. It takes no memory. While a book is out the shelf comes back.
     pub fn close(self) -> Result<Books, Shelf>
         requires { are_all_in self ≡ true → AreAllAgreed (value_of self) }
-        ensures ok { IsOk result ↔ ((are_all_in self ≡ true) × KeepsMembers self) }
+        ensures ok { IsOk result ↔ (are_all_in self ≡ true) }
         ensures period { IfOk result (λ books. books.period ≡ self.period) }
         ensures values { IfOk result (λ books. (b : Book) → book b books.ledger ≡ value_of self b) }
         ensures within { IfOk result (λ books. IsLedger books.ledger) }
         ensures back { IfErr result (λ shelf. shelf ≡ self) }
     {
-        if !self.can_be_closed() {
+        if !self.are_all_in() {
             return Err(self);
         }
+        if self.are_members_kept() {
+            Ok(self.written())
+        } else {
+            Ok(self.amended())
+        }
+    }
+
+    // The opened books with each key's row written into its slot.
+    fn written(self) -> Books
+        requires agreed { AreAllAgreed (value_of self) }
+        requires members { are_members_kept self ≡ true }
+        ensures period { result.period ≡ self.period }
+        ensures values { (b : Book) → book b result.ledger ≡ value_of self b }
+        ensures within { IsLedger result.ledger }
+    {
         let Shelf { books, keys, .. } = self;
         let books = brought(books, keys.as_slice());
         let _told = books.standing();
-        Ok(books.close())
+        books.close()
     }
 
-    // Whether no book is out, and each family's book has the members that the family has beside.
-    fn can_be_closed(&self) -> bool
-        ensures value { result ≡ (are_all_in self.now && are_members_kept self.now) }
-        ensures within { IsShelf self.now }
+    // The opened books with the places, which stand instead of what the books hold.
+    fn amended(self) -> Books
+        requires { AreAllAgreed (value_of self) }
+        ensures period { result.period ≡ self.period }
+        ensures values { (b : Book) → book b result.ledger ≡ value_of self b }
+        ensures within { IsLedger result.ledger }
     {
-        let _period = self.period();
-        self.are_all_in() && self.are_members_kept()
+        let Shelf {
+            books,
+            keys,
+            families,
+        } = self;
+        books.close_with(keys, families)
     }
 
     // Whether each family's book has the members that the family has beside.
@@ -68,7 +85,7 @@ impl Shelf {
         ensures { result ≡ is_member_held self.now member.now }
     {
         match self.families.get(&member.key.family) {
-            Some(place) => has_member(members_held(place), member),
+            Some(place) => is_among(place.members(), member),
             None => true,
         }
     }
@@ -86,30 +103,10 @@ impl Shelf {
     fn does_book_keep(&self, place: &FamilyPlace) -> bool
         ensures { result ≡ does_book_keep self.now place.now }
     {
-        members_held(place)
+        place
+            .members()
             .iter()
-            .all(|member| has_member(self.books.members(), member))
-    }
-}
-
-// The members of a family's book, if it is in its place.
-fn members_held(place: &FamilyPlace) -> &[Member]
-    ensures { result.now ≡ (family_value place.now).members }
-{
-    match &place.held {
-        Some(book) => book.members(),
-        None => &[],
-    }
-}
-
-// Whether the member is one of these.
-fn has_member(members: &[Member], member: &Member) -> bool
-    requires { IsAscending member_cmp member_key members.now }
-    ensures { result ≡ is_among members.now member.now }
-{
-    match place_of(members, &member.key) {
-        Ok(at) => members[at] == *member,
-        Err(_) => false,
+            .all(|member| is_among(self.books.members(), member))
     }
 }
 

@@ -30,6 +30,3 @@ mod unsummed;
 
 pub use fault::{GiveFault, TakeFault};
 pub use shelf::Shelf;
-
-#[cfg(test)]
-mod tests;

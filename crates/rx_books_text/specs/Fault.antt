@@ -1,4 +1,4 @@
--- The numbers and lines of the faults, and what a call answers that may want memory.
+-- Meaning: the numbers and lines of the faults, and what a call answers that may want memory.
 use Rattle.std.specs.Prelude.{◌≡◌, ℕ, Option, Some, None, Result, Ok, Err, MatchResult}
 use Rattle.rx_ledger.specs.declared.ledger.AddError.{AddError}
 use Rattle.rx_ledger.specs.declared.ledger.AddError.TheVariants as error

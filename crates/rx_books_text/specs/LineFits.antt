@@ -1,4 +1,4 @@
--- The limits of the lines of a books file, and what each version prints (docs/FORMATS.md, "Books file").
+-- Meaning: the limits of the lines of a books file, and what each version prints (docs/FORMATS.md, "Books file").
 use Rattle.std.specs.Prelude.{◌≡◌, ℕ, ◌^◌, ◌<◌, ◌≤◌, true, Option, Some, None}
 use Rattle.rx_fields.specs.Calendar.{IsCivil}
 use Rattle.rx_fields.specs.Numbered.{Span, is_span}

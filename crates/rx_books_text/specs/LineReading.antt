@@ -1,4 +1,4 @@
--- What the text of a line is read as (docs/FORMATS.md, "Books file").
+-- Plumbing: what the text of a line is read as (docs/FORMATS.md, "Books file").
 use Rattle.std.specs.Prelude.{ℕ, ◌+◌, ◌*◌, Bool, false, not, ◌&&◌, nat_eq, ◌==◌, if◌then◌else◌, List, [], ◌∷◌, codes, length, Option, Some, None}
 use Rattle.std.specs.Cmp.Lexicographic.{pointwise}
 use Rattle.std.specs.List.{starts_with}

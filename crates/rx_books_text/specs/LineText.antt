@@ -1,4 +1,4 @@
--- The lines of a books file and the one spelling of each (docs/FORMATS.md, "Books file").
+-- Meaning: the lines of a books file and the one spelling of each (docs/FORMATS.md, "Books file").
 use Rattle.std.specs.Prelude.{ℕ, List, [], ◌∷◌, ◌++◌, codes, Option, Some, None}
 use Rattle.std.specs.Fmt.{decimal}
 use Rattle.std.specs.List.{join_with_byte}

@@ -1,4 +1,4 @@
--- A books file as it is printed: its lines and its text (docs/FORMATS.md, "Books file").
+-- Meaning: a books file as it is printed: its lines and its text (docs/FORMATS.md, "Books file").
 use Rattle.std.specs.Prelude.{◌≡◌, ℕ, ◌≤◌, Bool, true, ◌==◌, List, [], ◌∷◌, ◌++◌, length, map, count_by, All}
 use Rattle.std.specs.List.{flat_map, list_all, list_any}
 use Rattle.rx_order.specs.Ascending.{IsAscending}

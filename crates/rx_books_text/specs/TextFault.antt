@@ -1,4 +1,4 @@
--- The first fault of a text that is no books file (docs/FORMATS.md, "Books file").
+-- Meaning: the first fault of a text that is no books file (docs/FORMATS.md, "Books file").
 use Rattle.std.specs.Prelude.{◌≡◌, ℕ, ◌+◌, ◌<◌, ◌≤◌, Bool, true, false, ◌&&◌, ◌==◌, List, [], ◌∷◌, ◌++◌, length}
 use Rattle.rx_order.specs.Ascending.{is_past}
 use Rattle.rx_fields.specs.Order.{id_cmp, key_cmp}

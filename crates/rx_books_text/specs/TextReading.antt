@@ -1,4 +1,4 @@
--- What a text is read as, line by line (docs/FORMATS.md, "Books file").
+-- Plumbing: what a text is read as, line by line (docs/FORMATS.md, "Books file").
 use Rattle.std.specs.Prelude.{ℕ, ◌+◌, nat_lt, ◌==◌, if◌then◌else◌, List, [], ◌∷◌, length, Option, Some, None, Result, Ok, Err}
 use Rattle.std.specs.List.{slice_split}
 use Rattle.rx_books_text.specs.declared.fault.BooksFault.{BooksFault}

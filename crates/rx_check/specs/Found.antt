@@ -1,4 +1,4 @@
--- What is found of the inputs of a run: the first fault of each that is given, as a run reads it.
+-- Meaning: what is found of the inputs of a run: the first fault of each that is given, as a run reads it.
 use Rattle.std.specs.Prelude.{◌≡◌, ℕ, List, Option, Some, None, option_copied}
 use Rattle.std.specs.Result.{result_err}
 use Rattle.rx_batch.specs.Reading.{batch_of}

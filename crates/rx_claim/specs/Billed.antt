@@ -1,4 +1,4 @@
--- The charge that a billing states.
+-- Meaning: the charge that a billing states.
 use Rattle.std.specs.Prelude.{◌≡◌, ℕ, Bool, true, ◌||◌, is_some, if◌then◌else◌, Option, Some, None, unwrap_or}
 use Rattle.rx_claim.specs.declared.bill.BillParts.{BillParts}
 

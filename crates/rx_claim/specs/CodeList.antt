@@ -1,4 +1,4 @@
--- The codes of one answer.
+-- Meaning: the codes of one answer.
 use Rattle.std.specs.Prelude.{◌≡◌, ◌≤◌, ℕ, ◌-◌, ◌&&◌, nat_le, if◌then◌else◌, List, length, drop, replicate, Option, Some, None}
 use Rattle.rx_fields.specs.declared.code.Code.{Code}
 use Rattle.rx_fields.specs.declared.code.Code.TheVariants.{Bin}

@@ -1,4 +1,4 @@
--- What a reply repeats of its request.
+-- Meaning: what a reply repeats of its request.
 use Rattle.std.specs.Prelude.{◌≡◌, ℕ, Bool, true, ◌&&◌, if◌then◌else◌, List, map, Option, Some, None}
 use Rattle.std.specs.List.{list_all}
 use Rattle.rx_fields.specs.Text.{is_printable}

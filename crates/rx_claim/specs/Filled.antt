@@ -1,4 +1,4 @@
--- The places and their number follow from the codes.
+-- Plumbing: the places and their number follow from the codes.
 use Rattle.std.specs.Prelude.{◌≡◌, ◌-◌, ◌++◌, List, length, take, replicate, refl}
 use Rattle.std.proofs.Common.{arith, take-append-drop, length-take}
 use Rattle.rx_fields.specs.declared.code.Code.{Code}

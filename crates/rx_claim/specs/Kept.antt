@@ -1,4 +1,4 @@
--- Where the transactions of a transmission stand.
+-- Plumbing: where the transactions of a transmission stand.
 use Rattle.std.specs.Prelude.{List, [], ◌∷◌}
 use Rattle.rx_claim.specs.declared.transaction.Transaction.{Transaction}
 use Rattle.rx_claim.specs.declared.transaction.Kept.{Kept}

@@ -1,3 +1,4 @@
+-- Plumbing: which files there are.
 pub mod Billed
 pub mod CodeList
 pub mod Echoed

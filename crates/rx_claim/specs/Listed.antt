@@ -1,4 +1,4 @@
--- The lists of a transmission and of a reply.
+-- Meaning: the lists of a transmission and of a reply.
 use Rattle.std.specs.Prelude.{◌≡◌, ℕ, Bool, true, false, not, ◌&&◌, nat_le, List, length}
 use Rattle.std.specs.List.{list_any}
 use Rattle.rx_claim.specs.declared.transaction.Transaction.{Transaction}

@@ -1,4 +1,4 @@
--- The amounts of a paid claim, and what follows from them.
+-- Meaning: the amounts of a paid claim, and what follows from them.
 use Rattle.std.specs.Prelude.{◌≡◌, ℕ, ◌+◌, ◌-◌, Bool, true, ◌&&◌, nat_le, if◌then◌else◌, Option, Some, None}
 use Rattle.rx_claim.specs.declared.pricing.Amounts.{Amounts}
 

@@ -1,4 +1,4 @@
--- Whether two values are one: what `==` answers at the lists and at what holds them.
+-- Plumbing: whether two values are one: what `==` answers at the lists and at what holds them.
 use Rattle.std.specs.Prelude.{◌≡◌, Bool, true, false, ◌&&◌, ◌==◌, List}
 use Rattle.std.proofs.Common.{ap, Decides}
 use Rattle.std.proofs.lemmas.Bool.Decides.{Decides-eqb, Decides-and, Decides-like, same_from_decides}

@@ -18,8 +18,6 @@ mod codes;
 mod echo;
 mod pricing;
 mod reply;
-#[cfg(test)]
-mod tests;
 mod transaction;
 mod transmission;
 

@@ -1,4 +1,4 @@
--- The definitions that the contracts of requests and replies cite, for the crates above.
+-- Plumbing: the definitions that the contracts of requests and replies cite, for the crates above.
 pub use Rattle.rx_claim.specs.Billed
 pub use Rattle.rx_claim.specs.CodeList
 pub use Rattle.rx_claim.specs.Echoed

@@ -1,6 +1,6 @@
 -- The end of a desk: where every record was given, its shelf closes with the fold's books.
 use Rattle.std.proofs.Common.{◌≡◌, ℕ, List, true, false, Bool, length, reverse, refl, sym, ap, subst, ◌∙◌, inl, inr}
-use Rattle.std.specs.List.{Contains, filter}
+use Rattle.std.specs.List.{Contains}
 use Rattle.std.proofs.lemmas.Bool.{cases_Bool}
 use Rattle.rx_claim.specs.declared.reply.Reply.{Reply}
 use Rattle.rx_order.proofs.Edits.{same_item}
@@ -9,15 +9,12 @@ use Rattle.rx_order.proofs.Keys.{Equal-from_is_eq}
 use Rattle.rx_fields.specs.Order.{key_cmp}
 use Rattle.rx_ledger.specs.declared.row.Row.{Row}
 use Rattle.rx_ledger.specs.Fold.{fold_ledger, fold_replies}
-use Rattle.rx_ledger.specs.Ledger.{IsLedger, Ledger, members_of}
-use Rattle.rx_ledger.specs.Members.{of_family}
+use Rattle.rx_ledger.specs.Ledger.{IsLedger, Ledger}
 use Rattle.rx_ledger.specs.Rows.{row_key}
-use Rattle.rx_ledger.proofs.NamedKeys.{members_stay}
 use Rattle.rx_ledger.proofs.Orders.{key_total}
-use Rattle.rx_parcels.specs.Books.{Book, IsInOrder, OfFamily, book, has_row}
+use Rattle.rx_parcels.specs.Books.{Book, IsInOrder, book, has_row}
 use Rattle.rx_parcels.specs.Footprints.{FootprintParts}
 use Rattle.rx_books_kept.specs.LedgerBooks.{LedgerBooks}
-use Rattle.rx_books_shelf.specs.Closed.{KeepsMembers}
 use Rattle.rx_places.specs.Shelves.{AreAllAgreed, ShelfParts, is_out, value_of}
 use Rattle.rx_schedule.specs.declared.event.Event.{Event}
 use Rattle.rx_schedule.specs.Machine.{IsComplete}
@@ -64,11 +61,6 @@ module _ (j : DeskJob) (capacity : ℕ) (history : List Event) (footprints : Lis
   pub end_agreed : AreAllAgreed (value_of shelf)
   end_agreed = all_agree (value_of shelf) (fold_ledger j.lot j.plan 1 j.records j.books.ledger)
       (fold_in_order j (reverse history) kept.desk.of_job kept.desk.legal) values_end
-
-  pub end_members : KeepsMembers shelf
-  end_members f = ap (λ (M : Ledger). M.members) (values_end (OfFamily f))
-      ∙ ap (filter (of_family f)) (members_stay j.lot j.plan 1 j.records j.books.ledger)
-      ∙ ap (λ (M : Ledger). members_of M f) (sym kept.beside)
 
   pub end_books : (books : LedgerBooks) → books.period ≡ shelf.period → IsLedger books.ledger
       → ((b : Book) → book b books.ledger ≡ value_of shelf b) → books ≡ final_books j

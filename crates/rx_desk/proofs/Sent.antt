@@ -1,7 +1,9 @@
 -- A desk may go to another thread: each of its parts may.
 use denote.Param.Send.{IsSend, sendable}
 use Rattle.std.proofs.Crossing.{crosses}
+use Rattle.rx_books_kept.specs.contracts.amended.AmendedBooks.{the_row as amended_books_row}
 use Rattle.rx_books_kept.specs.contracts.books.Books.{the_row as books_row}
+use Rattle.rx_books_kept.specs.contracts.books.Form.{the_row as form_row}
 use Rattle.rx_books_kept.specs.contracts.open_books.OpenBooks.{the_row as open_books_row}
 use Rattle.rx_books_shelf.specs.contracts.shelf.Shelf.{the_row as shelf_row}
 use Rattle.rx_claim.specs.contracts.codes.Codes.{the_row as codes_row}
@@ -17,14 +19,20 @@ use Rattle.rx_parcels.specs.contracts.parcel.Parcel.{the_row as parcel_row}
 use Rattle.rx_places.specs.contracts.place.FamilyPlace.{the_row as family_place_row}
 use Rattle.rx_schedule.specs.contracts.queues.Queues.{the_row as queues_row}
 
-pub books_sent : IsSend books_row
-books_sent = search (sendable, crosses) depth 100 fits 300000
-
 pub open_books_sent : IsSend open_books_row
 open_books_sent = search (sendable, crosses) depth 100 fits 300000
 
 pub family_place_sent : IsSend family_place_row
 family_place_sent = search (sendable, crosses) depth 100 fits 300000
+
+pub amended_books_sent : IsSend amended_books_row
+amended_books_sent = search (sendable, crosses, open_books_sent, family_place_sent) depth 100 fits 300000
+
+pub form_sent : IsSend form_row
+form_sent = search (sendable, crosses, open_books_sent, amended_books_sent) depth 100 fits 300000
+
+pub books_sent : IsSend books_row
+books_sent = search (sendable, crosses, open_books_sent, amended_books_sent) depth 100 fits 300000
 
 pub shelf_sent : IsSend shelf_row
 shelf_sent = search (sendable, crosses, open_books_sent, family_place_sent) depth 100 fits 300000

@@ -1,4 +1,4 @@
--- A desk as its callers see it: its job, and the events so far. What may be asked of it is told by the machine of
+-- Meaning: a desk as its callers see it: its job, and the events so far. What may be asked of it is told by the machine of
 -- `rx_schedule`: which events are legal, and where they have led.
 use Rattle.std.specs.Prelude.{◌≡◌, ℕ, ◌-◌, ◌≤◌, ◌++◌, List, [], ◌∷◌, Option, Some, length, map, reverse, slice_get, slice_index_or}
 use Rattle.rx_fields.specs.Numbered.{LotParts, Span}

@@ -1,3 +1,4 @@
+-- Plumbing: which files there are.
 pub mod Desks
 pub mod Kept
 pub mod Moved

@@ -1,4 +1,4 @@
--- What a move of books between the shelf and a parcel changes of the shelf.
+-- Plumbing: what a move of books between the shelf and a parcel changes of the shelf.
 use Rattle.std.specs.Prelude.{◌≡◌, ◌||◌, false, if◌then◌else◌}
 use Rattle.rx_ledger.specs.Ledger.{empty}
 use Rattle.rx_parcels.specs.Books.{Book}

@@ -4,7 +4,7 @@ ghost use Rattle.rx_schedule.specs.Jobs.{reply_at};
 ghost use Rattle.rx_schedule.specs.Machine.{IsComplete, IsLegal, Was};
 ghost use Rattle.rx_desk.specs.Desks.{AreTerms, IsJob, IsNext, IsOut, MayBeTaken, after_event, final_books, led_to, machine_of, past_of};
 
-use crate::making::{all_waiting, blank_replies, in_order, terms_of};
+use crate::making::{Room, Shared, in_order, room_for, shared_by, terms_of};
 use crate::moves::{Taken, closed, mark_given, mark_out, note, put_in, take_books};
 use crate::next::Next;
 use crate::remains::Remains;
@@ -20,7 +20,7 @@ use rx_fields::{Lot, Memory};
 use rx_in_order::Finished;
 use rx_ledger::{Figures, Listed, Sheet, Terms};
 use rx_parcels::Footprint;
-use rx_schedule::{Event, Queues, footprints};
+use rx_schedule::{Event, Queues};
 use std::alloc::Global;
 use std::marker::Model;
 
@@ -83,13 +83,19 @@ impl Desk {
         let books = in_order(alloc, books)?;
         let drugs = Vec::from_slice(alloc, sheet.drugs())?;
         let terms = terms_of(alloc, lot, sheet, &transmissions)?;
-        let footprints = footprints(alloc, &books, &transmissions)?;
-        let queues = Queues::of(alloc, &footprints)?;
-        let shelf = Shelf::of(alloc, books.copy(alloc, books.period())?, &footprints)?;
-        let states = all_waiting(alloc, transmissions.len())?;
-        let replies = blank_replies(alloc, &transmissions)?;
-        let history = Vec::with_capacity(alloc, 2 * transmissions.len())?;
+        let shared = shared_by(alloc, &books, &transmissions)?;
+        let room = room_for(alloc, &transmissions)?;
         let waiting = transmissions.len();
+        let Shared {
+            footprints,
+            queues,
+            shelf,
+        } = shared;
+        let Room {
+            states,
+            replies,
+            history,
+        } = room;
         Ok(Desk {
             lot,
             figures: *sheet.figures(),

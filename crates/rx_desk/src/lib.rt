@@ -22,8 +22,6 @@ mod next;
 mod remains;
 mod same_job;
 mod state;
-#[cfg(test)]
-mod tests;
 
 pub use desk::Desk;
 pub use next::Next;

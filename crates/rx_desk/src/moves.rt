@@ -6,7 +6,6 @@ ghost use Rattle.rx_places.specs.Shelves.{has_slot, is_out, value_of};
 ghost use Rattle.rx_places.specs.Shelves.{AreAllAgreed};
 ghost use Rattle.rx_ledger.specs.Ledger.{IsLedger};
 ghost use Rattle.rx_parcels.specs.Books.{book};
-ghost use Rattle.rx_books_shelf.specs.Closed.{KeepsMembers};
 ghost use Rattle.rx_desk.specs.Moved.{IsGiven, IsSameShelf, IsTaken};
 
 use crate::state::State;
@@ -103,7 +102,6 @@ pub(crate) fn put_in(shelf: &mut Shelf, parcel: Parcel)
 pub(crate) fn closed(shelf: Shelf) -> Books
     requires inside { (b : Book) → is_out shelf b ≡ false }
     requires agreed { AreAllAgreed (value_of shelf) }
-    requires members { KeepsMembers shelf }
     ensures period { result.period ≡ shelf.period }
     ensures values { (b : Book) → book b result.ledger ≡ value_of shelf b }
     ensures within { IsLedger result.ledger }

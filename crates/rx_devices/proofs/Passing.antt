@@ -1,5 +1,6 @@
 -- How pieces that were read, or written, make up the whole.
-use Rattle.std.proofs.Common.{◌≡◌, ◌≤◌, ◌<◌, ◌+◌, ◌-◌, ℕ, Bool, List, [], ◌∷◌, ◌++◌, length, get_or, take, drop, Option, Some, None, IfSome, refl, sym, ◌∙◌, ap, subst, append_assoc, arith}
+use Rattle.std.proofs.Common.{◌≡◌, ◌≤◌, ◌<◌, ◌+◌, ◌-◌, ℕ, Bool, List, [], ◌∷◌, ◌++◌, length, get_or, take, drop, Option}
+use Rattle.std.proofs.Common.{Some, None, IfSome, refl, sym, ◌∙◌, ap, subst, append_assoc, arith}
 use Rattle.std.specs.List.{flat_map}
 use Rattle.std.specs.Vec.{vec_items}
 use Rattle.std.specs.declared.vec.Vec.{Vec}
@@ -7,7 +8,8 @@ use Rattle.std.proofs.lemmas.Grind.{flat_map-append}
 use Rattle.std.proofs.lemmas.List.{append-nil, drop_more, length-append, length-drop, take-append-drop, take-append-le, take_all}
 use Rattle.std.proofs.Math.Seq.{take-add, take-append-add}
 use Rattle.std.specs.Io.KnownBytes.{Appends, Consumes, IsAtEnd}
-use Rattle.rx_devices.specs.Reading.{AreFewReads, IsFrontOf, IsWhole, PassesAll, PassesFront, PassesPiece, TakesNothing, most_bytes, most_reads}
+use Rattle.rx_devices.specs.Reading.{AreFewReads, IsFrontOf, IsWhole, PassesAll, PassesFront, PassesPiece, TakesNothing}
+use Rattle.rx_devices.specs.Reading.{most_bytes, most_reads}
 use Rattle.rx_devices.specs.Writing.{AppendsFront}
 
 -- no byte was read yet
@@ -16,7 +18,8 @@ Consumes-nothing None = tt
 Consumes-nothing (Some bytes) = refl
 
 -- a piece, and then the next
-pub Consumes-on : (left between rest : Option (List ℕ)) (xs ys : List ℕ) → Consumes left between xs → Consumes between rest ys → Consumes left rest (xs ++ ys)
+pub Consumes-on : (left between rest : Option (List ℕ)) (xs ys : List ℕ) → Consumes left between xs
+    → Consumes between rest ys → Consumes left rest (xs ++ ys)
 Consumes-on None between rest xs ys p q = tt
 Consumes-on (Some first) None rest xs ys p q = absurd p
 Consumes-on (Some first) (Some second) None xs ys p q = absurd q
@@ -29,13 +32,15 @@ Consumes-whole (Some first) None bytes p end = absurd p
 Consumes-whole (Some first) (Some second) bytes p end = (sym (p ∙ ap (λ l. bytes ++ l) end ∙ append-nil bytes), ap Some end)
 
 -- what was read was there
-pub Consumes-long : (left rest : Option (List ℕ)) (bytes : List ℕ) → Consumes left rest bytes → most_reads ≤ length bytes → IfSome left (λ all. most_reads ≤ length all)
+pub Consumes-long : (left rest : Option (List ℕ)) (bytes : List ℕ) → Consumes left rest bytes
+    → most_reads ≤ length bytes → IfSome left (λ all. most_reads ≤ length all)
 Consumes-long None rest bytes p long = tt
 Consumes-long (Some first) None bytes p long = absurd p
 Consumes-long (Some first) (Some second) bytes p long = let sum = ap length p ∙ length-append bytes second in omega arith
 
 -- with more to come than an input may have, the input is long
-pub Consumes-over : (left rest : Option (List ℕ)) (bytes : List ℕ) → Consumes left rest bytes → IfSome rest (λ more. most_bytes < length bytes + length more) → IfSome left (λ all. most_reads ≤ length all)
+pub Consumes-over : (left rest : Option (List ℕ)) (bytes : List ℕ) → Consumes left rest bytes
+    → IfSome rest (λ more. most_bytes < length bytes + length more) → IfSome left (λ all. most_reads ≤ length all)
 Consumes-over None rest bytes p over = tt
 Consumes-over (Some first) None bytes p over = absurd p
 Consumes-over (Some first) (Some second) bytes p over = let sum = ap length p ∙ length-append bytes second in omega arith
@@ -50,7 +55,8 @@ PassesPiece-nothing left before = record {
 }
 
 -- a piece passed, and then the next
-pub PassesPiece-on : (left between rest : Option (List ℕ)) (before during after : List ℕ → Type 0) (m n : ℕ) → PassesPiece left between before during m → PassesPiece between rest during after n → PassesPiece left rest before after (m + n)
+pub PassesPiece-on : (left between rest : Option (List ℕ)) (before during after : List ℕ → Type 0) (m n : ℕ)
+    → PassesPiece left between before during m → PassesPiece between rest during after n → PassesPiece left rest before after (m + n)
 PassesPiece-on left between rest before during after m n p q = record {
   bytes = p.bytes ++ q.bytes;
   length_is = length-append p.bytes q.bytes ∙ ap (λ k. k + length q.bytes) p.length_is ∙ ap (λ k. m + k) q.length_is;
@@ -59,7 +65,8 @@ PassesPiece-on left between rest before during after m n p q = record {
 }
 
 -- at the end all passed
-pub PassesPiece-all : (left rest : Option (List ℕ)) (before after : List ℕ → Type 0) (n : ℕ) → PassesPiece left rest before after n → n ≤ most_bytes → IsAtEnd rest → PassesAll left rest before after
+pub PassesPiece-all : (left rest : Option (List ℕ)) (before after : List ℕ → Type 0) (n : ℕ)
+    → PassesPiece left rest before after n → n ≤ most_bytes → IsAtEnd rest → PassesAll left rest before after
 PassesPiece-all left rest before after n p few end = record {
   bytes = p.bytes;
   is_read = record {
@@ -83,7 +90,8 @@ PassesFront-nothing left before =
     record { bytes = []; is_front = Consumes-front left left [] none.given; taken = none.taken }
 
 -- pieces passed, and then no further one
-pub PassesPiece-front : (left rest : Option (List ℕ)) (before during after : List ℕ → Type 0) (n : ℕ) → PassesPiece left rest before during n → TakesNothing during after → PassesFront left before after
+pub PassesPiece-front : (left rest : Option (List ℕ)) (before during after : List ℕ → Type 0) (n : ℕ)
+    → PassesPiece left rest before during n → TakesNothing during after → PassesFront left before after
 PassesPiece-front left rest before during after n p none = record {
   bytes = p.bytes;
   is_front = Consumes-front left rest p.bytes p.given;
@@ -95,12 +103,18 @@ pub none_made : (n : ℕ) (b : Bool) → AreFewReads n n b b
 none_made n b = record { few = omega arith; roomy = λ h. h }
 
 -- after so many reads the input is long
-pub PassesPiece-long : (left rest : Option (List ℕ)) (before after : List ℕ → Type 0) (n : ℕ) → PassesPiece left rest before after n → most_reads ≤ n → IfSome left (λ all. most_reads ≤ length all)
-PassesPiece-long left rest before after n p long = Consumes-long left rest p.bytes p.given (subst (λ k. most_reads ≤ k) (sym p.length_is) long)
+pub PassesPiece-long : (left rest : Option (List ℕ)) (before after : List ℕ → Type 0) (n : ℕ)
+    → PassesPiece left rest before after n → most_reads ≤ n → IfSome left (λ all. most_reads ≤ length all)
+PassesPiece-long left rest before after n p long =
+    Consumes-long left rest p.bytes p.given (subst (λ k. most_reads ≤ k) (sym p.length_is) long)
 
 -- with more to come than an input may have, the input is long
-pub PassesPiece-over : (left rest : Option (List ℕ)) (before after : List ℕ → Type 0) (n : ℕ) → PassesPiece left rest before after n → IfSome rest (λ more. most_bytes < n + length more) → IfSome left (λ all. most_reads ≤ length all)
-PassesPiece-over left rest before after n p over = Consumes-over left rest p.bytes p.given (subst (λ k. IfSome rest (λ more. most_bytes < k + length more)) (sym p.length_is) over)
+pub PassesPiece-over : (left rest : Option (List ℕ)) (before after : List ℕ → Type 0) (n : ℕ)
+    → PassesPiece left rest before after n → IfSome rest (λ more. most_bytes < n + length more)
+    → IfSome left (λ all. most_reads ≤ length all)
+PassesPiece-over left rest before after n p over =
+    Consumes-over left rest p.bytes p.given
+    (subst (λ k. IfSome rest (λ more. most_bytes < k + length more)) (sym p.length_is) over)
 
 -- what a text has after its first bytes
 pub rest-is : (n : ℕ) (text : List ℕ) → take (length text - n) (drop n text) ≡ drop n text
@@ -112,16 +126,19 @@ Appends-nothing None = tt
 Appends-nothing (Some bytes) = sym (append-nil bytes)
 
 -- a front of the text was written, and then a front of what is left
-pub Appends-on : (before between after : Option (List ℕ)) (text : List ℕ) (m n : ℕ) → Appends before between (take m text) → Appends between after (take n (drop m text)) → Appends before after (take (m + n) text)
+pub Appends-on : (before between after : Option (List ℕ)) (text : List ℕ) (m n : ℕ)
+    → Appends before between (take m text) → Appends between after (take n (drop m text)) → Appends before after (take (m + n) text)
 Appends-on None between after text m n p q = tt
 Appends-on (Some first) None after text m n p q = absurd p
 Appends-on (Some first) (Some second) None text m n p q = absurd q
-Appends-on (Some first) (Some second) (Some third) text m n p q = q ∙ ap (λ l. l ++ take n (drop m text)) p ∙ append_assoc first (take m text) (take n (drop m text)) ∙ ap (λ l. first ++ l) (sym (take-add m n text))
+Appends-on (Some first) (Some second) (Some third) text m n p q = q ∙ ap (λ l. l ++ take n (drop m text)) p
+    ∙ append_assoc first (take m text) (take n (drop m text)) ∙ ap (λ l. first ++ l) (sym (take-add m n text))
 
 -- ---- a text in pieces
 
 -- a front was written, and then what follows
-pub Appends-then : (before between after : Option (List ℕ)) (xs ys : List ℕ) → Appends before between xs → Appends between after ys → Appends before after (xs ++ ys)
+pub Appends-then : (before between after : Option (List ℕ)) (xs ys : List ℕ) → Appends before between xs
+    → Appends between after ys → Appends before after (xs ++ ys)
 Appends-then None between after xs ys p q = tt
 Appends-then (Some first) None after xs ys p q = absurd p
 Appends-then (Some first) (Some second) None xs ys p q = absurd q

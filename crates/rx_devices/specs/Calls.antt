@@ -1,4 +1,4 @@
--- Which calls of a device in memory fail, where it is to fail after so many good ones.
+-- Plumbing: which calls of a device in memory fail, where it is to fail after so many good ones.
 use Rattle.std.specs.Prelude.{◌≡◌, ◌+◌, ℕ, Bool, false, nat_le, Option, Some, None}
 
 -- whether the call fails that comes after n others: the device has so many good calls left, or never fails

@@ -1,3 +1,4 @@
+-- Plumbing: which files there are.
 pub mod Calls
 pub mod Reading
 pub mod Writing

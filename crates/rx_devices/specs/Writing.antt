@@ -1,4 +1,4 @@
--- What a write does to the bytes of a sink.
+-- Meaning: what a write does to the bytes of a sink.
 use Rattle.std.specs.Prelude.{◌≤◌, ◌==◌, ◌&&◌, ℕ, Bool, true, nat_lt, List, length, take, Option, Result, Ok, Err}
 use Rattle.std.specs.Io.KnownBytes.{Appends}
 use Rattle.rx_devices.specs.declared.fault.Failed.{Failed}

@@ -1,6 +1,7 @@
 ghost use Rattle.std.specs.Prelude.{◌≡◌, ◌≤◌, ◌<◌, ◌+◌, ℕ, List, false, length, vec_len, Err, IfOk, IfSome, OnErr, OnOk};
 ghost use Rattle.std.specs.Io.KnownBytes.{IsAtEnd};
-ghost use Rattle.rx_devices.specs.Reading.{AreFewReads, IsRead, PassesAll, PassesFront, PassesPiece, TakesNothing, has_failed, least_room, most_bytes, most_reads};
+ghost use Rattle.rx_devices.specs.Reading.{AreFewReads, IsRead, PassesAll, PassesFront, PassesPiece, TakesNothing};
+ghost use Rattle.rx_devices.specs.Reading.{has_failed, least_room, most_bytes, most_reads};
 
 use crate::consumer::Consumer;
 use crate::fault::ReadFault;
@@ -78,7 +79,8 @@ fn read_piece<S: Source, C: Consumer>(
     requires room { least_room ≤ length room.old }
     requires total { total ≤ most_bytes }
     ensures within { IfOk result (λ count. total + count ≤ most_bytes) }
-    ensures piece { IfOk result (PassesPiece (S.left source.old) (S.left source.new) (C.stands_for consumer.old) (C.stands_for consumer.new)) }
+    ensures piece { IfOk result (PassesPiece (S.left source.old) (S.left source.new) (C.stands_for consumer.old)
+        (C.stands_for consumer.new)) }
     ensures end { IfOk result (λ count. count ≡ 0 → IsAtEnd (S.left source.new)) }
     ensures failed { S.failed source.new ≡ has_failed result }
     ensures long { result ≡ Err ReadFault.Long → IfSome (S.left source.old) (λ bytes. most_bytes < total + length bytes) }

@@ -1,4 +1,4 @@
--- The first place where two texts differ.
+-- Meaning: the first place where two texts differ.
 use Rattle.std.specs.Prelude.{◌≡◌, ◌≢◌, ◌<◌, ℕ, Bool, not, ◌==◌, List, length, take, slice_index}
 use Rattle.std.specs.List.{prefix_len}
 

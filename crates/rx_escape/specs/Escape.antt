@@ -1,5 +1,6 @@
--- Bytes written where some bytes are read as markup, and how they are read there.
-use Rattle.std.specs.Prelude.{◌<◌, ℕ, suc, zero, ◌+◌, ◌-◌, ◌*◌, ◌/◌, ◌%◌, Bool, false, not, ◌||◌, nat_lt, ◌==◌, if◌then◌else◌, List, [], ◌∷◌, ◌++◌, codes, All, length}
+-- Meaning: bytes written where some bytes are read as markup, and how they are read there.
+use Rattle.std.specs.Prelude.{◌<◌, ℕ, suc, zero, ◌+◌, ◌-◌, ◌*◌, ◌/◌, ◌%◌, Bool, false, not, ◌||◌, nat_lt, ◌==◌}
+use Rattle.std.specs.Prelude.{if◌then◌else◌, List, [], ◌∷◌, ◌++◌, codes, All, length}
 use Rattle.std.specs.List.{flat_map}
 use Rattle.rx_fields.specs.Text.{is_printable}
 use Rattle.rx_show.specs.Bytes.{hexadecimal}

@@ -1,4 +1,4 @@
--- The claims that a transaction is explained among.
+-- Meaning: the claims that a transaction is explained among.
 use Rattle.std.specs.Prelude.{◌≡◌, List}
 use Rattle.std.specs.List.{filter}
 use Rattle.rx_claim.specs.declared.transaction.Transaction.{Transaction}

@@ -1,4 +1,4 @@
--- The ledger on which a transaction of a batch is adjudicated.
+-- Meaning: the ledger on which a transaction of a batch is adjudicated.
 use Rattle.std.specs.Prelude.{ℕ, ◌-◌, List, take}
 use Rattle.rx_fields.specs.Numbered.{LotParts}
 use Rattle.rx_claim.specs.declared.transmission.Heard.{Heard as HeardRecord}

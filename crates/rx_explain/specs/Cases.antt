@@ -1,4 +1,4 @@
--- The case of the tables of adjudication that decides a transaction, with what decides it; and the answer that it gives.
+-- Meaning: the case of the tables of adjudication that decides a transaction, with what decides it; and the answer that it gives.
 use Rattle.std.specs.Prelude.{ℕ, not, ◌||◌, nat_lt, ◌==◌, if◌then◌else◌, List, Option, Some, None}
 use Rattle.std.specs.List.{find, list_any}
 use Rattle.std.specs.Ordering.{is_lt, is_gt}

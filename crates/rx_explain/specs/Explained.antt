@@ -1,4 +1,4 @@
--- What an explanation of a transaction says.
+-- Meaning: what an explanation of a transaction says.
 use Rattle.std.specs.Prelude.{◌≡◌, List, map, Option, Some, None}
 use Rattle.std.specs.Option.{option_map}
 use Rattle.rx_fields.specs.Numbered.{LotParts}

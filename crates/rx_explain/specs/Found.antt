@@ -1,4 +1,4 @@
--- The transactions that are asked for.
+-- Meaning: the transactions that are asked for.
 use Rattle.std.specs.Prelude.{ℕ, ◌+◌, ◌&&◌, ◌==◌, Bool, true, false, if◌then◌else◌, List, [], ◌∷◌, ◌++◌, Option, Some, None}
 use Rattle.rx_claim.specs.declared.reply.Answer.{Answer}
 use Rattle.rx_claim.specs.declared.reply.Answer.TheVariants.{Paid, Twice, Approved, Refused}

@@ -1,3 +1,4 @@
+-- Plumbing: which files there are.
 pub mod Around
 pub mod Before
 pub mod Cases

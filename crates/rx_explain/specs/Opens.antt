@@ -1,4 +1,4 @@
--- From when on a billing that is too soon would be so no more.
+-- Meaning: from when on a billing that is too soon would be so no more.
 use Rattle.std.specs.Prelude.{◌≡◌, ◌&&◌, Bool, false, Option, None, IfSome}
 use Rattle.std.specs.List.{list_any}
 use Rattle.rx_fields.specs.Calendar.{Civil}

@@ -1,4 +1,4 @@
--- In which part a fill key is kept; and events that are kept in parts.
+-- Plumbing: in which part a fill key is kept; and events that are kept in parts.
 use Rattle.std.specs.Prelude.{◌≡◌, ℕ, ◌+◌, ◌*◌, ◌%◌, ◌<◌, ◌==◌, List, Vec, get_or, length}
 use Rattle.std.specs.List.{filter, fold}
 use Rattle.rx_fields.specs.declared.key.Key.{Key}

@@ -1,4 +1,4 @@
--- The standing claims that are shown with a case.
+-- Meaning: the standing claims that are shown with a case.
 use Rattle.std.specs.Prelude.{ℕ, Bool, ◌&&◌, List, [], filter, Option, Some, None}
 use Rattle.rx_fields.specs.Numbered.{Span, is_within}
 use Rattle.rx_claim.specs.declared.transaction.Transaction.{Transaction}

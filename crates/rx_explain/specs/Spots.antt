@@ -1,4 +1,4 @@
--- The transaction at a place of a batch.
+-- Meaning: the transaction at a place of a batch.
 use Rattle.std.specs.Prelude.{ℕ, ◌-◌, nat_lt, if◌then◌else◌, List, Option, Some, None, slice_get, option_and_then}
 use Rattle.std.specs.Option.{option_map}
 use Rattle.rx_claim.specs.declared.transaction.Transaction.{Transaction}

@@ -1,4 +1,4 @@
--- The steps from a billing to its amounts.
+-- Meaning: the steps from a billing to its amounts.
 use Rattle.std.specs.Prelude.{ℕ, ◌+◌, ◌-◌, ◌*◌, ◌/◌, Option, min, unwrap_or}
 use Rattle.std.specs.Option.{option_map}
 use Rattle.rx_claim.specs.Billed.{cap}

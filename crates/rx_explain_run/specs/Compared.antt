@@ -1,4 +1,4 @@
--- The reply at a place of a response file, compared with the one of the replay.
+-- Meaning: the reply at a place of a response file, compared with the one of the replay.
 use Rattle.std.specs.Prelude.{ℕ, Bool, nat_eq, if◌then◌else◌, List, Option, Some, None}
 use Rattle.std.specs.Cmp.Lexicographic.{pointwise}
 use Rattle.rx_batch.specs.declared.detail.Detail.{Detail}

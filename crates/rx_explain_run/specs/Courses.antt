@@ -1,4 +1,4 @@
--- A batch of which the first records are done, and the ledgers that were kept on the way.
+-- Plumbing: a batch of which the first records are done, and the ledgers that were kept on the way.
 use Rattle.std.specs.Prelude.{◌≡◌, ◌≤◌, List, length, take}
 use Rattle.std.specs.List.{All}
 use Rattle.rx_fields.specs.Numbered.{LotParts}

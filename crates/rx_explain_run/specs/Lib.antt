@@ -1,3 +1,4 @@
+-- Plumbing: which files there are.
 pub mod Compared
 pub mod Courses
 pub mod Retraced

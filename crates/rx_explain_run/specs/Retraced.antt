@@ -1,4 +1,4 @@
--- The transactions of a job that are asked for, explained.
+-- Meaning: the transactions of a job that are asked for, explained.
 use Rattle.std.specs.Prelude.{◌≡◌, ℕ, List, Option, Ok}
 use Rattle.std.specs.List.{AllZip}
 use Rattle.rx_fields.specs.Numbered.{LotParts, Span}

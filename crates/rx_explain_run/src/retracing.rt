@@ -80,7 +80,6 @@ struct Answered {
 }
 
 // The replies to the records, one after another, and the explanations that are wanted.
-#[tactic(auto, using(rx_switch::proofs::Replied::one_each))]
 fn answer(
     alloc: Global,
     lot: Lot,
@@ -94,17 +93,62 @@ fn answer(
     ensures explained { IfOk result (λ a.
         AreExplained lot sheet.now asked.now books.ledger wanted.now a.replies.items a.explanations.items) }
 {
-    let places = likely_places(alloc, lot, wanted, asked)?;
     let opening = books.with_period(alloc, sheet.period())?;
-    let copy = opening.copy(alloc, sheet.period())?;
-    let Course { replies, stops, .. } = replay(alloc, lot, sheet, copy, asked, &places)?;
-    let found = find(alloc, wanted, asked, &replies)?;
-    let events = Events::of(alloc, asked, &replies)?;
-    let explanations = explain_each(alloc, lot, sheet, &opening, asked, &events, &stops, &found)?;
+    let course = replayed(alloc, lot, sheet, &opening, asked, wanted)?;
+    let explanations = explain_wanted(alloc, lot, sheet, &opening, asked, wanted, &course)?;
     Ok(Answered {
-        replies,
+        replies: course.replies,
         explanations,
     })
+}
+
+// The records done on a copy of the books, with the ledgers before the places that are likely to be asked for.
+fn replayed(
+    alloc: Global,
+    lot: Lot,
+    sheet: &Sheet,
+    opening: &Books,
+    asked: &[Transmission],
+    wanted: &Wanted,
+) -> Result<Course, Memory>
+    requires { length asked.now ≤ 100_000 }
+    ensures replies { IfOk result (λ c. c.replies.items ≡ fold_replies lot sheet.now 1 asked.now opening.now.ledger) }
+    ensures stops { IfOk result (λ c. All (IsStop lot sheet.now asked.now opening.now.ledger) c.stops.items) }
+{
+    let places = likely_places(alloc, lot, wanted, asked)?;
+    let copy = opening.copy(alloc, sheet.period())?;
+    replay(alloc, lot, sheet, copy, asked, &places)
+}
+
+// An explanation of each transaction that is asked for.
+#[tactic(auto, using(rx_switch::proofs::Replied::one_each))]
+fn explain_wanted(
+    alloc: Global,
+    lot: Lot,
+    sheet: &Sheet,
+    opening: &Books,
+    asked: &[Transmission],
+    wanted: &Wanted,
+    course: &Course,
+) -> Result<Vec<Option<Explanation>>, Memory>
+    requires few { length asked.now ≤ 100_000 }
+    requires replies { course.now.replies.items ≡ fold_replies lot sheet.now 1 asked.now opening.now.ledger }
+    requires stops { All (IsStop lot sheet.now asked.now opening.now.ledger) course.now.stops.items }
+    ensures { IfOk result (λ all.
+        AreExplained lot sheet.now asked.now opening.now.ledger wanted.now course.now.replies.items all.items) }
+{
+    let found = find(alloc, wanted, asked, &course.replies)?;
+    let events = Events::of(alloc, asked, &course.replies)?;
+    explain_each(
+        alloc,
+        lot,
+        sheet,
+        opening,
+        asked,
+        &events,
+        &course.stops,
+        &found,
+    )
 }
 
 // An explanation of each of these transactions.

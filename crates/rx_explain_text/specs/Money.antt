@@ -1,4 +1,4 @@
--- Amounts as people read them.
+-- Meaning: amounts as people read them.
 use Rattle.std.specs.Prelude.{ℕ, ◌+◌, ◌/◌, ◌%◌, List, [], ◌∷◌, ◌++◌, codes}
 use Rattle.std.specs.Fmt.{decimal}
 

@@ -1,56 +1,48 @@
 use crate::code_words::{name, wanted};
-use crate::page::Page;
+use crate::draft::Draft;
 use crate::request_field::{field_bytes, field_name};
 use rx_claim::Codes;
 use rx_escape::Style;
 use rx_fields::{Code, Door};
-use std::alloc::AllocError;
 
 /// A line for each code of the nth transaction of a request, or of its header, where `nth` is 0: the field, its bytes and
 /// what the table of codes wants.
-pub(crate) fn put_codes(
-    page: &mut Page,
-    door: &Door,
-    codes: &Codes,
-    request: &[u8],
-    nth: u64,
-) -> Result<(), AllocError> {
+pub(crate) fn put_codes(draft: &mut Draft, door: &Door, codes: &Codes, request: &[u8], nth: u64) {
     for code in codes.as_slice() {
-        page.say("  ")?;
-        page.put(&code.text())?;
-        page.say(" ")?;
-        page.say(name(*code))?;
-        page.say(": ")?;
-        page.say(field_name(*code).unwrap_or("the text"))?;
-        put_bytes(page, field_bytes(request, nth, *code))?;
-        page.say(", wanted is ")?;
-        page.say(wanted(*code))?;
-        put_own(page, door, *code)?;
-        page.say("\n")?;
+        draft.say("  ");
+        draft.put(&code.text());
+        draft.say(" ");
+        draft.say(name(*code));
+        draft.say(": ");
+        draft.say(field_name(*code).unwrap_or("the text"));
+        put_bytes(draft, field_bytes(request, nth, *code));
+        draft.say(", wanted is ");
+        draft.say(wanted(*code));
+        put_own(draft, door, *code);
+        draft.say("\n");
     }
-    Ok(())
 }
 
 // The bytes of a field, or that it is absent.
-fn put_bytes(page: &mut Page, bytes: Option<&[u8]>) -> Result<(), AllocError> {
+fn put_bytes(draft: &mut Draft, bytes: Option<&[u8]>) {
     match bytes {
         Some(bytes) => {
-            page.say(" is \"")?;
-            page.escaped(Style::Terminal, bytes)?;
-            page.say("\"")
+            draft.say(" is \"");
+            draft.escaped(Style::Terminal, bytes);
+            draft.say("\"");
         }
-        None => page.say(" is absent"),
+        None => draft.say(" is absent"),
     }
 }
 
 // The plan's own value, where the code wants that.
-fn put_own(page: &mut Page, door: &Door, code: Code) -> Result<(), AllocError> {
+fn put_own(draft: &mut Draft, door: &Door, code: Code) {
     let own = match code {
         Code::Bin => door.bin.as_slice(),
         Code::ProcessorControlNumber => door.pcn.as_slice(),
-        _ => return Ok(()),
+        _ => return,
     };
-    page.say(", \"")?;
-    page.escaped(Style::Terminal, own)?;
-    page.say("\"")
+    draft.say(", \"");
+    draft.escaped(Style::Terminal, own);
+    draft.say("\"");
 }

@@ -10,6 +10,7 @@
 mod code_words;
 mod codes;
 mod compared;
+mod draft;
 mod figures;
 mod header;
 mod json;

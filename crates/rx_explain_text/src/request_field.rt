@@ -12,7 +12,7 @@ const HEADER: usize = 56;
 
 // Where a field of a request stands: so many bytes of the header from a place on, or as the value of a segment of the
 // common part or of the transaction's group.
-#[derive(Clone, Copy, Debug)]
+#[derive(Clone, Copy)]
 enum Stand {
     Header(usize, usize),
     Common([u8; 2]),
@@ -20,7 +20,7 @@ enum Stand {
 }
 
 // A field of a request: its number and id in the standard, and where it stands.
-#[derive(Clone, Copy, Debug)]
+#[derive(Clone, Copy)]
 struct Field {
     number: &'static str,
     id: [u8; 2],

@@ -1,4 +1,4 @@
--- Numbers within bounds.
+-- Meaning: numbers within bounds.
 use Rattle.std.specs.Prelude.{ℕ, ◌&&◌, nat_le, if◌then◌else◌, Option, Some, None}
 
 -- the number, where it lies from low to high

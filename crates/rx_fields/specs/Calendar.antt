@@ -1,4 +1,4 @@
--- Days of the civil calendar, years 0000 to 9999.
+-- Meaning: days of the civil calendar, years 0000 to 9999.
 use Rattle.std.specs.Prelude.{◌≡◌, ℕ, Bool, true, ◌&&◌, nat_lt, nat_le, ◌==◌, if◌then◌else◌, ℤ, pos}
 use Rattle.std.specs.Prelude.{List, ◌++◌, length, slice_range, Result, Ok, Err}
 use Rattle.std.specs.Ordering.{nat_cmp, ordering_then}

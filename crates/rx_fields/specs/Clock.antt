@@ -1,4 +1,4 @@
--- Times of day to the minute, and stamps of a day and a time.
+-- Meaning: times of day to the minute, and stamps of a day and a time.
 use Rattle.std.specs.Prelude.{ℕ, ◌&&◌, ◌==◌, if◌then◌else◌, List, ◌++◌, length, take, drop, slice_range}
 use Rattle.std.specs.Prelude.{Option, Some, None, Result, Ok, Err}
 use Rattle.rx_fields.specs.declared.fault.FieldFault.{FieldFault}

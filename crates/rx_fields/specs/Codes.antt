@@ -1,4 +1,4 @@
--- The two characters of each reject code.
+-- Meaning: the two characters of each reject code.
 use Rattle.std.specs.Prelude.{ℕ, List, [], ◌∷◌, Option, codes, find, nat_eq}
 use Rattle.std.specs.Cmp.Lexicographic.{pointwise}
 use Rattle.rx_fields.specs.declared.code.Code.{Code}

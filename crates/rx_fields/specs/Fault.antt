@@ -1,4 +1,4 @@
--- The numbers of the faults, in the order in which they are checked.
+-- Meaning: the numbers of the faults, in the order in which they are checked.
 use Rattle.std.specs.Prelude.{ℕ}
 use Rattle.rx_fields.specs.declared.fault.FieldFault.{FieldFault}
 use Rattle.rx_fields.specs.declared.fault.FieldFault.TheVariants as field

@@ -1,3 +1,4 @@
+-- Plumbing: which files there are.
 pub mod Amount
 pub mod Bounds
 pub mod Calendar

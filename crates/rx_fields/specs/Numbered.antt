@@ -1,4 +1,4 @@
--- Lots, products and periods: what each keeps, and which values are one.
+-- Meaning: lots, products and periods: what each keeps, and which values are one.
 use Rattle.std.specs.Prelude.{ℕ, Bool, ◌&&◌, nat_lt, ◌==◌, if◌then◌else◌, List, length, Option, Some, None}
 use Rattle.std.specs.Ordering.{is_le}
 use Rattle.rx_fields.specs.Digits.{all_digits, number}

@@ -1,4 +1,4 @@
--- The orders of ids and fill keys.
+-- Meaning: the orders of ids and fill keys.
 use Rattle.std.specs.Prelude.{ℕ, List}
 use Rattle.std.specs.Ordering.{nat_cmp, ordering_then}
 use Rattle.std.specs.Cmp.Lexicographic.{slice_cmp}

@@ -1,4 +1,4 @@
--- The bytes and the length of an id follow from its text.
+-- Plumbing: the bytes and the length of an id follow from its text.
 use Rattle.std.specs.Prelude.{◌≡◌, ℕ, ◌-◌, ◌++◌, List, length, take, replicate, refl}
 use Rattle.std.proofs.Common.{arith, take-append-drop, length-take}
 use Rattle.rx_fields.specs.Text.{IsPadded}

@@ -1,4 +1,4 @@
--- What is an id: 1 to 20 printable bytes without a bar and without a trailing blank.
+-- Meaning: what is an id: 1 to 20 printable bytes without a bar and without a trailing blank.
 use Rattle.std.specs.Prelude.{◌≡◌, ◌≤◌, ℕ, ◌-◌, Bool, ◌&&◌, not, nat_lt, nat_le, ◌==◌, if◌then◌else◌}
 use Rattle.std.specs.Prelude.{List, [], ◌∷◌, length, take, drop, replicate, Result, Ok, Err}
 use Rattle.std.specs.List.{list_all, list_any}

@@ -1,4 +1,4 @@
--- What a clock shows, to the minute.
+-- Meaning: what a clock shows, to the minute.
 use Rattle.std.specs.Prelude.{◌≡◌, ℕ, Bool, true, ◌&&◌, nat_lt}
 
 -- an hour and a minute, from 0

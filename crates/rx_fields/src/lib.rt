@@ -50,6 +50,3 @@ pub use product::Product;
 pub use short_id::{Person, Provider, ShortId};
 pub use stamp::Stamp;
 pub use time::Time;
-
-#[cfg(test)]
-mod tests;

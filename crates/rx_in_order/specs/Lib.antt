@@ -1,3 +1,4 @@
+-- Plumbing: which files there are.
 pub mod Fills
 pub mod Named
 pub mod Underway

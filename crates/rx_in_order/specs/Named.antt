@@ -1,4 +1,4 @@
--- The fill keys that a batch names.
+-- Plumbing: the fill keys that a batch names.
 use Rattle.std.specs.Prelude.{List, [], ◌∷◌}
 use Rattle.std.specs.List.{flat_map}
 use Rattle.rx_fields.specs.declared.key.Key.{Key}

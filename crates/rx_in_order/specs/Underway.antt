@@ -1,4 +1,4 @@
--- A batch underway: the books so far, and what was looked up for it once.
+-- Plumbing: a batch underway: the books so far, and what was looked up for it once.
 use Rattle.std.specs.Prelude.{ℕ, ◌<◌, ◌≤◌, Bool, true, IfSome, List, Option, Some, length}
 use Rattle.std.specs.List.{All}
 use Rattle.rx_fields.specs.Order.{key_cmp}

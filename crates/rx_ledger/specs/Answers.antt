@@ -1,4 +1,4 @@
--- The answer to one transaction, and the ledger after it.
+-- Meaning: the answer to one transaction, and the ledger after it.
 use Rattle.std.specs.Prelude.{ℕ, ◌*◌, Bool, not, ◌&&◌, ◌||◌, nat_lt, ◌==◌, if◌then◌else◌, List, [], ◌∷◌, Option, Some, None, ◌-ℤ◌, ◌*ℤ◌, pos, int_lt}
 use Rattle.std.specs.List.{list_any}
 use Rattle.std.specs.Ordering.{is_lt, is_gt, is_le}

@@ -1,4 +1,4 @@
--- What a record is adjudicated on: which of a ledger's books it has to hold.
+-- Plumbing: what a record is adjudicated on: which of a ledger's books it has to hold.
 use Rattle.std.specs.Prelude.{◌≡◌, ℕ, Bool, true, List, Option, Some, None, IfSome}
 use Rattle.std.specs.List.{All}
 use Rattle.rx_fields.specs.Numbered.{Span}

@@ -1,4 +1,4 @@
--- What a transaction is asked under, and a billing with what it is answered by.
+-- Meaning: what a transaction is asked under, and a billing with what it is answered by.
 use Rattle.std.specs.Prelude.{◌≡◌, ℕ, true, List, IfSome, length, nat_lt}
 use Rattle.std.specs.List.{list_any}
 use Rattle.std.specs.Option.{option_map}

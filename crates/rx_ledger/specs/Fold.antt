@@ -1,4 +1,4 @@
--- One record, and the records of a batch one after another in file order.
+-- Meaning: one record, and the records of a batch one after another in file order.
 use Rattle.std.specs.Prelude.{ℕ, ◌+◌, ◌*◌, ◌^◌, List, [], ◌∷◌}
 use Rattle.rx_fields.specs.Numbered.{LotParts}
 use Rattle.rx_claim.specs.declared.reply.Answer.{Answer}

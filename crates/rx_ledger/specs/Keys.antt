@@ -1,4 +1,4 @@
--- The numbers of the plan sheet's keys, and of the errors of additions.
+-- Meaning: the numbers of the plan sheet's keys, and of the errors of additions.
 use Rattle.std.specs.Prelude.{ℕ}
 use Rattle.rx_ledger.specs.declared.ledger.AddError.{AddError}
 use Rattle.rx_ledger.specs.declared.ledger.AddError.TheVariants as error

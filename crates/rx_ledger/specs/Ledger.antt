@@ -1,4 +1,4 @@
--- The ledger: the members and the standing claims.
+-- Meaning: the ledger: the members and the standing claims.
 use Rattle.std.specs.Prelude.{◌≡◌, ℕ, Bool, true, List, [], Option, filter}
 use Rattle.std.specs.List.{list_all}
 use Rattle.rx_fields.specs.Order.{key_cmp}

@@ -1,4 +1,4 @@
--- Members, and the order in which they are listed: by family, then person.
+-- Meaning: members, and the order in which they are listed: by family, then person.
 use Rattle.std.specs.Prelude.{ℕ, Bool, List, Option, find}
 use Rattle.std.specs.Option.{option_map}
 use Rattle.std.specs.Ordering.{is_eq, ordering_then}

@@ -1,4 +1,4 @@
--- The fill keys that a batch names.
+-- Plumbing: the fill keys that a batch names.
 use Rattle.std.specs.Prelude.{ℕ, Bool, false, List}
 use Rattle.std.specs.List.{list_any}
 use Rattle.std.specs.Ordering.{is_eq}

@@ -1,4 +1,4 @@
--- Which drugs the terms of a record hold: a place for each of its transactions.
+-- Plumbing: which drugs the terms of a record hold: a place for each of its transactions.
 use Rattle.std.specs.Prelude.{ℕ, List, [], Option, None, slice_get, option_and_then}
 use Rattle.std.specs.Option.{option_map}
 use Rattle.rx_claim.specs.declared.transaction.Transaction.{Transaction}

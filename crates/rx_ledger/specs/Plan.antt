@@ -1,4 +1,4 @@
--- What a plan sheet says, and the ranges of its figures.
+-- Meaning: what a plan sheet says, and the ranges of its figures.
 use Rattle.std.specs.Prelude.{◌≡◌, ℕ, Bool, true, not, ◌&&◌, nat_le, if◌then◌else◌, List, Option, Some, None}
 use Rattle.std.specs.List.{list_all}
 use Rattle.std.specs.Option.{option_map}

@@ -1,4 +1,4 @@
--- Which figures and drugs make a plan.
+-- Meaning: which figures and drugs make a plan.
 use Rattle.std.specs.Prelude.{◌≡◌, true, List, [], Option, Some, None, Result, Ok, Err}
 use Rattle.rx_ledger.specs.declared.figures.Figures.{Figures}
 use Rattle.rx_ledger.specs.declared.sheet.Listed.{Listed}

@@ -1,4 +1,4 @@
--- What is paid for a drug before the patient's share.
+-- Meaning: what is paid for a drug before the patient's share.
 use Rattle.std.specs.Prelude.{ℕ, ◌+◌, ◌-◌, ◌*◌, ◌/◌, nat_lt, if◌then◌else◌, unwrap_or, min}
 use Rattle.rx_claim.specs.declared.bill.BillParts.{BillParts}
 use Rattle.rx_claim.specs.Billed.{cap}

@@ -1,4 +1,4 @@
--- Standing claims.
+-- Meaning: standing claims.
 use Rattle.std.specs.Prelude.{ℕ, Bool, List, Option}
 use Rattle.std.specs.Option.{option_map}
 use Rattle.rx_fields.specs.declared.key.Key.{Key}

@@ -1,4 +1,4 @@
--- Terms under which a record is adjudicated as under the whole sheet.
+-- Meaning: terms under which a record is adjudicated as under the whole sheet.
 use Rattle.std.specs.Prelude.{◌≡◌, ℕ}
 use Rattle.rx_fields.specs.Numbered.{LotParts}
 use Rattle.rx_claim.specs.declared.transmission.Transmission.{Transmission}

@@ -1,4 +1,4 @@
--- What the member pays of an allowance.
+-- Meaning: what the member pays of an allowance.
 use Rattle.std.specs.Prelude.{ℕ, ◌+◌, ◌-◌, ◌*◌, ◌/◌, Option, Some, None, min}
 use Rattle.rx_claim.specs.declared.pricing.Amounts.{Amounts}
 use Rattle.rx_ledger.specs.declared.drug.Share.{Share}

@@ -1,4 +1,4 @@
--- The accumulators of a benefit period: sums over the standing claims of a family that are dated within it.
+-- Meaning: the accumulators of a benefit period: sums over the standing claims of a family that are dated within it.
 use Rattle.std.specs.Prelude.{ℕ, List, if◌then◌else◌, sum_by}
 use Rattle.rx_fields.specs.Numbered.{Span, is_within}
 use Rattle.rx_claim.specs.Priced.{patient_pay}

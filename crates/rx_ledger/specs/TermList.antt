@@ -1,4 +1,4 @@
--- The terms of one record: a lot, and a small plan.
+-- Plumbing: the terms of one record: a lot, and a small plan.
 use Rattle.std.specs.Prelude.{◌≡◌, true, List, Option, filter_map}
 use Rattle.rx_fields.specs.Numbered.{LotParts}
 use Rattle.rx_ledger.specs.declared.figures.Figures.{Figures}

@@ -187,6 +187,3 @@ impl Ledger {
         self.rows.remove(key)
     }
 }
-
-#[cfg(test)]
-mod tests;

@@ -146,6 +146,3 @@ impl Sheet {
         self.drugs.as_slice()
     }
 }
-
-#[cfg(test)]
-mod tests;

@@ -1,4 +1,4 @@
--- The value of a log's line: what each member tells.
+-- Meaning: the value of a log's line: what each member tells.
 use Rattle.std.specs.Prelude.{ℕ, List, Option, Some, None, codes, slice_index}
 use Rattle.std.specs.Borrow.{Bor}
 use Rattle.serde_json.specs.Data.{Data, null, boolean, number, unsigned, string, array, object, item, no_items, member, no_members}

@@ -25,24 +25,17 @@ pub fn line(alloc: Global, log: &RunLog<'_>) -> Result<String, AllocError>
 fn value(alloc: Global, log: &RunLog<'_>) -> Result<Value, AllocError>
     ensures { IfOk result (λ v. view v ≡ log_data log.now) }
 {
-    let inputs = inputs(alloc, log)?;
-    let outputs = outputs(alloc, log)?;
-    let lot = lot(alloc, log.lot)?;
-    let steps = steps(alloc, &log.steps)?;
-    let refused = refused(alloc, log.refused)?;
-    let words = words(alloc, log)?;
-    let totals = totals(alloc, log.totals)?;
     json!(in alloc; {
         "file": number(log.file),
-        "inputs": inputs,
-        "lot": lot,
-        "microseconds": steps,
-        "outputs": outputs,
+        "inputs": inputs(alloc, log)?,
+        "lot": lot(alloc, log.lot)?,
+        "microseconds": steps(alloc, &log.steps)?,
+        "outputs": outputs(alloc, log)?,
         "peak_kilobytes": number(log.peak),
-        "refused": refused,
-        "run": words,
+        "refused": refused(alloc, log.refused)?,
+        "run": words(alloc, log)?,
         "status": log.status,
-        "totals": totals,
+        "totals": totals(alloc, log.totals)?,
         "version": log.version
     })
 }
@@ -68,26 +61,31 @@ fn text(alloc: Global, text: Option<&str>) -> Result<Value, AllocError>
 fn file(alloc: Global, file: &FileLog<'_>) -> Result<Value, AllocError>
     ensures { IfOk result (λ v. view v ≡ file_data file.now) }
 {
-    let sha256 = text(alloc, file.sha256)?;
-    json!(in alloc; {"bytes": number(file.bytes), "path": file.path, "sha256": sha256})
+    json!(in alloc; {
+        "bytes": number(file.bytes),
+        "path": file.path,
+        "sha256": text(alloc, file.sha256)?
+    })
 }
 
 fn inputs(alloc: Global, log: &RunLog<'_>) -> Result<Value, AllocError>
     ensures { IfOk result (λ v. view v ≡ inputs_data log.now) }
 {
-    let batch = file(alloc, &log.batch)?;
-    let books = file(alloc, &log.books)?;
-    let sheet = file(alloc, &log.sheet)?;
-    json!(in alloc; {"batch": batch, "books": books, "sheet": sheet})
+    json!(in alloc; {
+        "batch": file(alloc, &log.batch)?,
+        "books": file(alloc, &log.books)?,
+        "sheet": file(alloc, &log.sheet)?
+    })
 }
 
 fn outputs(alloc: Global, log: &RunLog<'_>) -> Result<Value, AllocError>
     ensures { IfOk result (λ v. view v ≡ outputs_data log.now) }
 {
-    let books = file(alloc, &log.books_out)?;
-    let response = file(alloc, &log.response)?;
-    let settlement = file(alloc, &log.settlement)?;
-    json!(in alloc; {"books_out": books, "response": response, "settlement": settlement})
+    json!(in alloc; {
+        "books_out": file(alloc, &log.books_out)?,
+        "response": file(alloc, &log.response)?,
+        "settlement": file(alloc, &log.settlement)?
+    })
 }
 
 fn lot(alloc: Global, lot: Option<Lot<'_>>) -> Result<Value, AllocError>

@@ -1,4 +1,4 @@
--- Ascending lists: items in the order of their keys, at most one of a key.
+-- Meaning: ascending lists: items in the order of their keys, at most one of a key.
 -- `cmp` is the order of the keys, and `key` reads an item's key.
 use Rattle.std.specs.Prelude.{◌≡◌, ℕ, ◌<◌, ◌≤◌, Bool, true, not, ◌&&◌, List, [], ◌∷◌, length, slice_index_or, Option}
 use Rattle.std.specs.Prelude.{is_some}

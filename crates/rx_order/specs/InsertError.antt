@@ -1,4 +1,4 @@
--- What an insert answers.
+-- Meaning: what an insert answers.
 use Rattle.std.specs.Prelude.{Bool, true, false, Result, Ok, Err}
 use Rattle.rx_order.specs.declared.list.InsertError.{InsertError}
 use Rattle.rx_order.specs.declared.list.InsertError.TheVariants.{There, Memory}

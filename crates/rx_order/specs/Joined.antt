@@ -1,4 +1,4 @@
--- Ascending lists put together.
+-- Plumbing: ascending lists put together.
 use Rattle.std.specs.Prelude.{◌≡◌, List, [], Some}
 use Rattle.std.specs.List.{Contains, fold}
 use Rattle.std.specs.declared.cmp.Ordering.{Ordering}

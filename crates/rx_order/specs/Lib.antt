@@ -1,3 +1,4 @@
+-- Plumbing: which files there are.
 pub mod Ascending
 pub mod InsertError
 pub mod Joined

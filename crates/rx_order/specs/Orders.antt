@@ -1,4 +1,4 @@
--- Orders of keys that have several fields: the first field in which two keys differ decides.
+-- Meaning: orders of keys that have several fields: the first field in which two keys differ decides.
 use Rattle.std.specs.Prelude.{ℕ, List}
 use Rattle.std.specs.Cmp.Lexicographic.{slice_cmp}
 use Rattle.std.specs.Ordering.{nat_cmp, on, then_cmp}

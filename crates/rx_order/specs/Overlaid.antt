@@ -1,4 +1,4 @@
--- An ascending list of items, overlaid by slots: each slot says what stands now under its key, an item or none.
+-- Plumbing: an ascending list of items, overlaid by slots: each slot says what stands now under its key, an item or none.
 use Rattle.std.specs.Prelude.{◌≡◌, List, Option, Some, None}
 use Rattle.std.specs.List.{fold}
 use Rattle.std.specs.declared.cmp.Ordering.{Ordering}

@@ -1,4 +1,4 @@
--- Ascending lists that are kept as some runs, one behind the other.
+-- Plumbing: ascending lists that are kept as some runs, one behind the other.
 use Rattle.std.specs.Prelude.{◌≡◌, ℕ, ◌<◌, ◌^◌, Bool, true, false, ◌&&◌, List, [], ◌∷◌, length, nat_lt}
 use Rattle.std.specs.List.{flat_map, list_all}
 use Rattle.std.specs.Vec.{vec_items}

@@ -241,6 +241,3 @@ impl<T: Keyed + Eq> Eq for Ascending<T> {
 
     ghost laws = { lists_equiv T.Eq.laws };
 }
-
-#[cfg(test)]
-mod tests;

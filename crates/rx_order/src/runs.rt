@@ -222,6 +222,3 @@ impl<T: Keyed + Eq> Eq for Runs<T> {
 
     ghost laws = { lists_equiv T.Eq.laws };
 }
-
-#[cfg(test)]
-mod tests;

@@ -1,12 +1,12 @@
 -- What a change of a family's rows and members does to its totals.
-use Rattle.std.proofs.Common.{◌≡◌, ◌≢◌, ℕ, ◌+◌, ◌-◌, ◌^◌, ◌<◌, ◌≤◌, List, [], ◌∷◌, ◌++◌, length, get_or, map, set, true, false, Option, Some, None, refl, sym, ap, ◌∙◌, inl, inr, arith}
-use Rattle.std.specs.List.{All, sum_by}
+use Rattle.std.proofs.Common.{◌≡◌, ◌≢◌, ℕ, ◌+◌, ◌-◌, ◌^◌, ◌<◌, ◌≤◌, List, [], ◌∷◌, ◌++◌, append-nil, length, get_or, map, set, true, false, Option, Some, None, refl, sym, ap, ◌∙◌, inl, inr, arith}
+use Rattle.std.specs.List.{All, refill, sum_by}
 use Rattle.std.specs.Cmp.{eq_by_cmp_equiv}
 use Rattle.std.specs.Option.{is_some}
 use Rattle.std.specs.Ordering.{is_eq}
 use Rattle.std.proofs.lemmas.Bool.{cases_Bool, and_parts}
 use Rattle.std.proofs.lemmas.Cmp.{tied_itself}
-use Rattle.std.proofs.lemmas.List.{get_or-map, get_or_default, length-map, map-append}
+use Rattle.std.proofs.lemmas.List.{drop_all, get_or-map, length-set, map-append, take_all}
 use Rattle.std.proofs.lemmas.List.Elements.{All-cons, All-contains, All-nil}
 use Rattle.std.proofs.lemmas.List.Sums.{AllPass-from_list_all, sum_by-le}
 use Rattle.rx_fields.specs.Calendar.{Civil}
@@ -104,12 +104,13 @@ module _ (b : FamilyBook) (own : IsOwn b) (deductibles : List ℕ) (pocket deduc
       let read = get_or-map (λ (n : Member). deductible_in b.period b.rows n.key.person) b.members at m 0 in_range in
       rw totals.of_members (rw read (omega (arith, bound, own.few)))
 
-  -- each member has a figure
-  pub stored : (at d : ℕ) → at < length b.members → get_or deductibles at d ≡ get_or deductibles at 0
-  stored at d in_range =
-      let long : length deductibles ≡ length b.members = ap length totals.of_members
-      ∙ simp length-map in
-      get_or_default deductibles at d 0 (omega arith)
+  -- a list in which one figure is changed is as long, and takes the place of the whole
+  pub changed_figure : (at d : ℕ) → refill (length deductibles) deductibles (set deductibles at d) ≡ set deductibles at d
+  changed_figure at d =
+      let changed = set deductibles at d in
+      let long : length changed ≡ length deductibles = length-set deductibles at d in
+      rw long (rw (drop_all (length deductibles) deductibles (omega arith)) (rw (append-nil changed)
+      (take_all (length deductibles) changed (omega (arith, long)))))
 
   -- the figure at a member's place is the sum over the member's rows
   pub deductible_read : (person : List ℕ) (at : ℕ)

@@ -1,4 +1,4 @@
--- The tests by which it is told whether the books of a parcel agree.
+-- Plumbing: the tests by which it is told whether the books of a parcel agree.
 use Rattle.std.specs.Prelude.{Bool, true, not, ◌&&◌, ◌||◌, Option, Some, None}
 use Rattle.std.specs.List.{list_all}
 use Rattle.std.specs.Option.{option_eq}

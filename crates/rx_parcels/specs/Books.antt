@@ -1,4 +1,4 @@
--- The books of a ledger: of a fill key the row under it or none, of a family its members and rows.
+-- Meaning: the books of a ledger: of a fill key the row under it or none, of a family its members and rows.
 use Rattle.std.specs.Prelude.{ℕ, Bool, false, List, filter}
 use Rattle.std.specs.Ordering.{is_eq}
 use Rattle.rx_fields.specs.Order.{key_cmp}

@@ -1,4 +1,4 @@
--- The book of a family: its members and its standing claims, with the totals over those of a benefit period.
+-- Meaning: the book of a family: its members and its standing claims, with the totals over those of a benefit period.
 use Rattle.std.specs.Prelude.{◌≡◌, ℕ, ◌<◌, ◌≤◌, ◌^◌, Bool, List, [], Option, Some, None, if◌then◌else◌, length, map}
 use Rattle.std.specs.List.{All}
 use Rattle.rx_fields.specs.Numbered.{Span}

@@ -1,4 +1,4 @@
--- Footprints: which books a record works on, and the ledger of these books alone.
+-- Meaning: footprints: which books a record works on, and the ledger of these books alone.
 use Rattle.std.specs.Prelude.{◌≡◌, ℕ, Bool, true, ◌&&◌, if◌then◌else◌, List, ◌++◌, map, Option, Some, None}
 use Rattle.std.specs.List.{Contains, list_all}
 use Rattle.std.specs.Ordering.{is_eq}

@@ -1,3 +1,4 @@
+-- Plumbing: which files there are.
 pub mod Agreement
 pub mod Books
 pub mod FamilyBook

@@ -1,4 +1,4 @@
--- Parcels: the books that a footprint names, with the period that their totals are of.
+-- Meaning: parcels: the books that a footprint names, with the period that their totals are of.
 use Rattle.std.specs.Prelude.{◌≡◌, ℕ, List, [], Option, Some, None, IfSome, map}
 use Rattle.std.specs.List.{All}
 use Rattle.std.specs.Option.{option_and_then, option_map, option_to_list}

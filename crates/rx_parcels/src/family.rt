@@ -10,8 +10,12 @@ use crate::totals::{FamilyTotals, counted_in, place_of_member};
 use rx_fields::{Id, Key, Memory, Period, Person};
 use rx_ledger::{Member, MemberKey, Row};
 use rx_order::{Ascending, InsertError, Keyed};
+use smallvec::SmallVec;
 use std::alloc::Global;
 use std::marker::Model;
+
+// For how many members their deductibles stand in the book itself, which is then copied without a list of its own for them.
+const FEW_MEMBERS: usize = 4;
 
 /// The book of a family: its members and its standing claims, with each member's deductible and the family's out of
 /// pocket and deductible stored beside them. Each total is the sum over the book's rows that are dated within its
@@ -23,7 +27,7 @@ pub struct Family {
     members: Ascending<Member>,
     rows: Ascending<Row>,
     // The members' deductibles, in their order.
-    deductibles: Vec<u128>,
+    deductibles: SmallVec<u128, FEW_MEMBERS>,
     out_of_pocket: u128,
     deductible: u128,
 }
@@ -58,7 +62,7 @@ impl Family {
             period,
             members: Ascending::new(alloc),
             rows: Ascending::new(alloc),
-            deductibles: Vec::new(alloc),
+            deductibles: SmallVec::new(alloc),
             out_of_pocket: 0,
             deductible: 0,
         }
@@ -86,7 +90,7 @@ impl Family {
             period,
             members,
             rows,
-            deductibles,
+            deductibles: SmallVec::from_vec(deductibles),
             out_of_pocket,
             deductible,
         }
@@ -240,7 +244,7 @@ impl Family {
     {
         let members = self.members.to_copy(alloc)?;
         let rows = self.rows.to_copy(alloc)?;
-        let deductibles = Vec::from_slice(alloc, &self.deductibles)?;
+        let deductibles = SmallVec::from_slice(alloc, &self.deductibles)?;
         Ok(Family {
             family: self.family,
             period: self.period,

@@ -10,8 +10,6 @@ mod footprint;
 mod key_book;
 mod law;
 mod parcel;
-#[cfg(test)]
-mod tests;
 mod totals;
 
 pub use family::Family;

@@ -1,2 +1,4 @@
+pub mod Amended
+pub mod AmendedTests
 pub mod NearPlaces
 pub mod Valued

@@ -1,4 +1,4 @@
--- The two sides of a gap for a key in an ascending list.
+-- Plumbing: the two sides of a gap for a key in an ascending list.
 use Rattle.std.specs.Prelude.{◌≡◌, ℕ, ◌<◌, ◌≤◌, List, length, slice_index_or}
 use Rattle.std.specs.declared.cmp.Ordering.{Ordering}
 use Rattle.std.specs.declared.cmp.Ordering.TheVariants.{Less, Greater}

@@ -1,4 +1,4 @@
--- A shelf: of each book that is named its place, where the book is or from which it is out; and the ledger beside, of
+-- Meaning: a shelf: of each book that is named its place, where the book is or from which it is out; and the ledger beside, of
 -- which the other books are.
 use Rattle.std.specs.Prelude.{◌≡◌, ℕ, Bool, true, false, not, ◌&&◌, List, [], Option, Some, None, IfSome}
 use Rattle.std.specs.List.{All, Contains, list_all}

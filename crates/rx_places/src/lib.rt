@@ -2,13 +2,15 @@
 //!
 //! In come books that are in their places, and lists of places in which a book is found by a hash of its name
 //! (`Hinted`); what each is worth beside the ledger that they were taken from, and when they
-//! agree, stands in `specs/Shelves.antt`.
+//! agree, stands in `specs/Shelves.antt`, and the ledger that they make together in `specs/Amended.antt`.
 #![tactic(auto)]
 
+mod among;
 mod hinted;
 mod near;
 mod place;
 
+pub use among::is_among;
 pub use hinted::{Hashed, Hinted};
-pub use near::place_near;
+pub use near::{item_of, place_near};
 pub use place::{FamilyPlace, KeyPlace};

@@ -1,5 +1,6 @@
 ghost use Rattle.std.specs.Prelude.{◌≡◌, IfErr, IfOk, IsTrue};
-ghost use Rattle.rx_order.specs.Ascending.{IsAscending, IsAt, IsGap};
+ghost use Rattle.std.specs.Option.{option_copied};
+ghost use Rattle.rx_order.specs.Ascending.{IsAscending, IsAt, IsGap, item_at};
 ghost use Rattle.rx_places.specs.Near.{AreBefore, AreBehind};
 
 use rx_order::{Keyed, place_of};
@@ -18,6 +19,17 @@ pub fn place_near<T: Keyed>(items: &[T], near: usize, key: &T::Key) -> Result<us
         return Err(near);
     }
     place_of(items, key)
+}
+
+/// The item that has the key.
+pub fn item_of<'a, T: Keyed>(items: &'a [T], key: &T::Key) -> Option<&'a T>
+    requires { IsAscending T.Key.cmp T.key_of items.now }
+    ensures { option_copied result ≡ item_at T.Key.cmp T.key_of items.now key.now }
+{
+    match place_of(items, key) {
+        Ok(at) => Some(&items[at]),
+        Err(_) => None,
+    }
 }
 
 /// Whether the item at the place has the key.

@@ -1,6 +1,11 @@
+ghost use Rattle.std.specs.Prelude.{◌≡◌};
+ghost use Rattle.std.specs.Option.{option_copied};
+ghost use Rattle.rx_places.specs.Amended.{members_held};
+ghost use Rattle.rx_places.specs.Shelves.{row_held};
+
 use crate::hinted::{Hashed, hash_of_text, mixed};
 use rx_fields::{Id, Key};
-use rx_ledger::Row;
+use rx_ledger::{Member, Row};
 use rx_order::Keyed;
 use rx_parcels::Family;
 
@@ -11,6 +16,18 @@ pub struct KeyPlace {
     pub key: Key,
     /// Its book, where it is in its place.
     pub held: Option<Option<Row>>,
+}
+
+impl KeyPlace {
+    /// The row that stands under the key; None where there is none, or the book is out.
+    pub fn row(&self) -> Option<&Row>
+        ensures { option_copied result ≡ row_held self.now }
+    {
+        match &self.held {
+            Some(row) => row.as_ref(),
+            None => None,
+        }
+    }
 }
 
 impl Keyed for KeyPlace {
@@ -42,6 +59,18 @@ pub struct FamilyPlace {
     pub family: Id,
     /// Its book, where it is in its place.
     pub held: Option<Family>,
+}
+
+impl FamilyPlace {
+    /// The members in the family's book; none where it is out.
+    pub fn members(&self) -> &[Member]
+        ensures { result.now ≡ members_held self.now }
+    {
+        match &self.held {
+            Some(book) => book.members(),
+            None => &[],
+        }
+    }
 }
 
 impl Keyed for FamilyPlace {

@@ -1,4 +1,4 @@
--- Which texts are response files: as batch files are, but with type R (NCPDP Batch Standard 1.2).
+-- Meaning: which texts are response files: as batch files are, but with type R (NCPDP Batch Standard 1.2).
 use Rattle.std.specs.Prelude.{◌≡◌, ℕ, ◌==◌, if◌then◌else◌, List, ◌∷◌, ◌++◌, take, Result, Ok}
 use Rattle.rx_batch.specs.declared.batch.Batch.{Batch}
 use Rattle.rx_batch.specs.declared.detail.Detail.{Detail}

@@ -1,4 +1,4 @@
--- What a detail of a response file holds.
+-- Meaning: what a detail of a response file holds.
 use Rattle.std.specs.Prelude.{◌≡◌, ℕ, List}
 use Rattle.rx_claim.specs.declared.reply.Reply.{Reply}
 use Rattle.rx_reply.specs.declared.fault.ReplyFault.{ReplyFault}

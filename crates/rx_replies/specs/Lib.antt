@@ -1,3 +1,4 @@
+-- Plumbing: which files there are.
 pub mod File
 pub mod Found
 pub mod Lines

@@ -1,4 +1,4 @@
--- What `replies` prints of a text, or refuses.
+-- Meaning: what `replies` prints of a text, or refuses.
 use Rattle.std.specs.Prelude.{◌≡◌, ℕ, List, Ok}
 use Rattle.std.specs.List.{AllZip}
 use Rattle.rx_batch.specs.declared.batch.Batch.{Batch}

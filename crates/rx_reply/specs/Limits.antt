@@ -1,4 +1,4 @@
--- The limits that replies keep.
+-- Meaning: the limits that replies keep.
 use Rattle.std.specs.Prelude.{◌≡◌, ◌≤◌, ℕ, true, List, length, IfSome}
 use Rattle.std.specs.List.{AllByRecursion}
 use Rattle.rx_fields.specs.declared.code.Code.{Code}

@@ -1,4 +1,4 @@
--- Readers: a reader takes a value from the front of the bytes and leaves the rest, or finds none.
+-- Plumbing: readers: a reader takes a value from the front of the bytes and leaves the rest, or finds none.
 use Rattle.std.specs.Prelude.{ℕ, zero, suc, ◌&&◌, nat_eq, nat_le, if◌then◌else◌, List, [], ◌∷◌, length, take, drop, Option, Some, None, Result, Ok, Err, ℤ}
 use Rattle.std.specs.Cmp.Lexicographic.{pointwise}
 use Rattle.rx_fields.specs.declared.fault.FieldFault.{FieldFault}

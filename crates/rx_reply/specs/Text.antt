@@ -1,4 +1,4 @@
--- The one text of a reply: a header of 31 bytes, and for each answer GS and its segments.
+-- Meaning: the one text of a reply: a header of 31 bytes, and for each answer GS and its segments.
 use Rattle.std.specs.Prelude.{ℕ, List, [], ◌∷◌, ◌++◌, length, replicate, Option, Some, None, pos, neg_ℤ, ◌==◌, if◌then◌else◌, codes}
 use Rattle.std.specs.List.{flat_map}
 use Rattle.rx_fields.specs.declared.code.Code.{Code}

@@ -28,6 +28,3 @@ pub use fault::ReplyFault;
 pub use law::read_back;
 pub use reading::decode_reply;
 pub use writing::{encode, put_reply};
-
-#[cfg(test)]
-mod tests;

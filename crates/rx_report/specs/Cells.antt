@@ -1,4 +1,4 @@
--- What a report says of an answer, column by column. What isn't known stays blank.
+-- Meaning: what a report says of an answer, column by column. What isn't known stays blank.
 use Rattle.std.specs.Prelude.{ℕ, ◌==◌, Bool, true, false, if◌then◌else◌, List, [], ◌∷◌, Option, Some, None, codes}
 use Rattle.std.specs.Fmt.{decimal}
 use Rattle.rx_claim.specs.Priced.{allowed, patient_pay, total_paid}

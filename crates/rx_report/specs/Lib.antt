@@ -1,3 +1,4 @@
+-- Plumbing: which files there are.
 pub mod Cells
 pub mod Lines
 pub mod Texts

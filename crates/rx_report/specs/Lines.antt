@@ -1,4 +1,4 @@
--- The lines of a report: one for each answer, in file order.
+-- Meaning: the lines of a report: one for each answer, in file order.
 use Rattle.std.specs.Prelude.{ℕ, ◌+◌, List, [], ◌∷◌, ◌++◌, Option, Some, None, slice_get}
 use Rattle.std.specs.Option.{option_and_then}
 use Rattle.rx_claim.specs.declared.reply.Answer.{Answer}

@@ -1,4 +1,4 @@
--- A report as a table of tabs, and as JSON.
+-- Meaning: a report as a table of tabs, and as JSON.
 use Rattle.std.specs.Prelude.{ℕ, ◌==◌, if◌then◌else◌, List, [], ◌∷◌, ◌++◌, codes, length}
 use Rattle.std.specs.List.{flat_map}
 use Rattle.rx_escape.specs.Escape.{escaped}

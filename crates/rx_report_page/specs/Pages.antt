@@ -1,4 +1,4 @@
--- What a page has of a file's bytes: each is escaped.
+-- Meaning: what a page has of a file's bytes: each is escaped.
 use Rattle.std.specs.Prelude.{ℕ, List, option_map, codes}
 use Rattle.std.specs.Option.{unwrap_or}
 use Rattle.std.specs.Result.{result_ok}

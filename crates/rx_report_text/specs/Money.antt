@@ -1,4 +1,4 @@
--- Amounts in dollars and cents, made of the digits of their cents.
+-- Meaning: amounts in dollars and cents, made of the digits of their cents.
 use Rattle.std.specs.Prelude.{ℕ, ◌-◌, ◌==◌, nat_le, if◌then◌else◌, List, [], ◌∷◌, ◌++◌, codes, drop, length, take}
 
 -- two digits at most, behind a point and a zero

@@ -1,4 +1,4 @@
--- What a report for people says of an answer, column by column. What isn't known stays blank.
+-- Meaning: what a report for people says of an answer, column by column. What isn't known stays blank.
 use Rattle.std.specs.Prelude.{ℕ, Bool, true, false, List, [], ◌∷◌, ◌++◌, Option, Some, None, codes, drop, take}
 use Rattle.rx_report.specs.Cells.{cell}
 use Rattle.rx_report.specs.declared.column.Column.TheVariants as column

@@ -1,4 +1,4 @@
--- Transactions: what a group of a billing or of a reversal asks.
+-- Meaning: transactions: what a group of a billing or of a reversal asks.
 use Rattle.std.specs.Prelude.{ℕ, Bool, true, false, if◌then◌else◌, List, [], ◌∷◌, Option, Some, None, unwrap_or}
 use Rattle.rx_fields.specs.declared.code.Code.{Code}
 use Rattle.rx_fields.specs.declared.code.Code.TheVariants as code

@@ -1,4 +1,4 @@
--- Reject codes, each with its condition, in the order of docs/FORMATS.md, "Request transmission".
+-- Meaning: reject codes, each with its condition, in the order of docs/FORMATS.md, "Request transmission".
 use Rattle.std.specs.Prelude.{ℕ, ◌+◌, Bool, not, ◌||◌, ◌&&◌, ◌==◌, List, [], ◌∷◌, map, filter, take, is_none, codes}
 use Rattle.std.specs.List.{list_any}
 use Rattle.rx_fields.specs.declared.code.Code.{Code}

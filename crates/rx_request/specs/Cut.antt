@@ -1,4 +1,4 @@
--- What the separators cut (docs/FORMATS.md, "Parts, segments and fields"). GS is 29, SS is 30, FS is 28.
+-- Meaning: what the separators cut (docs/FORMATS.md, "Parts, segments and fields"). GS is 29, SS is 30, FS is 28.
 use Rattle.std.specs.Prelude.{ℕ, Bool, true, false, ◌&&◌, nat_le, nat_eq, ◌==◌, List, [], ◌∷◌, length, map, filter, take, drop, codes}
 use Rattle.std.specs.List.{list_all, slice_split}
 use Rattle.std.specs.Cmp.Lexicographic.{pointwise}

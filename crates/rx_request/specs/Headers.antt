@@ -1,4 +1,4 @@
--- The header of a request (docs/FORMATS.md, "Request header").
+-- Meaning: the header of a request (docs/FORMATS.md, "Request header").
 use Rattle.std.specs.Prelude.{ℕ, ◌-◌, Bool, ◌&&◌, nat_le, List, ◌++◌, length, take, replicate, slice_index, slice_range}
 use Rattle.std.specs.List.{list_all}
 use Rattle.rx_fields.specs.Text.{is_printable}

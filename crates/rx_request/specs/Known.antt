@@ -1,4 +1,4 @@
--- The known segments of a part, and the values of their known fields (docs/FORMATS.md, "Parts, segments and fields").
+-- Meaning: the known segments of a part, and the values of their known fields (docs/FORMATS.md, "Parts, segments and fields").
 use Rattle.std.specs.Prelude.{ℕ, Bool, false, ◌&&◌, if◌then◌else◌, List, [], ◌∷◌, map, filter, Option, Some, None, codes}
 use Rattle.rx_request.specs.Cut.{same, is_nonempty, Field, fields, segments, is_part}
 

@@ -1,3 +1,4 @@
+-- Plumbing: which files there are.
 pub mod Bills
 pub mod Codes
 pub mod Cut

@@ -1,4 +1,4 @@
--- The places of a byte as the bits of a number.
+-- Plumbing: the places of a byte as the bits of a number.
 use Rattle.std.specs.Prelude.{◌≡◌, ⊤, ℕ, ◌==◌, ◌≤◌, List, length, map, take, Option, Some, None}
 use Rattle.std.specs.Borrow.{Bor}
 use Rattle.std.specs.Simd.Lanes.{mask_l}

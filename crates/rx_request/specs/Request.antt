@@ -1,4 +1,4 @@
--- What a request transmission is, for every byte string (docs/FORMATS.md, "Request transmission").
+-- Meaning: what a request transmission is, for every byte string (docs/FORMATS.md, "Request transmission").
 use Rattle.std.specs.Prelude.{ℕ, Bool, ◌&&◌, is_some, min, max, if◌then◌else◌, List, [], length, drop, map, Option, unwrap_or, codes}
 use Rattle.rx_fields.specs.declared.code.Code.{Code}
 use Rattle.rx_fields.specs.declared.door.Door.{Door}

@@ -1,4 +1,4 @@
--- A table of keys and what was found under each.
+-- Plumbing: a table of keys and what was found under each.
 use Rattle.std.specs.Prelude.{ℕ, Bool, is_some, if◌then◌else◌, List, [], ◌∷◌, map, Option, Some, None, option_map}
 use Rattle.std.specs.Borrow.{Bor}
 use Rattle.rx_request.specs.Cut.{same, cut, is_nonempty, Field, fields, is_segment}

@@ -1,4 +1,4 @@
--- The parts of the tables that one reading step answers for.
+-- Plumbing: the parts of the tables that one reading step answers for.
 use Rattle.std.specs.Prelude.{ℕ, Bool, not, ◌||◌, ◌&&◌, List, [], ◌∷◌, Option, is_none, unwrap_or, codes, map, max, min}
 use Rattle.rx_fields.specs.declared.code.Code.{Code}
 use Rattle.rx_fields.specs.declared.code.Code.TheVariants as code

@@ -1,4 +1,4 @@
--- What is seen of the values in memory.
+-- Plumbing: what is seen of the values in memory.
 use Rattle.rx_request.specs.declared.known.Insurance.{Insurance}
 use Rattle.rx_request.specs.declared.known.Claim.{Claim}
 use Rattle.rx_request.specs.declared.known.Pricing.{Pricing}

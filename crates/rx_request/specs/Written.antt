@@ -1,4 +1,4 @@
--- Requests as they are written: each field once, in order, in its one spelling (docs/FORMATS.md, "Request transmission").
+-- Meaning: requests as they are written: each field once, in order, in its one spelling (docs/FORMATS.md, "Request transmission").
 -- FS is 28, GS is 29, SS is 30.
 use Rattle.std.specs.Prelude.{◌≡◌, ℕ, ◌+◌, ◌-◌, ◌<◌, ◌≤◌, ◌^◌, true, pos, List, [], ◌∷◌, ◌++◌, length, map, replicate, Option, Some, None, All, codes}
 use Rattle.std.specs.List.{flat_map, list_all}

@@ -13,8 +13,6 @@
 #![tactic(auto)]
 
 mod bill;
-#[cfg(test)]
-mod cases;
 mod codes;
 mod field;
 mod header;

@@ -1,5 +1,6 @@
 -- Pieces that are rendered beside one another, and joined.
-use Rattle.std.proofs.Common.{◌≡◌, List, [], ◌∷◌, ◌++◌, map, ℕ, ◌+◌, ◌<◌, ◌≤◌, Result, Ok, Err, length, get_or, drop, append_assoc, refl, sym, ap, ◌∙◌, arith}
+use Rattle.std.proofs.Common.{◌≡◌, List, [], ◌∷◌, ◌++◌, map, ℕ, ◌+◌, ◌<◌, ◌≤◌, Result, Ok, Err, length, get_or, drop}
+use Rattle.std.proofs.Common.{append_assoc, refl, sym, ap, ◌∙◌, arith}
 use Rattle.std.specs.Prelude.{IfOk, IsOkAnd, MatchResult, zip}
 use Rattle.std.specs.List.{AllZip, flat_map}
 use Rattle.std.specs.Vec.{vec_items}
@@ -42,7 +43,8 @@ module _ {X Z : Type 0} (E : Type 0) (record_of : X → List ℕ) where
 
   -- the pieces that a fold gives, where each was made, have the records of all items
   pub joined : (pieces : List (List X)) (ys : List (Vec ℕ Z))
-      → AllZip (λ xs (r : Result (Vec ℕ Z) E). (e : Result (Vec ℕ Z) E) × IfOk e (λ (t : Vec ℕ Z). t.items ≡ []) × Folds AddsOne e xs r) pieces (map Ok ys)
+      → AllZip (λ xs (r : Result (Vec ℕ Z) E). (e : Result (Vec ℕ Z) E) × IfOk e (λ (t : Vec ℕ Z). t.items ≡ [])
+      × Folds AddsOne e xs r) pieces (map Ok ys)
       → flat_map vec_items ys ≡ flat_map record_of (flat_map (λ l. l) pieces)
   joined [] [] h = refl
   joined [] (y ∷ ys) h = absurd h
@@ -81,15 +83,19 @@ pub records_step : (details : List Detail) (replies : List Reply) (at : ℕ) (d 
     → after ++ records_text (response_details (drop (at + 1) details) (drop (at + 1) replies)) ≡ total
 records_step details replies at d r before after total in_details in_replies is_d is_r written so_far =
     let rest = records_text (response_details (drop (at + 1) details) (drop (at + 1) replies)) in
-    let details_on : drop at details ≡ d ∷ drop (at + 1) details = drop_more details at d in_details ∙ ap (λ x. x ∷ drop (at + 1) details) (sym is_d) in
-    let replies_on : drop at replies ≡ r ∷ drop (at + 1) replies = drop_more replies at r in_replies ∙ ap (λ x. x ∷ drop (at + 1) replies) (sym is_r) in
+    let details_on : drop at details ≡ d ∷ drop (at + 1) details = drop_more details at d in_details
+    ∙ ap (λ x. x ∷ drop (at + 1) details) (sym is_d) in
+    let replies_on : drop at replies ≡ r ∷ drop (at + 1) replies = drop_more replies at r in_replies
+    ∙ ap (λ x. x ∷ drop (at + 1) replies) (sym is_r) in
     let next : records_text (response_details (drop at details) (drop at replies)) ≡ answer_text d r ++ rest =
     (λ j. records_text (response_details (details_on j) (replies_on j))) in
-    ap (λ (text : List ℕ). text ++ rest) written ∙ (append_assoc before (answer_text d r) rest ∙ (ap (λ (text : List ℕ). before ++ text) (sym next) ∙ so_far))
+    ap (λ (text : List ℕ). text ++ rest) written ∙ (append_assoc before (answer_text d r) rest
+    ∙ (ap (λ (text : List ℕ). before ++ text) (sym next) ∙ so_far))
 
 -- all records are written
 pub records_done : (details : List Detail) (replies : List Reply) (at : ℕ) (before total : List ℕ) → length details ≤ at
     → before ++ records_text (response_details (drop at details) (drop at replies)) ≡ total → before ≡ total
 records_done details replies at before total le so_far =
     let none : drop at details ≡ [] = drop_all at details le in
-    sym (append-nil before) ∙ (ap (λ (left : List Detail). before ++ records_text (response_details left (drop at replies))) (sym none) ∙ so_far)
+    sym (append-nil before)
+    ∙ (ap (λ (left : List Detail). before ++ records_text (response_details left (drop at replies))) (sym none) ∙ so_far)

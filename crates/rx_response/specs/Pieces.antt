@@ -1,4 +1,4 @@
--- The records of a response file, made in pieces.
+-- Plumbing: the records of a response file, made in pieces.
 use Rattle.std.specs.Prelude.{ℕ, List}
 use Rattle.std.specs.List.{flat_map}
 use Rattle.rx_batch.specs.declared.detail.Detail.{Detail}

@@ -1,4 +1,4 @@
--- The response file of a batch: to each detail the reply to it.
+-- Meaning: the response file of a batch: to each detail the reply to it.
 use Rattle.std.specs.Prelude.{ℕ, List, map, zip}
 use Rattle.rx_fields.specs.declared.stamp.Stamp.{Stamp}
 use Rattle.rx_batch.specs.declared.detail.Detail.{Detail}

@@ -1,4 +1,4 @@
--- The lines of a report, and the table of a batch's transactions.
+-- Meaning: the lines of a report, and the table of a batch's transactions.
 use Rattle.std.specs.Prelude.{◌≡◌, ℕ, List, Ok}
 use Rattle.rx_fields.specs.Numbered.{Span}
 use Rattle.rx_batch.specs.Grammar.{IsFile}

@@ -1,4 +1,4 @@
--- The fixed inputs of the sample, and the line that it gives (docs/FORMATS.md, "Fixed inputs").
+-- Meaning: the fixed inputs of the sample, and the line that it gives (docs/FORMATS.md, "Fixed inputs").
 use Rattle.std.specs.Prelude.{ℕ, List, [], ◌∷◌, ◌++◌, codes, None}
 use Rattle.std.specs.List.{flat_map}
 use Rattle.rx_fields.specs.Calendar.{Civil}

@@ -1,4 +1,4 @@
--- The families that billed each fill key, in a map.
+-- Plumbing: the families that billed each fill key, in a map.
 use Rattle.std.specs.Prelude.{◌≡◌, ℕ, Bool, List, []}
 use Rattle.std.specs.Prelude.{Option, Some, None}
 use Rattle.std.specs.BTreeMap.{BTreeMap, get, is_at}

@@ -1,4 +1,4 @@
--- The footprint of a record: the books that it names, read off the opening ledger and the records before it.
+-- Meaning: the footprint of a record: the books that it names, read off the opening ledger and the records before it.
 use Rattle.std.specs.Prelude.{ℕ, ◌-◌, List, [], ◌∷◌, ◌++◌, if◌then◌else◌, length, map, take, slice_index_or}
 use Rattle.std.specs.Prelude.{Option, Some, None}
 use Rattle.std.specs.List.{flat_map, range_with_len}

@@ -1,4 +1,4 @@
--- The records of a batch as a job for the machine, and what the fold of the records before each has.
+-- Meaning: the records of a batch as a job for the machine, and what the fold of the records before each has.
 use Rattle.std.specs.Prelude.{◌≡◌, ℕ, ◌-◌, true, List, Some, take, length}
 use Rattle.std.specs.BTreeMap.{is_at}
 use Rattle.std.specs.List.{list_any}

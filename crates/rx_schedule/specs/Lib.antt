@@ -1,3 +1,4 @@
+-- Plumbing: which files there are.
 pub mod Billed
 pub mod Footprints
 pub mod Jobs

@@ -1,4 +1,4 @@
--- Links: of each book, from each record that names it to the next. What waits on what is counted in them.
+-- Plumbing: links: of each book, from each record that names it to the next. What waits on what is counted in them.
 use Rattle.std.specs.Prelude.{◌≡◌, ℕ, ◌-◌, ◌<◌, ◌≤◌, ◌⊎◌, Bool, true, ◌&&◌, ◌==◌, if◌then◌else◌, List, [], ◌∷◌, length, slice_index_or}
 use Rattle.std.specs.List.{count_by, list_any, sum_by}
 use Rattle.std.specs.Ordering.{eq_by_cmp, is_eq, nat_cmp, ordering_then}

@@ -1,4 +1,4 @@
--- The shares of a family's weight: one for each member, and one for each claim of the member.
+-- Plumbing: the shares of a family's weight: one for each member, and one for each claim of the member.
 use Rattle.std.specs.Prelude.{ℕ, List}
 use Rattle.rx_ledger.specs.declared.member.Member.{Member}
 use Rattle.rx_schedule.specs.declared.member_shares.Share.{Share}

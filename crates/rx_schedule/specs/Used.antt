@@ -1,4 +1,4 @@
--- The footprints of records, put together again from which record names what.
+-- Plumbing: the footprints of records, put together again from which record names what.
 use Rattle.std.specs.Prelude.{ℕ, ◌≤◌, ◌==◌, List, length, map}
 use Rattle.std.specs.List.{filter, range_with_len}
 use Rattle.rx_fields.specs.declared.key.Key.{Key}

@@ -1,4 +1,4 @@
--- The weight of a batch: the members and the claims of the families that its records name.
+-- Plumbing: the weight of a batch: the members and the claims of the families that its records name.
 use Rattle.std.specs.Prelude.{◌≡◌, ℕ, ◌+◌, ◌-◌, Bool, false, List, cond, length, map, min, take}
 use Rattle.std.specs.BTreeMap.{BTreeMap, get}
 use Rattle.std.specs.List.{filter, range_with_len, sum, sum_by}

@@ -27,8 +27,6 @@ mod member_shares;
 mod naming;
 mod ordered;
 mod queues;
-#[cfg(test)]
-mod tests;
 mod uses;
 mod wave_numbers;
 mod wave_plan;

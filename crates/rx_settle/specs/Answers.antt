@@ -1,4 +1,4 @@
--- What a reply answers, and how answers are counted.
+-- Meaning: what a reply answers, and how answers are counted.
 use Rattle.std.specs.Prelude.{ℕ, ◌+◌, Bool, true, false, List, replicate, None, count_by, sum_by}
 use Rattle.std.specs.List.{flat_map}
 use Rattle.rx_claim.specs.Priced.{total_paid}

@@ -1,4 +1,4 @@
--- The tallies by provider while replies are counted; each provider is a field filled with blanks.
+-- Plumbing: the tallies by provider while replies are counted; each provider is a field filled with blanks.
 use Rattle.std.specs.Prelude.{ℕ, ◌-◌, List, [], ◌∷◌, ◌++◌, codes, length, map, replicate, if◌then◌else◌}
 use Rattle.std.specs.Option.{unwrap_or}
 use Rattle.std.specs.Map.{lookup}

@@ -1,3 +1,4 @@
+-- Plumbing: which files there are.
 pub mod Answers
 pub mod Counting
 pub mod Providers

@@ -1,4 +1,4 @@
--- The pharmacies of replies.
+-- Meaning: the pharmacies of replies.
 use Rattle.std.specs.Prelude.{ℕ, Bool, not, List, [], ◌∷◌, nat_eq}
 use Rattle.std.specs.List.{filter}
 use Rattle.std.specs.Option.{unwrap_or}

@@ -1,9 +1,9 @@
-ghost use Rattle.std.specs.Prelude.{◌≡◌, ◌+◌, ◌<◌, ◌^◌, ◌++◌};
+ghost use Rattle.std.specs.Prelude.{◌≡◌, ◌+◌, ◌<◌, ◌^◌, ◌++◌, codes};
 ghost use Rattle.std.specs.List.{flat_map};
 ghost use Rattle.std.specs.Result.{IfOk, OnOk};
 ghost use Rattle.rx_settle.specs.Answers.{answers_of, tally, weight};
 ghost use Rattle.rx_settle.specs.Counting.{counted, line, tallies_of, tally_at};
-ghost use Rattle.rx_settle.specs.Settlement.{settlement_text};
+ghost use Rattle.rx_settle.specs.Settlement.{counts_text, head_line, settlement_text};
 
 use crate::lines::{put_head, put_line, put_total};
 use crate::provider::{Field, provider_field};
@@ -32,16 +32,25 @@ pub struct Settled {
 
 /// The settlement of a batch's replies: counts of their answers and the net in cents, per provider in order of first
 /// appearance and over all (docs/FORMATS.md, "Settlement file").
-#[tactic(auto, using(crate::proofs::Tallied::lines, std::proofs::Common::append_assoc))]
+#[tactic(auto, using(crate::proofs::Tallied::lines))]
 pub fn settle(alloc: Global, lot: Lot, stamp: Stamp, replies: &[Reply]) -> Result<Vec<u8>, Memory>
     ensures { IfOk result (λ text. text.items ≡ settlement_text lot stamp replies.now) }
 {
     let tallied = tally_replies(alloc, replies)?;
-    let lines = tallied.providers.len().saturating_mul(LINE);
+    settled_text(alloc, lot, stamp, &tallied)
+}
+
+// The settlement that has these tallies.
+#[tactic(auto, using(std::proofs::Common::append_assoc))]
+fn settled_text(alloc: Global, lot: Lot, stamp: Stamp, settled: &Settled) -> Result<Vec<u8>, Memory>
+    ensures { IfOk result (λ text. text.items ≡ head_line lot stamp
+        ++ (flat_map line settled.now.providers.entries ++ (codes "TOTAL" ++ counts_text settled.now.total))) }
+{
+    let lines = settled.providers.len().saturating_mul(LINE);
     let mut text = Vec::with_capacity(alloc, lines.saturating_add(ENDS))?;
     put_head(&mut text, lot, stamp)?;
-    put_lines(alloc, &mut text, &tallied.providers)?;
-    put_total(alloc, &mut text, &tallied.total)?;
+    put_lines(alloc, &mut text, &settled.providers)?;
+    put_total(alloc, &mut text, &settled.total)?;
     Ok(text)
 }
 

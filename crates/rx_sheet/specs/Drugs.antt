@@ -1,4 +1,4 @@
--- The tiers and the drugs of a sheet: keys 10 to 13.
+-- Meaning: the tiers and the drugs of a sheet: keys 10 to 13.
 use Rattle.std.specs.Prelude.{◌≡◌, ℕ, Bool, true, ◌&&◌, if◌then◌else◌, codes, List, [], ◌∷◌, Option, Some, None, Result, Ok}
 use Rattle.std.specs.Option.{is_some, ok_or, option_and_then, option_map}
 use Rattle.std.specs.Ordering.{nat_cmp}

@@ -1,4 +1,4 @@
--- The numbers of the faults, and what a call answers that may want memory.
+-- Meaning: the numbers of the faults, and what a call answers that may want memory.
 use Rattle.std.specs.Prelude.{◌≡◌, ℕ, Option, Some, None, Result, Ok, Err, MatchResult}
 use Rattle.rx_ledger.specs.declared.sheet_key.SheetKey.{SheetKey}
 use Rattle.rx_sheet.specs.declared.fault.SheetFault.{SheetFault}

@@ -1,4 +1,4 @@
--- The figures of a sheet: keys 1 to 9, one after another by their numbers, and key 14.
+-- Plumbing: the figures of a sheet: keys 1 to 9, one after another by their numbers, and key 14.
 use Rattle.std.specs.Prelude.{ℕ, Option, None, Result, Ok}
 use Rattle.std.specs.Option.{option_and_then}
 use Rattle.toml.specs.Data.{Data, Members}

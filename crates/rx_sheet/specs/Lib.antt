@@ -1,3 +1,4 @@
+-- Plumbing: which files there are.
 pub mod Drugs
 pub mod Fault
 pub mod Figures

@@ -1,4 +1,4 @@
--- The names of the plan sheet's keys (docs/FORMATS.md, "Plan sheet").
+-- Meaning: the names of the plan sheet's keys (docs/FORMATS.md, "Plan sheet").
 use Rattle.std.specs.Prelude.{ℕ, List, codes}
 use Rattle.rx_ledger.specs.declared.sheet_key.SheetKey.{SheetKey}
 use Rattle.rx_ledger.specs.declared.sheet_key.SheetKey.TheVariants as key

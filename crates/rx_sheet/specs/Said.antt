@@ -1,4 +1,4 @@
--- What a plan sheet says, key by key and not step by step (docs/FORMATS.md, "Plan sheet").
+-- Meaning: what a plan sheet says, key by key and not step by step (docs/FORMATS.md, "Plan sheet").
 use Rattle.std.specs.Prelude.{◌≡◌, ℕ, true, false, List, [], ◌∷◌, Option, Some, None}
 use Rattle.std.specs.Str.{is_utf8}
 use Rattle.toml.specs.Data.{Data, Members, no_members, member, get_member, as_table}

@@ -1,4 +1,4 @@
--- The plan that a sheet's text stands for, or the first fault (docs/FORMATS.md, "Plan sheet").
+-- Plumbing: the plan that a sheet's text stands for, or the first fault (docs/FORMATS.md, "Plan sheet").
 use Rattle.std.specs.Prelude.{ℕ, List, Result, Ok, Err, if◌then◌else◌}
 use Rattle.std.specs.Option.{ok_or}
 use Rattle.std.specs.Str.{is_utf8}

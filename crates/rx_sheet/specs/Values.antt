@@ -1,4 +1,4 @@
--- The values of keys: what a table has at a key, and what a value stands for.
+-- Meaning: the values of keys: what a table has at a key, and what a value stands for.
 use Rattle.std.specs.Prelude.{ℕ, ℤ, pos, negsuc, ◌&&◌, ◌-◌, nat_le, ◌==◌, if◌then◌else◌}
 use Rattle.std.specs.Prelude.{List, ◌++◌, length, replicate, Option, Some, None, Result, Ok}
 use Rattle.std.specs.Option.{ok_or, option_and_then, option_map}

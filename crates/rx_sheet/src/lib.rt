@@ -20,8 +20,6 @@ mod figures;
 mod law;
 mod names;
 mod sheet_text;
-#[cfg(test)]
-mod tests;
 mod values;
 
 pub use fault::SheetFault;

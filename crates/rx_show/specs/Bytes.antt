@@ -1,4 +1,4 @@
--- Bytes shown on one line.
+-- Meaning: bytes shown on one line.
 use Rattle.std.specs.Prelude.{ℕ, ◌+◌, ◌/◌, ◌%◌, nat_lt, if◌then◌else◌, List, [], ◌∷◌}
 
 -- 0 to 9 and A to F

@@ -1,3 +1,4 @@
+-- Plumbing: which files there are.
 pub mod Bytes
 pub mod Lines
 pub mod PlanLines

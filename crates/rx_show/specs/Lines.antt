@@ -1,4 +1,4 @@
--- The lines of `show`: words with a blank between each two, and the line's end.
+-- Meaning: the lines of `show`: words with a blank between each two, and the line's end.
 use Rattle.std.specs.Prelude.{ℕ, ◌+◌, List, [], ◌∷◌, ◌++◌, codes}
 use Rattle.std.specs.List.{flat_map, join_with_byte}
 use Rattle.std.specs.Fmt.{decimal}

@@ -1,4 +1,4 @@
--- The lines that tell how a run goes.
+-- Meaning: the lines that tell how a run goes.
 use Rattle.std.specs.Prelude.{ℕ, ◌==◌, if◌then◌else◌, List, [], ◌∷◌, ◌++◌, codes, Option, Some, None}
 use Rattle.rx_steps.specs.declared.step.Answers.{Answers}
 use Rattle.rx_steps.specs.declared.step.Counted.{Counted}

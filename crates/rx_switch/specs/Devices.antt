@@ -1,4 +1,4 @@
--- What a run on devices did: which inputs were read to their ends, which texts were written, and which device failed.
+-- Meaning: what a run on devices did: which inputs were read to their ends, which texts were written, and which device failed.
 use Rattle.std.specs.Prelude.{◌≡◌, ◌≤◌, ◌==◌, ℕ, Bool, false, List, length, Option, IfSome, Result, Ok, Err}
 use Rattle.std.specs.Io.KnownBytes.{Appends}
 use Rattle.rx_batch.specs.Pieces.{Fed, StandsFor}

@@ -1,4 +1,4 @@
--- The numbers of the faults, and where a fault of an input stands among those of the run.
+-- Meaning: the numbers of the faults, and where a fault of an input stands among those of the run.
 use Rattle.std.specs.Prelude.{ℕ}
 use Rattle.rx_batch.specs.declared.fault.BatchFault.{BatchFault}
 use Rattle.rx_batch.specs.declared.fault.BatchFault.TheVariants as batch

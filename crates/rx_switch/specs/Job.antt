@@ -1,4 +1,4 @@
--- A job as what it gives a run, and an output as its texts.
+-- Meaning: a job as what it gives a run, and an output as its texts.
 use Rattle.std.specs.Prelude.{ℕ, List}
 use Rattle.std.specs.List.{flat_map}
 use Rattle.std.specs.Vec.{vec_items}

@@ -1,3 +1,4 @@
+-- Plumbing: which files there are.
 pub mod Devices
 pub mod Fault
 pub mod Job

@@ -1,4 +1,4 @@
--- What a run gives: the texts of adjudicating the records one after another in file order, or a refusal.
+-- Meaning: what a run gives: the texts of adjudicating the records one after another in file order, or a refusal.
 use Rattle.std.specs.Prelude.{◌≡◌, ℕ, Bool, false, if◌then◌else◌, List, Result, Ok, Err}
 use Rattle.std.specs.Option.{ok_or}
 use Rattle.rx_fields.specs.Clock.{stamp_of}

@@ -1,4 +1,4 @@
--- What `plan` prints, or refuses.
+-- Meaning: what `plan` prints, or refuses.
 use Rattle.std.specs.Prelude.{◌≡◌, ℕ, List, Ok, Err}
 use Rattle.rx_fields.specs.Numbered.{Span}
 use Rattle.rx_batch.specs.Grammar.{IsFile}

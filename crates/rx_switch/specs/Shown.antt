@@ -1,4 +1,4 @@
--- What `show` prints, or refuses.
+-- Meaning: what `show` prints, or refuses.
 use Rattle.std.specs.Prelude.{◌≡◌, ℕ, List, Ok, Err}
 use Rattle.rx_batch.specs.Grammar.{IsFile}
 use Rattle.rx_batch.specs.Reading.{HasFault}

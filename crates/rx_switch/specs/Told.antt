@@ -1,4 +1,4 @@
--- What a fault is told as: the exit status, and the numbers of the line on standard error.
+-- Meaning: what a fault is told as: the exit status, and the numbers of the line on standard error.
 use Rattle.std.specs.Prelude.{ℕ, [], ◌∷◌}
 use Rattle.std.specs.Option.{option_map, unwrap_or}
 use Rattle.rx_batch.specs.Fault.{code_of as batch_code, place_of}

@@ -1,10 +1,14 @@
-ghost use Rattle.std.specs.Prelude.{IfErr, IfOk};
-ghost use Rattle.rx_switch.specs.Planned.{IsNotPlanned, IsPlanned};
+ghost use Rattle.std.specs.Prelude.{◌≡◌, IfErr, IfOk};
+ghost use Rattle.rx_schedule.specs.Footprints.{footprints_of};
+ghost use Rattle.rx_wave.specs.Decoding.{transmissions_of};
+ghost use Rattle.rx_switch.specs.Planned.{IsNotPlanned, IsPlanOf, IsPlanned};
 
 use crate::fault::SwitchFault;
 use crate::show::decode_each;
-use rx_batch::read_batch;
+use rx_batch::{Batch, read_batch};
 use rx_books_kept::Books;
+use rx_fields::{Door, Memory};
+use rx_parcels::Footprint;
 use rx_schedule::{footprints, waves};
 use rx_sheet::read_sheet;
 use rx_show::plan_lines;
@@ -28,8 +32,29 @@ pub fn plan_text(
     let sheet = read_sheet(alloc, sheet)?;
     let books = Books::read(alloc, books)?;
     let batch = read_batch(alloc, batch)?;
-    let transmissions = decode_each(alloc, sheet.door(), batch.details.as_slice())?;
-    let footprints = footprints(alloc, &books, &transmissions)?;
+    Ok(lines_of(alloc, sheet.door(), &books, &batch)?)
+}
+
+// The lines of a batch's records over the opening books.
+fn lines_of(alloc: Global, door: &Door, books: &Books, batch: &Batch) -> Result<Vec<u8>, Memory>
+    ensures { IfOk result (λ text.
+        IsPlanOf books.now.ledger (transmissions_of door.now batch.now.details) text.items) }
+{
+    let footprints = footprints_in(alloc, door, books, batch)?;
     let waves = waves(alloc, &footprints)?;
-    Ok(plan_lines(alloc, &waves.numbers, waves.count, &waves.chain)?)
+    plan_lines(alloc, &waves.numbers, waves.count, &waves.chain)
+}
+
+// The footprints of a batch's records.
+fn footprints_in(
+    alloc: Global,
+    door: &Door,
+    books: &Books,
+    batch: &Batch,
+) -> Result<Vec<Footprint>, Memory>
+    ensures { IfOk result (λ list.
+        list.items ≡ footprints_of books.now.ledger (transmissions_of door.now batch.now.details)) }
+{
+    let transmissions = decode_each(alloc, door, batch.details.as_slice())?;
+    footprints(alloc, books, &transmissions)
 }

@@ -1,4 +1,4 @@
--- How the line of a fault begins: with the name of its file and its place there.
+-- Meaning: how the line of a fault begins: with the name of its file and its place there.
 use Rattle.std.specs.Prelude.{◌≡◌, ℕ, List, codes, ◌++◌, zero, suc}
 use Rattle.std.specs.Fmt.{decimal}
 use Rattle.rx_told.specs.declared.place.Place.{Place}

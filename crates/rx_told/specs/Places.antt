@@ -1,4 +1,4 @@
--- Where in its file a fault stands (docs/FORMATS.md: the faults of a plan sheet, of a books file and of a batch file).
+-- Meaning: where in its file a fault stands (docs/FORMATS.md: the faults of a plan sheet, of a books file and of a batch file).
 use Rattle.std.specs.Prelude.{◌≡◌, ℕ, ◌==◌, List, take, count_by, Option, Some, None}
 use Rattle.rx_batch.specs.declared.fault.BatchFault.{BatchFault}
 use Rattle.rx_batch.specs.Fault.{place_of}

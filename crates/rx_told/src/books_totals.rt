@@ -11,17 +11,22 @@ pub(crate) fn totals_words(alloc: Global, text: &[u8], number: u64) -> Result<St
         Err(BooksFault::Memory) => return Err(Memory),
         Err(_) => return Ok(said(alloc, "a figure isn't the sum over the claims")?),
     };
+    Ok(printed_words(alloc, &printed, number)?)
+}
+
+// What is said of the line of this number, where the file is read.
+fn printed_words(alloc: Global, printed: &Printed, number: u64) -> Result<String, AllocError> {
     let place = number.saturating_sub(2) as usize;
     let members = printed.ledger().members();
     let rows = printed.ledger().rows();
     let before = members.len().saturating_add(rows.len());
     if let (Some(member), Some(figure)) = (members.get(place), printed.deductibles().get(place)) {
-        return Ok(member_words(alloc, &printed, member, *figure)?);
+        return member_words(alloc, printed, member, *figure);
     }
     if let Some(line) = printed.totals().get(place.saturating_sub(before)) {
-        return Ok(total_words(alloc, &printed, line)?);
+        return total_words(alloc, printed, line);
     }
-    Ok(lacking_words(alloc, &printed)?)
+    lacking_words(alloc, printed)
 }
 
 // What the claims of a period sum to.

@@ -1,4 +1,4 @@
--- How the line of a refusal begins: at the place of its fault in the input that it is of.
+-- Meaning: how the line of a refusal begins: at the place of its fault in the input that it is of.
 use Rattle.std.specs.Prelude.{◌≡◌, ℕ, List, Option, Some, None, option_copied}
 use Rattle.rx_batch.specs.declared.fault.BatchFault.{BatchFault}
 use Rattle.rx_switch.specs.declared.fault.SwitchFault.{SwitchFault}

@@ -1,4 +1,4 @@
--- The refusal that the first fault of the inputs is told as, and the run that is given these inputs.
+-- Meaning: the refusal that the first fault of the inputs is told as, and the run that is given these inputs.
 use Rattle.std.specs.Prelude.{◌≡◌, ◌⊎◌, ℕ, List, Ok, Option, Some, None, IfSome, option_copied}
 use Rattle.std.specs.Option.{option_map}
 use Rattle.rx_batch.specs.Grammar.{IsFile}

@@ -1,2 +1,3 @@
+-- Plumbing: which files there are.
 pub mod Told
 pub mod Verified

@@ -1,4 +1,4 @@
--- A run done again, and where files differ from it.
+-- Meaning: a run done again, and where files differ from it.
 use Rattle.std.specs.Prelude.{◌≡◌, ℕ, Bool, ◌&&◌, not, List, Option, MatchOption}
 use Rattle.std.specs.Option.{is_some}
 use Rattle.rx_differ.specs.Difference.{IsFirstDifference}

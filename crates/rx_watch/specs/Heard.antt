@@ -1,4 +1,4 @@
--- What was heard of a device.
+-- Meaning: what was heard of a device.
 use Rattle.std.specs.Prelude.{◌≡◌, ℕ, ◌==◌, List, ◌++◌, count_by}
 use Rattle.sha2.specs.Hashers.{Holds256}
 use Rattle.rx_watch.specs.declared.heard.Heard.{Heard}

@@ -1,5 +1,6 @@
 //! What was heard of a device.
-ghost use Rattle.std.specs.Prelude.{◌≡◌, ◌+◌, ◌-◌, ◌^◌, [], ℕ, IfOk, List, length, min};
+ghost use Rattle.std.specs.Prelude.{◌≡◌, ◌+◌, ◌-◌, ◌^◌, [], ℕ, IfOk, List, None, length, min};
+ghost use Rattle.std.specs.Option.{option_or};
 ghost use Rattle.sha2.specs.Sha256.{sha256};
 ghost use Rattle.rx_watch.specs.Heard.{HasHeard, HearsOn, count_of};
 
@@ -33,6 +34,10 @@ impl Heard {
         ensures bytes { result.bytes ≡ 0 }
         ensures line_feeds { result.line_feeds ≡ 0 }
         ensures starts { result.starts ≡ 0 }
+        ensures front { result.front.items ≡ [] }
+        ensures end { result.end.items ≡ [] }
+        ensures first { result.first ≡ None }
+        ensures last { result.last ≡ None }
     {
         Heard {
             bytes: 0,
@@ -52,6 +57,8 @@ impl Heard {
         ensures bytes { self.new.bytes ≡ min (self.old.bytes + length piece.now) (2 ^ 64 - 1) }
         ensures line_feeds { self.new.line_feeds ≡ min (self.old.line_feeds + count_of 10 piece.now) (2 ^ 64 - 1) }
         ensures starts { self.new.starts ≡ min (self.old.starts + count_of 2 piece.now) (2 ^ 64 - 1) }
+        ensures first { self.new.first ≡ self.old.first }
+        ensures last { self.new.last ≡ self.old.last }
     {
         self.sum.update(piece);
         self.bytes = self.bytes.saturating_add(piece.len() as u64);
@@ -67,6 +74,10 @@ impl Heard {
         ensures bytes { self.new.bytes ≡ self.old.bytes }
         ensures line_feeds { self.new.line_feeds ≡ self.old.line_feeds }
         ensures starts { self.new.starts ≡ self.old.starts }
+        ensures front { self.new.front ≡ self.old.front }
+        ensures end { self.new.end ≡ self.old.end }
+        ensures first { self.new.first ≡ option_or self.old.first begin }
+        ensures last { self.new.last ≡ end }
     {
         if self.first.is_none() {
             self.first = begin;
@@ -96,22 +107,30 @@ impl Heard {
     }
 
     /// The first 256 bytes, where memory wasn't wanting for them.
-    pub fn front(&self) -> &[u8] {
+    pub fn front(&self) -> &[u8]
+        ensures { result.now ≡ self.now.front.items }
+    {
         self.front.as_slice()
     }
 
     /// The last 256 bytes, where memory wasn't wanting for them.
-    pub fn end(&self) -> &[u8] {
+    pub fn end(&self) -> &[u8]
+        ensures { result.now ≡ self.now.end.items }
+    {
         self.end.as_slice()
     }
 
     /// When the first call began, by the clock that is given, where it tells.
-    pub fn first(&self) -> Option<Duration> {
+    pub fn first(&self) -> Option<Duration>
+        ensures { result ≡ self.now.first }
+    {
         self.first
     }
 
     /// When the last call ended, by the clock that is given, where it tells.
-    pub fn last(&self) -> Option<Duration> {
+    pub fn last(&self) -> Option<Duration>
+        ensures { result ≡ self.now.last }
+    {
         self.last
     }
 

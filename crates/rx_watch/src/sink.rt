@@ -1,5 +1,5 @@
 //! A sink that is watched.
-ghost use Rattle.std.specs.Prelude.{◌≡◌, ◌||◌, [], false, IfOk, take};
+ghost use Rattle.std.specs.Prelude.{◌≡◌, ◌||◌, [], false, IfOk, IfSome, OnErr, Some, take};
 ghost use Rattle.std.specs.Io.{WritesAtMost};
 ghost use Rattle.std.specs.Io.KnownBytes.{WriteAppends};
 ghost use Rattle.rx_devices.specs.Writing.{is_failed_write};
@@ -60,6 +60,8 @@ impl<'c, S: Sink, C: Clock> Sink for WatchedSink<'c, S, C> {
         ensures bytes { WriteAppends (S.written self.old.sink) (S.written self.new.sink) result piece.now }
         ensures failed { S.failed self.new.sink ≡ (S.failed self.old.sink || is_failed_write result piece.now) }
         ensures heard { IfOk result (λ count. HearsOn self.old.heard self.new.heard (take count piece.now)) }
+        ensures failed_unheard { OnErr result (self.new.heard ≡ self.old.heard) }
+        ensures first { IfSome self.old.heard.first (λ time. self.new.heard.first ≡ Some time) }
     {
         let begin = self.clock.monotonic().ok();
         let count = self.sink.write(piece)?;

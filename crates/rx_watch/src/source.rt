@@ -1,5 +1,5 @@
 //! A source that is watched.
-ghost use Rattle.std.specs.Prelude.{◌≡◌, ◌≤◌, ◌+◌, ◌||◌, [], false, is_err, IfOk, length, take};
+ghost use Rattle.std.specs.Prelude.{◌≡◌, ◌≤◌, ◌+◌, ◌||◌, [], false, is_err, IfOk, IfSome, OnErr, Some, length, take};
 ghost use Rattle.std.specs.Io.{ReadsAtMost};
 ghost use Rattle.std.specs.Io.KnownBytes.{ReadConsumes};
 ghost use Rattle.rx_devices.specs.Reading.{least_room};
@@ -67,6 +67,8 @@ impl<'c, S: Source, C: Clock> Source for WatchedSource<'c, S, C> {
         ensures cramped { least_room ≤ length buffer.new → S.cramped self.old.source ≡ false
             → S.cramped self.new.source ≡ false }
         ensures heard { IfOk result (λ count. HearsOn self.old.heard self.new.heard (take count buffer.new)) }
+        ensures failed_unheard { OnErr result (self.new.heard ≡ self.old.heard) }
+        ensures first { IfSome self.old.heard.first (λ time. self.new.heard.first ≡ Some time) }
     {
         let begin = self.clock.monotonic().ok();
         let count = self.source.read(buffer)?;

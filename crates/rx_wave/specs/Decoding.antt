@@ -1,4 +1,4 @@
--- The requests of a batch.
+-- Meaning: the requests of a batch.
 use Rattle.std.specs.Prelude.{List, map}
 use Rattle.rx_fields.specs.declared.door.Door.{Door}
 use Rattle.rx_batch.specs.declared.detail.Detail.{Detail}

@@ -1,4 +1,4 @@
--- Workers: how many a run may have, and the gate that refuses to start one of them.
+-- Meaning: workers: how many a run may have, and the gate that refuses to start one of them.
 use Rattle.std.specs.Prelude.{◌≡◌, ◌≤◌, ℕ, Bool, false, ◌&&◌, nat_le}
 use Rattle.rx_wave.specs.declared.run_fault.RunFault.{RunFault}
 use Rattle.rx_wave.specs.declared.run_fault.RunFault.TheVariants as fault

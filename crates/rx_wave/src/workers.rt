@@ -1,4 +1,4 @@
-ghost use Rattle.std.specs.Prelude.{◌≡◌, ◌<◌, ◌≤◌, ◌↔◌, Err, IfOk, IsTrue, false, length};
+ghost use Rattle.std.specs.Prelude.{◌≡◌, ◌<◌, ◌≤◌, ◌↔◌, Err, IfOk, IfSome, IsTrue, false, length};
 ghost use Rattle.rx_ledger.specs.Fold.{fold_ledger, fold_replies};
 ghost use Rattle.rx_wave.specs.Workers.{RefusesOne, are_workers};
 
@@ -64,23 +64,69 @@ pub fn run_waves<R: Threads + Wait + Sync, G: Gate + Sync>(
     if workers < 1 || workers > 64 {
         return Err(RunFault::Workers);
     }
-    if workers == 1 {
-        return Ok(run_one(gate, alloc, lot, sheet, books, transmissions)?);
-    }
-    if !gate.holds_up() || !may_gain(alloc, books, transmissions)? {
-        if refuses_one(gate, workers as usize) {
-            return Err(RunFault::Thread);
-        }
-        return Ok(run_one(gate, alloc, lot, sheet, books, transmissions)?);
-    }
-    let desk = desk_of(alloc, lot, sheet, books, transmissions)?;
-    let desk = worked_off(rt, alloc, gate, &Adjudicates, workers, desk)?;
-    if desk.job_is(lot, sheet, books, transmissions) {
-        if let Ok(finished) = desk.close() {
+    if workers > 1 {
+        let shared = run_shared(rt, alloc, gate, workers, lot, sheet, books, transmissions)?;
+        if let Some(finished) = shared {
             return Ok(finished);
         }
     }
     Ok(run_one(gate, alloc, lot, sheet, books, transmissions)?)
+}
+
+// What several workers answer who share a desk; none where sharing can't gain, and where no answer comes of the desk.
+fn run_shared<R: Threads + Wait + Sync, G: Gate + Sync>(
+    rt: &R,
+    alloc: Global,
+    gate: &G,
+    workers: u16,
+    lot: Lot,
+    sheet: &Sheet,
+    books: &Books,
+    transmissions: &[Transmission],
+) -> Result<Option<Finished>, RunFault>
+    requires several { 2 ≤ workers }
+    requires period { books.now.period ≡ sheet.now.figures.period }
+    requires few { length transmissions.now ≤ 100_000 }
+    ensures books { IfOk result (λ answer. IfSome answer (λ finished. finished.books ≡ record {
+      period = sheet.now.figures.period;
+      ledger = fold_ledger lot sheet.now 1 transmissions.now books.now.ledger;
+    })) }
+    ensures replies { IfOk result (λ answer. IfSome answer (λ finished.
+        finished.replies.items ≡ fold_replies lot sheet.now 1 transmissions.now books.now.ledger)) }
+    ensures workers { result ≡ Err RunFault.Workers → ⊥ }
+    ensures thread { result ≡ Err RunFault.Thread → RefusesOne (G.starts gate.now) workers }
+{
+    if !gate.holds_up() || !may_gain(alloc, books, transmissions)? {
+        if refuses_one(gate, workers as usize) {
+            return Err(RunFault::Thread);
+        }
+        return Ok(None);
+    }
+    let desk = desk_of(alloc, lot, sheet, books, transmissions)?;
+    let desk = worked_off(rt, alloc, gate, &Adjudicates, workers, desk)?;
+    Ok(closed_for(desk, lot, sheet, books, transmissions))
+}
+
+// What a desk answers at its end, where it is for this job and all records came back.
+fn closed_for(
+    desk: Desk,
+    lot: Lot,
+    sheet: &Sheet,
+    books: &Books,
+    transmissions: &[Transmission],
+) -> Option<Finished>
+    requires { books.now.period ≡ sheet.now.figures.period }
+    ensures books { IfSome result (λ finished. finished.books ≡ record {
+      period = sheet.now.figures.period;
+      ledger = fold_ledger lot sheet.now 1 transmissions.now books.now.ledger;
+    }) }
+    ensures replies { IfSome result (λ finished.
+        finished.replies.items ≡ fold_replies lot sheet.now 1 transmissions.now books.now.ledger) }
+{
+    if !desk.job_is(lot, sheet, books, transmissions) {
+        return None;
+    }
+    desk.close().ok()
 }
 
 // Whether the gate refuses to start one of so many workers; after one that it refuses it is asked no more.

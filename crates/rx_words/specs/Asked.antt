@@ -1,4 +1,4 @@
--- What a command holds of the words' matches: the subcommand's name and its options' values.
+-- Plumbing: what a command holds of the words' matches: the subcommand's name and its options' values.
 use Rattle.std.specs.Prelude.{◌≡◌, ◌≤◌, ◌⊎◌, ℕ, Bool, true, false, List, Option, Some, None, codes, option_map}
 use Rattle.std.specs.Option.{option_map_or}
 use Rattle.std.specs.Str.{bytes_eq}

@@ -1,4 +1,4 @@
--- The faults of the command words.
+-- Meaning: the faults of the command words.
 use Rattle.std.specs.Prelude.{ℕ, ⊤, Bool, true, false, Some}
 use Rattle.clap.specs.Words.{kind_of}
 use Rattle.clap.specs.declared.error.kind.ErrorKind.{ErrorKind}

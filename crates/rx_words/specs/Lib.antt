@@ -1,3 +1,4 @@
+-- Plumbing: which files there are.
 pub mod Asked
 pub mod Faults
 pub mod Paths

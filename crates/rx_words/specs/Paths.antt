@@ -1,4 +1,4 @@
--- Paths, compared as texts.
+-- Plumbing: paths, compared as texts.
 use Rattle.std.specs.Prelude.{Bool, false, ◌||◌, List, [], ◌∷◌, ◌++◌, Option, Some, None}
 use Rattle.std.specs.List.{list_any}
 use Rattle.std.specs.Str.{bytes_eq}

@@ -1,10 +1,11 @@
--- The command line: its subcommands and their options (docs/PRODUCT.md, "The program").
-use Rattle.std.specs.Prelude.{◌≡◌, true, false, pos, Some, codes}
-use Rattle.clap.specs.Words.{App, Rule, Text, new_app, new_rule, with_rule, with_subcommand}
+-- Meaning: the command line: its subcommands and their options (docs/PRODUCT.md, "The program").
+use Rattle.std.specs.Prelude.{◌≡◌, true, false, pos, IfOk, Some, codes}
+use Rattle.clap.specs.Words.{App, Rule, Text, app_of, new_app, new_rule, with_rule, with_subcommand}
 use Rattle.clap.specs.declared.builder.command.Command.{Command}
 use Rattle.clap.specs.declared.builder.command.Command.TheViews.{out-Command}
 use Rattle.clap.specs.declared.builder.action.ArgAction.TheVariants.{SetTrue}
 use Rattle.clap.specs.declared.builder.value_parser.ValueParser.TheVariants as vp
+use Rattle.rx_words.specs.declared.draft.Draft.{Draft}
 
 -- `--name VALUE`, which has to stand
 abbrev pub required_option : Text → Rule
@@ -130,3 +131,7 @@ whole_line = with_retracing (with_adjudication program)
 -- no option of the line is one of its subcommands' too
 abbrev pub IsLocal : Command → Type 0
 IsLocal line = (out-Command line).has_globals ≡ false
+
+-- unless memory was wanting, the draft is of this line, and no option of it is one of its subcommands' too
+abbrev pub Draws : App → Draft → Type 0
+Draws app draft = IfOk draft.line (λ l. (app_of l ≡ app) × IsLocal l)

@@ -18,6 +18,7 @@
 #![tactic(auto)]
 
 mod asked;
+mod draft;
 mod fault;
 mod misuse;
 mod options;

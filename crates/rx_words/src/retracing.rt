@@ -57,7 +57,7 @@ pub(crate) fn explain_apart<'a>(
     match explain(found) {
         Some(explain) => Ok(explain),
         None => Err(conflict(
-            explain_line(alloc),
+            explain_line(alloc).line(),
             "rxbatch explain",
             "one of '--record <PLACE>', '--number <AUTHORIZATION>' and '--rx <REFERENCE>' is wanted, and '--provider <ID>' only with '--rx'",
         )),
@@ -94,7 +94,7 @@ pub(crate) fn verify_apart<'a>(
         Some(verify) => Ok(verify),
         None => Err(signed(
             alloc,
-            verify_line(alloc),
+            verify_line(alloc).line(),
             "rxbatch verify",
             text(found, "workers"),
         )),
@@ -150,7 +150,7 @@ pub(crate) fn report_apart<'a>(
     match report(found) {
         Some(report) => Ok(report),
         None => Err(conflict(
-            report_line(alloc),
+            report_line(alloc).line(),
             "rxbatch report",
             "at most one of '--provider <ID>' and '--family <ID>' is taken, and of '--tsv', '--json' and '--html'",
         )),

@@ -1,12 +1,13 @@
 //! The command line as `clap` reads it.
 ghost use Rattle.std.specs.Prelude.{◌≡◌, false, IfOk};
-ghost use Rattle.clap.specs.Words.{app_of, new_app, rule_of};
-ghost use Rattle.rx_words.specs.Syntax.{IsLocal, flag, optional_option, required_option, verbose_flag, workers_option};
+ghost use Rattle.clap.specs.Words.{App, app_of, new_app, rule_of};
+ghost use Rattle.rx_words.specs.Syntax.{Draws, IsLocal, flag, optional_option, required_option, verbose_flag, workers_option};
 ghost use Rattle.rx_words.specs.Syntax.{with_inputs, with_outputs, with_run_options, with_watch};
 ghost use Rattle.rx_words.specs.Syntax.{check_line, plan_line, run_line, show_line, with_adjudication};
 ghost use Rattle.rx_words.specs.Syntax.{explain_line, replies_line, report_line, verify_line, with_retracing};
 ghost use Rattle.rx_words.specs.Syntax.{whole_line, with_asked, with_forms, with_verify_options};
 
+use crate::draft::Draft;
 use clap::{Arg, ArgAction, Command as Line, value_parser};
 use std::alloc::{AllocError, Global};
 
@@ -68,35 +69,34 @@ fn named<'a>(alloc: Global, name: &'a str, about: &'a str) -> Line<'a>
     Line::new(alloc, name).about(about)
 }
 
-/// A line with the three input files.
-fn takes_inputs<'a>(alloc: Global, line: Line<'a>) -> Result<Line<'a>, AllocError>
-    requires { IsLocal line }
-    ensures shape { IfOk result (λ l. app_of l ≡ with_inputs (app_of line.entry)) }
-    ensures local { IfOk result IsLocal }
+/// A draft of the line of this name.
+fn draft<'a>(alloc: Global, name: &'a str, about: &'a str) -> Draft<'a>
+    ensures { Draws (new_app name.entry.now) result }
 {
-    let sheet = file(alloc, "sheet", "Plan sheet");
-    let books = file(alloc, "books", "Opening books");
-    let batch = file(alloc, "batch", "Batch file");
-    line.arg(sheet)?.arg(books)?.arg(batch)
+    Draft::of(named(alloc, name, about))
+}
+
+/// A line with the three input files.
+fn takes_inputs<'a>(alloc: Global, line: Draft<'a>) -> Draft<'a>
+    ensures { (app : App) → Draws app line.entry → Draws (with_inputs app) result }
+{
+    line.arg(file(alloc, "sheet", "Plan sheet"))
+        .arg(file(alloc, "books", "Opening books"))
+        .arg(file(alloc, "batch", "Batch file"))
 }
 
 /// A line with the three output files.
-fn takes_outputs<'a>(alloc: Global, line: Line<'a>) -> Result<Line<'a>, AllocError>
-    requires { IsLocal line }
-    ensures shape { IfOk result (λ l. app_of l ≡ with_outputs (app_of line.entry)) }
-    ensures local { IfOk result IsLocal }
+fn takes_outputs<'a>(alloc: Global, line: Draft<'a>) -> Draft<'a>
+    ensures { (app : App) → Draws app line.entry → Draws (with_outputs app) result }
 {
-    let response = file(alloc, "response", "Response file, to be written");
-    let books = file(alloc, "books-out", "End books, to be written");
-    let settlement = file(alloc, "settlement", "Settlement, to be written");
-    line.arg(response)?.arg(books)?.arg(settlement)
+    line.arg(file(alloc, "response", "Response file, to be written"))
+        .arg(file(alloc, "books-out", "End books, to be written"))
+        .arg(file(alloc, "settlement", "Settlement, to be written"))
 }
 
 /// A line with the options of `run` that are no files.
-fn takes_run_options<'a>(alloc: Global, line: Line<'a>) -> Result<Line<'a>, AllocError>
-    requires { IsLocal line }
-    ensures shape { IfOk result (λ l. app_of l ≡ with_run_options (app_of line.entry)) }
-    ensures local { IfOk result IsLocal }
+fn takes_run_options<'a>(alloc: Global, line: Draft<'a>) -> Draft<'a>
+    ensures { (app : App) → Draws app line.entry → Draws (with_run_options app) result }
 {
     let stamp = option(alloc, "stamp", "STAMP", "Date and time, CCYYMMDDHHMM");
     let plain = flag(
@@ -104,14 +104,12 @@ fn takes_run_options<'a>(alloc: Global, line: Line<'a>) -> Result<Line<'a>, Allo
         "plain",
         "Work over plain lists, one record after another",
     );
-    line.arg(stamp)?.arg(workers(alloc))?.arg(plain)
+    line.arg(stamp).arg(workers(alloc)).arg(plain)
 }
 
 /// A line with the options of `run` for a run that nobody watches.
-fn takes_watch<'a>(alloc: Global, line: Line<'a>) -> Result<Line<'a>, AllocError>
-    requires { IsLocal line }
-    ensures shape { IfOk result (λ l. app_of l ≡ with_watch (app_of line.entry)) }
-    ensures local { IfOk result IsLocal }
+fn takes_watch<'a>(alloc: Global, line: Draft<'a>) -> Draft<'a>
+    ensures { (app : App) → Draws app line.entry → Draws (with_watch app) result }
 {
     let safe = flag(
         alloc,
@@ -125,25 +123,23 @@ fn takes_watch<'a>(alloc: Global, line: Line<'a>) -> Result<Line<'a>, AllocError
         "FILE",
         "Log of the run, a line of JSON, to be written",
     );
-    line.arg(safe)?.arg(verbose)?.arg(log)
+    line.arg(safe).arg(verbose).arg(log)
 }
 
 /// The subcommand `run`.
-pub(crate) fn run<'a>(alloc: Global) -> Result<Line<'a>, AllocError>
-    ensures shape { IfOk result (λ l. app_of l ≡ run_line) }
-    ensures local { IfOk result IsLocal }
+pub(crate) fn run<'a>(alloc: Global) -> Draft<'a>
+    ensures { Draws run_line result }
 {
-    let run = named(alloc, "run", "Adjudicates a batch file");
-    let inputs = takes_inputs(alloc, run)?;
-    let files = takes_outputs(alloc, inputs)?;
-    let options = takes_run_options(alloc, files)?;
+    let run = draft(alloc, "run", "Adjudicates a batch file");
+    let inputs = takes_inputs(alloc, run);
+    let files = takes_outputs(alloc, inputs);
+    let options = takes_run_options(alloc, files);
     takes_watch(alloc, options)
 }
 
 /// The subcommand `show`.
-fn show<'a>(alloc: Global) -> Result<Line<'a>, AllocError>
-    ensures shape { IfOk result (λ l. app_of l ≡ show_line) }
-    ensures local { IfOk result IsLocal }
+fn show<'a>(alloc: Global) -> Draft<'a>
+    ensures { Draws show_line result }
 {
     let sheet = file(alloc, "sheet", "Plan sheet");
     let batch = file(alloc, "batch", "Batch file");
@@ -152,36 +148,36 @@ fn show<'a>(alloc: Global) -> Result<Line<'a>, AllocError>
         "tsv",
         "Write a tab between fields, and the amounts too",
     );
-    let show = named(alloc, "show", "Shows the transactions, a line each");
-    show.arg(sheet)?.arg(batch)?.arg(tsv)
+    draft(alloc, "show", "Shows the transactions, a line each")
+        .arg(sheet)
+        .arg(batch)
+        .arg(tsv)
 }
 
 /// The subcommand `plan`.
-fn plan<'a>(alloc: Global) -> Result<Line<'a>, AllocError>
-    ensures shape { IfOk result (λ l. app_of l ≡ plan_line) }
-    ensures local { IfOk result IsLocal }
+fn plan<'a>(alloc: Global) -> Draft<'a>
+    ensures { Draws plan_line result }
 {
-    let plan = named(alloc, "plan", "Shows the waves and the chain");
+    let plan = draft(alloc, "plan", "Shows the waves and the chain");
     takes_inputs(alloc, plan)
 }
 
 /// The subcommand `check`.
-fn check<'a>(alloc: Global) -> Result<Line<'a>, AllocError>
-    ensures shape { IfOk result (λ l. app_of l ≡ check_line) }
-    ensures local { IfOk result IsLocal }
+fn check<'a>(alloc: Global) -> Draft<'a>
+    ensures { Draws check_line result }
 {
     let sheet = file(alloc, "sheet", "Plan sheet");
     let books = optional(alloc, "books", "FILE", "Books");
     let batch = optional(alloc, "batch", "FILE", "Batch file");
-    let check = named(alloc, "check", "Tells the faults of input files in words");
-    check.arg(sheet)?.arg(books)?.arg(batch)
+    draft(alloc, "check", "Tells the faults of input files in words")
+        .arg(sheet)
+        .arg(books)
+        .arg(batch)
 }
 
 /// A line with what `explain` is asked after.
-fn takes_asked<'a>(alloc: Global, line: Line<'a>) -> Result<Line<'a>, AllocError>
-    requires { IsLocal line }
-    ensures shape { IfOk result (λ l. app_of l ≡ with_asked (app_of line.entry)) }
-    ensures local { IfOk result IsLocal }
+fn takes_asked<'a>(alloc: Global, line: Draft<'a>) -> Draft<'a>
+    ensures { (app : App) → Draws app line.entry → Draws (with_asked app) result }
 {
     let record = optional(
         alloc,
@@ -192,27 +188,24 @@ fn takes_asked<'a>(alloc: Global, line: Line<'a>) -> Result<Line<'a>, AllocError
     let number = optional(alloc, "number", "AUTHORIZATION", "Authorization number");
     let reference = optional(alloc, "rx", "REFERENCE", "Prescription reference number");
     let provider = optional(alloc, "provider", "ID", "Provider of the prescription");
-    line.arg(record)?.arg(number)?.arg(reference)?.arg(provider)
+    line.arg(record).arg(number).arg(reference).arg(provider)
 }
 
 /// The subcommand `explain`.
-pub(crate) fn explain<'a>(alloc: Global) -> Result<Line<'a>, AllocError>
-    ensures shape { IfOk result (λ l. app_of l ≡ explain_line) }
-    ensures local { IfOk result IsLocal }
+pub(crate) fn explain<'a>(alloc: Global) -> Draft<'a>
+    ensures { Draws explain_line result }
 {
-    let explain = named(alloc, "explain", "Tells why transactions are answered so");
-    let inputs = takes_inputs(alloc, explain)?;
-    let asked = takes_asked(alloc, inputs)?;
+    let explain = draft(alloc, "explain", "Tells why transactions are answered so");
+    let inputs = takes_inputs(alloc, explain);
+    let asked = takes_asked(alloc, inputs);
     let response = optional(alloc, "response", "FILE", "Response file, to be compared");
     let json = flag(alloc, "json", "Write JSON");
-    asked.arg(response)?.arg(json)
+    asked.arg(response).arg(json)
 }
 
 /// A line with the options of `verify` that are no files.
-fn takes_verify_options<'a>(alloc: Global, line: Line<'a>) -> Result<Line<'a>, AllocError>
-    requires { IsLocal line }
-    ensures shape { IfOk result (λ l. app_of l ≡ with_verify_options (app_of line.entry)) }
-    ensures local { IfOk result IsLocal }
+fn takes_verify_options<'a>(alloc: Global, line: Draft<'a>) -> Draft<'a>
+    ensures { (app : App) → Draws app line.entry → Draws (with_verify_options app) result }
 {
     let stamp = option(alloc, "stamp", "STAMP", "Date and time, CCYYMMDDHHMM");
     let workers = workers(alloc).required(false);
@@ -221,98 +214,81 @@ fn takes_verify_options<'a>(alloc: Global, line: Line<'a>) -> Result<Line<'a>, A
         "plain",
         "Work over plain lists, one record after another",
     );
-    line.arg(stamp)?.arg(workers)?.arg(plain)
+    line.arg(stamp).arg(workers).arg(plain)
 }
 
 /// The subcommand `verify`.
-pub(crate) fn verify<'a>(alloc: Global) -> Result<Line<'a>, AllocError>
-    ensures shape { IfOk result (λ l. app_of l ≡ verify_line) }
-    ensures local { IfOk result IsLocal }
+pub(crate) fn verify<'a>(alloc: Global) -> Draft<'a>
+    ensures { Draws verify_line result }
 {
-    let verify = named(alloc, "verify", "Compares outputs with those of the inputs");
-    let inputs = takes_inputs(alloc, verify)?;
-    let files = takes_compared(alloc, inputs)?;
+    let verify = draft(alloc, "verify", "Compares outputs with those of the inputs");
+    let inputs = takes_inputs(alloc, verify);
+    let files = takes_compared(alloc, inputs);
     takes_verify_options(alloc, files)
 }
 
 /// A line with the three output files, of a command that compares them.
-fn takes_compared<'a>(alloc: Global, line: Line<'a>) -> Result<Line<'a>, AllocError>
-    requires { IsLocal line }
-    ensures shape { IfOk result (λ l. app_of l ≡ with_outputs (app_of line.entry)) }
-    ensures local { IfOk result IsLocal }
+fn takes_compared<'a>(alloc: Global, line: Draft<'a>) -> Draft<'a>
+    ensures { (app : App) → Draws app line.entry → Draws (with_outputs app) result }
 {
-    let response = file(alloc, "response", "Response file, to be compared");
-    let books = file(alloc, "books-out", "End books, to be compared");
-    let settlement = file(alloc, "settlement", "Settlement, to be compared");
-    line.arg(response)?.arg(books)?.arg(settlement)
+    line.arg(file(alloc, "response", "Response file, to be compared"))
+        .arg(file(alloc, "books-out", "End books, to be compared"))
+        .arg(file(alloc, "settlement", "Settlement, to be compared"))
 }
 
 /// A line with the three forms of a report.
-fn takes_forms<'a>(alloc: Global, line: Line<'a>) -> Result<Line<'a>, AllocError>
-    requires { IsLocal line }
-    ensures shape { IfOk result (λ l. app_of l ≡ with_forms (app_of line.entry)) }
-    ensures local { IfOk result IsLocal }
+fn takes_forms<'a>(alloc: Global, line: Draft<'a>) -> Draft<'a>
+    ensures { (app : App) → Draws app line.entry → Draws (with_forms app) result }
 {
     let tsv = flag(alloc, "tsv", "Write a tab between fields");
     let json = flag(alloc, "json", "Write JSON");
     let html = flag(alloc, "html", "Write one HTML page");
-    line.arg(tsv)?.arg(json)?.arg(html)
+    line.arg(tsv).arg(json).arg(html)
 }
 
 /// The subcommand `report`.
-pub(crate) fn report<'a>(alloc: Global) -> Result<Line<'a>, AllocError>
-    ensures shape { IfOk result (λ l. app_of l ≡ report_line) }
-    ensures local { IfOk result IsLocal }
+pub(crate) fn report<'a>(alloc: Global) -> Draft<'a>
+    ensures { Draws report_line result }
 {
-    let report = named(
+    let report = draft(
         alloc,
         "report",
         "Shows the answers, a line each, by provider",
     );
-    let inputs = takes_inputs(alloc, report)?;
+    let inputs = takes_inputs(alloc, report);
     let provider = optional(alloc, "provider", "ID", "Only the lines of this provider");
     let family = optional(alloc, "family", "ID", "Only the lines of this family");
-    let portions = inputs.arg(provider)?.arg(family)?;
+    let portions = inputs.arg(provider).arg(family);
     takes_forms(alloc, portions)
 }
 
 /// The subcommand `replies`.
-fn replies<'a>(alloc: Global) -> Result<Line<'a>, AllocError>
-    ensures shape { IfOk result (λ l. app_of l ≡ replies_line) }
-    ensures local { IfOk result IsLocal }
+fn replies<'a>(alloc: Global) -> Draft<'a>
+    ensures { Draws replies_line result }
 {
     let response = file(alloc, "response", "Response file");
-    named(alloc, "replies", "Shows the replies, a line each").arg(response)
+    draft(alloc, "replies", "Shows the replies, a line each").arg(response)
 }
 
 /// The line with the subcommands that adjudicate and show.
-fn takes_adjudication<'a>(alloc: Global, line: Line<'a>) -> Result<Line<'a>, AllocError>
-    ensures { IfOk result (λ l. app_of l ≡ with_adjudication (app_of line.entry)) }
+fn takes_adjudication<'a>(alloc: Global, line: Draft<'a>) -> Draft<'a>
+    ensures { (app : App) → Draws app line.entry → Draws (with_adjudication app) result }
 {
-    let run = run(alloc)?;
-    let show = show(alloc)?;
-    let plan = plan(alloc)?;
-    let sample = named(alloc, "sample", "Shows the reply to the base claim");
-    line.subcommand(run)?
-        .subcommand(show)?
-        .subcommand(plan)?
-        .subcommand(sample)
+    line.subcommand(run(alloc))
+        .subcommand(show(alloc))
+        .subcommand(plan(alloc))
+        .subcommand(draft(alloc, "sample", "Shows the reply to the base claim"))
 }
 
 /// The line with the subcommands that check a run's files and retrace it.
-fn takes_retracing<'a>(alloc: Global, line: Line<'a>) -> Result<Line<'a>, AllocError>
-    ensures { IfOk result (λ l. app_of l ≡ with_retracing (app_of line.entry)) }
+fn takes_retracing<'a>(alloc: Global, line: Draft<'a>) -> Draft<'a>
+    ensures { (app : App) → Draws app line.entry → Draws (with_retracing app) result }
 {
-    let check = check(alloc)?;
-    let explain = explain(alloc)?;
-    let verify = verify(alloc)?;
-    let report = report(alloc)?;
-    let replies = replies(alloc)?;
-    line.subcommand(check)?
-        .subcommand(explain)?
-        .subcommand(verify)?
-        .subcommand(report)?
-        .subcommand(replies)
+    line.subcommand(check(alloc))
+        .subcommand(explain(alloc))
+        .subcommand(verify(alloc))
+        .subcommand(report(alloc))
+        .subcommand(replies(alloc))
 }
 
 /// The command line of the program.
@@ -322,6 +298,6 @@ pub(crate) fn line<'a>(alloc: Global) -> Result<Line<'a>, AllocError>
     let top = named(alloc, "rxbatch", "Adjudicates pharmacy batch files")
         .subcommand_required(true)
         .version(VERSION);
-    let adjudicates = takes_adjudication(alloc, top)?;
-    takes_retracing(alloc, adjudicates)
+    let adjudicates = takes_adjudication(alloc, Draft::of(top));
+    takes_retracing(alloc, adjudicates).line()
 }

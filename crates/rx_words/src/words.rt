@@ -67,7 +67,7 @@ fn run_apart<'a>(alloc: Global, found: &ArgMatches<'a>) -> Result<RunWords<'a>, 
     let Some(run) = run(found) else {
         return Err(signed(
             alloc,
-            run_line(alloc),
+            run_line(alloc).line(),
             "rxbatch run",
             text(found, "workers"),
         ));

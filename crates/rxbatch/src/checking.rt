@@ -1,10 +1,10 @@
 use crate::ending::Ending;
-use crate::files::source;
 use crate::printing::print;
+use crate::texts::text_of;
 use crate::verbose::{long_words, read_words};
-use rx_check::{Files, Names, check as look_at, report};
+use rx_check::{Files, Found, Names, check as look_at, report};
 use rx_fields::Memory;
-use rx_switch::{Device, IoFault, SwitchFault, read_all};
+use rx_switch::{Device, IoFault, SwitchFault};
 use rx_told_run::refusal;
 use rx_words::CheckWords;
 
@@ -20,7 +20,7 @@ impl Texts {
     // Opens the files in the order of their numbers, and reads them.
     fn read(rt: &HostRuntime, words: &CheckWords<'_>) -> Result<Texts, Ending> {
         Ok(Texts {
-            sheet: text(rt, words.sheet, Device::Sheet)?,
+            sheet: text_of(rt, words.sheet, Device::Sheet)?,
             books: text_if_given(rt, words.books, Device::Books)?,
             batch: text_if_given(rt, words.batch, Device::Batch)?,
         })
@@ -35,18 +35,13 @@ impl Texts {
     }
 }
 
-fn text(rt: &HostRuntime, path: &str, device: Device) -> Result<Vec<u8>, Ending> {
-    let mut source = source(rt, path, device)?;
-    read_all(rt.alloc(), &mut source, device).map_err(Ending::Io)
-}
-
 fn text_if_given(
     rt: &HostRuntime,
     path: Option<&str>,
     device: Device,
 ) -> Result<Option<Vec<u8>>, Ending> {
     match path {
-        Some(path) => Ok(Some(text(rt, path, device)?)),
+        Some(path) => Ok(Some(text_of(rt, path, device)?)),
         None => Ok(None),
     }
 }
@@ -86,27 +81,39 @@ fn path_of<'a>(words: &CheckWords<'a>, device: Device) -> &'a str {
 /// Prints the first fault of each input file in words, and what a run would take and an operator would hardly mean. It
 /// ends with the first fault, as a run would, and where there are warnings alone with a status of its own.
 pub fn check(rt: &HostRuntime, words: &CheckWords<'_>) -> Result<(), Ending> {
-    let texts = match Texts::read(rt, words) {
-        Ok(texts) => texts,
-        Err(ending) => return Err(unread(rt, words, ending)),
+    match Texts::read(rt, words) {
+        Ok(texts) => check_files(rt, words, &texts.files()),
+        Err(ending) => Err(unread(rt, words, ending)),
+    }
+}
+
+// The same of files that were read.
+fn check_files(rt: &HostRuntime, words: &CheckWords<'_>, files: &Files<'_>) -> Result<(), Ending> {
+    let Ok(found) = look_at(rt.alloc(), files) else {
+        return Err(Ending::Io(IoFault::Switch(SwitchFault::Memory)));
     };
-    let files = texts.files();
+    print_report(rt, words, files, &found)?;
+    match refusal(&found) {
+        Some(fault) => Err(Ending::Io(IoFault::Switch(fault))),
+        None if found.warnings.is_empty() => Ok(()),
+        None => Err(Ending::Warned),
+    }
+}
+
+// Prints what was found.
+fn print_report(
+    rt: &HostRuntime,
+    words: &CheckWords<'_>,
+    files: &Files<'_>,
+    found: &Found,
+) -> Result<(), Ending> {
     let names = Names {
         sheet: words.sheet,
         books: words.books.unwrap_or(""),
         batch: words.batch.unwrap_or(""),
     };
-    let wanting = Ending::Io(IoFault::Switch(SwitchFault::Memory));
-    let Ok(found) = look_at(rt.alloc(), &files) else {
-        return Err(wanting);
-    };
-    let Ok(lines) = report(rt.alloc(), &files, &names, &found) else {
-        return Err(wanting);
-    };
-    print(rt, lines.as_str().as_bytes())?;
-    match refusal(&found) {
-        Some(fault) => Err(Ending::Io(IoFault::Switch(fault))),
-        None if found.warnings.is_empty() => Ok(()),
-        None => Err(Ending::Warned),
+    match report(rt.alloc(), files, &names, found) {
+        Ok(lines) => print(rt, lines.as_str().as_bytes()),
+        Err(_) => Err(Ending::Io(IoFault::Switch(SwitchFault::Memory))),
     }
 }

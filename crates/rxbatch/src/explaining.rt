@@ -1,12 +1,12 @@
 use crate::ending::Ending;
-use crate::files::source;
 use crate::printing::print;
+use crate::texts::{InputTexts, text_of};
 use rx_batch::{BatchFault, Details};
 use rx_explain::{At, Wanted};
 use rx_explain_run::{Retraced, Told, retrace, tell};
 use rx_fields::{Authorization, Provider, Reference};
 use rx_replies::read_response;
-use rx_switch::{Device, IoFault, SwitchFault, read_all};
+use rx_switch::{Device, IoFault, SwitchFault};
 use rx_words::{Asked, ExplainWords};
 use std::thread::Threads;
 
@@ -17,23 +17,45 @@ pub fn explain<R: Threads + Sync>(
     threads: &R,
     words: &ExplainWords<'_>,
 ) -> Result<(), Ending> {
+    let texts = InputTexts::read(rt, &words.inputs)?;
+    match words.response {
+        None => explain_texts(rt, threads, words, &texts, None),
+        Some(path) => {
+            let response = text_of(rt, path, Device::Response)?;
+            explain_texts(rt, threads, words, &texts, Some(&response))
+        }
+    }
+}
+
+// The same of these texts, that of the response file where there is one.
+fn explain_texts<R: Threads + Sync>(
+    rt: &HostRuntime,
+    threads: &R,
+    words: &ExplainWords<'_>,
+    texts: &InputTexts,
+    response: Option<&[u8]>,
+) -> Result<(), Ending> {
     let wanted = wanted_by(&words.asked);
-    let sheet = text_of(rt, words.inputs.sheet, Device::Sheet)?;
-    let books = text_of(rt, words.inputs.books, Device::Books)?;
-    let batch = text_of(rt, words.inputs.batch, Device::Batch)?;
-    let response = match words.response {
-        None => None,
-        Some(path) => Some(text_of(rt, path, Device::Response)?),
-    };
-    let retraced = match retrace(threads, rt.alloc(), &sheet, &books, &batch, &wanted) {
-        Ok(retraced) => retraced,
-        Err(fault) => return Err(Ending::Io(IoFault::Switch(fault))),
-    };
-    let details = match response {
-        None => None,
-        Some(bytes) => Some(details_of(rt, &bytes)?),
-    };
-    tell_all(rt, &retraced, &wanted, details.as_ref(), words.json)
+    let retraced = retraced(rt, threads, texts, &wanted)?;
+    match response {
+        None => tell_all(rt, &retraced, &wanted, None, words.json),
+        Some(bytes) => {
+            let details = details_of(rt, bytes)?;
+            tell_all(rt, &retraced, &wanted, Some(&details), words.json)
+        }
+    }
+}
+
+fn retraced<R: Threads + Sync>(
+    rt: &HostRuntime,
+    threads: &R,
+    texts: &InputTexts,
+    wanted: &Wanted,
+) -> Result<Retraced, Ending> {
+    let (sheet, books, batch) = (&texts.sheet, &texts.books, &texts.batch);
+    retrace(threads, rt.alloc(), sheet, books, batch, wanted).map_err(|fault| Ending::Io(
+        IoFault::Switch(fault),
+    ))
 }
 
 // Prints the explanations; the program then ends with status 4 where there is none, and with 5 where the response file has
@@ -66,12 +88,6 @@ fn details_of(rt: &HostRuntime, bytes: &[u8]) -> Result<Details, Ending> {
         Err(BatchFault::Memory) => Err(Ending::Io(IoFault::Switch(SwitchFault::Memory))),
         Err(fault) => Err(Ending::Response(fault)),
     }
-}
-
-// The whole text of a file.
-fn text_of(rt: &HostRuntime, path: &str, device: Device) -> Result<Vec<u8>, Ending> {
-    let mut file = source(rt, path, device)?;
-    read_all(rt.alloc(), &mut file, device).map_err(Ending::Io)
 }
 
 // What the words ask for: place 0, where no record is, where they are no place, number, reference or id.

@@ -15,7 +15,8 @@ pub fn source(rt: &HostRuntime, path: &str, device: Device) -> Result<ReaderSour
     Ok(ReaderSource::new(open_input(rt, path, device)?))
 }
 
-fn open_input(rt: &HostRuntime, path: &str, device: Device) -> Result<File, Ending> {
+/// The file, opened for reading; one that can't be opened counts as a failed read of it.
+pub fn open_input(rt: &HostRuntime, path: &str, device: Device) -> Result<File, Ending> {
     fs::open(rt, path).map_err(|_error| Ending::Io(IoFault::Read(device)))
 }
 

@@ -34,6 +34,7 @@ mod reporting;
 mod running;
 mod safe;
 mod telling;
+mod texts;
 mod told_source;
 mod verbose;
 mod verifying;

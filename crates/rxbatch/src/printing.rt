@@ -1,8 +1,10 @@
 use crate::ending::Ending;
-use crate::files::source;
+use crate::files::open_input;
+use crate::texts::{InputTexts, text_in};
 use rx_retrace::show_table;
-use rx_switch::{Device, IoFault, SwitchFault, plan_text, read_all, sample_line, show_text};
+use rx_switch::{Device, IoFault, SwitchFault, plan_text, sample_line, show_text};
 use rx_words::{Inputs, ShowWords, WordsFault};
+use std::fs::File;
 use std::io;
 use std::io::Write;
 use std::thread::Threads;
@@ -13,14 +15,11 @@ pub fn show<R: Threads + Sync>(
     threads: &R,
     words: &ShowWords<'_>,
 ) -> Result<(), Ending> {
-    let mut sheet = source(rt, words.sheet, Device::Sheet)?;
-    let mut batch = source(rt, words.batch, Device::Batch)?;
-    let sheet = read_all(rt.alloc(), &mut sheet, Device::Sheet).map_err(Ending::Io)?;
-    let batch = read_all(rt.alloc(), &mut batch, Device::Batch).map_err(Ending::Io)?;
+    let texts = ShowTexts::read(rt, words)?;
     let shown = if words.tsv {
-        show_table(threads, rt.alloc(), &sheet, &batch)
+        show_table(threads, rt.alloc(), &texts.sheet, &texts.batch)
     } else {
-        show_text(rt.alloc(), &sheet, &batch)
+        show_text(rt.alloc(), &texts.sheet, &texts.batch)
     };
     match shown {
         Ok(text) => print(rt, &text),
@@ -28,15 +27,33 @@ pub fn show<R: Threads + Sync>(
     }
 }
 
+// The texts of the files that are shown.
+#[derive(Drop)]
+struct ShowTexts {
+    sheet: Vec<u8>,
+    batch: Vec<u8>,
+}
+
+impl ShowTexts {
+    // Opens both files, and then reads them.
+    fn read(rt: &HostRuntime, words: &ShowWords<'_>) -> Result<ShowTexts, Ending> {
+        let sheet = open_input(rt, words.sheet, Device::Sheet)?;
+        let batch = open_input(rt, words.batch, Device::Batch)?;
+        ShowTexts::of(rt, &sheet, &batch)
+    }
+
+    fn of(rt: &HostRuntime, sheet: &File, batch: &File) -> Result<ShowTexts, Ending> {
+        Ok(ShowTexts {
+            sheet: text_in(rt, sheet, Device::Sheet)?,
+            batch: text_in(rt, batch, Device::Batch)?,
+        })
+    }
+}
+
 /// Prints the waves of a batch file's records, and the chain.
 pub fn plan(rt: &HostRuntime, words: &Inputs<'_>) -> Result<(), Ending> {
-    let mut sheet = source(rt, words.sheet, Device::Sheet)?;
-    let mut books = source(rt, words.books, Device::Books)?;
-    let mut batch = source(rt, words.batch, Device::Batch)?;
-    let sheet = read_all(rt.alloc(), &mut sheet, Device::Sheet).map_err(Ending::Io)?;
-    let books = read_all(rt.alloc(), &mut books, Device::Books).map_err(Ending::Io)?;
-    let batch = read_all(rt.alloc(), &mut batch, Device::Batch).map_err(Ending::Io)?;
-    match plan_text(rt.alloc(), &sheet, &books, &batch) {
+    let texts = InputTexts::open_and_read(rt, words)?;
+    match plan_text(rt.alloc(), &texts.sheet, &texts.books, &texts.batch) {
         Ok(text) => print(rt, &text),
         Err(fault) => Err(Ending::Io(IoFault::Switch(fault))),
     }

@@ -1,13 +1,13 @@
 use crate::ending::Ending;
-use crate::files::source;
 use crate::printing::print;
+use crate::texts::InputTexts;
 use rx_account::{Groups, Portion, account_of, kept_lines};
 use rx_fields::Memory;
 use rx_report::tsv_text;
 use rx_report_page::report_page;
 use rx_report_text::{columns_text, json_text};
 use rx_retrace::{Report, job_report};
-use rx_switch::{Device, IoFault, SwitchFault, read_all};
+use rx_switch::{IoFault, SwitchFault};
 use rx_words::{Form, Portion as PortionWords, ReportWords};
 use std::alloc::Global;
 use std::thread::Threads;
@@ -18,13 +18,9 @@ pub fn report<R: Threads + Sync>(
     threads: &R,
     words: &ReportWords<'_>,
 ) -> Result<(), Ending> {
-    let mut sheet = source(rt, words.inputs.sheet, Device::Sheet)?;
-    let mut books = source(rt, words.inputs.books, Device::Books)?;
-    let mut batch = source(rt, words.inputs.batch, Device::Batch)?;
-    let sheet = read_all(rt.alloc(), &mut sheet, Device::Sheet).map_err(Ending::Io)?;
-    let books = read_all(rt.alloc(), &mut books, Device::Books).map_err(Ending::Io)?;
-    let batch = read_all(rt.alloc(), &mut batch, Device::Batch).map_err(Ending::Io)?;
-    let report = match job_report(threads, rt.alloc(), &sheet, &books, &batch) {
+    let texts = InputTexts::open_and_read(rt, &words.inputs)?;
+    let (sheet, books, batch) = (&texts.sheet, &texts.books, &texts.batch);
+    let report = match job_report(threads, rt.alloc(), sheet, books, batch) {
         Ok(report) => report,
         Err(fault) => return Err(Ending::Io(IoFault::Switch(fault))),
     };

@@ -1,10 +1,10 @@
 use crate::ending::Ending;
-use crate::files::source;
 use crate::printing::print;
-use rx_switch::{Device, IoFault, Job, SwitchFault, read_all};
+use crate::texts::{InputTexts, text_of};
+use rx_switch::{Device, IoFault, Job, SwitchFault};
 use rx_verify::{Files, verdict_text, verify as verify_files};
 use rx_wave::NoGate;
-use rx_words::VerifyWords;
+use rx_words::{Outputs, VerifyWords};
 use std::sync::Wait;
 use std::thread::Threads;
 
@@ -14,26 +14,44 @@ pub fn verify<R: Threads + Wait + Sync>(
     threads: &R,
     words: &VerifyWords<'_>,
 ) -> Result<(), Ending> {
-    let sheet = text_of(rt, words.inputs.sheet, Device::Sheet)?;
-    let books = text_of(rt, words.inputs.books, Device::Books)?;
-    let batch = text_of(rt, words.inputs.batch, Device::Batch)?;
-    let response = text_of(rt, words.outputs.response, Device::Response)?;
-    let end_books = text_of(rt, words.outputs.books, Device::EndBooks)?;
-    let settlement = text_of(rt, words.outputs.settlement, Device::Settlement)?;
+    let inputs = InputTexts::read(rt, &words.inputs)?;
+    let outputs = OutputTexts::read(rt, &words.outputs)?;
     let job = Job {
-        sheet: &sheet,
-        books: &books,
-        batch: &batch,
+        sheet: &inputs.sheet,
+        books: &inputs.books,
+        batch: &inputs.batch,
         stamp: words.stamp.as_bytes(),
         workers: words.workers,
         plain: words.plain,
     };
-    let files = Files {
-        response: &response,
-        books: &end_books,
-        settlement: &settlement,
-    };
-    compare(rt, threads, &job, &files)
+    compare(rt, threads, &job, &outputs.files())
+}
+
+// The texts of the files that an earlier run wrote.
+#[derive(Drop)]
+struct OutputTexts {
+    response: Vec<u8>,
+    books: Vec<u8>,
+    settlement: Vec<u8>,
+}
+
+impl OutputTexts {
+    // Opens and reads them, one after another in the order of their numbers.
+    fn read(rt: &HostRuntime, paths: &Outputs<'_>) -> Result<OutputTexts, Ending> {
+        Ok(OutputTexts {
+            response: text_of(rt, paths.response, Device::Response)?,
+            books: text_of(rt, paths.books, Device::EndBooks)?,
+            settlement: text_of(rt, paths.settlement, Device::Settlement)?,
+        })
+    }
+
+    fn files(&self) -> Files<'_> {
+        Files {
+            response: &self.response,
+            books: &self.books,
+            settlement: &self.settlement,
+        }
+    }
 }
 
 // Prints what the comparison gives; the program then ends with status 5 where a file differs.
@@ -56,10 +74,4 @@ fn compare<R: Threads + Wait + Sync>(
     } else {
         Err(Ending::Differs)
     }
-}
-
-// The whole text of a file.
-fn text_of(rt: &HostRuntime, path: &str, device: Device) -> Result<Vec<u8>, Ending> {
-    let mut file = source(rt, path, device)?;
-    read_all(rt.alloc(), &mut file, device).map_err(Ending::Io)
 }

@@ -1,5 +1,5 @@
 // What no clause says: that records are answered, and not want of memory. Cases are those of docs/CASES.md.
-ghost use Rattle.std.specs.Prelude.{true};
+ghost use Rattle.std.specs.Prelude.{◌≡◌, ◌≤◌, length, true};
 
 use crate::{Finished, Gate, NoGate, run_one};
 use rx_books_kept::Books;
@@ -146,9 +146,10 @@ fn run(alloc: Global, ledger: &Ledger, asked: &[Transmission]) -> Result<Finishe
     if asked.len() > 100 {
         return Err(Fail::from("too many records"));
     }
+    let lot = lot()?;
     let sheet = plain_sheet(alloc)?;
     let books = Books::from_ledger(alloc, ledger, sheet.period())?;
-    Ok(run_one(&NoGate, alloc, lot()?, &sheet, &books, asked)?)
+    Ok(run_one(&NoGate, alloc, lot, &sheet, &books, asked)?)
 }
 
 // The status of the record's first answer, as a reply writes it; a blank where there is none.
@@ -197,11 +198,40 @@ impl Gate for Noting {
     }
 }
 
+// How many replies come of the records, past the gate.
+fn replied_past(gate: &Noting, alloc: Global, asked: &[Transmission]) -> Result<usize, Fail> {
+    if asked.len() > 100 {
+        return Err(Fail::from("too many records"));
+    }
+    let lot = lot()?;
+    let ledger = family(alloc)?;
+    let sheet = plain_sheet(alloc)?;
+    match Books::from_ledger(alloc, &ledger, sheet.period()) {
+        Ok(books) => replied_on(gate, alloc, lot, &sheet, &books, asked),
+        Err(_) => Err(Fail::from("no memory")),
+    }
+}
+
+fn replied_on(
+    gate: &Noting,
+    alloc: Global,
+    lot: Lot,
+    sheet: &Sheet,
+    books: &Books,
+    asked: &[Transmission],
+) -> Result<usize, Fail>
+    requires period { books.now.period ≡ sheet.now.figures.period }
+    requires few { length asked.now ≤ 100_000 }
+{
+    match run_one(gate, alloc, lot, sheet, books, asked) {
+        Ok(finished) => Ok(finished.replies.len()),
+        Err(_) => Err(Fail::from("no memory")),
+    }
+}
+
 #[test]
 fn passes_the_gate_once_a_place_in_file_order(rt: HostRuntime) -> Result<(), Fail> {
     let alloc = rt.alloc();
-    let sheet = plain_sheet(alloc)?;
-    let books = Books::from_ledger(alloc, &family(alloc)?, sheet.period())?;
     let asked = [
         decode(alloc, &DOOR, b"")?,
         billing(alloc, b"20260228", b"123", b"01")?,
@@ -210,16 +240,45 @@ fn passes_the_gate_once_a_place_in_file_order(rt: HostRuntime) -> Result<(), Fai
     let gate = Noting {
         passed: Cell::new(0),
     };
-    let finished = run_one(&gate, alloc, lot()?, &sheet, &books, &asked)?;
-    assert_eq!(rt; finished.replies.len(), 3);
-    assert_eq!(rt; gate.passed.get(), 152_637);
+    let replies = replied_past(&gate, alloc, &asked)?;
+    assert_eq!(rt; (replies, gate.passed.get()), (3, 152_637));
     Ok(())
+}
+
+// How the first six records are answered, and what the base family's books say then.
+#[derive(Clone, Copy, Debug)]
+struct Seen {
+    statuses: [u8; 6],
+    out_of_pocket: Option<u128>,
+    family_deductible: Option<u128>,
+}
+
+fn seen_after(alloc: Global, ledger: &Ledger, asked: &[Transmission]) -> Result<Seen, Fail> {
+    let family = Id::new(b"C100", 20)?;
+    let finished = run(alloc, ledger, asked)?;
+    Ok(seen_in(&finished, &family))
+}
+
+fn seen_in(finished: &Finished, family: &Id) -> Seen {
+    Seen {
+        statuses: [
+            status(finished, 0),
+            status(finished, 1),
+            status(finished, 2),
+            status(finished, 3),
+            status(finished, 4),
+            status(finished, 5),
+        ],
+        out_of_pocket: finished.books.out_of_pocket(family),
+        family_deductible: finished.books.family_deductible(family),
+    }
 }
 
 // 75 of 100 of 30 days are 22 and a half; what is dated later doesn't count.
 #[test]
 fn a_refill_is_too_soon_up_to_its_boundary(rt: HostRuntime) -> Result<(), Fail> {
     let alloc = rt.alloc();
+    let ledger = family(alloc)?;
     let asked = [
         billing(alloc, b"20260201", b"123", b"01")?,
         billing(alloc, b"20260201", b"124", b"01")?,
@@ -228,59 +287,76 @@ fn a_refill_is_too_soon_up_to_its_boundary(rt: HostRuntime) -> Result<(), Fail> 
         billing(alloc, b"20260223", b"127", b"01")?,
         billing(alloc, b"20260131", b"128", b"01")?,
     ];
-    let finished = run(alloc, &family(alloc)?, &asked)?;
-    assert_eq!(rt; status(&finished, 0), b'P');
-    assert_eq!(rt; status(&finished, 1), b'R');
-    assert_eq!(rt; status(&finished, 2), b'R');
-    assert_eq!(rt; status(&finished, 3), b'P');
-    assert_eq!(rt; status(&finished, 4), b'R');
-    assert_eq!(rt; status(&finished, 5), b'P');
+    let seen = seen_after(alloc, &ledger, &asked)?;
+    assert_eq!(rt; seen.statuses.as_slice(), b"PRRPRP".as_slice());
     Ok(())
+}
+
+// A family of 1,000 members.
+fn large_family(alloc: Global) -> Result<Ledger, Fail> {
+    let mut ledger = Ledger::new(alloc);
+    for person in 0..1000 {
+        let digits: [u8; 3] = digits_write(person);
+        ledger.add_member(member(&digits)?)?;
+    }
+    Ok(ledger)
+}
+
+fn deductible_after(
+    alloc: Global,
+    ledger: &Ledger,
+    asked: &[Transmission],
+    person: &[u8],
+) -> Result<Option<u128>, Fail> {
+    let family = Id::new(b"C100", 20)?;
+    let person = Person::new(person)?;
+    let finished = run(alloc, ledger, asked)?;
+    Ok(finished.books.deductible(&family, &person))
 }
 
 // The last of 1,000 is billed, then the first: the family's figures are of both, the deductible of each alone.
 #[test]
 fn a_family_has_a_thousand_members(rt: HostRuntime) -> Result<(), Fail> {
     let alloc = rt.alloc();
-    let mut ledger = Ledger::new(alloc);
-    for person in 0..1000 {
-        let digits: [u8; 3] = digits_write(person);
-        ledger.add_member(member(&digits)?)?;
-    }
+    let ledger = large_family(alloc)?;
     let asked = [
         billing(alloc, b"20260228", b"123", b"999")?,
         billing(alloc, b"20260228", b"124", b"000")?,
     ];
-    let finished = run(alloc, &ledger, &asked)?;
-    let family = Id::new(b"C100", 20)?;
-    assert_eq!(rt; status(&finished, 0), b'P');
-    assert_eq!(rt; status(&finished, 1), b'P');
-    assert_eq!(rt; finished.books.out_of_pocket(&family), Some(26_000));
-    assert_eq!(rt; finished.books.family_deductible(&family), Some(20_000));
+    let seen = seen_after(alloc, &ledger, &asked)?;
+    let deductible = deductible_after(alloc, &ledger, &asked, b"999")?;
+    assert_eq!(rt; seen.statuses.as_slice(), b"PP    ".as_slice());
     assert_eq!(rt;
-        finished.books.deductible(&family, &Person::new(b"999")?),
-        Some(10_000)
+        (seen.out_of_pocket, seen.family_deductible, deductible),
+        (Some(26_000), Some(20_000), Some(10_000))
     );
     Ok(())
+}
+
+fn is_free_after(
+    alloc: Global,
+    ledger: &Ledger,
+    asked: &[Transmission],
+    key: &Key,
+) -> Result<bool, Fail> {
+    let finished = run(alloc, ledger, asked)?;
+    Ok(finished.books.row(key).is_none())
 }
 
 #[test]
 fn last_years_claim_leaves_this_years_totals(rt: HostRuntime) -> Result<(), Fail> {
     let alloc = rt.alloc();
-    let mut ledger = family(alloc)?;
     let row = last_years_claim()?;
+    let mut ledger = family(alloc)?;
     ledger.add_row(row)?;
     let asked = [
         billing(alloc, b"20260228", b"123", b"01")?,
         reversal(alloc)?,
         reversal(alloc)?,
     ];
-    let finished = run(alloc, &ledger, &asked)?;
-    let family = Id::new(b"C100", 20)?;
-    assert_eq!(rt; status(&finished, 0), b'P');
-    assert_eq!(rt; status(&finished, 1), b'A');
-    assert_eq!(rt; status(&finished, 2), b'R');
-    assert_eq!(rt; finished.books.out_of_pocket(&family), Some(13_000));
-    assert!(rt; finished.books.row(&row.key).is_none());
+    let seen = seen_after(alloc, &ledger, &asked)?;
+    assert_eq!(rt; seen.statuses.as_slice(), b"PAR   ".as_slice());
+    assert_eq!(rt; seen.out_of_pocket, Some(13_000));
+    assert!(rt; is_free_after(alloc, &ledger, &asked, &row.key)?);
     Ok(())
 }

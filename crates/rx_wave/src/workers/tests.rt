@@ -1,6 +1,6 @@
 // What no clause says: that records go beside one another, each once; that the desk answers; and that a run ends where a
 // worker lacks memory or a thread is refused. Cases are those of docs/CASES.md.
-ghost use Rattle.std.specs.Prelude.{◌≤◌, true};
+ghost use Rattle.std.specs.Prelude.{◌≡◌, ◌≤◌, length, true};
 
 use super::{desk_of, run_waves, worked_off};
 use crate::craft::{Adjudicates, Craft};
@@ -12,8 +12,9 @@ use crate::{Finished, Gate, NoGate, RunFault};
 use rx_adjudicate::{Done, Order};
 use rx_books_kept::Books;
 use rx_claim::Transmission;
-use rx_fields::{Id, Memory};
-use rx_ledger::Ledger;
+use rx_desk::Desk;
+use rx_fields::{Id, Lot, Memory};
+use rx_ledger::{Ledger, Sheet};
 use std::alloc::Global;
 use std::sync::Wait;
 use std::sync::atomic::{AtomicU64, Ordering};
@@ -76,9 +77,38 @@ fn run_on<R: Threads + Wait + Sync, G: Gate + Sync>(
     if asked.len() > 100 {
         return Err(Fail::from("too many records"));
     }
+    let lot = lot()?;
     let sheet = plain_sheet(alloc)?;
-    let books = Books::from_ledger(alloc, ledger, sheet.period())?;
-    Ok(run_waves(rt, alloc, gate, workers, lot()?, &sheet, &books, asked))
+    match Books::from_ledger(alloc, ledger, sheet.period()) {
+        Ok(books) => Ok(run_waves(rt, alloc, gate, workers, lot, &sheet, &books, asked)),
+        Err(_) => Err(Fail::from("no memory")),
+    }
+}
+
+// Whether the records are answered, and each billed once.
+fn is_right<R: Threads + Wait + Sync, G: Gate + Sync>(
+    rt: &R,
+    alloc: Global,
+    gate: &G,
+    workers: u16,
+    asked: &[Transmission],
+) -> Result<bool, Fail> {
+    match run(rt, alloc, gate, workers, asked)? {
+        Ok(finished) => is_billed_once(&finished),
+        Err(_) => Err(Fail::from("an answer")),
+    }
+}
+
+// The fault that the records are answered, if it is one.
+fn fault<R: Threads + Wait + Sync, G: Gate + Sync>(
+    rt: &R,
+    alloc: Global,
+    gate: &G,
+    workers: u16,
+    asked: &[Transmission],
+) -> Result<Option<RunFault>, Fail> {
+    let answer = run(rt, alloc, gate, workers, asked)?;
+    Ok(answer.err())
 }
 
 // Whether the first two records are paid, each family has one-billing's share of 13000, and any further one is refused.
@@ -185,10 +215,7 @@ impl Gate for Passed {
 fn a_record_goes_beside_one_that_is_held(rt: HostRuntime) -> Result<(), Fail> {
     let asked = two_records(rt.alloc())?;
     let gate = Passed::new(Holds::First);
-    let finished = run(&rt, rt.alloc(), &gate, 2, &asked)?
-        .ok()
-        .ok_or("an answer")?;
-    assert!(rt; is_billed_once(&finished)?);
+    assert!(rt; is_right(&rt, rt.alloc(), &gate, 2, &asked)?);
     assert!(rt; gate.is_once(11));
     Ok(())
 }
@@ -198,10 +225,7 @@ fn two_records_are_out_at_once(rt: HostRuntime) -> Result<(), Fail> {
     let asked = two_records(rt.alloc())?;
     for workers in [2, 3, 64] {
         let gate = Passed::new(Holds::Both);
-        let finished = run(&rt, rt.alloc(), &gate, workers, &asked)?
-            .ok()
-            .ok_or("an answer")?;
-        assert!(rt; is_billed_once(&finished)?);
+        assert!(rt; is_right(&rt, rt.alloc(), &gate, workers, &asked)?);
         assert!(rt; gate.is_once(11));
     }
     Ok(())
@@ -212,10 +236,7 @@ fn each_place_is_passed_once(rt: HostRuntime) -> Result<(), Fail> {
     let asked = four_records(rt.alloc())?;
     for workers in [1, 2, 3, 64] {
         let gate = Passed::new(Holds::Nobody);
-        let finished = run(&rt, rt.alloc(), &gate, workers, &asked)?
-            .ok()
-            .ok_or("an answer")?;
-        assert!(rt; is_billed_once(&finished)?);
+        assert!(rt; is_right(&rt, rt.alloc(), &gate, workers, &asked)?);
         assert!(rt; gate.is_once(1_111));
     }
     Ok(())
@@ -244,24 +265,24 @@ impl Gate for Without {
 fn a_refused_start_is_thread(rt: HostRuntime) -> Result<(), Fail> {
     let asked = four_records(rt.alloc())?;
     for worker in 1..5 {
-        let answer = run(&rt, rt.alloc(), &Without(worker), 4, &asked)?;
-        assert_eq!(rt; answer.err(), Some(RunFault::Thread));
+        assert_eq!(rt;
+            fault(&rt, rt.alloc(), &Without(worker), 4, &asked)?,
+            Some(RunFault::Thread)
+        );
     }
-    let answer = run(&rt, rt.alloc(), &Without(2), 2, &asked)?;
-    assert_eq!(rt; answer.err(), Some(RunFault::Thread));
+    assert_eq!(rt;
+        fault(&rt, rt.alloc(), &Without(2), 2, &asked)?,
+        Some(RunFault::Thread)
+    );
     for worker in 1..3 {
-        let finished = run(&rt, rt.alloc(), &Without(worker), 1, &asked)?
-            .ok()
-            .ok_or("an answer")?;
-        assert!(rt; is_billed_once(&finished)?);
+        assert!(rt; is_right(&rt, rt.alloc(), &Without(worker), 1, &asked)?);
     }
-    let finished = run(&rt, rt.alloc(), &Without(5), 4, &asked)?
-        .ok()
-        .ok_or("an answer")?;
-    assert!(rt; is_billed_once(&finished)?);
+    assert!(rt; is_right(&rt, rt.alloc(), &Without(5), 4, &asked)?);
     // A batch without records, too.
-    let answer = run(&rt, rt.alloc(), &Without(2), 2, &[])?;
-    assert_eq!(rt; answer.err(), Some(RunFault::Thread));
+    assert_eq!(rt;
+        fault(&rt, rt.alloc(), &Without(2), 2, &[])?,
+        Some(RunFault::Thread)
+    );
     Ok(())
 }
 
@@ -269,10 +290,7 @@ fn a_refused_start_is_thread(rt: HostRuntime) -> Result<(), Fail> {
 fn a_gate_that_does_nothing_starts_every_worker(rt: HostRuntime) -> Result<(), Fail> {
     let asked = two_records(rt.alloc())?;
     for workers in [2, 4, 64] {
-        let finished = run(&rt, rt.alloc(), &NoGate, workers, &asked)?
-            .ok()
-            .ok_or("an answer")?;
-        assert!(rt; is_billed_once(&finished)?);
+        assert!(rt; is_right(&rt, rt.alloc(), &NoGate, workers, &asked)?);
     }
     Ok(())
 }
@@ -281,8 +299,10 @@ fn a_gate_that_does_nothing_starts_every_worker(rt: HostRuntime) -> Result<(), F
 fn workers_are_1_to_64(rt: HostRuntime) -> Result<(), Fail> {
     let asked = two_records(rt.alloc())?;
     for workers in [0, 65, 65_535] {
-        let answer = run(&rt, rt.alloc(), &NoGate, workers, &asked)?;
-        assert_eq!(rt; answer.err(), Some(RunFault::Workers));
+        assert_eq!(rt;
+            fault(&rt, rt.alloc(), &NoGate, workers, &asked)?,
+            Some(RunFault::Workers)
+        );
     }
     Ok(())
 }
@@ -297,28 +317,74 @@ fn large_family(alloc: Global, claims: u64) -> Result<Ledger, Fail> {
     Ok(ledger)
 }
 
-// A fill and its refill on the same day, in a family so large that sharing can't gain: each start is asked for, and a
-// refused one is Thread, as where the desk answers.
+// A fill and its refill on the same day.
+fn fill_and_refill(alloc: Global) -> Result<[Transmission; 2], Fail> {
+    Ok([
+        claim(alloc, b"123", b"C100")?,
+        claim(alloc, b"124", b"C100")?,
+    ])
+}
+
+fn gains(alloc: Global, ledger: &Ledger, asked: &[Transmission]) -> Result<bool, Fail> {
+    if asked.len() > 100 {
+        return Err(Fail::from("too many records"));
+    }
+    let period = plain_sheet(alloc)?.period();
+    match Books::from_ledger(alloc, ledger, period) {
+        Ok(books) => gains_on(alloc, &books, asked),
+        Err(_) => Err(Fail::from("no memory")),
+    }
+}
+
+fn gains_on(alloc: Global, books: &Books, asked: &[Transmission]) -> Result<bool, Fail>
+    requires { length asked.now ≤ 100_000 }
+{
+    Ok(may_gain(alloc, books, asked)?)
+}
+
+// What four workers are answered where one isn't started.
+fn fault_without<R: Threads + Wait + Sync>(
+    rt: &R,
+    alloc: Global,
+    worker: usize,
+    ledger: &Ledger,
+    asked: &[Transmission],
+) -> Result<Option<RunFault>, Fail> {
+    let answer = run_on(rt, alloc, &Without(worker), 4, ledger, asked)?;
+    Ok(answer.err())
+}
+
+// How so many workers answer the fill and the refill.
+fn statuses<R: Threads + Wait + Sync>(
+    rt: &R,
+    alloc: Global,
+    gate: &Passed,
+    workers: u16,
+    ledger: &Ledger,
+    asked: &[Transmission],
+) -> Result<(u8, u8), Fail> {
+    match run_on(rt, alloc, gate, workers, ledger, asked)? {
+        Ok(finished) => Ok((status(&finished, 0), status(&finished, 1))),
+        Err(_) => Err(Fail::from("an answer")),
+    }
+}
+
+// In a family so large that sharing can't gain each start is asked for, and a refused one is Thread, as where the desk
+// answers.
 #[test]
 fn a_job_that_cannot_gain_asks_for_each_start(rt: HostRuntime) -> Result<(), Fail> {
     let alloc = rt.alloc();
     let ledger = large_family(alloc, MOST_FOR_A_RECORD)?;
-    let asked = [
-        claim(alloc, b"123", b"C100")?,
-        claim(alloc, b"124", b"C100")?,
-    ];
-    let books = Books::from_ledger(alloc, &ledger, plain_sheet(alloc)?.period())?;
-    assert!(rt; !may_gain(alloc, &books, &asked)?);
+    let asked = fill_and_refill(alloc)?;
+    assert!(rt; !gains(alloc, &ledger, &asked)?);
     for worker in 1..5 {
-        let answer = run_on(&rt, alloc, &Without(worker), 4, &ledger, &asked)?;
-        assert_eq!(rt; answer.err(), Some(RunFault::Thread));
+        let fault = fault_without(&rt, alloc, worker, &ledger, &asked)?;
+        assert_eq!(rt; fault, Some(RunFault::Thread));
     }
     for (workers, starts) in [(1, 0), (2, 12), (4, 1_234)] {
         let gate = Passed::new(Holds::Nobody);
-        let finished = run_on(&rt, alloc, &gate, workers, &ledger, &asked)?
-            .ok()
-            .ok_or("an answer")?;
-        assert_eq!(rt; (status(&finished, 0), status(&finished, 1)), (b'P', b'R'));
+        let statuses = statuses(&rt, alloc, &gate, workers, &ledger, &asked)?;
+        assert_eq!(rt; statuses, (b'P', b'R'));
         assert_eq!(rt; gate.asked.load(Ordering::SeqCst), starts);
         assert!(rt; gate.is_once(11));
     }
@@ -338,6 +404,39 @@ impl Craft for LacksAt {
     }
 }
 
+// The desk of the four records.
+fn desk_of_four(alloc: Global) -> Result<Desk, Fail> {
+    let lot = lot()?;
+    let asked = four_records(alloc)?;
+    let ledger = families(alloc)?;
+    let sheet = plain_sheet(alloc)?;
+    match Books::from_ledger(alloc, &ledger, sheet.period()) {
+        Ok(books) => desk_on(alloc, lot, &sheet, &books, &asked),
+        Err(_) => Err(Fail::from("no memory")),
+    }
+}
+
+fn desk_on(
+    alloc: Global,
+    lot: Lot,
+    sheet: &Sheet,
+    books: &Books,
+    asked: &[Transmission],
+) -> Result<Desk, Fail>
+    requires period { books.now.period ≡ sheet.now.figures.period }
+    requires few { length asked.now ≤ 100_000 }
+{
+    Ok(desk_of(alloc, lot, sheet, books, asked)?)
+}
+
+// Whether the desk answers each family's fill once.
+fn is_closed_right(desk: Desk) -> Result<bool, Fail> {
+    match desk.close() {
+        Ok(finished) => is_billed_once(&finished),
+        Err(_) => Err(Fail::from("the desk's answer")),
+    }
+}
+
 // What workers of this craft meet on the four records; where they meet nothing the desk answers.
 fn met<R: Threads + Wait + Sync>(
     rt: &R,
@@ -347,14 +446,9 @@ fn met<R: Threads + Wait + Sync>(
 ) -> Result<Option<RunFault>, Fail>
     requires { 2 ≤ workers }
 {
-    let sheet = plain_sheet(alloc)?;
-    let books = Books::from_ledger(alloc, &families(alloc)?, sheet.period())?;
-    let asked = four_records(alloc)?;
-    let desk = desk_of(alloc, lot()?, &sheet, &books, &asked)?;
-    match worked_off(rt, alloc, &NoGate, &craft, workers, desk) {
+    match worked_off(rt, alloc, &NoGate, &craft, workers, desk_of_four(alloc)?) {
         Ok(desk) => {
-            let finished = desk.close().ok().ok_or("the desk's answer")?;
-            if !is_billed_once(&finished)? {
+            if !is_closed_right(desk)? {
                 return Err(Fail::from("another answer"));
             }
             Ok(None)

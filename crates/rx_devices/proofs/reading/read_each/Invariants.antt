@@ -5,7 +5,8 @@ use Rattle.rx_devices.proofs.reading.read_each.Given as goal
 -- so many bytes went on, at least one a read, and no read failed
 abbrev pub invariant-by_piece : goal.invariant-by_piece
 invariant-by_piece g l =
-    PassesPiece (g.S.Source.left l.fn.source) (g.S.Source.left l.source) (g.C.Consumer.stands_for l.fn.consumer) (g.C.Consumer.stands_for l.consumer) l.total
+    PassesPiece (g.S.Source.left l.fn.source) (g.S.Source.left l.source) (g.C.Consumer.stands_for l.fn.consumer)
+    (g.C.Consumer.stands_for l.consumer) l.total
     × (g.S.Source.failed l.source ≡ false)
     × (l.counter ≤ l.total)
     × (l.total ≤ most_bytes)

@@ -7,4 +7,4 @@ pub returns-clause-explained : goal.returns-clause-explained
 returns-clause-explained c =
     let opening_is : c.in_ok-opening.opening.ledger ≡ c.args.books.ledger =
     ap (λ (b : LedgerBooks). b.ledger) c.in_ok-opening.ensures in
-    rw (c.deref-5.ensures.value, c.in_ok-found.ensures, c.deref-2.ensures.value, opening_is) at c.in_ok-explanations.ensures
+    rw opening_is at c.in_ok-explanations.ensures

@@ -22,22 +22,7 @@ returns-in_err-batch-clause-refused c =
     c.in_ok-sheet.ensures c.in_ok-books.books.period c.in_ok-books.books.ledger c.in_ok-books.ensures.ok
     c.in_err-batch.field-0.0 c.in_err-batch.ensures.refuses)
 
-pub returns-in_err-transmissions-clause-refused : goal.returns-in_err-transmissions-clause-refused
-returns-in_err-transmissions-clause-refused c =
-    let p = err_from_is_err_and c.from_residual-in_err-transmissions.result c.from_residual-in_err-transmissions.ensures.1 in
-    rw (p.1, p.2) memory
-
-pub returns-in_err-footprints-clause-refused : goal.returns-in_err-footprints-clause-refused
-returns-in_err-footprints-clause-refused c =
-    let p = err_from_is_err_and c.from_residual-in_err-footprints.result c.from_residual-in_err-footprints.ensures.1 in
-    rw (p.1, p.2) memory
-
-pub returns-in_err-waves-clause-refused : goal.returns-in_err-waves-clause-refused
-returns-in_err-waves-clause-refused c =
-    let p = err_from_is_err_and c.from_residual-in_err-waves.result c.from_residual-in_err-waves.ensures.1 in
-    rw (p.1, p.2) memory
-
-pub returns-in_err-plan_lines-clause-refused : goal.returns-in_err-plan_lines-clause-refused
-returns-in_err-plan_lines-clause-refused c =
-    let p = err_from_is_err_and c.from_residual-in_err-plan_lines.result c.from_residual-in_err-plan_lines.ensures.1 in
+pub returns-in_err-lines_of-clause-refused : goal.returns-in_err-lines_of-clause-refused
+returns-in_err-lines_of-clause-refused c =
+    let p = err_from_is_err_and c.from_residual-in_err-lines_of.result c.from_residual-in_err-lines_of.ensures.1 in
     rw (p.1, p.2) memory

@@ -1,5 +1,5 @@
 use Rattle.std.proofs.Common.{◌≡◌, ◌*◌, ◌<◌, ◌≤◌, false, true, length, refl, rules}
-use Rattle.rx_desk.proofs.Closing.{end_agreed, end_books, end_members, end_replies, nothing_out}
+use Rattle.rx_desk.proofs.Closing.{end_agreed, end_books, end_replies, nothing_out}
 use Rattle.rx_desk.proofs.Left.{complete, incomplete}
 use Rattle.rx_desk.proofs.desk.Desk.close.Goals as goal
 
@@ -19,11 +19,6 @@ pub closed-books-requires-clause-agreed : goal.closed-books-requires-clause-agre
 closed-books-requires-clause-agreed c =
     let done : 2 * length c.self.inside.states.items ≤ length c.self.inside.history.items = search rules in
     end_agreed _ _ _ _ _ _ _ _ _ c.self.invariant (complete _ _ _ _ _ _ _ _ _ c.self.invariant done)
-
-pub closed-books-requires-clause-members : goal.closed-books-requires-clause-members
-closed-books-requires-clause-members c =
-    let done : 2 * length c.self.inside.states.items ≤ length c.self.inside.history.items = search rules in
-    end_members _ _ _ _ _ _ _ _ _ c.self.invariant (complete _ _ _ _ _ _ _ _ _ c.self.invariant done)
 
 pub returns-clause-whole : goal.returns-clause-whole
 returns-clause-whole c =

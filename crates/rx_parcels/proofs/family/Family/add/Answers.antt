@@ -1,4 +1,4 @@
-use Rattle.std.proofs.Common.{◌≡◌, false, true, refl, ◌∙◌, arith}
+use Rattle.std.proofs.Common.{◌≡◌, false, true, refl, arith}
 use Rattle.rx_fields.specs.Order.{key_cmp}
 use Rattle.rx_ledger.specs.Ledger.{is_listed, is_taken}
 use Rattle.rx_ledger.specs.Rows.{member_of_row, row_key}
@@ -7,7 +7,7 @@ use Rattle.rx_ledger.proofs.Refusals.{free_is_not_there}
 use Rattle.rx_order.specs.Ascending.{contains_key}
 use Rattle.rx_order.proofs.LookUps.{item_at-free}
 use Rattle.rx_parcels.specs.FamilyBook.{FamilyBook, own_ledger}
-use Rattle.rx_parcels.proofs.Owned.{counted-small, counted_deductible-small, deductible_room, family_room, no_member, own-added, pocket_room, stored, totals-added}
+use Rattle.rx_parcels.proofs.Owned.{changed_figure, counted-small, counted_deductible-small, deductible_room, family_room, no_member, own-added, pocket_room, totals-added}
 use Rattle.rx_parcels.proofs.family.Family.add.Goals as goal
 
 pub unreachable-requires : goal.unreachable-requires
@@ -17,15 +17,12 @@ unreachable-requires c =
     (contains_key key_cmp row_key c.self.inside.rows c.args.row.key) c.insert.ensures.there free c.in-Err-There.is
     c.in-Err-There.field-0-is
 
-pub overflow_add-index_mut : goal.overflow_add-index_mut
-overflow_add-index_mut c =
+pub overflow_add-deref_mut : goal.overflow_add-deref_mut
+overflow_add-deref_mut c =
     let low = deductible_room _ c.self.invariant.own _ _ _ c.self.invariant.totals c.place_of_member-at.result no_member
     c.place_of_member-at.ensures.in_range in
     let more = counted_deductible-small c.self.inside.period c.args.row c.counted_in-counted.ensures.small in
-    let value = c.index_mut.ensures.value
-    ∙ stored _ c.self.invariant.own _ _ _ c.self.invariant.totals c.place_of_member-at.result c.index_mut.result.now
-    c.place_of_member-at.ensures.in_range in
-    omega (arith, low, more, value, c.counted_in-counted.ensures.deductible)
+    rw c.deref_mut.ensures.value (omega (arith, low, more, c.counted_in-counted.ensures.deductible))
 
 pub overflow_add-self : goal.overflow_add-self
 overflow_add-self c =
@@ -55,10 +52,9 @@ invariant_of-self-2 c =
     let free : is_taken (own_ledger b) c.args.row.key ≡ false = rw (← c.self.view_is) at c.requires.free in
     let listed : is_listed (own_ledger b) (member_of_row c.args.row) ≡ true = rw (← c.self.view_is) at c.requires.listed in
     let none = item_at-free key_cmp key_total row_key inside.rows c.args.row.key free in
-    let value = c.index_mut.ensures.value
-    ∙ stored b own _ _ _ c.self.invariant.totals at c.index_mut.result.now is_at.in_range in
+    let back = changed_figure b own inside.deductibles.items _ _ c.self.invariant.totals at in
     let few = rw c.in-Ok.ensures.ok at c.insert.ensures.small in
-    rw (c.in-Ok.ensures.ok, value, c.counted_in-counted.ensures.deductible, c.counted_in-counted.ensures.out_of_pocket)
+    rw (c.in-Ok.ensures.ok, c.deref_mut.ensures.value, back, c.counted_in-counted.ensures.deductible, c.counted_in-counted.ensures.out_of_pocket)
     (record {
       own = own-added b c.args.row own listed c.counted_in-counted.ensures.small few;
       totals = totals-added b own _ _ _ c.self.invariant.totals c.args.row listed at is_at no_member none;

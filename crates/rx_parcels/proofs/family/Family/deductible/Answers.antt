@@ -1,9 +1,9 @@
-use Rattle.std.proofs.Common.{◌≡◌, Some, true, false, refl, ap, ◌∙◌}
+use Rattle.std.proofs.Common.{◌≡◌, get_or, Some, true, false, refl, ap, ◌∙◌}
 use Rattle.rx_ledger.specs.Members.{member_cmp, member_key}
 use Rattle.rx_ledger.proofs.Orders.{member_total}
 use Rattle.rx_order.proofs.Places.{contains_key-at, contains_key-gap}
 use Rattle.rx_parcels.specs.FamilyBook.{FamilyBook, has_person}
-use Rattle.rx_parcels.proofs.Owned.{deductible_read, stored}
+use Rattle.rx_parcels.proofs.Owned.{deductible_read}
 use Rattle.rx_parcels.proofs.family.Family.deductible.Goals as goal
 
 pub returns-in-Ok : goal.returns-in-Ok
@@ -13,8 +13,7 @@ returns-in-Ok c =
     let found = c.in-Ok.ensures.found in
     let listed : has_person b c.args.person.now ≡ true =
     contains_key-at member_cmp member_total member_key inside.members _ c.in-Ok.at found in
-    let value = c.index.ensures
-    ∙ stored b c.self.invariant.own _ _ _ c.self.invariant.totals c.in-Ok.at c.index.result.now found.in_range
+    let value = ap (λ l. get_or l c.in-Ok.at 0) c.deref.ensures
     ∙ deductible_read b c.self.invariant.own _ _ _ c.self.invariant.totals c.args.person.now c.in-Ok.at found in
     rw (← c.self.view_is) (rw listed (ap Some value))
 

@@ -5,7 +5,7 @@ use Rattle.rx_ledger.proofs.Orders.{key_total}
 use Rattle.rx_order.specs.Ascending.{item_at}
 use Rattle.rx_order.proofs.Edits.{without_absent}
 use Rattle.rx_parcels.specs.FamilyBook.{FamilyBook}
-use Rattle.rx_parcels.proofs.Owned.{deductible_enough, family_enough, no_member, own-removed, pocket_enough, row_listed, stored, totals-removed}
+use Rattle.rx_parcels.proofs.Owned.{changed_figure, deductible_enough, family_enough, no_member, own-removed, pocket_enough, row_listed, totals-removed}
 use Rattle.rx_parcels.proofs.family.Family.remove.Goals as goal
 
 -- ---- no row stands under the key
@@ -31,17 +31,15 @@ place_of_member-at-requires c =
     sym c.remove.ensures.value ∙ c.in_ok-row.was in
     rw c.member.ensures (row_listed _ c.args.key.now c.in_ok-row.row c.self.invariant.own there)
 
-pub overflow_sub-index_mut : goal.overflow_sub-index_mut
-overflow_sub-index_mut c =
+pub overflow_sub-deref_mut : goal.overflow_sub-deref_mut
+overflow_sub-deref_mut c =
     let there : item_at key_cmp row_key c.self.inside.rows c.args.key.now ≡ Some c.in_ok-row.row =
     sym c.remove.ensures.value ∙ c.in_ok-row.was in
     let own = c.self.invariant.own in
     let listed = row_listed _ c.args.key.now c.in_ok-row.row own there in
     let at = c.place_of_member-at.result in
     let is_at = rw c.member.ensures at c.place_of_member-at.ensures in
-    let value = c.index_mut.ensures.value
-    ∙ stored _ own _ _ _ c.self.invariant.totals at c.index_mut.result.now is_at.in_range in
-    rw (value, c.counted_in-counted.ensures.deductible)
+    rw (c.deref_mut.ensures.value, c.counted_in-counted.ensures.deductible)
     (deductible_enough _ own _ _ _ c.self.invariant.totals c.in_ok-row.row listed at is_at no_member c.args.key.now there)
 
 pub overflow_sub-self : goal.overflow_sub-self
@@ -76,9 +74,8 @@ invariant_of-self-2 c =
     let is_at = rw c.member.ensures at c.place_of_member-at.ensures in
     let inside = c.self.inside in
     let b : FamilyBook = record { family = inside.family; period = inside.period; members = inside.members; rows = inside.rows } in
-    let value = c.index_mut.ensures.value
-    ∙ stored b own _ _ _ c.self.invariant.totals at c.index_mut.result.now is_at.in_range in
-    rw (c.remove.ensures.items, value, c.counted_in-counted.ensures.deductible, c.counted_in-counted.ensures.out_of_pocket)
+    let back = changed_figure b own inside.deductibles.items _ _ c.self.invariant.totals at in
+    rw (c.remove.ensures.items, c.deref_mut.ensures.value, back, c.counted_in-counted.ensures.deductible, c.counted_in-counted.ensures.out_of_pocket)
     (record {
       own = own-removed b c.args.key.now c.in_ok-row.row own there;
       totals = totals-removed b own _ _ _ c.self.invariant.totals c.in_ok-row.row listed at is_at no_member c.args.key.now there;

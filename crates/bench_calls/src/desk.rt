@@ -1,0 +1,87 @@
+//! A desk on one thread: its records handed out, adjudicated and taken back, so many at once as several workers have.
+
+use crate::inputs::Inputs;
+use crate::job::{Job, MOST};
+use crate::timing::Watch;
+use rx_adjudicate::{Done, Order, adjudicate};
+use rx_desk::{Desk, Next};
+use std::alloc::Global;
+use std::rt::Clock;
+use std::thread::Threads;
+
+// How many records are out at once.
+const OUT: usize = 16;
+
+// The records that are out, and those that go back.
+#[derive(Drop)]
+struct Hands {
+    out: Vec<Order>,
+    done: Vec<Done>,
+}
+
+/// Works the desk of the job off.
+pub fn round<R: Clock + Threads + Sync>(watch: &mut Watch<R>, inputs: &Inputs) -> Option<()> {
+    let mut desk = Job::of(watch.rt, watch.alloc, inputs)?.into_desk(watch.alloc)?;
+    let mut hands = Hands {
+        out: Vec::new(watch.alloc),
+        done: Vec::new(watch.alloc),
+    };
+    watch.begin();
+    // Each turn but the last takes one record at least.
+    for _ in 0..=MOST {
+        if turn(watch, &mut desk, &mut hands) == 0 {
+            break;
+        }
+    }
+    watch.lap("replies", replies(desk));
+    Some(())
+}
+
+// Hands out some records, adjudicates them, and takes them back: how many there were.
+fn turn<R: Clock>(watch: &mut Watch<R>, desk: &mut Desk, hands: &mut Hands) -> usize {
+    take(desk, &mut hands.out);
+    let records = hands.out.len();
+    watch.lap("records handed out", records);
+    adjudicate_all(watch.alloc, hands);
+    watch.lap("records adjudicated", records);
+    give(desk, &mut hands.done);
+    watch.lap("records taken back", records);
+    records
+}
+
+fn take(desk: &mut Desk, out: &mut Vec<Order>) {
+    for _ in 0..OUT {
+        match desk.next() {
+            Next::Order(order) => {
+                let _pushed = out.push(order);
+            }
+            Next::Later | Next::Over | Next::Memory => return,
+        }
+    }
+}
+
+fn adjudicate_all(alloc: Global, hands: &mut Hands) {
+    for _ in 0..OUT {
+        if let Some(order) = hands.out.pop()
+            && let Ok(made) = adjudicate(alloc, order)
+        {
+            let _pushed = hands.done.push(made);
+        }
+    }
+}
+
+fn give(desk: &mut Desk, done: &mut Vec<Done>) {
+    for _ in 0..OUT {
+        if let Some(one) = done.pop() {
+            let _given = desk.give(one);
+        }
+    }
+}
+
+// How many replies there are at the end.
+fn replies(desk: Desk) -> usize {
+    match desk.close() {
+        Ok(finished) => finished.replies.len(),
+        Err(_) => 0,
+    }
+}

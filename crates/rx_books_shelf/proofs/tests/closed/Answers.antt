@@ -1,4 +1,0 @@
-use Rattle.rx_books_shelf.proofs.tests.closed.Goals as goal
-
-pub close-requires : goal.close-requires
-close-requires c = λ _. (c.agrees.ensures.0 c.if-not-agrees.false).1

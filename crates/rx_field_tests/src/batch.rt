@@ -1,0 +1,285 @@
+use crate::table::{same, same_at};
+use rx_batch::{
+    Batch, BatchFault, Detail, FileType, Head, Kind, Pieces, one_reading, read_batch, write_batch,
+};
+use rx_fields::{Lot, Time, date_read};
+use std::alloc::{AllocError, Global};
+use std::test::Fail;
+
+const HEADER: &[u8] =
+    b"\x0200TPHARMSYS                0000042202603010930P12RXSWITCH                \x03";
+
+const CLAIM: &[u8] = b"900001D0B1RXDEMO    1011234567893     20260228          \
+\x1e\x1cAM04\x1cC2C100\x1cC301\
+\x1d\x1e\x1cAM07\x1cEM1\x1cD2000000000123\x1cE103\x1cD700002000202\x1cE70000030000\x1cD5030\x1cD61\
+\x1e\x1cAM11\x1cD90003000{\x1cDC0000017E\x1cDQ0004000{";
+
+const TRAILER: &[u8] = b"\x029900000420000000001                                   \x03";
+
+fn joined(alloc: Global, parts: &[&[u8]]) -> Result<Vec<u8>, AllocError> {
+    let mut text = Vec::new(alloc);
+    for part in parts {
+        text.extend_from_slice(part)?;
+    }
+    Ok(text)
+}
+
+// The file of one billing, of 326 bytes.
+fn one_billing(alloc: Global) -> Result<Vec<u8>, AllocError> {
+    joined(
+        alloc,
+        &[HEADER, b"\x02G10000000001", CLAIM, b"\x03", TRAILER],
+    )
+}
+
+// A file with another byte at one place.
+fn changed(alloc: Global, file: &[u8], at: usize, byte: u8) -> Result<Vec<u8>, AllocError> {
+    let mut copy = Vec::from_slice(alloc, file)?;
+    if let Some(there) = copy.get_mut(at) {
+        *there = byte;
+    }
+    Ok(copy)
+}
+
+// The fault's number and place, or 0 and the number of details.
+fn told(outcome: &Result<Batch, BatchFault>) -> (u32, u64) {
+    match outcome {
+        Ok(batch) => (0, batch.details.len() as u64),
+        Err(fault) => (fault.code(), fault.place().unwrap_or(0)),
+    }
+}
+
+fn same_details(a: &[Detail], b: &[Detail]) -> bool {
+    a.len() == b.len()
+        && a.iter().zip(b).all(|(x, y)| x.reference == y.reference
+            && x.text.bytes() == y.text.bytes())
+}
+
+fn same(a: &Result<Batch, BatchFault>, b: &Result<Batch, BatchFault>) -> bool {
+    match (a, b) {
+        (Ok(a), Ok(b)) => a.head == b.head
+            && same_details(a.details.as_slice(), b.details.as_slice()),
+        (Err(a), Err(b)) => *a == *b,
+        _ => false,
+    }
+}
+
+fn in_two(alloc: Global, front: &[u8], back: &[u8]) -> Result<Batch, BatchFault> {
+    let mut pieces = Pieces::new(alloc);
+    pieces.feed(front)?;
+    pieces.feed(back)?;
+    pieces.finish()
+}
+
+fn by_bytes(alloc: Global, file: &[u8]) -> Result<Batch, BatchFault> {
+    let mut pieces = Pieces::new(alloc);
+    for byte in file {
+        pieces.feed(&[*byte])?;
+    }
+    pieces.finish()
+}
+
+// Whether a text is read byte by byte, and cut at each one place, as it is read whole.
+fn reads_alike(alloc: Global, text: &[u8]) -> bool {
+    let whole = read_batch(alloc, text);
+    for at in 0..=text.len() {
+        let (front, back) = text.split_at(at);
+        if !same(&in_two(alloc, front, back), &whole) {
+            return false;
+        }
+    }
+    same(&by_bytes(alloc, text), &whole)
+}
+
+// The head of one-billing's file.
+fn head() -> Option<Head> {
+    Some(Head {
+        kind: Kind::Transmission,
+        file: FileType::Production,
+        sender: *b"PHARMSYS                ",
+        receiver: *b"RXSWITCH                ",
+        lot: Lot::new(42, date_read(b"20260301").ok()?)?,
+        time: Time::new(b"0930")?,
+    })
+}
+
+#[test]
+fn reads_one_billing(rt: HostRuntime) -> Result<(), Fail> {
+    one_reading();
+    let file = one_billing(rt.alloc())?;
+    same!(rt; file.len(), 326);
+    let batch = read_batch(rt.alloc(), &file)?;
+    same!(rt; Some(batch.head), head());
+    same!(rt; batch.head.lot().created().number(), 20513);
+    same!(rt; batch.details.len(), 1);
+    for detail in batch.details.as_slice() {
+        same!(rt; (detail.reference, detail.text.bytes()), (*b"0000000001", CLAIM));
+    }
+    Ok(())
+}
+
+// What is written of a file that is read.
+fn again(alloc: Global, file: &[u8]) -> Result<Vec<u8>, Fail> {
+    let batch = read_batch(alloc, file)?;
+    Ok(write_batch(alloc, &batch.head, batch.details.as_slice())?)
+}
+
+#[test]
+fn writes_what_it_reads_and_counts_its_records(rt: HostRuntime) -> Result<(), Fail> {
+    let alloc = rt.alloc();
+    let file = one_billing(alloc)?;
+    same!(rt; again(alloc, &file)?.as_slice(), changed(alloc, &file, 289, b'3')?.as_slice());
+    let empty = joined(alloc, &[HEADER, TRAILER])?;
+    let without = changed(alloc, &empty, 94, b'0')?;
+    same!(rt; again(alloc, &without)?.as_slice(), changed(alloc, &empty, 94, b'2')?.as_slice());
+    Ok(())
+}
+
+// The count of an empty batch, and what is told of it.
+const COUNTS: [(u8, (u32, u64)); 4] = [
+    (b'0', (0, 0)),
+    (b'2', (0, 0)),
+    (b'1', (10, 75)),
+    (b'3', (10, 75)),
+];
+
+#[test]
+fn counts_an_empty_batch(rt: HostRuntime) -> Result<(), Fail> {
+    let file = joined(rt.alloc(), &[HEADER, TRAILER])?;
+    for (count, wanted) in COUNTS {
+        let file = changed(rt.alloc(), &file, 94, count)?;
+        same!(rt; (count, told(&read_batch(rt.alloc(), &file))), (count, wanted));
+    }
+    Ok(())
+}
+
+#[test]
+fn names_the_fault_of_a_cut_file(rt: HostRuntime) -> Result<(), Fail> {
+    let file = one_billing(rt.alloc())?;
+    for length in 0..326usize {
+        let wanted = match length {
+            0 => (2, 0),
+            1..=74 => (4, 0),
+            75 => (8, 75),
+            76..=269 => (4, 75),
+            270 => (8, 270),
+            _ => (4, 270),
+        };
+        let cut = file.get(..length).unwrap_or(&[]);
+        same!(rt; (length, told(&read_batch(rt.alloc(), cut))), (length, wanted));
+    }
+    Ok(())
+}
+
+// The place of a byte in one-billing's file, another byte there, and what is told of the file then.
+const CHANGES: [(usize, u8, (u32, u64)); 12] = [
+    (100, 2, (4, 75)),
+    (80, 3, (6, 75)),
+    (100, 3, (1, 101)),
+    (1, b'G', (2, 0)),
+    (49, b'1', (3, 0)),
+    (3, b'R', (3, 0)),
+    (47, b'X', (3, 0)),
+    (271, b'8', (5, 270)),
+    (279, b'3', (9, 270)),
+    (289, b'2', (10, 270)),
+    (279, b'X', (7, 270)),
+    (289, b'3', (0, 1)),
+];
+
+#[test]
+fn names_the_fault_of_a_damaged_file(rt: HostRuntime) -> Result<(), Fail> {
+    let file = one_billing(rt.alloc())?;
+    for (at, byte, wanted) in CHANGES {
+        let damaged = changed(rt.alloc(), &file, at, byte)?;
+        same!(rt; (at, byte, told(&read_batch(rt.alloc(), &damaged))), (at, byte, wanted));
+    }
+    Ok(())
+}
+
+fn framed(alloc: Global, before: &[u8], file: &[u8], behind: &[u8]) -> Result<Vec<u8>, AllocError> {
+    joined(alloc, &[before, file, behind])
+}
+
+// What stands before one-billing's file and behind it, and what is told of the whole.
+const BESIDE: [(&str, &[u8], &[u8], (u32, u64)); 5] = [
+    ("a byte behind", b"", b"X", (11, 326)),
+    ("a second trailer", b"", TRAILER, (11, 326)),
+    ("a byte before", b"X", b"", (1, 0)),
+    ("ends of lines", b"\r\n", b"\n\r", (0, 1)),
+    ("a blank before", b" ", b"", (1, 0)),
+];
+
+#[test]
+fn names_the_fault_of_a_file_with_more_or_less(rt: HostRuntime) -> Result<(), Fail> {
+    let file = one_billing(rt.alloc())?;
+    for (name, before, behind, wanted) in BESIDE {
+        let text = framed(rt.alloc(), before, &file, behind)?;
+        same_at(&rt, name, &told(&read_batch(rt.alloc(), &text)), &wanted);
+    }
+    let cut = file.get(..325).unwrap_or(&[]);
+    let text = framed(rt.alloc(), b"", cut, b" \x03")?;
+    same!(rt; told(&read_batch(rt.alloc(), &text)), (7, 270));
+    Ok(())
+}
+
+// One-billing with ends of lines between its records.
+const SPACED: [&[u8]; 9] = [
+    b"\r\n",
+    HEADER,
+    b"\r\n",
+    b"\x02G10000000001",
+    CLAIM,
+    b"\x03",
+    b"\r\n",
+    TRAILER,
+    b"\r\n",
+];
+
+#[test]
+fn reads_pieces_as_the_whole(rt: HostRuntime) -> Result<(), Fail> {
+    let alloc = rt.alloc();
+    let file = one_billing(alloc)?;
+    let spaced = joined(alloc, &SPACED)?;
+    same!(rt; told(&read_batch(alloc, &spaced)), (0, 1));
+    same!(rt; reads_alike(alloc, &spaced), true);
+    same!(rt; reads_alike(alloc, &file), true);
+    same!(rt; reads_alike(alloc, &joined(alloc, &[&file, b"X"])?), true);
+    same!(rt; reads_alike(alloc, &joined(alloc, &[b"X", &file])?), true);
+    same!(rt; reads_alike(alloc, &changed(alloc, &file, 289, b'2')?), true);
+    Ok(())
+}
+
+#[test]
+fn reads_pieces_of_a_cut_file_as_the_whole(rt: HostRuntime) -> Result<(), Fail> {
+    let file = one_billing(rt.alloc())?;
+    for length in [0usize, 1, 74, 75, 76, 269, 270, 271, 325] {
+        let cut = file.get(..length).unwrap_or(&[]);
+        same!(rt; (length, reads_alike(rt.alloc(), cut)), (length, true));
+    }
+    Ok(())
+}
+
+#[test]
+fn keeps_its_first_fault(rt: HostRuntime) -> Result<(), Fail> {
+    let file = one_billing(rt.alloc())?;
+    let mut pieces = Pieces::new(rt.alloc());
+    for byte in &file {
+        pieces.feed(&[*byte])?;
+    }
+    for _ in 0..3u8 {
+        same!(rt; pieces.feed(b"X"), Err(BatchFault::AfterTrailer { at: 326 }));
+    }
+    same!(rt; told(&pieces.finish()), (11, 326));
+    Ok(())
+}
+
+#[test]
+fn refuses_one_detail_too_many(rt: HostRuntime) -> Result<(), Fail> {
+    let mut file = Vec::from_slice(rt.alloc(), HEADER)?;
+    for _ in 0..100_001u32 {
+        file.extend_from_slice(b"\x02G10000000001\x03")?;
+    }
+    same!(rt; told(&read_batch(rt.alloc(), &file)), (12, 1_400_075));
+    Ok(())
+}

@@ -1,0 +1,130 @@
+use crate::table::{same, same_at};
+use rx_fields::{Id, IdFault, Key, Person, Provider, Reference, date_read, trimmed};
+use std::cmp::Ordering;
+use std::test::Fail;
+
+// A text, the most bytes that its id may have, and the id.
+const IDS_READ: [(&str, usize, &str); 9] = [
+    ("C100", 20, "C100"),
+    ("C100   ", 20, "C100"),
+    ("1234567893     ", 15, "1234567893"),
+    ("01 ", 3, "01"),
+    (" A", 20, " A"),
+    ("A B  ", 3, "A B"),
+    ("~", 1, "~"),
+    ("ABCDEFGHIJKLMNOPQRST", 20, "ABCDEFGHIJKLMNOPQRST"),
+    ("ABCDEFGHIJKLMNOPQRST  ", 20, "ABCDEFGHIJKLMNOPQRST"),
+];
+
+const IDS_REFUSED: [(&str, usize, IdFault); 11] = [
+    ("", 20, IdFault::Blank),
+    ("    ", 20, IdFault::Blank),
+    ("ABCDEFGHIJKLMNOPQRSTU", 20, IdFault::TooLong),
+    ("0123", 3, IdFault::TooLong),
+    ("012\x1f", 3, IdFault::TooLong),
+    ("A", 0, IdFault::TooLong),
+    ("A\x1fB", 20, IdFault::NotPrintable),
+    ("A\x7f", 20, IdFault::NotPrintable),
+    ("A|\x1f", 20, IdFault::NotPrintable),
+    ("A|B", 20, IdFault::Bar),
+    ("| ", 20, IdFault::Bar),
+];
+
+#[test]
+fn ids_are_trimmed_texts(rt: HostRuntime) {
+    for (text, max, id) in IDS_READ {
+        assert!(rt; max <= 20);
+        let read = Id::new(text.as_bytes(), max);
+        same_at(
+            &rt,
+            text,
+            &read.as_ref().ok().map(Id::bytes),
+            &Some(id.as_bytes()),
+        );
+    }
+    for (text, max, fault) in IDS_REFUSED {
+        assert!(rt; max <= 20);
+        same_at(&rt, text, &Id::new(text.as_bytes(), max), &Err(fault));
+    }
+}
+
+#[test]
+fn texts_lose_the_blanks_at_their_end(rt: HostRuntime) {
+    same!(rt; trimmed(b"C2C100   "), b"C2C100".as_slice());
+    same!(rt; trimmed(b" A B"), b" A B".as_slice());
+    same!(rt; trimmed(b"A\t "), b"A\t".as_slice());
+    same!(rt; trimmed(b"   "), b"".as_slice());
+    same!(rt; trimmed(b""), b"".as_slice());
+}
+
+#[test]
+fn short_ids_have_at_most_their_length(rt: HostRuntime) {
+    let pharmacy = Provider::new(b"ABCDEFGHIJKLMNO ");
+    same!(rt; pharmacy.as_ref().ok().map(Provider::bytes), Some(b"ABCDEFGHIJKLMNO".as_slice()));
+    same!(rt; Provider::new(b"ABCDEFGHIJKLMNOP"), Err(IdFault::TooLong));
+    same!(rt; Person::new(b"01 ").as_ref().ok().map(Person::bytes), Some(b"01".as_slice()));
+    same!(rt; Person::new(b"012").as_ref().map(Person::id), Id::new(b"012", 20).as_ref().copied());
+    same!(rt; Person::new(b"0123"), Err(IdFault::TooLong));
+    same!(rt; Person::new(b"   "), Err(IdFault::Blank));
+}
+
+// Ascending: by bytes, a prefix first.
+const IDS_IN_ORDER: [&str; 10] = [
+    " A",
+    "01",
+    "1",
+    "A",
+    "AA",
+    "AAAAAAAAA",
+    "AAAAAAAAB",
+    "AAAAAAAB",
+    "B",
+    "a",
+];
+
+// How the ids of two texts are ordered, in both directions, and whether they are equal.
+fn order(low: &str, high: &str) -> Result<(Ordering, Option<Ordering>, bool), IdFault> {
+    let (low, high) = (Id::new(low.as_bytes(), 20)?, Id::new(high.as_bytes(), 20)?);
+    Ok((low.cmp(&high), high.partial_cmp(&low), low == high))
+}
+
+#[test]
+fn ids_are_ordered_a_prefix_first(rt: HostRuntime) {
+    let below = (Ordering::Less, Some(Ordering::Greater), false);
+    let equal = (Ordering::Equal, Some(Ordering::Equal), true);
+    for (i, low) in IDS_IN_ORDER.into_iter().enumerate() {
+        same_at(&rt, low, &order(low, low), &Ok(equal));
+        for high in IDS_IN_ORDER.into_iter().skip(i + 1) {
+            same_at(&rt, low, &(high, order(low, high)), &(high, Ok(below)));
+        }
+    }
+    same!(rt; Id::new(b"A ", 20), Id::new(b"A", 3));
+}
+
+const KEYS_IN_ORDER: [(&str, u64, &str); 5] = [
+    ("A", 9, "20261231"),
+    ("AA", 1, "20260201"),
+    ("AA", 1, "20260202"),
+    ("AA", 1, "20270101"),
+    ("AA", 2, "20260101"),
+];
+
+fn key((provider, reference, date): (&str, u64, &str)) -> Option<Key> {
+    Some(Key {
+        provider: Provider::new(provider.as_bytes()).ok()?,
+        reference: Reference::new(reference)?,
+        date: date_read(date.as_bytes()).ok()?,
+    })
+}
+
+#[test]
+fn fill_keys_are_ordered_by_provider_then_reference_then_date(rt: HostRuntime) -> Result<(), Fail> {
+    for (i, line) in KEYS_IN_ORDER.into_iter().enumerate() {
+        let low = key(line).ok_or("a key")?;
+        for line in KEYS_IN_ORDER.into_iter().skip(i + 1) {
+            let high = key(line).ok_or("a key")?;
+            same_at(&rt, line.2, &(low < high), &true);
+        }
+    }
+    Ok(())
+}
