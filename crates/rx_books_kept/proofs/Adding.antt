@@ -1,5 +1,6 @@
 -- Figures added up, row by row.
-use Rattle.std.proofs.Common.{◌≡◌, ℕ, ◌+◌, ◌^◌, ◌<◌, ◌≤◌, List, [], ◌∷◌, ◌++◌, length, get_or, map, replicate, set, Bool, true, false, Some, refl, sym, subst, ap, ◌∙◌, append_assoc, arith}
+use Rattle.std.proofs.Common.{◌≡◌, ℕ, ◌+◌, ◌^◌, ◌<◌, ◌≤◌, List, [], ◌∷◌, ◌++◌, length, get_or, map, replicate, set, Bool, true, false, Some,
+  refl, sym, subst, ap, ◌∙◌, append_assoc, arith}
 use Rattle.std.specs.Prelude.{slice_get}
 use Rattle.std.specs.List.{All, list_all}
 use Rattle.std.specs.Ordering.{is_lt}
@@ -134,7 +135,8 @@ module _ (period : Span) (ms : List Member) (all rest done : List Row) (r : Row)
   few_done few = omega (arith, few, ap length so_far.parts, length-append done (r ∷ rest))
 
   long_deductibles : length ds ≡ length ms
-  long_deductibles = ap length so_far.figures.of_members ∙ length-map ms (λ (m : Member). deductible period (claimed ms done) m.key.family m.key.person)
+  long_deductibles = ap length so_far.figures.of_members ∙ length-map ms
+      (λ (m : Member). deductible period (claimed ms done) m.key.family m.key.person)
 
   long_pockets : length os ≡ length (families_of ms)
   long_pockets = ap length so_far.figures.of_pockets ∙ length-map (families_of ms) (out_of_pocket period (claimed ms done))
@@ -168,16 +170,20 @@ module _ (period : Span) (ms : List Member) (all rest done : List Row) (r : Row)
           (All-cons (λ x. paid_by_patient x ≤ 99_999_999) r [] small (All-nil (λ x. paid_by_patient x ≤ 99_999_999)));
     }
 
-    pub has_room : length all < 2 ^ 64 → HasRoom ds os fs member family (counted period deductible_paid r) (counted period paid_by_patient r)
+    pub has_room : length all < 2 ^ 64 → HasRoom ds os fs member family (counted period deductible_paid r)
+        (counted period paid_by_patient r)
     has_room few =
         let done_few = few_done few in
         let lt : member < length ms = is_at.in_range in
         let at : family < length (families_of ms) = at_home.in_range in
         let one = counted_deductible-small period r small in
         let two = counted-small period r small in
-        let low : get_or ds member 0 ≤ 2 ^ 100 = rw so_far.figures.of_members (deductibles-room period (claimed ms done) so_far.small done_few member no_member lt) in
-        let paid : get_or os family 0 ≤ 2 ^ 100 = rw so_far.figures.of_pockets (pockets-room period (claimed ms done) so_far.small done_few family at) in
-        let theirs : get_or fs family 0 ≤ 2 ^ 100 = rw so_far.figures.of_families (family_deductibles-room period (claimed ms done) so_far.small done_few family at) in
+        let low : get_or ds member 0 ≤ 2 ^ 100 = rw so_far.figures.of_members
+            (deductibles-room period (claimed ms done) so_far.small done_few member no_member lt) in
+        let paid : get_or os family 0 ≤ 2 ^ 100 = rw so_far.figures.of_pockets
+            (pockets-room period (claimed ms done) so_far.small done_few family at) in
+        let theirs : get_or fs family 0 ≤ 2 ^ 100 = rw so_far.figures.of_families
+            (family_deductibles-room period (claimed ms done) so_far.small done_few family at) in
         record {
           in_members = omega (arith, lt, long_deductibles);
           in_pockets = omega (arith, at, long_pockets);

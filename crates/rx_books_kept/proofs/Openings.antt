@@ -1,5 +1,6 @@
 -- The lists that books are made from: the families in order, and the places of families and members.
-use Rattle.std.proofs.Common.{◌≡◌, ℕ, zero, suc, ◌+◌, ◌-◌, ◌<◌, ◌≤◌, List, [], ◌∷◌, ◌++◌, length, get_or, take, Bool, true, false, cond, not, Some, refl, sym, subst, ap, ◌∙◌, inl, inr, arith}
+use Rattle.std.proofs.Common.{◌≡◌, ℕ, zero, suc, ◌+◌, ◌-◌, ◌<◌, ◌≤◌, List, [], ◌∷◌, ◌++◌, length, get_or, take, Bool, true, false, cond,
+  not, Some, refl, sym, subst, ap, ◌∙◌, inl, inr, arith}
 use Rattle.std.specs.Prelude.{◌⊎◌, ◌&&◌, ◌==◌, ◌^◌, slice_get, slice_index}
 use Rattle.std.specs.List.{All, AllZip, Contains, filter, flat_map, list_any}
 use Rattle.std.specs.Ordering.{is_eq, is_lt, ordering_then}
@@ -210,9 +211,11 @@ families_more (x ∷ xs) m =
     again alike = filter-append others (families_of xs) (m.key.family ∷ [])
         ∙ ap (λ fs. filter others (families_of xs) ++ fs) (rw alike refl) ∙ append-nil (filter others (families_of xs))
 
-    by_test : families_of (xs ++ m ∷ []) ≡ cond (list_any (of_family m.key.family) xs) (families_of xs) (families_of xs ++ m.key.family ∷ [])
+    by_test : families_of (xs ++ m ∷ []) ≡ cond (list_any (of_family m.key.family) xs) (families_of xs)
+        (families_of xs ++ m.key.family ∷ [])
         → (same any : Bool) → is_same x.key.family m.key.family ≡ same → list_any (of_family m.key.family) xs ≡ any
-        → families_of (x ∷ xs ++ m ∷ []) ≡ cond (list_any (of_family m.key.family) (x ∷ xs)) (families_of (x ∷ xs)) (families_of (x ∷ xs) ++ m.key.family ∷ [])
+        → families_of (x ∷ xs ++ m ∷ []) ≡ cond (list_any (of_family m.key.family) (x ∷ xs)) (families_of (x ∷ xs))
+            (families_of (x ∷ xs) ++ m.key.family ∷ [])
     by_test more true true alike is_any = rw alike (ap (λ fs. x.key.family ∷ filter others fs) (more ∙ rw is_any refl))
     by_test more true false alike is_any =
         let turned = ap is_eq (tied_back id_total x.key.family m.key.family (Equal-from_is_eq _ alike)) in
@@ -337,7 +340,8 @@ module _ (ms : List Member) (m : Member) (rise : IsAscending member_cmp member_k
   past-new : is_past id_cmp itself fams m.key.family ≡ true → list_any (of_family m.key.family) ms ≡ false
   past-new past = elim (cases_Bool (list_any (of_family m.key.family) ms)) [
     | inl any ↦
-        let less : is_lt (id_cmp m.key.family m.key.family) ≡ true = All-contains (λ g. is_lt (id_cmp g m.key.family) ≡ true) fams m.key.family
+        let less : is_lt (id_cmp m.key.family m.key.family) ≡ true = All-contains
+            (λ g. is_lt (id_cmp g m.key.family) ≡ true) fams m.key.family
         (AllPass-from_list_all (λ g. is_lt (id_cmp g m.key.family)) fams past) (family_among ms m.key.family any) in
         absurd (let e : true ≡ false = sym less ∙ ap is_lt (tied_itself id_total m.key.family) in cc)
     | inr none ↦ none
@@ -374,7 +378,8 @@ module _ (ms : List Member) (m : Member) (rise : IsAscending member_cmp member_k
           let here : gs ≡ ns ++ record { family = m.key.family } ∷ [] = is ∙ rw past refl in
           let long : length gs - 1 ≡ length (families_of ms) =
           omega (arith, ap length here, length-append ns (record { family = m.key.family } ∷ []), ap length all, length-names ns) in (
-            ap names_of here ∙ map-append name_of ns (record { family = m.key.family } ∷ []) ∙ ap (λ fs. fs ++ m.key.family ∷ []) all ∙ sym more,
+            ap names_of here ∙ map-append name_of ns (record { family = m.key.family } ∷ [])
+                ∙ ap (λ fs. fs ++ m.key.family ∷ []) all ∙ sym more,
             λ i f at. rw more (more_families (families_of ms) m.key.family i f at),
             rw (more, long) (slice_get-end (families_of ms) m.key.family),
           )

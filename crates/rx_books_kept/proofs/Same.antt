@@ -9,4 +9,5 @@ both_hold {P} {Q} a b v first holds second is =
 
 pub first_fails : {P Q : Type 0} (a v : Bool) → Decides a P → a ≡ false → v ≡ a → Decides v (P × Q)
 first_fails {P} {Q} a v first fails is =
-    (λ t. absurd (let e : false ≡ true = sym fails ∙ sym is ∙ t in cc), λ pq. absurd (let e : false ≡ true = sym fails ∙ first.1 pq.0 in cc))
+    (λ t. absurd (let e : false ≡ true = sym fails ∙ sym is ∙ t in cc),
+        λ pq. absurd (let e : false ≡ true = sym fails ∙ first.1 pq.0 in cc))

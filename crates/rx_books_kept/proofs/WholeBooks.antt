@@ -1,6 +1,7 @@
 -- What is read off books as a whole: each figure is that of the family's value, and two are one where each has what the
 -- other has.
-use Rattle.std.proofs.Common.{◌≡◌, ℕ, zero, suc, ◌+◌, ◌<◌, ◌≤◌, List, [], ◌∷◌, drop, get_or, length, Bool, true, false, not, Option, Some, None}
+use Rattle.std.proofs.Common.{◌≡◌, ℕ, zero, suc, ◌+◌, ◌<◌, ◌≤◌, List, [], ◌∷◌, drop, get_or, length, Bool, true, false, not, Option, Some,
+  None}
 use Rattle.std.proofs.Common.{Bor, refl, sym, ap, subst, ◌∙◌, inl, inr, arith, add-one}
 use Rattle.std.specs.Prelude.{◌↔◌, ◌&&◌, ◌||◌, IfSome, IsTrue, if◌then◌else◌}
 use Rattle.std.specs.List.{All, Contains, filter, find, list_all, list_any}
@@ -72,7 +73,8 @@ figure_any : (f : List ℕ) (ms : List Member) (n : ℕ)
 figure_any f [] n = refl
 figure_any f (m ∷ ms) n = elim (cases_Bool (of_family f m)) [ inl t ↦ rw t refl | inr u ↦ rw u (figure_any f ms n) ]
 
-listed_in_book : (L : Ledger) (k : MemberKey) → item_at member_cmp member_key (members_of L k.family) k ≡ item_at member_cmp member_key L.members k
+listed_in_book : (L : Ledger) (k : MemberKey) → item_at member_cmp member_key (members_of L k.family) k
+    ≡ item_at member_cmp member_key L.members k
 listed_in_book L k = find_filter (has_key member_cmp member_key k) (of_family k.family) L.members (λ m h.
     let same : m.key ≡ k = member_exact m.key k (Equal-from_is_eq _ h) in
     ap (λ (j : MemberKey). is_eq (id_cmp j.family k.family)) same ∙ ap is_eq (tied_itself id_total k.family))
@@ -125,11 +127,14 @@ module _ (s : ShelfParts) (is : IsAmended s) where
             → option_and_then (λ b. deductible_at b q) o ≡ deductible_over s.period f q (ledger_of_family o)
         by_book None own = refl
         by_book (Some b) own =
-            ap (λ g. if is_listed (ledger_of_family (Some b)) (record { family = g; person = q }) then Some (deductible_in b.period b.rows q) else None) own.name
-            ∙ ap (λ t. if is_listed (ledger_of_family (Some b)) (record { family = f; person = q }) then Some (deductible_in t b.rows q) else None) own.period_same
+            ap (λ g. if is_listed (ledger_of_family (Some b)) (record { family = g; person = q })
+                then Some (deductible_in b.period b.rows q) else None) own.name
+            ∙ ap (λ t. if is_listed (ledger_of_family (Some b)) (record { family = f; person = q }) then Some (deductible_in t b.rows q)
+                else None) own.period_same
 
     pub pocket_beside : family_place s f ≡ None → out_of_pocket_of_family opened f ≡ out_of_pocket_of_family all_books f
-    pocket_beside e = pocket_by_book opened f ∙ ap (λ (v : Ledger). if_any v.members (out_of_pocket_in s.period v.rows)) (sym (beside_value e))
+    pocket_beside e = pocket_by_book opened f ∙ ap (λ (v : Ledger). if_any v.members (out_of_pocket_in s.period v.rows))
+        (sym (beside_value e))
         ∙ sym (pocket_by_book all_books f)
 
     pub pocket_placed : (p : FamilyPlace) → family_place s f ≡ Some p → out_of_pocket_held p ≡ out_of_pocket_of_family all_books f
@@ -144,7 +149,8 @@ module _ (s : ShelfParts) (is : IsAmended s) where
         by_book (Some b) own = ap (λ t. if_any b.members (out_of_pocket_in t b.rows)) own.period_same
 
     pub family_beside : family_place s f ≡ None → deductible_of_family opened f ≡ deductible_of_family all_books f
-    family_beside e = family_by_book opened f ∙ ap (λ (v : Ledger). if_any v.members (family_deductible_in s.period v.rows)) (sym (beside_value e))
+    family_beside e = family_by_book opened f ∙ ap (λ (v : Ledger). if_any v.members (family_deductible_in s.period v.rows))
+        (sym (beside_value e))
         ∙ sym (family_by_book all_books f)
 
     pub family_placed : (p : FamilyPlace) → family_place s f ≡ Some p → family_deductible_held p ≡ deductible_of_family all_books f

@@ -1,5 +1,6 @@
 -- Numbers are read as they are spelled.
-use Rattle.std.proofs.Common.{◌≡◌, ℕ, zero, suc, ◌+◌, ◌-◌, ◌*◌, ◌/◌, ◌%◌, ◌^◌, ◌<◌, ◌≤◌, Bool, true, false, not, ◌&&◌, eqb, ltb, leb, List, [], ◌∷◌, ◌++◌, length, get_or, take, Some, Ok, refl, sym, ap, subst, ◌∙◌, arith, inl, inr, length-append, length-take}
+use Rattle.std.proofs.Common.{◌≡◌, ℕ, zero, suc, ◌+◌, ◌-◌, ◌*◌, ◌/◌, ◌%◌, ◌^◌, ◌<◌, ◌≤◌, Bool, true, false, not, ◌&&◌, eqb, ltb, leb, List,
+  [], ◌∷◌, ◌++◌, length, get_or, take, Some, Ok, refl, sym, ap, subst, ◌∙◌, arith, inl, inr, length-append, length-take}
 use Rattle.std.specs.Fmt.{decimal}
 use Rattle.std.specs.Result.{result_ok}
 use Rattle.std.proofs.Math.Nat.{pow-suc}
@@ -138,7 +139,8 @@ number_takes max (b ∷ bs) n few e =
     only_zero : (b : ℕ) (bs : List ℕ) → not (eqb (length (b ∷ bs)) 1) ≡ false → b ≡ 48
         → decimal (number (b ∷ bs)) ≡ b ∷ bs
     only_zero b [] one nought = rw nought (decimal_digit 0 (omega arith))
-    only_zero b (c ∷ bs) one nought = absurd (let long : eqb (length (b ∷ c ∷ bs)) 1 ≡ false = grind (arith, nat_tests) in let h = rw long at one in cc)
+    only_zero b (c ∷ bs) one nought = absurd (let long : eqb (length (b ∷ c ∷ bs)) 1
+        ≡ false = grind (arith, nat_tests) in let h = rw long at one in cc)
 
 pub number_again : (max n : ℕ) → 0 < max → max ≤ 20 → n < 10 ^ max → number_in max (decimal n) ≡ Some n
 unfolding number_in

@@ -68,4 +68,5 @@ pub state_sent : IsSend state_row
 state_sent = search (sendable, crosses, parcel_sent) depth 100 fits 300000
 
 pub desk_sent : IsSend desk_row
-desk_sent = search (sendable, crosses, books_sent, shelf_sent, queues_sent, footprint_sent, transmission_sent, reply_sent, state_sent) depth 100 fits 300000
+desk_sent = search (sendable, crosses, books_sent, shelf_sent, queues_sent, footprint_sent, transmission_sent, reply_sent, state_sent) depth
+    100 fits 300000

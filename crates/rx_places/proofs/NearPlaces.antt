@@ -26,7 +26,8 @@ module _ {X K : Type 0} (cmp : K → K → Ordering) (order : IsTotalOrder cmp) 
     less = λ j e lt.
         let at : cmp (key (get_or xs i e)) k ≡ Less = subst (λ x. cmp (key x) k ≡ Less) (get_or_default xs i d e within) here in
         elim (cases_lt j i) [
-          | inl below ↦ order.trans (key (get_or xs j e)) (key (get_or xs i e)) k (IsAscending-at cmp order key xs j i e rise below within) at
+          | inl below ↦ order.trans (key (get_or xs j e)) (key (get_or xs i e)) k
+              (IsAscending-at cmp order key xs j i e rise below within) at
           | inr above ↦ let same : j ≡ i = omega (arith, above, lt) in
               subst (λ n. cmp (key (get_or xs n e)) k ≡ Less) (sym same) at
         ];

@@ -16,7 +16,8 @@ pub made_of-requires-clause-keys : goal.made_of-requires-clause-keys
 made_of-requires-clause-keys c = rw c.put_in_order.ensures (IsAscending-in_order key_cmp key_total key_exact c.name_books.new.keys.items)
 
 pub made_of-requires-clause-families : goal.made_of-requires-clause-families
-made_of-requires-clause-families c = rw c.put_in_order-2.ensures (IsAscending-in_order id_cmp id_total id_exact c.name_books.new.families.items)
+made_of-requires-clause-families c = rw c.put_in_order-2.ensures
+    (IsAscending-in_order id_cmp id_total id_exact c.name_books.new.families.items)
 
 pub returns : goal.returns
 returns c = λ earlier has.

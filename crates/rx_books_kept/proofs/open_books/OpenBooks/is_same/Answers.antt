@@ -19,7 +19,8 @@ returns-then-eq-2 c =
     let heads : Decides c.if-eq.value (SameHeads a b) = elim c.if-eq.branch [
       | then-eq w ↦ both_hold c.eq.result w.eq-then-eq.result c.if-eq.value period w.if-eq.true
           (rw (w.members.ensures.value, w.members-then-eq.ensures.value) at
-          (Decides-at _ _ w.eq-then-eq.ensures (pointwise_decides member_decides w.members.result.now w.members-then-eq.result.now))) w.value-is
+          (Decides-at _ _ w.eq-then-eq.ensures (pointwise_decides member_decides w.members.result.now
+              w.members-then-eq.result.now))) w.value-is
       | else-eq w ↦ first_fails c.eq.result c.if-eq.value period w.if-eq.false w.value-is
     ] in
     let rows : Decides c.has_rows_of.result (a.ledger.rows ≡ b.ledger.rows) =
@@ -36,7 +37,8 @@ returns-else-eq-2 c =
     let heads : Decides c.if-eq.value (SameHeads a b) = elim c.if-eq.branch [
       | then-eq w ↦ both_hold c.eq.result w.eq-then-eq.result c.if-eq.value period w.if-eq.true
           (rw (w.members.ensures.value, w.members-then-eq.ensures.value) at
-          (Decides-at _ _ w.eq-then-eq.ensures (pointwise_decides member_decides w.members.result.now w.members-then-eq.result.now))) w.value-is
+          (Decides-at _ _ w.eq-then-eq.ensures (pointwise_decides member_decides w.members.result.now
+              w.members-then-eq.result.now))) w.value-is
       | else-eq w ↦ first_fails c.eq.result c.if-eq.value period w.if-eq.false w.value-is
     ] in
     rw (← c.self.view_is, ← c.other.view_is) (heads_tell a b c.if-eq.value heads c.if-eq-2.false)
