@@ -1,6 +1,6 @@
 -- Figures added up, row by row.
-use Rattle.std.proofs.Common.{◌≡◌, ℕ, ◌+◌, ◌^◌, ◌<◌, ◌≤◌, List, [], ◌∷◌, ◌++◌, length, get_or, map, replicate, set, Bool, true, false, Some,
-  refl, sym, subst, ap, ◌∙◌, append_assoc, arith}
+use Rattle.std.proofs.Common.{◌≡◌, ℕ, ◌+◌, ◌^◌, ◌<◌, ◌≤◌, List, [], ◌∷◌, ◌++◌, length, get_or, map, replicate}
+use Rattle.std.proofs.Common.{set, Bool, true, false, Some, refl, sym, subst, ap, ◌∙◌, append_assoc, arith}
 use Rattle.std.specs.Prelude.{slice_get}
 use Rattle.std.specs.List.{All, list_all}
 use Rattle.std.specs.Ordering.{is_lt}
@@ -179,11 +179,11 @@ module _ (period : Span) (ms : List Member) (all rest done : List Row) (r : Row)
         let one = counted_deductible-small period r small in
         let two = counted-small period r small in
         let low : get_or ds member 0 ≤ 2 ^ 100 = rw so_far.figures.of_members
-            (deductibles-room period (claimed ms done) so_far.small done_few member no_member lt) in
+        (deductibles-room period (claimed ms done) so_far.small done_few member no_member lt) in
         let paid : get_or os family 0 ≤ 2 ^ 100 = rw so_far.figures.of_pockets
-            (pockets-room period (claimed ms done) so_far.small done_few family at) in
+        (pockets-room period (claimed ms done) so_far.small done_few family at) in
         let theirs : get_or fs family 0 ≤ 2 ^ 100 = rw so_far.figures.of_families
-            (family_deductibles-room period (claimed ms done) so_far.small done_few family at) in
+        (family_deductibles-room period (claimed ms done) so_far.small done_few family at) in
         record {
           in_members = omega (arith, lt, long_deductibles);
           in_pockets = omega (arith, at, long_pockets);

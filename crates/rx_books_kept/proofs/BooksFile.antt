@@ -1,6 +1,6 @@
 -- A text is read as the books of which it is the one text, and refused where it is that of no books.
-use Rattle.std.proofs.Common.{◌≡◌, ℕ, List, [], ◌∷◌, ◌++◌, map, true, false, not, Option, Some, None, Result, Ok, Err, refl, sym, subst, ap,
-  ◌∙◌, inl, inr}
+use Rattle.std.proofs.Common.{◌≡◌, ℕ, List, [], ◌∷◌, ◌++◌, map, true, false, not, Option, Some}
+use Rattle.std.proofs.Common.{None, Result, Ok, Err, refl, sym, subst, ap, ◌∙◌, inl, inr}
 use Rattle.std.specs.Prelude.{IfErr, IfOk}
 use Rattle.std.specs.List.{All, Contains}
 use Rattle.std.specs.Option.{is_some}
@@ -30,12 +30,13 @@ use Rattle.rx_books_text.proofs.TextSteps.{unless_so}
 use Rattle.rx_books_kept.specs.BooksFile.{HasBooksFault, IsBooksText}
 use Rattle.rx_books_kept.specs.BooksFile.HasBooksFault.{of_figures, of_lines}
 use Rattle.rx_books_kept.specs.BooksText.{books_text, families_of, parts_of, total_of}
-use Rattle.rx_books_kept.specs.Figures.{are_sums, books_of, books_of_parts, first_wrong, has_all_totals, has_total, unless_wrong, unsummed,
-  wrong_from, wrong_line}
+use Rattle.rx_books_kept.specs.Figures.{are_sums, books_of, books_of_parts, first_wrong, has_all_totals}
+use Rattle.rx_books_kept.specs.Figures.{has_total, unless_wrong, unsummed, wrong_from, wrong_line}
 use Rattle.rx_books_kept.specs.LedgerBooks.{LedgerBooks}
 use Rattle.rx_books_kept.proofs.FamilyOrder.{families_rise, family_among, itself}
-use Rattle.rx_books_kept.proofs.Figured.{IsRight, all_back, all_behind, all_front, all_inhabited, all_listed, all_right, claims_right,
-  contains_map, deductibles_are, figure, members_right, nothing_wrong, passes, passing, totals_are, totals_right}
+use Rattle.rx_books_kept.proofs.Figured.{IsRight, all_back, all_behind, all_front, all_inhabited, all_listed, all_right}
+use Rattle.rx_books_kept.proofs.Figured.{claims_right, contains_map, deductibles_are, figure, members_right, nothing_wrong}
+use Rattle.rx_books_kept.proofs.Figured.{passes, passing, totals_are, totals_right}
 use Rattle.rx_books_kept.proofs.VersionThree.{three}
 use Rattle.rx_books_kept.proofs.WrongLine.{wrong_line_is}
 

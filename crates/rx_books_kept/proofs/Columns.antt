@@ -1,6 +1,6 @@
 -- The figures of members and families as columns, one sum for each: what one row more, and one row less, does to them.
-use Rattle.std.proofs.Common.{◌≡◌, ◌≢◌, ℕ, ◌+◌, ◌-◌, ◌^◌, ◌<◌, ◌≤◌, List, [], ◌∷◌, length, get_or, map, set, Bool, true, false, cond, Some,
-  refl, sym, ap, ◌∙◌, inl, inr, arith}
+use Rattle.std.proofs.Common.{◌≡◌, ◌≢◌, ℕ, ◌+◌, ◌-◌, ◌^◌, ◌<◌, ◌≤◌, List, [], ◌∷◌, length, get_or, map, set}
+use Rattle.std.proofs.Common.{Bool, true, false, cond, Some, refl, sym, ap, ◌∙◌, inl, inr, arith}
 use Rattle.std.specs.Prelude.{◌&&◌}
 use Rattle.std.specs.Cmp.{eq_by_cmp_equiv}
 use Rattle.std.specs.List.{All, filter, sum_by}
@@ -22,8 +22,8 @@ use Rattle.rx_ledger.specs.declared.row.Row.{Row}
 use Rattle.rx_ledger.specs.Ledger.{Ledger, IsLedger, is_taken, row_under, with_row, without_row}
 use Rattle.rx_ledger.specs.Members.{is_same, member_cmp, member_key}
 use Rattle.rx_ledger.specs.Rows.{claimed_by, member_of_row, row_key}
-use Rattle.rx_ledger.specs.Sums.{counted, deductible, deductible_paid, family_deductible, out_of_pocket, paid_by_patient,
-  persons_deductible_paid}
+use Rattle.rx_ledger.specs.Sums.{counted, deductible, deductible_paid, family_deductible, out_of_pocket}
+use Rattle.rx_ledger.specs.Sums.{paid_by_patient, persons_deductible_paid}
 use Rattle.rx_ledger.proofs.Orders.{id_total, key_total, member_total}
 use Rattle.rx_books_kept.specs.BooksText.{deductibles_of, families_of}
 use Rattle.rx_parcels.proofs.Changed.{set-map}

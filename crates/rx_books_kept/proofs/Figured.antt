@@ -1,6 +1,6 @@
 -- A printed file of which no figure is wrong is that of its ledger with its sums, and such a file has no wrong figure.
-use Rattle.std.proofs.Common.{◌≡◌, ℕ, zero, suc, ◌+◌, List, [], ◌∷◌, ◌++◌, length, map, Bool, true, false, not, cond, eqb, eq-eqb, Option,
-  Some, None, refl, sym, ap, inl, inr, arith}
+use Rattle.std.proofs.Common.{◌≡◌, ℕ, zero, suc, ◌+◌, List, [], ◌∷◌, ◌++◌, length, map, Bool, true, false, not}
+use Rattle.std.proofs.Common.{cond, eqb, eq-eqb, Option, Some, None, refl, sym, ap, inl, inr, arith}
 use Rattle.std.specs.List.{All, Contains, list_all, position_from}
 use Rattle.std.specs.Option.{is_some}
 use Rattle.std.proofs.lemmas.Bool.{and_parts, cases_Bool, eqb-true}

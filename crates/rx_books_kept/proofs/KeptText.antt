@@ -51,7 +51,7 @@ books_text-kept p L ns ds os fs all are =
     let total_list : List Line = map (λ t. line.Total t) (map (total_of Three p L) (families_of L.members)) in
     let claim_list : List Line = map (λ r. line.Claim r) L.rows in
     ap (λ t. head ++ t) (ap (λ xs. lines_text (member_lines L.members xs) ++ (claims_text L.rows ++ lines_text (total_lines ns os fs)))
-        are.of_members
+    are.of_members
     ∙ ap (λ t. lines_text (member_lines L.members (deductibles_of p L)) ++ t)
     (ap (λ t. t ++ lines_text (total_lines ns os fs)) (sym (claims-map L.rows))
     ∙ ap (λ ls. lines_text claim_list ++ lines_text ls) totals

@@ -1,6 +1,6 @@
 -- A file that was read has one figure for each member, and no more lines than line feeds.
-use Rattle.std.proofs.Common.{◌≡◌, ℕ, suc, ◌+◌, ◌≤◌, ltb, List, [], ◌∷◌, ◌++◌, length, eqb, true, Option, Some, None, Result, Ok, Err, refl,
-  subst, ap, ◌∙◌, inl, inr, arith, length-append}
+use Rattle.std.proofs.Common.{◌≡◌, ℕ, suc, ◌+◌, ◌≤◌, ltb, List, [], ◌∷◌, ◌++◌, length, eqb, true, Option, Some}
+use Rattle.std.proofs.Common.{None, Result, Ok, Err, refl, subst, ap, ◌∙◌, inl, inr, arith, length-append}
 use Rattle.std.specs.Prelude.{◌&&◌}
 use Rattle.std.proofs.lemmas.Bool.{and_parts, cases_Bool, ltb-false}
 use Rattle.std.proofs.lemmas.List.Splits.{length-slice_split}

@@ -1,6 +1,6 @@
 -- A fault of a text is the one that is read: so a text has one reading, its books or its first fault.
-use Rattle.std.proofs.Common.{◌≡◌, ℕ, ◌+◌, List, [], ◌∷◌, ◌++◌, length, map, Bool, true, false, not, Option, Some, None, Result, Ok, Err,
-  refl, sym, subst, ap, ◌∙◌, inl, inr, arith}
+use Rattle.std.proofs.Common.{◌≡◌, ℕ, ◌+◌, List, [], ◌∷◌, ◌++◌, length, map, Bool, true, false, not, Option}
+use Rattle.std.proofs.Common.{Some, None, Result, Ok, Err, refl, sym, subst, ap, ◌∙◌, inl, inr, arith}
 use Rattle.std.specs.List.{All, Contains, position_from}
 use Rattle.std.proofs.lemmas.Bool.{cases_Bool}
 use Rattle.std.proofs.lemmas.Iterator.Adapters.{position_from-zero}
@@ -19,8 +19,8 @@ use Rattle.rx_books_kept.specs.BooksFile.{HasBooksFault, HasSums, IsWrongLine}
 use Rattle.rx_books_kept.specs.BooksFile.HasBooksFault.{of_figures, of_lines}
 use Rattle.rx_books_kept.specs.BooksFile.IsWrongLine.{no_total, wrong_figure}
 use Rattle.rx_books_kept.specs.BooksText.{families_of}
-use Rattle.rx_books_kept.specs.Figures.{are_sums, books_of, books_of_parts, first_wrong, has_all_totals, has_total, unless_wrong, unsummed,
-  wrong_from, wrong_line}
+use Rattle.rx_books_kept.specs.Figures.{are_sums, books_of, books_of_parts, first_wrong, has_all_totals}
+use Rattle.rx_books_kept.specs.Figures.{has_total, unless_wrong, unsummed, wrong_from, wrong_line}
 use Rattle.rx_books_kept.specs.LedgerBooks.{LedgerBooks}
 use Rattle.rx_books_kept.proofs.BooksFile.{total_there}
 use Rattle.rx_books_kept.proofs.FamilyOrder.{family_among}

@@ -1,6 +1,6 @@
 -- The lists that books are made from: the families in order, and the places of families and members.
-use Rattle.std.proofs.Common.{◌≡◌, ℕ, zero, suc, ◌+◌, ◌-◌, ◌<◌, ◌≤◌, List, [], ◌∷◌, ◌++◌, length, get_or, take, Bool, true, false, cond,
-  not, Some, refl, sym, subst, ap, ◌∙◌, inl, inr, arith}
+use Rattle.std.proofs.Common.{◌≡◌, ℕ, zero, suc, ◌+◌, ◌-◌, ◌<◌, ◌≤◌, List, [], ◌∷◌, ◌++◌, length, get_or, take}
+use Rattle.std.proofs.Common.{Bool, true, false, cond, not, Some, refl, sym, subst, ap, ◌∙◌, inl, inr, arith}
 use Rattle.std.specs.Prelude.{◌⊎◌, ◌&&◌, ◌==◌, ◌^◌, slice_get, slice_index}
 use Rattle.std.specs.List.{All, AllZip, Contains, filter, flat_map, list_any}
 use Rattle.std.specs.Ordering.{is_eq, is_lt, ordering_then}
@@ -215,7 +215,7 @@ families_more (x ∷ xs) m =
         (families_of xs ++ m.key.family ∷ [])
         → (same any : Bool) → is_same x.key.family m.key.family ≡ same → list_any (of_family m.key.family) xs ≡ any
         → families_of (x ∷ xs ++ m ∷ []) ≡ cond (list_any (of_family m.key.family) (x ∷ xs)) (families_of (x ∷ xs))
-            (families_of (x ∷ xs) ++ m.key.family ∷ [])
+        (families_of (x ∷ xs) ++ m.key.family ∷ [])
     by_test more true true alike is_any = rw alike (ap (λ fs. x.key.family ∷ filter others fs) (more ∙ rw is_any refl))
     by_test more true false alike is_any =
         let turned = ap is_eq (tied_back id_total x.key.family m.key.family (Equal-from_is_eq _ alike)) in
@@ -341,7 +341,7 @@ module _ (ms : List Member) (m : Member) (rise : IsAscending member_cmp member_k
   past-new past = elim (cases_Bool (list_any (of_family m.key.family) ms)) [
     | inl any ↦
         let less : is_lt (id_cmp m.key.family m.key.family) ≡ true = All-contains
-            (λ g. is_lt (id_cmp g m.key.family) ≡ true) fams m.key.family
+        (λ g. is_lt (id_cmp g m.key.family) ≡ true) fams m.key.family
         (AllPass-from_list_all (λ g. is_lt (id_cmp g m.key.family)) fams past) (family_among ms m.key.family any) in
         absurd (let e : true ≡ false = sym less ∙ ap is_lt (tied_itself id_total m.key.family) in cc)
     | inr none ↦ none

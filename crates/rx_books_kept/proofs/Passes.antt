@@ -1,6 +1,6 @@
 -- A pass over opening rows and slots, side by side: what comes next.
-use Rattle.std.proofs.Common.{◌≡◌, ℕ, suc, ◌+◌, ◌<◌, List, [], ◌∷◌, length, get_or, drop, Bool, true, false, not, Option, Some, None,
-  add-one, refl, sym, subst, ap, ◌∙◌, inl, inr, arith}
+use Rattle.std.proofs.Common.{◌≡◌, ℕ, suc, ◌+◌, ◌<◌, List, [], ◌∷◌, length, get_or, drop, Bool, true, false, not}
+use Rattle.std.proofs.Common.{Option, Some, None, add-one, refl, sym, subst, ap, ◌∙◌, inl, inr, arith}
 use Rattle.std.specs.List.{All}
 use Rattle.std.specs.Ordering.{is_lt}
 use Rattle.std.specs.declared.cmp.Ordering.TheVariants.{Less}
@@ -125,7 +125,7 @@ module _ (rows : List Row) (slots : List KeySlot) (rows_rise : IsAscending key_c
       let next_here = subst (λ ss. is_slot_next (drop i rows) ss ≡ true) here next in
       ap (λ ss. standing_rows (drop i rows) ss) here
       ∙ slot_next (drop i rows) s (drop (j + 1) slots) (IsAscending-drop key_cmp key_total row_key i rows rows_rise) rest_rise
-          rest_own next_here
+      rest_own next_here
 
   pub step_row : (r : Row) → i < length rows → r ≡ get_or rows i r → is_slot_next (drop i rows) (drop j slots) ≡ false
       → standing_rows (drop i rows) (drop j slots) ≡ r ∷ standing_rows (drop (i + 1) rows) (drop j slots)

@@ -1,6 +1,6 @@
 -- A row that is written into its slot, and one that is taken out of it: what stands then, and what the figures are.
-use Rattle.std.proofs.Common.{◌≡◌, ℕ, ◌+◌, ◌-◌, ◌^◌, ◌<◌, ◌≤◌, List, length, get_or, set, true, false, Option, Some, None, refl, inl, inr,
-  sym, subst, ap, ◌∙◌, arith}
+use Rattle.std.proofs.Common.{◌≡◌, ℕ, ◌+◌, ◌-◌, ◌^◌, ◌<◌, ◌≤◌, List, length, get_or, set, true, false}
+use Rattle.std.proofs.Common.{Option, Some, None, refl, inl, inr, sym, subst, ap, ◌∙◌, arith}
 use Rattle.std.specs.Prelude.{IfSome, slice_get}
 use Rattle.std.specs.Cmp.{IsTotalOrder}
 use Rattle.std.specs.List.{All, Contains}
@@ -34,8 +34,8 @@ use Rattle.rx_books_kept.specs.declared.slot.KeySlot.{KeySlot}
 use Rattle.rx_books_kept.specs.BooksText.{families_of}
 use Rattle.rx_books_kept.specs.OpenBooks.{OpenParts}
 use Rattle.rx_books_kept.specs.Store.{IsSlot, IsStore, held, slot_key, slot_keys, standing, standing_rows}
-use Rattle.rx_books_kept.proofs.Columns.{deductibles-added, deductibles-enough, deductibles-removed, deductibles-room, families-added,
-  families-enough, families-removed, family_deductibles-room, pockets-room}
+use Rattle.rx_books_kept.proofs.Columns.{deductibles-added, deductibles-enough, deductibles-removed, deductibles-room, families-added}
+use Rattle.rx_books_kept.proofs.Columns.{families-enough, families-removed, family_deductibles-room, pockets-room}
 use Rattle.rx_books_kept.proofs.FamilyOrder.{itself}
 use Rattle.rx_parcels.proofs.Owned.{no_member}
 

@@ -1,7 +1,7 @@
 -- What is read off books as a whole: each figure is that of the family's value, and two are one where each has what the
 -- other has.
-use Rattle.std.proofs.Common.{◌≡◌, ℕ, zero, suc, ◌+◌, ◌<◌, ◌≤◌, List, [], ◌∷◌, drop, get_or, length, Bool, true, false, not, Option, Some,
-  None}
+use Rattle.std.proofs.Common.{◌≡◌, ℕ, zero, suc, ◌+◌, ◌<◌, ◌≤◌, List, [], ◌∷◌, drop, get_or}
+use Rattle.std.proofs.Common.{length, Bool, true, false, not, Option, Some, None}
 use Rattle.std.proofs.Common.{Bor, refl, sym, ap, subst, ◌∙◌, inl, inr, arith, add-one}
 use Rattle.std.specs.Prelude.{◌↔◌, ◌&&◌, ◌||◌, IfSome, IsTrue, if◌then◌else◌}
 use Rattle.std.specs.List.{All, Contains, filter, find, list_all, list_any}
@@ -128,9 +128,9 @@ module _ (s : ShelfParts) (is : IsAmended s) where
         by_book None own = refl
         by_book (Some b) own =
             ap (λ g. if is_listed (ledger_of_family (Some b)) (record { family = g; person = q })
-                then Some (deductible_in b.period b.rows q) else None) own.name
+            then Some (deductible_in b.period b.rows q) else None) own.name
             ∙ ap (λ t. if is_listed (ledger_of_family (Some b)) (record { family = f; person = q }) then Some (deductible_in t b.rows q)
-                else None) own.period_same
+            else None) own.period_same
 
     pub pocket_beside : family_place s f ≡ None → out_of_pocket_of_family opened f ≡ out_of_pocket_of_family all_books f
     pocket_beside e = pocket_by_book opened f ∙ ap (λ (v : Ledger). if_any v.members (out_of_pocket_in s.period v.rows))

@@ -1,6 +1,6 @@
 -- The line that the search finds wrong is the first of which a figure isn't the sum, or that of a missing total line.
-use Rattle.std.proofs.Common.{◌≡◌, ℕ, ◌+◌, List, [], ◌∷◌, ◌++◌, length, map, Bool, true, false, not, cond, Option, Some, None, refl, sym,
-  subst, ap, ◌∙◌, inl, inr, arith}
+use Rattle.std.proofs.Common.{◌≡◌, ℕ, ◌+◌, List, [], ◌∷◌, ◌++◌, length, map, Bool, true, false, not, cond}
+use Rattle.std.proofs.Common.{Option, Some, None, refl, sym, subst, ap, ◌∙◌, inl, inr, arith}
 use Rattle.std.specs.List.{All, list_all, position_from}
 use Rattle.std.specs.Ordering.{is_eq}
 use Rattle.std.proofs.lemmas.Bool.{and_parts, cases_Bool}
@@ -24,11 +24,11 @@ use Rattle.rx_books_text.specs.Printed.{IsPrinted, PrintedParts, has_member, lin
 use Rattle.rx_books_kept.specs.BooksFile.{HasSums, IsIfPrinted, IsWrongLine}
 use Rattle.rx_books_kept.specs.BooksFile.IsWrongLine.{wrong_figure, no_total}
 use Rattle.rx_books_kept.specs.BooksText.{families_of}
-use Rattle.rx_books_kept.specs.Figures.{are_sums, first_wrong, has_all_totals, has_total, is_figure, is_if_printed, unsummed, wrong_from,
-  wrong_line}
+use Rattle.rx_books_kept.specs.Figures.{are_sums, first_wrong, has_all_totals, has_total, is_figure}
+use Rattle.rx_books_kept.specs.Figures.{is_if_printed, unsummed, wrong_from, wrong_line}
 use Rattle.rx_books_kept.specs.LedgerBooks.{has_members}
-use Rattle.rx_books_kept.proofs.Figured.{AllPassing, IsRight, all_back, all_inhabited, all_listed, all_right, figure_is, passing,
-  same_number}
+use Rattle.rx_books_kept.proofs.Figured.{AllPassing, IsRight, all_back, all_inhabited, all_listed}
+use Rattle.rx_books_kept.proofs.Figured.{all_right, figure_is, passing, same_number}
 
 -- the first that fails
 record FirstOf {X : Type 0} (p : X → Bool) (k n : ℕ) (xs : List X) : Type 0 where

@@ -1,6 +1,6 @@
 -- Meaning: a books file whose figures are the sums of its claims (docs/FORMATS.md, "Books file", Totals).
-use Rattle.std.specs.Prelude.{ℕ, ◌+◌, ◌==◌, Bool, true, false, not, ◌&&◌, if◌then◌else◌, List, length, Option, Some, None, Result, Ok, Err,
-  position}
+use Rattle.std.specs.Prelude.{ℕ, ◌+◌, ◌==◌, Bool, true, false, not, ◌&&◌, if◌then◌else◌, List}
+use Rattle.std.specs.Prelude.{length, Option, Some, None, Result, Ok, Err, position}
 use Rattle.std.specs.List.{list_all}
 use Rattle.rx_fields.specs.Order.{id_cmp}
 use Rattle.rx_order.specs.Ascending.{contains_key}

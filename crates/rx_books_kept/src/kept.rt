@@ -211,7 +211,8 @@ impl OpenBooks {
         parts: usize,
         spent: Vec<u8>,
     ) -> Result<Vec<Vec<u8>>, Memory>
-        ensures { IfOk result (λ pieces. flat_map vec_items pieces.items ≡ books_text Version.Three self.now.books.period self.now.books.ledger) }
+        ensures { IfOk result (λ pieces. flat_map vec_items pieces.items
+            ≡ books_text Version.Three self.now.books.period self.now.books.ledger) }
     {
         if parts < 2 {
             return in_one_piece(alloc, self.write_over(spent)?);

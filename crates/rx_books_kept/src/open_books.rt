@@ -46,7 +46,10 @@ impl Model for OpenBooks {
 
     ghost use Rattle.rx_books_kept.specs.Store.{IsStore, slot_keys, standing};
 
-    ghost view = { λ b. record { books = record { period = b.period; ledger = standing b.opening b.changed }; slots = slot_keys b.changed } };
+    ghost view = { λ b. record {
+      books = record { period = b.period; ledger = standing b.opening b.changed };
+      slots = slot_keys b.changed;
+    } };
 
     ghost invariant = { λ b. IsStore b.period b.opening b.changed b.deductibles.items b.out_of_pockets.items b.family_deductibles.items };
 }
@@ -137,7 +140,8 @@ impl OpenBooks {
 
     /// The place of a listed member.
     pub fn member_of(&self, family: &Id, person: &Person) -> Option<usize>
-        ensures found { IfSome result (IsAt member_cmp member_key self.now.books.ledger.members (record { family = family.now; person = person.now })) }
+        ensures found { IfSome result (IsAt member_cmp member_key self.now.books.ledger.members
+            (record { family = family.now; person = person.now })) }
         ensures listed { is_some result ≡ is_listed self.now.books.ledger (record { family = family.now; person = person.now }) }
     {
         self.opening.member_of(&MemberKey {
@@ -173,7 +177,8 @@ impl OpenBooks {
     /// The place of the family of the member at a place.
     pub fn home_of(&self, place: usize) -> usize
         requires { place < length self.now.books.ledger.members }
-        ensures { IfSome (slice_get self.now.books.ledger.members place) (λ m. slice_get (families_of self.now.books.ledger.members) result ≡ Some m.key.family) }
+        ensures { IfSome (slice_get self.now.books.ledger.members place)
+            (λ m. slice_get (families_of self.now.books.ledger.members) result ≡ Some m.key.family) }
     {
         self.opening.home(place)
     }
@@ -181,7 +186,8 @@ impl OpenBooks {
     /// The deductible so far of the member at a place, in cents.
     pub fn deductible_at(&self, member: usize) -> u128
         requires { member < length self.now.books.ledger.members }
-        ensures { IfSome (slice_get self.now.books.ledger.members member) (λ m. result ≡ deductible self.now.books.period self.now.books.ledger m.key.family m.key.person) }
+        ensures { IfSome (slice_get self.now.books.ledger.members member)
+            (λ m. result ≡ deductible self.now.books.period self.now.books.ledger m.key.family m.key.person) }
     {
         self.deductibles[member]
     }
@@ -189,7 +195,8 @@ impl OpenBooks {
     /// The out of pocket so far of the family at a place, in cents.
     pub fn out_of_pocket_at(&self, family: usize) -> u128
         requires { family < length (families_of self.now.books.ledger.members) }
-        ensures { IfSome (slice_get (families_of self.now.books.ledger.members) family) (λ f. result ≡ out_of_pocket self.now.books.period self.now.books.ledger f) }
+        ensures { IfSome (slice_get (families_of self.now.books.ledger.members) family)
+            (λ f. result ≡ out_of_pocket self.now.books.period self.now.books.ledger f) }
     {
         self.out_of_pockets[family]
     }
@@ -197,7 +204,8 @@ impl OpenBooks {
     /// The deductible so far of the family at a place, in cents.
     pub fn family_deductible_at(&self, family: usize) -> u128
         requires { family < length (families_of self.now.books.ledger.members) }
-        ensures { IfSome (slice_get (families_of self.now.books.ledger.members) family) (λ f. result ≡ family_deductible self.now.books.period self.now.books.ledger f) }
+        ensures { IfSome (slice_get (families_of self.now.books.ledger.members) family)
+            (λ f. result ≡ family_deductible self.now.books.period self.now.books.ledger f) }
     {
         self.family_deductibles[family]
     }

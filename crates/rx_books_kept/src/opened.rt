@@ -111,7 +111,8 @@ fn next_slot(under: &[KeySlot], over: &[KeySlot], low: usize, high: usize) -> Op
     requires low { low ≤ length under.now }
     requires high { high ≤ length over.now }
     ensures none { IfNone result (put_all key_cmp slot_key (drop low under.now) (drop high over.now) ≡ []) }
-    ensures next { IfSome result (λ n. put_all key_cmp slot_key (drop low under.now) (drop high over.now) ≡ n.slot ∷ put_all key_cmp slot_key (drop n.low under.now) (drop n.high over.now)) }
+    ensures next { IfSome result (λ n. put_all key_cmp slot_key (drop low under.now) (drop high over.now)
+        ≡ n.slot ∷ put_all key_cmp slot_key (drop n.low under.now) (drop n.high over.now)) }
     ensures low { IfSome result (λ n. n.low ≤ length under.now) }
     ensures high { IfSome result (λ n. n.high ≤ length over.now) }
     ensures more { IfSome result (λ n. low + high < n.low + n.high) }

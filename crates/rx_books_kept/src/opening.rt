@@ -1,4 +1,5 @@
-ghost use Rattle.std.specs.Prelude.{◌≡◌, ◌<◌, ◌-◌, ◌^◌, ◌++◌, ◌∷◌, [], OnOk, if◌then◌else◌, IfOk, IfSome, Some, true, is_some, length, slice_get};
+ghost use Rattle.std.specs.Prelude.{◌≡◌, ◌<◌, ◌-◌, ◌^◌, ◌++◌, ◌∷◌, [], OnOk, if◌then◌else◌};
+ghost use Rattle.std.specs.Prelude.{IfOk, IfSome, Some, true, is_some, length, slice_get};
 ghost use Rattle.rx_fields.specs.Order.{id_cmp};
 ghost use Rattle.rx_order.specs.Ascending.{IsAscending, IsAt, is_past};
 ghost use Rattle.rx_ledger.specs.Ledger.{IsLedger, is_listed, is_whole};
@@ -261,7 +262,8 @@ fn homes_of(alloc: Global, members: &[Member]) -> Result<(Ascending<FamilyName>,
 
 // The place of a family that comes after these, or is the last of them. It is the last of them from now on.
 fn last_place(families: &mut Ascending<FamilyName>, family: Id) -> Result<usize, Memory>
-    ensures names { OnOk result (families.new ≡ (if is_past id_cmp name_of families.old family then families.old ++ (record { family = family }) ∷ [] else families.old)) }
+    ensures names { OnOk result (families.new ≡ (if is_past id_cmp name_of families.old family then families.old
+        ++ (record { family = family }) ∷ [] else families.old)) }
     ensures place { IfOk result (λ at. at ≡ length families.new - 1) }
 {
     if families.is_past(&family) {

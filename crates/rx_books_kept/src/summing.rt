@@ -48,9 +48,12 @@ impl Figures {
         requires member_room { slice_index self.old.deductibles.items member + counted.deductible < 2 ^ 128 }
         requires pocket_room { slice_index self.old.out_of_pockets.items family + counted.out_of_pocket < 2 ^ 128 }
         requires family_room { slice_index self.old.family_deductibles.items family + counted.deductible < 2 ^ 128 }
-        ensures members { self.new.deductibles.items ≡ set self.old.deductibles.items member (slice_index self.old.deductibles.items member + counted.deductible) }
-        ensures pockets { self.new.out_of_pockets.items ≡ set self.old.out_of_pockets.items family (slice_index self.old.out_of_pockets.items family + counted.out_of_pocket) }
-        ensures families { self.new.family_deductibles.items ≡ set self.old.family_deductibles.items family (slice_index self.old.family_deductibles.items family + counted.deductible) }
+        ensures members { self.new.deductibles.items ≡ set self.old.deductibles.items member
+            (slice_index self.old.deductibles.items member + counted.deductible) }
+        ensures pockets { self.new.out_of_pockets.items ≡ set self.old.out_of_pockets.items family
+            (slice_index self.old.out_of_pockets.items family + counted.out_of_pocket) }
+        ensures families { self.new.family_deductibles.items ≡ set self.old.family_deductibles.items family
+            (slice_index self.old.family_deductibles.items family + counted.deductible) }
     {
         add_at(&mut self.deductibles, member, counted.deductible);
         add_at(&mut self.out_of_pockets, family, counted.out_of_pocket);
@@ -67,7 +70,8 @@ pub(crate) fn summed(
 ) -> Result<Figures, Memory>
     requires in_order { IsLedger (standing opening.now slots.now) }
     requires own { All (IsSlot opening.now.members) slots.now }
-    ensures figures { IfOk result (λ f. AreFigures period (standing opening.now slots.now) f.deductibles.items f.out_of_pockets.items f.family_deductibles.items) }
+    ensures figures { IfOk result (λ f. AreFigures period (standing opening.now slots.now) f.deductibles.items f.out_of_pockets.items
+        f.family_deductibles.items) }
     ensures small { IfOk result (λ f. All (λ r. paid_by_patient r ≤ 99_999_999) (standing_rows opening.now.rows slots.now)) }
     ensures opened { IsLedger opening.now }
     ensures rise { IsAscending key_cmp slot_key slots.now }

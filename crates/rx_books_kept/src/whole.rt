@@ -3,7 +3,8 @@ ghost use Rattle.std.specs.Option.{option_copied};
 ghost use Rattle.rx_ledger.specs.Ledger.{IsLedger, row_under};
 ghost use Rattle.rx_places.specs.Amended.{IsAmended, is_among};
 ghost use Rattle.rx_books_kept.specs.LedgerBooks.{deductible_of_family, deductible_of_member, out_of_pocket_of_family};
-ghost use Rattle.rx_books_kept.specs.WholeBooks.{amended_books, beside, deductible_held, family_deductible_held, has_row, out_of_pocket_held};
+ghost use Rattle.rx_books_kept.specs.WholeBooks.{amended_books, beside, deductible_held, family_deductible_held};
+ghost use Rattle.rx_books_kept.specs.WholeBooks.{has_row, out_of_pocket_held};
 
 use crate::collecting::{amended_members, amended_rows};
 use crate::open_books::OpenBooks;

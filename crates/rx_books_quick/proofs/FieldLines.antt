@@ -58,7 +58,7 @@ pub claim_begin : (key : Key) (member : MemberKey) (product quantity days : ℕ)
     → b2 ≡ followed (member.family ∷ member.person ∷ []) b3 → IsMemberKey member
     → b3 ≡ followed (digits_text 11 product ∷ decimal quantity ∷ decimal days ∷ []) b4 → IsDispensed product quantity days
     → b4 ≡ followed (decimal a.ingredient_cost ∷ decimal a.dispensing_fee ∷ decimal a.deductible ∷ decimal a.copay ∷ decimal
-        a.coinsurance ∷ []) b5
+    a.coinsurance ∷ []) b5
     → b5 ≡ digits_text 15 number ++ 10 ∷ rest → number ≤ 999_999_999_999_999
     → Some r ≡ row_of key member.family member.person product quantity days a number
     → BeginWith Three bytes (line.Claim r ∷ []) rest
@@ -81,7 +81,7 @@ claim_begin key member product quantity days a number r bytes b1 b2 b3 b4 b5 res
     e2 ∙ ap (followed (member.family ∷ member.person ∷ [])) (
     e3 ∙ ap (followed (digits_text 11 product ∷ decimal quantity ∷ decimal days ∷ [])) (
     e4 ∙ ap (followed (decimal a.ingredient_cost ∷ decimal a.dispensing_fee ∷ decimal a.deductible ∷ decimal a.copay ∷ decimal
-        a.coinsurance ∷ [])) e5
+    a.coinsurance ∷ [])) e5
     )
     )
     )

@@ -1,6 +1,6 @@
 -- Lists that stand for themselves, in order and each item once: they are told by what is among them.
-use Rattle.std.proofs.Common.{◌≡◌, ◌++◌, false, Bool, true, cond, ◌||◌, List, [], ◌∷◌, map, Some, None, Option, refl, ap, sym, ◌∙◌, inl,
-  inr}
+use Rattle.std.proofs.Common.{◌≡◌, ◌++◌, false, Bool, true, cond, ◌||◌, List, [], ◌∷◌}
+use Rattle.std.proofs.Common.{map, Some, None, Option, refl, ap, sym, ◌∙◌, inl, inr}
 use Rattle.std.specs.Cmp.{IsTotalOrder}
 use Rattle.std.specs.List.{All, AllByRecursion, dedup, flat_map, fold, list_any}
 use Rattle.std.specs.List.Sorted.{IsPermutation, IsSorted, IsStrictlySortedBy}

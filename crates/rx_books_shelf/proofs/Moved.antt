@@ -1,6 +1,6 @@
 -- Places in order: what writing some of them over makes of all, and what is read from them meanwhile.
-use Rattle.std.proofs.Common.{◌≡◌, ℕ, zero, suc, ◌+◌, ◌<◌, ◌≤◌, arith, add-one, drop, get_or, length, List, [], ◌∷◌, ◌++◌, map, cond, Bool,
-  true, false, Option, Some, None, Result, Ok, Err, refl, sym, ap, ◌∙◌, inl, inr}
+use Rattle.std.proofs.Common.{◌≡◌, ℕ, zero, suc, ◌+◌, ◌<◌, ◌≤◌, arith, add-one, drop, get_or, length, List, [], ◌∷◌, ◌++◌, map}
+use Rattle.std.proofs.Common.{cond, Bool, true, false, Option, Some, None, Result, Ok, Err, refl, sym, ap, ◌∙◌, inl, inr}
 use Rattle.std.specs.Prelude.{OnErr, OnOk}
 use Rattle.std.specs.Cmp.{IsTotalOrder, eq_by_cmp_equiv}
 use Rattle.std.specs.List.{All, flat_map}
@@ -13,8 +13,8 @@ use Rattle.std.proofs.lemmas.Cmp.{tied_back}
 use Rattle.std.proofs.Math.Seq.{drop-cons}
 use Rattle.std.proofs.lemmas.Map.Lookups.{CmpEqualImpliesEq}
 use Rattle.rx_order.specs.Ascending.{IsAscending, IsBelow, contains_key, has_key, item_at, put}
-use Rattle.rx_order.proofs.Keys.{cases_Ordering, Equal-from_is_eq, Greater-from_Less, IsBelow-through, IsBelow-tied, Less-from_Greater,
-  item_at-below}
+use Rattle.rx_order.proofs.Keys.{cases_Ordering, Equal-from_is_eq, Greater-from_Less, IsBelow-through}
+use Rattle.rx_order.proofs.Keys.{IsBelow-tied, Less-from_Greater, item_at-below}
 use Rattle.rx_order.proofs.LookUps.{item_at-found, item_at-map}
 use Rattle.rx_parcels.specs.Footprints.{itself}
 

@@ -26,8 +26,8 @@ use Rattle.rx_parcels.proofs.Parts.{ledger_path}
 use Rattle.rx_books_kept.specs.LedgerBooks.{LedgerBooks}
 use Rattle.rx_places.specs.declared.place.FamilyPlace.{FamilyPlace}
 use Rattle.rx_places.specs.declared.place.KeyPlace.{KeyPlace}
-use Rattle.rx_places.specs.Shelves.{HoldsOwnBook, HoldsOwnRow, IsShelf, family_place, family_value_or, has_slot, is_family_out, is_key_out,
-  is_out}
+use Rattle.rx_places.specs.Shelves.{HoldsOwnBook, HoldsOwnRow, IsShelf, family_place, family_value_or}
+use Rattle.rx_places.specs.Shelves.{has_slot, is_family_out, is_key_out, is_out}
 use Rattle.rx_places.specs.Shelves.{key_place, key_value_or, place_family, place_key, row_held, value_of}
 use Rattle.rx_books_shelf.specs.Closed.{HasSlot}
 use Rattle.rx_books_shelf.specs.Opened.{all_families, all_keys, family_book, filled_place, full_key_place, is_named, shelf_of}

@@ -1,6 +1,6 @@
 -- The tests of a shelf's books tell whether all are in and agree.
-use Rattle.std.proofs.Common.{◌≡◌, ℕ, zero, suc, List, [], Bool, true, false, Option, Some, None, refl, sym, ap, subst, ◌∙◌, inl, inr,
-  arith}
+use Rattle.std.proofs.Common.{◌≡◌, ℕ, zero, suc, List, [], Bool, true, false, Option, Some}
+use Rattle.std.proofs.Common.{None, refl, sym, ap, subst, ◌∙◌, inl, inr, arith}
 use Rattle.std.specs.Prelude.{◌↔◌, ◌&&◌, ◌||◌, IsTrue}
 use Rattle.std.specs.List.{All, Contains, list_all}
 use Rattle.std.specs.Option.{is_some, option_to_list}

@@ -1,6 +1,6 @@
 -- What the books of a shelf are worth after a parcel was taken, and after one was given back.
-use Rattle.std.proofs.Common.{◌≡◌, ℕ, List, [], ◌∷◌, ◌++◌, map, cond, Bool, true, false, not, Option, Some, None, refl, sym, ap, subst, ◌∙◌,
-  inl, inr}
+use Rattle.std.proofs.Common.{◌≡◌, ℕ, List, [], ◌∷◌, ◌++◌, map, cond, Bool, true, false, not}
+use Rattle.std.proofs.Common.{Option, Some, None, refl, sym, ap, subst, ◌∙◌, inl, inr}
 use Rattle.std.specs.Prelude.{◌||◌, ◌&&◌, if◌then◌else◌, IfSome}
 use Rattle.std.specs.Cmp.{IsTotalOrder}
 use Rattle.std.specs.List.{All, Contains, flat_map, list_all}
@@ -29,10 +29,10 @@ use Rattle.rx_parcels.specs.Parcels.{ParcelParts, family_at, key_of, ledger_of_f
 use Rattle.rx_parcels.proofs.Held.{family_held, key_held}
 use Rattle.rx_places.specs.declared.place.FamilyPlace.{FamilyPlace}
 use Rattle.rx_places.specs.declared.place.KeyPlace.{KeyPlace}
-use Rattle.rx_places.specs.Shelves.{HoldsOwnBook, IsOwnBook, IsShelf, ShelfParts, family_place, family_value_or, has_slot, is_family_in,
-  is_family_out}
-use Rattle.rx_places.specs.Shelves.{is_in, is_key_in, is_key_out, is_out, key_place, key_value_or, place_family, place_key, row_held,
-  value_of}
+use Rattle.rx_places.specs.Shelves.{HoldsOwnBook, IsOwnBook, IsShelf, ShelfParts, family_place}
+use Rattle.rx_places.specs.Shelves.{family_value_or, has_slot, is_family_in, is_family_out}
+use Rattle.rx_places.specs.Shelves.{is_in, is_key_in, is_key_out, is_out, key_place, key_value_or}
+use Rattle.rx_places.specs.Shelves.{place_family, place_key, row_held, value_of}
 use Rattle.rx_books_shelf.specs.Taken.{are_out, family_book, family_given, family_taken, has_all, key_book, key_given, key_taken, parcel_of}
 use Rattle.rx_books_shelf.specs.Taken.{put_back, taken_out, with_book, with_row}
 

@@ -47,7 +47,12 @@ impl Model for Shelf {
 
     ghost view = { λ s. record { period = s.books.books.period; rest = s.books.books.ledger; keys = s.keys; families = s.families } };
 
-    ghost invariant = { λ s. IsShelf (record { period = s.books.books.period; rest = s.books.books.ledger; keys = s.keys; families = s.families }) × All (HasSlot s.books.slots) s.keys };
+    ghost invariant = { λ s. IsShelf (record {
+      period = s.books.books.period;
+      rest = s.books.books.ledger;
+      keys = s.keys;
+      families = s.families;
+    }) × All (HasSlot s.books.slots) s.keys };
 }
 
 impl Shelf {
@@ -89,7 +94,8 @@ impl Shelf {
         ensures ok { OnOk result (self.new ≡ taken_out self.old footprint.now) }
         ensures err { OnErr result (self.new ≡ self.old) }
         // The parcel has the values of the named books, and the shelf has nothing of them any more.
-        ensures values { IfOk result (λ parcel. (b : Book) → values_of parcel b ≡ (if names footprint.now b then value_of self.old b else empty)) }
+        ensures values { IfOk result (λ parcel. (b : Book) → values_of parcel b
+            ≡ (if names footprint.now b then value_of self.old b else empty)) }
         ensures left { OnOk result ((b : Book) → value_of self.new b ≡ (if names footprint.now b then empty else value_of self.old b)) }
         ensures out { OnOk result ((b : Book) → is_out self.new b ≡ (names footprint.now b || is_out self.old b)) }
         ensures slots { OnOk result ((b : Book) → has_slot self.new b ≡ has_slot self.old b) }
@@ -112,7 +118,8 @@ impl Shelf {
         ensures err { OnErr result (self.new ≡ self.old) }
         ensures back { IfErr result (λ fault. fault.parcel ≡ parcel) }
         // The parcel's books are worth what they are in it, and are in; all others are as they were.
-        ensures values { OnOk result ((b : Book) → value_of self.new b ≡ (if names (named_in parcel) b then values_of parcel b else value_of self.old b)) }
+        ensures values { OnOk result ((b : Book) → value_of self.new b
+            ≡ (if names (named_in parcel) b then values_of parcel b else value_of self.old b)) }
         ensures out { OnOk result ((b : Book) → is_out self.new b ≡ (if names (named_in parcel) b then false else is_out self.old b)) }
         ensures slots { OnOk result ((b : Book) → has_slot self.new b ≡ has_slot self.old b) }
     {

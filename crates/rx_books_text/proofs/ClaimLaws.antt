@@ -16,8 +16,8 @@ use Rattle.rx_books_text.specs.LineText.{joined, claim_fields}
 use Rattle.rx_books_text.proofs.Steps.{bind_some, some_same}
 use Rattle.rx_books_text.proofs.NumberLaws.{authorization_takes, authorization_again}
 use Rattle.rx_books_text.proofs.MemberLaws.{member_key_text, member_key_at_takes, member_key_at_again}
-use Rattle.rx_books_text.proofs.ClaimParts.{key_text, key_at_takes, key_at_again, dispensed_text, dispensed_at_takes, dispensed_at_again,
-  amounts_text, amounts_takes, amounts_again}
+use Rattle.rx_books_text.proofs.ClaimParts.{key_text, key_at_takes, key_at_again, dispensed_text, dispensed_at_takes}
+use Rattle.rx_books_text.proofs.ClaimParts.{dispensed_at_again, amounts_text, amounts_takes, amounts_again}
 
 abbrev pub claim_text : Version → Row → List ℕ
 claim_text v r =
@@ -41,21 +41,21 @@ unfolding claim_in
 claim_takes v bs r e =
     let key' = bind_some (key_at bs)
     (λ key. member_key_at key.1 >>= λ member. dispensed_at member.1 >>= λ what. amounts_at v what.1 >>=
-        λ amounts. authorization_in amounts.1 >>= λ number. row_of key.0 member.0.family member.0.person what.0.product what.0.quantity
-        what.0.days amounts.0 number) r e in
+    λ amounts. authorization_in amounts.1 >>= λ number. row_of key.0 member.0.family member.0.person what.0.product what.0.quantity
+    what.0.days amounts.0 number) r e in
     let member' = bind_some (member_key_at key'.0.1)
     (λ member. dispensed_at member.1 >>= λ what. amounts_at v what.1 >>= λ amounts. authorization_in amounts.1 >>=
-        λ number. row_of key'.0.0 member.0.family member.0.person what.0.product what.0.quantity what.0.days amounts.0 number) r key'.2 in
+    λ number. row_of key'.0.0 member.0.family member.0.person what.0.product what.0.quantity what.0.days amounts.0 number) r key'.2 in
     let what' = bind_some (dispensed_at member'.0.1)
     (λ what. amounts_at v what.1 >>= λ amounts. authorization_in amounts.1 >>=
-        λ number. row_of key'.0.0 member'.0.0.family member'.0.0.person what.0.product what.0.quantity what.0.days amounts.0 number)
-        r member'.2 in
+    λ number. row_of key'.0.0 member'.0.0.family member'.0.0.person what.0.product what.0.quantity what.0.days amounts.0 number)
+    r member'.2 in
     let amounts' = bind_some (amounts_at v what'.0.1)
     (λ amounts. authorization_in amounts.1 >>= λ number. row_of key'.0.0 member'.0.0.family member'.0.0.person what'.0.0.product
-        what'.0.0.quantity what'.0.0.days amounts.0 number) r what'.2 in
+    what'.0.0.quantity what'.0.0.days amounts.0 number) r what'.2 in
     let number' = bind_some (authorization_in amounts'.0.1)
     (λ number. row_of key'.0.0 member'.0.0.family member'.0.0.person what'.0.0.product what'.0.0.quantity what'.0.0.days amounts'.0.0
-        number) r amounts'.2 in
+    number) r amounts'.2 in
     let k = key_at_takes bs key'.0 key'.1 in
     let m = member_key_at_takes key'.0.1 member'.0 member'.1 in
     let w = dispensed_at_takes member'.0.1 what'.0 what'.1 in

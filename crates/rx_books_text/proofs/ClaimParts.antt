@@ -13,13 +13,13 @@ use Rattle.rx_books_text.specs.declared.claim_line.Dispensed.{Dispensed}
 use Rattle.rx_books_text.specs.declared.version.Version.{Version}
 use Rattle.rx_books_text.specs.declared.version.Version.TheVariants.{One, Two, Three}
 use Rattle.rx_books_text.specs.LineFits.{PrintsCoinsurance}
-use Rattle.rx_books_text.specs.LineReading.{◌>>=◌, split, id_in, day_in, number_in, count_in, key_in, key_at, dispensed_in, dispensed_at,
-  two_numbers_at, coinsurance_at, amounts_at}
+use Rattle.rx_books_text.specs.LineReading.{◌>>=◌, split, id_in, day_in, number_in, count_in, key_in, key_at, dispensed_in}
+use Rattle.rx_books_text.specs.LineReading.{dispensed_at, two_numbers_at, coinsurance_at, amounts_at}
 use Rattle.rx_books_text.proofs.Cuts.{split_takes}
 use Rattle.rx_books_text.proofs.Steps.{bind_some, some_same}
 use Rattle.rx_books_text.proofs.IdLaws.{id_takes, id_again, id_inside}
-use Rattle.rx_books_text.proofs.NumberLaws.{number_takes, number_again, number_inside, count_takes, count_again, product_takes,
-  product_again, digits_text_inside}
+use Rattle.rx_books_text.proofs.NumberLaws.{number_takes, number_again, number_inside, count_takes, count_again}
+use Rattle.rx_books_text.proofs.NumberLaws.{product_takes, product_again, digits_text_inside}
 use Rattle.rx_books_text.proofs.DayLaws.{day_takes, day_inside, day_again}
 use Rattle.rx_books_text.proofs.Befores.{before, spelled, followed, inside_over}
 
@@ -60,7 +60,7 @@ unfolding key_at
 key_at_takes bs x e =
     let provider' = bind_some (split bs)
     (λ provider. split provider.1 >>= λ reference. split reference.1 >>= λ date. key_in provider.0 reference.0 date.0 >>=
-        λ key. Some (key, date.1)) x e in
+    λ key. Some (key, date.1)) x e in
     let reference' = bind_some (split provider'.0.1)
     (λ reference. split reference.1 >>= λ date. key_in provider'.0.0 reference.0 date.0 >>= λ key. Some (key, date.1)) x provider'.2 in
     let date' = bind_some (split reference'.0.1)
@@ -98,7 +98,7 @@ unfolding dispensed_in
 dispensed_takes product quantity days w e =
     let p' = bind_some (product_of product)
     (λ p. count_in 1 9_999_999_999 quantity >>= λ q. count_in 1 999 days >>=
-        λ d. Some (record { product = p; quantity = q; days = d })) w e in
+    λ d. Some (record { product = p; quantity = q; days = d })) w e in
     let q' = bind_some (count_in 1 9_999_999_999 quantity)
     (λ q. count_in 1 999 days >>= λ d. Some (record { product = p'.0; quantity = q; days = d })) w p'.2 in
     let d' = bind_some (count_in 1 999 days)
@@ -119,7 +119,7 @@ unfolding dispensed_at
 dispensed_at_takes bs x e =
     let product' = bind_some (split bs)
     (λ product. split product.1 >>= λ quantity. split quantity.1 >>= λ days. dispensed_in product.0 quantity.0 days.0 >>=
-        λ what. Some (what, days.1)) x e in
+    λ what. Some (what, days.1)) x e in
     let quantity' = bind_some (split product'.0.1)
     (λ quantity. split quantity.1 >>= λ days. dispensed_in product'.0.0 quantity.0 days.0 >>= λ what. Some (what, days.1)) x product'.2 in
     let days' = bind_some (split quantity'.0.1)
@@ -221,14 +221,38 @@ unfolding amounts_at
 amounts_takes v bs x e =
     let price' = bind_some (two_numbers_at bs)
     (λ price. two_numbers_at price.1 >>= λ share. coinsurance_at v share.1 >>=
-        λ rest. Some (record { ingredient_cost = price.0.0; dispensing_fee = price.0.1; deductible = share.0.0; copay = share.0.1;
-        coinsurance = rest.0 }, rest.1)) x e in
+    λ rest. Some (
+      record {
+        ingredient_cost = price.0.0;
+        dispensing_fee = price.0.1;
+        deductible = share.0.0;
+        copay = share.0.1;
+        coinsurance = rest.0;
+      },
+      rest.1,
+    )) x e in
     let share' = bind_some (two_numbers_at price'.0.1)
-    (λ share. coinsurance_at v share.1 >>= λ rest. Some (record { ingredient_cost = price'.0.0.0; dispensing_fee = price'.0.0.1;
-        deductible = share.0.0; copay = share.0.1; coinsurance = rest.0 }, rest.1)) x price'.2 in
+    (λ share. coinsurance_at v share.1 >>= λ rest. Some (
+      record {
+        ingredient_cost = price'.0.0.0;
+        dispensing_fee = price'.0.0.1;
+        deductible = share.0.0;
+        copay = share.0.1;
+        coinsurance = rest.0;
+      },
+      rest.1,
+    )) x price'.2 in
     let rest' = bind_some (coinsurance_at v share'.0.1)
-    (λ rest. Some (record { ingredient_cost = price'.0.0.0; dispensing_fee = price'.0.0.1; deductible = share'.0.0.0; copay = share'.0.0.1;
-        coinsurance = rest.0 }, rest.1)) x share'.2 in
+    (λ rest. Some (
+      record {
+        ingredient_cost = price'.0.0.0;
+        dispensing_fee = price'.0.0.1;
+        deductible = share'.0.0.0;
+        copay = share'.0.0.1;
+        coinsurance = rest.0;
+      },
+      rest.1,
+    )) x share'.2 in
     let c = coinsurance_takes v share'.0.1 rest'.0 rest'.1 in
     let text = two_takes bs price'.0 price'.1 ∙ ap (two_text price'.0.0)
     (two_takes price'.0.1 share'.0 share'.1 ∙ ap (two_text share'.0.0) c.0) in

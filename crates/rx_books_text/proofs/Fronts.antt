@@ -1,6 +1,6 @@
 -- A front of a text is the text of its parts, which can be printed.
-use Rattle.std.proofs.Common.{◌≡◌, ℕ, ◌+◌, ◌≤◌, true, ltb, inl, inr, List, [], ◌∷◌, ◌++◌, length, map, refl, sym, ap, subst, ◌∙◌, arith,
-  append_assoc, append-nil, length-append, Result, Ok, Err}
+use Rattle.std.proofs.Common.{◌≡◌, ℕ, ◌+◌, ◌≤◌, true, ltb, inl, inr, List, [], ◌∷◌, ◌++◌, length, map, refl, sym}
+use Rattle.std.proofs.Common.{ap, subst, ◌∙◌, arith, append_assoc, append-nil, length-append, Result, Ok, Err}
 use Rattle.std.specs.Prelude.{IfOk, IfErr, ◌&&◌}
 use Rattle.std.specs.List.{All, flat_map, list_all}
 use Rattle.std.proofs.lemmas.Bool.{and_parts, cases_Bool, eqb-true, ltb-false}
@@ -126,7 +126,7 @@ line_well bytes p (line.Member m) is fits next known =
     let pushed = member_pushed p m is.one_each next in
     let longer : length (put member_cmp member_key p.ledger.members m.member) ≡ length p.ledger.members + 1 =
     ap length (put-past member_cmp member_total member_key p.ledger.members m.member parts.1)
-        ∙ length-append p.ledger.members (m.member ∷ []) in
+    ∙ length-append p.ledger.members (m.member ∷ []) in
     record {
       text = ap (λ (t : List ℕ). t ++ ended (line_text p.head.version l)) is.text
           ∙ text_pushed p.head (lines_of p) (lines_of (with_line p l)) l pushed;

@@ -1,6 +1,6 @@
 -- The head line is read as what its spelling says.
-use Rattle.std.proofs.Common.{◌≡◌, ℕ, true, not, eqb, List, [], ◌∷◌, ◌++◌, Option, Some, None, refl, sym, ap, subst, ◌∙◌, inl, inr, codes,
-  drop, take, length}
+use Rattle.std.proofs.Common.{◌≡◌, ℕ, true, not, eqb, List, [], ◌∷◌, ◌++◌, Option, Some, None, refl}
+use Rattle.std.proofs.Common.{sym, ap, subst, ◌∙◌, inl, inr, codes, drop, take, length}
 use Rattle.std.specs.Prelude.{nat_eq, IfSome}
 use Rattle.std.specs.Cmp.Lexicographic.{same_text}
 use Rattle.std.specs.List.{starts_with, list_all}
@@ -54,7 +54,7 @@ unfolding head_in
 head_in_takes bs h e =
     let version' = bind_some (split bs)
     (λ version. split version.1 >>= λ first. version_in version.0 >>= λ v. period_in first.0 first.1 >>=
-        λ p. Some (record { version = v; period = p })) h e in
+    λ p. Some (record { version = v; period = p })) h e in
     let first' = bind_some (split version'.0.1)
     (λ first. version_in version'.0.0 >>= λ v. period_in first.0 first.1 >>= λ p. Some (record { version = v; period = p })) h version'.2 in
     let v' = bind_some (version_in version'.0.0)

@@ -85,16 +85,18 @@ unfolding member_in
 member_takes bs m e =
     let key' = bind_some (member_key_at bs)
     (λ key. split key.1 >>= λ first. split first.1 >>= λ last. period_in first.0 last.0 >>= λ coverage. number_in 20 last.1 >>=
-        λ n. Some (record { member = record { key = key.0; coverage = coverage }; deductible = n })) m e in
+    λ n. Some (record { member = record { key = key.0; coverage = coverage }; deductible = n })) m e in
     let first' = bind_some (split key'.0.1)
     (λ first. split first.1 >>= λ last. period_in first.0 last.0 >>= λ coverage. number_in 20 last.1 >>=
-        λ n. Some (record { member = record { key = key'.0.0; coverage = coverage }; deductible = n })) m key'.2 in
+    λ n. Some (record { member = record { key = key'.0.0; coverage = coverage }; deductible = n })) m key'.2 in
     let last' = bind_some (split first'.0.1)
     (λ last. period_in first'.0.0 last.0 >>= λ coverage. number_in 20 last.1 >>=
-        λ n. Some (record { member = record { key = key'.0.0; coverage = coverage }; deductible = n })) m first'.2 in
+    λ n. Some (record { member = record { key = key'.0.0; coverage = coverage }; deductible = n })) m first'.2 in
     let coverage' = bind_some (period_in first'.0.0 last'.0.0)
-    (λ coverage. number_in 20 last'.0.1 >>= λ n. Some (record { member = record { key = key'.0.0; coverage = coverage };
-        deductible = n })) m last'.2 in
+    (λ coverage. number_in 20 last'.0.1 >>= λ n. Some (record {
+      member = record { key = key'.0.0; coverage = coverage };
+      deductible = n;
+    })) m last'.2 in
     let n' = bind_some (number_in 20 last'.0.1)
     (λ n. Some (record { member = record { key = key'.0.0; coverage = coverage'.0 }; deductible = n })) m coverage'.2 in
     let k = member_key_at_takes bs key'.0 key'.1 in

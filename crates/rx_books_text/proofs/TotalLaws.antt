@@ -22,13 +22,13 @@ unfolding whole_total_in
 whole_total_takes bs t e =
     let family' = bind_some (split bs)
     (λ family. split family.1 >>= λ out. id_in 20 family.0 >>= λ f. number_in 20 out.0 >>= λ o. number_in 20 out.1 >>=
-        λ d. Some (record { family = f; out_of_pocket = o; deductible = Some d })) t e in
+    λ d. Some (record { family = f; out_of_pocket = o; deductible = Some d })) t e in
     let out' = bind_some (split family'.0.1)
     (λ out. id_in 20 family'.0.0 >>= λ f. number_in 20 out.0 >>= λ o. number_in 20 out.1 >>=
-        λ d. Some (record { family = f; out_of_pocket = o; deductible = Some d })) t family'.2 in
+    λ d. Some (record { family = f; out_of_pocket = o; deductible = Some d })) t family'.2 in
     let f' = bind_some (id_in 20 family'.0.0)
     (λ f. number_in 20 out'.0.0 >>= λ o. number_in 20 out'.0.1 >>=
-        λ d. Some (record { family = f; out_of_pocket = o; deductible = Some d })) t out'.2 in
+    λ d. Some (record { family = f; out_of_pocket = o; deductible = Some d })) t out'.2 in
     let o' = bind_some (number_in 20 out'.0.0)
     (λ o. number_in 20 out'.0.1 >>= λ d. Some (record { family = f'.0; out_of_pocket = o; deductible = Some d })) t f'.2 in
     let d' = bind_some (number_in 20 out'.0.1)
@@ -50,7 +50,7 @@ unfolding short_total_in
 short_total_takes v bs t prints e =
     let family' = bind_some (split bs)
     (λ family. id_in 20 family.0 >>= λ f. number_in 20 family.1 >>=
-        λ o. Some (record { family = f; out_of_pocket = o; deductible = None })) t e in
+    λ o. Some (record { family = f; out_of_pocket = o; deductible = None })) t e in
     let f' = bind_some (id_in 20 family'.0.0)
     (λ f. number_in 20 family'.0.1 >>= λ o. Some (record { family = f; out_of_pocket = o; deductible = None })) t family'.2 in
     let o' = bind_some (number_in 20 family'.0.1)

@@ -1,5 +1,6 @@
 ghost use Rattle.std.specs.Prelude.{◌≡◌, option_map};
-ghost use Rattle.rx_books_text.specs.LineReading.{amounts_at, claim_in, coinsurance_at, dispensed_at, dispensed_in, key_at, key_in, two_numbers_at};
+ghost use Rattle.rx_books_text.specs.LineReading.{amounts_at, claim_in, coinsurance_at, dispensed_at};
+ghost use Rattle.rx_books_text.specs.LineReading.{dispensed_in, key_at, key_in, two_numbers_at};
 
 use crate::cut::split;
 use crate::field::{authorization_in, count_in, day_in, days_in, id_in, number_in};

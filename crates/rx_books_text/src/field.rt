@@ -1,5 +1,6 @@
 ghost use Rattle.std.specs.Prelude.{◌≡◌, ◌≤◌};
-ghost use Rattle.rx_books_text.specs.LineReading.{authorization_in, begins_zero, count_in, day_in, id_in, joined_number, number_in, period_in};
+ghost use Rattle.rx_books_text.specs.LineReading.{authorization_in, begins_zero, count_in, day_in};
+ghost use Rattle.rx_books_text.specs.LineReading.{id_in, joined_number, number_in, period_in};
 
 use rx_fields::{Authorization, Bounded, Day, Days, Id, Period, ShortId, date_read, number_read};
 

@@ -1,6 +1,6 @@
 -- What holds of each book that a footprint names, and of each place of a shelf, told by the shelf's own tests.
-use Rattle.std.proofs.Common.{◌≡◌, ℕ, suc, ◌<◌, List, [], ◌∷◌, ◌++◌, map, true, false, Bool, not, ◌&&◌, length, Option, Some, None, refl,
-  sym, ap, ◌∙◌, arith, inl, inr}
+use Rattle.std.proofs.Common.{◌≡◌, ℕ, suc, ◌<◌, List, [], ◌∷◌, ◌++◌, map, true, false, Bool, not, ◌&&◌}
+use Rattle.std.proofs.Common.{length, Option, Some, None, refl, sym, ap, ◌∙◌, arith, inl, inr}
 use Rattle.std.specs.Cmp.{IsTotalOrder}
 use Rattle.std.specs.List.{Contains, flat_map, list_all}
 use Rattle.std.specs.Option.{is_some, option_and_then, option_to_list}
@@ -21,8 +21,8 @@ use Rattle.rx_parcels.specs.Footprints.{FootprintParts, itself, names}
 use Rattle.rx_parcels.specs.Parcels.{key_of, named_in}
 use Rattle.rx_places.specs.declared.place.FamilyPlace.{FamilyPlace}
 use Rattle.rx_places.specs.declared.place.KeyPlace.{KeyPlace}
-use Rattle.rx_places.specs.Shelves.{HoldsOwnBook, IsShelf, ShelfParts, are_all_in, family_place, has_slot, is_family_held, is_family_in,
-  is_family_out}
+use Rattle.rx_places.specs.Shelves.{HoldsOwnBook, IsShelf, ShelfParts, are_all_in, family_place}
+use Rattle.rx_places.specs.Shelves.{has_slot, is_family_held, is_family_in, is_family_out}
 use Rattle.rx_places.specs.Shelves.{is_in, is_key_held, is_key_in, is_key_out, is_out, key_place, place_family, place_key}
 use Rattle.rx_books_shelf.specs.Taken.{are_out, family_book, has_all, key_book, parcel_of}
 

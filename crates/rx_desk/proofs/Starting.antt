@@ -1,6 +1,6 @@
 -- A desk without events.
-use Rattle.std.proofs.Common.{◌≡◌, ℕ, zero, suc, ◌+◌, ◌-◌, ◌*◌, ◌<◌, ◌≤◌, List, [], ◌∷◌, true, false, Bool, cond, ◌||◌, length, get_or,
-  replicate, refl, sym, ap, subst, ◌∙◌, arith, inl, inr}
+use Rattle.std.proofs.Common.{◌≡◌, ℕ, zero, suc, ◌+◌, ◌-◌, ◌*◌, ◌<◌, ◌≤◌, List, [], ◌∷◌, true, false, Bool, cond}
+use Rattle.std.proofs.Common.{◌||◌, length, get_or, replicate, refl, sym, ap, subst, ◌∙◌, arith, inl, inr}
 use Rattle.std.specs.List.{list_any, sum_by}
 use Rattle.std.proofs.lemmas.Bool.{cases_Bool}
 use Rattle.std.proofs.lemmas.List.{length-replicate}
@@ -23,8 +23,8 @@ use Rattle.rx_schedule.specs.Waves.{nothing}
 use Rattle.rx_desk.specs.declared.state.State.{State}
 use Rattle.rx_desk.specs.declared.state.State.TheVariants.{Given, Out, Waiting}
 use Rattle.rx_desk.specs.Desks.{AreTermsOf, DeskJob, footprint_in, machine_of}
-use Rattle.rx_desk.specs.Kept.{AreHanded, AreInPlace, AreNoted, AreStates, IsCounted, IsDesk, IsKept, IsKeptJob, IsState, events_left,
-  one_waiting}
+use Rattle.rx_desk.specs.Kept.{AreHanded, AreInPlace, AreNoted, AreStates, IsCounted, IsDesk}
+use Rattle.rx_desk.specs.Kept.{IsKept, IsKeptJob, IsState, events_left, one_waiting}
 use Rattle.rx_desk.proofs.Ready.{count_of, read_is}
 
 pub ledger_in_order : (L : Ledger) → IsLedger L → IsInOrder L
@@ -89,7 +89,7 @@ pub kept_start : (j : DeskJob) (capacity : ℕ) (history : List Event) (footprin
     (shelf : ShelfParts) (states : List State) (waiting : ℕ) (replies : List Reply) → IsKeptJob j → history ≡ []
     → footprints ≡ footprints_of j.books.ledger j.records → queues.footprints ≡ footprints → queues.handed ≡ []
     → queues.passed ≡ [] → shelf.period ≡ j.books.period → shelf.rest ≡ j.books.ledger
-        → ((b : Book) → value_of shelf b ≡ book b j.books.ledger)
+    → ((b : Book) → value_of shelf b ≡ book b j.books.ledger)
     → ((b : Book) → has_slot shelf b ≡ is_named footprints b) → ((b : Book) → is_out shelf b ≡ false)
     → states ≡ replicate (length j.records) Waiting → length replies ≡ length j.records → waiting ≡ length j.records
     → 2 * length j.records ≤ capacity

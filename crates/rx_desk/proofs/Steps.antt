@@ -1,6 +1,6 @@
 -- One event, over all that a desk keeps.
-use Rattle.std.proofs.Common.{◌≡◌, ℕ, suc, ◌+◌, ◌-◌, ◌*◌, ◌<◌, ◌≤◌, List, [], ◌∷◌, ◌++◌, true, false, Bool, cond, not, ◌&&◌, ◌||◌, length,
-  get_or, reverse, set, Option, Some, None, refl, sym, ap, subst, ◌∙◌, arith, inl, inr}
+use Rattle.std.proofs.Common.{◌≡◌, ℕ, suc, ◌+◌, ◌-◌, ◌*◌, ◌<◌, ◌≤◌, List, [], ◌∷◌, ◌++◌, true, false, Bool, cond, not, ◌&&◌, ◌||◌}
+use Rattle.std.proofs.Common.{length, get_or, reverse, set, Option, Some, None, refl, sym, ap, subst, ◌∙◌, arith, inl, inr}
 use mathlib.Core.Path.{fun_ext}
 use Rattle.std.specs.List.{slice_get, sum_by}
 use Rattle.std.proofs.lemmas.Bool.{cases_Bool}
@@ -36,8 +36,8 @@ use Rattle.rx_desk.proofs.Ended.{finds}
 use Rattle.rx_desk.proofs.Fitting.{fits_on}
 use Rattle.rx_desk.proofs.OneParcel.{one_parcel}
 use Rattle.rx_desk.proofs.Passing.{at_own, free, out_taken}
-use Rattle.rx_desk.proofs.Placed.{books_give, books_stay, books_take, counted_give, counted_take, handed_give, handed_take, noted_give,
-  noted_take, room_for, states_give, states_take}
+use Rattle.rx_desk.proofs.Placed.{books_give, books_stay, books_take, counted_give, counted_take, handed_give}
+use Rattle.rx_desk.proofs.Placed.{handed_take, noted_give, noted_take, room_for, states_give, states_take}
 use Rattle.rx_desk.proofs.Ready.{is_ready, may_take}
 
 newest : (history : List Event) (e : Event) → reverse (history ++ e ∷ []) ≡ e ∷ reverse history

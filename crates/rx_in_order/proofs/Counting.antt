@@ -1,7 +1,7 @@
 -- Fills are counted as the rows change, and some fill is too soon exactly where some row is.
 use Rattle.std.specs.Prelude.{nat_lt, ◌&&◌, ◌||◌, Result, OnErr, OnOk, is_some, sum_by, if◌then◌else◌, unwrap_or}
-use Rattle.std.proofs.Common.{◌≡◌, ℕ, zero, suc, ◌+◌, ◌-◌, ◌<◌, ◌++◌, Bool, true, false, List, [], ◌∷◌, Option, Some, None, refl, sym, ap,
-  ◌∙◌, inl, inr, arith, add-zero, get_or}
+use Rattle.std.proofs.Common.{◌≡◌, ℕ, zero, suc, ◌+◌, ◌-◌, ◌<◌, ◌++◌, Bool, true, false, List, [], ◌∷◌, Option}
+use Rattle.std.proofs.Common.{Some, None, refl, sym, ap, ◌∙◌, inl, inr, arith, add-zero, get_or}
 use Rattle.std.specs.Option.{ok_or, option_map}
 use Rattle.std.specs.List.{All, Contains, list_any}
 use Rattle.std.specs.Cmp.{IsTotalOrder}
@@ -27,8 +27,8 @@ use Rattle.rx_in_order.specs.declared.fill.Entry.{Entry}
 use Rattle.rx_in_order.specs.declared.fill.Fill.{Fill}
 use Rattle.rx_in_order.specs.declared.fill.FillKey.{FillKey}
 use Rattle.rx_in_order.specs.declared.fill.When.{When}
-use Rattle.rx_in_order.specs.Fills.{AreCounted, count_among, count_at, count_of, course_cmp, fill_cmp, fill_key, fill_of, fills_in, lowered,
-  one_of, tallied, when_cmp}
+use Rattle.rx_in_order.specs.Fills.{AreCounted, count_among, count_at, count_of, course_cmp, fill_cmp}
+use Rattle.rx_in_order.specs.Fills.{fill_key, fill_of, fills_in, lowered, one_of, tallied, when_cmp}
 
 -- ---- the order of fills
 

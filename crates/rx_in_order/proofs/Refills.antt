@@ -1,7 +1,7 @@
 -- A refill is looked for from the last fill of its course backwards, as long as a fill could still last.
 use Rattle.std.specs.Prelude.{◌⊎◌, ◌&&◌, ◌||◌, ◌==◌, not, nat_lt}
-use Rattle.std.proofs.Common.{◌≡◌, ℕ, zero, suc, ◌+◌, ◌*◌, ◌<◌, ◌≤◌, Bool, true, false, List, [], ◌∷◌, length, get_or, take, drop, refl,
-  sym, ap, subst, ◌∙◌, inl, inr, arith, ℤ, pos, ◌-ℤ◌, ◌*ℤ◌, ◌<ℤ◌, ◌≤ℤ◌, tests}
+use Rattle.std.proofs.Common.{◌≡◌, ℕ, zero, suc, ◌+◌, ◌*◌, ◌<◌, ◌≤◌, Bool, true, false, List, [], ◌∷◌, length, get_or, take}
+use Rattle.std.proofs.Common.{drop, refl, sym, ap, subst, ◌∙◌, inl, inr, arith, ℤ, pos, ◌-ℤ◌, ◌*ℤ◌, ◌<ℤ◌, ◌≤ℤ◌, tests}
 use Rattle.std.specs.List.{All, AllWithin, list_any}
 use Rattle.std.specs.List.Sorted.{IsPartitionedBy}
 use Rattle.std.specs.Ordering.{int_cmp, is_eq, is_le, is_lt, ordering_then}
@@ -32,8 +32,8 @@ use Rattle.rx_in_order.specs.declared.fill.Fill.{Fill}
 use Rattle.rx_in_order.specs.declared.fill.FillKey.{FillKey}
 use Rattle.rx_in_order.specs.declared.fill.FirstDay.{FirstDay}
 use Rattle.rx_in_order.specs.declared.refill.Refill.{Refill}
-use Rattle.rx_in_order.specs.Fills.{are_left, concerns, counts, course_cmp, fill_cmp, fill_key, fill_of, is_early, is_not_past, is_own,
-  lasts, refill_of, when_cmp}
+use Rattle.rx_in_order.specs.Fills.{are_left, concerns, counts, course_cmp, fill_cmp, fill_key, fill_of}
+use Rattle.rx_in_order.specs.Fills.{is_early, is_not_past, is_own, lasts, refill_of, when_cmp}
 use Rattle.rx_in_order.proofs.Counting.{course_exact, course_total, fill_total}
 use Rattle.rx_in_order.proofs.Holders.{by_holder}
 

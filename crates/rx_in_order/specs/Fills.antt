@@ -1,6 +1,6 @@
 -- Plumbing: fills, counted: how many standing claims there are of a member, a product, a date and a days supply.
-use Rattle.std.specs.Prelude.{◌≡◌, ℕ, suc, ◌+◌, ◌-◌, ◌*◌, ◌%◌, ◌^◌, Bool, false, not, true, ◌&&◌, ◌==◌, nat_lt, if◌then◌else◌, List, [],
-  ◌∷◌, sum_by, length, slice_index_or, unwrap_or, ◌-ℤ◌, ◌*ℤ◌, ℤ, pos, int_lt}
+use Rattle.std.specs.Prelude.{◌≡◌, ℕ, suc, ◌+◌, ◌-◌, ◌*◌, ◌%◌, ◌^◌, Bool, false, not, true, ◌&&◌, ◌==◌, nat_lt, if◌then◌else◌}
+use Rattle.std.specs.Prelude.{List, [], ◌∷◌, sum_by, length, slice_index_or, unwrap_or, ◌-ℤ◌, ◌*ℤ◌, ℤ, pos, int_lt}
 use Rattle.std.specs.Option.{option_map}
 use Rattle.std.specs.Ordering.{int_cmp, is_eq, is_le, nat_cmp, ordering_then}
 use Rattle.std.specs.declared.cmp.Ordering.{Ordering}

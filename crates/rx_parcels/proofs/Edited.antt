@@ -24,8 +24,8 @@ use Rattle.rx_parcels.specs.declared.key_book.KeyBook.{KeyBook}
 use Rattle.rx_parcels.specs.Books.{Book, IsInOrder, OfFamily, OfKey, book, has_row}
 use Rattle.rx_parcels.specs.FamilyBook.{FamilyBook, book_with_row, book_without_row, family_of, own_ledger}
 use Rattle.rx_parcels.specs.Footprints.{AreAgreed, names, sub}
-use Rattle.rx_parcels.specs.Parcels.{Agrees, IsParcel, ParcelParts, family_at, family_without, key_of, ledger_in, ledger_of_family,
-  named_in, parcel_with_row, parcel_without_row, row_at, values_of, with_family_book}
+use Rattle.rx_parcels.specs.Parcels.{Agrees, IsParcel, ParcelParts, family_at, family_without, key_of, ledger_in, ledger_of_family}
+use Rattle.rx_parcels.specs.Parcels.{named_in, parcel_with_row, parcel_without_row, row_at, values_of, with_family_book}
 use Rattle.rx_parcels.proofs.Agreed.{books_agree, order_of_sub, sub_is, whole_of_sub}
 use Rattle.rx_parcels.proofs.Held.{book_held, books_are, family_found, family_held, key_held, row_found, row_read}
 use Rattle.rx_parcels.proofs.Parts.{keeps, key_kept, ledger_path, part}

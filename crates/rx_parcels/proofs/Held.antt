@@ -20,8 +20,8 @@ use Rattle.rx_parcels.specs.declared.key_book.KeyBook.{KeyBook}
 use Rattle.rx_parcels.specs.Books.{Book, OfFamily, OfKey, book, has_row}
 use Rattle.rx_parcels.specs.FamilyBook.{FamilyBook, IsOwn, family_of, own_ledger}
 use Rattle.rx_parcels.specs.Footprints.{itself, names}
-use Rattle.rx_parcels.specs.Parcels.{Agrees, HasOwnRow, IsParcel, ParcelParts, family_at, key_of, ledger_in, ledger_of_family, named_in,
-  row_at, rows_at, values_of}
+use Rattle.rx_parcels.specs.Parcels.{Agrees, HasOwnRow, IsParcel, ParcelParts, family_at, key_of, ledger_in}
+use Rattle.rx_parcels.specs.Parcels.{ledger_of_family, named_in, row_at, rows_at, values_of}
 use Rattle.rx_parcels.proofs.Agreed.{IsValue, book_of_sub}
 use Rattle.rx_parcels.proofs.Families.{members_theirs, persons_found, rows_theirs}
 use Rattle.rx_parcels.proofs.Parts.{find_filter}

@@ -25,8 +25,8 @@ use Rattle.rx_order.proofs.Kept.{IsAscending-put, IsAscending-without}
 use Rattle.rx_order.proofs.LookUps.{item_at-found, item_at-put, item_at-without}
 use Rattle.rx_ledger.specs.declared.member.Member.{Member}
 use Rattle.rx_ledger.specs.declared.row.Row.{Row}
-use Rattle.rx_ledger.specs.Answers.{Asked, after, answer, answer_bill, answer_member, answer_person, answer_reversal, is_same_claim, key_of,
-  paid_row}
+use Rattle.rx_ledger.specs.Answers.{Asked, after, answer, answer_bill, answer_member, answer_person}
+use Rattle.rx_ledger.specs.Answers.{answer_reversal, is_same_claim, key_of, paid_row}
 use Rattle.rx_ledger.specs.Fold.{answers_from, asked, ledger_after, ledger_from, ledger_of_body, outcome_of, reply_to}
 use Rattle.rx_ledger.specs.Ledger.{Ledger, members_of, row_under, rows_of}
 use Rattle.rx_ledger.specs.Members.{person_in}

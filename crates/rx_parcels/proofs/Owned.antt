@@ -1,6 +1,6 @@
 -- What a change of a family's rows and members does to its totals.
-use Rattle.std.proofs.Common.{◌≡◌, ◌≢◌, ℕ, ◌+◌, ◌-◌, ◌^◌, ◌<◌, ◌≤◌, List, [], ◌∷◌, ◌++◌, append-nil, length, get_or, map, set, true, false,
-  Option, Some, None, refl, sym, ap, ◌∙◌, inl, inr, arith}
+use Rattle.std.proofs.Common.{◌≡◌, ◌≢◌, ℕ, ◌+◌, ◌-◌, ◌^◌, ◌<◌, ◌≤◌, List, [], ◌∷◌, ◌++◌, append-nil, length, get_or}
+use Rattle.std.proofs.Common.{map, set, true, false, Option, Some, None, refl, sym, ap, ◌∙◌, inl, inr, arith}
 use Rattle.std.specs.List.{All, refill, sum_by}
 use Rattle.std.specs.Cmp.{eq_by_cmp_equiv}
 use Rattle.std.specs.Option.{is_some}
@@ -205,13 +205,20 @@ module _ (b : FamilyBook) (own : IsOwn b) (deductibles : List ℕ) (pocket deduc
           let g : Member → ℕ = λ n. deductible_in b.period (without key_cmp row_key b.rows key) n.key.person in
           let here = get_or b.members at m in
           let changed : g here ≡ get_or deductibles at 0 - counted b.period deductible_paid r =
-          omega (arith, read, less (counted b.period (persons_deductible_paid here.key.person)),
-              counted-own b.period r here.key.person (at_place m)) in
+          omega (
+            arith,
+            read,
+            less (counted b.period (persons_deductible_paid here.key.person)),
+            counted-own b.period r here.key.person (at_place m),
+          ) in
           let others : (j : ℕ) → j < length b.members → j ≢ at → g (get_or b.members j m) ≡ f (get_or b.members j m) =
           λ j lt differs.
           let person = (get_or b.members j m).key.person in
-          omega (arith, less (counted b.period (persons_deductible_paid person)),
-              counted-other b.period r person (elsewhere m j lt differs)) in
+          omega (
+            arith,
+            less (counted b.period (persons_deductible_paid person)),
+            counted-other b.period r person (elsewhere m j lt differs),
+          ) in
           record {
             of_members = ap (λ l. set l at (get_or deductibles at 0 - counted b.period deductible_paid r)) totals.of_members
                 ∙ set-map f g b.members at _ m is_at.in_range changed others;

@@ -17,9 +17,10 @@ both_hold {P} {Q} a b v first holds second is =
     Decides-like v (λ q. (first.0 holds, q)) (λ pq. pq.1) (Decides-at v b is second)
 
 pub first_fails : {P Q : Type 0} (a v : Bool) → Decides a P → a ≡ false → v ≡ a → Decides v (P × Q)
-first_fails {P} {Q} a v first fails is =
-    (λ t. absurd (let e : false ≡ true = sym fails ∙ sym is ∙ t in cc),
-        λ pq. absurd (let e : false ≡ true = sym fails ∙ first.1 pq.0 in cc))
+first_fails {P} {Q} a v first fails is = (
+  λ t. absurd (let e : false ≡ true = sym fails ∙ sym is ∙ t in cc),
+  λ pq. absurd (let e : false ≡ true = sym fails ∙ first.1 pq.0 in cc),
+)
 
 -- two footprints whose keys were compared first, and then their families
 pub same_footprint : (a b : FootprintParts) (keys families : Bool) → Decides keys (a.keys ≡ b.keys) → keys ≡ true

@@ -1,6 +1,6 @@
 -- The tests of a parcel's books tell whether they agree.
-use Rattle.std.proofs.Common.{◌≡◌, ℕ, zero, suc, List, Bool, true, false, not, Option, Some, None, refl, sym, ap, subst, ◌∙◌, inl, inr,
-  arith}
+use Rattle.std.proofs.Common.{◌≡◌, ℕ, zero, suc, List, Bool, true, false, not, Option, Some}
+use Rattle.std.proofs.Common.{None, refl, sym, ap, subst, ◌∙◌, inl, inr, arith}
 use Rattle.std.specs.Prelude.{◌||◌, ◌↔◌, IsTrue}
 use Rattle.std.specs.List.{Contains, list_all}
 use Rattle.std.specs.Option.{is_some, option_and_then, option_to_list}

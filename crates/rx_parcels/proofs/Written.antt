@@ -1,6 +1,6 @@
 -- What is written into a parcel: a key's book, and a family's book.
-use Rattle.std.proofs.Common.{◌≡◌, ℕ, zero, suc, List, [], ◌∷◌, get_or, set, true, false, Option, Some, None, Result, OnOk, refl, sym, ap,
-  ◌∙◌}
+use Rattle.std.proofs.Common.{◌≡◌, ℕ, zero, suc, List, [], ◌∷◌, get_or, set, true, false}
+use Rattle.std.proofs.Common.{Option, Some, None, Result, OnOk, refl, sym, ap, ◌∙◌}
 use Rattle.std.specs.List.{All}
 use Rattle.std.specs.Option.{is_some, ok_or, option_map}
 use Rattle.std.proofs.lemmas.List.Elements.{All-set}

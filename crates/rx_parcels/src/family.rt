@@ -4,7 +4,8 @@ ghost use Rattle.rx_ledger.specs.Ledger.{is_listed, is_taken, row_under};
 ghost use Rattle.rx_ledger.specs.Members.{member_cmp, member_key, person_in};
 ghost use Rattle.rx_ledger.specs.Rows.{member_of_row};
 ghost use Rattle.rx_ledger.specs.Sums.{family_deductible_in, out_of_pocket_in};
-ghost use Rattle.rx_parcels.specs.FamilyBook.{AreTotals, IsOwn, book_with_member, book_with_row, book_without_row, deductible_at, empty_book, own_ledger};
+ghost use Rattle.rx_parcels.specs.FamilyBook.{AreTotals, IsOwn, book_with_member, book_with_row, book_without_row};
+ghost use Rattle.rx_parcels.specs.FamilyBook.{deductible_at, empty_book, own_ledger};
 
 use crate::totals::{FamilyTotals, counted_in, place_of_member};
 use rx_fields::{Id, Key, Memory, Period, Person};
@@ -39,7 +40,8 @@ impl Model for Family {
 
     ghost view = { λ f. record { family = f.family; period = f.period; members = f.members; rows = f.rows } };
 
-    ghost invariant = { λ f. IsFamilyBook (record { family = f.family; period = f.period; members = f.members; rows = f.rows }) f.deductibles.items f.out_of_pocket f.deductible };
+    ghost invariant = { λ f. IsFamilyBook (record { family = f.family; period = f.period; members = f.members; rows = f.rows })
+        f.deductibles.items f.out_of_pocket f.deductible };
 }
 
 impl Keyed for Family {
@@ -77,7 +79,8 @@ impl Family {
         totals: FamilyTotals,
     ) -> Family
         requires own { IsOwn (record { family = family; period = period; members = members; rows = rows }) }
-        requires totals { AreTotals (record { family = family; period = period; members = members; rows = rows }) totals.deductibles.items totals.out_of_pocket totals.deductible }
+        requires totals { AreTotals (record { family = family; period = period; members = members; rows = rows }) totals.deductibles.items
+            totals.out_of_pocket totals.deductible }
         ensures { result ≡ record { family = family; period = period; members = members; rows = rows } }
     {
         let FamilyTotals {

@@ -1,15 +1,15 @@
 -- A link more: the row of its place has one place more, which waits for one link more.
-use Rattle.std.proofs.Common.{◌≡◌, ◌≢◌, ℕ, suc, ◌+◌, ◌-◌, ◌<◌, ◌≤◌, cond, ◌&&◌, ◌==◌, List, [], ◌∷◌, ◌++◌, length, get_or, map, replicate,
-  set, take, refl, ap, sym, ◌∙◌, inl, inr, arith, subst}
+use Rattle.std.proofs.Common.{◌≡◌, ◌≢◌, ℕ, suc, ◌+◌, ◌-◌, ◌<◌, ◌≤◌, cond, ◌&&◌, ◌==◌, List, [], ◌∷◌, ◌++◌, length}
+use Rattle.std.proofs.Common.{get_or, map, replicate, set, take, refl, ap, sym, ◌∙◌, inl, inr, arith, subst}
 use Rattle.std.proofs.lemmas.Bool.{cases_Bool, cases_eq, cases_lt, eq-eqb, eqb-true}
-use Rattle.std.proofs.lemmas.List.{get_or-replicate, get_or-set_other, get_or_default, get_or_past, length-map, length-replicate,
-  length-set, map-set, take_more}
+use Rattle.std.proofs.lemmas.List.{get_or-replicate, get_or-set_other, get_or_default, get_or_past}
+use Rattle.std.proofs.lemmas.List.{length-map, length-replicate, length-set, map-set, take_more}
 use Rattle.std.proofs.lemmas.List.Sums.{get_or-le-sum_by, sum_by_push}
 use Rattle.rx_schedule.specs.declared.links.Link.{Link}
 use Rattle.rx_schedule.specs.Links.{AreCounted, AreFree, AreRows, linked, number_of, row_of, times, total}
 use Rattle.rx_schedule.proofs.Released.{row_read}
-use Rattle.rx_schedule.proofs.Times.{number-other, number-same, one_if, one_other, one_same, one_small, row-other, row-same, times-push,
-  total-none, total-set}
+use Rattle.rx_schedule.proofs.Times.{number-other, number-same, one_if, one_other, one_same, one_small}
+use Rattle.rx_schedule.proofs.Times.{row-other, row-same, times-push, total-none, total-set}
 
 -- 1 where the link goes from this place to that one, else 0
 abbrev link_if : Link → ℕ → ℕ → ℕ

@@ -1,7 +1,7 @@
 -- At each point of the fold the row under a key is of the opening row's family or of that of an earlier billing with
 -- this key; so each footprint fits its record there, and the fold is that of the job.
-use Rattle.std.proofs.Common.{◌≡◌, ℕ, zero, suc, ◌+◌, ◌-◌, ◌<◌, ◌≤◌, true, false, Bool, ◌||◌, List, [], ◌∷◌, ◌++◌, length, get_or, take,
-  Option, Some, None, append_assoc, refl, ap, sym, ◌∙◌, inl, inr, arith, subst}
+use Rattle.std.proofs.Common.{◌≡◌, ℕ, zero, suc, ◌+◌, ◌-◌, ◌<◌, ◌≤◌, true, false, Bool, ◌||◌, List, [], ◌∷◌, ◌++◌, length, get_or}
+use Rattle.std.proofs.Common.{take, Option, Some, None, append_assoc, refl, ap, sym, ◌∙◌, inl, inr, arith, subst}
 use Rattle.std.specs.BTreeMap.{is_at}
 use Rattle.std.specs.List.{flat_map, list_all, list_any}
 use Rattle.std.specs.Ordering.{eq_by_cmp, is_eq}
@@ -34,8 +34,8 @@ use Rattle.rx_parcels.specs.Books.{IsInOrder, OfFamily, OfKey, book}
 use Rattle.rx_parcels.specs.Footprints.{FootprintParts, fits, fits_body, fits_one, names, names_holder}
 use Rattle.rx_parcels.proofs.Locality.{local_books, local_outside, local_reply, order_after}
 use Rattle.rx_schedule.specs.Billed.{is_among}
-use Rattle.rx_schedule.specs.Footprints.{billed_by, billers, billers_in, families_named, family_of, footprint_at, footprint_of, holders,
-  key_named, no_record, record_at}
+use Rattle.rx_schedule.specs.Footprints.{billed_by, billers, billers_in, families_named, family_of, footprint_at}
+use Rattle.rx_schedule.specs.Footprints.{footprint_of, holders, key_named, no_record, record_at}
 use Rattle.rx_schedule.specs.Jobs.{IsHeld, job, ledger_before, reply_at}
 use Rattle.rx_schedule.specs.Machine.{IsFoldOf}
 use Rattle.rx_schedule.proofs.InOrder.{among-in_order, named_in}

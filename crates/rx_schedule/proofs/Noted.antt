@@ -1,6 +1,6 @@
 -- A family that is noted for a fill key is one of that key's billers, and the others stay.
-use Rattle.std.proofs.Common.{◌≡◌, ℕ, Bool, cond, ◌||◌, ◌&&◌, List, [], ◌∷◌, ◌++◌, append-nil, append_assoc, ◌+◌, ◌-◌, ◌<◌, arith, length,
-  get_or, take, Some, Result, Ok, Err, OnOk, refl, ap, sym, ◌∙◌, inl, inr}
+use Rattle.std.proofs.Common.{◌≡◌, ℕ, Bool, cond, ◌||◌, ◌&&◌, List, [], ◌∷◌, ◌++◌, append-nil, append_assoc, ◌+◌, ◌-◌, ◌<◌}
+use Rattle.std.proofs.Common.{arith, length, get_or, take, Some, Result, Ok, Err, OnOk, refl, ap, sym, ◌∙◌, inl, inr}
 use Rattle.std.specs.BTreeMap.{BTreeMap, get, is_at}
 use Rattle.std.specs.BTreeSet.{BTreeSet, insert_key}
 use Rattle.std.specs.List.{flat_map}

@@ -5,8 +5,8 @@ use Rattle.std.proofs.Common.{◌≡◌, ℕ, zero, suc, ◌<◌, ◌≤◌, ◌
 use mathlib.Core.Path.{fun_ext}
 use Rattle.std.specs.Prelude.{true, false, Some}
 use Rattle.std.proofs.lemmas.Bool.{cases_Bool, cases_lt, both_ways, eq-eqb, ne_eqb}
-use Rattle.rx_schedule.specs.Machine.{Job, Store, IsPlace, cut, Share, Was, MayTake, MayGive, IsLegal, IsComplete, Desk, with_at, take,
-  give, replay, IsFoldOf}
+use Rattle.rx_schedule.specs.Machine.{Job, Store, IsPlace, cut, Share, Was, MayTake, MayGive, IsLegal}
+use Rattle.rx_schedule.specs.Machine.{IsComplete, Desk, with_at, take, give, replay, IsFoldOf}
 
 -- what was given was taken
 pub taken : (job : Job) (i : ℕ) (past : List Event) → IsLegal job past → Was (Give i) past → Was (Take i) past

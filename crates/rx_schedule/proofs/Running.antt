@@ -1,6 +1,6 @@
 -- What the columns of the queues keep: the next place is ready where any is, and what a released place changes.
-use Rattle.std.proofs.Common.{◌≡◌, ◌≢◌, ℕ, zero, suc, ◌+◌, ◌-◌, ◌<◌, ◌≤◌, true, false, ◌==◌, List, [], ◌∷◌, ◌++◌, length, get_or, set, take,
-  drop, reverse, Option, Some, None, refl, ap, sym, ◌∙◌, inl, inr, arith, subst}
+use Rattle.std.proofs.Common.{◌≡◌, ◌≢◌, ℕ, zero, suc, ◌+◌, ◌-◌, ◌<◌, ◌≤◌, true, false, ◌==◌, List, [], ◌∷◌, ◌++◌, length, get_or}
+use Rattle.std.proofs.Common.{set, take, drop, reverse, Option, Some, None, refl, ap, sym, ◌∙◌, inl, inr, arith, subst}
 use Rattle.std.specs.Prelude.{◌⊎◌, IsSome, nat_lt}
 use Rattle.std.specs.List.{AllByRecursion, IsDistinct, list_any}
 use Rattle.std.proofs.lemmas.Bool.{cases_Bool, cases_eq, cases_lt, eqb-true, ltb-false, ltb-true}
@@ -12,8 +12,9 @@ use Rattle.rx_schedule.specs.Links.{AreCounted, AreFree, AreLinks, AreRows, link
 use Rattle.rx_schedule.specs.Machine.{Was}
 use Rattle.rx_schedule.specs.Queues.{AreQueues, IsNext, IsReady, IsRunning, QueueParts, next_in}
 use Rattle.rx_schedule.specs.Waves.{shares}
-use Rattle.rx_schedule.proofs.Times.{Pairs-from_times, Was-from_times, number-other, number-same, one_if, one_other, one_same, one_small,
-  row-other, row-same, times-cons, times-from_Was, times-push, times-reverse, times-take, total-none, total-row, total-set}
+use Rattle.rx_schedule.proofs.Times.{Pairs-from_times, Was-from_times, number-other, number-same, one_if, one_other}
+use Rattle.rx_schedule.proofs.Times.{one_same, one_small, row-other, row-same, times-cons, times-from_Was, times-push}
+use Rattle.rx_schedule.proofs.Times.{times-reverse, times-take, total-none, total-row, total-set}
 
 -- ---- a list of different places leaves room for one that it doesn't have
 

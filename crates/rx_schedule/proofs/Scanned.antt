@@ -1,6 +1,6 @@
 -- The waves are found by the last record that had each name, since along one book waves rise.
-use Rattle.std.proofs.Common.{◌≡◌, ℕ, suc, zero, ◌-◌, ◌<◌, ◌≤◌, true, false, Bool, cond, ◌||◌, List, [], ◌∷◌, ◌++◌, map, length, get_or,
-  set, Option, Some, None, refl, ap, sym, ◌∙◌, inl, inr, arith, subst}
+use Rattle.std.proofs.Common.{◌≡◌, ℕ, suc, zero, ◌-◌, ◌<◌, ◌≤◌, true, false, Bool, cond, ◌||◌, List, [], ◌∷◌, ◌++◌, map}
+use Rattle.std.proofs.Common.{length, get_or, set, Option, Some, None, refl, ap, sym, ◌∙◌, inl, inr, arith, subst}
 use Rattle.std.specs.Prelude.{◌⊎◌, nat_lt}
 use Rattle.std.specs.BTreeMap.{BTreeMap, get}
 use Rattle.std.specs.List.{list_any}
@@ -17,8 +17,8 @@ use Rattle.rx_parcels.specs.Books.{OfFamily, OfKey}
 use Rattle.rx_parcels.specs.Footprints.{FootprintParts, itself, names}
 use Rattle.rx_schedule.specs.declared.marks.Mark.{Mark}
 use Rattle.rx_schedule.specs.Marked.{IsDown, IsLastOf, IsScan, best_of, families_at, is_named, keys_at, no_mark}
-use Rattle.rx_schedule.specs.Waves.{AreWaves, IsChain, IsFirstHighest, IsFirstSharer, footprint_in, meet, member_at, nothing, number_in,
-  shares}
+use Rattle.rx_schedule.specs.Waves.{AreWaves, IsChain, IsFirstHighest, IsFirstSharer, footprint_in}
+use Rattle.rx_schedule.specs.Waves.{meet, member_at, nothing, number_in, shares}
 use Rattle.rx_schedule.proofs.MarkedNames.{IsAtMost, at_most_through, best_is_best, last-at_most, last-more}
 
 -- ---- two footprints meet in a fill key or in a family

@@ -1,6 +1,6 @@
 -- Shares of a family's weight: those of members without claims, and one claim more.
-use Rattle.std.proofs.Common.{◌≡◌, ℕ, suc, ◌+◌, ◌<◌, ◌≤◌, true, false, List, [], ◌∷◌, length, get_or, map, set, take, refl, ap, sym, ◌∙◌,
-  inl, inr, arith}
+use Rattle.std.proofs.Common.{◌≡◌, ℕ, suc, ◌+◌, ◌<◌, ◌≤◌, true, false, List, [], ◌∷◌, length}
+use Rattle.std.proofs.Common.{get_or, map, set, take, refl, ap, sym, ◌∙◌, inl, inr, arith}
 use Rattle.std.specs.Prelude.{min}
 use Rattle.std.specs.List.{filter, sum_by}
 use Rattle.std.proofs.lemmas.Bool.{cases_Bool}
@@ -62,7 +62,7 @@ at_home xs ms r i x same is_at item =
     let within : i < length xs = omega (arith, long, is_at.in_range) in
     let key : member_key (get_or ms i m) ≡ member_of_row r = member_exact (member_key (get_or ms i m)) (member_of_row r) (is_at.has_it m) in
     let mine : x.family ≡ get_or (map share_family xs) i r.family = ap share_family item
-        ∙ sym (get_or-map share_family xs i x r.family within) in
+    ∙ sym (get_or-map share_family xs i x r.family within) in
     let theirs : get_or (map member_family ms) i r.family ≡ r.family =
     get_or-map member_family ms i m r.family is_at.in_range ∙ ap (λ (k : MemberKey). k.family) key in
     (within, mine ∙ ap (λ fs. get_or fs i r.family) same ∙ theirs)
@@ -82,7 +82,7 @@ pub claim_counted : (limit : ℕ) (f : List ℕ) (xs : List Share) (i : ℕ) (x 
     → i < length xs → x ≡ get_or xs i x → x.family ≡ r.family → count ≡ min limit (x.count + 1) → rest ≡ r ∷ later
     → min limit (sum_by (share_in f) xs + length (filter (claimed_by f) rest)) ≡ min limit all
     → min limit (sum_by (share_in f) (set xs i (record { family = x.family; count = count })) + length (filter (claimed_by f) later))
-        ≡ min limit all
+    ≡ min limit all
 claim_counted limit f xs i x count r rest later all within item own is cut so_far =
     let made : ℕ → Share = λ n. record { family = x.family; count = n } in
     let put : (n : ℕ) → sum_by (share_in f) (set xs i (made n)) + share_in f x ≡ sum_by (share_in f) xs + share_in f (made n) =

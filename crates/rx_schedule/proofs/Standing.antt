@@ -3,8 +3,8 @@ use Rattle.rx_schedule.specs.declared.event.Event.TheVariants.{Take, Give}
 use Rattle.std.proofs.Common.{◌≡◌, ◌≢◌, true, ℕ, suc, ◌<◌, ◌≤◌, List, [], ◌∷◌, ◌++◌, refl, ap, sym, subst, arith, inl, inr}
 use Rattle.std.specs.Prelude.{Some}
 use Rattle.std.proofs.lemmas.Bool.{cases_order}
-use Rattle.rx_schedule.specs.Machine.{Job, Store, IsPlace, Share, Was, IsLegal, MayTake, replay, IsFoldOf, one_by_one, Pairs, IsOrder,
-  KeepsFileOrder, IsNumbering, GoesByNumber}
+use Rattle.rx_schedule.specs.Machine.{Job, Store, IsPlace, Share, Was, IsLegal, MayTake, replay, IsFoldOf, one_by_one}
+use Rattle.rx_schedule.specs.Machine.{Pairs, IsOrder, KeepsFileOrder, IsNumbering, GoesByNumber}
 use Rattle.rx_schedule.proofs.Replayed.{core_books, core_finds, core_replies}
 
 given : (i : ℕ) (order : List ℕ) → Was i order → Was (Give i) (one_by_one order)

@@ -3,8 +3,8 @@ use Rattle.std.proofs.Common.{◌≡◌, ◌≢◌, ℕ, suc, List, [], ◌∷�
 use Rattle.std.specs.Prelude.{Some, ◌⊎◌}
 use Rattle.rx_schedule.specs.declared.event.Event.{Event}
 use Rattle.rx_schedule.specs.declared.event.Event.TheVariants.{Take, Give}
-use Rattle.rx_schedule.specs.Machine.{Job, Store, IsPlace, Was, IsLegal, MayTake, MayGive, replay, IsFoldOf, Pairs, wave_by_wave, WasIn,
-  AreWaves}
+use Rattle.rx_schedule.specs.Machine.{Job, Store, IsPlace, Was, IsLegal, MayTake, MayGive, replay}
+use Rattle.rx_schedule.specs.Machine.{IsFoldOf, Pairs, wave_by_wave, WasIn, AreWaves}
 use Rattle.rx_schedule.proofs.Replayed.{taken, core_replies, core_books}
 
 into_left : (e : Event) (xs ys : List Event) → Was e xs → Was e (xs ++ ys)

@@ -1,6 +1,6 @@
 -- Weights up to a limit: what one entry more and one record more make of them.
-use Rattle.std.proofs.Common.{◌≡◌, ℕ, ◌+◌, ◌-◌, ◌<◌, ◌≤◌, Bool, cond, List, length, get_or, map, take, Some, refl, ap, sym, ◌∙◌, inl, inr,
-  arith, subst}
+use Rattle.std.proofs.Common.{◌≡◌, ℕ, ◌+◌, ◌-◌, ◌<◌, ◌≤◌, Bool, cond, List, length, get_or, map}
+use Rattle.std.proofs.Common.{take, Some, refl, ap, sym, ◌∙◌, inl, inr, arith, subst}
 use Rattle.std.specs.Prelude.{min}
 use Rattle.std.specs.BTreeMap.{BTreeMap, get, is_at}
 use Rattle.std.specs.List.{filter, range_with_len, sum, sum_by}

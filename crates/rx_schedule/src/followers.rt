@@ -1,4 +1,5 @@
-ghost use Rattle.std.specs.Prelude.{◌≡◌, ◌≢◌, ◌++◌, ◌<◌, ◌≤◌, ◌-◌, ℕ, List, [], IfOk, OnOk, length, map, vec_capacity, replicate, ◌==◌, ◌∷◌, if◌then◌else◌, slice_set};
+ghost use Rattle.std.specs.Prelude.{◌≡◌, ◌≢◌, ◌++◌, ◌<◌, ◌≤◌, ◌-◌, ℕ, List, [], IfOk, OnOk, length, map};
+ghost use Rattle.std.specs.Prelude.{vec_capacity, replicate, ◌==◌, ◌∷◌, if◌then◌else◌, slice_set};
 ghost use Rattle.rx_schedule.specs.Links.{AreCounted, AreFree, AreRows, linked, number_of, row_of};
 
 use crate::links::Link;

@@ -1,6 +1,6 @@
 -- Drugs that are added in ascending order go in one after another, each behind those before it.
-use Rattle.std.proofs.Common.{◌≡◌, ℕ, ◌+◌, ◌<◌, List, [], ◌∷◌, ◌++◌, take, drop, get_or, length, Option, Some, None, Ok, true, false, ◌&&◌,
-  refl, sym, ap, ◌∙◌}
+use Rattle.std.proofs.Common.{◌≡◌, ℕ, ◌+◌, ◌<◌, List, [], ◌∷◌, ◌++◌, take, drop, get_or, length}
+use Rattle.std.proofs.Common.{Option, Some, None, Ok, true, false, ◌&&◌, refl, sym, ap, ◌∙◌}
 use Rattle.std.proofs.lemmas.Bool.{and_parts}
 use Rattle.std.proofs.lemmas.List.{drop_more, take_more}
 use Rattle.std.proofs.lemmas.List.Folds.{list_all-append}
@@ -80,4 +80,4 @@ module _ (drugs : List Listed) (i : ℕ) (x : Listed) (within : i < length drugs
       → with_drug (plan_of figures (take i drugs)) x.product x.drug ≡ plan_of figures (take (i + 1) drugs)
   next_added figures = ap (plan_of figures)
       (put-past nat_cmp number_total listed_product (take i drugs) x past
-          ∙ sym (take_more drugs i x within ∙ ap (λ y. take i drugs ++ y ∷ []) is))
+      ∙ sym (take_more drugs i x within ∙ ap (λ y. take i drugs ++ y ∷ []) is))

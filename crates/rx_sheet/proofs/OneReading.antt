@@ -17,13 +17,13 @@ use Rattle.rx_sheet.specs.declared.fault.SheetFault.TheVariants as fault
 use Rattle.rx_sheet.specs.Drugs.{drug_in, drugs_in, drugs_of, listed_in, share_of, tiers_in}
 use Rattle.rx_sheet.specs.Figures.{door_in, family_deductible_in, figures_in, period_from, period_in}
 use Rattle.rx_sheet.specs.Names.{name_of}
-use Rattle.rx_sheet.specs.Said.{Fails, FailsDoor, FailsDrug, FailsDrugs, FailsEach, FailsFigures, FailsPeriod, HasFault, IsSheetText, Says,
-  SaysDoor, SaysDrug, SaysDrugs, SaysEach, SaysFigures, SaysIfThere, SaysPeriod}
+use Rattle.rx_sheet.specs.Said.{Fails, FailsDoor, FailsDrug, FailsDrugs, FailsEach, FailsFigures, FailsPeriod, HasFault, IsSheetText}
+use Rattle.rx_sheet.specs.Said.{Says, SaysDoor, SaysDrug, SaysDrugs, SaysEach, SaysFigures, SaysIfThere, SaysPeriod}
 use Rattle.rx_sheet.specs.Said.Fails.{missing, wrong}
 use Rattle.rx_sheet.specs.Said.FailsDoor.{bin_fails, pcn_fails}
 use Rattle.rx_sheet.specs.Said.FailsPeriod.{first_fails, last_fails}
-use Rattle.rx_sheet.specs.Said.FailsFigures.{door_fails, period_fails, member_deductible_fails, family_maximum_fails, refill_percent_fails,
-  max_days_fails, fee_fails}
+use Rattle.rx_sheet.specs.Said.FailsFigures.{door_fails, period_fails, member_deductible_fails, family_maximum_fails}
+use Rattle.rx_sheet.specs.Said.FailsFigures.{refill_percent_fails, max_days_fails, fee_fails}
 use Rattle.rx_sheet.specs.Said.FailsDrug.{no_product, no_table, tier_fails, price_fails}
 use Rattle.rx_sheet.specs.Said.FailsEach.{here, later}
 use Rattle.rx_sheet.specs.Said.FailsDrugs.{tiers_fail, drugs_fail, each_fails}

@@ -134,7 +134,7 @@ below_table tiers name n [] all is below read =
     subst (λ ls. IsBelow nat_cmp listed_product n ls) none tt
 below_table tiers name n (e ∷ es) all is below read =
     let (l, ls, first, more, both) = head_and_rest (listed_in tiers (string_bytes e.0) (view e.1))
-        (drugs_of tiers (members_view es)) all read in
+    (drugs_of tiers (members_view es)) all read in
     let product = product_is tiers (string_bytes e.0) (view e.1) l first in
     rw both (product_less name (string_bytes e.0) n l.product is product below.0, below_table tiers name n es ls is below.1 more)
 
@@ -148,6 +148,6 @@ listed_ascending tiers [] all sorted read =
     subst (λ ls. IsAscending nat_cmp listed_product ls) none tt
 listed_ascending tiers (e ∷ es) all sorted read =
     let (l, ls, first, more, both) = head_and_rest (listed_in tiers (string_bytes e.0) (view e.1))
-        (drugs_of tiers (members_view es)) all read in
+    (drugs_of tiers (members_view es)) all read in
     let product = product_is tiers (string_bytes e.0) (view e.1) l first in
     rw both (below_table tiers (string_bytes e.0) l.product es ls product sorted.0 more, listed_ascending tiers es ls sorted.1 more)

@@ -4,7 +4,8 @@ ghost use Rattle.std.specs.Result.{result_map_both};
 ghost use Rattle.toml.specs.Data.{as_table};
 ghost use Rattle.toml.specs.View.{view, table_view};
 ghost use Rattle.rx_ledger.specs.Plan.{is_drug, is_share};
-ghost use Rattle.rx_sheet.specs.Drugs.{AreListed, percent_in, share_in, are_shares, tiers_in, share_of, drug_in, listed_in, drugs_of, drugs_in};
+ghost use Rattle.rx_sheet.specs.Drugs.{AreListed, percent_in, share_in, are_shares, tiers_in};
+ghost use Rattle.rx_sheet.specs.Drugs.{share_of, drug_in, listed_in, drugs_of, drugs_in};
 ghost use Rattle.rx_sheet.specs.Fault.{GivesAs};
 ghost use Rattle.rx_sheet.specs.Values.{read_at};
 

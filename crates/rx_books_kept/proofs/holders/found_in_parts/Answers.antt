@@ -15,7 +15,7 @@ returns g c =
     let e = c.in-Ok.ensures in
     let members = ap (λ f. f.2.now) c.map.ensures.f in
     let slice = ap (λ it. it.base.slice.now) c.map.ensures.base ∙ ap (λ it. it.slice.now) c.with_min_len.ensures.base
-        ∙ c.par_iter.ensures in
+    ∙ c.par_iter.ensures in
     let each = slice-AllZip e.1.0 runs (e.1.1 ∙ slice)
     (λ run r. IfOk r (λ holders. AreHolders c.map.result.f.2.now run.items holders.items)) e.0 e.1.2 in
     let all = rw c.in-Ok-found.is at e.2 in

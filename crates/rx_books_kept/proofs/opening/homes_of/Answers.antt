@@ -16,12 +16,20 @@ overflow_cast-home c =
     let more : take (i + 1) ms ≡ take i ms ++ m ∷ [] =
     take_more ms i m c.loop-member-test.true ∙ ap (λ x. take i ms ++ x ∷ []) (sym c.member-item.is) in
     let rise = subst (IsAscending member_cmp member_key) more (IsAscending-take member_cmp member_total member_key
-        (i + 1) ms c.requires.rise) in
+    (i + 1) ms c.requires.rise) in
     let step = homes-more (take i ms) m rise c.loop-member.families c.loop-member.invariant.names c.last_place.new.families
     c.in_ok-home.ensures.names in
     let few = families_few (take i ms ++ m ∷ []) in
-    omega (arith, ap length step.0, length-names c.last_place.new.families, few, ap length more, length-take (i + 1) ms,
-        c.in_ok-home.ensures.place, c.requires.few)
+    omega (
+      arith,
+      ap length step.0,
+      length-names c.last_place.new.families,
+      few,
+      ap length more,
+      length-take (i + 1) ms,
+      c.in_ok-home.ensures.place,
+      c.requires.few,
+    )
 
 pub loop-member-preserved : goal.loop-member-preserved
 loop-member-preserved c =
@@ -31,7 +39,7 @@ loop-member-preserved c =
     let more : take (i + 1) ms ≡ take i ms ++ m ∷ [] =
     take_more ms i m c.loop-member-test.true ∙ ap (λ x. take i ms ++ x ∷ []) (sym c.member-item.is) in
     let rise = subst (IsAscending member_cmp member_key) more (IsAscending-take member_cmp member_total member_key
-        (i + 1) ms c.requires.rise) in
+    (i + 1) ms c.requires.rise) in
     let step = homes-more (take i ms) m rise c.loop-member.families c.loop-member.invariant.names c.last_place.new.families
     c.in_ok-home.ensures.names in
     rw (more, c.in_ok-push.ensures.items) (record {

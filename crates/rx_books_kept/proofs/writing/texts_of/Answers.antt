@@ -12,7 +12,7 @@ returns g c =
     let pieces = c.args.pieces.now in
     let e = c.in-Ok.ensures in
     let slice = ap (λ it. it.base.slice.now) c.map.ensures.base ∙ ap (λ it. it.slice.now) c.with_min_len.ensures.base
-        ∙ c.par_iter.ensures in
+    ∙ c.par_iter.ensures in
     let each = slice-AllZip e.1.0 pieces (e.1.1 ∙ slice)
     (λ piece r. IfOk r (λ text. text.items ≡ rows_text piece.now)) e.0 e.1.2 in
     let all = rw c.in-Ok-texts.is at e.2 in

@@ -16,7 +16,7 @@ returns g c =
     let e = c.in-Ok.ensures in
     let version = ap (λ f. f.1) c.map.ensures.f in
     let slice = ap (λ it. it.base.slice.now) c.map.ensures.base ∙ ap (λ it. it.slice.now) c.with_min_len.ensures.base
-        ∙ c.par_iter.ensures in
+    ∙ c.par_iter.ensures in
     let each = slice-AllZip e.1.0 pieces (e.1.1 ∙ slice)
     (λ piece r. IfOk r (λ part. BeginWith c.map.result.f.1 piece.now (part_lines part) [])) e.0 e.1.2 in
     let all = rw c.in-Ok-read.is at e.2 in

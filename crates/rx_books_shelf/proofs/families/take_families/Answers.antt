@@ -1,5 +1,5 @@
-use Rattle.std.proofs.Common.{Global, Vec, ◌≡◌, ◌≤◌, ◌+◌, [], ◌∷◌, ◌++◌, List, map, Option, Some, None, drop, length, sym, ap, ◌∙◌, arith,
-  append_assoc, length-append}
+use Rattle.std.proofs.Common.{Global, Vec, ◌≡◌, ◌≤◌, ◌+◌, [], ◌∷◌, ◌++◌, List, map, Option, Some, None}
+use Rattle.std.proofs.Common.{drop, length, sym, ap, ◌∙◌, arith, append_assoc, length-append}
 use Rattle.std.specs.Prelude.{vec_capacity}
 use Rattle.std.specs.Option.{option_to_list}
 use Rattle.std.proofs.lemmas.List.{append-nil}

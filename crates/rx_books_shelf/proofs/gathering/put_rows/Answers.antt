@@ -9,8 +9,8 @@ use Rattle.rx_ledger.specs.Ledger.{Ledger, is_listed}
 use Rattle.rx_ledger.specs.Rows.{member_of_row, row_key}
 use Rattle.rx_parcels.specs.FamilyBook.{FamilyBook, family_of}
 use Rattle.rx_books_shelf.specs.Gathered.{with_own_row}
-use Rattle.rx_books_shelf.proofs.PutBooks.{Free, HasMembers, all_free, all_free_kept, free_first, listed_first, members_stay, rise_with_row,
-  rows_put, rows_put_all}
+use Rattle.rx_books_shelf.proofs.PutBooks.{Free, HasMembers, all_free, all_free_kept, free_first, listed_first}
+use Rattle.rx_books_shelf.proofs.PutBooks.{members_stay, rise_with_row, rows_put, rows_put_all}
 use Rattle.rx_books_shelf.proofs.gathering.put_rows.Goals as goal
 
 pub rows-init : goal.rows-init

@@ -22,7 +22,7 @@ returns-in-Some c =
     let d = c.args.books.now.books in
     let b : FamilyBook = c.args.book.now in
     let found : slice_get (families_of d.ledger.members) c.in-Some.at ≡ Some b.family = c.in-Some.ensures.found
-        ∙ ap Some c.family.ensures in
+    ∙ ap Some c.family.ensures in
     totals_stored d b c.requires c.in_ok-deductibles.deductibles.items
     (c.in_ok-deductibles.ensures ∙ ap (map (own_deductible d)) c.members.ensures.value)
     c.out_of_pocket_at.result c.family_deductible_at.result

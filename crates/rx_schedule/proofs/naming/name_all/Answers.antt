@@ -24,4 +24,4 @@ returns-clause-families c = λ earlier has f.
     ∙ ap (λ ts. is_among c.args.families.now.items f
     || is_among (flat_map (families_named c.args.books.now.ledger earlier c.args.heard.now) ts) f)
     (take_all c.transactions.transaction-index c.as_slice-transaction-items.result.now c.transactions-test.false
-        ∙ c.as_slice-transaction-items.ensures.value)
+    ∙ c.as_slice-transaction-items.ensures.value)

@@ -4,8 +4,8 @@ use Rattle.std.proofs.lemmas.List.{get_or_read}
 use Rattle.rx_fields.specs.Order.{id_cmp, key_cmp}
 use Rattle.rx_schedule.specs.declared.marks.Mark.{Mark}
 use Rattle.rx_schedule.specs.Marked.{IsDown, is_named}
-use Rattle.rx_schedule.proofs.Scanned.{best_found, best_small, down_ends, down_step, next_families, next_keys, scan_begins, scan_step,
-  scanned_waves}
+use Rattle.rx_schedule.proofs.Scanned.{best_found, best_small, down_ends, down_step, next_families}
+use Rattle.rx_schedule.proofs.Scanned.{next_keys, scan_begins, scan_step, scanned_waves}
 use Rattle.rx_schedule.proofs.Longest.{are_longest, chain_shares, none_fewer}
 use Rattle.rx_schedule.proofs.wave_plan.waves.Goals as goal
 

@@ -18,7 +18,7 @@ returns-in_err-read-clause-thread g c =
     let p = err_from_is_err_and c.from_residual.result c.from_residual.ensures.1 in
     let before = left (g.A.Source.left c.args.sheet.now) (g.B.Source.left c.args.books.now) (g.C.Source.left c.args.batch.now) in
     let after = left (g.A.Source.left c.read_inputs.new.sheet) (g.B.Source.left c.read_inputs.new.books)
-        (g.C.Source.left c.read_inputs.new.batch) in
+    (g.C.Source.left c.read_inputs.new.batch) in
     let broken : IfErr c.from_residual.result (IsUnread before after) = rw (p.1, p.2) c.in_err-read.ensures.unread in
     λ thread. absurd (unread_without_thread (IfErr-at_err (IsUnread before after) thread broken) refl)
 
@@ -52,17 +52,17 @@ returns-clause-broken g c =
 pub returns-clause-sheet : goal.returns-clause-sheet
 returns-clause-sheet g c =
     c.in_ok-read.ensures.sheet ∙ sym (only_outputs device.Sheet refl refl refl _ _ _ c.write_outputs.result
-        c.write_outputs.ensures.unwritten)
+    c.write_outputs.ensures.unwritten)
 
 pub returns-clause-books : goal.returns-clause-books
 returns-clause-books g c =
     c.in_ok-read.ensures.books ∙ sym (only_outputs device.Books refl refl refl _ _ _ c.write_outputs.result
-        c.write_outputs.ensures.unwritten)
+    c.write_outputs.ensures.unwritten)
 
 pub returns-clause-batch : goal.returns-clause-batch
 returns-clause-batch g c =
     c.in_ok-read.ensures.batch ∙ sym (only_outputs device.Batch refl refl refl _ _ _ c.write_outputs.result
-        c.write_outputs.ensures.unwritten)
+    c.write_outputs.ensures.unwritten)
 
 pub returns-clause-thread : goal.returns-clause-thread
 returns-clause-thread g c thread =

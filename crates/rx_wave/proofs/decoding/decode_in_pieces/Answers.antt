@@ -20,9 +20,9 @@ returns g c =
     let IsOne : Detail → Result Transmission Memory → Type 0 = λ detail r. IfOk r (λ t. t ≡ one detail) in
     let e = c.in_ok-collect.ensures in
     let slice = ap (λ it. it.base.slice.now) c.map.ensures.base ∙ ap (λ it. it.slice.now) c.with_min_len.ensures.base
-        ∙ c.par_iter.ensures in
+    ∙ c.par_iter.ensures in
     let each : AllZip IsOne details e.0 = slice-AllZip e.1.0 details (e.1.1 ∙ slice) IsOne e.0 e.1.2 in
     IfOk-matched c.in_ok-collect.field-0 _ _ _ e.2 (λ v k.
     subst (λ d. v.items ≡ transmissions_of d details) (ap (λ f. f.1.now) c.map.ensures.f)
     (k.2 ∙ AllZip-map one details k.0 (AllZip-all_ok Memory (λ detail t. t ≡ one detail) details k.0
-        (subst (AllZip IsOne details) k.1 each))))
+    (subst (AllZip IsOne details) k.1 each))))

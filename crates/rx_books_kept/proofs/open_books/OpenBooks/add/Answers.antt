@@ -8,8 +8,8 @@ use Rattle.rx_ledger.specs.Rows.{member_of_row}
 use Rattle.rx_books_kept.specs.BooksText.{families_of}
 use Rattle.rx_books_kept.specs.Store.{slot_keys, standing}
 use Rattle.rx_parcels.proofs.Owned.{counted-small, counted_deductible-small}
-use Rattle.rx_books_kept.proofs.Stored.{deductible-low, family_deductible-low, keys-added, length-family_deductibles, length-pockets,
-  pocket-low, same_open, slot-at, stands-added, store-added}
+use Rattle.rx_books_kept.proofs.Stored.{deductible-low, family_deductible-low, keys-added, length-family_deductibles}
+use Rattle.rx_books_kept.proofs.Stored.{length-pockets, pocket-low, same_open, slot-at, stands-added, store-added}
 use Rattle.rx_books_kept.proofs.open_books.OpenBooks.add.Goals as goal
 
 pub replace_at-requires : goal.replace_at-requires

@@ -20,7 +20,7 @@ returns-then-eq-2 c =
       | then-eq w ↦ both_hold c.eq.result w.eq-then-eq.result c.if-eq.value period w.if-eq.true
           (rw (w.members.ensures.value, w.members-then-eq.ensures.value) at
           (Decides-at _ _ w.eq-then-eq.ensures (pointwise_decides member_decides w.members.result.now
-              w.members-then-eq.result.now))) w.value-is
+          w.members-then-eq.result.now))) w.value-is
       | else-eq w ↦ first_fails c.eq.result c.if-eq.value period w.if-eq.false w.value-is
     ] in
     let rows : Decides c.has_rows_of.result (a.ledger.rows ≡ b.ledger.rows) =
@@ -38,7 +38,7 @@ returns-else-eq-2 c =
       | then-eq w ↦ both_hold c.eq.result w.eq-then-eq.result c.if-eq.value period w.if-eq.true
           (rw (w.members.ensures.value, w.members-then-eq.ensures.value) at
           (Decides-at _ _ w.eq-then-eq.ensures (pointwise_decides member_decides w.members.result.now
-              w.members-then-eq.result.now))) w.value-is
+          w.members-then-eq.result.now))) w.value-is
       | else-eq w ↦ first_fails c.eq.result c.if-eq.value period w.if-eq.false w.value-is
     ] in
     rw (← c.self.view_is, ← c.other.view_is) (heads_tell a b c.if-eq.value heads c.if-eq-2.false)

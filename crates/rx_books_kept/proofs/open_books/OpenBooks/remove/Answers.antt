@@ -6,9 +6,9 @@ use Rattle.rx_ledger.specs.Ledger.{is_taken, row_under, without_row}
 use Rattle.rx_ledger.proofs.Orders.{key_total}
 use Rattle.rx_books_kept.specs.BooksText.{families_of}
 use Rattle.rx_books_kept.specs.Store.{slot_key, slot_keys, standing}
-use Rattle.rx_books_kept.proofs.Stored.{IsAt-get, deductible-part, family_deductible-part, holder-at, home-of, key-get, key-held,
-  keys-removed, length-deductibles, length-family_deductibles, length-pockets, pocket-part, row-held, same_open, stands-removed,
-  store-removed, taken-held}
+use Rattle.rx_books_kept.proofs.Stored.{IsAt-get, deductible-part, family_deductible-part, holder-at, home-of, key-get, key-held}
+use Rattle.rx_books_kept.proofs.Stored.{keys-removed, length-deductibles, length-family_deductibles, length-pockets, pocket-part}
+use Rattle.rx_books_kept.proofs.Stored.{row-held, same_open, stands-removed, store-removed, taken-held}
 use Rattle.rx_books_kept.proofs.open_books.OpenBooks.remove.Goals as goal
 
 pub unreachable-requires : goal.unreachable-requires
@@ -80,7 +80,7 @@ take_at-requires-3-clause-enough c =
     (families_of c.self.inside.opening.members) c.home-family.result at c.home-family.ensures in
     rw c.counted_in-counted.ensures.deductible
     (family_deductible-part _ _ _ _ _ _ c.self.invariant c.slot_at-found.result c.in-Some.row c.args.slot
-        c.slot_at-found.ensures c.in-Some.is
+    c.slot_at-found.ensures c.in-Some.is
     c.home-family.result home)
 
 -- ---- the row is taken out, and counts no more
@@ -104,25 +104,25 @@ invariant_of-self c =
 pub returns-clause-slot : goal.returns-clause-slot
 returns-clause-slot c =
     let same = key-held _ _ _ _ _ _ c.self.invariant c.slot_at-found.result c.in-Some.row c.args.slot c.slot_at-found.ensures
-        c.in-Some.is in
+    c.in-Some.is in
     rw (← c.self.view_is) (key-get c.self.inside.changed c.args.slot c.slot_at-found.result c.slot_at-found.ensures ∙ ap Some (sym same))
 
 pub returns-clause-row : goal.returns-clause-row
 returns-clause-row c =
     let same = key-held _ _ _ _ _ _ c.self.invariant c.slot_at-found.result c.in-Some.row c.args.slot c.slot_at-found.ensures
-        c.in-Some.is in
+    c.in-Some.is in
     let there = row-held _ _ _ _ _ _ c.self.invariant c.slot_at-found.result c.in-Some.row c.args.slot c.slot_at-found.ensures
-        c.in-Some.is in
+    c.in-Some.is in
     rw (← c.self.view_is) (ap (row_under (standing c.self.inside.opening c.self.inside.changed)) same ∙ there)
 
 pub returns-clause-books : goal.returns-clause-books
 returns-clause-books c =
     let inside = c.self.inside in
     let same = key-held _ _ _ _ _ _ c.self.invariant c.slot_at-found.result c.in-Some.row c.args.slot c.slot_at-found.ensures
-        c.in-Some.is in
+    c.in-Some.is in
     let ledger = stands-removed _ _ _ _ _ _ c.self.invariant c.slot_at-found.result c.in-Some.row c.args.slot c.slot_at-found.ensures
-        c.in-Some.is in
+    c.in-Some.is in
     let keys = keys-removed _ _ _ _ _ _ c.self.invariant c.slot_at-found.result c.in-Some.row c.args.slot c.slot_at-found.ensures
-        c.in-Some.is in
+    c.in-Some.is in
     rw (c.replace_at.ensures.items, ← c.self.view_is)
     (same_open inside.period _ _ _ _ (ledger ∙ ap (without_row (standing inside.opening inside.changed)) (sym same)) keys)

@@ -23,7 +23,7 @@ returns c =
     let claims = claims_text L.rows in
     let totals = lines_text (total_lines ns b.out_of_pockets.items b.family_deductibles.items) in
     let first : c.put_head.new.text.items ≡ head = c.in_ok-put_head.ensures
-        ∙ ap (λ t. t ++ head) (c.reserve.ensures.items ∙ c.clear.ensures.items) in
+    ∙ ap (λ t. t ++ head) (c.reserve.ensures.items ∙ c.clear.ensures.items) in
     let second : c.put_members.new.text.items ≡ head ++ put_m = c.in_ok-put_members.ensures ∙ ap (λ t. t ++ put_m) first in
     let third : c.put_claims.new.text.items ≡ head ++ put_m ++ put_c = c.in_ok-put_claims.ensures ∙ ap (λ t. t ++ put_c) second in
     let whole : c.put_totals.new.text.items ≡ head ++ put_m ++ put_c ++ put_t = c.in_ok-put_totals.ensures ∙ ap (λ t. t ++ put_t) third in

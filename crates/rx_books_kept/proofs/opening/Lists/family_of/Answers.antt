@@ -11,9 +11,9 @@ returns-in-Ok-clause-found c =
 pub returns-in-Ok-clause-listed : goal.returns-in-Ok-clause-listed
 returns-in-Ok-clause-listed c =
     rw (← c.self.view_is) (sym (found-has (record { members = c.self.inside.members; rows = c.self.inside.rows }) c.self.inside.families
-        c.args.family.now c.in-Ok.at c.self.invariant.all_families c.in-Ok.ensures.found))
+    c.args.family.now c.in-Ok.at c.self.invariant.all_families c.in-Ok.ensures.found))
 
 pub returns-in-Err-clause-listed : goal.returns-in-Err-clause-listed
 returns-in-Err-clause-listed c =
     rw (← c.self.view_is) (sym (absent-has (record { members = c.self.inside.members; rows = c.self.inside.rows }) c.self.inside.families
-        c.args.family.now c.in-Err.field-0 c.self.invariant.all_families c.in-Err.ensures.absent))
+    c.args.family.now c.in-Err.field-0 c.self.invariant.all_families c.in-Err.ensures.absent))

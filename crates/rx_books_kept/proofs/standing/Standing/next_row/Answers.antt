@@ -34,9 +34,9 @@ returns-in-Some-clause-row c =
     ∙ ap (λ xs. standing_rows (drop c.self.inside.row xs) (drop c.self.inside.slot slots)) (sym same)
     ∙ sym c.slots.invariant.rest ∙ one
     ∙ ap (λ xs. c.in-Some.row ∷ standing_rows (drop p xs) (drop (j + 1) slots))
-        (same ∙ ap (λ o. o.now.rows) (sym c.slots.invariant.opening))
+    (same ∙ ap (λ o. o.now.rows) (sym c.slots.invariant.opening))
     ∙ ap (λ ss. c.in-Some.row ∷ standing_rows (drop p c.slots.self-inside.opening.now.rows) (drop (j + 1) ss.now))
-        (sym c.slots.invariant.slots)
+    (sym c.slots.invariant.slots)
 
 pub slots-preserved : goal.slots-preserved
 slots-preserved c =

@@ -12,7 +12,7 @@ returns-in-Some c =
     let s : ShelfParts = beside c.self.inside.books.now.books c.self.inside.keys.now c.self.inside.families.now in
     let at : family_place s c.args.family.now ≡ Some c.in-Some.place.now = sym c.in-Some.ensures in
     rw (← c.self.view_is) (c.deductible_held.ensures ∙ deductible_placed s c.self.invariant c.args.family.now c.args.person.now
-        c.in-Some.place.now at)
+    c.in-Some.place.now at)
 
 pub returns-in-None : goal.returns-in-None
 returns-in-None c =

@@ -7,8 +7,8 @@ use Rattle.rx_parcels.specs.Parcels.{HasOwnRow, key_of, values_of}
 use Rattle.rx_places.specs.Shelves.{IsShelf, ShelfParts, has_slot, is_out, value_of}
 use Rattle.rx_books_shelf.specs.Closed.{HasSlot}
 use Rattle.rx_books_shelf.specs.Taken.{has_all, parcel_of, taken_out}
-use Rattle.rx_books_shelf.proofs.ShelfKept.{families_rise, keys_rise, one_period, parcel_parts, rows_own, shelf_parts, shelf_taken,
-  slots_stay, taken_parts}
+use Rattle.rx_books_shelf.proofs.ShelfKept.{families_rise, keys_rise, one_period, parcel_parts, rows_own}
+use Rattle.rx_books_shelf.proofs.ShelfKept.{shelf_parts, shelf_taken, slots_stay, taken_parts}
 use Rattle.rx_books_shelf.proofs.Worth.{out_taken, slots_taken, values_left, values_taken}
 use Rattle.rx_books_shelf.proofs.shelf.Shelf.take.Goals as goal
 

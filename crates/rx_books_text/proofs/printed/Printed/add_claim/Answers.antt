@@ -21,4 +21,4 @@ returns c =
     let same : c.self.inside.ledger ≡ c.args.self.now.ledger = ap (λ (p : PrintedParts). p.ledger) c.self.view_is in
     let listed = claim_listed c.args.self.now c.args.row c.in_default.field-0 next (rw same at c.in_default.ensures.unknown) in
     rw (next, listed, c.in_default.ensures.ok) (ap (λ (p : PrintedParts). Ok (record p { ledger = with_row p.ledger c.args.row }))
-        (sym c.self.view_is))
+    (sym c.self.view_is))

@@ -42,8 +42,10 @@ invariant_of-result c =
     (subst (λ rs. 2 * length rs ≤ vec_capacity c.in_ok-room.room.history) c.deref-3.ensures.value c.in_ok-room.ensures.capacity)
 
 pub returns-clause-terms : goal.returns-clause-terms
-returns-clause-terms c = terms_fit c.args.lot c.args.sheet.now (record { figures = c.figures.result.now;
-    drugs = c.in_ok-drugs.drugs.items })
+returns-clause-terms c = terms_fit c.args.lot c.args.sheet.now (record {
+  figures = c.figures.result.now;
+  drugs = c.in_ok-drugs.drugs.items;
+})
     c.deref.result.now c.args.transmissions.items c.in_ok-terms.terms.items
     (λ i. record { figures = sym c.figures.ensures.value i; drugs = sym (c.in_ok-drugs.ensures.items ∙ c.drugs.ensures.value) i })
     c.deref.ensures.value c.in_ok-terms.ensures

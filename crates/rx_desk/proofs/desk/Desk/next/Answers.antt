@@ -1,7 +1,7 @@
 use Rattle.std.proofs.Common.{◌≡◌, ◌<◌, ◌≤◌, ◌-◌, ◌∷◌, length, refl, sym, ap, ◌∙◌, arith}
 use Rattle.rx_desk.proofs.Left.{all_taken, none_ready, some_left}
-use Rattle.rx_desk.proofs.Steps.{fits_read, inside_read, kept_stay, may, one_more, one_waits, out_read, placed_read, room_taken,
-  state_there, took_read, within}
+use Rattle.rx_desk.proofs.Steps.{fits_read, inside_read, kept_stay, may, one_more, one_waits, out_read}
+use Rattle.rx_desk.proofs.Steps.{placed_read, room_taken, state_there, took_read, within}
 use Rattle.rx_desk.proofs.desk.Desk.next.Goals as goal
 
 pub returns-then-self-eq0 : goal.returns-then-self-eq0
@@ -9,8 +9,11 @@ returns-then-self-eq0 c = rw (← c.self.view_is) (refl, all_taken _ _ _ _ _ _ _
 
 pub returns-in_default : goal.returns-in_default
 returns-in_default c =
-    rw (← c.self.view_is) (refl, none_ready _ _ _ _ _ _ _ _ _ c.self.invariant c.in_default.ensures.next,
-        some_left _ _ _ _ _ _ _ _ _ c.self.invariant c.if-self-eq0.false)
+    rw (← c.self.view_is) (
+      refl,
+      none_ready _ _ _ _ _ _ _ _ _ c.self.invariant c.in_default.ensures.next,
+      some_left _ _ _ _ _ _ _ _ _ c.self.invariant c.if-self-eq0.false,
+    )
 
 pub index-requires-2 : goal.index-requires-2
 index-requires-2 c = let w = within _ _ _ _ _ _ _ _ _ c.self.invariant c.in-Some.place c.in-Some.ensures.next in omega arith

@@ -7,8 +7,8 @@ use Rattle.rx_ledger.proofs.Refusals.{free_is_not_there}
 use Rattle.rx_order.specs.Ascending.{contains_key}
 use Rattle.rx_order.proofs.LookUps.{item_at-free}
 use Rattle.rx_parcels.specs.FamilyBook.{FamilyBook, own_ledger}
-use Rattle.rx_parcels.proofs.Owned.{changed_figure, counted-small, counted_deductible-small, deductible_room, family_room, no_member,
-  own-added, pocket_room, totals-added}
+use Rattle.rx_parcels.proofs.Owned.{changed_figure, counted-small, counted_deductible-small, deductible_room}
+use Rattle.rx_parcels.proofs.Owned.{family_room, no_member, own-added, pocket_room, totals-added}
 use Rattle.rx_parcels.proofs.family.Family.add.Goals as goal
 
 pub unreachable-requires : goal.unreachable-requires
@@ -55,8 +55,13 @@ invariant_of-self-2 c =
     let none = item_at-free key_cmp key_total row_key inside.rows c.args.row.key free in
     let back = changed_figure b own inside.deductibles.items _ _ c.self.invariant.totals at in
     let few = rw c.in-Ok.ensures.ok at c.insert.ensures.small in
-    rw (c.in-Ok.ensures.ok, c.deref_mut.ensures.value, back, c.counted_in-counted.ensures.deductible,
-        c.counted_in-counted.ensures.out_of_pocket)
+    rw (
+      c.in-Ok.ensures.ok,
+      c.deref_mut.ensures.value,
+      back,
+      c.counted_in-counted.ensures.deductible,
+      c.counted_in-counted.ensures.out_of_pocket,
+    )
     (record {
       own = own-added b c.args.row own listed c.counted_in-counted.ensures.small few;
       totals = totals-added b own _ _ _ c.self.invariant.totals c.args.row listed at is_at no_member none;

@@ -5,8 +5,8 @@ use Rattle.rx_ledger.proofs.Orders.{key_total}
 use Rattle.rx_order.specs.Ascending.{item_at}
 use Rattle.rx_order.proofs.Edits.{without_absent}
 use Rattle.rx_parcels.specs.FamilyBook.{FamilyBook}
-use Rattle.rx_parcels.proofs.Owned.{changed_figure, deductible_enough, family_enough, no_member, own-removed, pocket_enough, row_listed,
-  totals-removed}
+use Rattle.rx_parcels.proofs.Owned.{changed_figure, deductible_enough, family_enough, no_member}
+use Rattle.rx_parcels.proofs.Owned.{own-removed, pocket_enough, row_listed, totals-removed}
 use Rattle.rx_parcels.proofs.family.Family.remove.Goals as goal
 
 -- ---- no row stands under the key
@@ -76,8 +76,13 @@ invariant_of-self-2 c =
     let inside = c.self.inside in
     let b : FamilyBook = record { family = inside.family; period = inside.period; members = inside.members; rows = inside.rows } in
     let back = changed_figure b own inside.deductibles.items _ _ c.self.invariant.totals at in
-    rw (c.remove.ensures.items, c.deref_mut.ensures.value, back, c.counted_in-counted.ensures.deductible,
-        c.counted_in-counted.ensures.out_of_pocket)
+    rw (
+      c.remove.ensures.items,
+      c.deref_mut.ensures.value,
+      back,
+      c.counted_in-counted.ensures.deductible,
+      c.counted_in-counted.ensures.out_of_pocket,
+    )
     (record {
       own = own-removed b c.args.key.now c.in_ok-row.row own there;
       totals = totals-removed b own _ _ _ c.self.invariant.totals c.in_ok-row.row listed at is_at no_member c.args.key.now there;

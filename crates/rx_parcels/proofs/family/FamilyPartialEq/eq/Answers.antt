@@ -20,7 +20,7 @@ returns-then-eq-3 c =
       | else-eq w ↦ first_fails c.eq.result c.if-eq.value family w.if-eq.false w.value-is
     ] in
     let lists : Decides c.if-eq-2.value (((a.family ≡ b.family) × (a.period ≡ b.period)) × (a.members ≡ b.members)) = elim
-        c.if-eq-2.branch [
+    c.if-eq-2.branch [
       | then-eq-2 w ↦ both_hold c.if-eq.value w.eq-then-eq-2.result c.if-eq-2.value heads w.if-eq-2.true
           (Decides-at _ _ w.eq-then-eq-2.ensures (pointwise_decides member_decides a.members b.members)) w.value-is
       | else-eq-2 w ↦ first_fails c.if-eq.value c.if-eq-2.value heads w.if-eq-2.false w.value-is
@@ -41,7 +41,7 @@ returns-else-eq-3 c =
       | else-eq w ↦ first_fails c.eq.result c.if-eq.value family w.if-eq.false w.value-is
     ] in
     let lists : Decides c.if-eq-2.value (((a.family ≡ b.family) × (a.period ≡ b.period)) × (a.members ≡ b.members)) = elim
-        c.if-eq-2.branch [
+    c.if-eq-2.branch [
       | then-eq-2 w ↦ both_hold c.if-eq.value w.eq-then-eq-2.result c.if-eq-2.value heads w.if-eq-2.true
           (Decides-at _ _ w.eq-then-eq-2.ensures (pointwise_decides member_decides a.members b.members)) w.value-is
       | else-eq-2 w ↦ first_fails c.if-eq.value c.if-eq-2.value heads w.if-eq-2.false w.value-is
