@@ -4,7 +4,7 @@
 An edit of a crate is refused or not by the texts of the crate, of the crates below it, and by the kit, and by nothing else.
 So where all of these are as they were when each edit of the crate was last seen refused, trying them again can show nothing
 new: these crates' edits are set aside while `rt ci` runs, and all others are tried. `edits_seen.txt` has a line for each
-crate: its name, and the digest of these texts, without comments and tests, however their lines are broken.
+crate: its name, and the digest of these texts, without comments and tests, however their lines are laid out.
 
     gate.py            the gate
     gate.py --all      the gate with the edits of all crates
@@ -16,6 +16,7 @@ crate: its name, and the digest of these texts, without comments and tests, howe
 import argparse
 import hashlib
 import os
+import re
 import shutil
 import subprocess
 import sys
@@ -55,6 +56,14 @@ def said(text):
     return [line for at, line in enumerate(lines) if line.strip() not in ("#[cfg(test)]", "mod tests;")]
 
 
+def words_of(lines):
+    """The words of a text, however it is laid out: in lines or in one, a list's last comma, names taken in one `use` or in several."""
+    text = " ".join(" ".join(lines).split())
+    text = re.sub(r"(?<=[(\[{]) | (?=[)\]}])", "", re.sub(r"[,;] ?(?=[)\]}])", "", text))
+    names = r"((?:ghost |pub )?use [^{};]*)\.\{([^{}]*)\};?"
+    return re.sub(names, lambda it: " ".join(f"{it[1]}.{name}" for name in it[2].split(", ")), text)
+
+
 def texts_of(top, crate, parts):
     """The crate's files in these folders, by their paths in it, each with what it says."""
     for part in parts:
@@ -70,8 +79,8 @@ def digest(top, crate, below, kit):
     found = hashlib.sha256(kit.encode())
     for name in [crate, *sorted(below)]:
         for path, lines in texts_of(top, name, (*PARTS, "must-fail") if name == crate else PARTS):
-            words = lines if path.endswith(".edit") else " ".join(lines).split()
-            found.update("\n".join([f"\0{name}/{path}", *words]).encode())
+            words = "\n".join(lines) if path.endswith(".edit") else words_of(lines)
+            found.update(f"\0{name}/{path}\n{words}".encode())
     return found.hexdigest()[:32]
 
 
