@@ -1,2 +1,1 @@
 -- Lemmas of the words of an explanation.
-mod Worked

@@ -1,5 +1,2 @@
 -- Plumbing: which files there are.
-pub mod Dates
 pub mod Money
-pub mod RequestField
-pub mod Words

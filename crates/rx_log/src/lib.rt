@@ -10,13 +10,10 @@
 //! What is told is the caller's to find.
 #![tactic(auto)]
 
-mod digits;
-mod header;
+mod inputs;
 mod json;
 mod log;
-mod settlement;
 
-pub use header::lot;
+pub use inputs::{lot, totals};
 pub use json::line;
 pub use log::{FileLog, Lot, RunLog, Steps, Totals};
-pub use settlement::totals;
