@@ -60,7 +60,7 @@ def words_of(lines):
     """The words of a text, however it is laid out: in lines or in one, a list's last comma, names taken in one `use` or in several."""
     text = " ".join(" ".join(lines).split())
     text = re.sub(r"(?<=[(\[{]) | (?=[)\]}])", "", re.sub(r"[,;] ?(?=[)\]}])", "", text))
-    names = r"((?:ghost |pub )?use [^{};]*)\.\{([^{}]*)\};?"
+    names = r"((?:ghost |pub )?use [^{};\s]*)\.\{([^{}]*)\};?"
     return re.sub(names, lambda it: " ".join(f"{it[1]}.{name}" for name in it[2].split(", ")), text)
 
 
