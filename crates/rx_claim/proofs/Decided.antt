@@ -34,7 +34,8 @@ use Rattle.rx_claim.specs.contracts.reply.RefusedPartialEq.TheImpl.{ghosts as re
 use Rattle.rx_claim.specs.contracts.reply.AnswerPartialEq.TheImpl.{ghosts as answer_eq}
 use Rattle.rx_claim.specs.contracts.transmission.RejectedPartialEq.TheImpl.{ghosts as rejected}
 
-option_decides : {K : Type 0} {E : K → K → Bool} → ((x y : K) → Decides (E x y) (x ≡ y)) → (o p : Option K) → Decides (option_eq E o p) (o ≡ p)
+option_decides : {K : Type 0} {E : K → K → Bool} → ((x y : K) → Decides (E x y) (x ≡ y)) → (o p : Option K)
+    → Decides (option_eq E o p) (o ≡ p)
 option_decides decides None None = (λ e. refl, λ e. refl)
 option_decides decides None (Some y) = (λ e. cc, λ e. cc)
 option_decides decides (Some x) None = (λ e. cc, λ e. cc)
@@ -63,7 +64,13 @@ pub pricing_decides : (a b : Amounts) → Decides (pricing.eq a b) (a ≡ b)
 pricing_decides a b =
     Decides-like
     (pricing.eq a b)
-    (λ h i. record { ingredient_cost = h.0 i; dispensing_fee = h.1.0 i; deductible = h.1.1.0 i; copay = h.1.1.1.0 i; coinsurance = h.1.1.1.1 i })
+    (λ h i. record {
+      ingredient_cost = h.0 i;
+      dispensing_fee = h.1.0 i;
+      deductible = h.1.1.0 i;
+      copay = h.1.1.1.0 i;
+      coinsurance = h.1.1.1.1 i;
+    })
     (λ e. (cc, (cc, (cc, (cc, cc)))))
     (Decides-and _ _ (Decides-eqb a.ingredient_cost b.ingredient_cost)
     (Decides-and _ _ (Decides-eqb a.dispensing_fee b.dispensing_fee)

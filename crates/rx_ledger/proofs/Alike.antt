@@ -20,7 +20,8 @@ use Rattle.rx_ledger.specs.declared.figures.Figures.{Figures}
 use Rattle.rx_ledger.specs.declared.member.Member.{Member}
 use Rattle.rx_ledger.specs.declared.row.Row.{Row}
 use Rattle.rx_ledger.specs.declared.sheet.Listed.{Listed}
-use Rattle.rx_ledger.specs.Answers.{Asked, answer, answer_bill, answer_covered, answer_member, answer_new, answer_person, answer_reversal, after, after_bill, after_reversal, key_of, refused}
+use Rattle.rx_ledger.specs.Answers.{Asked, answer, answer_bill, answer_covered, answer_member, answer_new, answer_person}
+use Rattle.rx_ledger.specs.Answers.{answer_reversal, after, after_bill, after_reversal, key_of, refused}
 use Rattle.rx_ledger.specs.Fold.{answers_from, asked, authorization, ledger_from, ledger_of_body, outcome_of}
 use Rattle.rx_ledger.specs.Ledger.{Ledger, members_of, row_under, rows_of}
 use Rattle.rx_ledger.specs.Members.{person_in}

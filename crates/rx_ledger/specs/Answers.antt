@@ -1,5 +1,6 @@
 -- Meaning: the answer to one transaction, and the ledger after it.
-use Rattle.std.specs.Prelude.{ℕ, ◌*◌, Bool, not, ◌&&◌, ◌||◌, nat_lt, ◌==◌, if◌then◌else◌, List, [], ◌∷◌, Option, Some, None, ◌-ℤ◌, ◌*ℤ◌, pos, int_lt}
+use Rattle.std.specs.Prelude.{ℕ, ◌*◌, Bool, not, ◌&&◌, ◌||◌, nat_lt, ◌==◌, if◌then◌else◌, List}
+use Rattle.std.specs.Prelude.{[], ◌∷◌, Option, Some, None, ◌-ℤ◌, ◌*ℤ◌, pos, int_lt}
 use Rattle.std.specs.List.{list_any}
 use Rattle.std.specs.Ordering.{is_lt, is_gt, is_le}
 use Rattle.rx_fields.specs.Calendar.{Civil, day_cmp, day_number}

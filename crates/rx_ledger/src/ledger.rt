@@ -131,7 +131,8 @@ impl Ledger {
         ensures ok { OnOk result (self.new ≡ with_row self.old row) }
         ensures err { OnErr result (self.new ≡ self.old) }
         ensures there { IsErrOf result AddError.There ↔ (is_taken self.old row.key ≡ true) }
-        ensures unknown { IsErrOf result AddError.Unknown ↔ ((is_taken self.old row.key ≡ false) × (is_listed self.old (member_of_row row) ≡ false)) }
+        ensures unknown { IsErrOf result AddError.Unknown ↔ ((is_taken self.old row.key ≡ false)
+            × (is_listed self.old (member_of_row row) ≡ false)) }
     {
         if self.rows.contains_key(&row.key) {
             return Err(AddError::There);

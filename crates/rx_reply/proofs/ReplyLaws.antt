@@ -1,5 +1,6 @@
 -- Replies are read as they are written.
-use Rattle.std.proofs.Common.{◌≡◌, ℕ, zero, suc, ◌-◌, ◌≤◌, true, cond, eqb, List, [], ◌∷◌, ◌++◌, length, take, replicate, Option, Some, None, refl, sym, ap, subst, ◌∙◌, append_assoc, arith, codes, inl, inr, lit<, length-append}
+use Rattle.std.proofs.Common.{◌≡◌, ℕ, zero, suc, ◌-◌, ◌≤◌, true, cond, eqb, List, [], ◌∷◌, ◌++◌, length, take, replicate, Option}
+use Rattle.std.proofs.Common.{Some, None, refl, sym, ap, subst, ◌∙◌, append_assoc, arith, codes, inl, inr, lit<, length-append}
 use Rattle.std.specs.Prelude.{nat_le}
 use Rattle.std.specs.List.{flat_map, AllByRecursion}
 use Rattle.std.proofs.lemmas.Bool.{and_parts, leb-true, le-leb, eqb-true}
@@ -23,8 +24,10 @@ use Rattle.rx_reply.specs.declared.reading.header.Status.TheVariants as status
 use Rattle.rx_reply.specs.Text.{group_text, answers_of, status_of, header_text, reply_text}
 use Rattle.rx_reply.specs.Limits.{IsHeader, AreCodes, IsAnswer, IsOutcome, IsReply}
 use Rattle.rx_reply.specs.Readers.{◌>>=◌, after, times, behind}
-use Rattle.rx_reply.specs.Reading.{group_at, status_at, front_at, back_at, header_of, header_at, alone, heard_of, heard_in, refusal_label, refusal_at, is_nothing, are_copies, rejected_in, outcome_in, reply_in}
-use Rattle.rx_reply.proofs.Laws.{bind_some, guarded, some_same, chain, after_takes, after_again, Reads, Always, labelled-reads, pair-reads, made-reads, shaped-reads, times-reads}
+use Rattle.rx_reply.specs.Reading.{group_at, status_at, front_at, back_at, header_of, header_at, alone, heard_of, heard_in}
+use Rattle.rx_reply.specs.Reading.{refusal_label, refusal_at, is_nothing, are_copies, rejected_in, outcome_in, reply_in}
+use Rattle.rx_reply.proofs.Laws.{bind_some, guarded, some_same, chain, after_takes, after_again, Reads, Always}
+use Rattle.rx_reply.proofs.Laws.{labelled-reads, pair-reads, made-reads, shaped-reads, times-reads}
 use Rattle.rx_reply.proofs.FieldLaws.{bytes-reads, number-reads}
 use Rattle.rx_reply.proofs.AnswerLaws.{Ends, group-reads, codes_body, codes-reads, chosen, regrouped}
 

@@ -1,5 +1,6 @@
 -- The segments of a group by their places, and the fault of a header with its groups.
-use Rattle.std.proofs.Common.{◌≡◌, ◌≤◌, ℕ, ◌-◌, Bool, true, ◌&&◌, cond, List, [], ◌∷◌, refl, sym, ap, ◌∙◌, length, get_or, take, drop, length-drop, arith}
+use Rattle.std.proofs.Common.{◌≡◌, ◌≤◌, ℕ, ◌-◌, Bool, true, ◌&&◌, cond, List, [], ◌∷◌, refl, sym}
+use Rattle.std.proofs.Common.{ap, ◌∙◌, length, get_or, take, drop, length-drop, arith}
 use Rattle.std.specs.Prelude.{nat_le}
 use Rattle.std.specs.List.{list_all, enumerate_from}
 use Rattle.std.proofs.lemmas.Bool.{and_parts, leb-true}

@@ -1,5 +1,6 @@
 -- Plumbing: readers: a reader takes a value from the front of the bytes and leaves the rest, or finds none.
-use Rattle.std.specs.Prelude.{ℕ, zero, suc, ◌&&◌, nat_eq, nat_le, if◌then◌else◌, List, [], ◌∷◌, length, take, drop, Option, Some, None, Result, Ok, Err, ℤ}
+use Rattle.std.specs.Prelude.{ℕ, zero, suc, ◌&&◌, nat_eq, nat_le, if◌then◌else◌, List, [], ◌∷◌}
+use Rattle.std.specs.Prelude.{length, take, drop, Option, Some, None, Result, Ok, Err, ℤ}
 use Rattle.std.specs.Cmp.Lexicographic.{pointwise}
 use Rattle.rx_fields.specs.declared.fault.FieldFault.{FieldFault}
 use Rattle.rx_fields.specs.Amount.{signed_of, signed_text}

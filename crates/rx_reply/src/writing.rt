@@ -95,7 +95,8 @@ fn put_answers(
     answers: &[Answer],
 ) -> Result<(), AllocError>
     requires { length answers.now ≤ 4 }
-    ensures { OnOk result (out.new.items ≡ out.old.items ++ (header_text echo.now (length answers.now) (status ∷ []) ++ flat_map group_text answers.now)) }
+    ensures { OnOk result (out.new.items ≡ out.old.items ++ (header_text echo.now (length answers.now) (status ∷ [])
+        ++ flat_map group_text answers.now)) }
 {
     put_header(out, echo, answers.len() as u64, status)?;
     put_groups(out, answers)

@@ -1,5 +1,7 @@
 -- What the marks of a byte say, and how they move on.
-use Rattle.std.proofs.Common.{◌≡◌, ℕ, zero, suc, ◌+◌, ◌-◌, ◌*◌, ◌/◌, ◌^◌, min, ◌<◌, ◌≤◌, ◌≢◌, Bool, true, false, not, cond, eqb, List, [], ◌∷◌, length, get_or, take, drop, map, refl, sym, ap, ◌∙◌, arith, count_by, shr-shr, w64, ⊎_elim, true≢false, subst, Option, Some}
+use Rattle.std.proofs.Common.{◌≡◌, ℕ, zero, suc, ◌+◌, ◌-◌, ◌*◌, ◌/◌, ◌^◌, min, ◌<◌, ◌≤◌, ◌≢◌, Bool, true, false}
+use Rattle.std.proofs.Common.{not, cond, eqb, List, [], ◌∷◌, length, get_or, take, drop, map, refl, sym, ap, ◌∙◌}
+use Rattle.std.proofs.Common.{arith, count_by, shr-shr, w64, ⊎_elim, true≢false, subst, Option, Some}
 use Rattle.std.specs.Prelude.{count_ones}
 use Rattle.std.specs.Int.{trailing_zeros}
 use Rattle.std.proofs.Math.Nat.{zero-div, mul_assoc, two-pow-succ, pow-le-pow_right}
@@ -53,17 +55,21 @@ marks_before byte k at text le within =
 pub count_marks : (byte count marks : ℕ) (rest : List ℕ) → marks ≡ marks_of byte (take 64 rest)
     → count + count_by (λ b. eqb b byte) rest ≡ count + count_ones marks + count_by (λ b. eqb b byte) (drop 64 rest)
 count_marks byte count marks rest e =
-    let some : count_ones marks ≡ count_by (λ b. eqb b byte) (take 64 rest) = ap count_ones e ∙ ones-mask_l (λ b. eqb b byte) (take 64 rest) in
+    let some : count_ones marks ≡ count_by (λ b. eqb b byte) (take 64 rest) = ap count_ones e
+    ∙ ones-mask_l (λ b. eqb b byte) (take 64 rest) in
     omega (arith, some, sum_by-take-drop (λ b. cond {A = ℕ} (eqb b byte) 1 0) rest 64)
 
 -- a number has as many marks as there are bytes for them, at most
-pub marks_few : (byte marks : ℕ) (rest : List ℕ) → marks ≡ marks_of byte (take 64 rest) → (count_ones marks ≤ 64) × (count_ones marks ≤ length rest)
+pub marks_few : (byte marks : ℕ) (rest : List ℕ) → marks ≡ marks_of byte (take 64 rest)
+    → (count_ones marks ≤ 64) × (count_ones marks ≤ length rest)
 marks_few byte marks rest e =
-    let some : count_ones marks ≡ count_by (λ b. eqb b byte) (take 64 rest) = ap count_ones e ∙ ones-mask_l (λ b. eqb b byte) (take 64 rest) in
+    let some : count_ones marks ≡ count_by (λ b. eqb b byte) (take 64 rest) = ap count_ones e
+    ∙ ones-mask_l (λ b. eqb b byte) (take 64 rest) in
     let few : count_ones marks ≤ length (take 64 rest) = omega (arith, some, count_by-le-length (λ b. eqb b byte) (take 64 rest)) in
     (omega (arith, few, length-take 64 rest), omega (arith, few, length-take 64 rest))
 
-pub count_last : (byte marks : ℕ) (rest : List ℕ) → length rest < 64 → marks ≡ marks_of byte (take 64 rest) → count_ones marks ≡ count_by (λ b. eqb b byte) rest
+pub count_last : (byte marks : ℕ) (rest : List ℕ) → length rest < 64 → marks ≡ marks_of byte (take 64 rest)
+    → count_ones marks ≡ count_by (λ b. eqb b byte) rest
 count_last byte marks rest lt e =
     ap count_ones e ∙ (ones-mask_l (λ b. eqb b byte) (take 64 rest) ∙ ap (count_by (λ b. eqb b byte)) (take_all 64 rest (omega arith)))
 
@@ -83,29 +89,34 @@ some_stops : (p : ℕ → Bool) (xs : List ℕ) → 0 < mask_l (map p xs) → pr
 some_stops p [] h = absurd (omega arith)
 some_stops p (x ∷ xs) h = one_stops (p x) (mask_l (map p xs)) (prefix_len (λ y. not (p y)) xs) (length xs) h (some_stops p xs)
 
-pub first_mark : (separator marks seen at : ℕ) (text : List ℕ) → AreMarks separator marks seen text → marks ≢ 0 → at ≡ trailing_zeros w64 marks → IsFirstMark separator at seen text
+pub first_mark : (separator marks seen at : ℕ) (text : List ℕ) → AreMarks separator marks seen text → marks ≢ 0
+    → at ≡ trailing_zeros w64 marks → IsFirstMark separator at seen text
 first_mark separator marks seen at text h some e =
     let p = λ (b : ℕ). eqb b separator in
     let xs = take seen text in
     let cut : length xs ≡ seen = omega (arith, length-take seen text, h.within) in
     let more : 0 < mask_l (map p xs) = omega (arith, some, h.first) in
-    let is : at ≡ prefix_len (λ x. not (p x)) xs = e ∙ (ap (trailing_zeros w64) h.first ∙ trailing_mask_l p 64 xs (omega (arith, cut, h.few)) more) in
+    let is : at ≡ prefix_len (λ x. not (p x)) xs = e ∙ (ap (trailing_zeros w64) h.first
+    ∙ trailing_mask_l p 64 xs (omega (arith, cut, h.few)) more) in
     let lt : at < seen = omega (arith, is, cut, some_stops p xs more) in
     record {
       below = lt;
       none = λ k below.
           ap p (sym (get_or-take seen text k 0 (omega arith))) ∙ not-true _ (prefix_len_passes (λ x. not (p x)) xs k 0 (omega (arith, is)));
       here =
-          ap p (sym (get_or-take seen text at 0 lt)) ∙ (ap (λ k. p (get_or xs k 0)) is ∙ not-false _ (prefix_len_stops (λ x. not (p x)) xs 0 (some_stops p xs more)));
+          ap p (sym (get_or-take seen text at 0 lt)) ∙ (ap (λ k. p (get_or xs k 0)) is
+          ∙ not-false _ (prefix_len_stops (λ x. not (p x)) xs 0 (some_stops p xs more)));
     }
 
 -- no mark at all
-pub no_mark : (separator seen k : ℕ) (text : List ℕ) → seen ≤ length text → marks_of separator (take seen text) ≡ 0 → k < seen → eqb (get_or text k 0) separator ≡ false
+pub no_mark : (separator seen k : ℕ) (text : List ℕ) → seen ≤ length text → marks_of separator (take seen text) ≡ 0 → k < seen
+    → eqb (get_or text k 0) separator ≡ false
 no_mark separator seen k text within e lt =
     let p = λ (b : ℕ). eqb b separator in
     let xs = take seen text in
     let all : prefix_len (λ x. not (p x)) xs ≡ length xs = leading_from_mask_l p xs e in
-    ap p (sym (get_or-take seen text k 0 lt)) ∙ not-true _ (prefix_len_passes (λ x. not (p x)) xs k 0 (omega (arith, all, length-take seen text)))
+    ap p (sym (get_or-take seen text k 0 lt)) ∙ not-true _ (prefix_len_passes (λ x. not (p x)) xs k 0
+    (omega (arith, all, length-take seen text)))
 
 -- ---- the marks of what is behind it
 
@@ -138,7 +149,8 @@ pub marks_behind : (separator marks seen at : ℕ) (text : List ℕ) → AreMark
 marks_behind separator marks seen at text h lt =
     let p = λ (b : ℕ). eqb b separator in
     let both : at + 1 + (seen - (at + 1)) ≡ seen = omega arith in
-    let behind : drop (at + 1) (take seen text) ≡ take (seen - (at + 1)) (drop (at + 1) text) = ap (λ n. drop (at + 1) (take n text)) (sym both) ∙ drop-take (at + 1) (seen - (at + 1)) text in
+    let behind : drop (at + 1) (take seen text) ≡ take (seen - (at + 1)) (drop (at + 1) text) = ap (λ n. drop (at + 1) (take n text))
+    (sym both) ∙ drop-take (at + 1) (seen - (at + 1)) text in
     record {
       few = omega (arith, h.few);
       within = omega (arith, h.within, length-drop (at + 1) text);
@@ -148,8 +160,13 @@ marks_behind separator marks seen at text h lt =
     }
 
 -- the marks of a text that nothing was taken from
-pub marks_at_first : (separator marks : ℕ) (text : List ℕ) → marks ≡ marks_of separator (take 64 text) → AreMarks separator marks (min 64 (length text)) text
-marks_at_first separator marks text e = record { few = omega arith; within = omega arith; first = e ∙ ap (marks_of separator) (sym (take_min 64 text)) }
+pub marks_at_first : (separator marks : ℕ) (text : List ℕ) → marks ≡ marks_of separator (take 64 text)
+    → AreMarks separator marks (min 64 (length text)) text
+marks_at_first separator marks text e = record {
+  few = omega arith;
+  within = omega arith;
+  first = e ∙ ap (marks_of separator) (sym (take_min 64 text));
+}
 
 -- ---- the first separator behind the bytes that were seen
 
@@ -178,10 +195,12 @@ none_before separator seen at text within e none k low high is =
     (cases_lt k seen)
 
 -- the marks of the text that is left
-pub left_marks : (separator marks seen : ℕ) (rest : Option (Bor (List ℕ))) (text : Bor (List ℕ)) → AreMarksLeft separator marks seen rest → rest ≡ Some text → AreMarks separator marks seen text.now
+pub left_marks : (separator marks seen : ℕ) (rest : Option (Bor (List ℕ))) (text : Bor (List ℕ)) → AreMarksLeft separator marks seen rest
+    → rest ≡ Some text → AreMarks separator marks seen text.now
 left_marks separator marks seen rest text h e = subst (λ (r : Option (Bor (List ℕ))). AreMarksLeft separator marks seen r) e h
 
-pub left_first : (separator marks seen : ℕ) (rest : Option (Bor (List ℕ))) (text : Bor (List ℕ)) → AreMarksLeft separator marks seen rest → rest ≡ Some text → marks ≢ 0
+pub left_first : (separator marks seen : ℕ) (rest : Option (Bor (List ℕ))) (text : Bor (List ℕ)) → AreMarksLeft separator marks seen rest
+    → rest ≡ Some text → marks ≢ 0
     → IsFirstMark separator (trailing_zeros w64 marks) seen text.now
 left_first separator marks seen rest text h e some =
     first_mark separator marks seen (trailing_zeros w64 marks) text.now (left_marks separator marks seen rest text h e) some refl

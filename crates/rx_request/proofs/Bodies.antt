@@ -31,7 +31,8 @@ pub conditions_are : (door : Door) (bytes : List ℕ) (h : Header) (clean has_co
 conditions_are door bytes h clean has_common n eh ec ei en = rw (eh, ec, ei, en) refl
 
 -- a header that isn't heard
-pub body_rejected : (door : Door) (bytes : List ℕ) (rows : List (Code × Bool)) (n : ℕ) → rows ≡ conditions door bytes → n ≡ length (groups bytes) → is_faulty rows ≡ true
+pub body_rejected : (door : Door) (bytes : List ℕ) (rows : List (Code × Bool)) (n : ℕ) → rows ≡ conditions door bytes
+    → n ≡ length (groups bytes) → is_faulty rows ≡ true
     → Rejected (rejected_parts rows n) ≡ body door bytes
 unfolding body
 body_rejected door bytes rows n er en fault =
@@ -39,8 +40,10 @@ body_rejected door bytes rows n er en fault =
     rw (er, en, faulty) refl
 
 -- a header that is heard
-pub body_heard : (door : Door) (bytes : List ℕ) (rows : List (Code × Bool)) (h : Header) (read : Option InsuranceTexts) (pieces : List (List ℕ))
-    → rows ≡ conditions door bytes → h ≡ header_of (header_bytes bytes) → read ≡ common bytes → pieces ≡ groups bytes → is_faulty rows ≡ false
+pub body_heard : (door : Door) (bytes : List ℕ) (rows : List (Code × Bool)) (h : Header) (read : Option InsuranceTexts)
+    (pieces : List (List ℕ))
+    → rows ≡ conditions door bytes → h ≡ header_of (header_bytes bytes) → read ≡ common bytes → pieces ≡ groups bytes
+    → is_faulty rows ≡ false
     → Heard (heard_parts (opening_parts h read) pieces) ≡ body door bytes
 unfolding body opening_parts
 body_heard door bytes rows h read pieces er eh ei ep well =

@@ -1,5 +1,6 @@
 -- The first piece of a text, and the pieces behind it.
-use Rattle.std.proofs.Common.{◌≡◌, ℕ, ◌+◌, ◌-◌, ◌<◌, ◌≤◌, true, false, eqb, List, [], ◌∷◌, ◌++◌, length, get_or, take, drop, sym, ap, ◌∙◌, arith, drop-cons, add-one}
+use Rattle.std.proofs.Common.{◌≡◌, ℕ, ◌+◌, ◌-◌, ◌<◌, ◌≤◌, true, false, eqb, List, [], ◌∷◌, ◌++◌, length}
+use Rattle.std.proofs.Common.{get_or, take, drop, sym, ap, ◌∙◌, arith, drop-cons, add-one}
 use Rattle.std.proofs.lemmas.Grind.{common_steps}
 use Rattle.std.proofs.lemmas.Bool.{false_from_ne_true}
 use Rattle.std.specs.List.{All}
@@ -15,7 +16,8 @@ none_passes separator bytes none = All-from_get_or (λ b. eqb b separator ≡ fa
 -- a text without the separator is one piece
 pub cut_none : (separator : ℕ) (bytes : List ℕ) → ((k : ℕ) → 0 ≤ k → k < length bytes → eqb (get_or bytes k 0) separator ≡ true → ⊥)
     → cut separator bytes ≡ bytes ∷ []
-cut_none separator bytes none = slice_split_none (λ b. eqb b separator) bytes (none_passes separator bytes (λ k lt. none k (omega arith) lt))
+cut_none separator bytes none = slice_split_none (λ b. eqb b separator) bytes
+    (none_passes separator bytes (λ k lt. none k (omega arith) lt))
 
 -- the first piece ends at the first separator
 pub cut_at : (separator : ℕ) (bytes : List ℕ) (at : ℕ) → at < length bytes
@@ -26,8 +28,10 @@ cut_at separator bytes at lt none here =
     let k_lt : k < at = omega (arith, below, length-take at bytes) in
     let same : get_or (take at bytes) k 0 ≡ get_or bytes k 0 = grind (arith, common_steps) in
     rw same (none k (omega arith) k_lt)) in
-    let whole : take at bytes ++ get_or bytes at 0 ∷ drop (at + 1) bytes ≡ bytes = rw (add-one, ← drop-cons bytes at 0 lt) (take-append-drop at bytes) in
-    ap (cut separator) (sym whole) ∙ slice_split_at (λ b. eqb b separator) (take at bytes) (get_or bytes at 0) (drop (at + 1) bytes) front here
+    let whole : take at bytes ++ get_or bytes at 0 ∷ drop (at + 1) bytes
+    ≡ bytes = rw (add-one, ← drop-cons bytes at 0 lt) (take-append-drop at bytes) in
+    ap (cut separator) (sym whole) ∙ slice_split_at (λ b. eqb b separator) (take at bytes) (get_or bytes at 0)
+    (drop (at + 1) bytes) front here
 
 -- a slice to the end is what follows
 pub to_end : (at : ℕ) (bytes : List ℕ) → take (length bytes - at) (drop at bytes) ≡ drop at bytes

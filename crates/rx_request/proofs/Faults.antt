@@ -1,5 +1,6 @@
 -- When some condition of a table holds.
-use Rattle.std.proofs.Common.{◌≡◌, ℕ, ◌+◌, ◌<◌, ◌≤◌, Bool, true, false, not, ◌&&◌, ◌||◌, cond, List, [], ◌∷◌, ◌++◌, length, get_or, set, map, take, Option, Some, None, refl, sym, ap, ◌∙◌, arith}
+use Rattle.std.proofs.Common.{◌≡◌, ℕ, ◌+◌, ◌<◌, ◌≤◌, Bool, true, false, not, ◌&&◌, ◌||◌, cond, List, [], ◌∷◌, ◌++◌}
+use Rattle.std.proofs.Common.{length, get_or, set, map, take, Option, Some, None, refl, sym, ap, ◌∙◌, arith}
 use Rattle.std.specs.Prelude.{filter, is_some, is_none, nat_le, codes}
 use Rattle.std.specs.List.{list_any}
 use Rattle.std.proofs.lemmas.Bool.Decides.{nat_tests}
@@ -31,7 +32,11 @@ pub first_five_codes : (rows : List (Code × Bool)) → is_faulty rows ≡ true 
 unfolding is_faulty first_five
 first_five_codes rows e =
     let listed = map (λ (row : Code × Bool). row.0) (filter (λ row. row.1) rows) in
-    let some : 1 ≤ length listed = omega (arith, some_codes rows e, length-map (filter (λ row. row.1) rows) (λ (row : Code × Bool). row.0)) in
+    let some : 1 ≤ length listed = omega (
+      arith,
+      some_codes rows e,
+      length-map (filter (λ row. row.1) rows) (λ (row : Code × Bool). row.0),
+    ) in
     let cut = length-take 5 listed in
     let low : nat_le 1 (length (take 5 listed)) ≡ true = grind (arith, nat_tests) in
     let high : nat_le (length (take 5 listed)) 5 ≡ true = grind (arith, nat_tests) in
@@ -44,33 +49,43 @@ Row = Code × Bool
 
 listed_more : (rows : List Row) (i : ℕ) (d : Row) → i < length rows
     → map (λ (row : Row). row.0) (filter (λ row. row.1) (take (i + 1) rows))
-    ≡ map (λ (row : Row). row.0) (filter (λ row. row.1) (take i rows)) ++ map (λ (row : Row). row.0) (filter (λ row. row.1) (get_or rows i d ∷ []))
+    ≡ map (λ (row : Row). row.0) (filter (λ row. row.1) (take i rows))
+    ++ map (λ (row : Row). row.0) (filter (λ row. row.1) (get_or rows i d ∷ []))
 listed_more rows i d lt =
-    rw (take_more rows i d lt, filter-append (λ (row : Row). row.1) (take i rows) (get_or rows i d ∷ [])) (map-append (λ (row : Row). row.0) (filter (λ row. row.1) (take i rows)) (filter (λ row. row.1) (get_or rows i d ∷ [])))
+    rw (take_more rows i d lt, filter-append (λ (row : Row). row.1) (take i rows) (get_or rows i d ∷ []))
+    (map-append (λ (row : Row). row.0) (filter (λ row. row.1) (take i rows)) (filter (λ row. row.1) (get_or rows i d ∷ [])))
 
 one_listed : (row : Row) (holds : Bool) → row.1 ≡ holds → map (λ (r : Row). r.0) (filter (λ r. r.1) (row ∷ [])) ≡ cond holds (row.0 ∷ []) []
 one_listed row true e = rw e refl
 one_listed row false e = rw e refl
 
 -- one more place is written
-pub take_set : (codes : List Code) (count : ℕ) (code : Code) → count < length codes → take (count + 1) (set codes count code) ≡ take count codes ++ code ∷ []
+pub take_set : (codes : List Code) (count : ℕ) (code : Code) → count < length codes
+    → take (count + 1) (set codes count code) ≡ take count codes ++ code ∷ []
 take_set codes count code lt = grind (arith, common_steps)
 
 -- a condition that doesn't hold adds no code
-pub five_same : (rows : List Row) (kept : List Code) (i : ℕ) (d : Row) → i < length rows → (get_or rows i d).1 ≡ false → kept ≡ first_five (take i rows) → kept ≡ first_five (take (i + 1) rows)
+pub five_same : (rows : List Row) (kept : List Code) (i : ℕ) (d : Row) → i < length rows → (get_or rows i d).1 ≡ false
+    → kept ≡ first_five (take i rows) → kept ≡ first_five (take (i + 1) rows)
 unfolding first_five
 five_same rows kept i d lt holds e = rw (listed_more rows i d lt, one_listed (get_or rows i d) false holds, append-nil) e
 
 -- five codes are enough
-pub five_full : (rows : List Row) (kept : List Code) (i : ℕ) → 5 ≤ length kept → i < length rows → kept ≡ first_five (take i rows) → kept ≡ first_five (take (i + 1) rows)
+pub five_full : (rows : List Row) (kept : List Code) (i : ℕ) → 5 ≤ length kept → i < length rows → kept ≡ first_five (take i rows)
+    → kept ≡ first_five (take (i + 1) rows)
 unfolding first_five
 five_full rows kept i full lt e =
     let listed = map (λ (row : Row). row.0) (filter (λ row. row.1) (take i rows)) in
     let enough : 5 ≤ length listed = omega (arith, ap length e, length-take 5 listed) in
-    rw (listed_more rows i (Syntax, false) lt, take-append-le 5 listed (map (λ (row : Row). row.0) (filter (λ row. row.1) (get_or rows i (Syntax, false) ∷ []))) enough) e
+    rw (
+      listed_more rows i (Syntax, false) lt,
+      take-append-le 5 listed
+          (map (λ (row : Row). row.0) (filter (λ row. row.1) (get_or rows i (Syntax, false) ∷ []))) enough,
+    ) e
 
 -- a condition that holds adds its code
-pub five_more : (rows : List Row) (kept : List Code) (i : ℕ) (d : Row) → length kept < 5 → i < length rows → (get_or rows i d).1 ≡ true → kept ≡ first_five (take i rows)
+pub five_more : (rows : List Row) (kept : List Code) (i : ℕ) (d : Row) → length kept < 5 → i < length rows → (get_or rows i d).1 ≡ true
+    → kept ≡ first_five (take i rows)
     → kept ++ (get_or rows i d).0 ∷ [] ≡ first_five (take (i + 1) rows)
 unfolding first_five
 five_more rows kept i d few lt holds e =
@@ -78,20 +93,25 @@ five_more rows kept i d few lt holds e =
     let code = (get_or rows i d).0 in
     let short : length listed < 5 = omega (arith, ap length e, length-take 5 listed) in
     let kept_all : kept ≡ listed = e ∙ take_all 5 listed (omega arith) in
-    let whole : take 5 (listed ++ code ∷ []) ≡ listed ++ code ∷ [] = take_all 5 (listed ++ code ∷ []) (omega (arith, length-append listed (code ∷ []))) in
+    let whole : take 5 (listed ++ code ∷ []) ≡ listed ++ code ∷ [] = take_all 5 (listed ++ code ∷ [])
+    (omega (arith, length-append listed (code ∷ []))) in
     rw (listed_more rows i d lt, one_listed (get_or rows i d) true holds, whole, kept_all) refl
 
 -- ---- tables in parts
 
 -- the table of a billing has four parts
 pub bill_parts_faulty : (common : InsuranceTexts) (group : GroupTexts) → is_faulty (bill_conditions common group)
-    ≡ (is_faulty (patient_conditions common) || (is_faulty (reversal_conditions group.claim) || (is_faulty (supply_conditions group.claim) || is_faulty (charge_conditions group.pricing))))
+    ≡ (is_faulty (patient_conditions common) || (is_faulty (reversal_conditions group.claim) ||
+    (is_faulty (supply_conditions group.claim) || is_faulty (charge_conditions group.pricing))))
 unfolding is_faulty
 bill_parts_faulty common group =
     let holds = λ (row : Code × Bool). row.1 in
-    list_any-append holds (patient_conditions common) (reversal_conditions group.claim ++ (supply_conditions group.claim ++ charge_conditions group.pricing))
-    ∙ ap (λ b. list_any holds (patient_conditions common) || b) (list_any-append holds (reversal_conditions group.claim) (supply_conditions group.claim ++ charge_conditions group.pricing)
-    ∙ ap (λ b. list_any holds (reversal_conditions group.claim) || b) (list_any-append holds (supply_conditions group.claim) (charge_conditions group.pricing)))
+    list_any-append holds (patient_conditions common) (reversal_conditions group.claim
+    ++ (supply_conditions group.claim ++ charge_conditions group.pricing))
+    ∙ ap (λ b. list_any holds (patient_conditions common) || b) (list_any-append holds (reversal_conditions group.claim)
+    (supply_conditions group.claim ++ charge_conditions group.pricing)
+    ∙ ap (λ b. list_any holds (reversal_conditions group.claim) || b)
+    (list_any-append holds (supply_conditions group.claim) (charge_conditions group.pricing)))
 
 -- a step that fails tells that its part is faulty
 pub fault_of : {A : Type 0} (is_faulty : Bool) (x : A) → None ≡ cond is_faulty None (Some x) → is_faulty ≡ true
@@ -143,19 +163,22 @@ charge_read : (charge : Option (List ℕ)) → is_no_amount charge ≡ false →
 charge_read None e h = absurd cc
 charge_read (Some text) e h = some_from (amount_in (Some text)) e
 
-one_charge : (usual gross : Option (List ℕ)) → is_no_amount usual ≡ false → is_no_amount gross ≡ false → (is_none usual && is_none gross) ≡ false → (is_some (amount_in usual) || is_some (amount_in gross)) ≡ true
+one_charge : (usual gross : Option (List ℕ)) → is_no_amount usual ≡ false → is_no_amount gross ≡ false
+    → (is_none usual && is_none gross) ≡ false → (is_some (amount_in usual) || is_some (amount_in gross)) ≡ true
 one_charge None gross u g e = rw (charge_read gross g e) refl
 one_charge (Some text) gross u g e = rw (charge_read (Some text) u refl) refl
 
 -- amounts without codes state a charge
-pub is_charged_by : (pricing : PricingTexts) → is_faulty (charge_conditions pricing) ≡ false → (is_some (amount_in pricing.usual_charge) || is_some (amount_in pricing.gross_amount)) ≡ true
+pub is_charged_by : (pricing : PricingTexts) → is_faulty (charge_conditions pricing) ≡ false
+    → (is_some (amount_in pricing.usual_charge) || is_some (amount_in pricing.gross_amount)) ≡ true
 unfolding is_faulty
 is_charged_by pricing e =
     let after_cost = or_right (is_none (amount_in pricing.ingredient_cost)) _ e in
     let after_fee = or_right (is_no_amount pricing.dispensing_fee) _ after_cost in
     let charge = or_left (has_no_charge pricing) _ after_fee in
     let gross = or_left (is_no_amount pricing.gross_amount) _ (or_right (has_no_charge pricing) _ after_fee) in
-    one_charge pricing.usual_charge pricing.gross_amount (or_left (is_no_amount pricing.usual_charge) _ charge) gross (or_right (is_no_amount pricing.usual_charge) _ charge)
+    one_charge pricing.usual_charge pricing.gross_amount (or_left (is_no_amount pricing.usual_charge) _ charge) gross
+    (or_right (is_no_amount pricing.usual_charge) _ charge)
 
 -- an amount that is there and can't be read is a fault; so is one more
 pub usual_fault : (c f u n g : Bool) → u ≡ true → (c || (f || ((u || n) || (g || false)))) ≡ true
@@ -237,22 +260,28 @@ header_heard door h is_sound groups addressed counted provider date sound =
     ∙ rw (counted, provider, date, sound) refl
 
 -- its bytes or its common part are unsound
-pub header_unsound : (door : Door) (h : Header) (is_sound : Bool) (groups : ℕ) → is_sound ≡ false → is_faulty (header_conditions door h is_sound groups) ≡ true
+pub header_unsound : (door : Door) (h : Header) (is_sound : Bool) (groups : ℕ) → is_sound ≡ false
+    → is_faulty (header_conditions door h is_sound groups) ≡ true
 unfolding is_faulty
 header_unsound door h is_sound groups e =
-    rw e (eight (not (same h.bin door.bin)) (not (same h.version (codes "D0"))) (not (same h.code (codes "B1") || same h.code (codes "B2"))) (not (same h.pcn door.pcn)) (not (is_count h.count groups)) (is_none (provider_in h.provider)) (is_none (date_in h.date)))
+    rw e (eight (not (same h.bin door.bin)) (not (same h.version (codes "D0"))) (not (same h.code (codes "B1") || same h.code (codes "B2")))
+    (not (same h.pcn door.pcn)) (not (is_count h.count groups)) (is_none (provider_in h.provider)) (is_none (date_in h.date)))
 
 -- it names another door, or a version or code that isn't heard
-pub header_elsewhere : (door : Door) (h : Header) (is_sound : Bool) (groups : ℕ) → is_addressed door h ≡ false → is_faulty (header_conditions door h is_sound groups) ≡ true
+pub header_elsewhere : (door : Door) (h : Header) (is_sound : Bool) (groups : ℕ) → is_addressed door h ≡ false
+    → is_faulty (header_conditions door h is_sound groups) ≡ true
 unfolding is_faulty
 header_elsewhere door h is_sound groups e =
-    four (same h.bin door.bin) (same h.version (codes "D0")) (same h.code (codes "B1") || same h.code (codes "B2")) (same h.pcn door.pcn) _ e
+    four (same h.bin door.bin) (same h.version (codes "D0")) (same h.code (codes "B1") || same h.code (codes "B2"))
+    (same h.pcn door.pcn) _ e
 
 -- its count is another
-pub header_miscounted : (door : Door) (h : Header) (is_sound : Bool) (groups : ℕ) → is_count h.count groups ≡ false → is_faulty (header_conditions door h is_sound groups) ≡ true
+pub header_miscounted : (door : Door) (h : Header) (is_sound : Bool) (groups : ℕ) → is_count h.count groups ≡ false
+    → is_faulty (header_conditions door h is_sound groups) ≡ true
 unfolding is_faulty
 header_miscounted door h is_sound groups e =
-    rw e (fifth (not (same h.bin door.bin)) (not (same h.version (codes "D0"))) (not (same h.code (codes "B1") || same h.code (codes "B2"))) (not (same h.pcn door.pcn)) (is_none (provider_in h.provider) || (is_none (date_in h.date) || (not is_sound || false))))
+    rw e (fifth (not (same h.bin door.bin)) (not (same h.version (codes "D0"))) (not (same h.code (codes "B1") || same h.code (codes "B2")))
+    (not (same h.pcn door.pcn)) (is_none (provider_in h.provider) || (is_none (date_in h.date) || (not is_sound || false))))
 
 pub not_true : (b : Bool) → not b ≡ true → b ≡ false
 not_true true e = absurd cc
@@ -276,7 +305,8 @@ and_left true b e = refl
 and_left false b e = absurd cc
 
 -- a header without codes has 1 to 4 groups
-pub header_few : (door : Door) (h : Header) (is_sound : Bool) (groups : ℕ) → is_faulty (header_conditions door h is_sound groups) ≡ false → is_few groups ≡ true
+pub header_few : (door : Door) (h : Header) (is_sound : Bool) (groups : ℕ) → is_faulty (header_conditions door h is_sound groups) ≡ false
+    → is_few groups ≡ true
 unfolding is_faulty
 header_few door h is_sound groups e =
     let after_bin = or_right (not (same h.bin door.bin)) _ e in

@@ -1,5 +1,6 @@
 -- A piece of a segment: its id and its value.
-use Rattle.std.proofs.Common.{◌≡◌, ℕ, ◌<◌, ◌≤◌, Bool, true, false, not, eqb, List, [], ◌∷◌, length, get_or, take, drop, Option, Some, refl, arith}
+use Rattle.std.proofs.Common.{◌≡◌, ℕ, ◌<◌, ◌≤◌, Bool, true, false, not, eqb, List, [], ◌∷◌}
+use Rattle.std.proofs.Common.{length, get_or, take, drop, Option, Some, refl, arith}
 use Rattle.std.proofs.lemmas.Bool.Decides.{nat_tests}
 use Rattle.std.proofs.lemmas.List.{drop_all}
 use Rattle.rx_fields.specs.Text.{trimmed}
@@ -21,11 +22,15 @@ two_bytes [] front e le = absurd (omega arith)
 two_bytes (a ∷ []) front e le = absurd (omega arith)
 two_bytes (a ∷ b ∷ bs) front e le = rw e refl
 
-pub put_field_short : (ids : List (List ℕ)) (piece : List ℕ) (slots : List (Option (List ℕ))) → length piece < 2 → put_field ids (field_of piece) slots ≡ Some slots
+pub put_field_short : (ids : List (List ℕ)) (piece : List ℕ) (slots : List (Option (List ℕ))) → length piece < 2
+    → put_field ids (field_of piece) slots ≡ Some slots
 put_field_short ids piece slots lt = rw (drop_all 2 piece (omega arith)) refl
 
-pub put_field_empty : (ids : List (List ℕ)) (piece : List ℕ) (slots : List (Option (List ℕ))) → true ≡ eqb (length (trimmed (drop 2 piece))) 0 → put_field ids (field_of piece) slots ≡ Some slots
+pub put_field_empty : (ids : List (List ℕ)) (piece : List ℕ) (slots : List (Option (List ℕ)))
+    → true ≡ eqb (length (trimmed (drop 2 piece))) 0 → put_field ids (field_of piece) slots ≡ Some slots
 put_field_empty ids piece slots e = rw (nonempty_by (trimmed (drop 2 piece)) true e) refl
 
-pub put_field_full : (ids : List (List ℕ)) (piece : List ℕ) (slots : List (Option (List ℕ))) → false ≡ eqb (length (trimmed (drop 2 piece))) 0 → put_field ids (field_of piece) slots ≡ put ids (take 2 piece) (trimmed (drop 2 piece)) slots
+pub put_field_full : (ids : List (List ℕ)) (piece : List ℕ) (slots : List (Option (List ℕ)))
+    → false ≡ eqb (length (trimmed (drop 2 piece))) 0 → put_field ids (field_of piece) slots
+    ≡ put ids (take 2 piece) (trimmed (drop 2 piece)) slots
 put_field_full ids piece slots e = rw (nonempty_by (trimmed (drop 2 piece)) false e) refl

@@ -18,12 +18,16 @@ asked is_billing common groups = map (λ group. transaction is_billing common (g
 no_reversal : (common : InsuranceTexts) (group : Option GroupTexts) → is_reversal (transaction true common group) ≡ false
 unfolding billing
 no_reversal common None = refl
-no_reversal common (Some group) = elim (is_faulty (bill_conditions common group)) as (λ b. is_reversal (cond b (faulty (bill_conditions common group) group.claim) (Bill (bill_parts common group))) ≡ false) [ true ↦ refl | false ↦ refl ]
+no_reversal common (Some group) = elim (is_faulty (bill_conditions common group)) as
+    (λ b. is_reversal (cond b (faulty (bill_conditions common group) group.claim) (Bill (bill_parts common group))) ≡ false)
+    [ true ↦ refl | false ↦ refl ]
 
 no_bill : (common : InsuranceTexts) (group : Option GroupTexts) → is_bill (transaction false common group) ≡ false
 unfolding reversal
 no_bill common None = refl
-no_bill common (Some group) = elim (is_faulty (reversal_conditions group.claim)) as (λ b. is_bill (cond b (faulty (reversal_conditions group.claim) group.claim) (Reverse (reversal_parts group.claim))) ≡ false) [ true ↦ refl | false ↦ refl ]
+no_bill common (Some group) = elim (is_faulty (reversal_conditions group.claim)) as
+    (λ b. is_bill (cond b (faulty (reversal_conditions group.claim) group.claim) (Reverse (reversal_parts group.claim))) ≡ false)
+    [ true ↦ refl | false ↦ refl ]
 
 no_reversals : (common : InsuranceTexts) (groups : List (List ℕ)) → list_any is_reversal (asked true common groups) ≡ false
 no_reversals common [] = refl
@@ -34,14 +38,21 @@ no_bills common [] = refl
 no_bills common (group ∷ groups) = rw (no_bill common (group_of group), no_bills common groups) refl
 
 -- one to four groups ask one to four transactions, never a billing beside a reversal
-pub are_asked : (is_billing : Bool) (common : InsuranceTexts) (groups : List (List ℕ)) → is_few (length groups) ≡ true → are_transactions (asked is_billing common groups) ≡ true
+pub are_asked : (is_billing : Bool) (common : InsuranceTexts) (groups : List (List ℕ)) → is_few (length groups) ≡ true
+    → are_transactions (asked is_billing common groups) ≡ true
 are_asked true common groups few =
-    rw (length-map groups (λ group. transaction true common (group_of group)), few, no_reversals common groups, and-false (list_any is_bill (asked true common groups))) refl
+    rw (
+      length-map groups (λ group. transaction true common (group_of group)),
+      few,
+      no_reversals common groups,
+      and-false (list_any is_bill (asked true common groups)),
+    ) refl
 are_asked false common groups few =
     rw (length-map groups (λ group. transaction false common (group_of group)), few, no_bills common groups) refl
 
 -- the first two groups were read
-pub asked_two : (is_billing : Bool) (common : InsuranceTexts) (groups rest left : List (List ℕ)) (head second : List ℕ) (none after : List Transaction) (a b : Transaction)
+pub asked_two : (is_billing : Bool) (common : InsuranceTexts) (groups rest left : List (List ℕ)) (head second : List ℕ)
+    (none after : List Transaction) (a b : Transaction)
     → is_few (length groups) ≡ true → head ≡ first groups → rest ≡ further groups → rest ≡ second ∷ left
     → a ≡ transaction is_billing common (group_of head) → b ≡ transaction is_billing common (group_of second)
     → none ≡ [] → after ≡ none ++ a ∷ b ∷ []

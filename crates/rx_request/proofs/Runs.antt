@@ -1,5 +1,6 @@
 -- What a run over fields, or over segments, leaves in the slots.
-use Rattle.std.proofs.Common.{◌≡◌, ℕ, Bool, true, false, ◌&&◌, cond, List, [], ◌∷◌, ◌++◌, length, map, Option, Some, None, refl, sym, ap, ◌∙◌}
+use Rattle.std.proofs.Common.{◌≡◌, ℕ, Bool, true, false, ◌&&◌, cond, List, [], ◌∷◌, ◌++◌}
+use Rattle.std.proofs.Common.{length, map, Option, Some, None, refl, sym, ap, ◌∙◌}
 use Rattle.std.specs.Prelude.{filter}
 use Rattle.std.specs.List.{list_all}
 use Rattle.std.specs.Option.{option_to_list}
@@ -22,7 +23,8 @@ abbrev pub join : Slot → List (List ℕ) → Option Slot
 join slot found = only (option_to_list slot ++ found)
 
 -- a text comes into a slot, or passes by
-join_one : (is_key : Bool) (slot : Slot) (text : List ℕ) (found : List (List ℕ)) → (filled_slot is_key slot text >>= λ s. join s found) ≡ join slot (cond is_key (text ∷ found) found)
+join_one : (is_key : Bool) (slot : Slot) (text : List ℕ) (found : List (List ℕ))
+    → (filled_slot is_key slot text >>= λ s. join s found) ≡ join slot (cond is_key (text ∷ found) found)
 join_one true None text found = refl
 join_one true (Some u) text found = refl
 join_one false slot text found = refl
@@ -33,12 +35,14 @@ join_nothing (Some u) = refl
 
 -- ---- each slot
 
-same_slots : (f g : List ℕ → Slot → Option Slot) → ((k : List ℕ) (s : Slot) → f k s ≡ g k s) → (keys : Keys) (slots : List Slot) → each_slot f keys slots ≡ each_slot g keys slots
+same_slots : (f g : List ℕ → Slot → Option Slot) → ((k : List ℕ) (s : Slot) → f k s ≡ g k s) → (keys : Keys) (slots : List Slot)
+    → each_slot f keys slots ≡ each_slot g keys slots
 same_slots f g e keys [] = refl
 same_slots f g e [] (s ∷ slots) = refl
 same_slots f g e (k ∷ keys) (s ∷ slots) = rw (e k s, same_slots f g e keys slots) refl
 
-unchanged : (f : List ℕ → Slot → Option Slot) → ((k : List ℕ) (s : Slot) → f k s ≡ Some s) → (keys : Keys) (slots : List Slot) → each_slot f keys slots ≡ Some slots
+unchanged : (f : List ℕ → Slot → Option Slot) → ((k : List ℕ) (s : Slot) → f k s ≡ Some s) → (keys : Keys) (slots : List Slot)
+    → each_slot f keys slots ≡ Some slots
 unchanged f e keys [] = refl
 unchanged f e [] (s ∷ slots) = refl
 unchanged f e (k ∷ keys) (s ∷ slots) = rw (e k s, unchanged f e keys slots) refl
@@ -50,23 +54,28 @@ two_steps y None (Some ys) rest = refl
 two_steps y (Some w) None rest = refl
 two_steps y (Some w) (Some ys) rest = refl
 
-into : (y : Slot) (front : Option (List Slot)) (h : List Slot → Option (List Slot)) → ((front >>= λ ys. Some (y ∷ ys)) >>= h) ≡ (front >>= λ ys. h (y ∷ ys))
+into : (y : Slot) (front : Option (List Slot)) (h : List Slot → Option (List Slot))
+    → ((front >>= λ ys. Some (y ∷ ys)) >>= h) ≡ (front >>= λ ys. h (y ∷ ys))
 into y None h = refl
 into y (Some ys) h = refl
 
 twice_one : (f g : List ℕ → Slot → Option Slot) (k : List ℕ) (keys : Keys) (o : Option Slot) (front : Option (List Slot))
-    → ((o >>= λ y. front >>= λ ys. Some (y ∷ ys)) >>= each_slot g (k ∷ keys)) ≡ ((o >>= g k) >>= λ w. (front >>= each_slot g keys) >>= λ zs. Some (w ∷ zs))
+    → ((o >>= λ y. front >>= λ ys. Some (y ∷ ys)) >>= each_slot g (k ∷ keys))
+    ≡ ((o >>= g k) >>= λ w. (front >>= each_slot g keys) >>= λ zs. Some (w ∷ zs))
 twice_one f g k keys None front = refl
 twice_one f g k keys (Some y) front = into y front (each_slot g (k ∷ keys)) ∙ two_steps y (g k y) front (each_slot g keys)
 
 -- two steps in every slot
-pub twice : (f g : List ℕ → Slot → Option Slot) (keys : Keys) (slots : List Slot) → (each_slot f keys slots >>= each_slot g keys) ≡ each_slot (λ k s. f k s >>= g k) keys slots
+pub twice : (f g : List ℕ → Slot → Option Slot) (keys : Keys) (slots : List Slot)
+    → (each_slot f keys slots >>= each_slot g keys) ≡ each_slot (λ k s. f k s >>= g k) keys slots
 twice f g keys [] = refl
 twice f g [] (s ∷ slots) = refl
 twice f g (k ∷ keys) (s ∷ slots) =
-    twice_one f g k keys (f k s) (each_slot f keys slots) ∙ ap (λ (front : Option (List Slot)). (f k s >>= g k) >>= λ w. front >>= λ zs. Some (w ∷ zs)) (twice f g keys slots)
+    twice_one f g k keys (f k s) (each_slot f keys slots) ∙ ap (λ (front : Option (List Slot)). (f k s >>= g k) >>= λ w. front >>=
+    λ zs. Some (w ∷ zs)) (twice f g keys slots)
 
-from_empty : (found : List ℕ → List (List ℕ)) (keys : Keys) → each_slot (λ k s. join s (found k)) keys (map (λ _. None) keys) ≡ all_of (λ k. only (found k)) keys
+from_empty : (found : List ℕ → List (List ℕ)) (keys : Keys) → each_slot (λ k s. join s (found k)) keys (map (λ _. None) keys)
+    ≡ all_of (λ k. only (found k)) keys
 from_empty found [] = refl
 from_empty found (k ∷ keys) = rw (from_empty found keys) refl
 
@@ -95,13 +104,15 @@ values_cons k f fs false false e h = rw e refl
 ap_values : (k : List ℕ) (f : Field) (fs gs : List Field) → values k fs ≡ values k gs → values k (f ∷ fs) ≡ values k (f ∷ gs)
 ap_values k f fs gs e =
     values_cons k f fs (same f.id k) (is_nonempty f.value) refl refl
-    ∙ (ap (λ (vs : List (List ℕ)). cond (is_nonempty f.value) (cond (same f.id k) (f.value ∷ vs) vs) vs) e ∙ sym (values_cons k f gs (same f.id k) (is_nonempty f.value) refl refl))
+    ∙ (ap (λ (vs : List (List ℕ)). cond (is_nonempty f.value) (cond (same f.id k) (f.value ∷ vs) vs) vs) e
+    ∙ sym (values_cons k f gs (same f.id k) (is_nonempty f.value) refl refl))
 
 abbrev pub joined_values : List Field → List ℕ → Slot → Option Slot
 joined_values fs k s = join s (values k fs)
 
 field_step : (keys : Keys) (slots : List Slot) (f : Field) (fs : List Field) (has_value : Bool) → is_nonempty f.value ≡ has_value
-    → (cond has_value (put keys f.id f.value slots) (Some slots) >>= each_slot (joined_values fs) keys) ≡ each_slot (joined_values (f ∷ fs)) keys slots
+    → (cond has_value (put keys f.id f.value slots) (Some slots) >>= each_slot (joined_values fs) keys)
+    ≡ each_slot (joined_values (f ∷ fs)) keys slots
 field_step keys slots f fs true h =
     twice (λ k s. filled_slot (same f.id k) s f.value) (λ k s. join s (values k fs)) keys slots
     ∙ same_slots _ _ (λ k s. rw (values_cons k f fs (same f.id k) true refl h) (join_one (same f.id k) s f.value (values k fs))) keys slots
@@ -118,11 +129,13 @@ pub run_fields_empty : (keys : Keys) (fs : List Field) → run_fields keys (map 
 run_fields_empty keys fs = run_fields_is keys (map (λ _. None) keys) fs ∙ from_empty (λ k. values k fs) keys
 
 -- pieces that are passed over have no value
-pub values_filled : (k : List ℕ) (pieces : List (List ℕ)) → values k (map field_of (filter is_nonempty pieces)) ≡ values k (map field_of pieces)
+pub values_filled : (k : List ℕ) (pieces : List (List ℕ)) → values k (map field_of (filter is_nonempty pieces))
+    ≡ values k (map field_of pieces)
 values_filled k [] = refl
 values_filled k ([] ∷ pieces) =
     values_filled k pieces ∙ sym (values_cons k (field_of []) (map field_of pieces) (same [] k) false refl refl)
-values_filled k ((b ∷ bs) ∷ pieces) = rw (nonempty_cons b bs) (ap_values k (field_of (b ∷ bs)) (map field_of (filter is_nonempty pieces)) (map field_of pieces) (values_filled k pieces))
+values_filled k ((b ∷ bs) ∷ pieces) = rw (nonempty_cons b bs) (ap_values k (field_of (b ∷ bs)) (map field_of (filter is_nonempty pieces))
+    (map field_of pieces) (values_filled k pieces))
 
 -- ---- segments
 
@@ -139,12 +152,14 @@ filter_cons k text texts true e = rw e refl
 filter_cons k text texts false e = rw e refl
 
 segment_step : (names : Keys) (slots : List Slot) (text : List ℕ) (texts : List (List ℕ)) (fs : List Field) → fields text ≡ fs
-    → (put_named names (name_of fs) text slots >>= each_slot (named_segments texts) names) ≡ each_slot (named_segments (text ∷ texts)) names slots
+    → (put_named names (name_of fs) text slots >>= each_slot (named_segments texts) names)
+    ≡ each_slot (named_segments (text ∷ texts)) names slots
 segment_step names slots text texts [] e =
     same_slots _ _ (λ k s. rw (filter_cons k text texts false (ap (is_called k) e)) refl) names slots
 segment_step names slots text texts (f ∷ fs) e =
     twice (λ k s. filled_slot (same f.value k) s text) (λ k s. join s (filter (has_name k) texts)) names slots
-    ∙ same_slots _ _ (λ k s. rw (filter_cons k text texts (same f.value k) (ap (is_called k) e)) (join_one (same f.value k) s text (filter (has_name k) texts))) names slots
+    ∙ same_slots _ _ (λ k s. rw (filter_cons k text texts (same f.value k) (ap (is_called k) e))
+    (join_one (same f.value k) s text (filter (has_name k) texts))) names slots
 
 abbrev no_slots : Option (List Slot)
 no_slots = None
@@ -154,21 +169,26 @@ none_then None = refl
 none_then (Some x) = refl
 
 run_segments_cons : (names : Keys) (slots : List Slot) (text : List ℕ) (texts : List (List ℕ)) (is_cut are_cut : Bool)
-    → (cond is_cut (put_named names (name_of (fields text)) text slots) None >>= λ ys. cond are_cut (each_slot (named_segments texts) names ys) None)
+    → (cond is_cut (put_named names (name_of (fields text)) text slots) None >>= λ ys. cond are_cut
+    (each_slot (named_segments texts) names ys) None)
     ≡ cond (is_cut && are_cut) (each_slot (named_segments (text ∷ texts)) names slots) None
 run_segments_cons names slots text texts false are_cut = refl
 run_segments_cons names slots text texts true false = none_then (put_named names (name_of (fields text)) text slots)
 run_segments_cons names slots text texts true true = segment_step names slots text texts (fields text) refl
 
-pub run_segments_is : (names : Keys) (slots : List Slot) (texts : List (List ℕ)) → run_segments names slots texts ≡ cond (list_all is_segment texts) (each_slot (named_segments texts) names slots) None
+pub run_segments_is : (names : Keys) (slots : List Slot) (texts : List (List ℕ))
+    → run_segments names slots texts ≡ cond (list_all is_segment texts) (each_slot (named_segments texts) names slots) None
 run_segments_is names slots [] = sym (unchanged _ (λ k s. join_nothing s) names slots)
 run_segments_is names slots (text ∷ texts) =
     ap_then (put_segment names text slots) _ _ (λ ys. run_segments_is names ys texts)
     ∙ run_segments_cons names slots text texts (is_segment text) (list_all is_segment texts)
 
 -- from empty slots, each name has its one segment
-pub run_segments_empty : (names : Keys) (texts : List (List ℕ)) → run_segments names (map (λ _. None) names) texts ≡ cond (list_all is_segment texts) (all_of (λ k. only (filter (has_name k) texts)) names) None
-run_segments_empty names texts = run_segments_is names (map (λ _. None) names) texts ∙ ap (λ (o : Option (List Slot)). cond (list_all is_segment texts) o None) (from_empty (λ k. filter (has_name k) texts) names)
+pub run_segments_empty : (names : Keys) (texts : List (List ℕ))
+    → run_segments names (map (λ _. None) names) texts ≡ cond (list_all is_segment texts)
+    (all_of (λ k. only (filter (has_name k) texts)) names) None
+run_segments_empty names texts = run_segments_is names (map (λ _. None) names) texts
+    ∙ ap (λ (o : Option (List Slot)). cond (list_all is_segment texts) o None) (from_empty (λ k. filter (has_name k) texts) names)
 
 -- ---- a run over the fields of a segment, and over the segments of a part
 
@@ -193,7 +213,8 @@ unfolding field fields
 fields_total ids slots segment e =
     let pieces = further (cut 28 segment) in
     ap (λ (from : List Slot). run_fields ids from (map field_of pieces)) e
-    ∙ (run_fields_empty ids (map field_of pieces) ∙ same_all (λ id. only (values id (map field_of pieces))) (λ id. field id (Some segment)) (λ id. ap only (sym (values_filled id pieces))) ids)
+    ∙ (run_fields_empty ids (map field_of pieces) ∙ same_all (λ id. only (values id (map field_of pieces))) (λ id. field id (Some segment))
+    (λ id. ap only (sym (values_filled id pieces))) ids)
 
 pub absent_values : (ids : Keys) → all_of (λ id. field id None) ids ≡ Some (map (λ _. None) ids)
 unfolding field
@@ -225,10 +246,12 @@ both false b o = refl
 
 -- the slots have the part's segments, where it begins empty
 pub segments_total : (names : Keys) (slots : List Slot) (part : List ℕ) → slots ≡ map (λ _. None) names
-    → cond (begins_empty (cut 30 part)) (run_segments names slots (further (cut 30 part))) None ≡ cond (is_part part) (all_of (λ name. segment name part) names) None
+    → cond (begins_empty (cut 30 part)) (run_segments names slots (further (cut 30 part))) None
+    ≡ cond (is_part part) (all_of (λ name. segment name part) names) None
 unfolding is_part segment segments
 segments_total names slots part e =
     let texts = further (cut 30 part) in
-    let all : run_segments names slots texts ≡ cond (list_all is_segment texts) (all_of (λ k. only (filter (has_name k) texts)) names) None =
+    let all : run_segments names slots texts ≡ cond (list_all is_segment texts)
+    (all_of (λ k. only (filter (has_name k) texts)) names) None =
     ap (λ (from : List Slot). run_segments names from texts) e ∙ run_segments_empty names texts in
     rw all (both (begins_empty (cut 30 part)) (list_all is_segment texts) (all_of (λ k. only (filter (has_name k) texts)) names))

@@ -1,5 +1,6 @@
 -- What is written is cut into the parts, segments and fields that it was written of.
-use Rattle.std.proofs.Common.{◌≡◌, ℕ, ◌+◌, ◌<◌, ◌≤◌, Bool, true, false, ◌&&◌, eqb, List, [], ◌∷◌, ◌++◌, length, map, take, drop, refl, sym, ap, ◌∙◌, inl, inr, arith}
+use Rattle.std.proofs.Common.{◌≡◌, ℕ, ◌+◌, ◌<◌, ◌≤◌, Bool, true, false, ◌&&◌, eqb, List, [], ◌∷◌, ◌++◌}
+use Rattle.std.proofs.Common.{length, map, take, drop, refl, sym, ap, ◌∙◌, inl, inr, arith}
 use Rattle.std.specs.Prelude.{filter}
 use Rattle.std.specs.List.{All, list_all}
 use Rattle.std.proofs.Math.Seq.{drop-append_seam}
@@ -9,7 +10,8 @@ use Rattle.std.proofs.lemmas.List.{append-nil}
 use Rattle.std.proofs.lemmas.List.Elements.{All-append, All-cons, All-head, All-map, All-nil, All-tail, All-weaker}
 use Rattle.std.proofs.lemmas.List.Splits.{slice_split_none, slice_split_at}
 use Rattle.rx_fields.specs.Text.{is_printable, trimmed}
-use Rattle.rx_request.specs.Cut.{Field, begins_empty, cut, field_of, fields, filled, first, further, has_id, is_named, is_nonempty, is_part, is_segment, segments}
+use Rattle.rx_request.specs.Cut.{Field, begins_empty, cut, field_of, fields, filled, first, further}
+use Rattle.rx_request.specs.Cut.{has_id, is_named, is_nonempty, is_part, is_segment, segments}
 use Rattle.rx_request.specs.Request.{groups, parts}
 use Rattle.rx_request.specs.Written.{IsWritten, IsWrittenPart, IsWrittenSegment, behind, field_text, part_text, parts_text, segment_text}
 

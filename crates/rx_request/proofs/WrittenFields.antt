@@ -1,5 +1,7 @@
 -- The fields of a group that is written have the values that they were written of.
-use Rattle.std.proofs.Common.{◌≡◌, ℕ, ◌+◌, ◌-◌, ◌/◌, ◌%◌, ◌<◌, ◌≤◌, ◌^◌, Bool, true, false, ◌&&◌, ◌||◌, not, cond, eqb, ltb, List, [], ◌∷◌, ◌++◌, codes, length, map, pos, Option, Some, None, Result, Ok, Err, refl, sym, ap, ◌∙◌, inl, inr, arith, length-append}
+use Rattle.std.proofs.Common.{◌≡◌, ℕ, ◌+◌, ◌-◌, ◌/◌, ◌%◌, ◌<◌, ◌≤◌, ◌^◌, Bool, true, false, ◌&&◌, ◌||◌, not}
+use Rattle.std.proofs.Common.{cond, eqb, ltb, List, [], ◌∷◌, ◌++◌, codes, length, map, pos, Option, Some, None}
+use Rattle.std.proofs.Common.{Result, Ok, Err, refl, sym, ap, ◌∙◌, inl, inr, arith, length-append}
 use Rattle.std.specs.Prelude.{filter, is_none, is_some}
 use Rattle.std.specs.List.{All, list_all, list_any}
 use Rattle.std.specs.Result.{result_ok}
@@ -22,9 +24,13 @@ use Rattle.rx_claim.specs.declared.transaction.Transaction.TheVariants.{Bill, Re
 use Rattle.rx_request.specs.Bills.{bill_parts, billing, reversal, reversal_parts, transaction}
 use Rattle.rx_request.specs.Codes.{has_no_charge, is_faulty}
 use Rattle.rx_request.specs.Cut.{Field, is_nonempty, is_part}
-use Rattle.rx_request.specs.Known.{◌>>=◌, ClaimTexts, GroupTexts, InsuranceTexts, PricingTexts, claim_of, common_of, field, group_in, group_of, has_name, insurance_in, insurance_of, is_called, only, pricing_of, segment, values}
-use Rattle.rx_request.specs.Values.{amount_in, cents, id_in, is_no_amount, is_plain, is_sole, is_text, nonzero, number_in, person_in, positive_in, product_in}
-use Rattle.rx_request.specs.Written.{IsAmountIfThere, IsBillOf, IsReversal, IsWritten, IsWrittenPart, IsWrittenSegment, amount_if_there, bill_group, claim_fields, insurance_fields, part_text, pricing_fields, reversal_group, segment_text, supply_fields, under}
+use Rattle.rx_request.specs.Known.{◌>>=◌, ClaimTexts, GroupTexts, InsuranceTexts, PricingTexts, claim_of, common_of, field, group_in}
+use Rattle.rx_request.specs.Known.{group_of, has_name, insurance_in, insurance_of, is_called, only, pricing_of, segment, values}
+use Rattle.rx_request.specs.Values.{amount_in, cents, id_in, is_no_amount, is_plain, is_sole, is_text}
+use Rattle.rx_request.specs.Values.{nonzero, number_in, person_in, positive_in, product_in}
+use Rattle.rx_request.specs.Written.{IsAmountIfThere, IsBillOf, IsReversal, IsWritten, IsWrittenPart, IsWrittenSegment}
+use Rattle.rx_request.specs.Written.{amount_if_there, bill_group, claim_fields, insurance_fields, part_text, pricing_fields}
+use Rattle.rx_request.specs.Written.{reversal_group, segment_text, supply_fields, under}
 use Rattle.rx_request.proofs.Fields.{nonempty_cons}
 use Rattle.rx_request.proofs.Written.{fields_back, part_is_cut, segments_back}
 use Rattle.rx_request.proofs.WrittenHeader.{digits_printable}
@@ -481,7 +487,8 @@ bill_read b =
     let pricing_07 : has_name (codes "07") (segment_text pricing) ≡ false = called (codes "07") pricing pricing_is in
     let pricing_11 : has_name (codes "11") (segment_text pricing) ≡ true = called (codes "11") pricing pricing_is in
     group_by (part_text (bill_group b)) (Some (segment_text claim)) (Some (segment_text pricing))
-    (claim_texts b.reference b.product (Some (digits_text 10 b.quantity)) (Some (digits_text 3 b.days)) (Some (codes "1"))) (pricing_texts b)
+    (claim_texts b.reference b.product (Some (digits_text 10 b.quantity)) (Some (digits_text 3 b.days)) (Some (codes "1")))
+    (pricing_texts b)
     (part_is_cut (bill_group b) all)
     (segment_is (codes "07") (bill_group b) all ∙ rw (claim_07, pricing_07) refl)
     (segment_is (codes "11") (bill_group b) all ∙ rw (claim_11, pricing_11) refl)

@@ -1,5 +1,6 @@
 -- A request that is written is heard as what it was written of.
-use Rattle.std.proofs.Common.{◌≡◌, ℕ, ◌+◌, ◌<◌, ◌≤◌, Bool, true, false, ◌&&◌, ◌||◌, eqb, List, [], ◌∷◌, ◌++◌, codes, length, map, replicate, Option, Some, None, refl, sym, ap, ◌∙◌, arith, append_assoc}
+use Rattle.std.proofs.Common.{◌≡◌, ℕ, ◌+◌, ◌<◌, ◌≤◌, Bool, true, false, ◌&&◌, ◌||◌, eqb, List, [], ◌∷◌, ◌++◌, codes}
+use Rattle.std.proofs.Common.{length, map, replicate, Option, Some, None, refl, sym, ap, ◌∙◌, arith, append_assoc}
 use Rattle.std.specs.Prelude.{is_none, is_some}
 use Rattle.std.specs.List.{All, list_all}
 use Rattle.std.proofs.lemmas.Bool.Decides.{nat_tests}
@@ -26,11 +27,14 @@ use Rattle.rx_request.specs.Known.{InsuranceTexts, common_of, field, group_of, i
 use Rattle.rx_request.specs.Request.{body, common, groups, transmission_of}
 use Rattle.rx_request.specs.Steps.{is_addressed}
 use Rattle.rx_request.specs.Values.{date_in, provider_in}
-use Rattle.rx_request.specs.Written.{Asker, IsAsker, IsBillOf, IsDoor, IsReversal, IsWrittenPart, IsWrittenSegment, bill_group, billing_text, header_text, heard_of, insurance_fields, part_text, parts_text, provider_text, reversal_group, reversal_text}
+use Rattle.rx_request.specs.Written.{Asker, IsAsker, IsBillOf, IsDoor, IsReversal, IsWrittenPart, IsWrittenSegment}
+use Rattle.rx_request.specs.Written.{bill_group, billing_text, header_text, heard_of, insurance_fields, part_text}
+use Rattle.rx_request.specs.Written.{parts_text, provider_text, reversal_group, reversal_text}
 use Rattle.rx_request.proofs.Faults.{header_heard}
 use Rattle.rx_request.proofs.Written.{common_back, groups_back}
 use Rattle.rx_request.proofs.WrittenFields.{bill_back, bill_written, common_read, insurance_written, reversal_back, reversal_written}
-use Rattle.rx_request.proofs.WrittenHeader.{clean_back, date_back, date_length, date_printable, front, front_length, header_back, header_made, provider_back, provider_length, provider_printable}
+use Rattle.rx_request.proofs.WrittenHeader.{clean_back, date_back, date_length, date_printable, front, front_length, header_back}
+use Rattle.rx_request.proofs.WrittenHeader.{header_made, provider_back, provider_length, provider_printable}
 
 -- ---- a header that is heard
 

@@ -8,7 +8,8 @@ use Rattle.rx_claim.specs.Listed.{is_few}
 use Rattle.rx_request.specs.Cut.{same}
 use Rattle.rx_request.specs.declared.header.Header.{Header}
 use Rattle.rx_request.specs.Known.{InsuranceTexts, ClaimTexts, PricingTexts, GroupTexts}
-use Rattle.rx_request.specs.Values.{provider_in, date_in, is_text, id_in, person_in, number_in, positive_in, product_in, amount_in, is_no_amount, is_plain, is_sole}
+use Rattle.rx_request.specs.Values.{provider_in, date_in, is_text, id_in, person_in, number_in, positive_in}
+use Rattle.rx_request.specs.Values.{product_in, amount_in, is_no_amount, is_plain, is_sole}
 
 -- some condition holds
 unfoldable pub is_faulty : List (Code × Bool) → Bool

@@ -1,5 +1,6 @@
 -- Meaning: what the text of a field stands for; None where it is absent or no such value.
-use Rattle.std.specs.Prelude.{ℕ, Bool, false, ◌||◌, ◌&&◌, nat_le, ◌==◌, if◌then◌else◌, List, Option, Some, None, is_none, is_some, Result, Ok, Err, ℤ, pos, negsuc, codes}
+use Rattle.std.specs.Prelude.{ℕ, Bool, false, ◌||◌, ◌&&◌, nat_le, ◌==◌, if◌then◌else◌, List, Option, Some}
+use Rattle.std.specs.Prelude.{None, is_none, is_some, Result, Ok, Err, ℤ, pos, negsuc, codes}
 use Rattle.std.specs.Result.{result_ok}
 use Rattle.rx_fields.specs.declared.fault.FieldFault.{FieldFault}
 use Rattle.rx_fields.specs.Calendar.{Civil, date_of}

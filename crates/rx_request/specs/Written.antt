@@ -1,6 +1,7 @@
 -- Meaning: requests as they are written: each field once, in order, in its one spelling (docs/FORMATS.md, "Request transmission").
 -- FS is 28, GS is 29, SS is 30.
-use Rattle.std.specs.Prelude.{◌≡◌, ℕ, ◌+◌, ◌-◌, ◌<◌, ◌≤◌, ◌^◌, true, pos, List, [], ◌∷◌, ◌++◌, length, map, replicate, Option, Some, None, All, codes}
+use Rattle.std.specs.Prelude.{◌≡◌, ℕ, ◌+◌, ◌-◌, ◌<◌, ◌≤◌, ◌^◌, true, pos, List, [], ◌∷◌, ◌++◌}
+use Rattle.std.specs.Prelude.{length, map, replicate, Option, Some, None, All, codes}
 use Rattle.std.specs.List.{flat_map, list_all}
 use Rattle.rx_fields.specs.Amount.{signed_text}
 use Rattle.rx_fields.specs.Calendar.{Civil, IsCivil, date_text}

@@ -1,7 +1,8 @@
 ghost use Rattle.std.specs.Prelude.{◌≡◌, if◌then◌else◌, None, Some};
 ghost use Rattle.rx_request.specs.Bills.{bill_parts, reversal_parts, billing, reversal, transaction};
 ghost use Rattle.rx_request.specs.Codes.{is_faulty, bill_conditions, reversal_conditions};
-ghost use Rattle.rx_request.specs.Steps.{patient_conditions, patient_parts, supply_conditions, supply_parts, charge_conditions, charge_parts};
+ghost use Rattle.rx_request.specs.Steps.{patient_conditions, patient_parts, supply_conditions};
+ghost use Rattle.rx_request.specs.Steps.{supply_parts, charge_conditions, charge_parts};
 ghost use Rattle.rx_request.specs.Known.{group_of};
 ghost use Rattle.rx_request.specs.Views.{insurance_texts, claim_texts, pricing_texts, group_texts};
 

@@ -1,5 +1,6 @@
 ghost use Rattle.std.specs.Prelude.{◌≡◌, ◌&&◌, ◌+◌, ◌==◌, true};
-ghost use Rattle.rx_request.specs.Codes.{is_faulty, first_five, is_count, has_no_charge, header_conditions, bill_conditions, reversal_conditions};
+ghost use Rattle.rx_request.specs.Codes.{is_faulty, first_five, is_count, has_no_charge, header_conditions};
+ghost use Rattle.rx_request.specs.Codes.{bill_conditions, reversal_conditions};
 ghost use Rattle.rx_request.specs.Views.{insurance_texts, claim_texts, group_texts, pricing_texts};
 
 use crate::header::Header;

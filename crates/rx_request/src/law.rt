@@ -6,7 +6,8 @@ ghost use Rattle.rx_claim.specs.declared.bill.BillParts.{BillParts};
 ghost use Rattle.rx_claim.specs.declared.transaction.Reversal.{Reversal};
 ghost use Rattle.rx_claim.specs.declared.transaction.Transaction.TheVariants as transaction;
 ghost use Rattle.rx_request.specs.Request.{transmission_of};
-ghost use Rattle.rx_request.specs.Written.{Asker, IsAsker, IsBillOf, IsDoor, IsReversal, base_asker, base_bill, base_claim, base_door, billing_text, heard_of, reversal_text};
+ghost use Rattle.rx_request.specs.Written.{Asker, IsAsker, IsBillOf, IsDoor, IsReversal, base_asker, base_bill};
+ghost use Rattle.rx_request.specs.Written.{base_claim, base_door, billing_text, heard_of, reversal_text};
 
 /// Requests that are written are read back: one to four billings of a member, or one to four reversals, each value within
 /// its limits and in its one spelling, are heard as just these, at the door that they name (docs/FORMATS.md, "Request

@@ -1,6 +1,7 @@
 ghost use Rattle.std.specs.Prelude.{◌≡◌, ◌&&◌, ◌<◌, ◌≤◌, ◌^◌, if◌then◌else◌, is_none, is_some, IfSome, None, Some};
 ghost use Rattle.rx_request.specs.Slots.{text_of};
-ghost use Rattle.rx_request.specs.Values.{provider_in, date_in, is_text, id_in, person_in, number_in, positive_in, product_in, amount_in, is_no_amount, is_plain, is_sole};
+ghost use Rattle.rx_request.specs.Values.{provider_in, date_in, is_text, id_in, person_in, number_in, positive_in};
+ghost use Rattle.rx_request.specs.Values.{product_in, amount_in, is_no_amount, is_plain, is_sole};
 
 use rx_fields::{
     Cents, Day, Days, Id, Person, Product, Provider, Quantity, Reference, date_read, number_read,

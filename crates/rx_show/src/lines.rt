@@ -127,7 +127,8 @@ fn put_key(
     heard: &Heard,
     reference: Reference,
 ) -> Result<(), AllocError>
-    ensures { OnOk result (text.new.items ≡ text.old.items ++ join_with_byte 32 (heard.now.provider ∷ decimal reference ∷ date_text heard.now.date ∷ [])) }
+    ensures { OnOk result (text.new.items ≡ text.old.items ++ join_with_byte 32
+        (heard.now.provider ∷ decimal reference ∷ date_text heard.now.date ∷ [])) }
 {
     text.extend_from_slice(heard.provider.bytes())?;
     let number = reference.get();

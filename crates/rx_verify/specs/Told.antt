@@ -1,5 +1,6 @@
 -- Meaning: what `verify` prints.
-use Rattle.std.specs.Prelude.{ℕ, ◌+◌, ◌/◌, ◌%◌, nat_lt, if◌then◌else◌, List, [], ◌∷◌, ◌++◌, Option, Some, None, codes, count_by, drop, length, take}
+use Rattle.std.specs.Prelude.{ℕ, ◌+◌, ◌/◌, ◌%◌, nat_lt, if◌then◌else◌, List, [], ◌∷◌, ◌++◌}
+use Rattle.std.specs.Prelude.{Option, Some, None, codes, count_by, drop, length, take}
 use Rattle.std.specs.Fmt.{decimal}
 use Rattle.rx_differ.specs.Difference.{is_end, piece_of}
 use Rattle.rx_escape.specs.Escape.{escaped}

@@ -60,7 +60,8 @@ pub fn verdict_text(
     verified: &Verified,
     files: &Files<'_>,
 ) -> Result<Vec<u8>, Memory>
-    ensures { IfOk result (λ text. text.items ≡ verdict_text (texts_in verified.now.output) (texts_in_files files.now) verified.now.differences) }
+    ensures { IfOk result (λ text. text.items ≡ verdict_text (texts_in verified.now.output)
+        (texts_in_files files.now) verified.now.differences) }
 {
     let mut text = Vec::new(alloc);
     if verified.differences.are_none() {
@@ -134,7 +135,8 @@ fn put_differences(
     verified: &Verified,
     files: &Files<'_>,
 ) -> Result<(), AllocError>
-    ensures { OnOk result (text.new.items ≡ text.old.items ++ difference_lines (texts_in verified.now.output) (texts_in_files files.now) verified.now.differences) }
+    ensures { OnOk result (text.new.items ≡ text.old.items ++ difference_lines (texts_in verified.now.output)
+        (texts_in_files files.now) verified.now.differences) }
 {
     let (ours, found) = (&verified.output, verified.differences);
     put_difference(
@@ -238,7 +240,8 @@ fn put_named(text: &mut Vec<u8>, name: &[u8], cut: Cut) -> Result<(), AllocError
 
 #[tactic(auto, using(std::proofs::Common::append_assoc))]
 fn put_numbers(alloc: Global, text: &mut Vec<u8>, number: u128, at: u128) -> Result<(), AllocError>
-    ensures { OnOk result (text.new.items ≡ text.old.items ++ (decimal number ++ (codes " differs from byte " ++ (decimal at ++ codes ": file ")))) }
+    ensures { OnOk result (text.new.items ≡ text.old.items ++ (decimal number
+        ++ (codes " differs from byte " ++ (decimal at ++ codes ": file ")))) }
 {
     put_decimal(alloc, text, number)?;
     text.extend_from_slice(b" differs from byte ")?;

@@ -1,5 +1,6 @@
 -- A list of paths and the rest after its first.
-use Rattle.std.proofs.Common.{◌≡◌, ◌<◌, ◌-◌, Bool, ◌||◌, List, [], ◌∷◌, ◌++◌, length, map, take, drop, ap, refl, sym, arith, true, false, ◌∙◌}
+use Rattle.std.proofs.Common.{◌≡◌, ◌<◌, ◌-◌, Bool, ◌||◌, List, [], ◌∷◌, ◌++◌, length, map}
+use Rattle.std.proofs.Common.{take, drop, ap, refl, sym, arith, true, false, ◌∙◌}
 use Rattle.std.proofs.Common.{Option, Some}
 use Rattle.std.proofs.lemmas.List.{take_all}
 use Rattle.std.specs.List.{list_any, slice_index_or}
@@ -11,7 +12,8 @@ use Rattle.rx_words.specs.Paths.{has_twice, path_of}
 
 twice_after : (p : Bor Text) (ps rest : List (Bor Text)) → rest ≡ ps
     → has_twice (map (λ x. x.now) (p ∷ ps)) ≡ (list_any (λ y. bytes_eq y.now p.now) rest || has_twice (map (λ x. x.now) rest))
-twice_after p ps rest is = rw is (ap (λ b. b || has_twice (map (λ x. x.now) ps)) (sym (list_any-map (λ t. bytes_eq t p.now) (λ x. x.now) ps)))
+twice_after p ps rest is = rw is (ap (λ b. b || has_twice (map (λ x. x.now) ps))
+    (sym (list_any-map (λ t. bytes_eq t p.now) (λ x. x.now) ps)))
 
 -- the paths after the first
 abbrev pub after_first : List (Bor Text) → List (Bor Text)

@@ -2,7 +2,8 @@
 
 ghost use Rattle.std.specs.Prelude.{◌≡◌, ◌≤◌, option_map, take};
 ghost use Rattle.rx_reply.specs.Readers.{times};
-ghost use Rattle.rx_reply.specs.Reading.{authorization_at, reference_at, known_at, code_at, codes_at, paid_claim_at, approved_at, refused_at, behind_status, answer_at, group_at};
+ghost use Rattle.rx_reply.specs.Reading.{authorization_at, reference_at, known_at, code_at, codes_at, paid_claim_at};
+ghost use Rattle.rx_reply.specs.Reading.{approved_at, refused_at, behind_status, answer_at, group_at};
 
 use super::amounts::{pricing_at, reversed_at};
 use super::fields::{after, bytes_at, number_at};

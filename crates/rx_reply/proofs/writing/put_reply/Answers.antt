@@ -14,6 +14,7 @@ returns-in-Rejected c =
     let few : count ≤ 4 = omega arith in
     let SpeltWith : List Answer → Type 0 =
     λ answers. OnOk c.put_answers.result
-    (c.put_answers.new.out.items ≡ c.args.out.now.items ++ (header_text c.args.reply.now.echo (length answers) (codes "R") ++ flat_map group_text answers)) in
+    (c.put_answers.new.out.items ≡ c.args.out.now.items ++ (header_text c.args.reply.now.echo (length answers) (codes "R")
+    ++ flat_map group_text answers)) in
     let spelt : SpeltWith (take count (replicate 4 a)) = c.put_answers.ensures in
     rw (c.in-Rejected.is, ← c.get-count.ensures.value) (subst SpeltWith (take-replicate count 4 a few) spelt)

@@ -13,6 +13,7 @@ returns-in-Rejected c =
     let few : count ≤ 4 = omega arith in
     let HasPut : List Answer → Type 0 =
     λ answers. OnOk c.put_answers-in-Rejected.result
-    (c.put_answers-in-Rejected.new.lines.items ≡ c.args.lines.now.items ++ answer_lines c.args.place c.args.asked.now c.args.reply.now 0 answers) in
+    (c.put_answers-in-Rejected.new.lines.items ≡ c.args.lines.now.items
+    ++ answer_lines c.args.place c.args.asked.now c.args.reply.now 0 answers) in
     let put : HasPut (take count (replicate 4 a)) = c.put_answers-in-Rejected.ensures in
     rw (c.in-Rejected.is, ← c.get-groups.ensures.value) (subst HasPut (take-replicate count 4 a few) put)

@@ -4,7 +4,8 @@ use Rattle.rx_request.specs.Codes.{is_faulty}
 use Rattle.rx_request.specs.Steps.{charge_parts}
 use Rattle.rx_request.specs.Values.{amount_in, is_no_amount}
 use Rattle.rx_request.specs.Views.{pricing_texts}
-use Rattle.rx_request.proofs.Faults.{fault_of, no_fault_of, value_of, usual_fault, gross_fault, absent_fault, no_charge_fault, none_by, some_by, and_false}
+use Rattle.rx_request.proofs.Faults.{fault_of, no_fault_of, value_of, usual_fault, gross_fault, absent_fault}
+use Rattle.rx_request.proofs.Faults.{no_charge_fault, none_by, some_by, and_false}
 use Rattle.rx_request.proofs.bill.charges_read.Goals as goal
 use Rattle.rx_request.proofs.bill.charges_read.Goals.{else-is_none-via-then-is_none+else-is_none-2, else-is_none-via-else-is_none}
 

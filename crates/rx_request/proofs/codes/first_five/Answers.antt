@@ -6,7 +6,8 @@ use Rattle.rx_claim.specs.CodeList.{codes_of}
 use Rattle.rx_request.specs.Codes.{first_five}
 use Rattle.rx_request.proofs.Faults.{first_five_codes, five_same, five_full, five_more, take_set}
 use Rattle.rx_request.proofs.codes.first_five.Goals as goal
-use Rattle.rx_request.proofs.codes.first_five.Goals.{then-row+then-count-lt5, else-row, else-row-via-then-row+else-count-lt5, else-row-via-else-row}
+use Rattle.rx_request.proofs.codes.first_five.Goals.{then-row+then-count-lt5, else-row, else-row-via-then-row+else-count-lt5}
+use Rattle.rx_request.proofs.codes.first_five.Goals.{else-row-via-else-row}
 
 pub loop-row-init : goal.loop-row-init
 unfolding first_five
@@ -19,22 +20,39 @@ loop-row-preserved c =
     let codes = c.loop-row.codes in
     let count = c.loop-row.count in
     let so_far = c.loop-row.invariant.kept in
-    let cut : length (take count codes) ≡ count = omega (arith, length-take count codes, c.loop-row.invariant.whole, c.loop-row.invariant.few) in
+    let cut : length (take count codes) ≡ count = omega (
+      arith,
+      length-take count codes,
+      c.loop-row.invariant.whole,
+      c.loop-row.invariant.few,
+    ) in
     elim c.if-row.branch [
       | then-row+then-count-lt5 w ↦
           let whole : length c.if-row.codes ≡ 5 = rw (w.codes-is, length-set) c.loop-row.invariant.whole in
           let few : c.if-row.count ≤ 5 = omega (arith, w.count-is, w.if-count-lt5.true) in
-          let more = five_more rows (take count codes) i (Bin, false) (omega (arith, w.if-count-lt5.true)) c.loop-row-test.true w.if-row.true so_far in
-          let pushed = take_set codes count (get_or rows i (Bin, false)).0 (omega (arith, w.if-count-lt5.true, c.loop-row.invariant.whole)) in
+          let more = five_more rows (take count codes) i (Bin, false)
+          (omega (arith, w.if-count-lt5.true)) c.loop-row-test.true w.if-row.true so_far in
+          let pushed = take_set codes count (get_or rows i (Bin, false)).0
+          (omega (arith, w.if-count-lt5.true, c.loop-row.invariant.whole)) in
           record { whole = whole; few = few; kept = rw (w.codes-is, w.count-is) (pushed ∙ more) }
       | else-row w ↦
           let whole : length c.if-row.codes ≡ 5 = rw w.codes-is c.loop-row.invariant.whole in
           let few : c.if-row.count ≤ 5 = omega (arith, w.count-is, c.loop-row.invariant.few) in
           elim w.else-row.branch [
             | else-row-via-then-row+else-count-lt5 w' ↦
-                record { whole = whole; few = few; kept = rw (w.codes-is, w.count-is) (five_full rows (take count codes) i (omega (arith, w'.if-count-lt5.false)) c.loop-row-test.true so_far) }
+                record {
+                  whole = whole;
+                  few = few;
+                  kept = rw (w.codes-is, w.count-is)
+                      (five_full rows (take count codes) i (omega (arith, w'.if-count-lt5.false)) c.loop-row-test.true so_far);
+                }
             | else-row-via-else-row w' ↦
-                record { whole = whole; few = few; kept = rw (w.codes-is, w.count-is) (five_same rows (take count codes) i (Bin, false) c.loop-row-test.true w'.if-row.false so_far) }
+                record {
+                  whole = whole;
+                  few = few;
+                  kept = rw (w.codes-is, w.count-is)
+                      (five_same rows (take count codes) i (Bin, false) c.loop-row-test.true w'.if-row.false so_far);
+                }
           ]
     ]
 

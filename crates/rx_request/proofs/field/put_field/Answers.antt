@@ -10,7 +10,8 @@ returns-then-piece-lt2 c = sym (put_field_short c.args.ids.now c.args.piece.now 
 pub returns-then-is_empty : goal.returns-then-is_empty
 returns-then-is_empty c =
     let value = c.trimmed-value.ensures ∙ ap trimmed c.split_at.ensures.back in
-    sym (put_field_empty c.args.ids.now c.args.piece.now (texts_of c.args.slots.now) (c.if-is_empty.ensures ∙ ap (λ (v : List ℕ). eqb (length v) 0) value))
+    sym (put_field_empty c.args.ids.now c.args.piece.now (texts_of c.args.slots.now)
+    (c.if-is_empty.ensures ∙ ap (λ (v : List ℕ). eqb (length v) 0) value))
 
 pub returns : goal.returns
 returns c =
@@ -20,4 +21,5 @@ returns c =
     let value = c.trimmed-value.ensures ∙ ap trimmed c.split_at.ensures.back in
     let id = two_bytes piece _ c.split_at.ensures.front (omega arith) in
     let e = put_field_full ids piece slots (c.if-is_empty.ensures ∙ ap (λ (v : List ℕ). eqb (length v) 0) value) in
-    c.put.ensures ∙ (ap (λ (key : List ℕ). put ids key c.trimmed-value.result.now slots) id ∙ (ap (λ (v : List ℕ). put ids (take 2 piece) v slots) value ∙ sym e))
+    c.put.ensures ∙ (ap (λ (key : List ℕ). put ids key c.trimmed-value.result.now slots) id
+    ∙ (ap (λ (v : List ℕ). put ids (take 2 piece) v slots) value ∙ sym e))

@@ -6,14 +6,16 @@ use Rattle.rx_request.proofs.field.put_fields.Goals as goal
 
 pub loop-piece-init : goal.loop-piece-init
 loop-piece-init c =
-    ap (λ (pieces : List (List ℕ)). run_fields c.args.ids.now (texts_of c.args.slots.now) (map field_of pieces)) (c.next-front.ensures.rest ∙ ap further c.new-pieces.ensures)
+    ap (λ (pieces : List (List ℕ)). run_fields c.args.ids.now (texts_of c.args.slots.now) (map field_of pieces))
+    (c.next-front.ensures.rest ∙ ap further c.new-pieces.ensures)
 
 pub put_field-requires : goal.put_field-requires
 put_field-requires c = omega (arith, empty_length c.args.ids.now c.args.slots.now c.requires)
 
 pub loop-piece-preserved : goal.loop-piece-preserved
 loop-piece-preserved c =
-    run_on c.args.ids.now (texts_of c.loop-piece.slots) (texts_of c.put_field.new.slots) c.loop-piece.pieces c.next.new.self c.in-Some.piece.now _
+    run_on c.args.ids.now (texts_of c.loop-piece.slots) (texts_of c.put_field.new.slots) c.loop-piece.pieces c.next.new.self
+    c.in-Some.piece.now _
     c.in-Some.ensures.value (sym c.in_ok-put_field.ensures) c.loop-piece.invariant
 
 pub returns-in_err-put_field : goal.returns-in_err-put_field
@@ -24,5 +26,6 @@ returns-in_err-put_field c =
 
 pub returns : goal.returns
 returns c =
-    let ended = ap (λ (pieces : List (List ℕ)). run_fields c.args.ids.now (texts_of c.loop-piece.slots) (map field_of pieces)) c.in_default.ensures.value in
+    let ended = ap (λ (pieces : List (List ℕ)). run_fields c.args.ids.now (texts_of c.loop-piece.slots) (map field_of pieces))
+    c.in_default.ensures.value in
     sym ended ∙ (c.loop-piece.invariant ∙ fields_total c.args.ids.now (texts_of c.args.slots.now) c.args.segment.now c.requires)

@@ -8,4 +8,13 @@ returns-in_err-put_values c = rw c.from_residual.ensures (claim_off (text_of c.a
 pub returns : goal.returns
 returns c =
     let slots = c.put_values.new.slots in
-    rw (at_slot slots 1, at_slot slots 2, at_slot slots 3, at_slot slots 4, at_slot slots 5, at_slot slots 6, at_slot slots 7, at_slot slots 8) (claim_on (text_of c.args.segment) (texts_of slots) c.in_ok-put_values.ensures)
+    rw (
+      at_slot slots 1,
+      at_slot slots 2,
+      at_slot slots 3,
+      at_slot slots 4,
+      at_slot slots 5,
+      at_slot slots 6,
+      at_slot slots 7,
+      at_slot slots 8,
+    ) (claim_on (text_of c.args.segment) (texts_of slots) c.in_ok-put_values.ensures)

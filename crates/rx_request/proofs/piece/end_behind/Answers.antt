@@ -11,8 +11,10 @@ returns-in-Some c =
     let seen = c.args.seen in
     let text = c.args.text.now in
     let at = c.in-Some.at in
-    let found : NoneBefore (Passes (is_byte separator) (drop seen text)) 0 (length (drop seen text)) at × Passes (is_byte separator) (drop seen text) at =
-    subst (λ (l : List ℕ). NoneBefore (Passes (is_byte separator) l) 0 (length l) at × Passes (is_byte separator) l at) (to_end seen text) c.in-Some.ensures in (
+    let found : NoneBefore (Passes (is_byte separator) (drop seen text)) 0 (length (drop seen text)) at
+    × Passes (is_byte separator) (drop seen text) at =
+    subst (λ (l : List ℕ). NoneBefore (Passes (is_byte separator) l) 0 (length l) at × Passes (is_byte separator) l at)
+    (to_end seen text) c.in-Some.ensures in (
       record {
         low = omega arith;
         high = omega (arith, found.0.high, length-drop seen text, c.requires.within);

@@ -20,7 +20,8 @@ heard-requires c =
     let rest = c.after_header-rest.result.now in
     let rows = header_conditions c.args.door.now c.args.header.now (c.is_clean-is_clean.result && is_some c.common_read-common.result) n in
     let well = no_fault_of (is_faulty rows) _ _ c.in-Some.ensures in
-    let few : is_few n ≡ true = header_few c.args.door.now c.args.header.now (c.is_clean-is_clean.result && is_some c.common_read-common.result) n well in
+    let few : is_few n ≡ true = header_few c.args.door.now c.args.header.now
+    (c.is_clean-is_clean.result && is_some c.common_read-common.result) n well in
     let left : c.first.new.self ≡ further (cut 29 rest) = c.first.ensures.rest ∙ ap further c.new-pieces.ensures in
     ap (λ (pieces : List (List ℕ)). is_few (length pieces)) left ∙ (ap is_few (sym c.count_groups-groups.ensures) ∙ few)
 
@@ -44,16 +45,21 @@ returns-in_ok-heard-in-Some c =
     let found = c.common_read-common.result in
     let rows = header_conditions door header (clean && is_some found) n in
     let well = no_fault_of (is_faulty rows) _ _ c.in-Some.ensures in
-    let opened : opening_view c.in-Some.opening ≡ opening_parts header (option_map insurance_texts found) = value_of (is_faulty rows) _ _ c.in-Some.ensures in
+    let opened : opening_view c.in-Some.opening ≡ opening_parts header (option_map insurance_texts found) = value_of
+    (is_faulty rows) _ _ c.in-Some.ensures in
     let header_is : header ≡ header_of (header_bytes bytes) = c.requires in
     let read : option_map insurance_texts found ≡ common bytes =
-    c.common_read-common.ensures ∙ (ap common_of (c.first.ensures.value ∙ ap first c.new-pieces.ensures) ∙ common_is bytes rest c.after_header-rest.ensures) in
-    let left : c.first.new.self ≡ groups bytes = c.first.ensures.rest ∙ (ap further c.new-pieces.ensures ∙ groups_are bytes rest c.after_header-rest.ensures) in
+    c.common_read-common.ensures ∙ (ap common_of (c.first.ensures.value ∙ ap first c.new-pieces.ensures)
+    ∙ common_is bytes rest c.after_header-rest.ensures) in
+    let left : c.first.new.self ≡ groups bytes = c.first.ensures.rest
+    ∙ (ap further c.new-pieces.ensures ∙ groups_are bytes rest c.after_header-rest.ensures) in
     let count : n ≡ length (groups bytes) = c.count_groups-groups.ensures ∙ ap length (groups_are bytes rest c.after_header-rest.ensures) in
     let has_common : is_some found ≡ is_some (common bytes) = sym (is_some_map insurance_texts found) ∙ ap is_some read in
-    let rows_are : rows ≡ conditions door bytes = conditions_are door bytes header clean (is_some found) n header_is c.is_clean-is_clean.ensures has_common count in
+    let rows_are : rows ≡ conditions door bytes = conditions_are door bytes header clean
+    (is_some found) n header_is c.is_clean-is_clean.ensures has_common count in
     let whole = body_heard door bytes rows header (option_map insurance_texts found) c.first.new.self rows_are header_is read left well in
-    ap (λ (h : heard_type.Heard). Heard h) (c.in_ok-heard-in-Some.ensures ∙ ap (λ (o : OpeningParts). heard_parts o c.first.new.self) opened) ∙ whole
+    ap (λ (h : heard_type.Heard). Heard h) (c.in_ok-heard-in-Some.ensures
+    ∙ ap (λ (o : OpeningParts). heard_parts o c.first.new.self) opened) ∙ whole
 
 pub returns-in-None : goal.returns-in-None
 returns-in-None c =
@@ -68,9 +74,11 @@ returns-in-None c =
     let fault = fault_of (is_faulty rows) _ c.in-None.ensures in
     let header_is : header ≡ header_of (header_bytes bytes) = c.requires in
     let read : option_map insurance_texts found ≡ common bytes =
-    c.common_read-common.ensures ∙ (ap common_of (c.first.ensures.value ∙ ap first c.new-pieces.ensures) ∙ common_is bytes rest c.after_header-rest.ensures) in
+    c.common_read-common.ensures ∙ (ap common_of (c.first.ensures.value ∙ ap first c.new-pieces.ensures)
+    ∙ common_is bytes rest c.after_header-rest.ensures) in
     let count : n ≡ length (groups bytes) = c.count_groups-groups.ensures ∙ ap length (groups_are bytes rest c.after_header-rest.ensures) in
     let has_common : is_some found ≡ is_some (common bytes) = sym (is_some_map insurance_texts found) ∙ ap is_some read in
-    let rows_are : rows ≡ conditions door bytes = conditions_are door bytes header clean (is_some found) n header_is c.is_clean-is_clean.ensures has_common count in
+    let rows_are : rows ≡ conditions door bytes = conditions_are door bytes header clean
+    (is_some found) n header_is c.is_clean-is_clean.ensures has_common count in
     let whole = body_rejected door bytes rows n rows_are count fault in
     rw (c.rejected.ensures, c.is_some.ensures) whole

@@ -6,12 +6,15 @@ use Rattle.rx_request.specs.Steps.{opening_parts}
 use Rattle.rx_request.specs.Values.{date_in, provider_in}
 use Rattle.rx_request.proofs.Faults.{header_heard, header_unsound, header_elsewhere, header_miscounted}
 use Rattle.rx_request.proofs.request.opening_read.Goals as goal
-use Rattle.rx_request.proofs.request.opening_read.Goals.{then-not-is_clean-via-then-not-is_clean, then-not-is_clean-via-else-not-is_clean+then-not-is_addressed, then-not-is_clean-via-else-not-is_clean+else-not-is_addressed+then-not-is_count}
+use Rattle.rx_request.proofs.request.opening_read.Goals.{then-not-is_clean-via-then-not-is_clean}
+use Rattle.rx_request.proofs.request.opening_read.Goals.{then-not-is_clean-via-else-not-is_clean+then-not-is_addressed}
+use Rattle.rx_request.proofs.request.opening_read.Goals.{then-not-is_clean-via-else-not-is_clean+else-not-is_addressed+then-not-is_count}
 
 pub returns-in_err-common : goal.returns-in_err-common
 returns-in_err-common c =
     let unsound : (c.args.is_clean && is_some c.args.common) ≡ false = rw c.in_err-common.was (and-false c.args.is_clean) in
-    let faulty : is_faulty (header_conditions c.args.door.now c.args.header.now (c.args.is_clean && is_some c.args.common) c.args.groups) ≡ true =
+    let faulty : is_faulty (header_conditions c.args.door.now c.args.header.now
+    (c.args.is_clean && is_some c.args.common) c.args.groups) ≡ true =
     header_unsound c.args.door.now c.args.header.now (c.args.is_clean && is_some c.args.common) c.args.groups unsound in
     rw (c.from_residual-in_err-common.ensures, faulty) refl
 

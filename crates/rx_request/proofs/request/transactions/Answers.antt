@@ -7,7 +7,8 @@ use Rattle.rx_request.proofs.request.transactions.Goals as goal
 
 pub loop-group-init : goal.loop-group-init
 loop-group-init c =
-    asked_two c.args.is_billing (insurance_texts c.args.common.now) c.args.pieces c.first.new.self c.next.new.self c.first.result.now c.in-Some.second.now
+    asked_two c.args.is_billing (insurance_texts c.args.common.now) c.args.pieces c.first.new.self c.next.new.self c.first.result.now
+    c.in-Some.second.now
     c.in_ok-list.list.items c.extend_from_slice.new.self.items c.transaction-first.result c.transaction.result
     c.requires c.first.ensures.value c.first.ensures.rest c.in-Some.ensures.value c.transaction-first.ensures c.transaction.ensures
     c.in_ok-list.ensures.items c.in_ok-extend_from_slice.ensures.items

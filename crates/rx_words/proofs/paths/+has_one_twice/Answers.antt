@@ -10,4 +10,5 @@ returns-then-contains t c =
 pub returns-else-contains : goal.returns-else-contains
 returns-else-contains t c =
     let some : 0 < length c.args.paths.now = grind (arith, c.if-is_empty.false, c.is_empty.ensures) in
-    decided_by_rest c.args.paths.now _ c.contains.result c.has_one_twice.result some c.contains.ensures.value c.if-contains.false c.has_one_twice.ensures
+    decided_by_rest c.args.paths.now _ c.contains.result c.has_one_twice.result some c.contains.ensures.value c.if-contains.false
+    c.has_one_twice.ensures

@@ -5,5 +5,6 @@ use Rattle.rx_fields.proofs.short_id.ShortIdOrd.cmp.Goals as goal
 
 pub returns : goal.returns
 returns g c =
-    c.compare.ensures ∙ rw (← c.self.view_is, ← c.other.view_is) (padded_order g.row.MAX c.self.inside.len c.other.inside.len c.self.inside.bytes
+    c.compare.ensures ∙ rw (← c.self.view_is, ← c.other.view_is) (padded_order g.row.MAX c.self.inside.len c.other.inside.len
+    c.self.inside.bytes
     c.other.inside.bytes c.self.invariant c.other.invariant)

@@ -5,5 +5,6 @@ use Rattle.rx_fields.proofs.short_id.ShortIdPartialEq.eq.Goals as goal
 
 pub returns : goal.returns
 returns g c =
-    c.is_eq.ensures ∙ rw c.compare.ensures (rw (← c.self.view_is, ← c.other.view_is) (padded_same g.row.MAX c.self.inside.len c.other.inside.len c.self.inside.bytes
+    c.is_eq.ensures ∙ rw c.compare.ensures (rw (← c.self.view_is, ← c.other.view_is)
+    (padded_same g.row.MAX c.self.inside.len c.other.inside.len c.self.inside.bytes
     c.other.inside.bytes c.self.invariant c.other.invariant))

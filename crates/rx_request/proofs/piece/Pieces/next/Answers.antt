@@ -45,7 +45,8 @@ invariant_of-self c =
 
 pub invariant_of-self-in-Some : goal.invariant_of-self-in-Some
 invariant_of-self-in-Some c =
-    rw c.min-self-inside.ensures (marks_at_first c.self.inside.separator c.first_marks-self-inside.result _ c.first_marks-self-inside.ensures)
+    rw c.min-self-inside.ensures (marks_at_first c.self.inside.separator c.first_marks-self-inside.result _
+    c.first_marks-self-inside.ensures)
 
 pub returns-then-self-ne0-clause-value : goal.returns-then-self-ne0-clause-value
 returns-then-self-ne0-clause-value c =
@@ -55,7 +56,8 @@ returns-then-self-ne0-clause-value c =
     let mark = left_first p.separator p.marks p.seen p.rest c.in_ok-text.text c.self.invariant c.in_ok-text.was c.if-self-ne0.true in
     let marks = left_marks p.separator p.marks p.seen p.rest c.in_ok-text.text c.self.invariant c.in_ok-text.was in
     let left : pieces_left p.separator p.rest ≡ cut p.separator text = ap (pieces_left p.separator) c.in_ok-text.was in
-    let first = cut_at p.separator text at (omega (arith, mark.below, marks.within)) (λ k low below is. true≢false (sym is ∙ mark.none k below)) mark.here in
+    let first = cut_at p.separator text at (omega (arith, mark.below, marks.within))
+    (λ k low below is. true≢false (sym is ∙ mark.none k below)) mark.here in
     let slice = ap (λ (rest : List ℕ). take at text ∷ cut p.separator rest) (sym (to_end (at + 1) text)) in
     sym c.self.view_is ∙ (left ∙ (first ∙ slice))
 
