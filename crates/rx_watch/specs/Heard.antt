@@ -1,11 +1,18 @@
 -- Meaning: what was heard of a device.
-use Rattle.std.specs.Prelude.{◌≡◌, ℕ, ◌==◌, List, ◌++◌, count_by}
+use Rattle.std.specs.Prelude.{◌≡◌, ℕ, ◌-◌, ◌==◌, List, ◌++◌, count_by, drop, length, take}
 use Rattle.sha2.specs.Hashers.{Holds256}
 use Rattle.rx_watch.specs.declared.heard.Heard.{Heard}
+use Rattle.rx_watch.specs.declared.heard.TheConstants.{KEPT}
 
--- the sum is of these bytes
-abbrev pub HasHeard : Heard → List ℕ → Type 0
-HasHeard h bytes = Holds256 h.sum bytes
+-- the last n items, or all of fewer
+abbrev pub last_of : ℕ → List ℕ → List ℕ
+last_of n items = drop (length items - n) items
+
+-- the sum is of these bytes, and the front and the end are theirs
+pub record HasHeard (h : Heard) (bytes : List ℕ) : Type 0 where
+  pub sum : Holds256 h.sum bytes
+  pub front : h.front.items ≡ take KEPT bytes
+  pub end : h.end.items ≡ last_of KEPT bytes
 
 -- these bytes were heard after those before
 abbrev pub HearsOn : Heard → Heard → List ℕ → Type 0

@@ -1,11 +1,12 @@
 //! What was heard of a device.
-ghost use Rattle.std.specs.Prelude.{◌≡◌, ◌+◌, ◌-◌, ◌^◌, [], ℕ, IfOk, List, None, length, min};
+ghost use Rattle.std.specs.Prelude.{◌≡◌, ◌+◌, ◌-◌, ◌^◌, ◌≤◌, ◌++◌, [], ℕ, IfOk, List, None, length, min, take};
 ghost use Rattle.std.specs.Option.{option_or};
 ghost use Rattle.sha2.specs.Sha256.{sha256};
-ghost use Rattle.rx_watch.specs.Heard.{HasHeard, HearsOn, count_of};
+ghost use Rattle.rx_watch.specs.Heard.{HasHeard, HearsOn, count_of, last_of};
 
+use arrayvec::ArrayVec;
 use sha2::{Digest, Sha256};
-use std::alloc::{AllocError, Global};
+use std::alloc::AllocError;
 use std::time::Duration;
 
 // How many bytes are kept of the front and of the end.
@@ -21,15 +22,15 @@ pub struct Heard {
     line_feeds: u64,
     starts: u64,
     sum: Sha256,
-    front: Vec<u8>,
-    end: Vec<u8>,
+    front: ArrayVec<u8, KEPT>,
+    end: ArrayVec<u8, KEPT>,
     first: Option<Duration>,
     last: Option<Duration>,
 }
 
 impl Heard {
     /// Nothing was heard.
-    pub fn new(alloc: Global) -> Heard
+    pub fn new() -> Heard
         ensures heard { HasHeard result [] }
         ensures bytes { result.bytes ≡ 0 }
         ensures line_feeds { result.line_feeds ≡ 0 }
@@ -44,8 +45,8 @@ impl Heard {
             line_feeds: 0,
             starts: 0,
             sum: Sha256::new(),
-            front: Vec::new(alloc),
-            end: Vec::new(alloc),
+            front: ArrayVec::new(),
+            end: ArrayVec::new(),
             first: None,
             last: None,
         }
@@ -106,16 +107,16 @@ impl Heard {
         self.starts
     }
 
-    /// The first 256 bytes, where memory wasn't wanting for them.
+    /// The first 256 bytes that were heard, or all of fewer.
     pub fn front(&self) -> &[u8]
-        ensures { result.now ≡ self.now.front.items }
+        ensures { (bytes : List ℕ) → HasHeard self.now bytes → result.now ≡ take KEPT bytes }
     {
         self.front.as_slice()
     }
 
-    /// The last 256 bytes, where memory wasn't wanting for them.
+    /// The last 256 bytes that were heard, or all of fewer.
     pub fn end(&self) -> &[u8]
-        ensures { result.now ≡ self.now.end.items }
+        ensures { (bytes : List ℕ) → HasHeard self.now bytes → result.now ≡ last_of KEPT bytes }
     {
         self.end.as_slice()
     }
@@ -154,19 +155,30 @@ fn count_of(mark: u8, bytes: &[u8]) -> u64
 }
 
 // Keeps what the piece adds to the front.
-fn keep_front(front: &mut Vec<u8>, piece: &[u8]) {
-    let room = KEPT.saturating_sub(front.len());
-    let count = room.min(piece.len());
-    let _ = front.extend_from_slice(&piece[..count]);
+fn keep_front(front: &mut ArrayVec<u8, KEPT>, piece: &[u8])
+    ensures { front.new.items ≡ take KEPT (front.old.items ++ piece.now) }
+{
+    let count = front.remaining_capacity().min(piece.len());
+    let _ = front.try_extend_from_slice(&piece[..count]);
 }
 
 // Keeps the end of what was kept and the piece.
-fn keep_end(end: &mut Vec<u8>, piece: &[u8]) {
-    let passed = piece.len().saturating_sub(KEPT);
-    if end.extend_from_slice(&piece[passed..]).is_err() {
-        end.clear();
-        return;
-    }
-    let extra = end.len().saturating_sub(KEPT);
-    end.drain(..extra);
+fn keep_end(end: &mut ArrayVec<u8, KEPT>, piece: &[u8])
+    ensures { end.new.items ≡ last_of KEPT (end.old.items ++ piece.now) }
+{
+    let added = last_of(piece, KEPT);
+    let kept = last_of(end.as_slice(), KEPT - added.len());
+    let mut joined = ArrayVec::new();
+    let _ = joined.try_extend_from_slice(kept);
+    let _ = joined.try_extend_from_slice(added);
+    *end = joined;
+}
+
+// The last so many bytes, or all of fewer.
+fn last_of(bytes: &[u8], count: usize) -> &[u8]
+    ensures value { result.now ≡ last_of count bytes.now }
+    ensures fits { length result.now ≤ count }
+{
+    let passed = bytes.len().saturating_sub(count);
+    &bytes[passed..]
 }

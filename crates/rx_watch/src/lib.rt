@@ -4,7 +4,7 @@
 //! SHA-256, their front and their end, and the times of the first and the last call.
 //!
 //! ```rust
-//! let mut batch = WatchedSource::new(alloc, ReaderSource::new(file), &rt);
+//! let mut batch = WatchedSource::new(ReaderSource::new(file), &rt);
 //! let text = rx_devices::read_all(alloc, &mut batch)?;
 //! let digest = batch.heard().digest()?;
 //! ```

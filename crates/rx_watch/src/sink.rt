@@ -7,7 +7,6 @@ ghost use Rattle.rx_watch.specs.Heard.{HasHeard, HearsOn};
 
 use crate::heard::Heard;
 use rx_devices::{Failed, Sink};
-use std::alloc::Global;
 use std::time::Clock;
 
 /// A sink of which is heard what it takes. It tells what the sink tells.
@@ -20,14 +19,14 @@ pub struct WatchedSink<'c, S, C> {
 
 impl<'c, S: Sink, C: Clock> WatchedSink<'c, S, C> {
     /// The sink, of which nothing was heard, with the clock for its times.
-    pub fn new(alloc: Global, sink: S, clock: &'c C) -> WatchedSink<'c, S, C>
+    pub fn new(sink: S, clock: &'c C) -> WatchedSink<'c, S, C>
         ensures written { ⟦<WatchedSink<'c, S, C> as Sink>⟧.written result ≡ S.written sink }
         ensures failed { ⟦<WatchedSink<'c, S, C> as Sink>⟧.failed result ≡ S.failed sink }
         ensures heard { HasHeard result.heard [] }
     {
         WatchedSink {
             sink,
-            heard: Heard::new(alloc),
+            heard: Heard::new(),
             clock,
         }
     }

@@ -7,7 +7,6 @@ ghost use Rattle.rx_watch.specs.Heard.{HasHeard, HearsOn};
 
 use crate::heard::Heard;
 use rx_devices::{Failed, Source};
-use std::alloc::Global;
 use std::time::Clock;
 
 /// A source of which is heard what it gives. It tells what the source tells.
@@ -20,14 +19,14 @@ pub struct WatchedSource<'c, S, C> {
 
 impl<'c, S: Source, C: Clock> WatchedSource<'c, S, C> {
     /// The source, of which nothing was heard, with the clock for its times.
-    pub fn new(alloc: Global, source: S, clock: &'c C) -> WatchedSource<'c, S, C>
+    pub fn new(source: S, clock: &'c C) -> WatchedSource<'c, S, C>
         ensures left { ⟦<WatchedSource<'c, S, C> as Source>⟧.left result ≡ S.left source }
         ensures failed { ⟦<WatchedSource<'c, S, C> as Source>⟧.failed result ≡ S.failed source }
         ensures heard { HasHeard result.heard [] }
     {
         WatchedSource {
             source,
-            heard: Heard::new(alloc),
+            heard: Heard::new(),
             clock,
         }
     }

@@ -53,7 +53,7 @@ pub fn watched<R: Threads + Wait + Sync>(
     let teller = Teller::new(rt, words.verbose);
     let (done, heard) = match RunFiles::open(rt, words) {
         Ok(files) => on_files(rt, threads, words, files, &teller),
-        Err(ending) => (Err(ending), RunHeard::nothing(rt.alloc())),
+        Err(ending) => (Err(ending), RunHeard::nothing()),
     };
     let times = Times {
         begin: teller.begin(),
@@ -84,14 +84,14 @@ pub struct RunHeard {
 }
 
 impl RunHeard {
-    fn nothing(alloc: Global) -> RunHeard {
+    fn nothing() -> RunHeard {
         RunHeard {
-            sheet: Heard::new(alloc),
-            books: Heard::new(alloc),
-            batch: Heard::new(alloc),
-            response: Heard::new(alloc),
-            books_out: Heard::new(alloc),
-            settlement: Heard::new(alloc),
+            sheet: Heard::new(),
+            books: Heard::new(),
+            batch: Heard::new(),
+            response: Heard::new(),
+            books_out: Heard::new(),
+            settlement: Heard::new(),
         }
     }
 
@@ -133,9 +133,9 @@ fn on_files<R: Threads + Wait + Sync>(
     let mut sheet = ToldSource::new(rt, &inputs.sheet, Name::Sheet, teller);
     let mut books = ToldSource::new(rt, &inputs.books, Name::Books, teller);
     let mut batch = ToldSource::new(rt, &inputs.batch, Name::Batch, teller);
-    let mut response = WatchedSink::new(alloc, WriterSink::new(response), rt);
-    let mut books_out = WatchedSink::new(alloc, WriterSink::new(books_out), rt);
-    let mut settlement = WatchedSink::new(alloc, WriterSink::new(settlement), rt);
+    let mut response = WatchedSink::new(WriterSink::new(response), rt);
+    let mut books_out = WatchedSink::new(WriterSink::new(books_out), rt);
+    let mut settlement = WatchedSink::new(WriterSink::new(settlement), rt);
     let done = run_io(
         threads,
         alloc,

@@ -26,7 +26,7 @@ impl<'a> ToldSource<'a> {
         ensures { ⟦<ToldSource<'a> as Source>⟧.failed result ≡ false }
     {
         ToldSource {
-            source: WatchedSource::new(rt.alloc(), ReaderSource::new(file), rt),
+            source: WatchedSource::new(ReaderSource::new(file), rt),
             name,
             teller,
         }
