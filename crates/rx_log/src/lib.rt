@@ -10,10 +10,13 @@
 //! What is told is the caller's to find.
 #![tactic(auto)]
 
-mod inputs;
+mod digits;
+mod header;
 mod json;
 mod log;
+mod settlement;
 
-pub use inputs::{lot, totals};
+pub use header::lot;
 pub use json::line;
 pub use log::{FileLog, Lot, RunLog, Steps, Totals};
+pub use settlement::totals;
