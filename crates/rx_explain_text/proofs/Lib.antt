@@ -1,1 +1,2 @@
 -- Lemmas of the words of an explanation.
+mod Worked

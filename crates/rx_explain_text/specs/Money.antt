@@ -1,6 +1,7 @@
 -- Meaning: amounts as people read them.
-use Rattle.std.specs.Prelude.{ℕ, ◌+◌, ◌/◌, ◌%◌, List, [], ◌∷◌, ◌++◌, codes}
+use Rattle.std.specs.Prelude.{ℕ, ◌+◌, ◌-◌, ◌/◌, ◌%◌, ◌==◌, if◌then◌else◌, List, [], ◌∷◌, ◌++◌, codes, length, replicate}
 use Rattle.std.specs.Fmt.{decimal}
+use Rattle.rx_fields.specs.Digits.{digits_text}
 
 -- a point and two digits
 abbrev pub cents_text : ℕ → List ℕ
@@ -9,3 +10,16 @@ cents_text cents = 46 ∷ (48 + cents / 10) ∷ (48 + cents % 10) ∷ []
 -- cents as dollars and cents
 abbrev pub money_text : ℕ → List ℕ
 money_text cents = codes "$" ++ (decimal (cents / 100) ++ cents_text (cents % 100))
+
+-- at the right end of a column: blanks before it, as many as the width leaves; none before a text that is wider
+abbrev pub right_in : ℕ → List ℕ → List ℕ
+right_in width text = replicate (width - length text) 32 ++ text
+
+-- hundredths of a cent as dollars: two more digits where they aren't whole cents
+abbrev pub price_text : ℕ → List ℕ
+price_text hundredths =
+    money_text (hundredths / 100) ++ (if hundredths % 100 == 0 then [] else digits_text 2 (hundredths % 100))
+
+-- thousandths as whole ones, with a point and three digits where they aren't whole
+abbrev pub thousandths_text : ℕ → List ℕ
+thousandths_text n = decimal (n / 1000) ++ (if n % 1000 == 0 then [] else codes "." ++ digits_text 3 (n % 1000))

@@ -1,8 +1,13 @@
+ghost use Rattle.std.specs.Prelude.{◌≡◌};
+ghost use Rattle.rx_explain_text.specs.Words.{name_of, wanted_for};
+
 use rx_explain::Case;
 use rx_fields::Code;
 
 /// The name of a reject code, in the standard's words.
-pub fn name(code: Code) -> &'static str {
+pub fn name(code: Code) -> &'static str
+    ensures { result.now ≡ name_of code }
+{
     match code {
         Code::Bin => "missing or invalid BIN number",
         Code::Version => "missing or invalid version",
@@ -40,7 +45,9 @@ pub fn name(code: Code) -> &'static str {
 
 /// What the tables of header codes and group codes want in place of what a request has (docs/FORMATS.md, "Request
 /// transmission"); of a code of adjudication what the rules want (docs/PRODUCT.md, "Billing").
-pub fn wanted(code: Code) -> &'static str {
+pub fn wanted(code: Code) -> &'static str
+    ensures { result.now ≡ wanted_for code }
+{
     match code {
         Code::Bin => "the plan's BIN",
         Code::Version => "D0",

@@ -1,8 +1,9 @@
-ghost use Rattle.std.specs.Prelude.{◌≡◌, ◌++◌, ◌↔◌, [], IfOk, IsOk, OnOk};
+ghost use Rattle.std.specs.Prelude.{◌≡◌, ◌++◌, ◌↔◌, [], IfOk, IsOk, OnOk, replicate};
 ghost use Rattle.std.specs.Fmt.{decimal};
 ghost use Rattle.rx_escape.specs.Escape.{escaped};
 ghost use Rattle.rx_fields.specs.Digits.{digits_text};
-ghost use Rattle.rx_explain_text.specs.Money.{money_text};
+ghost use Rattle.rx_explain_text.specs.Dates.{dashed};
+ghost use Rattle.rx_explain_text.specs.Money.{money_text, price_text, right_in, thousandths_text};
 
 use crate::page::Page;
 use rx_escape::Style;
@@ -90,6 +91,7 @@ impl Draft {
 
     /// Writes an amount at the right end of a column of this width, in bytes.
     pub(crate) fn column(&mut self, width: usize, cents: u128)
+        ensures adds { OnOk self.new.done (self.new.page.bytes.items ≡ self.old.page.bytes.items ++ right_in width (money_text cents)) }
         ensures once { IsOk self.new.done → IsOk self.old.done }
     {
         if self.done.is_ok() {
@@ -99,6 +101,7 @@ impl Draft {
 
     /// Writes so many blanks.
     pub(crate) fn blanks(&mut self, count: usize)
+        ensures adds { OnOk self.new.done (self.new.page.bytes.items ≡ self.old.page.bytes.items ++ replicate count 32) }
         ensures once { IsOk self.new.done → IsOk self.old.done }
     {
         if self.done.is_ok() {
@@ -108,6 +111,7 @@ impl Draft {
 
     /// Writes a number of thousandths, as `30` or `0.500`.
     pub(crate) fn thousandths(&mut self, number: u64)
+        ensures adds { OnOk self.new.done (self.new.page.bytes.items ≡ self.old.page.bytes.items ++ thousandths_text number) }
         ensures once { IsOk self.new.done → IsOk self.old.done }
     {
         if self.done.is_ok() {
@@ -117,6 +121,7 @@ impl Draft {
 
     /// Writes a price in hundredths of a cent as dollars, as `$9.50` or `$0.0375`.
     pub(crate) fn price(&mut self, hundredths: u64)
+        ensures adds { OnOk self.new.done (self.new.page.bytes.items ≡ self.old.page.bytes.items ++ price_text hundredths) }
         ensures once { IsOk self.new.done → IsOk self.old.done }
     {
         if self.done.is_ok() {
@@ -136,6 +141,7 @@ impl Draft {
 
     /// Writes a day as `2026-03-05`.
     pub(crate) fn day(&mut self, day: Day)
+        ensures adds { OnOk self.new.done (self.new.page.bytes.items ≡ self.old.page.bytes.items ++ dashed day) }
         ensures once { IsOk self.new.done → IsOk self.old.done }
     {
         if self.done.is_ok() {

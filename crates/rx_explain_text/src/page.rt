@@ -1,11 +1,12 @@
-ghost use Rattle.std.specs.Prelude.{◌≡◌, ◌++◌, [], ◌<◌, OnOk};
+ghost use Rattle.std.specs.Prelude.{◌≡◌, ◌++◌, [], ◌<◌, OnOk, replicate};
 ghost use Rattle.std.specs.Fmt.{decimal};
 ghost use Rattle.rx_escape.specs.Escape.{escaped};
 ghost use Rattle.rx_fields.specs.Digits.{digits_text};
-ghost use Rattle.rx_explain_text.specs.Money.{cents_text, money_text};
+ghost use Rattle.rx_explain_text.specs.Dates.{dashed};
+ghost use Rattle.rx_explain_text.specs.Money.{cents_text, money_text, price_text, right_in, thousandths_text};
 
 use rx_escape::{Style, put_escaped};
-use rx_fields::{Authorization, Day, date_write, digits_write};
+use rx_fields::{Authorization, Day, digits_write};
 use std::alloc::{AllocError, Global};
 
 /// A text that is written from front to end.
@@ -73,7 +74,10 @@ impl Page {
     }
 
     /// Writes an amount at the right end of a column of this width, in bytes.
-    pub fn column(&mut self, width: usize, cents: u128) -> Result<(), AllocError> {
+    #[tactic(auto, using(std::proofs::Common::append_assoc))]
+    pub fn column(&mut self, width: usize, cents: u128) -> Result<(), AllocError>
+        ensures { OnOk result (self.new.bytes.items ≡ self.old.bytes.items ++ right_in width (money_text cents)) }
+    {
         let mut amount = Page::new(self.alloc);
         amount.money(cents)?;
         let amount = amount.into_bytes();
@@ -82,32 +86,40 @@ impl Page {
     }
 
     /// Writes so many blanks.
-    pub fn blanks(&mut self, count: usize) -> Result<(), AllocError> {
-        for _ in 0..count {
-            self.put(b" ")?;
+    pub fn blanks(&mut self, count: usize) -> Result<(), AllocError>
+        ensures { OnOk result (self.new.bytes.items ≡ self.old.bytes.items ++ replicate count 32) }
+    {
+        'blanks: for _ in 0..count {
+            self.bytes.push(b' ')?;
         }
         Ok(())
     }
 
     /// Writes a number of thousandths, as `30` or `0.500`.
-    pub fn thousandths(&mut self, number: u64) -> Result<(), AllocError> {
+    #[tactic(auto, using(std::proofs::Common::append_assoc))]
+    pub fn thousandths(&mut self, number: u64) -> Result<(), AllocError>
+        ensures { OnOk result (self.new.bytes.items ≡ self.old.bytes.items ++ thousandths_text number) }
+    {
         self.number(u128::from(number / 1000))?;
-        if number % 1000 > 0 {
-            let digits: [u8; 3] = digits_write(number % 1000);
-            self.say(".")?;
-            self.put(&digits)?;
+        if number % 1000 == 0 {
+            return Ok(());
         }
-        Ok(())
+        let digits: [u8; 3] = digits_write(number % 1000);
+        self.say(".")?;
+        self.put(&digits)
     }
 
     /// Writes a price in hundredths of a cent as dollars, as `$9.50` or `$0.0375`.
-    pub fn price(&mut self, hundredths: u64) -> Result<(), AllocError> {
+    #[tactic(auto, using(std::proofs::Common::append_assoc))]
+    pub fn price(&mut self, hundredths: u64) -> Result<(), AllocError>
+        ensures { OnOk result (self.new.bytes.items ≡ self.old.bytes.items ++ price_text hundredths) }
+    {
         self.money(u128::from(hundredths / 100))?;
-        if hundredths % 100 > 0 {
-            let digits: [u8; 2] = digits_write(hundredths % 100);
-            self.put(&digits)?;
+        if hundredths % 100 == 0 {
+            return Ok(());
         }
-        Ok(())
+        let digits: [u8; 2] = digits_write(hundredths % 100);
+        self.put(&digits)
     }
 
     /// Writes an authorization number in its 15 digits.
@@ -119,9 +131,18 @@ impl Page {
     }
 
     /// Writes a day as `2026-03-05`.
-    pub fn day(&mut self, day: Day) -> Result<(), AllocError> {
-        let [y0, y1, y2, y3, m0, m1, d0, d1] = date_write(day);
-        self.put(&[y0, y1, y2, y3, b'-', m0, m1, b'-', d0, d1])
+    #[tactic(auto, using(std::proofs::Common::append_assoc))]
+    pub fn day(&mut self, day: Day) -> Result<(), AllocError>
+        ensures { OnOk result (self.new.bytes.items ≡ self.old.bytes.items ++ dashed day) }
+    {
+        let year: [u8; 4] = digits_write(u64::from(day.year()));
+        let month: [u8; 2] = digits_write(u64::from(day.month()));
+        let date: [u8; 2] = digits_write(u64::from(day.day()));
+        self.put(&year)?;
+        self.say("-")?;
+        self.put(&month)?;
+        self.say("-")?;
+        self.put(&date)
     }
 }
 

@@ -1,3 +1,9 @@
+ghost use Rattle.std.specs.Prelude.{◌≡◌, ◌==◌, drop, find, take};
+ghost use Rattle.std.specs.List.{slice_split};
+ghost use Rattle.std.specs.Option.{option_copied};
+ghost use Rattle.rx_explain_text.specs.RequestField.{bytes_at, field_bytes, field_number, front_of, has_field, is_under};
+ghost use Rattle.rx_explain_text.specs.RequestField.{part_of, stand_of, value_in, value_of, value_under};
+
 use rx_fields::{Code, trimmed};
 
 // The separators of groups, segments and fields.
@@ -10,158 +16,181 @@ const FS: u8 = 0x1C;
 // How many bytes a header has.
 const HEADER: usize = 56;
 
-// Where a field of a request stands: so many bytes of the header from a place on, or as the value of a segment of the
-// common part or of the transaction's group.
+// Where the bytes stand that a code speaks of.
 #[derive(Clone, Copy)]
 enum Stand {
+    // So many bytes of the header from a place on.
     Header(usize, usize),
-    Common([u8; 2]),
-    Group([u8; 2]),
-}
-
-// A field of a request: its number and id in the standard, and where it stands.
-#[derive(Clone, Copy)]
-struct Field {
-    number: &'static str,
-    id: [u8; 2],
-    stand: Stand,
-}
-
-fn in_header(number: &'static str, from: usize, length: usize) -> Option<Field> {
-    Some(Field {
-        number,
-        id: *b"  ",
-        stand: Stand::Header(from, length),
-    })
-}
-
-fn in_common(number: &'static str, id: &[u8; 2]) -> Option<Field> {
-    Some(Field {
-        number,
-        id: *id,
-        stand: Stand::Common(*b"04"),
-    })
-}
-
-fn in_claim(number: &'static str, id: &[u8; 2]) -> Option<Field> {
-    Some(Field {
-        number,
-        id: *id,
-        stand: Stand::Group(*b"07"),
-    })
-}
-
-fn in_pricing(number: &'static str, id: &[u8; 2]) -> Option<Field> {
-    Some(Field {
-        number,
-        id: *id,
-        stand: Stand::Group(*b"11"),
-    })
-}
-
-// The field that a code of a header or a group speaks of; None of a syntax error and of a code of adjudication.
-fn field_of(code: Code) -> Option<Field> {
-    match code {
-        Code::Bin => in_header("101-A1", 0, 6),
-        Code::Version => in_header("102-A2", 6, 2),
-        Code::TransactionCode => in_header("103-A3", 8, 2),
-        Code::ProcessorControlNumber => in_header("104-A4", 10, 10),
-        Code::TransactionCount => in_header("109-A9", 20, 1),
-        Code::Provider => in_header("201-B1", 23, 15),
-        Code::DateOfService => in_header("401-D1", 38, 8),
-        Code::Cardholder => in_common("302-C2", b"C2"),
-        Code::Person => in_common("303-C3", b"C3"),
-        Code::ReferenceQualifier => in_claim("455-EM", b"EM"),
-        Code::Reference => in_claim("402-D2", b"D2"),
-        Code::ProductQualifier => in_claim("436-E1", b"E1"),
-        Code::ProductId => in_claim("407-D7", b"D7"),
-        Code::Quantity => in_claim("442-E7", b"E7"),
-        Code::DaysSupply => in_claim("405-D5", b"D5"),
-        Code::Compound => in_claim("406-D6", b"D6"),
-        Code::OtherCoverage => in_claim("308-C8", b"C8"),
-        Code::IngredientCost => in_pricing("409-D9", b"D9"),
-        Code::DispensingFee => in_pricing("412-DC", b"DC"),
-        Code::UsualCharge => in_pricing("426-DQ", b"DQ"),
-        Code::GrossAmount => in_pricing("430-DU", b"DU"),
-        _ => None,
-    }
+    // The value in a segment of the common part under an id.
+    Common([u8; 2], [u8; 2]),
+    // The value in a segment of the transaction's group under an id.
+    Group([u8; 2], [u8; 2]),
+    // The whole group, or what stands before the first.
+    Part,
 }
 
 /// The number and id of the field that a code speaks of, as `442-E7`; None of a syntax error, and of a code of
 /// adjudication.
-pub fn field_name(code: Code) -> Option<&'static str> {
-    match field_of(code) {
-        Some(field) => Some(field.number),
-        None => None,
+pub fn field_name(code: Code) -> Option<&'static str>
+    ensures { option_copied result ≡ field_number code }
+{
+    match code {
+        Code::Bin => Some("101-A1"),
+        Code::Version => Some("102-A2"),
+        Code::TransactionCode => Some("103-A3"),
+        Code::ProcessorControlNumber => Some("104-A4"),
+        Code::TransactionCount => Some("109-A9"),
+        Code::Provider => Some("201-B1"),
+        Code::DateOfService => Some("401-D1"),
+        Code::Cardholder => Some("302-C2"),
+        Code::Person => Some("303-C3"),
+        Code::ReferenceQualifier => Some("455-EM"),
+        Code::Reference => Some("402-D2"),
+        Code::ProductQualifier => Some("436-E1"),
+        Code::ProductId => Some("407-D7"),
+        Code::Quantity => Some("442-E7"),
+        Code::DaysSupply => Some("405-D5"),
+        Code::Compound => Some("406-D6"),
+        Code::OtherCoverage => Some("308-C8"),
+        Code::IngredientCost => Some("409-D9"),
+        Code::DispensingFee => Some("412-DC"),
+        Code::UsualCharge => Some("426-DQ"),
+        Code::GrossAmount => Some("430-DU"),
+        _ => None,
+    }
+}
+
+fn stand_of(code: Code) -> Stand
+    ensures { result ≡ stand_of code }
+{
+    match code {
+        Code::Bin => Stand::Header(0, 6),
+        Code::Version => Stand::Header(6, 2),
+        Code::TransactionCode => Stand::Header(8, 2),
+        Code::ProcessorControlNumber => Stand::Header(10, 10),
+        Code::TransactionCount => Stand::Header(20, 1),
+        Code::Provider => Stand::Header(23, 15),
+        Code::DateOfService => Stand::Header(38, 8),
+        Code::Cardholder => Stand::Common(*b"04", *b"C2"),
+        Code::Person => Stand::Common(*b"04", *b"C3"),
+        Code::ReferenceQualifier => Stand::Group(*b"07", *b"EM"),
+        Code::Reference => Stand::Group(*b"07", *b"D2"),
+        Code::ProductQualifier => Stand::Group(*b"07", *b"E1"),
+        Code::ProductId => Stand::Group(*b"07", *b"D7"),
+        Code::Quantity => Stand::Group(*b"07", *b"E7"),
+        Code::DaysSupply => Stand::Group(*b"07", *b"D5"),
+        Code::Compound => Stand::Group(*b"07", *b"D6"),
+        Code::OtherCoverage => Stand::Group(*b"07", *b"C8"),
+        Code::IngredientCost => Stand::Group(*b"11", *b"D9"),
+        Code::DispensingFee => Stand::Group(*b"11", *b"DC"),
+        Code::UsualCharge => Stand::Group(*b"11", *b"DQ"),
+        Code::GrossAmount => Stand::Group(*b"11", *b"DU"),
+        _ => Stand::Part,
     }
 }
 
 /// The bytes of a request that a reject code speaks of: those of its field, None where that is absent; of a syntax error
 /// those of the nth group, and of a rejected header, whose `nth` is 0, those before the first group.
-pub fn field_bytes(request: &[u8], nth: u64, code: Code) -> Option<&[u8]> {
-    match field_of(code) {
-        Some(field) => value_of(request, nth, &field),
-        None if nth == 0 => Some(front_of(request)),
-        None => part_of(request, nth),
+pub fn field_bytes(request: &[u8], nth: u64, code: Code) -> Option<&[u8]>
+    ensures { option_copied result ≡ field_bytes request.now nth code }
+{
+    bytes_at(request, nth, stand_of(code))
+}
+
+fn bytes_at(request: &[u8], nth: u64, stand: Stand) -> Option<&[u8]>
+    ensures { option_copied result ≡ bytes_at request.now nth stand }
+{
+    match stand {
+        Stand::Header(from, count) => Some(first(behind(first(request, HEADER), from), count)),
+        Stand::Common(name, id) => value_in(part_of(request, 0)?, name, id),
+        Stand::Group(name, id) => value_in(part_of(request, nth)?, name, id),
+        Stand::Part if nth == 0 => Some(front_of(request)),
+        Stand::Part => part_of(request, nth),
     }
 }
 
-fn value_of<'a>(request: &'a [u8], nth: u64, field: &Field) -> Option<&'a [u8]> {
-    match field.stand {
-        Stand::Header(from, length) => Some(header_bytes(request, from, length)),
-        Stand::Common(segment) => value_in(part_of(request, 0)?, segment, field.id),
-        Stand::Group(segment) => value_in(part_of(request, nth)?, segment, field.id),
-    }
+// The first so many bytes, or all where there are no more.
+fn first(bytes: &[u8], count: usize) -> &[u8]
+    ensures { result.now ≡ take count bytes.now }
+{
+    &bytes[..bytes.len().min(count)]
 }
 
-// So many bytes of the header from a place on, as far as they are there.
-fn header_bytes(request: &[u8], from: usize, length: usize) -> &[u8] {
-    let header = &request[..request.len().min(HEADER)];
-    let rest = &header[header.len().min(from)..];
-    &rest[..rest.len().min(length)]
+// The bytes behind the first so many.
+fn behind(bytes: &[u8], count: usize) -> &[u8]
+    ensures { result.now ≡ drop count bytes.now }
+{
+    &bytes[bytes.len().min(count)..]
 }
 
 // Header and common part.
-fn front_of(request: &[u8]) -> &[u8] {
+fn front_of(request: &[u8]) -> &[u8]
+    ensures { result.now ≡ front_of request.now (part_of request.now 0) }
+{
     match part_of(request, 0) {
-        Some(common) => &request[..request.len().min(HEADER + common.len())],
+        Some(common) => first(request, HEADER.saturating_add(common.len())),
         None => request,
     }
 }
 
 // The common part, whose number is 0, or the nth group.
-fn part_of(request: &[u8], nth: u64) -> Option<&[u8]> {
-    let mut before = 0u64;
-    for part in request[request.len().min(HEADER)..].split(|byte| *byte == GS) {
-        if before == nth {
-            return Some(part);
-        }
-        before = before.saturating_add(1);
-    }
-    None
+fn part_of(request: &[u8], nth: u64) -> Option<&[u8]>
+    ensures { option_copied result ≡ part_of request.now nth }
+{
+    behind(request, HEADER)
+        .split(|byte| *byte == GS)
+        .nth(nth as usize)
 }
 
-// The value of a field in the segments of this name.
-fn value_in<'a>(part: &'a [u8], segment: [u8; 2], id: [u8; 2]) -> Option<&'a [u8]> {
-    for text in part.split(|byte| *byte == SS) {
-        if value_under(text, *b"AM") == Some(segment.as_slice()) {
-            if let Some(value) = value_under(text, id) {
-                return Some(value);
-            }
-        }
-    }
-    None
+// The value under an id in the first segment of this name that has one.
+fn value_in(part: &[u8], name: [u8; 2], id: [u8; 2]) -> Option<&[u8]>
+    ensures { option_copied result ≡ value_in name id part.now }
+{
+    value_under(segment_in(part, name, id)?, id)
 }
 
-// The first value under an id in a segment, without trailing blanks; an empty one is none.
-fn value_under(segment: &[u8], id: [u8; 2]) -> Option<&[u8]> {
-    for piece in segment.split(|byte| *byte == FS) {
-        if let Some(value) = piece.strip_prefix(id.as_slice()) {
-            let value = trimmed(value);
-            if !value.is_empty() {
-                return Some(value);
-            }
-        }
+fn segment_in(part: &[u8], name: [u8; 2], id: [u8; 2]) -> Option<&[u8]>
+    ensures { option_copied result ≡ find (has_field name id) (slice_split (λ b. b == 30) part.now) }
+{
+    part.split(|byte| *byte == SS)
+        .find(|segment| has_field(segment, name, id))
+}
+
+// Whether a segment has this name, and a value under the id.
+fn has_field(segment: &[u8], name: [u8; 2], id: [u8; 2]) -> bool
+    ensures { result ≡ has_field name id segment.now }
+{
+    match value_under(segment, *b"AM") {
+        Some(own) => own == name.as_slice() && value_under(segment, id).is_some(),
+        None => false,
     }
-    None
+}
+
+// The first value under an id in a segment.
+fn value_under(segment: &[u8], id: [u8; 2]) -> Option<&[u8]>
+    ensures { option_copied result ≡ value_under id segment.now }
+{
+    Some(value_of(piece_under(segment, id)?))
+}
+
+fn piece_under(segment: &[u8], id: [u8; 2]) -> Option<&[u8]>
+    ensures { option_copied result ≡ find (is_under id) (slice_split (λ b. b == 28) segment.now) }
+{
+    segment
+        .split(|byte| *byte == FS)
+        .find(|piece| is_under(piece, id))
+}
+
+// Whether a piece has this id, and a value.
+fn is_under(piece: &[u8], id: [u8; 2]) -> bool
+    ensures { result ≡ is_under id piece.now }
+{
+    first(piece, 2) == id.as_slice() && !value_of(piece).is_empty()
+}
+
+// A piece's value, without trailing blanks.
+fn value_of(piece: &[u8]) -> &[u8]
+    ensures { result.now ≡ value_of piece.now }
+{
+    trimmed(behind(piece, 2))
 }
