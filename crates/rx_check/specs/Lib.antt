@@ -1,4 +1,5 @@
 -- Plumbing: which files there are.
 pub mod Found
-pub mod Warned
+pub mod Ignored
 pub mod Likeness
+pub mod Warned
