@@ -1,5 +1,4 @@
 -- Plumbing: which files there are.
 pub mod Found
-pub mod Ignored
 pub mod Likeness
 pub mod Warned
