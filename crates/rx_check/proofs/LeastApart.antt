@@ -1,5 +1,7 @@
 -- The nearest of some known names and one more; what is left of the front or the end that two texts have in common.
-use Rattle.std.proofs.Common.{◌≡◌, ◌≢◌, ℕ, ◌+◌, ◌-◌, ◌<◌, ◌≤◌, nat_eq, nat_lt, true, false, if◌then◌else◌, List, [], ◌∷◌, ◌++◌, Option, Some, None, filter, map, take, reverse, drop, length, get_or, refl, sym, ap, ◌∙◌, arith, rules, inl, inr}
+use Rattle.std.proofs.Common.{◌≡◌, ◌≢◌, ℕ, ◌+◌, ◌-◌, ◌<◌, ◌≤◌, nat_eq, nat_lt, true, false, if◌then◌else◌}
+use Rattle.std.proofs.Common.{List, [], ◌∷◌, ◌++◌, Option, Some, None, filter, map, take, reverse, drop, length, get_or}
+use Rattle.std.proofs.Common.{refl, sym, ap, ◌∙◌, arith, rules, inl, inr}
 use Rattle.std.proofs.lemmas.Bool.{cases_lt, cases_Bool}
 use Rattle.std.proofs.lemmas.Bool.Decides.{nat_tests}
 use Rattle.std.proofs.lemmas.Grind.{common_steps}
@@ -89,7 +91,8 @@ next_is_short name names next best least now is now_is short =
 
 kept : (name : List ℕ) (names : List (List ℕ)) (next : List ℕ) (best : Option (List ℕ)) (least : ℕ)
     → best ≡ nearest name names → least ≡ bound name best → least ≤ apart name next → best ≡ nearest name (names ++ next ∷ [])
-kept name names next None least is least_is far = is ∙ sym (nearest-unlike name names next (grind (arith, nat_tests)))
+kept name names next None least is least_is far =
+    is ∙ sym (nearest-unlike name names next (grind (arith, nat_tests)))
 kept name names next (Some best) least is least_is far =
     let far_is : nat_lt (apart name next) (apart name best) ≡ false = grind (arith, nat_tests) in
     elim (cases_Bool (is_like name next)) [

@@ -18,12 +18,12 @@ loop-candidate-preserved c =
     let now_is : c.apart-apart.result ≡ apart name next = c.apart-apart.ensures ∙ ap (apart name) c.as_bytes.ensures.value in
     elim c.if-apart-least.branch [
       | then-apart-least+then-apart-candidate w ↦
-        rw (more, w.best-is, w.least-is)
-        (next_is name before next best least _ was now_is w.if-apart-least.true w.if-apart-candidate.true)
+          rw (more, w.best-is, w.least-is)
+          (next_is name before next best least _ was now_is w.if-apart-least.true w.if-apart-candidate.true)
       | else-apart-least w ↦ (elim w.else-apart-least.branch [
         | else-apart-least-via-then-apart-least+else-apart-candidate v ↦
-          rw (more, w.best-is, w.least-is) (next_is_short name before next best least _ was now_is v.if-apart-candidate.false)
+            rw (more, w.best-is, w.least-is) (next_is_short name before next best least _ was now_is v.if-apart-candidate.false)
         | else-apart-least-via-else-apart-least v ↦
-          rw (more, w.best-is, w.least-is) (next_is_far name before next best least _ was now_is v.if-apart-least.false)
+            rw (more, w.best-is, w.least-is) (next_is_far name before next best least _ was now_is v.if-apart-least.false)
       ])
     ]
