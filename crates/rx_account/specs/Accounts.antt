@@ -1,6 +1,8 @@
 -- Meaning: the lines of a portion of a report, and its tallies.
 use Rattle.std.specs.Prelude.{◌≡◌, ℕ, Bool, true, false, List, [], ◌∷◌, Option, Some, None, map}
 use Rattle.std.specs.List.{filter}
+use Rattle.std.specs.Map.{lookup}
+use Rattle.std.specs.Option.{unwrap_or}
 use Rattle.rx_account.specs.declared.portion.Portion.{Portion}
 use Rattle.rx_account.specs.declared.portion.Portion.TheVariants as portion
 use Rattle.rx_account.specs.declared.section.Section.{Section}
@@ -39,6 +41,10 @@ is_of id e = names_provider id e.0
 abbrev pub first_tally : List (List ℕ × Tally) → Tally
 first_tally [] = tally []
 first_tally (e ∷ es) = e.1
+
+-- how many lines are counted of a provider
+abbrev pub count_in : List ℕ → List (List ℕ × ℕ) → ℕ
+count_in provider counts = unwrap_or (lookup (is_same provider) counts) 0
 
 -- an account's providers with their tallies, and its total: of a whole batch its settlement's; of one provider its line
 -- of that; of a family what the lines come to

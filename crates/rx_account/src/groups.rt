@@ -1,3 +1,6 @@
+ghost use Rattle.std.specs.Prelude.{◌≡◌};
+ghost use Rattle.rx_account.specs.Accounts.{count_in};
+
 use indexmap::IndexMap;
 use rx_fields::Memory;
 use rx_report::Line;
@@ -35,12 +38,16 @@ impl Groups {
     }
 
     /// All lines.
-    pub fn lines(&self) -> &[Line] {
+    pub fn lines(&self) -> &[Line]
+        ensures { result.now ≡ self.now.lines.items }
+    {
         self.lines.as_slice()
     }
 
     /// How many lines a provider has.
-    pub fn count(&self, provider: &Field) -> usize {
+    pub fn count(&self, provider: &Field) -> usize
+        ensures { result ≡ count_in provider.now self.now.counts.entries }
+    {
         match self.counts.get(provider) {
             Some(count) => *count,
             None => 0,

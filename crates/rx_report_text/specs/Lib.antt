@@ -1,3 +1,4 @@
 -- Plumbing: which files there are.
+pub mod Json
 pub mod Money
 pub mod Shown
