@@ -1,18 +1,16 @@
 -- The groups of lines, one line after another.
 use Rattle.std.proofs.Common.{◌≡◌, ℕ, Bool, true, false, not, cond, List, [], ◌∷◌, ◌++◌, map, refl, sym, ap, ◌∙◌, inl, inr}
 use Rattle.std.specs.Cmp.{IsEquivalence}
-use Rattle.std.specs.Cmp.Lexicographic.{on_texts_equal, pointwise}
+use Rattle.std.specs.Cmp.Lexicographic.{on_texts_equal}
 use Rattle.std.specs.List.{filter}
-use Rattle.std.specs.Map.{lookup, keys_of, values_of}
-use Rattle.std.specs.Prelude.{Option, Some, None, is_some, nat_eq, position, slice_get}
+use Rattle.std.specs.Map.{lookup}
+use Rattle.std.specs.Prelude.{Some, None}
 use Rattle.std.specs.Vec.{vec_items}
 use Rattle.std.specs.declared.vec.Vec.{Vec}
 use Rattle.std.proofs.lemmas.Bool.{cases_Bool}
 use Rattle.std.proofs.lemmas.List.{append-nil, map-append}
 use Rattle.std.proofs.lemmas.List.Elements.{filter-append}
-use Rattle.indexmap.specs.IndexMap.{insert_entry, set_value_at}
-use Rattle.indexmap.proofs.MapLemmas.{Found-position, insert_entry-first}
-use Rattle.rx_account.specs.Adding.{added, group_in, groups_in}
+use Rattle.rx_account.specs.Adding.{added, groups_in}
 use Rattle.rx_account.specs.Groups.{group, grouped, lines_at, provider_of, providers}
 use Rattle.rx_report.specs.declared.line.Line.{Line}
 use Rattle.rx_settle.specs.Providers.{is_same, without}
@@ -79,7 +77,7 @@ entry-same ls x l here =
     ap (λ ks. (provider_of l, ks)) (filter-append (same l) ls (x ∷ []) ∙ ap (λ ks. filter (same l) ls ++ ks) one)
 
 added_among : (ls fs : List Line) (x : Line) → Distinct same fs
-    → added x (map (entry ls) fs)
+    → added (provider_of x) x (map (entry ls) fs)
     ≡ cond (seen same x fs) (map (entry (ls ++ x ∷ [])) fs) (map (entry (ls ++ x ∷ [])) fs ++ (provider_of x, x ∷ []) ∷ [])
 added_among ls [] x d = refl
 added_among ls (f ∷ fs) x d = elim (cases_Bool (same x f)) [
@@ -91,7 +89,7 @@ added_among ls (f ∷ fs) x d = elim (cases_Bool (same x f)) [
 ]
 
 added-entries : (ls : List Line) (x : Line)
-    → added x (map (entry ls) (first_lines ls)) ≡ map (entry (ls ++ x ∷ [])) (first_lines (ls ++ x ∷ []))
+    → added (provider_of x) x (map (entry ls) (first_lines ls)) ≡ map (entry (ls ++ x ∷ [])) (first_lines (ls ++ x ∷ []))
 added-entries ls x = added_among ls (first_lines ls) x (Distinct-firsts same laws ls)
     ∙ elim (cases_Bool (seen same x (first_lines ls))) [
       | inl old ↦ rw (firsts-push same laws ls x, old) refl
@@ -104,45 +102,25 @@ added-entries ls x = added_among ls (first_lines ls) x (Distinct-firsts same law
     ]
 
 -- a line more leads from the groups before it to those after it
-pub added-grouped : (ls : List Line) (x : Line) → added x (grouped ls) ≡ grouped (ls ++ x ∷ [])
+pub added-grouped : (ls : List Line) (x : Line) → added (provider_of x) x (grouped ls) ≡ grouped (ls ++ x ∷ [])
 added-grouped ls x =
-    ap (added x) (sym (entries-grouped ls)) ∙ added-entries ls x ∙ entries-grouped (ls ++ x ∷ [])
+    ap (added (provider_of x) x) (sym (entries-grouped ls)) ∙ added-entries ls x ∙ entries-grouped (ls ++ x ∷ [])
 
 -- ---- the map
 
-module _ {Z : Type 0} (p : List ℕ) where
-  lines-found : (es : List (List ℕ × Vec Line Z)) (v : Vec Line Z) → lookup (is_same p) es ≡ Some v
-      → lines_at p (groups_in es) ≡ vec_items v
-  lines-found [] v is = absurd cc
-  lines-found (e ∷ es) v is = elim (cases_Bool (is_same p e.0)) [
-    | inl here ↦ rw here (let h : Some e.1 ≡ Some v = rw here at is in cc)
-    | inr other ↦ rw other (lines-found es v (rw other at is))
-  ]
-
-  pub lines-none : (es : List (List ℕ × Vec Line Z)) → is_some (lookup (is_same p) es) ≡ false → lines_at p (groups_in es) ≡ []
-  lines-none [] none = refl
-  lines-none (e ∷ es) none = elim (cases_Bool (is_same p e.0)) [
-    | inl here ↦ absurd (let h = rw here at none in cc)
-    | inr other ↦ rw other (lines-none es (rw other at none))
-  ]
-
--- a map takes a line by inserting what was there and the line
-pub inserted : {Z : Type 0} (x : Line) (w : Vec Line Z) (es : List (List ℕ × Vec Line Z))
-    → vec_items w ≡ lines_at (provider_of x) (groups_in es) ++ x ∷ []
-    → groups_in (insert_entry (pointwise nat_eq) es (provider_of x) w) ≡ added x (groups_in es)
-inserted x w [] is = ap (λ ls. (provider_of x, ls) ∷ []) is
-inserted x w (e ∷ es) is = elim (cases_Bool (is_same (provider_of x) e.0)) [
-  | inl here ↦ rw here (ap (λ ls. (e.0, ls) ∷ groups_in es) (rw here at is))
-  | inr other ↦ rw other (ap (λ rest. group_in e ∷ rest) (inserted x w es (rw other at is)))
+-- what the map has of a provider is its group
+pub lines-found : {Z : Type 0} (p : List ℕ) (es : List (List ℕ × Vec Line Z)) (v : Vec Line Z)
+    → lookup (is_same p) es ≡ Some v → lines_at p (groups_in es) ≡ vec_items v
+lines-found p [] v is = absurd cc
+lines-found p (e ∷ es) v is = elim (cases_Bool (is_same p e.0)) [
+  | inl here ↦ rw here (let h : Some e.1 ≡ Some v = rw here at is in cc)
+  | inr other ↦ rw other (lines-found p es v (rw other at is))
 ]
 
--- or by putting it back at its place
-pub put_back : {Z : Type 0} (x : Line) (v w : Vec Line Z) (es : List (List ℕ × Vec Line Z)) (at : ℕ)
-    → position (is_same (provider_of x)) (keys_of es) ≡ Some at → slice_get (values_of es) at ≡ Some v
-    → vec_items w ≡ vec_items v ++ x ∷ []
-    → groups_in (set_value_at es at w) ≡ added x (groups_in es)
-put_back x v w es at place value is =
-    let found = Found-position (is_same (provider_of x)) es at place in
-    let there = lines-found (provider_of x) es v (found.value ∙ value) in
-    ap groups_in (sym (insert_entry-first (pointwise nat_eq) (provider_of x) w es at found.first))
-    ∙ inserted x w es (is ∙ ap (λ ls. ls ++ x ∷ []) (sym there))
+pub lines-none : {Z : Type 0} (p : List ℕ) (es : List (List ℕ × Vec Line Z)) → lookup (is_same p) es ≡ None
+    → lines_at p (groups_in es) ≡ []
+lines-none p [] none = refl
+lines-none p (e ∷ es) none = elim (cases_Bool (is_same p e.0)) [
+  | inl here ↦ absurd (let h = rw here at none in cc)
+  | inr other ↦ rw other (lines-none p es (rw other at none))
+]

@@ -35,7 +35,8 @@ impl Groups {
     {
         let mut by_provider = IndexMap::new(alloc);
         for line in lines {
-            add(alloc, &mut by_provider, line)?;
+            let provider = known_or_blank(line.provider);
+            put_behind(alloc, &mut by_provider, provider, *line)?;
         }
         Ok(Groups { by_provider })
     }
@@ -58,17 +59,21 @@ impl Groups {
     }
 }
 
-// Puts a line behind those of its provider.
-fn add(alloc: Global, groups: &mut ByProvider, line: &Line) -> Result<(), Memory>
-    ensures { OnOk result (groups_in groups.new.entries ≡ added line.now (groups_in groups.old.entries)) }
+// Puts an item behind those of its provider.
+fn put_behind<T: Copy + Drop>(
+    alloc: Global,
+    groups: &mut IndexMap<Field, Vec<T>>,
+    provider: Field,
+    item: T,
+) -> Result<(), Memory>
+    ensures { OnOk result (groups_in groups.new.entries ≡ added provider item (groups_in groups.old.entries)) }
 {
-    let provider = known_or_blank(line.provider);
     match groups.get_index_of(&provider) {
-        Some(at) => groups[at].push(*line)?,
+        Some(at) => groups[at].push(item)?,
         None => {
-            let mut lines = Vec::new(alloc);
-            lines.push(*line)?;
-            groups.insert(provider, lines)?;
+            let mut items = Vec::new(alloc);
+            items.push(item)?;
+            groups.insert(provider, items)?;
         }
     }
     Ok(())

@@ -223,7 +223,7 @@ fn is_right(shown: Shown) -> bool
 fn put_blanks(cells: &mut Vec<u8>, count: usize) -> Result<(), AllocError>
     ensures { OnOk result (cells.new.items ≡ cells.old.items ++ replicate count 32) }
 {
-    for _ in 0..count {
+    'blanks: for _ in 0..count {
         cells.push(b' ')?;
     }
     Ok(())

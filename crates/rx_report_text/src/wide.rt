@@ -1,4 +1,4 @@
-ghost use Rattle.std.specs.Prelude.{◌≡◌, IfOk, length, map};
+ghost use Rattle.std.specs.Prelude.{◌≡◌, IfOk, length, map, max};
 ghost use Rattle.rx_report_text.specs.Columns.{printed, wide, widened, width_of};
 ghost use Rattle.rx_report_text.specs.Shown.{columns};
 
@@ -23,11 +23,7 @@ pub(crate) fn wide_columns(alloc: Global, sections: &[Section<'_>]) -> Result<Ve
     all_wide(alloc, sections, &COLUMNS)
 }
 
-fn all_wide(
-    alloc: Global,
-    sections: &[Section<'_>],
-    columns: &[Shown],
-) -> Result<Vec<Wide>, Memory>
+fn all_wide(alloc: Global, sections: &[Section<'_>], columns: &[Shown]) -> Result<Vec<Wide>, Memory>
     ensures { IfOk result (λ wides. wides.items ≡ map (wide sections.now) columns.now) }
 {
     let mut wides = Vec::new(alloc);
@@ -51,19 +47,21 @@ fn width_of(alloc: Global, shown: Shown, sections: &[Section<'_>]) -> Result<usi
     Ok(width)
 }
 
-fn widened(
-    alloc: Global,
-    shown: Shown,
-    heading: usize,
-    lines: &[Line],
-) -> Result<usize, AllocError>
+fn widened(alloc: Global, shown: Shown, heading: usize, lines: &[Line]) -> Result<usize, AllocError>
     ensures { IfOk result (λ width. width ≡ widened shown heading lines.now) }
 {
     let mut width = heading;
     for line in lines {
-        width = width.max(printed(alloc, shown, line)?.len());
+        width = wider(alloc, shown, width, line)?;
     }
     Ok(width)
+}
+
+fn wider(alloc: Global, shown: Shown, width: usize, line: &Line) -> Result<usize, AllocError>
+    ensures { IfOk result (λ wider. wider ≡ max width (length (printed shown line.now))) }
+{
+    let cell = printed(alloc, shown, line)?;
+    Ok(width.max(cell.len()))
 }
 
 /// What is printed for an answer in a column.
