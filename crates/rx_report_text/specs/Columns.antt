@@ -36,6 +36,9 @@ width_of sections s = fold (λ w section. widened s w section.lines.now) (length
 abbrev pub wide : List Section → Shown → Wide
 wide sections s = record { shown = s; width = width_of sections s }
 
+unfoldable pub wide_columns : List Section → List Wide
+wide_columns sections = map (wide sections) columns
+
 -- ---- a row
 
 -- places and amounts stand to the right
@@ -49,9 +52,13 @@ aligned c cell =
     32 ∷ 32 ∷ (if is_right c.shown then replicate (c.width - length cell) 32 ++ cell
     else cell ++ replicate (c.width - length cell) 32)
 
--- the cells without the blanks at their end, and the line's end
+-- the cells without the blanks at their end
+unfoldable pub without_end : List ℕ → List ℕ
+without_end cells = take (length cells - suffix_len is_ascii_whitespace cells) cells
+
+-- the same and the line's end
 abbrev pub row : List ℕ → List ℕ
-row cells = take (length cells - suffix_len is_ascii_whitespace cells) cells ++ 10 ∷ []
+row cells = without_end cells ++ 10 ∷ []
 
 abbrev pub heading_cell : Wide → List ℕ
 heading_cell c = aligned c (heading_of c.shown)
@@ -89,7 +96,8 @@ scope_text (portion.Provider id) = codes "all of provider " ++ escaped Terminal 
 scope_text (portion.Family id) = codes "the lines shown, of family " ++ escaped Terminal id.now
 
 -- the sections, and what all come to
+unfoldable pub account_text : List Wide → Portion → Account → List ℕ
+account_text cs p account = flat_map (section_text cs) account.sections.items ++ (scope_text p ++ tally_line account.total)
+
 abbrev pub columns_text : Portion → Account → List ℕ
-columns_text p account =
-    flat_map (section_text (map (wide account.sections.items) columns)) account.sections.items
-    ++ (scope_text p ++ tally_line account.total)
+columns_text p account = account_text (wide_columns account.sections.items) p account

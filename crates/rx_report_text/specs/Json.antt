@@ -40,7 +40,7 @@ counts_json t =
     ++ (codes ",\"approved\":" ++ (decimal t.approved ++ (codes ",\"rejected\":" ++ (decimal t.rejected
     ++ codes ",\"net\":")))))))
 
-abbrev pub tally_json : Tally → List ℕ
+unfoldable pub tally_json : Tally → List ℕ
 tally_json t = counts_json t ++ signed_decimal (net t)
 
 -- a provider with its counts, its net and its lines
@@ -49,13 +49,16 @@ section_json s =
     codes "{\"provider\":" ++ (provider_json s.provider ++ (codes "," ++ (tally_json s.tally
     ++ (codes ",\"lines\":" ++ (json_text s.lines.now ++ codes "}")))))
 
--- each after a comma, on a line of its own
-abbrev pub comma_section : Section → List ℕ
-comma_section s = 44 ∷ 10 ∷ section_json s
+-- each on a line of its own, a comma behind the one before it
+abbrev pub first_section : Section → List ℕ
+first_section s = 10 ∷ section_json s
 
-abbrev pub sections_json : List Section → List ℕ
+abbrev pub comma_section : Section → List ℕ
+comma_section s = 44 ∷ first_section s
+
+unfoldable pub sections_json : List Section → List ℕ
 sections_json [] = []
-sections_json (s ∷ more) = 10 ∷ (section_json s ++ flat_map comma_section more)
+sections_json (s ∷ more) = first_section s ++ flat_map comma_section more
 
 -- the whole
 abbrev pub account_json : Portion → Account → List ℕ

@@ -3,8 +3,8 @@ ghost use Rattle.std.specs.List.{flat_map};
 ghost use Rattle.std.specs.String.{string_bytes};
 ghost use Rattle.rx_escape.specs.Escape.{escaped};
 ghost use Rattle.rx_escape.specs.declared.style.Style.TheVariants.{Terminal};
-ghost use Rattle.rx_report_text.specs.Columns.{aligned, columns_text, heading_cell, headings, is_right, line_cell, line_row};
-ghost use Rattle.rx_report_text.specs.Columns.{row, scope_text, section_text, tally_counts, tally_line};
+ghost use Rattle.rx_report_text.specs.Columns.{account_text, aligned, columns_text, heading_cell, headings, is_right};
+ghost use Rattle.rx_report_text.specs.Columns.{line_cell, line_row, row, scope_text, section_text, tally_counts, tally_line, without_end};
 ghost use Rattle.rx_settle.specs.Providers.{named};
 
 use crate::money::put_net;
@@ -19,7 +19,6 @@ use std::alloc::{AllocError, Global};
 
 /// The account in aligned columns: for each provider its counts and net, and its lines behind them; last those of all.
 /// Bytes that a terminal wouldn't print stand as `\x1B`.
-#[tactic(auto, using(std::proofs::Common::append_assoc))]
 pub fn columns_text(
     alloc: Global,
     portion: Portion<'_>,
@@ -29,10 +28,24 @@ pub fn columns_text(
 {
     let columns = wide_columns(alloc, &account.sections)?;
     let mut text = Vec::new(alloc);
-    put_sections(alloc, &mut text, &columns, &account.sections)?;
-    put_scope(&mut text, portion)?;
-    put_tally(alloc, &mut text, &account.total)?;
+    put_account(alloc, &mut text, &columns, portion, account)?;
     Ok(text)
+}
+
+// The sections, and what all come to.
+#[tactic(auto, using(std::proofs::Common::append_assoc), unfolding(crate::specs::Columns::account_text))]
+fn put_account(
+    alloc: Global,
+    text: &mut Vec<u8>,
+    columns: &[Wide],
+    portion: Portion<'_>,
+    account: &Account<'_>,
+) -> Result<(), AllocError>
+    ensures { OnOk result (text.new.items ≡ text.old.items ++ account_text columns.now portion.entry account.now) }
+{
+    put_sections(alloc, text, columns, &account.sections)?;
+    put_scope(text, portion)?;
+    put_tally(alloc, text, &account.total)
 }
 
 fn put_sections(
@@ -230,10 +243,17 @@ fn put_blanks(cells: &mut Vec<u8>, count: usize) -> Result<(), AllocError>
 }
 
 // The cells without the blanks at their end, and the line's end.
-#[tactic(auto, using(std::proofs::Common::append_assoc, std::proofs::lemmas::Str::Ascii::trim_ascii_end_is))]
+#[tactic(auto, using(std::proofs::Common::append_assoc))]
 fn put_row(text: &mut Vec<u8>, cells: &[u8]) -> Result<(), AllocError>
     ensures { OnOk result (text.new.items ≡ text.old.items ++ row cells.now) }
 {
-    text.extend_from_slice(cells.trim_ascii_end())?;
-    text.extend_from_slice(b"\n")
+    text.extend_from_slice(without_end(cells))?;
+    text.push(b'\n')?;
+    Ok(())
+}
+
+fn without_end(cells: &[u8]) -> &[u8]
+    ensures { result.now ≡ without_end cells.now }
+{
+    cells.trim_ascii_end()
 }

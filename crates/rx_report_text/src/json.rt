@@ -1,8 +1,8 @@
 ghost use Rattle.std.specs.Prelude.{◌≡◌, ◌++◌, ◌∷◌, [], codes, IfOk, OnOk};
 ghost use Rattle.std.specs.List.{flat_map};
 ghost use Rattle.std.specs.String.{string_bytes};
-ghost use Rattle.rx_report_text.specs.Json.{account_json, comma_section, counts_json, portion_json, provider_json};
-ghost use Rattle.rx_report_text.specs.Json.{quoted, section_json, sections_json, tally_json};
+ghost use Rattle.rx_report_text.specs.Json.{account_json, comma_section, counts_json, first_section, portion_json};
+ghost use Rattle.rx_report_text.specs.Json.{provider_json, quoted, section_json, sections_json, tally_json};
 
 use crate::money::net_cents;
 use rx_account::{Account, Portion, Section};
@@ -56,15 +56,21 @@ fn put_sections(alloc: Global, text: &mut Vec<u8>, sections: &[Section<'_>]) -> 
     ensures { OnOk result (text.new.items ≡ text.old.items ++ (codes "\"sections\":[" ++ sections_json sections.now)) }
 {
     text.extend_from_slice(b"\"sections\":[")?;
+    put_each(alloc, text, sections)
+}
+
+#[tactic(auto, using(std::proofs::Common::append_assoc), unfolding(crate::specs::Json::sections_json))]
+fn put_each(alloc: Global, text: &mut Vec<u8>, sections: &[Section<'_>]) -> Result<(), Memory>
+    ensures { OnOk result (text.new.items ≡ text.old.items ++ sections_json sections.now) }
+{
     let [first, others @ ..] = sections else {
         return Ok(());
     };
-    text.extend_from_slice(b"\n")?;
-    put_section(alloc, text, first)?;
+    put_first(alloc, text, first)?;
     put_others(alloc, text, others)
 }
 
-// Each section after a comma, on a line of its own.
+// Each section after a comma.
 fn put_others(alloc: Global, text: &mut Vec<u8>, sections: &[Section<'_>]) -> Result<(), Memory>
     ensures { OnOk result (text.new.items ≡ text.old.items ++ flat_map comma_section sections.now) }
 {
@@ -74,10 +80,20 @@ fn put_others(alloc: Global, text: &mut Vec<u8>, sections: &[Section<'_>]) -> Re
     Ok(())
 }
 
+#[tactic(auto, using(std::proofs::Common::append_assoc))]
 fn put_other(alloc: Global, text: &mut Vec<u8>, section: &Section<'_>) -> Result<(), Memory>
     ensures { OnOk result (text.new.items ≡ text.old.items ++ comma_section section.now) }
 {
-    text.extend_from_slice(b",\n")?;
+    text.push(b',')?;
+    put_first(alloc, text, section)
+}
+
+// A section on a line of its own.
+#[tactic(auto, using(std::proofs::Common::append_assoc))]
+fn put_first(alloc: Global, text: &mut Vec<u8>, section: &Section<'_>) -> Result<(), Memory>
+    ensures { OnOk result (text.new.items ≡ text.old.items ++ first_section section.now) }
+{
+    text.push(b'\n')?;
     put_section(alloc, text, section)
 }
 
@@ -133,7 +149,7 @@ fn put_string(text: &mut Vec<u8>, bytes: &[u8]) -> Result<(), AllocError>
     text.extend_from_slice(b"\"")
 }
 
-#[tactic(auto, using(std::proofs::Common::append_assoc))]
+#[tactic(auto, using(std::proofs::Common::append_assoc), unfolding(crate::specs::Json::tally_json))]
 fn put_tally(alloc: Global, text: &mut Vec<u8>, tally: &Tally) -> Result<(), AllocError>
     ensures { OnOk result (text.new.items ≡ text.old.items ++ tally_json tally.now) }
 {

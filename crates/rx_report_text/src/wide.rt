@@ -1,6 +1,5 @@
 ghost use Rattle.std.specs.Prelude.{◌≡◌, IfOk, length, map, max};
-ghost use Rattle.rx_report_text.specs.Columns.{printed, wide, widened, width_of};
-ghost use Rattle.rx_report_text.specs.Shown.{columns};
+ghost use Rattle.rx_report_text.specs.Columns.{printed, wide, wide_columns, widened, width_of};
 
 use crate::shown::{COLUMNS, Shown, shown_cell};
 use rx_account::Section;
@@ -17,8 +16,9 @@ pub(crate) struct Wide {
 }
 
 /// The columns, each wide enough for its heading and its cells.
+#[tactic(auto, unfolding(crate::specs::Columns::wide_columns))]
 pub(crate) fn wide_columns(alloc: Global, sections: &[Section<'_>]) -> Result<Vec<Wide>, Memory>
-    ensures { IfOk result (λ wides. wides.items ≡ map (wide sections.now) columns) }
+    ensures { IfOk result (λ wides. wides.items ≡ wide_columns sections.now) }
 {
     all_wide(alloc, sections, &COLUMNS)
 }
