@@ -25,7 +25,7 @@ pub fn json_text(
     let mut text = Vec::new(alloc);
     text.extend_from_slice(b"{")?;
     put_portion(&mut text, portion)?;
-    put_sections(alloc, &mut text, &account.sections)?;
+    put_sections(alloc, &mut text, b"\"sections\":[", &account.sections)?;
     put_total(alloc, &mut text, &account.total)?;
     Ok(text)
 }
@@ -50,12 +50,17 @@ fn put_only(text: &mut Vec<u8>, name: &[u8], id: &[u8]) -> Result<(), AllocError
     text.extend_from_slice(b",")
 }
 
-// The sections, in brackets that are left open.
+// The sections behind a front.
 #[tactic(auto, using(std::proofs::Common::append_assoc))]
-fn put_sections(alloc: Global, text: &mut Vec<u8>, sections: &[Section<'_>]) -> Result<(), Memory>
-    ensures { OnOk result (text.new.items ≡ text.old.items ++ (codes "\"sections\":[" ++ sections_json sections.now)) }
+fn put_sections(
+    alloc: Global,
+    text: &mut Vec<u8>,
+    front: &[u8],
+    sections: &[Section<'_>],
+) -> Result<(), Memory>
+    ensures { OnOk result (text.new.items ≡ text.old.items ++ (front.now ++ sections_json sections.now)) }
 {
-    text.extend_from_slice(b"\"sections\":[")?;
+    text.extend_from_slice(front)?;
     put_each(alloc, text, sections)
 }
 
