@@ -2,7 +2,8 @@
 use Rattle.std.specs.Prelude.{◌≡◌, ℕ, ◌^◌, ◌<◌, ◌≤◌, Bool, true, false, not, ◌==◌, List, [], ◌∷◌, ◌++◌, length, take}
 use Rattle.rx_fields.specs.declared.key.Key.{Key}
 use Rattle.rx_fields.specs.Calendar.{IsCivil}
-use Rattle.rx_fields.specs.Digits.{all_digits, number}
+use Rattle.rx_text.specs.Bytes.{all_digits}
+use Rattle.rx_fields.specs.Digits.{number}
 use Rattle.rx_fields.specs.Text.{IsId}
 use Rattle.rx_ledger.specs.declared.member.MemberKey.{MemberKey}
 

@@ -9,10 +9,10 @@ use Rattle.std.proofs.lemmas.Bool.Decides.{nat_tests}
 use Rattle.std.proofs.lemmas.List.Elements.{All-nil, All-cons}
 use Rattle.rx_fields.specs.declared.fault.FieldFault.{FieldFault}
 use Rattle.rx_fields.specs.declared.fault.IdFault.{IdFault}
-use Rattle.rx_fields.specs.Digits.{is_digit, all_digits}
-use Rattle.rx_fields.specs.Text.{is_printable, is_bar}
+use Rattle.rx_text.specs.Bytes.{is_digit, all_digits, is_printable}
+use Rattle.rx_fields.specs.Text.{is_bar}
 use Rattle.rx_books_text.proofs.Cuts.{Without}
-use Rattle.rx_books_text.specs.LineReading.{◌>>=◌}
+use Rattle.rx_text.specs.Options.{◌>>=◌}
 
 -- ---- steps
 

@@ -38,7 +38,7 @@ impl Model for Echo {
 
 ghost use Rattle.std.specs.Prelude.{if◌then◌else◌};
 ghost use Rattle.std.specs.List.{list_all};
-ghost use Rattle.rx_fields.specs.Text.{is_printable};
+ghost use Rattle.rx_text.specs.Bytes.{is_printable};
 ghost use Rattle.rx_claim.specs.Echoed.{echo_of, blanked, blanked_parts, IsEcho};
 
 impl Echo {

@@ -1,8 +1,9 @@
 ghost use Rattle.std.specs.Prelude.{◌≡◌, ◌≤◌, ◌<◌, ◌^◌, Ok, IfOk, IfSome, unsigned_abs};
 ghost use Rattle.rx_fields.specs.Amount.{signed, last_of, signed_of, signed_text};
 
-use crate::digits::{all_digits, digits_write, value};
+use crate::digits::{digits_write, value};
 use crate::fault::FieldFault;
+use rx_text::all_digits;
 
 // What a last character says: whether the amount is negative, and its last digit.
 fn last_digit(byte: u8) -> Option<(bool, u8)>

@@ -1,7 +1,8 @@
 ghost use Rattle.std.specs.Prelude.{◌≡◌};
 
-use crate::digits::{all_digits, digits_write, value};
+use crate::digits::{digits_write, value};
 use crate::fault::FieldFault;
+use rx_text::all_digits;
 use jiff_core::civil::Date;
 use std::marker::Model;
 

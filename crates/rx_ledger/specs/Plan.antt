@@ -3,8 +3,7 @@ use Rattle.std.specs.Prelude.{◌≡◌, ℕ, Bool, true, not, ◌&&◌, nat_le,
 use Rattle.std.specs.List.{list_all}
 use Rattle.std.specs.Option.{option_map}
 use Rattle.std.specs.Ordering.{is_eq, nat_cmp}
-use Rattle.rx_fields.specs.Digits.{is_digit}
-use Rattle.rx_fields.specs.Text.{is_printable}
+use Rattle.rx_text.specs.Bytes.{is_digit, is_printable}
 use Rattle.rx_order.specs.Ascending.{contains_key, item_at, put}
 use Rattle.rx_ledger.specs.declared.drug.Drug.{Drug}
 use Rattle.rx_ledger.specs.declared.drug.Share.{Share}

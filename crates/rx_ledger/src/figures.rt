@@ -22,7 +22,8 @@ pub struct Figures {
 }
 
 ghost use Rattle.std.specs.Prelude.{◌≡◌};
-ghost use Rattle.rx_ledger.specs.Plan.{wrong_figure, are_digits, are_printable};
+ghost use Rattle.rx_text.specs.Bytes.{all_digits, all_printable};
+ghost use Rattle.rx_ledger.specs.Plan.{wrong_figure};
 
 use crate::sheet_key::SheetKey;
 
@@ -31,10 +32,10 @@ impl Figures {
     pub fn wrong(&self) -> Option<SheetKey>
         ensures { result ≡ wrong_figure self.now }
     {
-        if !are_digits(&self.door.bin) {
+        if !all_digits(&self.door.bin) {
             return Some(SheetKey::Bin);
         }
-        if !are_printable(&self.door.pcn) {
+        if !all_printable(&self.door.pcn) {
             return Some(SheetKey::Pcn);
         }
         if self.member_deductible > 99_999_999_999 {
@@ -59,14 +60,14 @@ impl Figures {
     }
 }
 
-fn are_digits(bytes: &[u8]) -> bool
-    ensures { result ≡ are_digits bytes.now }
+fn all_digits(bytes: &[u8]) -> bool
+    ensures { result ≡ all_digits bytes.now }
 {
     bytes.iter().all(|b| *b >= b'0' && *b <= b'9')
 }
 
-fn are_printable(bytes: &[u8]) -> bool
-    ensures { result ≡ are_printable bytes.now }
+fn all_printable(bytes: &[u8]) -> bool
+    ensures { result ≡ all_printable bytes.now }
 {
     bytes.iter().all(|b| *b >= b' ' && *b <= b'~')
 }

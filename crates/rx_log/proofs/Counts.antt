@@ -9,7 +9,7 @@ use Rattle.std.proofs.lemmas.Grind.{common_steps}
 use Rattle.std.specs.Str.Parse.{ParsesUnsigned}
 use Rattle.std.specs.Result.{OkIff, result_ok}
 use Rattle.std.proofs.lemmas.Str.Parse.{IsNumeralModel, numerals_by_fold, parse_digits}
-use Rattle.rx_log.specs.Header.{is_digit}
+use Rattle.rx_text.specs.Bytes.{is_digit}
 use Rattle.rx_log.specs.Settlement.{count_of, number_after}
 
 -- a digit is ASCII, and so are those behind it

@@ -4,7 +4,7 @@ use Rattle.std.specs.Prelude.{List, [], ◌∷◌, codes, drop, length, slice_in
 use Rattle.std.specs.List.{list_all, prefix_len, starts_with, suffix_len}
 use Rattle.std.specs.Option.{option_and_then}
 use Rattle.rx_log.specs.declared.log.Totals.{Totals}
-use Rattle.rx_log.specs.Header.{is_digit}
+use Rattle.rx_text.specs.Bytes.{is_digit}
 
 infixl 10 ◌>>=◌
 abbrev pub ◌>>=◌ : {A B : Type 0} → Option A → (A → Option B) → Option B

@@ -7,7 +7,8 @@ use Rattle.std.specs.Cmp.Lexicographic.{pointwise, same_text}
 use Rattle.std.proofs.lemmas.Cmp.{nat_list_eq_equiv}
 use Rattle.std.proofs.lemmas.List.{take_at, drop_at, take-append-drop}
 use Rattle.std.proofs.lemmas.List.Concat.{flat_map-cons}
-use Rattle.rx_reply.specs.Readers.{◌>>=◌, after, labelled, pair, made, times}
+use Rattle.rx_text.specs.Options.{◌>>=◌}
+use Rattle.rx_reply.specs.Readers.{after, labelled, pair, made, times}
 
 -- the value of a step that found one
 pub bind_some : {A B : Type 0} (r : Option A) (f : A → Option B) (y : B) → (r >>= f) ≡ Some y

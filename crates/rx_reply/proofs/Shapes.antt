@@ -5,9 +5,9 @@ use Rattle.std.specs.Prelude.{nat_le}
 use Rattle.std.specs.List.{list_all, enumerate_from}
 use Rattle.std.proofs.lemmas.Bool.{and_parts, leb-true}
 use Rattle.std.proofs.lemmas.Grind.{common_steps}
-use Rattle.rx_fields.specs.Text.{is_printable}
+use Rattle.rx_text.specs.Bytes.{is_printable, cut}
 use Rattle.rx_reply.specs.declared.fault.ReplyFault.TheVariants as fault
-use Rattle.rx_reply.specs.Fault.{labels, in_order, is_labelled, cut, is_group, is_count, is_status, is_header, are_groups, fault_of}
+use Rattle.rx_reply.specs.Fault.{labels, in_order, is_labelled, is_group, is_count, is_status, is_header, are_groups, fault_of}
 
 labelled_in_order : (segments : List (List ℕ))
     → list_all (λ p. is_labelled p.0 p.1) (enumerate_from 0 segments) ≡ in_order segments labels

@@ -2,7 +2,7 @@
 use Rattle.std.specs.Prelude.{◌≡◌, ℕ, ◌-◌, Bool, true, false, ◌&&◌, ◌||◌, nat_eq, nat_le, ◌==◌, if◌then◌else◌}
 use Rattle.std.specs.Prelude.{List, [], ◌∷◌, length, take, drop, slice_index, Result, Ok, Err, codes}
 use Rattle.std.specs.List.{list_all, starts_with, slice_split}
-use Rattle.rx_fields.specs.Text.{is_printable}
+use Rattle.rx_text.specs.Bytes.{is_printable}
 use Rattle.rx_claim.specs.declared.reply.Reply.{Reply}
 use Rattle.rx_reply.specs.declared.fault.ReplyFault.{ReplyFault}
 use Rattle.rx_reply.specs.declared.fault.ReplyFault.TheVariants as fault

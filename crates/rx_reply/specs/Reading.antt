@@ -26,7 +26,8 @@ use Rattle.rx_reply.specs.declared.reading.header.Header.{Header}
 use Rattle.rx_reply.specs.declared.reading.header.Status.{Status}
 use Rattle.rx_reply.specs.declared.reading.header.Status.TheVariants as status
 use Rattle.rx_reply.specs.Text.{field, segment}
-use Rattle.rx_reply.specs.Readers.{◌>>=◌, after, labelled, pair, made, times, behind, bytes_at, number_at, signed_at}
+use Rattle.rx_text.specs.Options.{◌>>=◌}
+use Rattle.rx_reply.specs.Readers.{after, labelled, pair, made, times, behind, bytes_at, number_at, signed_at}
 
 -- ---- amounts
 

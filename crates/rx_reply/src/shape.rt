@@ -2,8 +2,8 @@
 
 ghost use Rattle.std.specs.Prelude.{◌≡◌, length};
 ghost use Rattle.std.specs.List.{list_all, enumerate_from};
-ghost use Rattle.rx_fields.specs.Text.{is_printable};
-ghost use Rattle.rx_reply.specs.Fault.{is_header, cut, is_labelled, is_group, are_groups, fault_of};
+ghost use Rattle.rx_text.specs.Bytes.{is_printable, cut};
+ghost use Rattle.rx_reply.specs.Fault.{is_header, is_labelled, is_group, are_groups, fault_of};
 
 use crate::fault::ReplyFault;
 use crate::layout::{GROUP, HEADER, SEGMENT};

@@ -6,7 +6,8 @@ use Rattle.rx_fields.specs.declared.door.Door.{Door}
 use Rattle.rx_claim.specs.declared.transmission.Body.TheVariants.{Rejected, Heard}
 use Rattle.rx_request.specs.declared.header.Header.{Header}
 use Rattle.rx_request.specs.Codes.{is_faulty, header_conditions}
-use Rattle.rx_request.specs.Cut.{cut, first, further}
+use Rattle.rx_text.specs.Bytes.{cut}
+use Rattle.rx_request.specs.Cut.{first, further}
 use Rattle.rx_request.specs.Headers.{header_bytes, header_of, is_clean}
 use Rattle.rx_request.specs.Known.{InsuranceTexts, common_of}
 use Rattle.rx_request.specs.Request.{parts, common, groups, conditions, body}

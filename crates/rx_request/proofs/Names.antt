@@ -2,7 +2,8 @@
 use Rattle.std.proofs.Common.{◌≡◌, ℕ, Bool, true, false, ◌&&◌, cond, List, ◌∷◌, map, Option, Some, None, refl, sym, ap, ◌∙◌}
 use Rattle.std.specs.Prelude.{filter}
 use Rattle.std.specs.List.{list_all}
-use Rattle.rx_request.specs.Cut.{is_nonempty, has_id, is_name, is_named, field_of, fields, filled, is_segment, cut, begins_empty, further}
+use Rattle.rx_text.specs.Bytes.{cut}
+use Rattle.rx_request.specs.Cut.{is_nonempty, has_id, is_name, is_named, field_of, fields, filled, is_segment, begins_empty, further}
 use Rattle.rx_request.specs.Slots.{name_of, put_named}
 
 -- what pieces that follow the empty one say

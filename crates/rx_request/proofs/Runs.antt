@@ -4,8 +4,10 @@ use Rattle.std.proofs.Common.{length, map, Option, Some, None, refl, sym, ap, �
 use Rattle.std.specs.Prelude.{filter}
 use Rattle.std.specs.List.{list_all}
 use Rattle.std.specs.Option.{option_to_list}
-use Rattle.rx_request.specs.Cut.{same, is_nonempty, Field, field_of, fields, is_segment, is_part, segments, cut, begins_empty, further}
-use Rattle.rx_request.specs.Known.{◌>>=◌, only, values, has_name, is_called, field, segment}
+use Rattle.rx_text.specs.Bytes.{cut}
+use Rattle.rx_request.specs.Cut.{same, is_nonempty, Field, field_of, fields, is_segment, is_part, segments, begins_empty, further}
+use Rattle.rx_text.specs.Options.{◌>>=◌}
+use Rattle.rx_request.specs.Known.{only, values, has_name, is_called, field, segment}
 use Rattle.rx_request.specs.Slots.{all_of, filled_slot, each_slot, put, name_of, put_field, put_named, put_segment}
 use Rattle.std.proofs.lemmas.List.{length-map}
 use Rattle.std.specs.Borrow.{Bor}

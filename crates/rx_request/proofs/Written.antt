@@ -9,8 +9,9 @@ use Rattle.std.proofs.lemmas.Bool.Decides.{nat_tests}
 use Rattle.std.proofs.lemmas.List.{append-nil}
 use Rattle.std.proofs.lemmas.List.Elements.{All-append, All-cons, All-head, All-map, All-nil, All-tail, All-weaker}
 use Rattle.std.proofs.lemmas.List.Splits.{slice_split_none, slice_split_at}
-use Rattle.rx_fields.specs.Text.{is_printable, trimmed}
-use Rattle.rx_request.specs.Cut.{Field, begins_empty, cut, field_of, fields, filled, first, further}
+use Rattle.rx_text.specs.Bytes.{is_printable, cut}
+use Rattle.rx_fields.specs.Text.{trimmed}
+use Rattle.rx_request.specs.Cut.{Field, begins_empty, field_of, fields, filled, first, further}
 use Rattle.rx_request.specs.Cut.{has_id, is_named, is_nonempty, is_part, is_segment, segments}
 use Rattle.rx_request.specs.Request.{groups, parts}
 use Rattle.rx_request.specs.Written.{IsWritten, IsWrittenPart, IsWrittenSegment, behind, field_text, part_text, parts_text, segment_text}

@@ -10,8 +10,9 @@ use Rattle.std.proofs.lemmas.Bool.Decides.{nat_tests}
 use Rattle.std.proofs.lemmas.List.Elements.{All-cons, All-head, All-nil, All-tail}
 use Rattle.std.proofs.lemmas.List.Folds.{list_all-append}
 use Rattle.rx_fields.specs.Amount.{is_negative, last_char, signed_text}
-use Rattle.rx_fields.specs.Digits.{all_digits, digits_text}
-use Rattle.rx_fields.specs.Text.{IsId, id_of, is_bar, is_printable, trimmed}
+use Rattle.rx_text.specs.Bytes.{all_digits, is_printable}
+use Rattle.rx_fields.specs.Digits.{digits_text}
+use Rattle.rx_fields.specs.Text.{IsId, id_of, is_bar, trimmed}
 use Rattle.rx_fields.specs.declared.fault.IdFault.{IdFault}
 use Rattle.rx_fields.specs.declared.fault.IdFault.TheVariants as fault
 use Rattle.rx_fields.proofs.AmountLaws.{signed_again}
@@ -24,7 +25,8 @@ use Rattle.rx_claim.specs.declared.transaction.Transaction.TheVariants.{Bill, Re
 use Rattle.rx_request.specs.Bills.{bill_parts, billing, reversal, reversal_parts, transaction}
 use Rattle.rx_request.specs.Codes.{has_no_charge, is_faulty}
 use Rattle.rx_request.specs.Cut.{Field, is_nonempty, is_part}
-use Rattle.rx_request.specs.Known.{◌>>=◌, ClaimTexts, GroupTexts, InsuranceTexts, PricingTexts, claim_of, common_of, field, group_in}
+use Rattle.rx_text.specs.Options.{◌>>=◌}
+use Rattle.rx_request.specs.Known.{ClaimTexts, GroupTexts, InsuranceTexts, PricingTexts, claim_of, common_of, field, group_in}
 use Rattle.rx_request.specs.Known.{group_of, has_name, insurance_in, insurance_of, is_called, only, pricing_of, segment, values}
 use Rattle.rx_request.specs.Values.{amount_in, cents, id_in, is_no_amount, is_plain, is_sole, is_text}
 use Rattle.rx_request.specs.Values.{nonzero, number_in, person_in, positive_in, product_in}

@@ -12,8 +12,9 @@ use Rattle.std.proofs.lemmas.List.Folds.{list_all-append}
 use Rattle.jiff_core.specs.Calendar.{days_in_month}
 use Rattle.jiff_core.proofs.CalendarLemmas.{days_in_month_bounds}
 use Rattle.rx_fields.specs.Calendar.{Civil, IsCivil, civil_of, date_of, date_text, is_civil}
-use Rattle.rx_fields.specs.Digits.{all_digits, digits_text, is_digit}
-use Rattle.rx_fields.specs.Text.{IsId, id_of, is_printable, trimmed}
+use Rattle.rx_text.specs.Bytes.{all_digits, is_digit, is_printable}
+use Rattle.rx_fields.specs.Digits.{digits_text}
+use Rattle.rx_fields.specs.Text.{IsId, id_of, trimmed}
 use Rattle.rx_fields.proofs.DigitLaws.{digits_text-all, digits_text-number, length-digits_text}
 use Rattle.rx_fields.proofs.IdLaws.{id_again, id_printable}
 use Rattle.rx_request.specs.declared.header.Header.{Header}

@@ -8,7 +8,8 @@ use Rattle.std.proofs.lemmas.List.{length-map, length-replicate}
 use Rattle.std.proofs.lemmas.List.Elements.{All-cons, All-head, All-map, All-nil, All-tail, All-weaker}
 use Rattle.std.proofs.lemmas.List.Folds.{list_all-append}
 use Rattle.rx_fields.specs.Calendar.{Civil, date_text}
-use Rattle.rx_fields.specs.Text.{IsId, is_printable}
+use Rattle.rx_text.specs.Bytes.{is_printable}
+use Rattle.rx_fields.specs.Text.{IsId}
 use Rattle.rx_fields.specs.declared.door.Door.{Door}
 use Rattle.rx_claim.specs.Echoed.{blanked_parts}
 use Rattle.rx_claim.specs.Listed.{is_few}

@@ -9,7 +9,8 @@ use Rattle.rx_claim.specs.declared.transmission.Body.TheVariants.{Rejected, Hear
 use Rattle.rx_claim.specs.Echoed.{blanked_parts}
 use Rattle.rx_request.specs.Bills.{transaction}
 use Rattle.rx_request.specs.Codes.{is_faulty, first_five, header_conditions}
-use Rattle.rx_request.specs.Cut.{same, cut, first, further}
+use Rattle.rx_text.specs.Bytes.{cut}
+use Rattle.rx_request.specs.Cut.{same, first, further}
 use Rattle.rx_request.specs.Headers.{header_bytes, header_of, is_clean, echo_parts}
 use Rattle.rx_request.specs.Known.{InsuranceTexts, no_insurance, common_of, group_of}
 use Rattle.rx_request.specs.Values.{provider_in, date_in}

@@ -6,7 +6,8 @@ use Rattle.std.specs.List.{flat_map, list_all}
 use Rattle.rx_fields.specs.Amount.{signed_text}
 use Rattle.rx_fields.specs.Calendar.{Civil, IsCivil, date_text}
 use Rattle.rx_fields.specs.Digits.{digits_text}
-use Rattle.rx_fields.specs.Text.{IsId, is_printable, trimmed}
+use Rattle.rx_text.specs.Bytes.{is_printable}
+use Rattle.rx_fields.specs.Text.{IsId, trimmed}
 use Rattle.rx_fields.specs.declared.door.Door.{Door}
 use Rattle.rx_claim.specs.Billed.{IsCharged}
 use Rattle.rx_claim.specs.Echoed.{blanked_parts}

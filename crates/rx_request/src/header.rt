@@ -1,6 +1,6 @@
 ghost use Rattle.std.specs.Prelude.{◌≡◌, ◌+◌, ◌≤◌, ◌-◌, ◌++◌, length, replicate, drop, slice_range};
 ghost use Rattle.std.specs.List.{list_all};
-ghost use Rattle.rx_fields.specs.Text.{is_printable};
+ghost use Rattle.rx_text.specs.Bytes.{is_printable};
 ghost use Rattle.rx_claim.specs.Echoed.{blanked_parts};
 ghost use Rattle.rx_request.specs.Headers.{header_bytes, header_of, is_clean, echo_parts};
 

@@ -35,7 +35,8 @@ impl<'a> Model for Pieces<'a> {
 
 ghost use Rattle.std.specs.Prelude.{◌∷◌, [], ◌≤◌, if◌then◌else◌, length, take, MatchOption, None, Some};
 ghost use Rattle.memchr.specs.Find.{IsFirstByte, is_byte};
-ghost use Rattle.rx_request.specs.Cut.{cut, begins_empty, first, further};
+ghost use Rattle.rx_text.specs.Bytes.{cut};
+ghost use Rattle.rx_request.specs.Cut.{begins_empty, first, further};
 ghost use Rattle.rx_request.specs.Marks.{marks_of};
 
 impl<'a> Pieces<'a> {

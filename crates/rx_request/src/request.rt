@@ -2,7 +2,8 @@ ghost use Rattle.std.specs.Prelude.{◌≡◌, ◌&&◌, if◌then◌else◌, If
 ghost use Rattle.rx_claim.specs.Listed.{is_few};
 ghost use Rattle.rx_request.specs.Bills.{transaction};
 ghost use Rattle.rx_request.specs.Codes.{is_faulty, header_conditions};
-ghost use Rattle.rx_request.specs.Cut.{cut, further};
+ghost use Rattle.rx_text.specs.Bytes.{cut};
+ghost use Rattle.rx_request.specs.Cut.{further};
 ghost use Rattle.rx_request.specs.Headers.{header_bytes, header_of};
 ghost use Rattle.rx_request.specs.Known.{group_of};
 ghost use Rattle.rx_request.specs.Request.{transmission_of, body};

@@ -13,7 +13,7 @@ use Rattle.rx_ledger.specs.declared.sheet_key.SheetKey.TheVariants as key
 use Rattle.rx_order.specs.Ascending.{IsAscending}
 use Rattle.rx_sheet.specs.declared.fault.SheetFault.{SheetFault}
 use Rattle.rx_sheet.specs.declared.fault.SheetFault.TheVariants.{Wrong}
-use Rattle.rx_sheet.specs.Fault.{◌>>=◌}
+use Rattle.rx_text.specs.Results.{◌>>=◌}
 use Rattle.rx_sheet.specs.Values.{read_at, number, whole}
 
 -- the percentage of a tier that is a table

@@ -8,7 +8,7 @@ use Rattle.rx_fields.specs.declared.door.Door.{Door}
 use Rattle.rx_ledger.specs.declared.figures.Figures.{Figures}
 use Rattle.rx_ledger.specs.declared.sheet_key.SheetKey.TheVariants as key
 use Rattle.rx_sheet.specs.declared.fault.SheetFault.{SheetFault}
-use Rattle.rx_sheet.specs.Fault.{◌>>=◌}
+use Rattle.rx_text.specs.Results.{◌>>=◌}
 use Rattle.rx_sheet.specs.Values.{read_at, read_if_there, bin, pcn, day, number}
 
 -- keys 1 and 2

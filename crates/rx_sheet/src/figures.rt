@@ -1,7 +1,8 @@
 ghost use Rattle.std.specs.Prelude.{◌≡◌, IfOk, true};
 ghost use Rattle.std.specs.Option.{option_map};
 ghost use Rattle.toml.specs.View.{view, table_view};
-ghost use Rattle.rx_ledger.specs.Plan.{AreFigures, are_digits, are_printable, is_limit_if_there};
+ghost use Rattle.rx_text.specs.Bytes.{all_digits, all_printable};
+ghost use Rattle.rx_ledger.specs.Plan.{AreFigures, is_limit_if_there};
 ghost use Rattle.rx_sheet.specs.Figures.{door_in, period_in, period_from, figures_in, family_deductible_in};
 
 use crate::fault::SheetFault;
@@ -48,8 +49,8 @@ pub(crate) fn family_deductible(sheet: &Table) -> Result<Option<u64>, SheetFault
 #[tactic(auto, unfolding(crate::specs::Figures::door_in))]
 fn door(sheet: &Table) -> Result<Door, SheetFault>
     ensures value { result ≡ door_in (table_view sheet.now) }
-    ensures bin { IfOk result (λ door. are_digits door.bin ≡ true) }
-    ensures pcn { IfOk result (λ door. are_printable door.pcn ≡ true) }
+    ensures bin { IfOk result (λ door. all_digits door.bin ≡ true) }
+    ensures pcn { IfOk result (λ door. all_printable door.pcn ≡ true) }
 {
     let value = value_at(sheet, SheetKey::Bin)?;
     let bin = bin(value).ok_or(SheetFault::Wrong(SheetKey::Bin))?;

@@ -10,7 +10,7 @@ use Rattle.rx_books_kept.specs.BooksText.{parts_of}
 use Rattle.rx_books_kept.specs.Figures.{books_of, books_of_parts, unless_wrong, unsummed}
 use Rattle.rx_books_kept.specs.LedgerBooks.{LedgerBooks}
 use Rattle.rx_books_kept.proofs.BooksFile.{parts_right}
-use Rattle.rx_books_text.specs.Fault.{◌>>=◌}
+use Rattle.rx_text.specs.Results.{◌>>=◌}
 use Rattle.rx_books_text.specs.Printed.{PrintedParts}
 use Rattle.rx_books_text.proofs.Printing.{printed_again}
 use Rattle.rx_fields.specs.Numbered.{Span}

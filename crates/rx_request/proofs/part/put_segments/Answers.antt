@@ -1,5 +1,6 @@
 use Rattle.std.proofs.Common.{List, ℕ, sym, ap, ◌∙◌, arith}
-use Rattle.rx_request.specs.Cut.{cut, begins_empty, further}
+use Rattle.rx_text.specs.Bytes.{cut}
+use Rattle.rx_request.specs.Cut.{begins_empty, further}
 use Rattle.rx_request.specs.Slots.{texts_of}
 use Rattle.rx_request.proofs.Names.{closed, opened}
 use Rattle.rx_request.proofs.Runs.{run_segments, segments_on, segments_off, segments_total, empty_length}

@@ -1,5 +1,6 @@
 use Rattle.std.proofs.Common.{◌≡◌, length}
-use Rattle.rx_request.specs.Cut.{cut, further}
+use Rattle.rx_text.specs.Bytes.{cut}
+use Rattle.rx_request.specs.Cut.{further}
 use Rattle.rx_request.specs.Slots.{texts_of}
 use Rattle.rx_request.proofs.Runs.{run_segments}
 use Rattle.rx_request.proofs.part.put_segments.Given as goal

@@ -1,5 +1,6 @@
 use Rattle.std.proofs.Common.{true, false, sym, ap, ◌∙◌}
-use Rattle.rx_request.specs.Cut.{cut, begins_empty, further}
+use Rattle.rx_text.specs.Bytes.{cut}
+use Rattle.rx_request.specs.Cut.{begins_empty, further}
 use Rattle.rx_request.proofs.Fields.{nonempty_by}
 use Rattle.rx_request.proofs.Names.{named_by, named_total, named_nothing, named_name, closed, opened}
 use Rattle.rx_request.proofs.part.segment_name.Goals as goal

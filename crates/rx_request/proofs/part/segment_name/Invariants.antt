@@ -1,5 +1,6 @@
 use Rattle.std.proofs.Common.{◌≡◌, length}
-use Rattle.rx_request.specs.Cut.{cut, further}
+use Rattle.rx_text.specs.Bytes.{cut}
+use Rattle.rx_request.specs.Cut.{further}
 use Rattle.rx_request.proofs.Names.{named_by}
 use Rattle.rx_request.proofs.part.segment_name.Given as goal
 

@@ -4,7 +4,8 @@ use Rattle.rx_claim.specs.Listed.{is_few}
 use Rattle.rx_claim.specs.declared.transmission.Heard as heard_type
 use Rattle.rx_claim.specs.declared.transmission.Body.TheVariants.{Heard}
 use Rattle.rx_request.specs.Codes.{is_faulty, header_conditions}
-use Rattle.rx_request.specs.Cut.{first, further, cut}
+use Rattle.rx_text.specs.Bytes.{cut}
+use Rattle.rx_request.specs.Cut.{first, further}
 use Rattle.rx_request.specs.Headers.{header_of, header_bytes}
 use Rattle.rx_request.specs.Known.{common_of}
 use Rattle.rx_request.specs.Request.{groups, common, conditions}
