@@ -6,6 +6,7 @@ use Rattle.std.specs.List.{starts_with}
 use Rattle.std.specs.Option.{option_map}
 use Rattle.std.specs.Prelude.{drop}
 use Rattle.std.specs.Result.{result_ok}
+use Rattle.rx_text.specs.Options.{◌>>=◌}
 use Rattle.rx_fields.specs.declared.key.Key.{Key}
 use Rattle.rx_fields.specs.Bounds.{bounded}
 use Rattle.rx_fields.specs.Calendar.{Civil, date_of}
@@ -24,11 +25,6 @@ use Rattle.rx_books_text.specs.declared.line.MemberLine.{MemberLine}
 use Rattle.rx_books_text.specs.declared.line.TotalLine.{TotalLine}
 use Rattle.rx_books_text.specs.declared.version.Version.{Version}
 use Rattle.rx_books_text.specs.declared.version.Version.TheVariants.{One, Two, Three}
-
-infixl 10 ◌>>=◌
-abbrev pub ◌>>=◌ : {A B : Type 0} → Option A → (A → Option B) → Option B
-None >>= f = None
-(Some x) >>= f = f x
 
 -- ---- fields
 

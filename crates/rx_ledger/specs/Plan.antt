@@ -3,7 +3,7 @@ use Rattle.std.specs.Prelude.{◌≡◌, ℕ, Bool, true, not, ◌&&◌, nat_le,
 use Rattle.std.specs.List.{list_all}
 use Rattle.std.specs.Option.{option_map}
 use Rattle.std.specs.Ordering.{is_eq, nat_cmp}
-use Rattle.rx_text.specs.Bytes.{is_digit, is_printable}
+use Rattle.rx_text.specs.Bytes.{all_digits, all_printable}
 use Rattle.rx_order.specs.Ascending.{contains_key, item_at, put}
 use Rattle.rx_ledger.specs.declared.drug.Drug.{Drug}
 use Rattle.rx_ledger.specs.declared.drug.Share.{Share}
@@ -12,12 +12,6 @@ use Rattle.rx_ledger.specs.declared.figures.Figures.{Figures}
 use Rattle.rx_ledger.specs.declared.sheet.Listed.{Listed}
 use Rattle.rx_ledger.specs.declared.sheet_key.SheetKey.{SheetKey}
 use Rattle.rx_ledger.specs.declared.sheet_key.SheetKey.TheVariants as key
-
-abbrev pub are_digits : List ℕ → Bool
-are_digits bytes = list_all is_digit bytes
-
-abbrev pub are_printable : List ℕ → Bool
-are_printable bytes = list_all is_printable bytes
 
 -- a deductible or a maximum: at most 99,999,999,999 cents
 abbrev pub is_limit : ℕ → Bool
@@ -30,8 +24,8 @@ is_limit_if_there (Some cents) = is_limit cents
 -- the first figure outside its range, by the keys' numbers
 abbrev pub wrong_figure : Figures → Option SheetKey
 wrong_figure f =
-    if not (are_digits f.door.bin) then Some key.Bin
-    else (if not (are_printable f.door.pcn) then Some key.Pcn
+    if not (all_digits f.door.bin) then Some key.Bin
+    else (if not (all_printable f.door.pcn) then Some key.Pcn
     else (if not (is_limit f.member_deductible) then Some key.MemberDeductible
     else (if not (is_limit f.family_maximum) then Some key.FamilyMaximum
     else (if not (nat_le f.refill_percent 100) then Some key.RefillPercent

@@ -1,4 +1,5 @@
 use rx_fields::{Door, Period};
+use rx_text::{all_digits, all_printable};
 
 /// The figures of a plan sheet (docs/FORMATS.md, "Plan sheet").
 #[derive(Clone, Copy, Debug, PartialEq, Eq)]
@@ -58,16 +59,4 @@ impl Figures {
             _ => None,
         }
     }
-}
-
-fn all_digits(bytes: &[u8]) -> bool
-    ensures { result ≡ all_digits bytes.now }
-{
-    bytes.iter().all(|b| *b >= b'0' && *b <= b'9')
-}
-
-fn all_printable(bytes: &[u8]) -> bool
-    ensures { result ≡ all_printable bytes.now }
-{
-    bytes.iter().all(|b| *b >= b' ' && *b <= b'~')
 }

@@ -4,13 +4,6 @@ use crate::marks::{MOST, first_marks};
 use memchr::memchr;
 use std::marker::Model;
 
-/// The group separator.
-pub(crate) const GS: u8 = 0x1D;
-/// The segment separator.
-pub(crate) const SS: u8 = 0x1E;
-/// The field separator.
-pub(crate) const FS: u8 = 0x1C;
-
 /// The pieces of a text between its separators that are left, in their order.
 #[derive(Drop)]
 pub(crate) struct Pieces<'a> {

@@ -10,6 +10,7 @@ use crate::fault::SheetFault;
 use crate::names::name_of;
 use rx_fields::{Day, date_read};
 use rx_ledger::SheetKey;
+use rx_text::{all_digits, all_printable};
 use toml::{Table, Value};
 
 /// The value at a name, if there is one.
@@ -132,16 +133,4 @@ pub(crate) fn day(value: &Value) -> Option<Day>
     ensures { result ≡ day (view value.now) }
 {
     date_read(value.as_str()?.as_bytes()).ok()
-}
-
-fn all_digits(bytes: &[u8]) -> bool
-    ensures { result ≡ all_digits bytes.now }
-{
-    bytes.iter().all(|b| *b >= b'0' && *b <= b'9')
-}
-
-fn all_printable(bytes: &[u8]) -> bool
-    ensures { result ≡ all_printable bytes.now }
-{
-    bytes.iter().all(|b| *b >= b' ' && *b <= b'~')
 }

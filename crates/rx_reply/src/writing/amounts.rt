@@ -5,9 +5,9 @@ ghost use Rattle.rx_fields.specs.Amount.{signed_text};
 ghost use Rattle.rx_reply.specs.Text.{amount_field, coinsurance_field, amounts_segment, reversed_segment};
 
 use super::digits::eight_digits;
-use crate::layout::FIELD;
 use rx_claim::Pricing;
 use rx_fields::{Cents, signed_write};
+use rx_text::FIELD;
 use std::alloc::AllocError;
 
 // An amount as it is paid.

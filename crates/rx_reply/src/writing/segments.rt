@@ -5,9 +5,9 @@ ghost use Rattle.std.specs.List.{flat_map};
 ghost use Rattle.rx_reply.specs.Text.{number_segment, reference_segment, known_reference, code_field, codes_segment};
 
 use super::digits::{fifteen_digits, twelve_digits};
-use crate::layout::{FIELD, SEGMENT};
 use rx_claim::Codes;
 use rx_fields::{Authorization, Code, Reference, digits_write};
+use rx_text::{FIELD, SEGMENT};
 use std::alloc::AllocError;
 
 // Segment 21 of an answer that has an authorization number.

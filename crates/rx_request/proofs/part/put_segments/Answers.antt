@@ -1,4 +1,5 @@
 use Rattle.std.proofs.Common.{List, ℕ, sym, ap, ◌∙◌, arith}
+use Rattle.rx_text.specs.declared.separators.TheConstants.{SEGMENT}
 use Rattle.rx_text.specs.Bytes.{cut}
 use Rattle.rx_request.specs.Cut.{begins_empty, further}
 use Rattle.rx_request.specs.Slots.{texts_of}
@@ -8,7 +9,7 @@ use Rattle.rx_request.proofs.part.put_segments.Goals as goal
 
 pub returns-in_err-pieces : goal.returns-in_err-pieces
 returns-in_err-pieces c =
-    let pieces = cut 30 c.args.part.now in
+    let pieces = cut SEGMENT c.args.part.now in
     let names = c.args.names.now in
     let slots = texts_of c.args.slots.now in
     rw c.from_residual.ensures (closed (begins_empty pieces) (further pieces)
@@ -25,7 +26,7 @@ loop-segment-preserved c =
 
 pub returns-in_err-put_segment : goal.returns-in_err-put_segment
 returns-in_err-put_segment c =
-    let pieces = cut 30 c.args.part.now in
+    let pieces = cut SEGMENT c.args.part.now in
     let names = c.args.names.now in
     let slots = texts_of c.args.slots.now in
     let none = segments_off names (texts_of c.loop-segment.slots) c.loop-segment.pieces c.next.new.self c.in-Some.segment.now _
@@ -35,7 +36,7 @@ returns-in_err-put_segment c =
 
 pub returns : goal.returns
 returns c =
-    let pieces = cut 30 c.args.part.now in
+    let pieces = cut SEGMENT c.args.part.now in
     let names = c.args.names.now in
     let slots = texts_of c.args.slots.now in
     let ended = ap (λ (left : List (List ℕ)). run_segments names (texts_of c.loop-segment.slots) left) c.in_default.ensures.value in
