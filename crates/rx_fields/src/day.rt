@@ -2,8 +2,8 @@ ghost use Rattle.std.specs.Prelude.{◌≡◌};
 
 use crate::digits::{digits_write, value};
 use crate::fault::FieldFault;
-use rx_text::all_digits;
 use jiff_core::civil::Date;
+use rx_text::all_digits;
 use std::marker::Model;
 
 /// A civil date of the years 0000 to 9999 that exists, ordered from earlier to later (docs/PRODUCT.md, "Words").

@@ -1,5 +1,6 @@
 ghost use Rattle.std.specs.Prelude.{◌≡◌, ◌≤◌, IfOk, OnOk};
 ghost use Rattle.std.specs.List.{All, list_any};
+ghost use Rattle.rx_fields.specs.declared.limits.TheConstants.{MOST_DETAILS};
 ghost use Rattle.rx_ledger.specs.Answers.{is_too_soon};
 ghost use Rattle.rx_ledger.specs.Fold.{ledger_after, reply_to};
 ghost use Rattle.rx_ledger.specs.Ledger.{rows_of};
@@ -110,7 +111,7 @@ impl InOrder {
         place: u64,
         transmission: &Transmission,
     ) -> Result<Reply, Memory>
-        requires place { place ≤ 100_000 }
+        requires place { place ≤ MOST_DETAILS }
         requires period { self.old.books.period ≡ terms.now.figures.period }
         requires awaited { IsAwaited self.old transmission.now }
         ensures value { IfOk result (λ reply.

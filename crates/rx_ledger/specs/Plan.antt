@@ -3,6 +3,8 @@ use Rattle.std.specs.Prelude.{◌≡◌, ℕ, Bool, true, not, ◌&&◌, nat_le,
 use Rattle.std.specs.List.{list_all}
 use Rattle.std.specs.Option.{option_map}
 use Rattle.std.specs.Ordering.{is_eq, nat_cmp}
+use Rattle.rx_ledger.specs.declared.figures.TheConstants.{MOST_LIMIT}
+use Rattle.rx_fields.specs.declared.limits.TheConstants.{MOST_CENTS}
 use Rattle.rx_text.specs.Bytes.{all_digits, all_printable}
 use Rattle.rx_order.specs.Ascending.{contains_key, item_at, put}
 use Rattle.rx_ledger.specs.declared.drug.Drug.{Drug}
@@ -15,7 +17,7 @@ use Rattle.rx_ledger.specs.declared.sheet_key.SheetKey.TheVariants as key
 
 -- a deductible or a maximum: at most 99,999,999,999 cents
 abbrev pub is_limit : ℕ → Bool
-is_limit cents = nat_le cents 99_999_999_999
+is_limit cents = nat_le cents MOST_LIMIT
 
 abbrev pub is_limit_if_there : Option ℕ → Bool
 is_limit_if_there None = true
@@ -30,7 +32,7 @@ wrong_figure f =
     else (if not (is_limit f.family_maximum) then Some key.FamilyMaximum
     else (if not (nat_le f.refill_percent 100) then Some key.RefillPercent
     else (if not (nat_le 1 f.max_days && nat_le f.max_days 999) then Some key.MaxDays
-    else (if not (nat_le f.fee 99_999_999) then Some key.Fee
+    else (if not (nat_le f.fee MOST_CENTS) then Some key.Fee
     else (if not (is_limit_if_there f.family_deductible) then Some key.FamilyDeductible else None)))))))
 
 -- each figure is within its range
@@ -39,7 +41,7 @@ AreFigures f = wrong_figure f ≡ None
 
 -- a copay fits its field, a percentage is at most 100
 abbrev pub is_share : Share → Bool
-is_share (Copay cents) = nat_le cents 99_999_999
+is_share (Copay cents) = nat_le cents MOST_CENTS
 is_share (Percent percent) = nat_le percent 100
 
 -- share and price are within their ranges

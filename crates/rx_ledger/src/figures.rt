@@ -1,5 +1,8 @@
-use rx_fields::{Door, Period};
+use rx_fields::{Door, MOST_CENTS, Period};
 use rx_text::{all_digits, all_printable};
+
+/// The largest deductible or family maximum of a plan, in cents: eleven digits.
+pub const MOST_LIMIT: u64 = 99_999_999_999;
 
 /// The figures of a plan sheet (docs/FORMATS.md, "Plan sheet").
 #[derive(Clone, Copy, Debug, PartialEq, Eq)]
@@ -39,10 +42,10 @@ impl Figures {
         if !all_printable(&self.door.pcn) {
             return Some(SheetKey::Pcn);
         }
-        if self.member_deductible > 99_999_999_999 {
+        if self.member_deductible > MOST_LIMIT {
             return Some(SheetKey::MemberDeductible);
         }
-        if self.family_maximum > 99_999_999_999 {
+        if self.family_maximum > MOST_LIMIT {
             return Some(SheetKey::FamilyMaximum);
         }
         if self.refill_percent > 100 {
@@ -51,11 +54,11 @@ impl Figures {
         if self.max_days < 1 || self.max_days > 999 {
             return Some(SheetKey::MaxDays);
         }
-        if self.fee > 99_999_999 {
+        if self.fee > MOST_CENTS {
             return Some(SheetKey::Fee);
         }
         match self.family_deductible {
-            Some(cents) if cents > 99_999_999_999 => Some(SheetKey::FamilyDeductible),
+            Some(cents) if cents > MOST_LIMIT => Some(SheetKey::FamilyDeductible),
             _ => None,
         }
     }

@@ -1,4 +1,5 @@
 ghost use Rattle.std.specs.Prelude.{◌≡◌, ◌≤◌, ◌*◌, ◌^◌, length, true, IsTrue};
+ghost use Rattle.rx_fields.specs.declared.limits.TheConstants.{MOST_CENTS};
 ghost use Rattle.rx_ledger.specs.Ledger.{is_listed};
 ghost use Rattle.rx_ledger.specs.Members.{member_cmp, member_key};
 ghost use Rattle.rx_ledger.specs.Sums.{counted, deductible_paid, paid_by_patient};
@@ -32,7 +33,7 @@ pub struct FamilyTotals {
 pub fn counted_in(period: Period, row: &Row) -> Counted
     ensures deductible { result.deductible ≡ counted period deductible_paid row.now }
     ensures out_of_pocket { result.out_of_pocket ≡ counted period paid_by_patient row.now }
-    ensures small { paid_by_patient row.now ≤ 99_999_999 }
+    ensures small { paid_by_patient row.now ≤ MOST_CENTS }
 {
     let patient_pay = row.pricing.patient_pay();
     if period.contains(row.key.date) {

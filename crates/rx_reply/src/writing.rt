@@ -13,8 +13,8 @@ use crate::layout::HEADER;
 use amounts::{put_amounts, put_reversed};
 use rx_claim::{Answer, Echo, EchoParts, Outcome, Paid, Refused, Reply};
 use rx_fields::{Memory, digits_write};
-use segments::{put_codes, put_known, put_number, put_reference};
 use rx_text::GROUP;
+use segments::{put_codes, put_known, put_number, put_reference};
 use std::alloc::{AllocError, Global};
 
 // The most bytes that an answer has, with its GS.

@@ -1,4 +1,5 @@
 ghost use Rattle.std.specs.Prelude.{◌≡◌, ◌≤◌, IfErr, IfOk, length, true};
+ghost use Rattle.rx_fields.specs.declared.limits.TheConstants.{MOST_DETAILS};
 ghost use Rattle.rx_ledger.specs.Fold.{fold_ledger, fold_replies};
 ghost use Rattle.rx_switch.specs.Job.{inputs_of, texts_in_pieces};
 ghost use Rattle.rx_switch.specs.Output.{IsStopped, texts_of};
@@ -49,7 +50,7 @@ pub(crate) fn adjudicate<R: Threads + Wait + Sync, G: Gate + Sync>(
     batch: &Batch,
     spent: Vec<u8>,
 ) -> Result<OutputPieces, SwitchFault>
-    requires few { length batch.now.details ≤ 100_000 }
+    requires few { length batch.now.details ≤ MOST_DETAILS }
     requires workers { are_workers workers ≡ true }
     ensures output { IfOk result (λ output.
         texts_in_pieces output ≡ texts_of (inputs_of stamp.now sheet.now books batch.now)) }
@@ -82,7 +83,7 @@ fn finish<R: Threads + Wait + Sync, G: Gate + Sync>(
     books: Books,
     asked: &[Transmission],
 ) -> Result<(Books, Vec<Reply>), SwitchFault>
-    requires few { length asked.now ≤ 100_000 }
+    requires few { length asked.now ≤ MOST_DETAILS }
     requires workers { are_workers workers ≡ true }
     ensures books { IfOk result (λ finished. finished.0 ≡ record {
       period = sheet.now.figures.period;
@@ -110,7 +111,7 @@ fn finish_plainly(
     books: &Books,
     asked: &[Transmission],
 ) -> Result<(Books, Vec<Reply>), Memory>
-    requires { length asked.now ≤ 100_000 }
+    requires { length asked.now ≤ MOST_DETAILS }
     ensures books { IfOk result (λ finished. finished.0 ≡ record {
       period = sheet.now.figures.period;
       ledger = fold_ledger lot sheet.now 1 asked.now books.now.ledger;

@@ -1,6 +1,7 @@
 //! Writing amounts, and the segments that hold them.
 
 ghost use Rattle.std.specs.Prelude.{◌≡◌, ◌≤◌, ◌++◌, OnOk, pos, neg_ℤ};
+ghost use Rattle.rx_fields.specs.declared.limits.TheConstants.{MOST_CENTS};
 ghost use Rattle.rx_fields.specs.Amount.{signed_text};
 ghost use Rattle.rx_reply.specs.Text.{amount_field, coinsurance_field, amounts_segment, reversed_segment};
 
@@ -14,7 +15,7 @@ use std::alloc::AllocError;
 #[inline(always)]
 #[tactic(auto, unfolding(rx_fields::specs::Digits::digits_text, rx_fields::specs::Amount::signed_text))]
 pub(super) fn paid_text(cents: u64) -> [u8; 8]
-    requires { cents ≤ 99_999_999 }
+    requires { cents ≤ MOST_CENTS }
     ensures { result ≡ signed_text (pos cents) }
 {
     let [a, b, c, d, e, f, g, digit] = eight_digits(cents);
@@ -28,14 +29,14 @@ pub(super) fn paid_text(cents: u64) -> [u8; 8]
 
 // An amount as it is taken back.
 pub(super) fn reversed_text(cents: u64) -> [u8; 8]
-    requires { cents ≤ 99_999_999 }
+    requires { cents ≤ MOST_CENTS }
     ensures { result ≡ signed_text (neg_ℤ (pos cents)) }
 {
     signed_write(-(cents as i64))
 }
 
 fn put_amount(out: &mut Vec<u8>, id: [u8; 2], cents: u64) -> Result<(), AllocError>
-    requires { cents ≤ 99_999_999 }
+    requires { cents ≤ MOST_CENTS }
     ensures { OnOk result (out.new.items ≡ out.old.items ++ amount_field id cents) }
 {
     let [first, second] = id;
@@ -44,7 +45,7 @@ fn put_amount(out: &mut Vec<u8>, id: [u8; 2], cents: u64) -> Result<(), AllocErr
 }
 
 fn put_coinsurance(out: &mut Vec<u8>, cents: u64) -> Result<(), AllocError>
-    requires { cents ≤ 99_999_999 }
+    requires { cents ≤ MOST_CENTS }
     ensures { OnOk result (out.new.items ≡ out.old.items ++ coinsurance_field cents) }
 {
     if cents == 0 {
