@@ -34,6 +34,6 @@ pub use on_devices::run_io;
 pub use plan::plan_text;
 pub use running::run;
 pub use rx_devices::{ReaderSource, Sink, Source, WriterSink};
-pub use rx_sample::sample_line;
+pub use rx_show::sample_line;
 pub use show::show_text;
 pub use telling::told;

@@ -4,7 +4,7 @@ ghost use Rattle.rx_fields.specs.Numbered.{product_of};
 ghost use Rattle.rx_fields.specs.Text.{IsId};
 ghost use Rattle.rx_ledger.specs.Ledger.{is_listed, with_member};
 ghost use Rattle.rx_ledger.specs.Plan.{is_drug, lists, with_drug};
-ghost use Rattle.rx_sample.specs.Sample.{drug, enrolled, opening, plain_figures, plain_plan, sample_lot, year_2026};
+ghost use Rattle.rx_show.specs.Sample.{drug, enrolled, opening, plain_figures, plain_plan, sample_lot, year_2026};
 
 use rx_fields::{Day, Door, Id, Lot, Memory, Period, Person, Product, date_read};
 use rx_ledger::{AddError, AddFault, Drug, Figures, Ledger, Member, MemberKey, Share, Sheet};

@@ -1,12 +1,12 @@
 ghost use Rattle.std.specs.Prelude.{◌≡◌, IfOk};
-ghost use Rattle.rx_sample.specs.Sample.{base_claim, sample_text};
+ghost use Rattle.rx_show.specs.Sample.{base_claim, sample_text};
 
-use crate::inputs::{lot, opening_books, plain_sheet};
+use crate::bytes::shown;
+use crate::sample_inputs::{lot, opening_books, plain_sheet};
 use rx_fields::Memory;
 use rx_ledger::plain_run;
 use rx_reply::encode;
 use rx_request::decode;
-use rx_show::shown;
 use std::alloc::Global;
 
 // The base claim (docs/FORMATS.md, "Fixed inputs").
