@@ -23,15 +23,9 @@ pub struct Dispensed {
 pub(crate) fn claim_line(version: Version, bytes: &[u8]) -> Option<Row>
     ensures { result ≡ claim_in version bytes.now }
 {
-    let Some((key, rest)) = key_at(bytes) else {
-        return None;
-    };
-    let Some((member, rest)) = member_key_at(rest) else {
-        return None;
-    };
-    let Some((dispensed, rest)) = dispensed_at(rest) else {
-        return None;
-    };
+    let (key, rest) = key_at(bytes)?;
+    let (member, rest) = member_key_at(rest)?;
+    let (dispensed, rest) = dispensed_at(rest)?;
     let (amounts, number) = amounts_at(version, rest)?;
     let number = authorization_in(number)?;
     Row::new(

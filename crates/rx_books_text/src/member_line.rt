@@ -11,9 +11,7 @@ use rx_ledger::{Member, MemberKey};
 pub(crate) fn member_line(bytes: &[u8]) -> Option<MemberLine>
     ensures { result ≡ member_in bytes.now }
 {
-    let Some((key, rest)) = member_key_at(bytes) else {
-        return None;
-    };
+    let (key, rest) = member_key_at(bytes)?;
     let (first, rest) = split(rest)?;
     let (last, deductible) = split(rest)?;
     let coverage = period_in(first, last)?;

@@ -84,9 +84,7 @@ fn are_copies(count: u64, text: &[u8], bytes: &[u8]) -> bool
 fn rejected_in(groups: Count, bytes: &[u8]) -> Option<Outcome>
     ensures { result ≡ rejected_in groups bytes.now }
 {
-    let Some((codes, rest)) = refusal_at(bytes) else {
-        return None;
-    };
+    let (codes, rest) = refusal_at(bytes)?;
     let group = &bytes[..bytes.len() - rest.len()];
     if are_copies(groups.get() - 1, group, rest) {
         Some(Outcome::Rejected(Rejected { codes, groups }))

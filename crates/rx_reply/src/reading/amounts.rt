@@ -56,9 +56,7 @@ fn amount_at<'a>(label: &[u8], bytes: &'a [u8]) -> Option<(u64, &'a [u8])>
     ensures { option_map (λ x. (x.0, x.1.now)) result ≡ amount_at label.now bytes.now }
 {
     let rest = after(label, bytes)?;
-    let Some((cents, rest)) = paid_at(rest) else {
-        return None;
-    };
+    let (cents, rest) = paid_at(rest)?;
     Some((cents.get(), rest))
 }
 

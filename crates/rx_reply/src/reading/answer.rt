@@ -39,9 +39,7 @@ fn known_at(bytes: &[u8]) -> Option<(Option<Reference>, &[u8])>
     let Some(rest) = after(REFERENCE, bytes) else {
         return Some((None, bytes));
     };
-    let Some((reference, rest)) = number_at(12, rest) else {
-        return None;
-    };
+    let (reference, rest) = number_at(12, rest)?;
     Some((Some(reference), rest))
 }
 
@@ -76,9 +74,7 @@ pub(super) fn codes_at(bytes: &[u8]) -> Option<(Codes, &[u8])>
     ensures { option_map (λ x. (x.0, x.1.now)) result ≡ codes_at bytes.now }
 {
     let rest = after(b"\x1CFA", bytes)?;
-    let Some((count, rest)) = number_at::<1, 5>(2, rest) else {
-        return None;
-    };
+    let (count, rest) = number_at::<1, 5>(2, rest)?;
     let count = count.get() as usize;
     let (codes, rest) = each_code_at(count, rest)?;
     let codes = Codes::new(&codes[..count])?;
@@ -90,16 +86,10 @@ pub(super) fn codes_at(bytes: &[u8]) -> Option<(Codes, &[u8])>
 fn paid_claim_at(bytes: &[u8]) -> Option<(Paid, &[u8])>
     ensures { option_map (λ x. (x.0, x.1.now)) result ≡ paid_claim_at bytes.now }
 {
-    let Some((number, rest)) = authorization_at(bytes) else {
-        return None;
-    };
-    let Some((reference, rest)) = reference_at(rest) else {
-        return None;
-    };
+    let (number, rest) = authorization_at(bytes)?;
+    let (reference, rest) = reference_at(rest)?;
     let rest = after(b"\x1E\x1CAM23", rest)?;
-    let Some((pricing, rest)) = pricing_at(rest) else {
-        return None;
-    };
+    let (pricing, rest) = pricing_at(rest)?;
     let paid = Paid {
         number,
         reference,
@@ -113,16 +103,10 @@ fn paid_claim_at(bytes: &[u8]) -> Option<(Paid, &[u8])>
 fn approved_at(bytes: &[u8]) -> Option<(Approved, &[u8])>
     ensures { option_map (λ x. (x.0, x.1.now)) result ≡ approved_at bytes.now }
 {
-    let Some((number, rest)) = authorization_at(bytes) else {
-        return None;
-    };
-    let Some((reference, rest)) = reference_at(rest) else {
-        return None;
-    };
+    let (number, rest) = authorization_at(bytes)?;
+    let (reference, rest) = reference_at(rest)?;
     let rest = after(b"\x1E\x1CAM23\x1CF9", rest)?;
-    let Some((total_paid, rest)) = reversed_at(rest) else {
-        return None;
-    };
+    let (total_paid, rest) = reversed_at(rest)?;
     let approved = Approved {
         number,
         reference,
@@ -136,12 +120,8 @@ fn approved_at(bytes: &[u8]) -> Option<(Approved, &[u8])>
 fn refused_at(bytes: &[u8]) -> Option<(Refused, &[u8])>
     ensures { option_map (λ x. (x.0, x.1.now)) result ≡ refused_at bytes.now }
 {
-    let Some((codes, rest)) = codes_at(bytes) else {
-        return None;
-    };
-    let Some((reference, rest)) = known_at(rest) else {
-        return None;
-    };
+    let (codes, rest) = codes_at(bytes)?;
+    let (reference, rest) = known_at(rest)?;
     Some((Refused { codes, reference }, rest))
 }
 

@@ -74,9 +74,7 @@ pub(super) fn signed_at(bytes: &[u8]) -> Option<(i64, &[u8])>
         return None;
     }
     let (front, rest) = bytes.split_at(8);
-    let Ok(amount) = signed_read(front) else {
-        return None;
-    };
+    let amount = signed_read(front).ok()?;
     if front == signed_write(amount).as_slice() {
         Some((amount, rest))
     } else {

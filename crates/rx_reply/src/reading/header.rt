@@ -56,9 +56,7 @@ fn front_at(bytes: &[u8]) -> Option<(Front, &[u8])>
 {
     let (version, rest) = bytes_at(bytes)?;
     let (code, rest) = bytes_at(rest)?;
-    let Some((count, rest)) = number_at(1, rest) else {
-        return None;
-    };
+    let (count, rest) = number_at(1, rest)?;
     let (status, rest) = status_at(rest)?;
     let front = Front {
         version,
@@ -89,9 +87,7 @@ fn back_at(bytes: &[u8]) -> Option<(Back, &[u8])>
 pub(super) fn header_at(bytes: &[u8]) -> Option<(Header, &[u8])>
     ensures { option_map (λ x. (x.0, x.1.now)) result ≡ header_at bytes.now }
 {
-    let Some((front, rest)) = front_at(bytes) else {
-        return None;
-    };
+    let (front, rest) = front_at(bytes)?;
     let (back, rest) = back_at(rest)?;
     let Front {
         version,
