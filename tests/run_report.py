@@ -202,7 +202,7 @@ class Page(html.parser.HTMLParser):
     """The cells of the table of providers and the texts of the claims of a page that is made as it has to be."""
     LONE = {"meta"}
     KNOWN = set("html head meta title style body header main h1 h2 p table thead tbody tfoot tr th td i a span section "
-                "div b details summary dl dt dd code pre".split())
+                "div b details summary dl dt dd pre".split())
     ATTRIBUTES = set("lang charset http-equiv content name scope class style href id".split())
 
     def __init__(self):
@@ -223,7 +223,7 @@ class Page(html.parser.HTMLParser):
             self.rows[-1].append("")
         if tag == "details":
             self.claims.append([])
-        if tag in ("span", "dt", "dd") and self.claims:
+        if tag in ("span", "dt", "dd", "pre") and self.claims:
             self.claims[-1].append("")
         if tag not in self.LONE:
             self.open.append(tag)
@@ -235,7 +235,7 @@ class Page(html.parser.HTMLParser):
         inside = self.open[-1] if self.open else ""
         if inside in ("th", "td", "a"):
             self.rows[-1][-1] += data
-        elif inside in ("span", "dt", "dd", "code") and self.claims:
+        elif inside in ("span", "dt", "dd", "pre") and self.claims:
             self.claims[-1][-1] += data
         elif inside == "style":
             want([word for word in ("url", "@import", "expression", "//") if word in data], [], "parts from outside")
@@ -278,7 +278,7 @@ def check_claim(claim, row):
         wanted += ["Given back", amounts[5]]
     else:
         wanted += ["Reject codes", row["codes"]]
-    wanted += ["Why", f"rxbatch explain --sheet F --books F --batch F --record {record}"]
+    wanted += [f"rxbatch explain --sheet F --books F --batch F --record {record}"]
     want(claim, wanted, "a claim on the page")
 
 
