@@ -1,0 +1,3 @@
+-- Plumbing: which files there are.
+pub mod Adjudicated
+pub mod Courses
