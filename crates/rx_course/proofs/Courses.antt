@@ -1,5 +1,6 @@
 -- A course that goes on.
 use Rattle.std.proofs.Common.{◌≡◌, ℕ, zero, suc, ◌+◌, ◌≤◌, List, [], ◌∷◌, length, slice_range, take, refl, ap, ◌∙◌}
+use Rattle.std.specs.Option.{IfSome}
 use Rattle.rx_claim.specs.declared.transmission.Transmission.{Transmission}
 use Rattle.rx_fields.specs.Numbered.{LotParts}
 use Rattle.rx_ledger.specs.Fold.{fold_ledger}
@@ -24,3 +25,15 @@ module _ (lot : LotParts) (plan : Plan) (asked : List Transmission) (opening : L
   ledger_up_to after e =
       e ∙ ap (fold_ledger lot plan (1 + c.done) (slice_range asked c.done end)) is.ledger
       ∙ ledger_on lot plan asked c.done end ahead within opening
+
+-- the same books and records, with or without their ledger
+pub same_course : (lot : LotParts) (plan : Plan) (asked : List Transmission) (opening : Ledger) (c d : Course)
+    → d.books ≡ c.books → d.done ≡ c.done → IfSome d.kept (λ kept. kept ≡ c.books.ledger)
+    → IsCourse lot plan asked opening c → IsCourse lot plan asked opening d
+same_course lot plan asked opening c d books done kept is =
+    record {
+      within = rw done is.within;
+      period = rw books is.period;
+      ledger = rw (books, done) is.ledger;
+      kept = rw books kept;
+    }

@@ -1,5 +1,6 @@
 -- The records of a batch in two parts, one after the other.
-use Rattle.std.proofs.Common.{◌≡◌, ℕ, suc, ◌+◌, ◌-◌, ◌≤◌, ◌++◌, List, [], ◌∷◌, length, take, drop, slice_range, take-add, length-take-le, refl, sym, ap, ◌∙◌, arith}
+use Rattle.std.proofs.Common.{◌≡◌, ℕ, suc, ◌+◌, ◌-◌, ◌≤◌, ◌++◌, List, [], ◌∷◌, length, take, slice_range}
+use Rattle.std.proofs.Common.{take-add, length-take-le, refl, sym, ap, ◌∙◌, arith}
 use Rattle.rx_claim.specs.declared.transmission.Transmission.{Transmission}
 use Rattle.rx_fields.specs.Numbered.{LotParts}
 use Rattle.rx_ledger.specs.Fold.{fold_ledger, ledger_after}

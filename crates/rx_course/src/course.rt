@@ -1,4 +1,4 @@
-ghost use Rattle.std.specs.Prelude.{◌≡◌, ◌+◌, ◌-◌, ◌≤◌, IfOk, List, length, take};
+ghost use Rattle.std.specs.Prelude.{◌≡◌, ◌+◌, ◌-◌, ◌≤◌, IfOk, IfSome, List, length, take};
 ghost use Rattle.rx_claim.specs.declared.transmission.Transmission.{Transmission as TransmissionRecord};
 ghost use Rattle.rx_explain.specs.Before.{ledger_at};
 ghost use Rattle.rx_fields.specs.Numbered.{LotParts};
@@ -12,11 +12,12 @@ use rx_in_order::InOrder;
 use rx_ledger::{Ledger, Sheet};
 use std::alloc::Global;
 
-/// A batch of which the first records are done, and the books after them.
+/// A batch of which the first records are done, the books after them, and the ledger of these books, where it is kept.
 #[derive(Debug, Drop)]
 pub(crate) struct Course {
     pub(crate) books: Books,
     pub(crate) done: usize,
+    pub(crate) kept: Option<Ledger>,
 }
 
 /// A batch of which no record is done.
@@ -28,11 +29,12 @@ pub(crate) fn begun(alloc: Global, sheet: &Sheet, opening: &Books) -> Result<Cou
     Ok(Course {
         books: opening.copy(alloc, sheet.period())?,
         done: 0,
+        kept: None,
     })
 }
 
 /// The ledger before the record at a place, and the batch on its way there: it goes on to the record; where it is past it,
-/// from its first record on.
+/// from its first record on. Where the same is asked for again, the ledger is kept for that.
 pub(crate) fn ledger_before(
     alloc: Global,
     lot: Lot,
@@ -41,6 +43,7 @@ pub(crate) fn ledger_before(
     asked: &[Transmission],
     course: Course,
     place: u64,
+    again: bool,
 ) -> Result<(Course, Ledger), Memory>
     requires few { length asked.now ≤ 100_000 }
     requires course { IsCourse lot sheet.now asked.now opening.now.ledger course }
@@ -49,8 +52,29 @@ pub(crate) fn ledger_before(
 {
     let end = records_before(asked, place).len();
     let course = gone_to(alloc, lot, sheet, opening, asked, course, end)?;
-    let ledger = course.books.ledger(alloc)?;
-    Ok((course, ledger))
+    let given = ledger_of(alloc, course, again)?;
+    Ok(given)
+}
+
+// The ledger of a batch on its way, which is kept where it is asked for again.
+fn ledger_of(alloc: Global, course: Course, again: bool) -> Result<(Course, Ledger), Memory>
+    requires kept { IfSome course.kept (λ kept. kept ≡ course.books.ledger) }
+    ensures books { IfOk result (λ r. r.0.books ≡ course.books) }
+    ensures done { IfOk result (λ r. r.0.done ≡ course.done) }
+    ensures kept { IfOk result (λ r. IfSome r.0.kept (λ kept. kept ≡ course.books.ledger)) }
+    ensures ledger { IfOk result (λ r. r.1 ≡ course.books.ledger) }
+{
+    let Course { books, done, kept } = course;
+    let ledger = match kept {
+        Some(ledger) => ledger,
+        None => books.ledger(alloc)?,
+    };
+    let kept = if again {
+        Some(ledger.copy(alloc)?)
+    } else {
+        None
+    };
+    Ok((Course { books, done, kept }, ledger))
 }
 
 // The batch with so many records done.
@@ -109,10 +133,14 @@ fn go_to(
     ensures course { IfOk result (IsCourse lot sheet.now asked.now opening.now.ledger) }
     ensures done { IfOk result (λ c. c.done ≡ end) }
 {
-    let Course { books, done } = course;
+    let Course { books, done, .. } = course;
     let part = &asked[done..end];
     let books = go_on(alloc, lot, sheet, books, done, part)?;
-    Ok(Course { books, done: end })
+    Ok(Course {
+        books,
+        done: end,
+        kept: None,
+    })
 }
 
 // The books after these records, before which so many are done.

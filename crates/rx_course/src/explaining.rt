@@ -57,7 +57,10 @@ fn explain_each(
     let mut course = begun(alloc, sheet, opening)?;
     for nth in 0..places.len() {
         let at = place_at(places, nth);
-        let (next, before) = ledger_before(alloc, lot, sheet, opening, asked, course, at.place)?;
+        let again = is_asked_again(places, nth, at.place);
+        let (next, before) = ledger_before(
+            alloc, lot, sheet, opening, asked, course, at.place, again,
+        )?;
         course = next;
         let explanation = explain(alloc, lot, sheet, before, asked, events, at)?;
         explanations.push(explanation)?;
@@ -71,4 +74,14 @@ fn place_at(places: &[At], nth: usize) -> At
     ensures { result ≡ get_or places.now nth result }
 {
     places[nth]
+}
+
+// Whether the place after this one is in the same record.
+fn is_asked_again(places: &[At], nth: usize, place: u64) -> bool
+    requires { nth < length places.now }
+{
+    match places.get(nth + 1) {
+        Some(next) => next.place == place,
+        None => false,
+    }
 }
