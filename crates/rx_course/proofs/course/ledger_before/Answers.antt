@@ -20,5 +20,5 @@ returns-clause-ledger c =
     let records = c.records_before-end.ensures.value in
     c.in_ok-given.ensures.ledger ∙ c.in_ok-course.ensures.course.ledger
     ∙ ap (λ (xs : List Transmission). fold_ledger lot plan 1 xs opening)
-    (ap (λ (n : ℕ). take n asked) (c.in_ok-course.ensures.done ∙ c.len-end.ensures ∙ ap length records)
+    (ap (λ (n : ℕ). take n asked) (c.in_ok-course.ensures.done ∙ ap length records)
     ∙ take_again (c.args.place - 1) asked)
