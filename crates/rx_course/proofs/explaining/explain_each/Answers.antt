@@ -1,7 +1,10 @@
--- One more transaction is explained.
-use Rattle.std.proofs.Common.{◌<◌, length, arith, rules}
+-- One more transaction is explained; at the end all of them are.
+use Rattle.std.proofs.Common.{◌≡◌, ◌<◌, List, length, take, subst, arith, rules}
+use Rattle.std.proofs.lemmas.List.{take_all}
+use Rattle.std.specs.List.{AllZip}
 use Rattle.rx_explain.specs.Explained.{IsExplained}
 use Rattle.rx_explain.specs.Spots.{spot_at}
+use Rattle.rx_explain.specs.declared.at.At.{At}
 use Rattle.rx_course.proofs.Listed.{zipped_more}
 use Rattle.rx_course.proofs.explaining.explain_each.Goals as goal
 
@@ -22,3 +25,13 @@ loop-nth-preserved c =
           within c.place_at-at.ensures c.loop-nth.invariant.explained
           (c.in_ok-explanation.ensures opening c.in_ok-next.ensures.ledger c.requires.events));
     }
+
+pub returns : goal.returns
+returns c =
+    let asked = c.args.asked.now in
+    let opening = c.args.opening.now.ledger in
+    let places = c.args.places.now in
+    let all : take c.loop-nth.nth places ≡ places = take_all c.loop-nth.nth places (omega arith) in
+    subst (λ (ps : List At).
+    AllZip (λ at x. IsExplained c.args.lot c.args.sheet.now asked opening at (spot_at asked at) x) ps c.loop-nth.explanations.items)
+    all c.loop-nth.invariant.explained
