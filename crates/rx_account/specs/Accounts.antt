@@ -4,6 +4,7 @@ use Rattle.std.specs.List.{filter}
 use Rattle.rx_account.specs.declared.portion.Portion.{Portion}
 use Rattle.rx_account.specs.declared.portion.Portion.TheVariants as portion
 use Rattle.rx_account.specs.declared.section.Section.{Section}
+use Rattle.rx_account.specs.Groups.{lines_at}
 use Rattle.rx_report.specs.declared.line.Line.{Line}
 use Rattle.rx_report.specs.Lines.{answer_of}
 use Rattle.rx_settle.specs.Answers.{tally}
@@ -28,22 +29,34 @@ is_in portion.Whole l = true
 is_in (portion.Provider id) l = names_provider id.now l.provider
 is_in (portion.Family id) l = names_family id.now l
 
--- a provider with its tally
-abbrev pub head_of : Section → List ℕ × Tally
-head_of s = (s.provider, s.tally)
+-- a section's provider, what its answers come to, and its lines
+abbrev pub parts_of : Section → List ℕ × (Tally × List Line)
+parts_of s = (s.provider, (s.tally, s.lines.now))
+
+-- a provider of a settlement with its tally, and the lines of its group
+abbrev pub with_lines : List (List ℕ × List Line) → List ℕ × Tally → List ℕ × (Tally × List Line)
+with_lines groups e = (e.0, (e.1, lines_at e.0 groups))
+
+-- a provider's group with what its lines come to
+abbrev pub with_tally : List ℕ × List Line → List ℕ × (Tally × List Line)
+with_tally g = (g.0, (tally (map answer_of g.1), g.1))
 
 -- the tally is of the provider with this id
 abbrev pub is_of : List ℕ → List ℕ × Tally → Bool
 is_of id e = names_provider id e.0
 
-abbrev pub first_tally : List (List ℕ × Tally) → Tally
+abbrev pub first_tally : List (List ℕ × (Tally × List Line)) → Tally
 first_tally [] = tally []
-first_tally (e ∷ es) = e.1
+first_tally (e ∷ es) = e.1.0
 
--- an account's providers with their tallies, and its total: of a whole batch its settlement's; of one provider its line
--- of that; of a family what the lines come to
-abbrev pub IsAccount : Portion → Settled → List Line → List (List ℕ × Tally) → Tally → Type 0
-IsAccount portion.Whole t kept heads total = (heads ≡ t.providers.entries) × (total ≡ t.total)
-IsAccount (portion.Provider id) t kept heads total =
-    (heads ≡ filter (is_of id.now) t.providers.entries) × (total ≡ first_tally heads)
-IsAccount (portion.Family id) t kept heads total = total ≡ tally (map answer_of kept)
+-- an account's sections and its total. Of a whole batch each provider of the settlement has its section, and the total is
+-- the settlement's; of one provider there is its section, and its tally; of a family each provider of its lines has its
+-- section, and each tally is what lines come to
+abbrev pub IsAccount : Portion → Settled → List Line → List (List ℕ × List Line) → List (List ℕ × (Tally × List Line)) → Tally
+    → Type 0
+IsAccount portion.Whole t kept groups sections total =
+    (sections ≡ map (with_lines groups) t.providers.entries) × (total ≡ t.total)
+IsAccount (portion.Provider id) t kept groups sections total =
+    (sections ≡ map (with_lines groups) (filter (is_of id.now) t.providers.entries)) × (total ≡ first_tally sections)
+IsAccount (portion.Family id) t kept groups sections total =
+    (sections ≡ map with_tally groups) × (total ≡ tally (map answer_of kept))

@@ -1,2 +1,4 @@
 -- Plumbing: which files there are.
 pub mod Accounts
+pub mod Adding
+pub mod Groups

@@ -1,6 +1,6 @@
 ghost use Rattle.std.specs.Prelude.{◌≡◌, IfOk, map};
 ghost use Rattle.std.specs.List.{filter};
-ghost use Rattle.rx_account.specs.Accounts.{IsAccount, first_tally, head_of, is_of};
+ghost use Rattle.rx_account.specs.Accounts.{IsAccount, first_tally, is_of, parts_of, with_lines, with_tally};
 
 use crate::groups::Groups;
 use crate::portion::{Portion, names_provider};
@@ -20,7 +20,8 @@ pub fn account_of<'a>(
     kept: &[Line],
     groups: &'a Groups,
 ) -> Result<Account<'a>, Memory>
-    ensures { IfOk result (λ account. IsAccount portion.entry settled.now kept.now (map head_of account.sections.items) account.total) }
+    ensures { IfOk result (λ account.
+        IsAccount portion.entry settled.now kept.now groups.now (map parts_of account.sections.items) account.total) }
 {
     match portion {
         Portion::Whole => Ok(Account {
@@ -45,17 +46,14 @@ fn each_settled<'a>(
     tallies: &ByProvider,
     groups: &'a Groups,
 ) -> Result<Vec<Section<'a>>, Memory>
-    ensures { IfOk result (λ sections. map head_of sections.items ≡ tallies.now.entries) }
+    ensures { IfOk result (λ sections. map parts_of sections.items ≡ map (with_lines groups.now) tallies.now.entries) }
 {
     let mut sections = Vec::new(alloc);
-    let mut rest = groups.lines();
     for (provider, tally) in tallies {
-        let (lines, others) = first_lines(rest, groups.count(provider));
-        rest = others;
         sections.push(Section {
             provider: *provider,
             tally: *tally,
-            lines,
+            lines: groups.lines_of(provider),
         })?;
     }
     Ok(sections)
@@ -68,7 +66,8 @@ fn one_settled<'a>(
     tallies: &ByProvider,
     groups: &'a Groups,
 ) -> Result<Vec<Section<'a>>, Memory>
-    ensures { IfOk result (λ sections. map head_of sections.items ≡ filter (is_of id.now) tallies.now.entries) }
+    ensures { IfOk result (λ sections.
+        map parts_of sections.items ≡ map (with_lines groups.now) (filter (is_of id.now) tallies.now.entries)) }
 {
     let mut sections = Vec::new(alloc);
     for (provider, tally) in tallies {
@@ -76,7 +75,7 @@ fn one_settled<'a>(
             sections.push(Section {
                 provider: *provider,
                 tally: *tally,
-                lines: groups.lines(),
+                lines: groups.lines_of(provider),
             })?;
         }
     }
@@ -84,7 +83,7 @@ fn one_settled<'a>(
 }
 
 fn first_tally(sections: &[Section<'_>]) -> Tally
-    ensures { result ≡ first_tally (map head_of sections.now) }
+    ensures { result ≡ first_tally (map parts_of sections.now) }
 {
     match sections {
         [first, ..] => first.tally,
@@ -93,26 +92,16 @@ fn first_tally(sections: &[Section<'_>]) -> Tally
 }
 
 // A section for each provider of some lines, with what those come to.
-fn each_told<'a>(alloc: Global, groups: &'a Groups) -> Result<Vec<Section<'a>>, Memory> {
+fn each_told<'a>(alloc: Global, groups: &'a Groups) -> Result<Vec<Section<'a>>, Memory>
+    ensures { IfOk result (λ sections. map parts_of sections.items ≡ map with_tally groups.now) }
+{
     let mut sections = Vec::new(alloc);
-    let mut rest = groups.lines();
-    for (provider, count) in groups.counts() {
-        let (lines, others) = first_lines(rest, *count);
-        rest = others;
+    for (provider, lines) in groups.by_provider() {
         sections.push(Section {
             provider: *provider,
             tally: tally_lines(lines),
-            lines,
+            lines: lines.as_slice(),
         })?;
     }
     Ok(sections)
-}
-
-// So many lines, or all where there are no more, and those behind them.
-fn first_lines(lines: &[Line], count: usize) -> (&[Line], &[Line]) {
-    if count < lines.len() {
-        lines.split_at(count)
-    } else {
-        (lines, &[])
-    }
 }

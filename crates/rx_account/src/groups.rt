@@ -1,80 +1,80 @@
+ghost use Rattle.std.specs.Prelude.{◌≡◌, IfOk, OnOk};
+ghost use Rattle.rx_account.specs.Adding.{added, groups_in};
+ghost use Rattle.rx_account.specs.Groups.{grouped, lines_at};
+
 use indexmap::IndexMap;
 use rx_fields::Memory;
 use rx_report::Line;
 use rx_settle::{Field, known_or_blank};
 use std::alloc::Global;
+use std::marker::Model;
+
+// The lines of each provider, in file order; the providers in order of first appearance.
+type ByProvider = IndexMap<Field, Vec<Line>>;
 
 /// Lines by provider, in order of first appearance.
 #[derive(Drop)]
 pub struct Groups {
-    // How many lines each provider has.
-    counts: IndexMap<Field, usize>,
-    // The lines, each behind those of its provider that came before it.
-    lines: Vec<Line>,
+    by_provider: ByProvider,
 }
 
-// Where a line goes: behind the lines of earlier providers, and behind the earlier ones of its own.
-#[derive(Clone, Copy, Debug, PartialEq, Eq, PartialOrd, Ord)]
-struct Place {
-    provider: usize,
-    at: usize,
+impl Model for Groups {
+    ghost use Rattle.std.specs.Prelude.{ℕ, List};
+    ghost use Rattle.rx_account.specs.Adding.{groups_in};
+    ghost use Rattle.rx_report.specs.declared.line.Line.{Line};
+
+    ghost Value = { List (List ℕ × List Line) };
+
+    ghost view = { λ g. groups_in g.by_provider.entries };
 }
 
 impl Groups {
-    /// The lines, each behind those of its provider.
-    pub fn new(alloc: Global, lines: &[Line]) -> Result<Groups, Memory> {
-        let mut counts = IndexMap::new(alloc);
-        let mut places = Vec::with_capacity(alloc, lines.len())?;
-        for (at, line) in lines.iter().enumerate() {
-            let provider = count(&mut counts, known_or_blank(line.provider))?;
-            places.push(Place { provider, at })?;
+    /// Each provider with its lines, in file order.
+    pub fn new(alloc: Global, lines: &[Line]) -> Result<Groups, Memory>
+        ensures { IfOk result (λ groups. groups ≡ grouped lines.now) }
+    {
+        let mut by_provider = IndexMap::new(alloc);
+        for line in lines {
+            let provider = known_or_blank(line.provider);
+            put_behind(alloc, &mut by_provider, provider, *line)?;
         }
-        places.sort()?;
-        let lines = lines_at(alloc, lines, &places)?;
-        Ok(Groups { counts, lines })
+        Ok(Groups { by_provider })
     }
 
-    /// All lines.
-    pub fn lines(&self) -> &[Line] {
-        self.lines.as_slice()
-    }
-
-    /// How many lines a provider has.
-    pub fn count(&self, provider: &Field) -> usize {
-        match self.counts.get(provider) {
-            Some(count) => *count,
-            None => 0,
+    /// The lines of a provider, whose field is filled with blanks.
+    pub fn lines_of(&self, provider: &Field) -> &[Line]
+        ensures { result.now ≡ lines_at provider.now self.now }
+    {
+        match self.by_provider.get(provider) {
+            Some(lines) => lines.as_slice(),
+            None => &[],
         }
     }
 
-    // The providers, with how many lines each has.
-    pub(crate) fn counts(&self) -> &IndexMap<Field, usize> {
-        &self.counts
+    // The providers with their lines.
+    pub(crate) fn by_provider(&self) -> &ByProvider
+        ensures { groups_in result.now.entries ≡ self.now }
+    {
+        &self.by_provider
     }
 }
 
-// Counts one more line of the provider, and gives its place among the providers.
-fn count(counts: &mut IndexMap<Field, usize>, provider: Field) -> Result<usize, Memory> {
-    match counts.get_index_of(&provider) {
-        Some(at) => {
-            counts[at] = counts[at].saturating_add(1);
-            Ok(at)
-        }
+// Puts an item behind those of its provider.
+fn put_behind<T: Copy + Drop>(
+    alloc: Global,
+    groups: &mut IndexMap<Field, Vec<T>>,
+    provider: Field,
+    item: T,
+) -> Result<(), Memory>
+    ensures { OnOk result (groups_in groups.new.entries ≡ added provider item (groups_in groups.old.entries)) }
+{
+    match groups.get_index_of(&provider) {
+        Some(at) => groups[at].push(item)?,
         None => {
-            let at = counts.len();
-            counts.insert(provider, 1)?;
-            Ok(at)
+            let mut items = Vec::new(alloc);
+            items.push(item)?;
+            groups.insert(provider, items)?;
         }
     }
-}
-
-// The lines in the order of the places.
-fn lines_at(alloc: Global, lines: &[Line], places: &[Place]) -> Result<Vec<Line>, Memory> {
-    let mut ordered = Vec::with_capacity(alloc, lines.len())?;
-    for place in places {
-        if let Some(line) = lines.get(place.at) {
-            ordered.push(*line)?;
-        }
-    }
-    Ok(ordered)
+    Ok(())
 }

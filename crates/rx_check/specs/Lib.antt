@@ -1,3 +1,4 @@
 -- Plumbing: which files there are.
 pub mod Found
+pub mod Likeness
 pub mod Warned

@@ -1,10 +1,12 @@
 -- Meaning: what a run takes and an operator would hardly mean.
-use Rattle.std.specs.Prelude.{◌≡◌, ℕ, ◌+◌, ◌/◌, ◌<◌, Bool, true, false, not, ◌&&◌, ◌==◌, nat_eq, nat_le, nat_lt, if◌then◌else◌, List, [], ◌∷◌, take, length, map, sum, count_by, slice_range, Option, Some, None}
+use Rattle.std.specs.Prelude.{◌≡◌, ℕ, ◌+◌, ◌/◌, ◌<◌, Bool, true, false, not, ◌&&◌, ◌==◌, nat_eq, nat_le, nat_lt, if◌then◌else◌, List, [], ◌∷◌, take, length, map, sum, count_by, slice_range, is_none}
 use Rattle.std.specs.Cmp.Lexicographic.{pointwise}
 use Rattle.std.specs.List.{list_any}
 use Rattle.rx_batch.specs.declared.detail.Detail.{Detail}
 use Rattle.rx_fields.specs.declared.door.Door.{Door}
 use Rattle.rx_ledger.specs.declared.row.Row.{Row}
+use Rattle.rx_check.specs.declared.warnings.TheConstants.{MANY_LINES}
+use Rattle.rx_check.specs.declared.warnings.Warnings.{Warnings}
 
 -- how many line feeds a text has
 abbrev pub feeds : List ℕ → ℕ
@@ -33,3 +35,13 @@ groups d = count_by (λ b. b == 29) d.text
 -- books of so many lines could have more than 1,000,000 after these records
 abbrev pub may_pass : ℕ → List Detail → Bool
 may_pass lines details = nat_lt 1_000_000 (lines + sum (map groups details))
+
+-- books of so many lines are near their limit
+abbrev pub has_many_lines : ℕ → Bool
+has_many_lines lines = nat_lt MANY_LINES lines
+
+-- none of the six warnings is given
+abbrev pub warns_of_nothing : Warnings → Bool
+warns_of_nothing w =
+    length w.ignored.items == 0 && is_none w.period && not w.none_under && w.adjudicated == 0 && not (has_many_lines w.lines)
+    && not w.may_pass

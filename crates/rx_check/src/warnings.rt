@@ -1,3 +1,6 @@
+ghost use Rattle.std.specs.Prelude.{◌≡◌};
+ghost use Rattle.rx_check.specs.Warned.{has_many_lines, warns_of_nothing};
+
 use crate::ignored::ignored_keys;
 use crate::warned::{adjudicated, feeds, has_none_under, may_pass, period_apart};
 use rx_batch::Batch;
@@ -40,7 +43,9 @@ impl Warnings {
     }
 
     /// Whether there is none.
-    pub fn is_empty(&self) -> bool {
+    pub fn is_empty(&self) -> bool
+        ensures { result ≡ warns_of_nothing self.now }
+    {
         self.ignored.is_empty()
             && self.period.is_none()
             && !self.none_under
@@ -50,7 +55,9 @@ impl Warnings {
     }
 
     /// Whether the books have more than 900,000 lines.
-    pub fn has_many_lines(&self) -> bool {
+    pub fn has_many_lines(&self) -> bool
+        ensures { result ≡ has_many_lines self.now.lines }
+    {
         self.lines > MANY_LINES
     }
 

@@ -7,6 +7,12 @@ use Rattle.rx_report_text.specs.declared.shown.Shown.{Shown}
 use Rattle.rx_report_text.specs.declared.shown.Shown.TheVariants as shown
 use Rattle.rx_report_text.specs.Money.{dollars}
 
+-- the columns, in order
+abbrev pub columns : List Shown
+columns =
+    shown.Record ∷ shown.Answer ∷ shown.Codes ∷ shown.Prescription ∷ shown.Date ∷ shown.Member ∷ shown.Allowed
+    ∷ shown.Deductible ∷ shown.Copay ∷ shown.Coinsurance ∷ shown.MemberPays ∷ shown.PlanPays ∷ []
+
 abbrev pub heading_of : Shown → List ℕ
 heading_of shown.Record = codes "record"
 heading_of shown.Answer = codes "ans"

@@ -1,11 +1,15 @@
-ghost use Rattle.std.specs.Prelude.{◌≡◌, ◌++◌, IfOk, OnOk};
+ghost use Rattle.std.specs.Prelude.{◌≡◌, ◌++◌, ◌∷◌, codes, replicate, IfOk, OnOk};
+ghost use Rattle.std.specs.List.{flat_map};
+ghost use Rattle.std.specs.String.{string_bytes};
 ghost use Rattle.rx_escape.specs.Escape.{escaped};
 ghost use Rattle.rx_escape.specs.declared.style.Style.TheVariants.{Terminal};
-ghost use Rattle.rx_report_text.specs.Shown.{shown_cell};
+ghost use Rattle.rx_report_text.specs.Columns.{account_text, aligned, columns_text, heading_cell, headings, is_right};
+ghost use Rattle.rx_report_text.specs.Columns.{line_cell, line_row, row, scope_text, section_text, tally_counts, tally_line, without_end};
 ghost use Rattle.rx_settle.specs.Providers.{named};
 
 use crate::money::put_net;
-use crate::shown::{COLUMNS, Shown, shown_cell};
+use crate::shown::Shown;
+use crate::wide::{Wide, printed, wide_columns};
 use rx_account::{Account, Portion, Section};
 use rx_escape::{Style, put_escaped};
 use rx_fields::{Memory, Provider};
@@ -13,71 +17,66 @@ use rx_report::Line;
 use rx_settle::{Field, Tally};
 use std::alloc::{AllocError, Global};
 
-// The width of each column, in bytes.
-type Widths = [usize; 12];
-
 /// The account in aligned columns: for each provider its counts and net, and its lines behind them; last those of all.
 /// Bytes that a terminal wouldn't print stand as `\x1B`.
 pub fn columns_text(
     alloc: Global,
     portion: Portion<'_>,
     account: &Account<'_>,
-) -> Result<Vec<u8>, Memory> {
-    let widths = widths_of(alloc, account)?;
+) -> Result<Vec<u8>, Memory>
+    ensures { IfOk result (λ text. text.items ≡ columns_text portion.entry account.now) }
+{
+    let columns = wide_columns(alloc, &account.sections)?;
     let mut text = Vec::new(alloc);
-    for section in &account.sections {
-        put_section(alloc, &mut text, &widths, section)?;
-    }
-    put_scope(&mut text, portion)?;
-    put_tally(alloc, &mut text, &account.total)?;
+    put_account(alloc, &mut text, &columns, portion, account)?;
     Ok(text)
 }
 
-fn widths_of(alloc: Global, account: &Account<'_>) -> Result<Widths, AllocError> {
-    let mut widths = [0; 12];
-    for at in 0..COLUMNS.len() {
-        widths[at] = COLUMNS[at].heading().len();
-    }
-    for section in &account.sections {
-        for line in section.lines {
-            widen(alloc, &mut widths, line)?;
-        }
-    }
-    Ok(widths)
+// The sections, and what all come to.
+#[tactic(auto, using(std::proofs::Common::append_assoc), unfolding(crate::specs::Columns::account_text))]
+fn put_account(
+    alloc: Global,
+    text: &mut Vec<u8>,
+    columns: &[Wide],
+    portion: Portion<'_>,
+    account: &Account<'_>,
+) -> Result<(), AllocError>
+    ensures { OnOk result (text.new.items ≡ text.old.items ++ account_text columns.now portion.entry account.now) }
+{
+    put_sections(alloc, text, columns, &account.sections)?;
+    put_scope(text, portion)?;
+    put_tally(alloc, text, &account.total)
 }
 
-// Makes room for the cells of a line.
-fn widen(alloc: Global, widths: &mut Widths, line: &Line) -> Result<(), AllocError> {
-    for at in 0..COLUMNS.len() {
-        widths[at] = widths[at].max(printed(alloc, COLUMNS[at], line)?.len());
+fn put_sections(
+    alloc: Global,
+    text: &mut Vec<u8>,
+    columns: &[Wide],
+    sections: &[Section<'_>],
+) -> Result<(), AllocError>
+    ensures { OnOk result (text.new.items ≡ text.old.items ++ flat_map (section_text columns.now) sections.now) }
+{
+    for section in sections {
+        put_section(alloc, text, columns, section)?;
     }
     Ok(())
 }
 
-// What is printed for an answer in a column.
-fn printed(alloc: Global, shown: Shown, line: &Line) -> Result<Vec<u8>, AllocError>
-    ensures { IfOk result (λ text. text.items ≡ escaped Terminal (shown_cell shown line.now)) }
-{
-    let cell = shown_cell(alloc, shown, line)?;
-    let mut text = Vec::new(alloc);
-    put_escaped(&mut text, Style::Terminal, &cell)?;
-    Ok(text)
-}
-
 // A provider with what its answers come to, its lines, and an empty line.
+#[tactic(auto, using(std::proofs::Common::append_assoc), unfolding(crate::specs::Columns::section_text))]
 fn put_section(
     alloc: Global,
     text: &mut Vec<u8>,
-    widths: &Widths,
+    columns: &[Wide],
     section: &Section<'_>,
-) -> Result<(), AllocError> {
+) -> Result<(), AllocError>
+    ensures { OnOk result (text.new.items ≡ text.old.items ++ section_text columns.now section.now) }
+{
     text.extend_from_slice(b"provider ")?;
     put_provider(text, &section.provider)?;
     put_tally(alloc, text, &section.tally)?;
-    put_headings(alloc, text, widths)?;
-    for line in section.lines {
-        put_line(alloc, text, widths, line)?;
-    }
+    put_headings(alloc, text, columns)?;
+    put_lines(alloc, text, columns, section.lines)?;
     text.extend_from_slice(b"\n")
 }
 
@@ -92,22 +91,38 @@ fn put_provider(text: &mut Vec<u8>, field: &Field) -> Result<(), AllocError>
 }
 
 // Of whom the last line tells.
-fn put_scope(text: &mut Vec<u8>, portion: Portion<'_>) -> Result<(), AllocError> {
+fn put_scope(text: &mut Vec<u8>, portion: Portion<'_>) -> Result<(), AllocError>
+    ensures { OnOk result (text.new.items ≡ text.old.items ++ scope_text portion.entry) }
+{
     match portion {
         Portion::Whole => text.extend_from_slice(b"all"),
-        Portion::Provider(id) => {
-            text.extend_from_slice(b"all of provider ")?;
-            put_escaped(text, Style::Terminal, id)
-        }
-        Portion::Family(id) => {
-            text.extend_from_slice(b"the lines shown, of family ")?;
-            put_escaped(text, Style::Terminal, id)
-        }
+        Portion::Provider(id) => put_named(text, b"all of provider ", id),
+        Portion::Family(id) => put_named(text, b"the lines shown, of family ", id),
     }
 }
 
+#[tactic(auto, using(std::proofs::Common::append_assoc))]
+fn put_named(text: &mut Vec<u8>, front: &[u8], id: &[u8]) -> Result<(), AllocError>
+    ensures { OnOk result (text.new.items ≡ text.old.items ++ (front.now ++ escaped Terminal id.now)) }
+{
+    text.extend_from_slice(front)?;
+    put_escaped(text, Style::Terminal, id)
+}
+
 // The counts and the net, and the line's end.
-fn put_tally(alloc: Global, text: &mut Vec<u8>, tally: &Tally) -> Result<(), AllocError> {
+#[tactic(auto, using(std::proofs::Common::append_assoc), unfolding(crate::specs::Columns::tally_line))]
+fn put_tally(alloc: Global, text: &mut Vec<u8>, tally: &Tally) -> Result<(), AllocError>
+    ensures { OnOk result (text.new.items ≡ text.old.items ++ tally_line tally.now) }
+{
+    let counts = counts(alloc, tally)?;
+    text.extend_from_slice(counts.as_str().as_bytes())?;
+    put_net(alloc, text, tally)?;
+    text.extend_from_slice(b"\n")
+}
+
+fn counts(alloc: Global, tally: &Tally) -> Result<String, AllocError>
+    ensures { IfOk result (λ s. string_bytes s ≡ tally_counts tally.now) }
+{
     let Tally {
         paid,
         duplicate,
@@ -115,63 +130,130 @@ fn put_tally(alloc: Global, text: &mut Vec<u8>, tally: &Tally) -> Result<(), All
         rejected,
         ..
     } = *tally;
-    let counts = format!(in alloc;
+    format!(in alloc;
         ": {paid} paid, {duplicate} duplicate, {approved} reversed, {rejected} rejected, net "
-    )?;
-    text.extend_from_slice(counts.as_str().as_bytes())?;
-    put_net(alloc, text, tally)?;
-    text.extend_from_slice(b"\n")
+    )
 }
 
-fn put_headings(alloc: Global, text: &mut Vec<u8>, widths: &Widths) -> Result<(), AllocError> {
-    let mut row = Vec::new(alloc);
-    for (width, shown) in widths.iter().zip(COLUMNS) {
-        put_aligned(&mut row, shown, *width, shown.heading())?;
-    }
-    put_row(text, &row)
+#[tactic(auto, unfolding(crate::specs::Columns::headings))]
+fn put_headings(alloc: Global, text: &mut Vec<u8>, columns: &[Wide]) -> Result<(), AllocError>
+    ensures { OnOk result (text.new.items ≡ text.old.items ++ headings columns.now) }
+{
+    let mut cells = Vec::new(alloc);
+    put_heading_cells(&mut cells, columns)?;
+    put_row(text, &cells)
 }
 
-fn put_line(
-    alloc: Global,
-    text: &mut Vec<u8>,
-    widths: &Widths,
-    line: &Line,
-) -> Result<(), AllocError> {
-    let mut row = Vec::new(alloc);
-    for (width, shown) in widths.iter().zip(COLUMNS) {
-        let cell = printed(alloc, shown, line)?;
-        put_aligned(&mut row, shown, *width, &cell)?;
-    }
-    put_row(text, &row)
-}
-
-// A cell in its width behind two blanks: amounts and places to the right, other cells to the left.
-fn put_aligned(
-    row: &mut Vec<u8>,
-    shown: Shown,
-    width: usize,
-    cell: &[u8],
-) -> Result<(), AllocError> {
-    let room = width.saturating_sub(cell.len());
-    row.extend_from_slice(b"  ")?;
-    if shown.is_amount() || shown == Shown::Record {
-        put_blanks(row, room)?;
-        row.extend_from_slice(cell)
-    } else {
-        row.extend_from_slice(cell)?;
-        put_blanks(row, room)
-    }
-}
-
-fn put_blanks(row: &mut Vec<u8>, count: usize) -> Result<(), AllocError> {
-    for _ in 0..count {
-        row.push(b' ')?;
+fn put_heading_cells(cells: &mut Vec<u8>, columns: &[Wide]) -> Result<(), AllocError>
+    ensures { OnOk result (cells.new.items ≡ cells.old.items ++ flat_map heading_cell columns.now) }
+{
+    for column in columns {
+        put_aligned(cells, *column, column.shown.heading())?;
     }
     Ok(())
 }
 
-// The row without the blanks at its end.
-fn put_row(text: &mut Vec<u8>, row: &[u8]) -> Result<(), AllocError> {
-    text.extend_from_slice(row.trim_ascii_end())?;
-    text.extend_from_slice(b"\n")
+fn put_lines(
+    alloc: Global,
+    text: &mut Vec<u8>,
+    columns: &[Wide],
+    lines: &[Line],
+) -> Result<(), AllocError>
+    ensures { OnOk result (text.new.items ≡ text.old.items ++ flat_map (line_row columns.now) lines.now) }
+{
+    for line in lines {
+        put_line(alloc, text, columns, line)?;
+    }
+    Ok(())
+}
+
+#[tactic(auto, unfolding(crate::specs::Columns::line_row))]
+fn put_line(
+    alloc: Global,
+    text: &mut Vec<u8>,
+    columns: &[Wide],
+    line: &Line,
+) -> Result<(), AllocError>
+    ensures { OnOk result (text.new.items ≡ text.old.items ++ line_row columns.now line.now) }
+{
+    let mut cells = Vec::new(alloc);
+    put_line_cells(alloc, &mut cells, columns, line)?;
+    put_row(text, &cells)
+}
+
+fn put_line_cells(
+    alloc: Global,
+    cells: &mut Vec<u8>,
+    columns: &[Wide],
+    line: &Line,
+) -> Result<(), AllocError>
+    ensures { OnOk result (cells.new.items ≡ cells.old.items ++ flat_map (line_cell line.now) columns.now) }
+{
+    for column in columns {
+        put_line_cell(alloc, cells, *column, line)?;
+    }
+    Ok(())
+}
+
+fn put_line_cell(
+    alloc: Global,
+    cells: &mut Vec<u8>,
+    column: Wide,
+    line: &Line,
+) -> Result<(), AllocError>
+    ensures { OnOk result (cells.new.items ≡ cells.old.items ++ line_cell line.now column) }
+{
+    let cell = printed(alloc, column.shown, line)?;
+    put_aligned(cells, column, &cell)
+}
+
+// A cell in its width behind two blanks.
+#[tactic(auto, using(std::proofs::Common::append_assoc))]
+fn put_aligned(cells: &mut Vec<u8>, column: Wide, cell: &[u8]) -> Result<(), AllocError>
+    ensures { OnOk result (cells.new.items ≡ cells.old.items ++ aligned column cell.now) }
+{
+    let room = column.width.saturating_sub(cell.len());
+    cells.extend_from_slice(b"  ")?;
+    if is_right(column.shown) {
+        put_blanks(cells, room)?;
+        cells.extend_from_slice(cell)
+    } else {
+        cells.extend_from_slice(cell)?;
+        put_blanks(cells, room)
+    }
+}
+
+// Places and amounts stand to the right.
+fn is_right(shown: Shown) -> bool
+    ensures { result ≡ is_right shown }
+{
+    match shown {
+        Shown::Record => true,
+        _ => shown.is_amount(),
+    }
+}
+
+fn put_blanks(cells: &mut Vec<u8>, count: usize) -> Result<(), AllocError>
+    ensures { OnOk result (cells.new.items ≡ cells.old.items ++ replicate count 32) }
+{
+    'blanks: for _ in 0..count {
+        cells.push(b' ')?;
+    }
+    Ok(())
+}
+
+// The cells without the blanks at their end, and the line's end.
+#[tactic(auto, using(std::proofs::Common::append_assoc))]
+fn put_row(text: &mut Vec<u8>, cells: &[u8]) -> Result<(), AllocError>
+    ensures { OnOk result (text.new.items ≡ text.old.items ++ row cells.now) }
+{
+    text.extend_from_slice(without_end(cells))?;
+    text.push(b'\n')?;
+    Ok(())
+}
+
+fn without_end(cells: &[u8]) -> &[u8]
+    ensures { result.now ≡ without_end cells.now }
+{
+    cells.trim_ascii_end()
 }

@@ -15,6 +15,7 @@ mod columns;
 mod json;
 mod money;
 mod shown;
+mod wide;
 
 pub use columns::columns_text;
 pub use json::json_text;

@@ -66,8 +66,8 @@ fn starts_before(text: &[u8], byte: u64) -> u64
     before.iter().filter(|b| **b == 2).count() as u64
 }
 
-// The first so many bytes, or all.
-fn front(text: &[u8], length: usize) -> &[u8]
+/// The first so many bytes, or all.
+pub(crate) fn front(text: &[u8], length: usize) -> &[u8]
     ensures { result.now ≡ take length text.now }
 {
     if length < text.len() {

@@ -1,3 +1,8 @@
+ghost use Rattle.std.specs.Prelude.{◌≡◌, ◌++◌, IfOk, OnOk, string_bytes};
+ghost use Rattle.rx_told.specs.Quoting.{byte_text, bytes_text, number_text, quoted_text};
+
+use crate::place::front;
+use rx_show::hexadecimal;
 use std::alloc::{AllocError, Global};
 
 // How many bytes of a quotation are shown.
@@ -5,12 +10,11 @@ const LONGEST: usize = 60;
 
 /// The bytes in quotes, on one line: what isn't printable ASCII as two hexadecimal digits in angle brackets, and of a
 /// long one the front alone.
-pub fn quoted(alloc: Global, bytes: &[u8]) -> Result<String, AllocError> {
-    let mut text = String::new(alloc);
-    text.push('"')?;
-    for byte in bytes.iter().take(LONGEST) {
-        put_byte(alloc, &mut text, *byte)?;
-    }
+pub fn quoted(alloc: Global, bytes: &[u8]) -> Result<String, AllocError>
+    ensures { IfOk result (λ text. string_bytes text ≡ quoted_text bytes.now) }
+{
+    let mut text = String::from_str(alloc, "\"")?;
+    put_bytes(&mut text, front(bytes, LONGEST))?;
     if bytes.len() > LONGEST {
         text.push_str("..")?;
     }
@@ -18,13 +22,36 @@ pub fn quoted(alloc: Global, bytes: &[u8]) -> Result<String, AllocError> {
     Ok(text)
 }
 
-// One byte, as it is shown.
-fn put_byte(alloc: Global, text: &mut String, byte: u8) -> Result<(), AllocError> {
-    if byte == b' ' || byte.is_ascii_graphic() {
-        return text.push(char::from(byte));
+// Bytes, as they are shown.
+fn put_bytes(text: &mut String, bytes: &[u8]) -> Result<(), AllocError>
+    ensures { OnOk result (string_bytes text.new ≡ string_bytes text.old ++ bytes_text bytes.now) }
+{
+    for byte in bytes {
+        put_byte(text, *byte)?;
     }
-    let digits = format!(in alloc; "<{byte:02X}>")?;
-    text.push_str(digits.as_str())
+    Ok(())
+}
+
+// One byte, as it is shown.
+fn put_byte(text: &mut String, byte: u8) -> Result<(), AllocError>
+    ensures { OnOk result (string_bytes text.new ≡ string_bytes text.old ++ byte_text byte) }
+{
+    if byte >= b' ' && byte <= b'~' {
+        text.push(char::from(byte))
+    } else {
+        put_number(text, byte)
+    }
+}
+
+// The number of a byte.
+#[tactic(auto, using(std::proofs::Common::append_assoc))]
+fn put_number(text: &mut String, byte: u8) -> Result<(), AllocError>
+    ensures { OnOk result (string_bytes text.new ≡ string_bytes text.old ++ number_text byte) }
+{
+    text.push('<')?;
+    text.push(char::from(hexadecimal(byte / 16)))?;
+    text.push(char::from(hexadecimal(byte % 16)))?;
+    text.push('>')
 }
 
 /// The bytes from one place up to another, as far as they are there.

@@ -1,0 +1,7 @@
+use Rattle.std.proofs.Common.{◌≡◌, ◌++◌, take}
+use Rattle.std.specs.List.{flat_map}
+use Rattle.rx_report_text.specs.Columns.{line_cell}
+use Rattle.rx_report_text.proofs.columns.put_line_cells.Given as goal
+
+abbrev pub invariant-loop-column : goal.invariant-loop-column
+invariant-loop-column l = l.cells.items ≡ l.fn.cells.items ++ flat_map (line_cell l.line) (take l.column-index l.columns)

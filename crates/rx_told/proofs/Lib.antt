@@ -1,0 +1,1 @@
+-- Plumbing: which files there are.
