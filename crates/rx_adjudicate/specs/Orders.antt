@@ -1,5 +1,6 @@
 -- Meaning: a record with the parcel that it is adjudicated on, and what comes of it.
 use Rattle.std.specs.Prelude.{◌≡◌, ℕ, ◌≤◌, true}
+use Rattle.rx_fields.specs.declared.limits.TheConstants.{MOST_DETAILS}
 use Rattle.rx_claim.specs.declared.reply.Reply.{Reply}
 use Rattle.rx_claim.specs.declared.transmission.Transmission.{Transmission}
 use Rattle.rx_ledger.specs.Fold.{ledger_after, reply_to}
@@ -25,7 +26,7 @@ pub record OrderParts : Type 0 where
 -- the place is one of a batch, and the parcel fits the record
 pub record IsOrder (o : OrderParts) : Type 0 where
   pub from_one : 1 ≤ o.place
-  pub in_batch : o.place ≤ 100_000
+  pub in_batch : o.place ≤ MOST_DETAILS
   pub fit : Fits o.transmission o.terms o.parcel
 
 -- what the record makes of the ledger of its books

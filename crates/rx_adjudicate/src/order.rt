@@ -1,4 +1,5 @@
 ghost use Rattle.std.specs.Prelude.{◌≡◌, ◌≤◌, ◌↔◌, IfOk, IsTrue};
+ghost use Rattle.rx_fields.specs.declared.limits.TheConstants.{MOST_DETAILS};
 ghost use Rattle.rx_adjudicate.specs.Orders.{Fits, IsOrder};
 
 use rx_claim::Transmission;
@@ -31,7 +32,7 @@ impl Order {
     /// The order of a record at a place of 1 to 100,000, with a parcel that fits it. It takes no memory.
     pub fn new(place: u64, transmission: Transmission, terms: Terms, parcel: Parcel) -> Order
         requires from_one { 1 ≤ place }
-        requires in_batch { place ≤ 100_000 }
+        requires in_batch { place ≤ MOST_DETAILS }
         requires fit { Fits transmission terms parcel }
         ensures { result ≡ record { place = place; transmission = transmission; terms = terms; parcel = parcel } }
     {

@@ -16,7 +16,7 @@ use Rattle.rx_batch.specs.declared.front.Stage.{Stage}
 use Rattle.rx_batch.specs.declared.front.Stage.TheVariants.{Start, Headed, Whole}
 use Rattle.rx_batch.specs.declared.head.Head.{Head}
 use Rattle.rx_batch.specs.declared.trailer.Trailer.{Trailer}
-use Rattle.rx_batch.specs.Fault.{◌>>=◌}
+use Rattle.rx_text.specs.Results.{◌>>=◌}
 use Rattle.rx_batch.specs.Header.{is_kind, head_of, trailer_of}
 use Rattle.rx_batch.specs.Grammar.{is_skipped, IsInside, record_text, with_record, header, detail, agreeing, trailer}
 use Rattle.rx_batch.specs.Grammar.{with_detail, with_trailer, record_of, record_at, IsFront, Spaced, spaced_text, IsGap}

@@ -13,7 +13,7 @@ use Rattle.rx_batch.specs.declared.fault.BatchFault.TheVariants as fault
 use Rattle.rx_batch.specs.declared.front.Front.{Front}
 use Rattle.rx_batch.specs.declared.front.Stage.{Stage}
 use Rattle.rx_batch.specs.declared.front.Stage.TheVariants.{Start, Headed, Whole}
-use Rattle.rx_batch.specs.Fault.{◌>>=◌}
+use Rattle.rx_text.specs.Results.{◌>>=◌}
 use Rattle.rx_batch.specs.Grammar.{is_skipped, is_mark, IsInside, record_text, past, record_of, record_at, IsFront}
 use Rattle.rx_batch.specs.Grammar.IsFront.{empty, skipped, good}
 use Rattle.rx_batch.specs.Reading.{is_whole, ended, stray, begins, closed, last, gap, unskipped, batch_after, batch_from, batch_of}

@@ -13,7 +13,8 @@ use Rattle.rx_batch.specs.declared.front.Front.{Front}
 use Rattle.rx_batch.specs.declared.front.Stage.{Stage}
 use Rattle.rx_batch.specs.declared.front.Stage.TheVariants.{Start, Headed, Whole}
 use Rattle.rx_batch.specs.declared.head.Head.{Head}
-use Rattle.rx_batch.specs.Fault.{Gives, UnlessMemory, ◌>>=◌}
+use Rattle.rx_text.specs.Results.{◌>>=◌}
+use Rattle.rx_batch.specs.Fault.{Gives, UnlessMemory}
 use Rattle.rx_batch.specs.Grammar.{is_skipped, is_mark, past, record_of, no_front, IsFile}
 use Rattle.rx_batch.specs.Grammar.IsFront.{empty}
 use Rattle.rx_batch.specs.Reading.{is_whole, stray, begins, batch_from, batch_of, FaultAfter, HasFault}

@@ -9,7 +9,8 @@ use Rattle.std.proofs.lemmas.Bool.Decides.{nat_tests}
 use Rattle.std.proofs.lemmas.List.{flat_map_more, take_all, take_more, take_at, drop_at, get_or-drop, length-replicate}
 use Rattle.std.proofs.lemmas.List.Elements.{All-nil, All-cons, All-head, All-tail, All-append, All-push, All-replicate}
 use Rattle.std.proofs.lemmas.List.Folds.{flat_map-map}
-use Rattle.rx_fields.specs.Digits.{is_digit, all_digits, number_of, digits_text}
+use Rattle.rx_text.specs.Bytes.{is_digit, all_digits}
+use Rattle.rx_fields.specs.Digits.{number_of, digits_text}
 use Rattle.rx_fields.specs.Calendar.{Civil, date_of, date_text}
 use Rattle.rx_fields.specs.Clock.{time_of, time_text}
 use Rattle.rx_fields.specs.Numbered.{LotParts}

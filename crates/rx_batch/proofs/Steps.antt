@@ -12,7 +12,8 @@ use Rattle.rx_batch.specs.declared.fault.BatchFault.{BatchFault}
 use Rattle.rx_batch.specs.declared.fault.BatchFault.TheVariants as fault
 use Rattle.rx_batch.specs.declared.front.Front.{Front}
 use Rattle.rx_batch.specs.declared.reader.Reader.{Reader}
-use Rattle.rx_batch.specs.Fault.{UnlessMemory, Gives, ◌>>=◌}
+use Rattle.rx_text.specs.Results.{◌>>=◌}
+use Rattle.rx_batch.specs.Fault.{UnlessMemory, Gives}
 use Rattle.rx_batch.specs.Grammar.{is_skipped, is_mark, IsInside, record_text, past, record_of, no_front}
 use Rattle.rx_batch.specs.Grammar.IsFront.{empty, skipped, good}
 use Rattle.rx_batch.specs.Reading.{is_whole, ended, stray, begins, batch_from, batch_of}

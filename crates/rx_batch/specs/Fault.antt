@@ -1,5 +1,7 @@
 -- Meaning: the numbers and places of the faults, and what a call answers that may want memory.
-use Rattle.std.specs.Prelude.{◌≡◌, ℕ, Option, Some, None, Result, Ok, Err, MatchResult}
+use Rattle.std.specs.Prelude.{ℕ, Bool, true, false, Option, Some, None, Result}
+use Rattle.rx_text.specs.Outcomes.{Unless}
+use Rattle.rx_text.specs.Outcomes as outcome
 use Rattle.rx_batch.specs.declared.fault.BatchFault.{BatchFault}
 use Rattle.rx_batch.specs.declared.fault.BatchFault.TheVariants as fault
 
@@ -35,21 +37,19 @@ place_of (fault.AfterTrailer at) = Some at
 place_of (fault.TooMuch at) = Some at
 place_of fault.Memory = None
 
+-- the fault is want of memory
+abbrev pub wants_memory : BatchFault → Bool
+wants_memory fault.Memory = true
+wants_memory other = false
+
 -- the fact, unless the fault is want of memory
 abbrev pub UnlessMemory : BatchFault → Type 0 → Type 0
-UnlessMemory fault.Memory P = Unit {0}
-UnlessMemory other P = P
+UnlessMemory f P = Unless (wants_memory f) P
 
 -- what a call answered is what the definition has, unless memory was wanting
 abbrev pub Gives : {X : Type 0} → Result X BatchFault → Result X BatchFault → Type 0
-Gives result meant = MatchResult result (λ x. meant ≡ Ok x) (λ f. UnlessMemory f (meant ≡ Err f))
+Gives result meant = outcome.Gives wants_memory result meant
 
 -- the value that a call put in place is the one that the definition has, unless memory was wanting
 abbrev pub Takes : {X : Type 0} → Result Unit BatchFault → X → Result X BatchFault → Type 0
-Takes result new meant = MatchResult result (λ _. meant ≡ Ok new) (λ f. UnlessMemory f (meant ≡ Err f))
-
--- the first step, and where it has no fault the next
-infixl 10 ◌>>=◌
-abbrev pub ◌>>=◌ : {A B : Type 0} → Result A BatchFault → (A → Result B BatchFault) → Result B BatchFault
-(Ok x) >>= f = f x
-(Err e) >>= f = Err e
+Takes result new meant = outcome.Takes wants_memory result new meant

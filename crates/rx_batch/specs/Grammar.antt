@@ -3,6 +3,7 @@ use Rattle.std.specs.Prelude.{◌≡◌, ◌≤◌, ◌⊎◌, ℕ, ◌+◌, Boo
 use Rattle.std.specs.Prelude.{[], ◌∷◌, ◌++◌, codes, length, drop, slice_range, All, Some, Result, Ok, Err}
 use Rattle.std.specs.List.{flat_map, AllZip}
 use Rattle.std.specs.Option.{ok_or}
+use Rattle.rx_fields.specs.declared.limits.TheConstants.{MOST_DETAILS}
 use Rattle.rx_batch.specs.declared.detail.Detail.{Detail}
 use Rattle.rx_batch.specs.declared.fault.BatchFault.{BatchFault}
 use Rattle.rx_batch.specs.declared.fault.BatchFault.TheVariants as fault
@@ -11,7 +12,7 @@ use Rattle.rx_batch.specs.declared.front.Stage.{Stage}
 use Rattle.rx_batch.specs.declared.front.Stage.TheVariants.{Start, Headed, Whole}
 use Rattle.rx_batch.specs.declared.head.Head.{Head}
 use Rattle.rx_batch.specs.declared.trailer.Trailer.{Trailer}
-use Rattle.rx_batch.specs.Fault.{◌>>=◌}
+use Rattle.rx_text.specs.Results.{◌>>=◌}
 use Rattle.rx_batch.specs.Header.{is_kind, head_of, trailer_of}
 
 -- CR and LF, which are skipped before, between and after records
@@ -47,7 +48,7 @@ header at body =
 abbrev pub detail : ℕ → List Detail → List ℕ → Result Detail BatchFault
 detail at details body =
     if nat_lt (length body) 12 then Err (fault.DetailShape at)
-    else (if nat_le 100_000 (length details) then Err (fault.TooMuch at)
+    else (if nat_le MOST_DETAILS (length details) then Err (fault.TooMuch at)
     else Ok (record { reference = slice_range body 2 12; text = drop 12 body }))
 
 -- the trailer: its batch number is the header's, and its count that of the details or two more
@@ -143,6 +144,6 @@ pub record IsFile (bytes : List ℕ) (head : Head) (details : List Detail) : Typ
   pub whole : bytes ≡ spaced_text header ++ (flat_map spaced_text records ++ (spaced_text trailer ++ gap))
   pub header_is : IsSpaced header × IsHeader header.body head
   pub details_are : AllZip (λ r d. IsSpaced r × IsDetail r.body d) records details
-  pub few : length details ≤ 100_000
+  pub few : length details ≤ MOST_DETAILS
   pub trailer_is : IsSpaced trailer × IsTrailer trailer.body head details
   pub gap_is : IsGap gap

@@ -4,6 +4,7 @@ use Rattle.std.specs.Prelude.{Option, Some, None}
 use Rattle.std.specs.List.{starts_with}
 use Rattle.std.specs.Option.{option_and_then}
 use Rattle.std.specs.Result.{result_ok}
+use Rattle.rx_text.specs.Options.{◌>>=◌}
 use Rattle.rx_fields.specs.Digits.{number_of}
 use Rattle.rx_fields.specs.Calendar.{date_of}
 use Rattle.rx_fields.specs.Clock.{time_of}
@@ -32,10 +33,6 @@ file_of b = if b == 80 then Some Production else (if b == 84 then Some Test else
 -- a record of this kind: its first two bytes
 abbrev pub is_kind : List ℕ → List ℕ → Bool
 is_kind two body = starts_with nat_eq body two
-
-infixl 10 ◌>>=◌
-abbrev pub ◌>>=◌ : {A B : Type 0} → Option A → (A → Option B) → Option B
-o >>= f = option_and_then f o
 
 -- the batch number and the creation date of their digits
 abbrev pub lot_in : List ℕ → List ℕ → Option LotParts

@@ -66,14 +66,6 @@ impl Text {
         self.bytes.is_empty()
     }
 
-    /// The bytes back, without taking memory.
-    pub fn into_vec(self) -> Vec<u8>
-        ensures { result.items ≡ self }
-    {
-        let Text { bytes } = self;
-        bytes
-    }
-
     // Puts bytes at the end.
     pub(crate) fn extend(&mut self, more: &[u8]) -> Result<(), AllocError>
         ensures ok { OnOk result (self.new ≡ self.old ++ more.now) }
@@ -96,14 +88,6 @@ impl Details {
         ensures { result.now ≡ self.now }
     {
         self.details.as_slice()
-    }
-
-    /// The details back, without taking memory.
-    pub fn into_vec(self) -> Vec<Detail>
-        ensures { result.items ≡ self }
-    {
-        let Details { details } = self;
-        details
     }
 
     /// The number of details.

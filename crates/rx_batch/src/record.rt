@@ -7,10 +7,8 @@ use crate::detail::{Detail, Text};
 use crate::fault::BatchFault;
 use crate::head::{FileType, Head, Kind};
 use crate::trailer::Trailer;
-use rx_fields::{Lot, Time, date_read, number_read};
+use rx_fields::{Lot, MOST_DETAILS, Time, date_read, number_read};
 use std::alloc::Global;
-
-const MOST_DETAILS: usize = 100_000;
 
 // The header that stands at this place, of its bytes between STX and ETX.
 pub(crate) fn header(at: u64, body: &[u8]) -> Result<Head, BatchFault>

@@ -1,4 +1,5 @@
 ghost use Rattle.std.specs.Prelude.{◌≡◌, ◌≤◌, ◌+◌, ◌<◌, ◌^◌, ◌++◌, length, vec_capacity, vec_len, Some, IfOk, OnErr, OnOk};
+ghost use Rattle.rx_fields.specs.declared.limits.TheConstants.{MOST_DETAILS};
 ghost use Rattle.rx_batch.specs.Grammar.{IsDetail, IsFile, IsHeader, record_text};
 ghost use Rattle.rx_batch.specs.Header.{trailer_of};
 ghost use Rattle.rx_batch.specs.Writing.{IsLotSpelled, IsPlain, lot_text, header_text, detail_text, trailer_text, file_text};
@@ -21,7 +22,7 @@ const FRONT: usize = 14;
 /// The one text of a batch file: nothing between records, the number of details plus two as the count, a blank
 /// message (docs/FORMATS.md, "Batch file").
 pub fn write_batch(alloc: Global, head: &Head, details: &[Detail]) -> Result<Vec<u8>, Memory>
-    requires { length details.now ≤ 100_000 }
+    requires { length details.now ≤ MOST_DETAILS }
     ensures text { IfOk result (λ text. text.items ≡ file_text head.now details.now) }
     // What is written is read again.
     ensures again { IsPlain head.now details.now → IfOk result (λ text. IsFile text.items head.now details.now) }

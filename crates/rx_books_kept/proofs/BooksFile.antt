@@ -19,7 +19,8 @@ use Rattle.rx_books_text.specs.declared.line.Line.TheVariants as line
 use Rattle.rx_books_text.specs.declared.line.TotalLine.{TotalLine}
 use Rattle.rx_books_text.specs.declared.version.Version.{Version}
 use Rattle.rx_books_text.specs.declared.version.Version.TheVariants.{Three}
-use Rattle.rx_books_text.specs.Fault.{◌>>=◌, Gives, UnlessMemory}
+use Rattle.rx_text.specs.Results.{◌>>=◌}
+use Rattle.rx_books_text.specs.Fault.{Gives, UnlessMemory}
 use Rattle.rx_books_text.specs.LineFits.{IsLine, PrintsDeductible}
 use Rattle.rx_books_text.specs.Printed.{IsPrinted, PrintedParts, has_member, lines_of, member_lines, printed_text, total_family}
 use Rattle.rx_books_text.specs.TextReading.{printed_of}

@@ -11,7 +11,7 @@ use Rattle.rx_books_text.specs.declared.fault.BooksFault.{BooksFault}
 use Rattle.rx_books_text.specs.declared.fault.BooksFault.TheVariants as fault
 use Rattle.rx_books_text.specs.declared.line.Line.{Line}
 use Rattle.rx_books_text.specs.declared.line.TotalLine.{TotalLine}
-use Rattle.rx_books_text.specs.Fault.{◌>>=◌}
+use Rattle.rx_text.specs.Results.{◌>>=◌}
 use Rattle.rx_books_text.specs.Printed.{IsPrinted, PrintedParts, has_member, lines_of, total_family}
 use Rattle.rx_books_text.proofs.OneReading as lines
 use Rattle.rx_books_text.proofs.Printing.{printed_again}

@@ -14,7 +14,7 @@ use Rattle.rx_ledger.specs.Sums.{family_deductible, out_of_pocket}
 use Rattle.rx_books_text.specs.contracts.line.TotalLinePartialEq.TheImpl.{ghosts as total_eq}
 use Rattle.rx_books_text.specs.declared.line.TotalLine.{TotalLine}
 use Rattle.rx_books_text.specs.declared.version.Version.{Version}
-use Rattle.rx_books_text.specs.Fault.{◌>>=◌}
+use Rattle.rx_text.specs.Results.{◌>>=◌}
 use Rattle.rx_books_text.specs.Printed.{IsPrinted, PrintedParts, has_member, line_feeds}
 use Rattle.rx_books_text.proofs.Printing.{printed_again}
 use Rattle.rx_books_quick.specs.Lists.{AreLists}

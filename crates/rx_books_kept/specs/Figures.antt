@@ -9,7 +9,7 @@ use Rattle.rx_books_text.specs.declared.fault.BooksFault.TheVariants as fault
 use Rattle.rx_books_text.specs.declared.line.Line.{Line}
 use Rattle.rx_books_text.specs.declared.line.Line.TheVariants as line
 use Rattle.rx_books_text.specs.declared.line.TotalLine.{TotalLine}
-use Rattle.rx_books_text.specs.Fault.{◌>>=◌}
+use Rattle.rx_text.specs.Results.{◌>>=◌}
 use Rattle.rx_books_text.specs.Printed.{PrintedParts, lines_of, total_family}
 use Rattle.rx_books_text.specs.TextReading.{printed_of}
 use Rattle.rx_books_kept.specs.BooksText.{families_of}

@@ -1,4 +1,4 @@
--- The two forms of books.
+-- Plumbing: the two forms of books.
 use Rattle.rx_books_kept.specs.declared.books.Form.{Form}
 use Rattle.rx_books_kept.specs.declared.books.Form.TheVariants.{Plain, Amended}
 use Rattle.rx_books_kept.specs.LedgerBooks.{LedgerBooks}

@@ -1,6 +1,7 @@
 -- Plumbing: how books are kept: the lists that they were made from, what stands now under a fill key, and the figures beside them.
 use Rattle.std.specs.Prelude.{◌≡◌, ℕ, ◌+◌, ◌<◌, ◌≤◌, ◌^◌, List, Option, Some, IfSome, length, map, slice_get, slice_index}
 use Rattle.std.specs.List.{All}
+use Rattle.rx_fields.specs.declared.limits.TheConstants.{MOST_CENTS}
 use Rattle.rx_fields.specs.Numbered.{Span}
 use Rattle.rx_fields.specs.Order.{key_cmp}
 use Rattle.rx_fields.specs.declared.key.Key.{Key}
@@ -85,5 +86,5 @@ pub record IsStore (period : Span) (opening : Ledger) (slots : List KeySlot)
   pub slots_rise : IsAscending key_cmp slot_key slots
   pub slots_own : All (IsSlot opening.members) slots
   pub figures : AreFigures period (standing opening slots) deductibles out_of_pockets family_deductibles
-  pub small : All (λ r. paid_by_patient r ≤ 99_999_999) (standing_rows opening.rows slots)
+  pub small : All (λ r. paid_by_patient r ≤ MOST_CENTS) (standing_rows opening.rows slots)
   pub few : length opening.rows + length slots < 2 ^ 64

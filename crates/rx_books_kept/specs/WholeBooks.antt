@@ -1,4 +1,4 @@
--- Books as a whole: the books that were opened, with places that stand instead of what these hold under their fill keys
+-- Meaning: books as a whole: the books that were opened, with places that stand instead of what these hold under their fill keys
 -- and of their families.
 use Rattle.std.specs.Prelude.{ℕ, Bool, true, ◌&&◌, ◌||◌, List, [], ◌∷◌, Option, Some, None}
 use Rattle.std.specs.List.{list_all}

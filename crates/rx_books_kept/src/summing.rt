@@ -1,5 +1,6 @@
 ghost use Rattle.std.specs.Prelude.{◌≡◌, ◌+◌, ◌<◌, ◌≤◌, ◌^◌, IfOk, length, replicate, set, slice_index};
 ghost use Rattle.std.specs.List.{All};
+ghost use Rattle.rx_fields.specs.declared.limits.TheConstants.{MOST_CENTS};
 ghost use Rattle.rx_ledger.specs.Ledger.{IsLedger};
 ghost use Rattle.rx_ledger.specs.Sums.{paid_by_patient};
 ghost use Rattle.rx_fields.specs.Order.{key_cmp};
@@ -72,7 +73,7 @@ pub(crate) fn summed(
     requires own { All (IsSlot opening.now.members) slots.now }
     ensures figures { IfOk result (λ f. AreFigures period (standing opening.now slots.now) f.deductibles.items f.out_of_pockets.items
         f.family_deductibles.items) }
-    ensures small { IfOk result (λ f. All (λ r. paid_by_patient r ≤ 99_999_999) (standing_rows opening.now.rows slots.now)) }
+    ensures small { IfOk result (λ f. All (λ r. paid_by_patient r ≤ MOST_CENTS) (standing_rows opening.now.rows slots.now)) }
     ensures opened { IsLedger opening.now }
     ensures rise { IsAscending key_cmp slot_key slots.now }
     ensures few { IfOk result (λ f. length opening.now.rows + length slots.now < 2 ^ 64) }

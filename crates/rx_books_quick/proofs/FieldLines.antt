@@ -22,7 +22,7 @@ use Rattle.rx_books_text.specs.LineFits.{IsLine}
 use Rattle.rx_books_text.specs.LineText.{line_text, ended}
 use Rattle.rx_books_text.proofs.ClaimLaws.{mapped}
 use Rattle.rx_books_text.proofs.NumberLaws.{bounded_is}
-use Rattle.rx_books_text.proofs.Steps.{guarded, some_same}
+use Rattle.rx_text.proofs.Steps.{guarded, some_same}
 use Rattle.rx_books_quick.specs.Fields.{IsDispensed, IsKey, IsMemberKey, followed}
 use Rattle.rx_books_quick.specs.Lists.{BeginWith}
 

@@ -11,7 +11,8 @@ use Rattle.std.proofs.lemmas.List.Folds.{list_all-append}
 use Rattle.rx_fields.specs.declared.fault.FieldFault.{FieldFault}
 use Rattle.rx_fields.specs.Bounds.{bounded}
 use Rattle.rx_fields.specs.Calendar.{Civil, date_of, date_text}
-use Rattle.rx_fields.specs.Digits.{is_digit, all_digits, number, digits_text}
+use Rattle.rx_text.specs.Bytes.{is_digit, all_digits}
+use Rattle.rx_fields.specs.Digits.{number, digits_text}
 use Rattle.rx_fields.proofs.DigitLaws.{digit_at, power_le}
 use Rattle.rx_books_text.specs.LineReading.{begins_zero, day_in}
 use Rattle.rx_books_text.proofs.DayLaws.{day_takes}

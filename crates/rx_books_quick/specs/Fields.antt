@@ -1,8 +1,10 @@
 -- Plumbing: fields at the front of bytes.
 use Rattle.std.specs.Prelude.{◌≡◌, ℕ, ◌^◌, ◌<◌, ◌≤◌, Bool, true, false, not, ◌==◌, List, [], ◌∷◌, ◌++◌, length, take}
+use Rattle.rx_fields.specs.declared.limits.TheConstants.{MOST_QUANTITY, MOST_REFERENCE}
 use Rattle.rx_fields.specs.declared.key.Key.{Key}
 use Rattle.rx_fields.specs.Calendar.{IsCivil}
-use Rattle.rx_fields.specs.Digits.{all_digits, number}
+use Rattle.rx_text.specs.Bytes.{all_digits}
+use Rattle.rx_fields.specs.Digits.{number}
 use Rattle.rx_fields.specs.Text.{IsId}
 use Rattle.rx_ledger.specs.declared.member.MemberKey.{MemberKey}
 
@@ -27,7 +29,7 @@ followed (field ∷ fields) rest = field ++ 124 ∷ followed fields rest
 -- a fill key within its limits
 pub record IsKey (k : Key) : Type 0 where
   pub provider : IsId 15 k.provider
-  pub reference : k.reference ≤ 999_999_999_999
+  pub reference : k.reference ≤ MOST_REFERENCE
   pub date : IsCivil k.date
 
 -- a family and a person
@@ -38,5 +40,5 @@ pub record IsMemberKey (k : MemberKey) : Type 0 where
 -- what was dispensed, within its limits: the product, the quantity and the days supply
 pub record IsDispensed (p q d : ℕ) : Type 0 where
   pub product : p < 10 ^ 11
-  pub quantity : (1 ≤ q) × (q ≤ 9_999_999_999)
+  pub quantity : (1 ≤ q) × (q ≤ MOST_QUANTITY)
   pub days : (1 ≤ d) × (d ≤ 999)

@@ -1,4 +1,5 @@
 ghost use Rattle.std.specs.Prelude.{◌≡◌, ◌≤◌, ◌<◌, ◌^◌, ◌++◌, ◌∷◌, IfSome, decimal, take};
+ghost use Rattle.rx_fields.specs.declared.limits.TheConstants.{MOST_AUTHORIZATION};
 ghost use Rattle.rx_fields.specs.Calendar.{IsCivil, date_text};
 ghost use Rattle.rx_fields.specs.Digits.{digits_text};
 ghost use Rattle.rx_fields.specs.Text.{IsId};
@@ -72,7 +73,7 @@ pub(crate) fn product_at(bytes: &[u8]) -> Option<(Product, &[u8])>
 
 /// The authorization number that the bytes begin with, and what follows the line feed behind it.
 pub(crate) fn authorization_at(bytes: &[u8]) -> Option<(Authorization, &[u8])>
-    ensures number { IfSome result (λ x. x.0 ≤ 999_999_999_999_999) }
+    ensures number { IfSome result (λ x. x.0 ≤ MOST_AUTHORIZATION) }
     ensures whole { IfSome result (λ x. bytes.now ≡ digits_text 15 x.0 ++ 10 ∷ x.1.now) }
 {
     let (number, at) = digits_at(bytes)?;

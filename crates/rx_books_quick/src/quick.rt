@@ -1,4 +1,5 @@
 ghost use Rattle.std.specs.Prelude.{◌≡◌, ◌≤◌, ◌∷◌, ◌++◌, [], IfSome, decimal};
+ghost use Rattle.rx_fields.specs.declared.limits.TheConstants.{MOST_AUTHORIZATION};
 ghost use Rattle.rx_fields.specs.Calendar.{IsCivil, date_text};
 ghost use Rattle.rx_fields.specs.Digits.{digits_text};
 ghost use Rattle.rx_books_text.specs.declared.line.Line.TheVariants as lines;
@@ -165,7 +166,7 @@ fn dispensed_at(bytes: &[u8]) -> Option<(Dispensed, &[u8])>
 
 // The amounts and the authorization number, and what follows the line feed behind them.
 fn paid_at(bytes: &[u8]) -> Option<(Paid, &[u8])>
-    ensures number { IfSome result (λ x. x.0.number ≤ 999_999_999_999_999) }
+    ensures number { IfSome result (λ x. x.0.number ≤ MOST_AUTHORIZATION) }
     ensures whole { IfSome result (λ x. bytes.now
         ≡ followed (decimal x.0.amounts.ingredient_cost ∷ decimal x.0.amounts.dispensing_fee
         ∷ decimal x.0.amounts.deductible ∷ decimal x.0.amounts.copay ∷ decimal x.0.amounts.coinsurance ∷ [])

@@ -214,12 +214,12 @@ parcel_parts s F p period ks fs keys families is ep ek ef bk bf =
     let f : families ≡ flat_map (family_book s.families) F.families = bf ∙ ap (flat_map (family_book s.families)) ef in
     is ∙ (λ i. record { period = ep i; keys = k i; families = f i })
 
-pub given_parts : (s : ShelfParts) (p : ParcelParts) (ks bs : List KeyBook) (fs : List FamilyBook) (places : List KeyPlace)
+pub given_parts : (s : ShelfParts) (p : ParcelParts) (ks : List KeyBook) (fs : List FamilyBook) (places : List KeyPlace)
     (others : List FamilyPlace)
-    → bs ≡ ks → ks ≡ p.keys → fs ≡ p.families → places ≡ map (key_given bs) s.keys → others ≡ map (family_given fs) s.families
+    → ks ≡ p.keys → fs ≡ p.families → places ≡ map (key_given ks) s.keys → others ≡ map (family_given fs) s.families
     → record { period = s.period; rest = s.rest; keys = places; families = others } ≡ put_back s p
-given_parts s p ks bs fs places others eb ek ef pk pf =
-    let k : places ≡ map (key_given p.keys) s.keys = pk ∙ ap (λ xs. map (key_given xs) s.keys) (eb ∙ ek) in
+given_parts s p ks fs places others ek ef pk pf =
+    let k : places ≡ map (key_given p.keys) s.keys = pk ∙ ap (λ xs. map (key_given xs) s.keys) ek in
     let f : others ≡ map (family_given p.families) s.families = pf ∙ ap (λ xs. map (family_given xs) s.families) ef in
     λ i. record { period = s.period; rest = s.rest; keys = k i; families = f i }
 

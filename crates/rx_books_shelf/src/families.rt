@@ -1,16 +1,16 @@
-ghost use Rattle.std.specs.Prelude.{◌≡◌, ◌≤◌, ◌∷◌, [], IfOk, length, map, vec_capacity};
+ghost use Rattle.std.specs.Prelude.{◌≡◌, ◌≢◌, ◌≤◌, ◌∷◌, [], length, map, vec_capacity};
 ghost use Rattle.std.specs.List.{flat_map, list_all};
 ghost use Rattle.std.specs.Option.{option_to_list};
 ghost use Rattle.rx_fields.specs.Order.{id_cmp};
 ghost use Rattle.rx_order.specs.Ascending.{IsAscending, item_at};
+ghost use Rattle.rx_parcels.specs.Few.{items_of};
 ghost use Rattle.rx_parcels.specs.Footprints.{itself};
 ghost use Rattle.rx_places.specs.Shelves.{is_family_in, is_family_out, place_family};
 ghost use Rattle.rx_books_shelf.specs.Taken.{family_book, family_given, family_taken};
 
-use rx_fields::{Id, Memory};
-use rx_parcels::Family;
+use rx_fields::Id;
+use rx_parcels::{Family, Few};
 use rx_places::{FamilyPlace, Hinted};
-use std::alloc::Global;
 
 // Whether the family has a place, and its book is there.
 fn is_family_in(places: &Hinted<FamilyPlace>, family: &Id) -> bool
@@ -48,16 +48,30 @@ pub(crate) fn are_families_out(places: &Hinted<FamilyPlace>, books: &[Family]) -
         .all(|book| is_family_out(places, &book.family()))
 }
 
-/// Room for the books of these families.
-pub(crate) fn family_room(alloc: Global, families: &[Id]) -> Result<Vec<Family>, Memory>
-    ensures none { IfOk result (λ room. length room.items ≡ 0) }
-    ensures room { IfOk result (λ room. length families.now ≤ vec_capacity room) }
+/// Takes the books of these families out of their places. There is room for them in the list, unless it is a single one,
+/// which needs none.
+pub(crate) fn take_families(
+    places: &mut Hinted<FamilyPlace>,
+    families: &[Id],
+    room: Vec<Family>,
+) -> Few<Family>
+    requires rise { IsAscending id_cmp itself families.now }
+    requires none { length room.items ≡ 0 }
+    requires room { length families.now ≢ 1 → length families.now ≤ vec_capacity room }
+    ensures books { items_of result ≡ flat_map (family_book places.old) families.now }
+    ensures places { places.new ≡ map (family_taken families.now) places.old }
 {
-    Ok(Vec::with_capacity(alloc, families.len())?)
+    match families {
+        [family] => match take_family(places, *family) {
+            Some(book) => Few::One(book),
+            None => Few::Many(room),
+        },
+        families => Few::Many(take_each_family(places, families, room)),
+    }
 }
 
-/// Takes the books of these families out of their places. There is room for them in the list, which comes back with them.
-pub(crate) fn take_families(
+// Takes the books of these families out of their places. There is room for them in the list, which comes back with them.
+fn take_each_family(
     places: &mut Hinted<FamilyPlace>,
     families: &[Id],
     room: Vec<Family>,
@@ -89,7 +103,17 @@ fn take_family(places: &mut Hinted<FamilyPlace>, family: Id) -> Option<Family>
 }
 
 /// Puts these books into the places of their families. It takes no memory.
-pub(crate) fn give_families(places: &mut Hinted<FamilyPlace>, books: Vec<Family>)
+pub(crate) fn give_families(places: &mut Hinted<FamilyPlace>, books: Few<Family>)
+    ensures { places.new ≡ map (family_given (items_of books)) places.old }
+{
+    match books {
+        Few::One(book) => give_family(places, book),
+        Few::Many(books) => give_each_family(places, books),
+    }
+}
+
+// Puts these books into the places of their families, from the last on.
+fn give_each_family(places: &mut Hinted<FamilyPlace>, books: Vec<Family>)
     ensures { places.new ≡ map (family_given books.items) places.old }
 {
     let mut books = books;

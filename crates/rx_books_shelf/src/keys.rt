@@ -1,16 +1,16 @@
-ghost use Rattle.std.specs.Prelude.{◌≡◌, ◌≤◌, ◌∷◌, [], IfOk, length, map, vec_capacity};
+ghost use Rattle.std.specs.Prelude.{◌≡◌, ◌≢◌, ◌≤◌, ◌∷◌, [], length, map, vec_capacity};
 ghost use Rattle.std.specs.List.{list_all};
 ghost use Rattle.rx_fields.specs.Order.{key_cmp};
 ghost use Rattle.rx_order.specs.Ascending.{IsAscending, item_at};
+ghost use Rattle.rx_parcels.specs.Few.{items_of};
 ghost use Rattle.rx_parcels.specs.Footprints.{itself};
 ghost use Rattle.rx_places.specs.Shelves.{is_key_in, is_key_out, place_key, row_held};
 ghost use Rattle.rx_books_shelf.specs.Taken.{key_book, key_given, key_taken};
 
-use rx_fields::{Key, Memory};
+use rx_fields::Key;
 use rx_ledger::Row;
-use rx_parcels::KeyBook;
+use rx_parcels::{Few, KeyBook};
 use rx_places::{Hinted, KeyPlace};
-use std::alloc::Global;
 
 // Whether the key has a place, and its book is there.
 fn is_key_in(places: &Hinted<KeyPlace>, key: &Key) -> bool
@@ -46,20 +46,30 @@ pub(crate) fn are_keys_out(places: &Hinted<KeyPlace>, books: &[KeyBook]) -> bool
     books.iter().all(|book| is_key_out(places, &book.key))
 }
 
-/// Room for the books of these keys.
-pub(crate) fn key_room(alloc: Global, keys: &[Key]) -> Result<Vec<KeyBook>, Memory>
-    ensures none { IfOk result (λ room. length room.items ≡ 0) }
-    ensures room { IfOk result (λ room. length keys.now ≤ vec_capacity room) }
-{
-    Ok(Vec::with_capacity(alloc, keys.len())?)
-}
-
-/// Takes the books of these keys out of their places. There is room for them in the list, which comes back with them.
+/// Takes the books of these keys out of their places. There is room for them in the list, unless it is a single one,
+/// which needs none.
 pub(crate) fn take_keys(
     places: &mut Hinted<KeyPlace>,
     keys: &[Key],
     room: Vec<KeyBook>,
-) -> Vec<KeyBook>
+) -> Few<KeyBook>
+    requires rise { IsAscending key_cmp itself keys.now }
+    requires none { length room.items ≡ 0 }
+    requires room { length keys.now ≢ 1 → length keys.now ≤ vec_capacity room }
+    ensures books { items_of result ≡ map (key_book places.old) keys.now }
+    ensures places { places.new ≡ map (key_taken keys.now) places.old }
+{
+    match keys {
+        [key] => Few::One(KeyBook {
+            key: *key,
+            row: take_key(places, *key),
+        }),
+        keys => Few::Many(take_each_key(places, keys, room)),
+    }
+}
+
+// Takes the books of these keys out of their places. There is room for them in the list, which comes back with them.
+fn take_each_key(places: &mut Hinted<KeyPlace>, keys: &[Key], room: Vec<KeyBook>) -> Vec<KeyBook>
     requires rise { IsAscending key_cmp itself keys.now }
     requires none { length room.items ≡ 0 }
     requires room { length keys.now ≤ vec_capacity room }
@@ -97,7 +107,17 @@ pub(crate) fn row_held(place: KeyPlace) -> Option<Row>
 }
 
 /// Puts these books into the places of their keys. It takes no memory.
-pub(crate) fn give_keys(places: &mut Hinted<KeyPlace>, books: Vec<KeyBook>)
+pub(crate) fn give_keys(places: &mut Hinted<KeyPlace>, books: Few<KeyBook>)
+    ensures { places.new ≡ map (key_given (items_of books)) places.old }
+{
+    match books {
+        Few::One(book) => give_key(places, book),
+        Few::Many(books) => give_each_key(places, books),
+    }
+}
+
+// Puts these books into the places of their keys, from the last on.
+fn give_each_key(places: &mut Hinted<KeyPlace>, books: Vec<KeyBook>)
     ensures { places.new ≡ map (key_given books.items) places.old }
 {
     let mut books = books;

@@ -1,28 +1,22 @@
-ghost use Rattle.std.specs.Prelude.{◌≡◌, ◌↔◌, ◌||◌, if◌then◌else◌, Bool, false, true, is_ok, IfErr, IfOk, IsErrOf, IsOk, OnErr, OnOk};
-ghost use Rattle.std.specs.List.{All};
-ghost use Rattle.rx_fields.specs.Order.{id_cmp, key_cmp};
-ghost use Rattle.rx_order.specs.Ascending.{IsAscending};
+ghost use Rattle.std.specs.Prelude.{◌≡◌, ◌≢◌, ◌≤◌, ◌↔◌, ◌||◌, if◌then◌else◌, Bool, false, true, is_ok, length, vec_capacity};
+ghost use Rattle.std.specs.Prelude.{IfErr, IfOk, IsErrOf, IsOk, OnErr, OnOk};
 ghost use Rattle.rx_ledger.specs.Ledger.{empty};
 ghost use Rattle.rx_parcels.specs.Books.{Book, book};
-ghost use Rattle.rx_parcels.specs.FamilyBook.{family_of};
 ghost use Rattle.rx_parcels.specs.Footprints.{names};
-ghost use Rattle.rx_parcels.specs.Parcels.{HasOwnRow, key_of, named_in, values_of};
+ghost use Rattle.rx_parcels.specs.Parcels.{named_in, values_of};
 ghost use Rattle.rx_places.specs.Shelves.{AreAllAgreed, IsShelf, are_all_in, has_slot, is_out, value_of};
 ghost use Rattle.rx_books_shelf.specs.Opened.{is_named, shelf_of};
 ghost use Rattle.rx_books_shelf.specs.Taken.{are_out, has_all, parcel_of, put_back, taken_out};
 
-use crate::families::{
-    are_families_in, are_families_out, family_room, give_families, take_families,
-};
+use crate::families::{are_families_in, are_families_out, give_families, take_families};
 use crate::fault::{GiveFault, TakeFault};
 use crate::gathering::gathered;
-use crate::keys::{are_keys_in, are_keys_out, give_keys, key_room, take_keys};
+use crate::keys::{are_keys_in, are_keys_out, give_keys, take_keys};
 use crate::naming::{families_named, keys_named};
 use crate::placing::{family_places, key_places};
 use rx_books_kept::{Books, OpenBooks};
 use rx_fields::{Memory, Period};
-use rx_order::Ascending;
-use rx_parcels::{Family, Footprint, KeyBook, Parcel};
+use rx_parcels::{Footprint, Parcel};
 use rx_places::{FamilyPlace, Hinted, KeyPlace};
 use std::alloc::Global;
 use std::marker::Model;
@@ -103,11 +97,11 @@ impl Shelf {
         if !self.has_all(footprint) {
             return Err(TakeFault::Absent);
         }
-        let keys = key_room(alloc, footprint.keys())?;
-        let families = family_room(alloc, footprint.families())?;
+        let keys = book_room(alloc, footprint.keys().len())?;
+        let families = book_room(alloc, footprint.families().len())?;
         let keys = take_keys(&mut self.keys, footprint.keys(), keys);
         let families = take_families(&mut self.families, footprint.families(), families);
-        Ok(parcel_of(self.books.period(), keys, families))
+        Ok(Parcel::new(self.books.period(), keys, families))
     }
 
     /// Moves the parcel's books back into their places. It takes no memory. A stranger comes back, and the shelf is
@@ -127,7 +121,7 @@ impl Shelf {
             return Err(GiveFault { parcel });
         }
         let (keys, families) = parcel.into_books();
-        give_keys(&mut self.keys, keys.into_vec());
+        give_keys(&mut self.keys, keys);
         give_families(&mut self.families, families);
         Ok(())
     }
@@ -149,16 +143,13 @@ impl Shelf {
     }
 }
 
-// The parcel of these books.
-fn parcel_of(period: Period, keys: Vec<KeyBook>, families: Vec<Family>) -> Parcel
-    requires keys_rise { IsAscending key_cmp key_of keys.items }
-    requires rows_own { All HasOwnRow keys.items }
-    requires families_rise { IsAscending id_cmp family_of families.items }
-    requires one_period { All (λ b. b.period ≡ period) families.items }
-    ensures { result ≡ record { period = period; keys = keys.items; families = families.items } }
+// Room for so many books; a single one needs none.
+fn book_room<T>(alloc: Global, count: usize) -> Result<Vec<T>, Memory>
+    ensures none { IfOk result (λ room. length room.items ≡ 0) }
+    ensures room { IfOk result (λ room. count ≢ 1 → count ≤ vec_capacity room) }
 {
-    match Ascending::from_vec(keys) {
-        Ok(keys) => Parcel::new(period, keys, families),
-        Err(_) => unreachable!(),
+    if count == 1 {
+        return Ok(Vec::new(alloc));
     }
+    Ok(Vec::with_capacity(alloc, count)?)
 }

@@ -3,7 +3,8 @@ use Rattle.std.proofs.Common.{◌≡◌, ℕ, List, ◌∷◌, ◌++◌, Option,
 use Rattle.std.specs.Option.{option_map}
 use Rattle.rx_books_text.specs.LineReading.{split}
 use Rattle.rx_books_text.proofs.Cuts.{split_over}
-use Rattle.rx_books_text.proofs.Steps.{some_same, IsInside, without_bar}
+use Rattle.rx_text.proofs.Steps.{some_same}
+use Rattle.rx_books_text.proofs.Steps.{IsInside, without_bar}
 
 -- a field in front of what follows
 abbrev pub before : List ℕ → List ℕ → List ℕ

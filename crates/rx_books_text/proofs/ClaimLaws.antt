@@ -11,9 +11,10 @@ use Rattle.rx_books_text.specs.declared.claim_line.Dispensed.{Dispensed}
 use Rattle.rx_books_text.specs.declared.version.Version.{Version}
 use Rattle.rx_books_text.specs.declared.version.Version.TheVariants.{One, Two, Three}
 use Rattle.rx_books_text.specs.LineFits.{IsClaimLine}
-use Rattle.rx_books_text.specs.LineReading.{◌>>=◌, authorization_in, member_key_at, key_at, dispensed_at, amounts_at, claim_in}
+use Rattle.rx_text.specs.Options.{◌>>=◌}
+use Rattle.rx_books_text.specs.LineReading.{authorization_in, member_key_at, key_at, dispensed_at, amounts_at, claim_in}
 use Rattle.rx_books_text.specs.LineText.{joined, claim_fields}
-use Rattle.rx_books_text.proofs.Steps.{bind_some, some_same}
+use Rattle.rx_text.proofs.Steps.{bind_some, some_same}
 use Rattle.rx_books_text.proofs.NumberLaws.{authorization_takes, authorization_again}
 use Rattle.rx_books_text.proofs.MemberLaws.{member_key_text, member_key_at_takes, member_key_at_again}
 use Rattle.rx_books_text.proofs.ClaimParts.{key_text, key_at_takes, key_at_again, dispensed_text, dispensed_at_takes}

@@ -13,10 +13,11 @@ use Rattle.rx_books_text.specs.declared.claim_line.Dispensed.{Dispensed}
 use Rattle.rx_books_text.specs.declared.version.Version.{Version}
 use Rattle.rx_books_text.specs.declared.version.Version.TheVariants.{One, Two, Three}
 use Rattle.rx_books_text.specs.LineFits.{PrintsCoinsurance}
-use Rattle.rx_books_text.specs.LineReading.{◌>>=◌, split, id_in, day_in, number_in, count_in, key_in, key_at, dispensed_in}
+use Rattle.rx_text.specs.Options.{◌>>=◌}
+use Rattle.rx_books_text.specs.LineReading.{split, id_in, day_in, number_in, count_in, key_in, key_at, dispensed_in}
 use Rattle.rx_books_text.specs.LineReading.{dispensed_at, two_numbers_at, coinsurance_at, amounts_at}
 use Rattle.rx_books_text.proofs.Cuts.{split_takes}
-use Rattle.rx_books_text.proofs.Steps.{bind_some, some_same}
+use Rattle.rx_text.proofs.Steps.{bind_some, some_same}
 use Rattle.rx_books_text.proofs.IdLaws.{id_takes, id_again, id_inside}
 use Rattle.rx_books_text.proofs.NumberLaws.{number_takes, number_again, number_inside, count_takes, count_again}
 use Rattle.rx_books_text.proofs.NumberLaws.{product_takes, product_again, digits_text_inside}

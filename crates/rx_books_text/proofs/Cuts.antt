@@ -7,7 +7,8 @@ use Rattle.std.proofs.lemmas.Grind.{common_steps}
 use Rattle.std.proofs.lemmas.List.{take-append-drop, length-take, length-drop, take_all}
 use Rattle.std.proofs.lemmas.List.Elements.{All-from_get_or, All-head, All-tail}
 use Rattle.std.proofs.lemmas.List.Splits.{slice_split_none, slice_split_at}
-use Rattle.rx_books_text.specs.LineReading.{◌>>=◌, split}
+use Rattle.rx_text.specs.Options.{◌>>=◌}
+use Rattle.rx_books_text.specs.LineReading.{split}
 use Rattle.rx_books_text.specs.TextReading.{lines}
 
 -- ---- where a byte is found

@@ -9,7 +9,8 @@ use Rattle.jiff_core.specs.Calendar.{days_in_month}
 use Rattle.jiff_core.proofs.CalendarLemmas.{days_in_month_bounds}
 use Rattle.rx_fields.specs.declared.fault.FieldFault.TheVariants as field
 use Rattle.rx_fields.specs.Calendar.{Civil, IsCivil, is_civil, civil_of, date_of, date_text}
-use Rattle.rx_fields.specs.Digits.{is_digit, all_digits, digits_text}
+use Rattle.rx_text.specs.Bytes.{is_digit, all_digits}
+use Rattle.rx_fields.specs.Digits.{digits_text}
 use Rattle.rx_fields.proofs.DigitLaws.{length-digits_text, digits_text-all, digits_text-number}
 use Rattle.rx_books_text.specs.LineReading.{day_in}
 use Rattle.rx_books_text.proofs.Steps.{ok_of, ok_same, passed, held, IsInside, digits_inside}

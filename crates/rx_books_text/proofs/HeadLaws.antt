@@ -13,10 +13,11 @@ use Rattle.rx_books_text.specs.declared.line.Line.{Line}
 use Rattle.rx_books_text.specs.declared.version.Version.{Version}
 use Rattle.rx_books_text.specs.declared.version.Version.TheVariants.{One, Two, Three}
 use Rattle.rx_books_text.specs.LineFits.{IsPeriod, IsLine}
-use Rattle.rx_books_text.specs.LineReading.{◌>>=◌, same, split, version_in, period_in, head_in, head_of, line_of}
+use Rattle.rx_text.specs.Options.{◌>>=◌}
+use Rattle.rx_books_text.specs.LineReading.{same, split, version_in, period_in, head_in, head_of, line_of}
 use Rattle.rx_books_text.specs.LineText.{joined, version_text, head_text, line_text}
 use Rattle.rx_books_text.proofs.Cuts.{Without, split_takes}
-use Rattle.rx_books_text.proofs.Steps.{bind_some, guarded, some_same}
+use Rattle.rx_text.proofs.Steps.{bind_some, guarded, some_same}
 use Rattle.rx_books_text.proofs.DayLaws.{day_inside}
 use Rattle.rx_books_text.proofs.Befores.{before, spelled, followed, inside_over}
 use Rattle.rx_books_text.proofs.MemberLaws.{period_takes, period_again}

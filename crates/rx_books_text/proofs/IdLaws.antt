@@ -7,9 +7,11 @@ use Rattle.std.specs.Result.{result_ok}
 use Rattle.std.proofs.lemmas.Cmp.{nat_list_eq_equiv}
 use Rattle.rx_fields.specs.declared.fault.IdFault.{IdFault}
 use Rattle.rx_fields.specs.declared.fault.IdFault.TheVariants as id
-use Rattle.rx_fields.specs.Text.{trimmed, is_printable, is_bar, id_of, IsId}
+use Rattle.rx_text.specs.Bytes.{is_printable}
+use Rattle.rx_fields.specs.Text.{trimmed, is_bar, id_of, IsId}
 use Rattle.rx_books_text.specs.LineReading.{same, id_in}
-use Rattle.rx_books_text.proofs.Steps.{bind_some, guarded, some_same, id_ok_of, id_passed, IsInside, letters_inside}
+use Rattle.rx_text.proofs.Steps.{bind_some, guarded, some_same}
+use Rattle.rx_books_text.proofs.Steps.{id_ok_of, id_passed, IsInside, letters_inside}
 
 abbrev pub id_fine : List ℕ → Result (List ℕ) IdFault
 id_fine x = Ok x

@@ -11,7 +11,7 @@ use Rattle.rx_books_text.specs.declared.version.Version.{Version}
 use Rattle.rx_books_text.specs.LineFits.{IsLine}
 use Rattle.rx_books_text.specs.LineReading.{member_in, claim_in, total_in, line_in, line_of}
 use Rattle.rx_books_text.specs.LineText.{line_text}
-use Rattle.rx_books_text.proofs.Steps.{guarded}
+use Rattle.rx_text.proofs.Steps.{guarded}
 use Rattle.rx_books_text.proofs.Befores.{wrapped}
 use Rattle.rx_books_text.proofs.MemberLaws.{member_takes, member_again}
 use Rattle.rx_books_text.proofs.ClaimLaws.{claim_takes, claim_again}

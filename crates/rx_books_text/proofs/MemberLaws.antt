@@ -7,10 +7,11 @@ use Rattle.rx_fields.specs.Text.{IsId}
 use Rattle.rx_ledger.specs.declared.member.MemberKey.{MemberKey}
 use Rattle.rx_books_text.specs.declared.line.MemberLine.{MemberLine}
 use Rattle.rx_books_text.specs.LineFits.{IsPeriod, IsMemberLine}
-use Rattle.rx_books_text.specs.LineReading.{◌>>=◌, split, id_in, day_in, number_in, period_in, member_key_in, member_key_at, member_in}
+use Rattle.rx_text.specs.Options.{◌>>=◌}
+use Rattle.rx_books_text.specs.LineReading.{split, id_in, day_in, number_in, period_in, member_key_in, member_key_at, member_in}
 use Rattle.rx_books_text.specs.LineText.{joined, member_fields}
 use Rattle.rx_books_text.proofs.Cuts.{split_takes}
-use Rattle.rx_books_text.proofs.Steps.{bind_some, guarded, some_same}
+use Rattle.rx_text.proofs.Steps.{bind_some, guarded, some_same}
 use Rattle.rx_books_text.proofs.IdLaws.{id_takes, id_again, id_inside}
 use Rattle.rx_books_text.proofs.NumberLaws.{number_takes, number_again}
 use Rattle.rx_books_text.proofs.DayLaws.{day_takes, day_inside, day_again}

@@ -13,11 +13,14 @@ use Rattle.std.proofs.lemmas.List.Folds.{list_all-append}
 use Rattle.std.proofs.lemmas.List.{take_more}
 use Rattle.rx_fields.specs.declared.fault.FieldFault.TheVariants as field
 use Rattle.rx_fields.specs.Bounds.{bounded}
-use Rattle.rx_fields.specs.Digits.{is_digit, all_digits, number, number_of, digits_text}
+use Rattle.rx_text.specs.Bytes.{is_digit, all_digits}
+use Rattle.rx_fields.specs.Digits.{number, number_of, digits_text}
 use Rattle.rx_fields.specs.Numbered.{product_of}
 use Rattle.rx_fields.proofs.DigitLaws.{digit_at, number_push, length-digits_text, digits_text-all, digits_text-number, power_le}
-use Rattle.rx_books_text.specs.LineReading.{◌>>=◌, begins_zero, number_in, count_in, authorization_in}
-use Rattle.rx_books_text.proofs.Steps.{bind_some, guarded, unguarded, some_same, ok_of, ok_same, passed, held, IsInside, digits_inside}
+use Rattle.rx_text.specs.Options.{◌>>=◌}
+use Rattle.rx_books_text.specs.LineReading.{begins_zero, number_in, count_in, authorization_in}
+use Rattle.rx_text.proofs.Steps.{bind_some, guarded, unguarded, some_same}
+use Rattle.rx_books_text.proofs.Steps.{ok_of, ok_same, passed, held, IsInside, digits_inside}
 
 -- ---- digits
 

@@ -7,35 +7,15 @@ use Rattle.std.specs.Result.{result_ok}
 use Rattle.std.proofs.lemmas.Bool.{and_parts}
 use Rattle.std.proofs.lemmas.Bool.Decides.{nat_tests}
 use Rattle.std.proofs.lemmas.List.Elements.{All-nil, All-cons}
+use Rattle.rx_text.proofs.Steps.{some_same}
 use Rattle.rx_fields.specs.declared.fault.FieldFault.{FieldFault}
 use Rattle.rx_fields.specs.declared.fault.IdFault.{IdFault}
-use Rattle.rx_fields.specs.Digits.{is_digit, all_digits}
-use Rattle.rx_fields.specs.Text.{is_printable, is_bar}
+use Rattle.rx_text.specs.Bytes.{is_digit, all_digits, is_printable}
+use Rattle.rx_fields.specs.Text.{is_bar}
 use Rattle.rx_books_text.proofs.Cuts.{Without}
-use Rattle.rx_books_text.specs.LineReading.{◌>>=◌}
+use Rattle.rx_text.specs.Options.{◌>>=◌}
 
 -- ---- steps
-
--- the value of a step that found one
-pub bind_some : {A B : Type 0} (r : Option A) (f : A → Option B) (y : B) → (r >>= f) ≡ Some y
-    → (x : A) × (r ≡ Some x) × (f x ≡ Some y)
-bind_some None f y e = absurd cc
-bind_some (Some x) f y e = (x, refl, e)
-
--- a test that held, and one that didn't
-pub guarded : {A : Type 0} (b : Bool) (r : Option A) (y : A) → cond b r None ≡ Some y → (b ≡ true) × (r ≡ Some y)
-guarded true r y e = (refl, e)
-guarded false r y e = absurd cc
-
-pub unguarded : {A : Type 0} (b : Bool) (r : Option A) (y : A) → cond b None r ≡ Some y → (b ≡ false) × (r ≡ Some y)
-unguarded true r y e = absurd cc
-unguarded false r y e = (refl, e)
-
-abbrev pub found : {A : Type 0} → A → Option A
-found x = Some x
-
-pub some_same : {A : Type 0} {x y : A} → found x ≡ found y → x ≡ y
-some_same e = cc
 
 pub ok_of : {A : Type 0} (r : Result A FieldFault) (x : A) → result_ok r ≡ Some x → r ≡ Ok x
 ok_of (Ok y) x e = ap Ok (some_same e)

@@ -6,10 +6,11 @@ use Rattle.rx_books_text.specs.declared.line.TotalLine.{TotalLine}
 use Rattle.rx_books_text.specs.declared.version.Version.{Version}
 use Rattle.rx_books_text.specs.declared.version.Version.TheVariants.{One, Two, Three}
 use Rattle.rx_books_text.specs.LineFits.{IsShort, PrintsDeductible, IsTotalLine}
-use Rattle.rx_books_text.specs.LineReading.{◌>>=◌, split, id_in, number_in, whole_total_in, short_total_in, total_in}
+use Rattle.rx_text.specs.Options.{◌>>=◌}
+use Rattle.rx_books_text.specs.LineReading.{split, id_in, number_in, whole_total_in, short_total_in, total_in}
 use Rattle.rx_books_text.specs.LineText.{joined, total_fields}
 use Rattle.rx_books_text.proofs.Cuts.{split_takes}
-use Rattle.rx_books_text.proofs.Steps.{bind_some, some_same}
+use Rattle.rx_text.proofs.Steps.{bind_some, some_same}
 use Rattle.rx_books_text.proofs.IdLaws.{id_takes, id_again, id_inside}
 use Rattle.rx_books_text.proofs.NumberLaws.{number_takes, number_again, number_inside}
 use Rattle.rx_books_text.proofs.Befores.{before, spelled, followed, inside_over}

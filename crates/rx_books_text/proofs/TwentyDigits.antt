@@ -7,7 +7,8 @@ use Rattle.std.proofs.lemmas.Bool.Decides.{nat_tests}
 use Rattle.std.proofs.lemmas.Grind.{common_steps}
 use Rattle.std.proofs.lemmas.List.Folds.{list_all-append}
 use Rattle.std.proofs.lemmas.List.{take_more, drop_at}
-use Rattle.rx_fields.specs.Digits.{is_digit, all_digits, number_of}
+use Rattle.rx_text.specs.Bytes.{is_digit, all_digits}
+use Rattle.rx_fields.specs.Digits.{number_of}
 use Rattle.rx_fields.proofs.DigitLaws.{number_push}
 use Rattle.rx_books_text.specs.LineReading.{begins_zero, joined_number, number_in}
 

@@ -1,5 +1,7 @@
 -- Meaning: the numbers and lines of the faults, and what a call answers that may want memory.
-use Rattle.std.specs.Prelude.{◌≡◌, ℕ, Option, Some, None, Result, Ok, Err, MatchResult}
+use Rattle.std.specs.Prelude.{ℕ, Bool, true, false, Option, Some, None, Result}
+use Rattle.rx_text.specs.Outcomes.{Unless}
+use Rattle.rx_text.specs.Outcomes as outcome
 use Rattle.rx_ledger.specs.declared.ledger.AddError.{AddError}
 use Rattle.rx_ledger.specs.declared.ledger.AddError.TheVariants as error
 use Rattle.rx_books_text.specs.declared.fault.BooksFault.{BooksFault}
@@ -31,21 +33,19 @@ refused n error.There = fault.Order n
 refused n error.Unknown = fault.UnknownMember n
 refused n error.Memory = fault.Memory
 
+-- the fault is want of memory
+abbrev pub wants_memory : BooksFault → Bool
+wants_memory fault.Memory = true
+wants_memory other = false
+
 -- the fact, unless the fault is want of memory
 abbrev pub UnlessMemory : BooksFault → Type 0 → Type 0
-UnlessMemory fault.Memory P = Unit {0}
-UnlessMemory other P = P
+UnlessMemory f P = Unless (wants_memory f) P
 
 -- what a call answered is what the definition has, unless memory was wanting
 abbrev pub Gives : {X : Type 0} → Result X BooksFault → Result X BooksFault → Type 0
-Gives result meant = MatchResult result (λ x. meant ≡ Ok x) (λ f. UnlessMemory f (meant ≡ Err f))
+Gives result meant = outcome.Gives wants_memory result meant
 
 -- the value that a call put in place is the one that the definition has, unless memory was wanting
 abbrev pub Takes : {X : Type 0} → Result Unit BooksFault → X → Result X BooksFault → Type 0
-Takes result new meant = MatchResult result (λ _. meant ≡ Ok new) (λ f. UnlessMemory f (meant ≡ Err f))
-
--- the first step, and where it has no fault the next
-infixl 10 ◌>>=◌
-abbrev pub ◌>>=◌ : {A B : Type 0} → Result A BooksFault → (A → Result B BooksFault) → Result B BooksFault
-(Ok x) >>= f = f x
-(Err e) >>= f = Err e
+Takes result new meant = outcome.Takes wants_memory result new meant

@@ -1,5 +1,6 @@
 -- Meaning: the limits of the lines of a books file, and what each version prints (docs/FORMATS.md, "Books file").
 use Rattle.std.specs.Prelude.{◌≡◌, ℕ, ◌^◌, ◌<◌, ◌≤◌, true, Option, Some, None}
+use Rattle.rx_fields.specs.declared.limits.TheConstants.{MOST_AUTHORIZATION, MOST_QUANTITY, MOST_REFERENCE}
 use Rattle.rx_fields.specs.Calendar.{IsCivil}
 use Rattle.rx_fields.specs.Numbered.{Span, is_span}
 use Rattle.rx_fields.specs.Text.{IsId}
@@ -36,16 +37,16 @@ PrintsCoinsurance Three n = Unit {0}
 
 pub record IsClaimLine (v : Version) (r : Row) : Type 0 where
   pub provider : IsId 15 r.key.provider
-  pub reference : r.key.reference ≤ 999_999_999_999
+  pub reference : r.key.reference ≤ MOST_REFERENCE
   pub date : IsCivil r.key.date
   pub family : IsId 20 r.family
   pub person : IsId 3 r.person
   pub product : r.product < 10 ^ 11
-  pub quantity : (1 ≤ r.quantity) × (r.quantity ≤ 9_999_999_999)
+  pub quantity : (1 ≤ r.quantity) × (r.quantity ≤ MOST_QUANTITY)
   pub days : (1 ≤ r.days) × (r.days ≤ 999)
   pub pricing : IsPriced r.pricing
   pub coinsurance : PrintsCoinsurance v r.pricing.coinsurance
-  pub number : r.number ≤ 999_999_999_999_999
+  pub number : r.number ≤ MOST_AUTHORIZATION
 
 -- the family's deductible is printed in version 3, and only there
 abbrev pub PrintsDeductible : Version → Option ℕ → Type 0

@@ -6,6 +6,8 @@ use Rattle.std.specs.List.{starts_with}
 use Rattle.std.specs.Option.{option_map}
 use Rattle.std.specs.Prelude.{drop}
 use Rattle.std.specs.Result.{result_ok}
+use Rattle.rx_fields.specs.declared.limits.TheConstants.{MOST_AUTHORIZATION, MOST_QUANTITY, MOST_REFERENCE}
+use Rattle.rx_text.specs.Options.{◌>>=◌}
 use Rattle.rx_fields.specs.declared.key.Key.{Key}
 use Rattle.rx_fields.specs.Bounds.{bounded}
 use Rattle.rx_fields.specs.Calendar.{Civil, date_of}
@@ -24,11 +26,6 @@ use Rattle.rx_books_text.specs.declared.line.MemberLine.{MemberLine}
 use Rattle.rx_books_text.specs.declared.line.TotalLine.{TotalLine}
 use Rattle.rx_books_text.specs.declared.version.Version.{Version}
 use Rattle.rx_books_text.specs.declared.version.Version.TheVariants.{One, Two, Three}
-
-infixl 10 ◌>>=◌
-abbrev pub ◌>>=◌ : {A B : Type 0} → Option A → (A → Option B) → Option B
-None >>= f = None
-(Some x) >>= f = f x
 
 -- ---- fields
 
@@ -69,7 +66,7 @@ count_in low high bs = number_in 19 bs >>= bounded low high
 
 -- an authorization number in fifteen digits
 unfoldable pub authorization_in : List ℕ → Option ℕ
-authorization_in bs = if length bs == 15 then result_ok (number_of 15 bs) >>= bounded 0 999_999_999_999_999 else None
+authorization_in bs = if length bs == 15 then result_ok (number_of 15 bs) >>= bounded 0 MOST_AUTHORIZATION else None
 
 -- ---- the head line
 
@@ -110,7 +107,7 @@ member_in bs =
 
 unfoldable pub key_in : List ℕ → List ℕ → List ℕ → Option Key
 key_in provider reference date =
-    id_in 15 provider >>= λ p. count_in 0 999_999_999_999 reference >>= λ r. day_in date >>= λ d. Some
+    id_in 15 provider >>= λ p. count_in 0 MOST_REFERENCE reference >>= λ r. day_in date >>= λ d. Some
     (record { provider = p; reference = r; date = d })
 
 -- a fill key, and what follows
@@ -121,7 +118,7 @@ key_at bs =
 
 unfoldable pub dispensed_in : List ℕ → List ℕ → List ℕ → Option Dispensed
 dispensed_in product quantity days =
-    product_of product >>= λ p. count_in 1 9_999_999_999 quantity >>= λ q. count_in 1 999 days >>= λ d. Some
+    product_of product >>= λ p. count_in 1 MOST_QUANTITY quantity >>= λ q. count_in 1 999 days >>= λ d. Some
     (record { product = p; quantity = q; days = d })
 
 -- what was dispensed, and what follows

@@ -5,7 +5,7 @@ use Rattle.rx_books_text.specs.declared.fault.BooksFault.{BooksFault}
 use Rattle.rx_books_text.specs.declared.fault.BooksFault.TheVariants as fault
 use Rattle.rx_books_text.specs.declared.head.Head.{Head}
 use Rattle.rx_books_text.specs.declared.line.Line.{Line}
-use Rattle.rx_books_text.specs.Fault.{◌>>=◌}
+use Rattle.rx_text.specs.Results.{◌>>=◌}
 use Rattle.rx_books_text.specs.LineReading.{head_of, line_of}
 use Rattle.rx_books_text.specs.Printed.{PrintedParts, line_feeds}
 use Rattle.rx_books_text.specs.TextFault.{is_next, is_known, with_line, no_lines}

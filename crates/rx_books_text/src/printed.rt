@@ -72,19 +72,6 @@ impl Printed {
         self.totals.as_slice()
     }
 
-    /// The members and the claims alone.
-    pub fn into_ledger(self) -> Ledger
-        ensures { result ≡ self.ledger }
-    {
-        let Printed {
-            head: _,
-            ledger,
-            deductibles: _,
-            totals: _,
-        } = self;
-        ledger
-    }
-
     // The head alone.
     pub(crate) fn new(alloc: Global, head: Head) -> Printed
         ensures { result ≡ no_lines head }

@@ -150,6 +150,6 @@ fn shows_what_is_printed(rt: HostRuntime) -> Result<(), Fail> {
     assert_eq!(rt; printed.totals().len(), 1);
     assert_eq!(rt; printed.totals()[0].out_of_pocket, 13_000);
     assert_eq!(rt; printed.totals()[0].deductible, Some(10_000));
-    assert_eq!(rt; printed.into_ledger().members().len(), 1);
+    assert_eq!(rt; printed.ledger().members().len(), 1);
     Ok(())
 }

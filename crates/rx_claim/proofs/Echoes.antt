@@ -2,7 +2,7 @@
 use Rattle.std.proofs.Common.{◌≡◌, ℕ, true, List, [], ◌∷◌, refl, inl, inr, if◌then◌else◌}
 use Rattle.std.specs.List.{list_all}
 use Rattle.std.proofs.lemmas.Bool.{cases_Bool}
-use Rattle.rx_fields.specs.Text.{is_printable}
+use Rattle.rx_text.specs.Bytes.{is_printable}
 use Rattle.rx_claim.specs.Echoed.{blanked}
 
 printable_by : (b : ℕ) → is_printable (if is_printable b then b else 32) ≡ true

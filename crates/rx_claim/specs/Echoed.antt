@@ -1,7 +1,7 @@
 -- Meaning: what a reply repeats of its request.
 use Rattle.std.specs.Prelude.{◌≡◌, ℕ, Bool, true, ◌&&◌, if◌then◌else◌, List, map, Option, Some, None}
 use Rattle.std.specs.List.{list_all}
-use Rattle.rx_fields.specs.Text.{is_printable}
+use Rattle.rx_text.specs.Bytes.{is_printable}
 use Rattle.rx_claim.specs.declared.echo.EchoParts.{EchoParts}
 
 -- each unprintable byte a blank

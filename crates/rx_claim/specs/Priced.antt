@@ -1,5 +1,6 @@
 -- Meaning: the amounts of a paid claim, and what follows from them.
 use Rattle.std.specs.Prelude.{◌≡◌, ℕ, ◌+◌, ◌-◌, Bool, true, ◌&&◌, nat_le, if◌then◌else◌, Option, Some, None}
+use Rattle.rx_fields.specs.declared.limits.TheConstants.{MOST_CENTS}
 use Rattle.rx_claim.specs.declared.pricing.Amounts.{Amounts}
 
 -- ingredient cost and dispensing fee
@@ -16,7 +17,7 @@ total_paid a = allowed a - patient_pay a
 
 -- what is allowed fits its field, and the patient pays no more
 abbrev pub is_priced : Amounts → Bool
-is_priced a = nat_le (allowed a) 99_999_999 && nat_le (patient_pay a) (allowed a)
+is_priced a = nat_le (allowed a) MOST_CENTS && nat_le (patient_pay a) (allowed a)
 
 abbrev pub IsPriced : Amounts → Type 0
 IsPriced a = is_priced a ≡ true

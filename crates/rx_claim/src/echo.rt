@@ -1,5 +1,6 @@
 ghost use Rattle.std.specs.Prelude.{◌≡◌};
 
+use rx_text::{all_printable, is_printable};
 use std::marker::Model;
 
 /// The bytes of a request's header that a reply repeats.
@@ -37,8 +38,7 @@ impl Model for Echo {
 }
 
 ghost use Rattle.std.specs.Prelude.{if◌then◌else◌};
-ghost use Rattle.std.specs.List.{list_all};
-ghost use Rattle.rx_fields.specs.Text.{is_printable};
+ghost use Rattle.rx_text.specs.Bytes.{is_printable};
 ghost use Rattle.rx_claim.specs.Echoed.{echo_of, blanked, blanked_parts, IsEcho};
 
 impl Echo {
@@ -82,12 +82,6 @@ impl Echo {
     }
 }
 
-fn all_printable(bytes: &[u8]) -> bool
-    ensures { result ≡ list_all is_printable bytes.now }
-{
-    bytes.iter().all(|b| *b >= b' ' && *b <= b'~')
-}
-
 // The bytes, each unprintable one a blank.
 fn printable<const N: usize>(mut bytes: [u8; N]) -> [u8; N]
     ensures { result ≡ blanked bytes.entry }
@@ -107,9 +101,5 @@ fn blank_unprintable(bytes: &mut [u8])
 fn printable_or_blank(byte: u8) -> u8
     ensures { result ≡ (if is_printable byte then byte else 32) }
 {
-    if byte >= b' ' && byte <= b'~' {
-        byte
-    } else {
-        b' '
-    }
+    if is_printable(byte) { byte } else { b' ' }
 }

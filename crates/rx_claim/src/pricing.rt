@@ -1,5 +1,7 @@
 ghost use Rattle.std.specs.Prelude.{◌≡◌};
+ghost use Rattle.rx_fields.specs.declared.limits.TheConstants.{MOST_CENTS};
 
+use rx_fields::MOST_CENTS;
 use std::marker::Model;
 
 /// The amounts of a paid claim, in cents.
@@ -72,7 +74,7 @@ impl Pricing {
             .deductible
             .checked_add(amounts.copay)?
             .checked_add(amounts.coinsurance)?;
-        if allowed > 99_999_999 || patient_pay > allowed {
+        if allowed > MOST_CENTS || patient_pay > allowed {
             return None;
         }
         Some(Pricing {
@@ -101,7 +103,7 @@ impl Pricing {
     /// The patient pay amount (505-F5), in cents.
     pub fn patient_pay(&self) -> u64
         ensures value { result ≡ patient_pay self.now }
-        ensures within { result ≤ 99_999_999 }
+        ensures within { result ≤ MOST_CENTS }
     {
         u64::from(self.deductible) + u64::from(self.copay) + u64::from(self.coinsurance)
     }
@@ -109,7 +111,7 @@ impl Pricing {
     /// The total amount paid to the pharmacy (509-F9), in cents.
     pub fn total_paid(&self) -> u64
         ensures value { result ≡ total_paid self.now }
-        ensures within { result ≤ 99_999_999 }
+        ensures within { result ≤ MOST_CENTS }
     {
         u64::from(self.ingredient_cost) + u64::from(self.dispensing_fee) - self.patient_pay()
     }

@@ -14,6 +14,7 @@ use Rattle.rx_claim.specs.contracts.transaction.Transactions.{the_row as transac
 use Rattle.rx_claim.specs.contracts.transmission.Transmission.{the_row as transmission_row}
 use Rattle.rx_desk.specs.contracts.desk.Desk.{the_row as desk_row}
 use Rattle.rx_desk.specs.contracts.state.State.{the_row as state_row}
+use Rattle.rx_parcels.specs.contracts.family.Family.{the_row as family_row}
 use Rattle.rx_parcels.specs.contracts.footprint.Footprint.{the_row as footprint_row}
 use Rattle.rx_parcels.specs.contracts.parcel.Parcel.{the_row as parcel_row}
 use Rattle.rx_places.specs.contracts.place.FamilyPlace.{the_row as family_place_row}
@@ -43,8 +44,11 @@ queues_sent = search (sendable, crosses) depth 100 fits 300000
 pub footprint_sent : IsSend footprint_row
 footprint_sent = search (sendable, crosses) depth 100 fits 300000
 
+pub family_sent : IsSend family_row
+family_sent = search (sendable, crosses) depth 100 fits 300000
+
 pub parcel_sent : IsSend parcel_row
-parcel_sent = search (sendable, crosses) depth 100 fits 300000
+parcel_sent = search (sendable, crosses, family_sent) depth 100 fits 300000
 
 pub codes_sent : IsSend codes_row
 codes_sent = search (sendable, crosses) depth 100 fits 300000

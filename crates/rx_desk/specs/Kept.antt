@@ -2,6 +2,7 @@
 -- records were handed out and passed are those that the events have led to.
 use Rattle.std.specs.Prelude.{◌≡◌, ℕ, ◌+◌, ◌-◌, ◌*◌, ◌≤◌, Bool, true, List, [], length, reverse}
 use Rattle.std.specs.Prelude.{Option, Some, slice_get, slice_index_or, sum_by}
+use Rattle.rx_fields.specs.declared.limits.TheConstants.{MOST_DETAILS}
 use Rattle.rx_fields.specs.Numbered.{LotParts}
 use Rattle.rx_claim.specs.declared.reply.Reply.{Reply}
 use Rattle.rx_claim.specs.declared.transmission.Transmission.{Transmission}
@@ -28,7 +29,7 @@ use Rattle.rx_desk.specs.Desks.{AreTerms, DeskJob, footprint_in, machine_of, par
 pub record IsKeptJob (j : DeskJob) : Type 0 where
   pub in_order : IsInOrder j.books.ledger
   pub period : j.books.period ≡ j.plan.figures.period
-  pub few : length j.records ≤ 100_000
+  pub few : length j.records ≤ MOST_DETAILS
   pub terms : AreTerms j
 
 -- the books in place have the values that the events left, and a book is out where a record that names it is

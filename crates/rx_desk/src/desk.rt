@@ -1,4 +1,5 @@
 ghost use Rattle.std.specs.Prelude.{◌≡◌, ◌≤◌, ◌↔◌, ℕ, [], IfErr, IfOk, IsOk, IsTrue, OnErr, OnOk, Some, vec_len};
+ghost use Rattle.rx_fields.specs.declared.limits.TheConstants.{MOST_DETAILS};
 ghost use Rattle.rx_ledger.specs.Fold.{fold_replies};
 ghost use Rattle.rx_schedule.specs.Jobs.{reply_at};
 ghost use Rattle.rx_schedule.specs.Machine.{IsComplete, IsLegal, Was};
@@ -75,7 +76,7 @@ impl Desk {
         transmissions: Vec<Transmission>,
     ) -> Result<Desk, Memory>
         requires period { books.period ≡ sheet.now.figures.period }
-        requires few { vec_len transmissions ≤ 100_000 }
+        requires few { vec_len transmissions ≤ MOST_DETAILS }
         ensures job { IfOk result (λ desk. IsJob desk.job lot sheet.now books transmissions.items) }
         ensures terms { IfOk result (λ desk. AreTerms desk.job) }
         ensures history { IfOk result (λ desk. desk.history ≡ []) }

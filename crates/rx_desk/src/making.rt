@@ -1,4 +1,5 @@
 ghost use Rattle.std.specs.Prelude.{◌≡◌, ◌≤◌, ◌*◌, Bool, false, [], IfOk, length, replicate, vec_capacity};
+ghost use Rattle.rx_fields.specs.declared.limits.TheConstants.{MOST_DETAILS};
 ghost use Rattle.rx_ledger.specs.Ledger.{IsLedger};
 ghost use Rattle.rx_parcels.specs.Books.{Book, book};
 ghost use Rattle.rx_places.specs.Shelves.{has_slot, is_out, value_of};
@@ -87,7 +88,7 @@ pub(crate) fn shared_by(
 
 /// A state and a reply for each record, none of which was taken, and room for two events of each.
 pub(crate) fn room_for(alloc: Global, transmissions: &[Transmission]) -> Result<Room, Memory>
-    requires few { length transmissions.now ≤ 100_000 }
+    requires few { length transmissions.now ≤ MOST_DETAILS }
     ensures states { IfOk result (λ room. room.states.items ≡ replicate (length transmissions.now) State.Waiting) }
     ensures replies { IfOk result (λ room. length room.replies.items ≡ length transmissions.now) }
     ensures history { IfOk result (λ room. room.history.items ≡ []) }

@@ -99,8 +99,8 @@ PassesPiece-front left rest before during after n p none = record {
 }
 
 -- no read was made
-pub none_made : (n : ℕ) (b : Bool) → AreFewReads n n b b
-none_made n b = record { few = omega arith; roomy = λ h. h }
+pub none_made : {S : Type 0} (reads : S → ℕ) (cramped : S → Bool) (s : S) → AreFewReads reads cramped s s
+none_made reads cramped s = record { few = omega arith; roomy = λ h. h }
 
 -- after so many reads the input is long
 pub PassesPiece-long : (left rest : Option (List ℕ)) (before after : List ℕ → Type 0) (n : ℕ)

@@ -16,10 +16,10 @@ most_reads = 4194304
 abbrev pub least_room : ℕ
 least_room = 4096
 
--- at most so many reads were made since, each with that room: by what the source counts, and what it looks at
-pub record AreFewReads (reads_before reads_after : ℕ) (cramped_before cramped_after : Bool) : Type 0 where
-  pub few : reads_after ≤ reads_before + most_reads
-  pub roomy : cramped_before ≡ false → cramped_after ≡ false
+-- at most so many reads of a source were made, each with that room: by what it counts, and what it looks at
+pub record AreFewReads {S : Type 0} (reads : S → ℕ) (cramped : S → Bool) (before after : S) : Type 0 where
+  pub few : reads after ≤ reads before + most_reads
+  pub roomy : cramped before ≡ false → cramped after ≡ false
 
 -- whether a fault is a failure of the device
 abbrev pub is_failure : ReadFault → Bool

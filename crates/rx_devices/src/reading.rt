@@ -28,7 +28,7 @@ pub fn read_all<S: Source>(alloc: Global, source: &mut S) -> Result<Vec<u8>, Rea
     ensures ok { IfOk result (λ text. IsRead (S.left source.old) (S.left source.new) text.items) }
     ensures failed { S.failed source.new ≡ has_failed result }
     ensures long { result ≡ Err ReadFault.Long → IfSome (S.left source.old) (λ bytes. most_reads ≤ length bytes) }
-    ensures reads { AreFewReads (S.reads source.old) (S.reads source.new) (S.cramped source.old) (S.cramped source.new) }
+    ensures reads { AreFewReads S.reads S.cramped source.old source.new }
 {
     let mut text = Vec::new(alloc);
     read_each(alloc, source, &mut text)?;
@@ -46,7 +46,7 @@ pub fn read_each<S: Source, C: Consumer>(
     ensures ok { OnOk result (PassesAll (S.left source.old) (S.left source.new) (C.stands_for consumer.old) (C.stands_for consumer.new)) }
     ensures failed { S.failed source.new ≡ has_failed result }
     ensures long { result ≡ Err ReadFault.Long → IfSome (S.left source.old) (λ bytes. most_reads ≤ length bytes) }
-    ensures reads { AreFewReads (S.reads source.old) (S.reads source.new) (S.cramped source.old) (S.cramped source.new) }
+    ensures reads { AreFewReads S.reads S.cramped source.old source.new }
     ensures front { OnErr result (PassesFront (S.left source.old) (C.stands_for consumer.old) (C.stands_for consumer.new)) }
 {
     let mut room = room(alloc)?;

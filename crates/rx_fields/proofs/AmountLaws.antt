@@ -6,7 +6,8 @@ use Rattle.std.proofs.lemmas.Bool.{le-ltb}
 use Rattle.std.proofs.lemmas.Bool.Decides.{nat_tests}
 use Rattle.std.proofs.lemmas.Grind.{common_steps}
 use Rattle.std.proofs.lemmas.List.{take_at, get_or-drop}
-use Rattle.rx_fields.specs.Digits.{all_digits, number, digits_text}
+use Rattle.rx_text.specs.Bytes.{all_digits}
+use Rattle.rx_fields.specs.Digits.{number, digits_text}
 use Rattle.rx_fields.specs.Amount.{signed_of, signed_text, with_last, last_of, last_char, signed}
 use Rattle.rx_fields.proofs.DigitLaws.{length-digits_text, digits_text-all, digits_text-number}
 

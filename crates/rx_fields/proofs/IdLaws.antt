@@ -11,7 +11,8 @@ use Rattle.std.specs.List.{list_all, list_any}
 use Rattle.rx_fields.specs.declared.fault.IdFault.{IdFault}
 use Rattle.rx_fields.specs.declared.fault.IdFault.TheVariants as fault
 use Rattle.rx_fields.specs.Padded.{padded}
-use Rattle.rx_fields.specs.Text.{trimmed, id_of, is_printable, is_bar, IsPadded}
+use Rattle.rx_text.specs.Bytes.{is_printable}
+use Rattle.rx_fields.specs.Text.{trimmed, id_of, is_bar, IsPadded}
 
 -- ---- the end of a text
 

@@ -13,7 +13,8 @@ use Rattle.std.specs.declared.cmp.Ordering.TheVariants.{Less, Equal, Greater}
 use Rattle.std.proofs.lemmas.List.{get_or-drop, get_or-take, get_or_past}
 use Rattle.std.proofs.lemmas.Bool.{cases_lt, and_parts, leb-true}
 use Rattle.std.proofs.lemmas.Map.Text.{is_eq-slice_cmp}
-use Rattle.rx_fields.specs.Text.{is_printable, IsPadded}
+use Rattle.rx_text.specs.Bytes.{is_printable}
+use Rattle.rx_fields.specs.Text.{IsPadded}
 use Rattle.rx_fields.proofs.IdLaws.{id_printable}
 
 -- ---- numbers

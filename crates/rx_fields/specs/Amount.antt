@@ -4,7 +4,8 @@ use Rattle.std.specs.Prelude.{List, [], ◌∷◌, ◌++◌, length, take, slice
 use Rattle.std.specs.Prelude.{ℤ, pos, negsuc, neg_ℤ, unsigned_abs}
 use Rattle.rx_fields.specs.declared.fault.FieldFault.{FieldFault}
 use Rattle.rx_fields.specs.declared.fault.FieldFault.TheVariants.{Empty, TooLong, NotDigit}
-use Rattle.rx_fields.specs.Digits.{is_digit, all_digits, number, digits_text}
+use Rattle.rx_text.specs.Bytes.{is_digit, all_digits}
+use Rattle.rx_fields.specs.Digits.{number, digits_text}
 
 -- whether the amount is negative, and its last digit: 0 to 9 stand for themselves, { and A to I for 0 to 9,
 -- } and J to R for 0 to 9 of a negative amount

@@ -3,7 +3,8 @@ use Rattle.std.specs.Prelude.{ℕ, ◌&&◌, ◌==◌, if◌then◌else◌, List
 use Rattle.std.specs.Prelude.{Option, Some, None, Result, Ok, Err}
 use Rattle.rx_fields.specs.declared.fault.FieldFault.{FieldFault}
 use Rattle.rx_fields.specs.declared.stamp.Stamp.{Stamp}
-use Rattle.rx_fields.specs.Digits.{all_digits, number, digits_text}
+use Rattle.rx_text.specs.Bytes.{all_digits}
+use Rattle.rx_fields.specs.Digits.{number, digits_text}
 use Rattle.rx_fields.specs.Calendar.{Civil, date_of, date_text}
 use Rattle.rx_fields.specs.TimeOfDay.{Clock, is_clock}
 

@@ -1,7 +1,8 @@
 -- Meaning: lots, products and periods: what each keeps, and which values are one.
 use Rattle.std.specs.Prelude.{ℕ, Bool, ◌&&◌, nat_lt, ◌==◌, if◌then◌else◌, List, length, Option, Some, None}
 use Rattle.std.specs.Ordering.{is_le}
-use Rattle.rx_fields.specs.Digits.{all_digits, number}
+use Rattle.rx_text.specs.Bytes.{all_digits}
+use Rattle.rx_fields.specs.Digits.{number}
 use Rattle.rx_fields.specs.Calendar.{Civil, day_cmp}
 
 -- a batch number and a creation date

@@ -1,7 +1,8 @@
 -- Meaning: what is an id: 1 to 20 printable bytes without a bar and without a trailing blank.
-use Rattle.std.specs.Prelude.{◌≡◌, ◌≤◌, ℕ, ◌-◌, Bool, ◌&&◌, not, nat_lt, nat_le, ◌==◌, if◌then◌else◌}
+use Rattle.std.specs.Prelude.{◌≡◌, ◌≤◌, ℕ, ◌-◌, Bool, ◌&&◌, not, nat_lt, ◌==◌, if◌then◌else◌}
 use Rattle.std.specs.Prelude.{List, [], ◌∷◌, length, take, drop, replicate, Result, Ok, Err}
-use Rattle.std.specs.List.{list_all, list_any}
+use Rattle.std.specs.List.{list_any}
+use Rattle.rx_text.specs.Bytes.{all_printable}
 use Rattle.rx_fields.specs.declared.fault.IdFault.{IdFault}
 use Rattle.rx_fields.specs.declared.fault.IdFault.TheVariants as fault
 
@@ -9,10 +10,6 @@ use Rattle.rx_fields.specs.declared.fault.IdFault.TheVariants as fault
 abbrev pub trimmed : List ℕ → List ℕ
 trimmed [] = []
 trimmed (b ∷ bs) = if (b == 32) && (length (trimmed bs) == 0) then [] else b ∷ trimmed bs
-
--- the byte is printable ASCII, X'20' to X'7E'
-abbrev pub is_printable : ℕ → Bool
-is_printable b = nat_le 32 b && nat_le b 126
 
 -- the byte is |
 abbrev pub is_bar : ℕ → Bool
@@ -24,7 +21,7 @@ id_of max bs =
     let t = trimmed bs in
     if length t == 0 then Err fault.Blank
     else (if nat_lt max (length t) then Err fault.TooLong
-    else (if not (list_all is_printable t) then Err fault.NotPrintable
+    else (if not (all_printable t) then Err fault.NotPrintable
     else (if list_any is_bar t then Err fault.Bar else Ok t)))
 
 -- the text is an id as it stands

@@ -1,8 +1,10 @@
 ghost use Rattle.std.specs.Prelude.{◌≡◌, ◌≤◌, ◌<◌, ◌^◌, Ok, IfOk, IfSome, unsigned_abs};
 ghost use Rattle.rx_fields.specs.Amount.{signed, last_of, signed_of, signed_text};
+ghost use Rattle.rx_fields.specs.declared.limits.TheConstants.{MOST_CENTS};
 
-use crate::digits::{all_digits, digits_write, value};
+use crate::digits::{digits_write, value};
 use crate::fault::FieldFault;
+use rx_text::all_digits;
 
 // What a last character says: whether the amount is negative, and its last digit.
 fn last_digit(byte: u8) -> Option<(bool, u8)>
@@ -33,7 +35,7 @@ fn signed(is_negative: bool, magnitude: u64) -> i64
 /// positive, and negative zero is 0 (docs/FORMATS.md, "Overpunched amounts").
 pub fn signed_read(bytes: &[u8]) -> Result<i64, FieldFault>
     ensures value { result ≡ signed_of bytes.now }
-    ensures within { IfOk result (λ cents. unsigned_abs cents ≤ 99_999_999) }
+    ensures within { IfOk result (λ cents. unsigned_abs cents ≤ MOST_CENTS) }
 {
     if bytes.is_empty() {
         return Err(FieldFault::Empty);
@@ -54,7 +56,7 @@ pub fn signed_read(bytes: &[u8]) -> Result<i64, FieldFault>
 // The characters of an amount.
 #[tactic(auto, unfolding(crate::specs::Amount::signed_text, crate::specs::Digits::digits_text))]
 fn spelled(amount: i64) -> [u8; 8]
-    requires { unsigned_abs amount ≤ 99_999_999 }
+    requires { unsigned_abs amount ≤ MOST_CENTS }
     ensures { result ≡ signed_text amount }
 {
     let magnitude = amount.unsigned_abs();
@@ -75,7 +77,7 @@ fn spelled(amount: i64) -> [u8; 8]
 /// The one spelling of an amount in cents, 99,999,999 at most either way: seven digits and an overpunched one. Zero is
 /// `0000000{` (docs/FORMATS.md, "Overpunched amounts").
 pub fn signed_write(amount: i64) -> [u8; 8]
-    requires { unsigned_abs amount ≤ 99_999_999 }
+    requires { unsigned_abs amount ≤ MOST_CENTS }
     ensures text { result ≡ signed_text amount }
     ensures again { signed_of result ≡ Ok amount }
 {

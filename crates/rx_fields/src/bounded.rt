@@ -1,5 +1,6 @@
 ghost use Rattle.std.specs.Prelude.{◌≡◌};
 
+use crate::limits::{MOST_AUTHORIZATION, MOST_QUANTITY, MOST_REFERENCE};
 use std::marker::Model;
 
 /// A number from `LOW` to `HIGH`, both included, ordered as numbers are.
@@ -45,13 +46,13 @@ impl<const LOW: u64, const HIGH: u64> Bounded<LOW, HIGH> {
 }
 
 /// A dispensed quantity, in thousandths of a unit: 1 to 9,999,999,999.
-pub type Quantity = Bounded<1, 9_999_999_999>;
+pub type Quantity = Bounded<1, MOST_QUANTITY>;
 
 /// A prescription reference number: at most twelve digits.
-pub type Reference = Bounded<0, 999_999_999_999>;
+pub type Reference = Bounded<0, MOST_REFERENCE>;
 
 /// An authorization number: at most fifteen digits.
-pub type Authorization = Bounded<0, 999_999_999_999_999>;
+pub type Authorization = Bounded<0, MOST_AUTHORIZATION>;
 
 /// How many answers a reply has: 1 to 4.
 pub type Count = Bounded<1, 4>;

@@ -1,8 +1,9 @@
 ghost use Rattle.std.specs.Prelude.{◌≡◌};
 
-use crate::digits::{all_digits, digits_write, value};
+use crate::digits::{digits_write, value};
 use crate::fault::FieldFault;
 use jiff_core::civil::Date;
+use rx_text::all_digits;
 use std::marker::Model;
 
 /// A civil date of the years 0000 to 9999 that exists, ordered from earlier to later (docs/PRODUCT.md, "Words").

@@ -1,14 +1,9 @@
 ghost use Rattle.std.specs.Prelude.{◌≡◌, ◌≤◌, ◌<◌, ◌^◌, length, true, Ok, IfOk};
-ghost use Rattle.rx_fields.specs.Digits.{all_digits, number, number_of, digits_text};
+ghost use Rattle.rx_text.specs.Bytes.{all_digits};
+ghost use Rattle.rx_fields.specs.Digits.{number, number_of, digits_text};
 
 use crate::fault::FieldFault;
-
-// Whether each byte is a digit.
-pub(crate) fn all_digits(bytes: &[u8]) -> bool
-    ensures { result ≡ all_digits bytes.now }
-{
-    bytes.iter().all(|b| *b >= b'0' && *b <= b'9')
-}
+use rx_text::all_digits;
 
 // The number that digits stand for.
 pub(crate) fn value(digits: &[u8]) -> u64

@@ -7,6 +7,7 @@ ghost use Rattle.std.proofs.Common.{rules};
 
 use crate::fault::IdFault;
 use crate::padding::{compare, padded};
+use rx_text::all_printable;
 use std::cmp::Ordering;
 use std::marker::Model;
 
@@ -37,9 +38,10 @@ impl Model for Id {
 }
 
 ghost use Rattle.std.specs.Prelude.{length};
-ghost use Rattle.std.specs.List.{list_all, list_any};
+ghost use Rattle.std.specs.List.{list_any};
 ghost use Rattle.std.specs.Result.{result_map_both};
-ghost use Rattle.rx_fields.specs.Text.{id_of, trimmed, is_printable, is_bar, IsId};
+ghost use Rattle.rx_text.specs.Bytes.{is_printable};
+ghost use Rattle.rx_fields.specs.Text.{id_of, trimmed, is_bar, IsId};
 
 impl Id {
     /// The id in a text of a field that takes `max` bytes; trailing blanks are no part of it, and aren't counted.
@@ -86,13 +88,6 @@ pub fn trimmed(text: &[u8]) -> &[u8]
         rest = &rest[..rest.len() - 1];
     }
     rest
-}
-
-// Whether each byte is X'20' to X'7E'.
-fn all_printable(text: &[u8]) -> bool
-    ensures { result ≡ list_all is_printable text.now }
-{
-    text.iter().all(|b| *b >= b' ' && *b <= b'~')
 }
 
 // Whether a byte is `|`.

@@ -1,6 +1,7 @@
 ghost use Rattle.std.specs.Prelude.{◌≡◌};
 
-use crate::digits::{all_digits, digits_write, value};
+use crate::digits::{digits_write, value};
+use rx_text::all_digits;
 use std::marker::Model;
 
 /// A drug product: an eleven-digit National Drug Code, kept as its number and ordered as its digits are

@@ -24,9 +24,7 @@ impl Stamp {
             return None;
         }
         let (date, time) = bytes.split_at(8);
-        let Ok(date) = date_read(date) else {
-            return None;
-        };
+        let date = date_read(date).ok()?;
         let time = Time::new(time)?;
         Some(Stamp { date, time })
     }

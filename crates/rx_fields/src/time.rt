@@ -1,6 +1,7 @@
 ghost use Rattle.std.specs.Prelude.{◌≡◌};
 
-use crate::digits::{all_digits, digits_write, value};
+use crate::digits::{digits_write, value};
+use rx_text::all_digits;
 use std::marker::Model;
 
 /// A time of day to the minute, 00:00 to 23:59, ordered as the clock is (docs/FORMATS.md, "Batch file").

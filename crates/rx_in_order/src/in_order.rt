@@ -1,5 +1,6 @@
 ghost use Rattle.std.specs.Prelude.{◌≡◌, ◌≤◌, IfOk, OnOk};
 ghost use Rattle.std.specs.List.{All, list_any};
+ghost use Rattle.rx_fields.specs.declared.limits.TheConstants.{MOST_DETAILS};
 ghost use Rattle.rx_ledger.specs.Answers.{is_too_soon};
 ghost use Rattle.rx_ledger.specs.Fold.{ledger_after, reply_to};
 ghost use Rattle.rx_ledger.specs.Ledger.{rows_of};
@@ -110,7 +111,7 @@ impl InOrder {
         place: u64,
         transmission: &Transmission,
     ) -> Result<Reply, Memory>
-        requires place { place ≤ 100_000 }
+        requires place { place ≤ MOST_DETAILS }
         requires period { self.old.books.period ≡ terms.now.figures.period }
         requires awaited { IsAwaited self.old transmission.now }
         ensures value { IfOk result (λ reply.
@@ -132,6 +133,13 @@ impl InOrder {
                 self.at = *first;
             }
         }
+    }
+
+    /// The standing claims of a family so far, ascending by fill key. All rows are gone over.
+    pub fn rows_of(&self, alloc: Global, family: &Id) -> Result<Vec<Row>, Memory>
+        ensures { IfOk result (λ rows. rows.items ≡ rows_of self.now.books.ledger family.now) }
+    {
+        rows_of(alloc, &self.books, family)
     }
 
     /// The books so far. It takes no memory.
@@ -232,6 +240,20 @@ fn is_any_row_too_soon(books: &OpenBooks, figures: &Figures, date: Day, bill: &B
         }
     }
     false
+}
+
+// The rows of a family that stand, in order.
+fn rows_of(alloc: Global, books: &OpenBooks, family: &Id) -> Result<Vec<Row>, Memory>
+    ensures { IfOk result (λ rows. rows.items ≡ rows_of books.now.books.ledger family.now) }
+{
+    let mut rows = Vec::new(alloc);
+    let mut standing = books.standing();
+    while let Some((row, _)) = standing.next_row() {
+        if is_same(&row.family, family) {
+            rows.push(*row)?;
+        }
+    }
+    Ok(rows)
 }
 
 // Whether two families are the same.

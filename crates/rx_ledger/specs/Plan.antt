@@ -3,8 +3,9 @@ use Rattle.std.specs.Prelude.{◌≡◌, ℕ, Bool, true, not, ◌&&◌, nat_le,
 use Rattle.std.specs.List.{list_all}
 use Rattle.std.specs.Option.{option_map}
 use Rattle.std.specs.Ordering.{is_eq, nat_cmp}
-use Rattle.rx_fields.specs.Digits.{is_digit}
-use Rattle.rx_fields.specs.Text.{is_printable}
+use Rattle.rx_ledger.specs.declared.figures.TheConstants.{MOST_LIMIT}
+use Rattle.rx_fields.specs.declared.limits.TheConstants.{MOST_CENTS}
+use Rattle.rx_text.specs.Bytes.{all_digits, all_printable}
 use Rattle.rx_order.specs.Ascending.{contains_key, item_at, put}
 use Rattle.rx_ledger.specs.declared.drug.Drug.{Drug}
 use Rattle.rx_ledger.specs.declared.drug.Share.{Share}
@@ -14,15 +15,9 @@ use Rattle.rx_ledger.specs.declared.sheet.Listed.{Listed}
 use Rattle.rx_ledger.specs.declared.sheet_key.SheetKey.{SheetKey}
 use Rattle.rx_ledger.specs.declared.sheet_key.SheetKey.TheVariants as key
 
-abbrev pub are_digits : List ℕ → Bool
-are_digits bytes = list_all is_digit bytes
-
-abbrev pub are_printable : List ℕ → Bool
-are_printable bytes = list_all is_printable bytes
-
 -- a deductible or a maximum: at most 99,999,999,999 cents
 abbrev pub is_limit : ℕ → Bool
-is_limit cents = nat_le cents 99_999_999_999
+is_limit cents = nat_le cents MOST_LIMIT
 
 abbrev pub is_limit_if_there : Option ℕ → Bool
 is_limit_if_there None = true
@@ -31,13 +26,13 @@ is_limit_if_there (Some cents) = is_limit cents
 -- the first figure outside its range, by the keys' numbers
 abbrev pub wrong_figure : Figures → Option SheetKey
 wrong_figure f =
-    if not (are_digits f.door.bin) then Some key.Bin
-    else (if not (are_printable f.door.pcn) then Some key.Pcn
+    if not (all_digits f.door.bin) then Some key.Bin
+    else (if not (all_printable f.door.pcn) then Some key.Pcn
     else (if not (is_limit f.member_deductible) then Some key.MemberDeductible
     else (if not (is_limit f.family_maximum) then Some key.FamilyMaximum
     else (if not (nat_le f.refill_percent 100) then Some key.RefillPercent
     else (if not (nat_le 1 f.max_days && nat_le f.max_days 999) then Some key.MaxDays
-    else (if not (nat_le f.fee 99_999_999) then Some key.Fee
+    else (if not (nat_le f.fee MOST_CENTS) then Some key.Fee
     else (if not (is_limit_if_there f.family_deductible) then Some key.FamilyDeductible else None)))))))
 
 -- each figure is within its range
@@ -46,7 +41,7 @@ AreFigures f = wrong_figure f ≡ None
 
 -- a copay fits its field, a percentage is at most 100
 abbrev pub is_share : Share → Bool
-is_share (Copay cents) = nat_le cents 99_999_999
+is_share (Copay cents) = nat_le cents MOST_CENTS
 is_share (Percent percent) = nat_le percent 100
 
 -- share and price are within their ranges

@@ -1,6 +1,8 @@
 ghost use Rattle.std.specs.Prelude.{◌≡◌};
 ghost use Rattle.rx_ledger.specs.Plan.{is_drug};
 
+use rx_fields::MOST_CENTS;
+
 /// What a member pays of a drug, beside the deductible.
 #[derive(Clone, Copy, Debug, PartialEq, Eq)]
 pub enum Share {
@@ -25,7 +27,7 @@ impl Drug {
         ensures { result ≡ is_drug self.now }
     {
         let fits = match self.share {
-            Share::Copay(cents) => cents <= 99_999_999,
+            Share::Copay(cents) => cents <= MOST_CENTS,
             Share::Percent(percent) => percent <= 100,
         };
         fits && self.price <= 1_000_000_000

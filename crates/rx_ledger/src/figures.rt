@@ -1,4 +1,8 @@
-use rx_fields::{Door, Period};
+use rx_fields::{Door, MOST_CENTS, Period};
+use rx_text::{all_digits, all_printable};
+
+/// The largest deductible or family maximum of a plan, in cents: eleven digits.
+pub const MOST_LIMIT: u64 = 99_999_999_999;
 
 /// The figures of a plan sheet (docs/FORMATS.md, "Plan sheet").
 #[derive(Clone, Copy, Debug, PartialEq, Eq)]
@@ -22,7 +26,8 @@ pub struct Figures {
 }
 
 ghost use Rattle.std.specs.Prelude.{◌≡◌};
-ghost use Rattle.rx_ledger.specs.Plan.{wrong_figure, are_digits, are_printable};
+ghost use Rattle.rx_text.specs.Bytes.{all_digits, all_printable};
+ghost use Rattle.rx_ledger.specs.Plan.{wrong_figure};
 
 use crate::sheet_key::SheetKey;
 
@@ -31,16 +36,16 @@ impl Figures {
     pub fn wrong(&self) -> Option<SheetKey>
         ensures { result ≡ wrong_figure self.now }
     {
-        if !are_digits(&self.door.bin) {
+        if !all_digits(&self.door.bin) {
             return Some(SheetKey::Bin);
         }
-        if !are_printable(&self.door.pcn) {
+        if !all_printable(&self.door.pcn) {
             return Some(SheetKey::Pcn);
         }
-        if self.member_deductible > 99_999_999_999 {
+        if self.member_deductible > MOST_LIMIT {
             return Some(SheetKey::MemberDeductible);
         }
-        if self.family_maximum > 99_999_999_999 {
+        if self.family_maximum > MOST_LIMIT {
             return Some(SheetKey::FamilyMaximum);
         }
         if self.refill_percent > 100 {
@@ -49,24 +54,12 @@ impl Figures {
         if self.max_days < 1 || self.max_days > 999 {
             return Some(SheetKey::MaxDays);
         }
-        if self.fee > 99_999_999 {
+        if self.fee > MOST_CENTS {
             return Some(SheetKey::Fee);
         }
         match self.family_deductible {
-            Some(cents) if cents > 99_999_999_999 => Some(SheetKey::FamilyDeductible),
+            Some(cents) if cents > MOST_LIMIT => Some(SheetKey::FamilyDeductible),
             _ => None,
         }
     }
-}
-
-fn are_digits(bytes: &[u8]) -> bool
-    ensures { result ≡ are_digits bytes.now }
-{
-    bytes.iter().all(|b| *b >= b'0' && *b <= b'9')
-}
-
-fn are_printable(bytes: &[u8]) -> bool
-    ensures { result ≡ are_printable bytes.now }
-{
-    bytes.iter().all(|b| *b >= b' ' && *b <= b'~')
 }

@@ -1,4 +1,5 @@
 ghost use Rattle.std.specs.Prelude.{◌≡◌, ◌≤◌, length, IfOk};
+ghost use Rattle.rx_fields.specs.declared.limits.TheConstants.{MOST_DETAILS};
 ghost use Rattle.rx_ledger.specs.Fold.{fold_ledger, fold_replies};
 
 use crate::ledger::Ledger;
@@ -17,7 +18,7 @@ pub fn plain_run(
     before: &Ledger,
     transmissions: &[Transmission],
 ) -> Result<(Ledger, Vec<Reply>), Memory>
-    requires { length transmissions.now ≤ 100_000 }
+    requires { length transmissions.now ≤ MOST_DETAILS }
     ensures ledger { IfOk result (λ out. out.0 ≡ fold_ledger lot sheet.now 1 transmissions.now before.now) }
     ensures replies { IfOk result (λ out. out.1.items ≡ fold_replies lot sheet.now 1 transmissions.now before.now) }
 {

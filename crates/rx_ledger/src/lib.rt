@@ -40,7 +40,7 @@ pub use basis::Basis;
 pub use bounds::accumulators_stay_within;
 pub use claim::{Claim, Patient};
 pub use drug::{Drug, Share};
-pub use figures::Figures;
+pub use figures::{Figures, MOST_LIMIT};
 pub use fold::plain_run;
 pub use law::adjudication_keeps;
 pub use ledger::{AddError, Ledger};

@@ -1,4 +1,5 @@
 ghost use Rattle.std.specs.Prelude.{◌≡◌, ◌≤◌, []};
+ghost use Rattle.rx_fields.specs.declared.limits.TheConstants.{MOST_DETAILS};
 ghost use Rattle.rx_ledger.specs.Answers.{key_of, paid_row};
 ghost use Rattle.rx_ledger.specs.Claims.{asked_on, occasion_of};
 
@@ -26,7 +27,7 @@ impl Occasion {
     /// The occasion of the nth transaction, from 1, of the record at a place of the lot, from 1. Its authorization
     /// number has seven digits of the batch number, seven of the place and one of n (docs/PRODUCT.md, "Words").
     pub fn new(lot: Lot, figures: &Figures, place: u64, heard: &Heard, nth: u64) -> Occasion
-        requires place { place ≤ 100_000 }
+        requires place { place ≤ MOST_DETAILS }
         requires nth { nth ≤ 4 }
         ensures { result ≡ occasion_of lot figures.now place heard.now nth }
     {

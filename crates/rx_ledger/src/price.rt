@@ -1,4 +1,5 @@
 ghost use Rattle.std.specs.Prelude.{◌≡◌};
+ghost use Rattle.rx_fields.specs.declared.limits.TheConstants.{MOST_CENTS};
 
 use rx_claim::Bill;
 use rx_fields::Quantity;
@@ -14,13 +15,14 @@ pub struct Allowance {
 
 impl Model for Allowance {
     ghost use Rattle.std.specs.Prelude.{◌≤◌, ◌+◌};
+    ghost use Rattle.rx_fields.specs.declared.limits.TheConstants.{MOST_CENTS};
     ghost use Rattle.rx_ledger.specs.Price.{Allowance as Allowed};
 
     ghost Value = { Allowed };
 
     ghost view = { λ a. record { ingredient_cost = a.ingredient_cost; dispensing_fee = a.dispensing_fee } };
 
-    ghost invariant = { λ a. a.ingredient_cost + a.dispensing_fee ≤ 99_999_999 };
+    ghost invariant = { λ a. a.ingredient_cost + a.dispensing_fee ≤ MOST_CENTS };
 
     ghost inverse = { λ a. record { ingredient_cost = a.ingredient_cost; dispensing_fee = a.dispensing_fee } };
 }
@@ -62,7 +64,7 @@ impl Allowance {
     /// Cost and fee together, in cents.
     pub fn total(&self) -> u64
         ensures value { result ≡ self.now.ingredient_cost + self.now.dispensing_fee }
-        ensures within { result ≤ 99_999_999 }
+        ensures within { result ≤ MOST_CENTS }
     {
         self.ingredient_cost + self.dispensing_fee
     }
@@ -78,7 +80,7 @@ fn cost_of(quantity: Quantity, price: u64) -> u64
 
 // Cost and fee; where they exceed the cap, the fee first.
 fn capped(cap: u64, ingredient_cost: u64, dispensing_fee: u64) -> Allowance
-    requires cap { cap ≤ 99_999_999 }
+    requires cap { cap ≤ MOST_CENTS }
     requires fit { ingredient_cost + dispensing_fee ≤ 199_999_998 }
     ensures { result ≡ capped cap (record { ingredient_cost = ingredient_cost; dispensing_fee = dispensing_fee }) }
 {

@@ -1,5 +1,6 @@
 ghost use Rattle.std.specs.Prelude.{◌≡◌, ◌≤◌, length, true, IfOk, OnOk};
 ghost use Rattle.std.specs.List.{All};
+ghost use Rattle.rx_fields.specs.declared.limits.TheConstants.{MOST_DETAILS};
 ghost use Rattle.rx_claim.specs.Listed.{is_few};
 ghost use Rattle.rx_ledger.specs.Basis.{HasPeriod, Holds, HoldsRecord};
 ghost use Rattle.rx_ledger.specs.Fold.{answers_from, ledger_after, ledger_from, reply_to};
@@ -24,7 +25,7 @@ pub fn answer_record<S: Basis>(
     place: u64,
     transmission: &Transmission,
 ) -> Result<Reply, Memory>
-    requires place { place ≤ 100_000 }
+    requires place { place ≤ MOST_DETAILS }
     requires period { HasPeriod (S.scope basis.old).period terms.now.figures.period }
     requires held { HoldsRecord (S.scope basis.old) (S.ledger basis.old) transmission.now.body }
     ensures value { IfOk result (λ reply.
@@ -51,7 +52,7 @@ fn answers<S: Basis>(
     place: u64,
     heard: &Heard,
 ) -> Result<Answers, Memory>
-    requires place { place ≤ 100_000 }
+    requires place { place ≤ MOST_DETAILS }
     requires period { HasPeriod (S.scope basis.old).period terms.now.figures.period }
     requires held { All (Holds (S.scope basis.old) (key_in heard.now) (S.ledger basis.old)) heard.now.list }
     ensures value { IfOk result (λ answers. answers

@@ -1,4 +1,5 @@
 ghost use Rattle.std.specs.Prelude.{◌≡◌, ◌≤◌, true};
+ghost use Rattle.rx_fields.specs.declared.limits.TheConstants.{MOST_CENTS};
 ghost use Rattle.rx_ledger.specs.Plan.{is_share};
 ghost use Rattle.rx_ledger.specs.Share.{coinsurance_of, copay_of, left, shared, under_deductible};
 
@@ -68,7 +69,7 @@ fn copay_of(share: Share, rest: u64, room: u64) -> u64
 }
 
 fn coinsurance_of(share: Share, rest: u64, room: u64) -> u64
-    requires { rest ≤ 99_999_999 }
+    requires { rest ≤ MOST_CENTS }
     ensures value { result ≡ coinsurance_of share rest room }
 {
     match share {

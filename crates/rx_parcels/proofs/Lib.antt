@@ -2,6 +2,7 @@ pub mod Agreed
 pub mod Changed
 pub mod Edited
 pub mod Families
+pub mod FewItems
 pub mod Held
 pub mod Locality
 pub mod Owned

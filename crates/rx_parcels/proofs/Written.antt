@@ -1,8 +1,7 @@
 -- What is written into a parcel: a key's book, and a family's book.
-use Rattle.std.proofs.Common.{◌≡◌, ℕ, zero, suc, List, [], ◌∷◌, get_or, set, true, false}
-use Rattle.std.proofs.Common.{Option, Some, None, Result, OnOk, refl, sym, ap, ◌∙◌}
+use Rattle.std.proofs.Common.{◌≡◌, ℕ, zero, suc, List, [], ◌∷◌, get_or, set, Some, refl, sym, ap, ◌∙◌}
 use Rattle.std.specs.List.{All}
-use Rattle.std.specs.Option.{is_some, ok_or, option_map}
+use Rattle.std.specs.Option.{option_map}
 use Rattle.std.proofs.lemmas.List.Elements.{All-set}
 use Rattle.rx_fields.specs.Order.{id_cmp, key_cmp}
 use Rattle.rx_fields.specs.declared.key.Key.{Key}
@@ -16,11 +15,6 @@ use Rattle.rx_parcels.specs.declared.key_book.KeyBook.{KeyBook}
 use Rattle.rx_parcels.specs.FamilyBook.{FamilyBook, IsOwn, book_with_row, book_without_row, family_of}
 use Rattle.rx_parcels.specs.Parcels.{HasOwnRow, IsParcel, ParcelParts, family_at, family_without, key_of, row_at, with_family_book}
 use Rattle.rx_parcels.proofs.Held.{family_found, period_found}
-
--- a write over a book that is there succeeds
-pub replaced : {X P : Type 0} (r : Result X X) (o : Option X) (x : X) → r ≡ ok_or o x → is_some o ≡ true → OnOk r P → P
-replaced r None x e there h = absurd (let w : false ≡ true = there in cc)
-replaced r (Some y) x e there h = rw e at h
 
 -- what is written over itself stays
 pub unwritten : {X : Type 0} (xs : List X) (i : ℕ) (x d : X) → x ≡ get_or xs i d → set xs i x ≡ xs

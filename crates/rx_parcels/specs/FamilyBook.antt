@@ -1,6 +1,7 @@
 -- Meaning: the book of a family: its members and its standing claims, with the totals over those of a benefit period.
 use Rattle.std.specs.Prelude.{◌≡◌, ℕ, ◌<◌, ◌≤◌, ◌^◌, Bool, List, [], Option, Some, None, if◌then◌else◌, length, map}
 use Rattle.std.specs.List.{All}
+use Rattle.rx_fields.specs.declared.limits.TheConstants.{MOST_CENTS}
 use Rattle.rx_fields.specs.Numbered.{Span}
 use Rattle.rx_fields.specs.Order.{key_cmp}
 use Rattle.rx_fields.specs.declared.key.Key.{Key}
@@ -57,7 +58,7 @@ deductibles_over period rows members = map (λ m. deductible_in period rows m.ke
 pub record IsOwn (b : FamilyBook) : Type 0 where
   pub in_order : IsLedger (own_ledger b)
   pub members_own : All (λ m. m.key.family ≡ b.family) b.members
-  pub small : All (λ r. paid_by_patient r ≤ 99_999_999) b.rows
+  pub small : All (λ r. paid_by_patient r ≤ MOST_CENTS) b.rows
   pub few : length b.rows < 2 ^ 63
 
 -- each stored total is the sum over the book's own rows

@@ -2,5 +2,8 @@
 pub mod Agreement
 pub mod Books
 pub mod FamilyBook
+pub mod Few
+pub mod FewLends
 pub mod Footprints
+pub mod Members
 pub mod Parcels

@@ -7,6 +7,7 @@ ghost use Rattle.rx_ledger.specs.Sums.{family_deductible_in, out_of_pocket_in};
 ghost use Rattle.rx_parcels.specs.FamilyBook.{AreTotals, IsOwn, book_with_member, book_with_row, book_without_row};
 ghost use Rattle.rx_parcels.specs.FamilyBook.{deductible_at, empty_book, own_ledger};
 
+use crate::members::{FEW_MEMBERS, Members};
 use crate::totals::{FamilyTotals, counted_in, place_of_member};
 use rx_fields::{Id, Key, Memory, Period, Person};
 use rx_ledger::{Member, MemberKey, Row};
@@ -15,9 +16,6 @@ use smallvec::SmallVec;
 use std::alloc::Global;
 use std::marker::Model;
 
-// For how many members their deductibles stand in the book itself, which is then copied without a list of its own for them.
-const FEW_MEMBERS: usize = 4;
-
 /// The book of a family: its members and its standing claims, with each member's deductible and the family's out of
 /// pocket and deductible stored beside them. Each total is the sum over the book's rows that are dated within its
 /// period (docs/PRODUCT.md, "Accumulators").
@@ -25,7 +23,7 @@ const FEW_MEMBERS: usize = 4;
 pub struct Family {
     family: Id,
     period: Period,
-    members: Ascending<Member>,
+    members: Members,
     rows: Ascending<Row>,
     // The members' deductibles, in their order.
     deductibles: SmallVec<u128, FEW_MEMBERS>,
@@ -62,7 +60,7 @@ impl Family {
         Family {
             family,
             period,
-            members: Ascending::new(alloc),
+            members: Members::new(alloc),
             rows: Ascending::new(alloc),
             deductibles: SmallVec::new(alloc),
             out_of_pocket: 0,
@@ -91,7 +89,7 @@ impl Family {
         Family {
             family,
             period,
-            members,
+            members: Members::of(members),
             rows,
             deductibles: SmallVec::from_vec(deductibles),
             out_of_pocket,
@@ -193,7 +191,7 @@ impl Family {
         ensures err { OnErr result (self.new ≡ self.old) }
     {
         self.deductibles.reserve(1)?;
-        self.members.push(member)?;
+        self.members.push(*self.deductibles.allocator(), member)?;
         self.deductibles.push_reserved(0);
         Ok(())
     }
@@ -242,6 +240,7 @@ impl Family {
     }
 
     /// An equal book.
+    #[inline(always)]
     pub fn copy(&self, alloc: Global) -> Result<Family, Memory>
         ensures { IfOk result (λ family. family ≡ self.now) }
     {
@@ -273,7 +272,7 @@ impl PartialEq for Family {
     {
         self.family == other.family
             && self.period == other.period
-            && self.members == other.members
+            && self.members.as_slice() == other.members.as_slice()
             && self.rows == other.rows
     }
 }

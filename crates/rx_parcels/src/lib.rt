@@ -6,15 +6,18 @@
 
 mod agreement;
 mod family;
+mod few;
 mod footprint;
 mod key_book;
 mod law;
+mod members;
 mod parcel;
 mod totals;
 
 pub use family::Family;
+pub use few::Few;
 pub use footprint::Footprint;
 pub use key_book::KeyBook;
 pub use law::law_of_locality;
 pub use parcel::Parcel;
-pub use totals::{Counted, FamilyTotals, counted_in, place_of_member};
+pub use totals::{Counted, FamilyTotals, counted_in};

@@ -1,20 +1,22 @@
 ghost use Rattle.std.specs.Prelude.{◌≡◌, ◌↔◌, IfOk, IfSome, IsSome, IsTrue, None, OnErr, OnOk, true};
 ghost use Rattle.std.specs.List.{All};
 ghost use Rattle.std.specs.Option.{option_copied};
-ghost use Rattle.rx_fields.specs.Order.{id_cmp};
-ghost use Rattle.rx_order.specs.Ascending.{IsAscending, IsAt, contains_key};
+ghost use Rattle.rx_fields.specs.Order.{id_cmp, key_cmp};
+ghost use Rattle.rx_order.specs.Ascending.{IsAscending, IsAt, contains_key, item_at, put};
 ghost use Rattle.rx_parcels.specs.Books.{OfFamily, OfKey};
 ghost use Rattle.rx_parcels.specs.FamilyBook.{IsOwn, family_of};
+ghost use Rattle.rx_parcels.specs.Few.{items_of};
 ghost use Rattle.rx_parcels.specs.Footprints.{names};
-ghost use Rattle.rx_parcels.specs.Parcels.{Agrees, AreBooks, HasOwnRow, IsParcel, family_at, family_deductible_at, member_at};
-ghost use Rattle.rx_parcels.specs.Parcels.{member_deductible, named_in, parcel_with_row, parcel_without_row, pocket_at};
+ghost use Rattle.rx_parcels.specs.Parcels.{Agrees, AreBooks, HasOwnRow, IsParcel, family_at, family_deductible_at, key_of};
+ghost use Rattle.rx_parcels.specs.Parcels.{member_at, member_deductible, named_in, parcel_with_row, parcel_without_row, pocket_at};
 ghost use Rattle.rx_parcels.specs.Parcels.{row_at, rows_at};
 
 use crate::family::Family;
+use crate::few::Few;
 use crate::key_book::KeyBook;
 use rx_fields::{Id, Key, Memory, Period, Person};
 use rx_ledger::{Member, Row};
-use rx_order::{Ascending, is_ascending, place_of};
+use rx_order::{Keyed, is_ascending, place_of};
 use std::alloc::Global;
 use std::marker::Model;
 
@@ -23,38 +25,39 @@ use std::marker::Model;
 #[derive(Debug, Drop)]
 pub struct Parcel {
     period: Period,
-    keys: Ascending<KeyBook>,
-    families: Vec<Family>,
+    keys: Few<KeyBook>,
+    families: Few<Family>,
 }
 
 impl Model for Parcel {
+    ghost use Rattle.rx_parcels.specs.Few.{items_of};
     ghost use Rattle.rx_parcels.specs.Parcels.{IsParcel, ParcelParts};
 
     ghost Value = { ParcelParts };
 
-    ghost view = { λ p. record { period = p.period; keys = p.keys; families = p.families.items } };
+    ghost view = { λ p. record { period = p.period; keys = items_of p.keys; families = items_of p.families } };
 
-    ghost invariant = { λ p. IsParcel (record { period = p.period; keys = p.keys; families = p.families.items }) };
+    ghost invariant = { λ p. IsParcel (record { period = p.period; keys = items_of p.keys; families = items_of p.families }) };
 }
 
 impl Parcel {
-    /// Whether these books make a parcel: each key's row is its own, the families ascend, and their totals are of the
-    /// period.
-    pub fn are_books(period: Period, keys: &Ascending<KeyBook>, families: &[Family]) -> bool
+    /// Whether these books make a parcel: the keys ascend, each with its own row, and so do the families, with totals of
+    /// the period.
+    pub fn are_books(period: Period, keys: &[KeyBook], families: &[Family]) -> bool
         ensures { IsTrue result ↔ AreBooks period keys.now families.now }
     {
-        has_own_rows(keys.as_slice()) && are_ascending(families) && are_of_period(families, period)
+        are_key_books(keys) && are_family_books(families, period)
     }
 
     /// The parcel of these books, each with rows of its own and totals of the period. It takes no memory.
-    pub fn new(period: Period, keys: Ascending<KeyBook>, families: Vec<Family>) -> Parcel
-        requires rows_own { All HasOwnRow keys }
-        requires families_rise { IsAscending id_cmp family_of families.items }
-        requires one_period { All (λ b. b.period ≡ period) families.items }
-        ensures { result ≡ record { period = period; keys = keys; families = families.items } }
+    pub fn new(period: Period, keys: Few<KeyBook>, families: Few<Family>) -> Parcel
+        requires keys_rise { IsAscending key_cmp key_of (items_of keys) }
+        requires rows_own { All HasOwnRow (items_of keys) }
+        requires families_rise { IsAscending id_cmp family_of (items_of families) }
+        requires one_period { All (λ b. b.period ≡ period) (items_of families) }
+        ensures { result ≡ record { period = period; keys = items_of keys; families = items_of families } }
     {
-        read_families(&families);
-        keys.as_slice();
+        read_families(families.as_slice());
         Parcel {
             period,
             keys,
@@ -63,9 +66,9 @@ impl Parcel {
     }
 
     /// Its books: those of fill keys and those of families, each in order. It takes no memory.
-    pub fn into_books(self) -> (Ascending<KeyBook>, Vec<Family>)
-        ensures keys { result.0 ≡ self.keys }
-        ensures families { result.1.items ≡ self.families }
+    pub fn into_books(self) -> (Few<KeyBook>, Few<Family>)
+        ensures keys { items_of result.0 ≡ self.keys }
+        ensures families { items_of result.1 ≡ self.families }
         ensures within { IsParcel self }
     {
         let Parcel { keys, families, .. } = self;
@@ -100,29 +103,39 @@ impl Parcel {
     pub fn has_key(&self, key: &Key) -> bool
         ensures { result ≡ names (named_in self.now) (OfKey key.now) }
     {
-        self.keys.contains_key(key)
+        place_of(self.keys(), key).is_ok()
     }
 
     /// Whether it holds the book of the family.
     pub fn has_family(&self, family: &Id) -> bool
         ensures { result ≡ names (named_in self.now) (OfFamily family.now) }
     {
-        place_of(&self.families, family).is_ok()
+        place_of(self.families(), family).is_ok()
     }
 
     /// The row under a fill key; None where none stands there, and where the key's book isn't held.
     pub fn row(&self, key: &Key) -> Option<Row>
         ensures { result ≡ row_at self.now key.now }
     {
-        self.keys.get(key)?.row
+        self.key_book(key)?.row
+    }
+
+    // The book of a fill key.
+    fn key_book(&self, key: &Key) -> Option<&KeyBook>
+        ensures { option_copied result ≡ item_at key_cmp key_of self.now.keys key.now }
+    {
+        match place_of(self.keys(), key) {
+            Ok(at) => Some(&self.keys()[at]),
+            Err(_) => None,
+        }
     }
 
     /// The book of a family.
     pub fn family(&self, family: &Id) -> Option<&Family>
         ensures { option_copied result ≡ family_at self.now family.now }
     {
-        match place_of(&self.families, family) {
-            Ok(at) => Some(&self.families[at]),
+        match place_of(self.families(), family) {
+            Ok(at) => Some(&self.families()[at]),
             Err(_) => None,
         }
     }
@@ -176,15 +189,15 @@ impl Parcel {
         ensures ok { OnOk result (self.new ≡ parcel_with_row self.old row) }
         ensures err { OnErr result (self.new ≡ self.old) }
     {
-        let at = held_place(&self.families, &row.family);
-        let family = &mut self.families[at];
+        let at = held_place(self.families.as_slice(), &row.family);
+        let family = self.families.at_mut(at);
         family.add(row)?;
-        read_families(&self.families);
+        read_families(self.families.as_slice());
         let book = KeyBook {
             key: row.key,
             row: Some(row),
         };
-        let _before = self.keys.replace(book);
+        write_over(&mut self.keys, book);
         Ok(())
     }
 
@@ -199,29 +212,44 @@ impl Parcel {
         let Some(row) = self.row(key) else {
             return;
         };
-        let at = held_place(&self.families, &row.family);
-        let family = &mut self.families[at];
+        let at = held_place(self.families.as_slice(), &row.family);
+        let family = self.families.at_mut(at);
         let _removed = family.remove(key);
-        read_families(&self.families);
+        read_families(self.families.as_slice());
         let book = KeyBook {
             key: *key,
             row: None,
         };
-        let _before = self.keys.replace(book);
+        write_over(&mut self.keys, book);
     }
 
     /// An equal parcel.
+    #[inline]
     pub fn copy(&self, alloc: Global) -> Result<Parcel, Memory>
         ensures { IfOk result (λ parcel. parcel ≡ self.now) }
     {
         let keys = self.keys.to_copy(alloc)?;
-        let families = copies(alloc, &self.families)?;
+        let families = families_copied(alloc, &self.families)?;
         Ok(Parcel {
             period: self.period,
             keys,
             families,
         })
     }
+}
+
+// Whether the keys ascend, and the row in each one's book is its own.
+fn are_key_books(keys: &[KeyBook]) -> bool
+    ensures { IsTrue result ↔ (IsAscending key_cmp key_of keys.now × All HasOwnRow keys.now) }
+{
+    are_keys_ascending(keys) && has_own_rows(keys)
+}
+
+// Whether each key comes before the next.
+fn are_keys_ascending(keys: &[KeyBook]) -> bool
+    ensures { IsTrue result ↔ IsAscending key_cmp key_of keys.now }
+{
+    is_ascending(keys)
 }
 
 // Whether the row in each key's book is its own.
@@ -239,6 +267,13 @@ fn is_own_row(book: &KeyBook) -> bool
         Some(row) => row.key == book.key,
         None => true,
     }
+}
+
+// Whether the families ascend, and the totals of each are of the period.
+fn are_family_books(families: &[Family], period: Period) -> bool
+    ensures { IsTrue result ↔ (IsAscending id_cmp family_of families.now × All (λ b. b.period ≡ period) families.now) }
+{
+    are_ascending(families) && are_of_period(families, period)
 }
 
 // Whether each family's totals are of the period.
@@ -271,19 +306,40 @@ fn read_families(families: &[Family])
     }
 }
 
-// The place of a family whose book is there.
-fn held_place(families: &[Family], family: &Id) -> usize
-    requires rise { IsAscending id_cmp family_of families.now }
-    requires held { contains_key id_cmp family_of families.now family.now ≡ true }
-    ensures { IsAt id_cmp family_of families.now family.now result }
+// The place of an item whose key is there.
+fn held_place<T: Keyed>(items: &[T], key: &T::Key) -> usize
+    requires rise { IsAscending T.Key.cmp T.key_of items.now }
+    requires held { contains_key T.Key.cmp T.key_of items.now key.now ≡ true }
+    ensures { IsAt T.Key.cmp T.key_of items.now key.now result }
 {
-    match place_of(families, family) {
+    match place_of(items, key) {
         Ok(at) => at,
         Err(_) => unreachable!(),
     }
 }
 
+// Writes a book over the one of its key.
+fn write_over(keys: &mut Few<KeyBook>, book: KeyBook)
+    requires rise { IsAscending key_cmp key_of (items_of keys.old) }
+    requires held { contains_key key_cmp key_of (items_of keys.old) book.key ≡ true }
+    ensures { items_of keys.new ≡ put key_cmp key_of (items_of keys.old) book }
+{
+    let at = held_place(keys.as_slice(), &book.key);
+    *keys.at_mut(at) = book;
+}
+
 // Equal books, in the same order.
+#[inline(always)]
+fn families_copied(alloc: Global, families: &Few<Family>) -> Result<Few<Family>, Memory>
+    ensures { IfOk result (λ copies. items_of copies ≡ items_of families.now) }
+{
+    match families {
+        Few::One(family) => Ok(Few::One(family.copy(alloc)?)),
+        Few::Many(families) => Ok(Few::Many(copies(alloc, families)?)),
+    }
+}
+
+// Equal books of a list.
 fn copies(alloc: Global, families: &[Family]) -> Result<Vec<Family>, Memory>
     ensures { IfOk result (λ copies. copies.items ≡ families.now) }
 {
@@ -305,7 +361,9 @@ impl PartialEq for Parcel {
     fn eq(&self, other: &Parcel) -> bool
         ensures { IsTrue result ↔ (self.now ≡ other.now) }
     {
-        self.period == other.period && self.keys == other.keys && self.families == other.families
+        self.period == other.period
+            && self.keys() == other.keys()
+            && self.families() == other.families()
     }
 }
 

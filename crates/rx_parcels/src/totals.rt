@@ -1,12 +1,13 @@
 ghost use Rattle.std.specs.Prelude.{◌≡◌, ◌≤◌, ◌*◌, ◌^◌, length, true, IsTrue};
+ghost use Rattle.rx_fields.specs.declared.limits.TheConstants.{MOST_CENTS};
 ghost use Rattle.rx_ledger.specs.Ledger.{is_listed};
 ghost use Rattle.rx_ledger.specs.Members.{member_cmp, member_key};
 ghost use Rattle.rx_ledger.specs.Sums.{counted, deductible_paid, paid_by_patient};
 ghost use Rattle.rx_order.specs.Ascending.{IsAt, contains_key};
 
+use crate::members::Members;
 use rx_fields::Period;
-use rx_ledger::{Member, MemberKey, Row};
-use rx_order::Ascending;
+use rx_ledger::{MemberKey, Row};
 
 /// What a row counts in a period, in cents: nothing where it isn't dated within it.
 #[derive(Clone, Copy, Debug, PartialEq, Eq)]
@@ -32,7 +33,7 @@ pub struct FamilyTotals {
 pub fn counted_in(period: Period, row: &Row) -> Counted
     ensures deductible { result.deductible ≡ counted period deductible_paid row.now }
     ensures out_of_pocket { result.out_of_pocket ≡ counted period paid_by_patient row.now }
-    ensures small { paid_by_patient row.now ≤ 99_999_999 }
+    ensures small { paid_by_patient row.now ≤ MOST_CENTS }
 {
     let patient_pay = row.pricing.patient_pay();
     if period.contains(row.key.date) {
@@ -48,8 +49,8 @@ pub fn counted_in(period: Period, row: &Row) -> Counted
     }
 }
 
-/// The place of a listed member.
-pub fn place_of_member(members: &Ascending<Member>, key: &MemberKey) -> usize
+// The place of a listed member.
+pub(crate) fn place_of_member(members: &Members, key: &MemberKey) -> usize
     requires { contains_key member_cmp member_key members.now key.now ≡ true }
     ensures { IsAt member_cmp member_key members.now key.now result }
 {

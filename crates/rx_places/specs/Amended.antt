@@ -1,4 +1,4 @@
--- The ledger that a shelf's books make together, where they agree (docs/MODEL.md, "Book values").
+-- Meaning: the ledger that a shelf's books make together, where they agree (docs/MODEL.md, "Book values").
 use Rattle.std.specs.Prelude.{Bool, true, false, not, List, ◌∷◌, Option, Some, None, filter, map}
 use Rattle.rx_fields.specs.Order.{id_cmp, key_cmp}
 use Rattle.rx_order.specs.Ascending.{contains_key, item_at}

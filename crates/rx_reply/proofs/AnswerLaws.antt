@@ -21,11 +21,13 @@ use Rattle.rx_reply.specs.declared.reading.amounts.Share.{Share}
 use Rattle.rx_reply.specs.Text.{field, segment, code_field, reference_segment, known_reference, amount_field}
 use Rattle.rx_reply.specs.Text.{coinsurance_field, amounts_segment, answer_text, group_text}
 use Rattle.rx_reply.specs.Limits.{IsNumber, IsReference, AreCodes, IsPaid, IsApproved, IsRefused, IsAnswer}
-use Rattle.rx_reply.specs.Readers.{◌>>=◌, after, labelled, made, times, number_at}
+use Rattle.rx_text.specs.Options.{◌>>=◌}
+use Rattle.rx_reply.specs.Readers.{after, labelled, made, times, number_at}
 use Rattle.rx_reply.specs.Reading.{paid_at, amount_at, not_zero, coinsurance_behind, coinsurance_at, price_at, share_at, amounts_of, summed}
 use Rattle.rx_reply.specs.Reading.{priced, pricing_at, authorization_at, reference_label, reference_at, reference_behind, known_at, code_at}
 use Rattle.rx_reply.specs.Reading.{codes_at, paid_claim_at, approved_at, refused_at, behind_status, answer_at, group_at}
-use Rattle.rx_reply.proofs.Laws.{bind_some, guarded, some_same, chain, after_takes, after_again, Reads, Always}
+use Rattle.rx_text.proofs.Steps.{bind_some, guarded, some_same, chain}
+use Rattle.rx_reply.proofs.Laws.{after_takes, after_again, Reads, Always}
 use Rattle.rx_reply.proofs.Laws.{labelled-reads, pair-reads, made-reads, shaped-reads, times-reads}
 use Rattle.rx_reply.proofs.FieldLaws.{bytes-reads, number-reads, paid-reads, reversed-reads, code_is, code_again}
 

@@ -13,15 +13,18 @@ use Rattle.std.proofs.lemmas.List.{take_more, take_at, drop_at, take-append-drop
 use Rattle.rx_fields.specs.declared.fault.FieldFault.{FieldFault}
 use Rattle.rx_fields.specs.declared.code.Code.{Code}
 use Rattle.rx_fields.specs.declared.code.Code.TheVariants as code
-use Rattle.rx_fields.specs.Digits.{is_digit, all_digits, number, digits_text}
+use Rattle.rx_text.specs.Bytes.{is_digit, all_digits}
+use Rattle.rx_fields.specs.Digits.{number, digits_text}
 use Rattle.rx_fields.specs.Amount.{signed_of, signed_text, last_char, is_negative}
 use Rattle.rx_fields.specs.Bounds.{bounded}
 use Rattle.rx_fields.specs.Codes.{code_text, code_of, all_codes}
 use Rattle.rx_fields.proofs.DigitLaws.{digit_at, number_push, length-digits_text, digits_text-all, digits_text-number}
 use Rattle.rx_fields.proofs.AmountLaws.{signed_again}
-use Rattle.rx_reply.specs.Readers.{◌>>=◌, made, bytes_at, digits_at, number_at, spelt, signed_at}
+use Rattle.rx_text.specs.Options.{◌>>=◌}
+use Rattle.rx_reply.specs.Readers.{made, bytes_at, digits_at, number_at, spelt, signed_at}
 use Rattle.rx_reply.specs.Reading.{paid_of, reversed_of, paid_at, reversed_at}
-use Rattle.rx_reply.proofs.Laws.{bind_some, guarded, some_same, chain, Reads, Always, made-reads}
+use Rattle.rx_text.proofs.Steps.{bind_some, guarded, some_same, chain}
+use Rattle.rx_reply.proofs.Laws.{Reads, Always, made-reads}
 
 -- ---- bytes
 

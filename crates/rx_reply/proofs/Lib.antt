@@ -4,4 +4,5 @@ pub mod FieldLaws
 pub mod Loops
 pub mod Laws
 pub mod ReplyLaws
+pub mod Written
 pub mod Shapes

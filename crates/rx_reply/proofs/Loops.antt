@@ -2,7 +2,8 @@
 use Rattle.std.proofs.Common.{◌≡◌, ℕ, suc, ◌+◌, ◌-◌, ◌<◌, ◌≤◌, List, [], ◌∷◌, ◌++◌, Option}
 use Rattle.std.proofs.Common.{Some, None, refl, sym, ap, ◌∙◌, append_assoc, arith}
 use Rattle.std.proofs.lemmas.List.{append-nil}
-use Rattle.rx_reply.specs.Readers.{◌>>=◌, after, behind, times}
+use Rattle.rx_text.specs.Options.{◌>>=◌}
+use Rattle.rx_reply.specs.Readers.{after, behind, times}
 
 -- ---- copies of a text
 

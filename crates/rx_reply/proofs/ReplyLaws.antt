@@ -23,10 +23,12 @@ use Rattle.rx_reply.specs.declared.reading.header.Status.{Status}
 use Rattle.rx_reply.specs.declared.reading.header.Status.TheVariants as status
 use Rattle.rx_reply.specs.Text.{group_text, answers_of, status_of, header_text, reply_text}
 use Rattle.rx_reply.specs.Limits.{IsHeader, AreCodes, IsAnswer, IsOutcome, IsReply}
-use Rattle.rx_reply.specs.Readers.{◌>>=◌, after, times, behind}
+use Rattle.rx_text.specs.Options.{◌>>=◌}
+use Rattle.rx_reply.specs.Readers.{after, times, behind}
 use Rattle.rx_reply.specs.Reading.{group_at, status_at, front_at, back_at, header_of, header_at, alone, heard_of, heard_in}
 use Rattle.rx_reply.specs.Reading.{refusal_label, refusal_at, is_nothing, are_copies, rejected_in, outcome_in, reply_in}
-use Rattle.rx_reply.proofs.Laws.{bind_some, guarded, some_same, chain, after_takes, after_again, Reads, Always}
+use Rattle.rx_text.proofs.Steps.{bind_some, guarded, some_same, chain}
+use Rattle.rx_reply.proofs.Laws.{after_takes, after_again, Reads, Always}
 use Rattle.rx_reply.proofs.Laws.{labelled-reads, pair-reads, made-reads, shaped-reads, times-reads}
 use Rattle.rx_reply.proofs.FieldLaws.{bytes-reads, number-reads}
 use Rattle.rx_reply.proofs.AnswerLaws.{Ends, group-reads, codes_body, codes-reads, chosen, regrouped}

@@ -5,9 +5,10 @@ use Rattle.std.specs.Prelude.{nat_le}
 use Rattle.std.specs.List.{list_all, enumerate_from}
 use Rattle.std.proofs.lemmas.Bool.{and_parts, leb-true}
 use Rattle.std.proofs.lemmas.Grind.{common_steps}
-use Rattle.rx_fields.specs.Text.{is_printable}
+use Rattle.rx_text.specs.declared.separators.TheConstants.{SEGMENT}
+use Rattle.rx_text.specs.Bytes.{is_printable, cut}
 use Rattle.rx_reply.specs.declared.fault.ReplyFault.TheVariants as fault
-use Rattle.rx_reply.specs.Fault.{labels, in_order, is_labelled, cut, is_group, is_count, is_status, is_header, are_groups, fault_of}
+use Rattle.rx_reply.specs.Fault.{labels, in_order, is_labelled, is_group, is_count, is_status, is_header, are_groups, fault_of}
 
 labelled_in_order : (segments : List (List ℕ))
     → list_all (λ p. is_labelled p.0 p.1) (enumerate_from 0 segments) ≡ in_order segments labels
@@ -22,13 +23,13 @@ to_the_end : (n : ℕ) (xs : List ℕ) → n ≡ length xs → take n xs ≡ xs
 to_the_end n xs is = grind (arith, common_steps)
 
 pub group_in_order : (bs : List ℕ) (labelled : Bool) → get_or bs 0 0 ≡ 30 → 1 ≤ length bs
-    → labelled ≡ list_all (λ p. is_labelled p.0 p.1) (enumerate_from 0 (cut 30 (take (length bs - 1) (drop 1 bs))))
+    → labelled ≡ list_all (λ p. is_labelled p.0 p.1) (enumerate_from 0 (cut SEGMENT (take (length bs - 1) (drop 1 bs))))
     → labelled ≡ is_group bs
 group_in_order [] labelled is some e = absurd (omega arith)
 group_in_order (b ∷ bs) labelled is some e =
     let rest : take (length (b ∷ bs) - 1) bs ≡ bs = to_the_end (length (b ∷ bs) - 1) bs (omega arith) in
-    rw is (e ∙ (ap (λ (t : List ℕ). list_all (λ p. is_labelled p.0 p.1) (enumerate_from 0 (cut 30 t))) rest
-    ∙ labelled_in_order (cut 30 bs)))
+    rw is (e ∙ (ap (λ (t : List ℕ). list_all (λ p. is_labelled p.0 p.1) (enumerate_from 0 (cut SEGMENT t))) rest
+    ∙ labelled_in_order (cut SEGMENT bs)))
 
 -- a header's count is a digit
 pub count_above : (bs : List ℕ) → is_header bs ≡ true → 49 ≤ get_or bs 4 0

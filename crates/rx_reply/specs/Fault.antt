@@ -2,7 +2,8 @@
 use Rattle.std.specs.Prelude.{◌≡◌, ℕ, ◌-◌, Bool, true, false, ◌&&◌, ◌||◌, nat_eq, nat_le, ◌==◌, if◌then◌else◌}
 use Rattle.std.specs.Prelude.{List, [], ◌∷◌, length, take, drop, slice_index, Result, Ok, Err, codes}
 use Rattle.std.specs.List.{list_all, starts_with, slice_split}
-use Rattle.rx_fields.specs.Text.{is_printable}
+use Rattle.rx_text.specs.declared.separators.TheConstants.{GROUP, SEGMENT}
+use Rattle.rx_text.specs.Bytes.{is_printable, cut}
 use Rattle.rx_claim.specs.declared.reply.Reply.{Reply}
 use Rattle.rx_reply.specs.declared.fault.ReplyFault.{ReplyFault}
 use Rattle.rx_reply.specs.declared.fault.ReplyFault.TheVariants as fault
@@ -33,10 +34,6 @@ is_header bs =
 
 -- ---- groups and segments
 
--- the pieces between the separators
-abbrev pub cut : ℕ → List ℕ → List (List ℕ)
-cut separator bs = slice_split (λ b. b == separator) bs
-
 -- how segments 21, 22 and 23 begin
 abbrev pub labels : List (List ℕ)
 labels = field (codes "AM") (codes "21") ∷ field (codes "AM") (codes "22") ∷ field (codes "AM") (codes "23") ∷ []
@@ -57,12 +54,12 @@ is_labelled place s =
 -- SS, and then segments, cut at SS: 21 alone, 21 and 22, or 21, 22 and 23
 abbrev pub is_group : List ℕ → Bool
 is_group [] = false
-is_group (b ∷ bs) = (b == 30) && in_order (cut 30 bs) labels
+is_group (b ∷ bs) = (b == 30) && in_order (cut SEGMENT bs) labels
 
 -- GS, and then that many groups, cut at GS
 abbrev pub are_groups : ℕ → List ℕ → Bool
 are_groups count [] = false
-are_groups count (b ∷ bs) = (b == 29) && ((length (cut 29 bs) == count) && list_all is_group (cut 29 bs))
+are_groups count (b ∷ bs) = (b == 29) && ((length (cut GROUP bs) == count) && list_all is_group (cut GROUP bs))
 
 -- ---- the fault
 

@@ -1,6 +1,7 @@
 -- Meaning: the limits that replies keep.
 use Rattle.std.specs.Prelude.{◌≡◌, ◌≤◌, ℕ, true, List, length, IfSome}
 use Rattle.std.specs.List.{AllByRecursion}
+use Rattle.rx_fields.specs.declared.limits.TheConstants.{MOST_AUTHORIZATION, MOST_CENTS, MOST_REFERENCE}
 use Rattle.rx_fields.specs.declared.code.Code.{Code}
 use Rattle.rx_claim.specs.declared.echo.EchoParts.{EchoParts}
 use Rattle.rx_claim.specs.declared.reply.Answer.{Answer}
@@ -26,11 +27,11 @@ pub record IsHeader (e : EchoParts) : Type 0 where
 
 -- fifteen digits
 abbrev pub IsNumber : ℕ → Type 0
-IsNumber n = n ≤ 999_999_999_999_999
+IsNumber n = n ≤ MOST_AUTHORIZATION
 
 -- twelve digits
 abbrev pub IsReference : ℕ → Type 0
-IsReference n = n ≤ 999_999_999_999
+IsReference n = n ≤ MOST_REFERENCE
 
 -- 1 to 5 codes
 pub record AreCodes (codes : List Code) : Type 0 where
@@ -45,7 +46,7 @@ pub record IsPaid (p : Paid) : Type 0 where
 pub record IsApproved (a : Approved) : Type 0 where
   pub number : IsNumber a.number
   pub reference : IsReference a.reference
-  pub total_paid : a.total_paid ≤ 99_999_999
+  pub total_paid : a.total_paid ≤ MOST_CENTS
 
 pub record IsRefused (r : Refused) : Type 0 where
   pub codes : AreCodes r.codes

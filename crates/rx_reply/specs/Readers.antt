@@ -2,15 +2,12 @@
 use Rattle.std.specs.Prelude.{ℕ, zero, suc, ◌&&◌, nat_eq, nat_le, if◌then◌else◌, List, [], ◌∷◌}
 use Rattle.std.specs.Prelude.{length, take, drop, Option, Some, None, Result, Ok, Err, ℤ}
 use Rattle.std.specs.Cmp.Lexicographic.{pointwise}
+use Rattle.rx_text.specs.Options.{◌>>=◌}
 use Rattle.rx_fields.specs.declared.fault.FieldFault.{FieldFault}
 use Rattle.rx_fields.specs.Amount.{signed_of, signed_text}
 use Rattle.rx_fields.specs.Bounds.{bounded}
-use Rattle.rx_fields.specs.Digits.{all_digits, number}
-
-infixl 10 ◌>>=◌
-abbrev pub ◌>>=◌ : {A B : Type 0} → Option A → (A → Option B) → Option B
-None >>= f = None
-(Some x) >>= f = f x
+use Rattle.rx_text.specs.Bytes.{all_digits}
+use Rattle.rx_fields.specs.Digits.{number}
 
 abbrev pub Reader : Type 0 → Type 0
 Reader A = List ℕ → Option (A × List ℕ)

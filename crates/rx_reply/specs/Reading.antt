@@ -1,6 +1,7 @@
 -- Plumbing: reading a reply from left to right.
 use Rattle.std.specs.Prelude.{ℕ, zero, suc, ◌-◌, Bool, true, false, ◌&&◌, ◌==◌, if◌then◌else◌, List, [], ◌∷◌}
 use Rattle.std.specs.Prelude.{◌++◌, length, take, Option, Some, None, ℤ, pos, negsuc, unsigned_abs, codes}
+use Rattle.rx_fields.specs.declared.limits.TheConstants.{MOST_AUTHORIZATION, MOST_CENTS, MOST_REFERENCE}
 use Rattle.rx_fields.specs.declared.code.Code.{Code}
 use Rattle.rx_fields.specs.Amount.{is_negative}
 use Rattle.rx_fields.specs.Bounds.{bounded}
@@ -26,13 +27,14 @@ use Rattle.rx_reply.specs.declared.reading.header.Header.{Header}
 use Rattle.rx_reply.specs.declared.reading.header.Status.{Status}
 use Rattle.rx_reply.specs.declared.reading.header.Status.TheVariants as status
 use Rattle.rx_reply.specs.Text.{field, segment}
-use Rattle.rx_reply.specs.Readers.{◌>>=◌, after, labelled, pair, made, times, behind, bytes_at, number_at, signed_at}
+use Rattle.rx_text.specs.Options.{◌>>=◌}
+use Rattle.rx_reply.specs.Readers.{after, labelled, pair, made, times, behind, bytes_at, number_at, signed_at}
 
 -- ---- amounts
 
 -- an amount that isn't below 0
 abbrev pub paid_of : ℤ → Option ℕ
-paid_of z = if is_negative z then None else bounded 0 99_999_999 (unsigned_abs z)
+paid_of z = if is_negative z then None else bounded 0 MOST_CENTS (unsigned_abs z)
 
 abbrev pub is_positive : ℤ → Bool
 is_positive (pos zero) = false
@@ -41,7 +43,7 @@ is_positive (negsuc n) = false
 
 -- an amount that isn't above 0, with the sign changed
 abbrev pub reversed_of : ℤ → Option ℕ
-reversed_of z = if is_positive z then None else bounded 0 99_999_999 (unsigned_abs z)
+reversed_of z = if is_positive z then None else bounded 0 MOST_CENTS (unsigned_abs z)
 
 unfoldable pub paid_at : List ℕ → Option (ℕ × List ℕ)
 paid_at bs = made paid_of signed_at bs
@@ -101,18 +103,18 @@ pricing_at bs = made priced (pair price_at share_at) bs
 -- ---- segments 21 and 22
 
 unfoldable pub authorization_at : List ℕ → Option (ℕ × List ℕ)
-authorization_at bs = labelled (field (codes "F3") []) (number_at 0 999_999_999_999_999 15) bs
+authorization_at bs = labelled (field (codes "F3") []) (number_at 0 MOST_AUTHORIZATION 15) bs
 
 abbrev pub reference_label : List ℕ
 reference_label = segment (codes "22") (field (codes "EM") (codes "1") ++ field (codes "D2") [])
 
 unfoldable pub reference_at : List ℕ → Option (ℕ × List ℕ)
-reference_at bs = labelled reference_label (number_at 0 999_999_999_999 12) bs
+reference_at bs = labelled reference_label (number_at 0 MOST_REFERENCE 12) bs
 
 -- the reference where its segment follows
 abbrev pub reference_behind : Option (List ℕ) → List ℕ → Option (Option ℕ × List ℕ)
 reference_behind None bs = Some (None, bs)
-reference_behind (Some rest) bs = made (λ r. Some (Some r)) (number_at 0 999_999_999_999 12) rest
+reference_behind (Some rest) bs = made (λ r. Some (Some r)) (number_at 0 MOST_REFERENCE 12) rest
 
 unfoldable pub known_at : List ℕ → Option (Option ℕ × List ℕ)
 known_at bs = reference_behind (after reference_label bs) bs

@@ -2,22 +2,18 @@
 
 ghost use Rattle.std.specs.Prelude.{◌≡◌, length};
 ghost use Rattle.std.specs.List.{list_all, enumerate_from};
-ghost use Rattle.rx_fields.specs.Text.{is_printable};
-ghost use Rattle.rx_reply.specs.Fault.{is_header, cut, is_labelled, is_group, are_groups, fault_of};
+ghost use Rattle.rx_text.specs.declared.separators.TheConstants.{GROUP, SEGMENT};
+ghost use Rattle.rx_text.specs.Bytes.{cut};
+ghost use Rattle.rx_reply.specs.Fault.{is_header, is_labelled, is_group, are_groups, fault_of};
 
 use crate::fault::ReplyFault;
-use crate::layout::{GROUP, HEADER, SEGMENT};
-
-fn are_printable(bytes: &[u8]) -> bool
-    ensures { result ≡ list_all is_printable bytes.now }
-{
-    bytes.iter().all(|b| *b >= b' ' && *b <= b'~')
-}
+use crate::layout::HEADER;
+use rx_text::{GROUP, SEGMENT, all_printable};
 
 fn is_header(bytes: &[u8]) -> bool
     ensures { result ≡ is_header bytes.now }
 {
-    if bytes.len() < HEADER || !are_printable(&bytes[..HEADER]) {
+    if bytes.len() < HEADER || !all_printable(&bytes[..HEADER]) {
         return false;
     }
     let is_count = bytes[4] >= b'1' && bytes[4] <= b'4';
@@ -38,7 +34,7 @@ fn is_labelled(place: usize, segment: &[u8]) -> bool
 }
 
 fn are_labelled(segments: &[u8]) -> bool
-    ensures { result ≡ list_all (λ p. is_labelled p.0 p.1) (enumerate_from 0 (cut 30 segments.now)) }
+    ensures { result ≡ list_all (λ p. is_labelled p.0 p.1) (enumerate_from 0 (cut SEGMENT segments.now)) }
 {
     segments
         .split(|b| *b == SEGMENT)
@@ -56,13 +52,13 @@ fn is_group(group: &[u8]) -> bool
 }
 
 fn group_count(groups: &[u8]) -> usize
-    ensures { result ≡ length (cut 29 groups.now) }
+    ensures { result ≡ length (cut GROUP groups.now) }
 {
     groups.split(|b| *b == GROUP).count()
 }
 
 fn are_all_groups(groups: &[u8]) -> bool
-    ensures { result ≡ list_all is_group (cut 29 groups.now) }
+    ensures { result ≡ list_all is_group (cut GROUP groups.now) }
 {
     groups.split(|b| *b == GROUP).all(|group| is_group(group))
 }

@@ -1,18 +1,20 @@
 //! Writing replies.
 
 ghost use Rattle.std.specs.Prelude.{◌≡◌, ◌≤◌, ◌++◌, ◌∷◌, [], OnOk, IfOk, length};
-ghost use Rattle.std.specs.List.{flat_map};
+ghost use Rattle.std.specs.List.{flat_map, AllByRecursion};
 ghost use Rattle.rx_fields.specs.Digits.{digits_text};
+ghost use Rattle.rx_reply.specs.Limits.{IsHeader, IsPaid, IsAnswer, IsReply};
 ghost use Rattle.rx_reply.specs.Text.{paid_text, answer_text, group_text, header_text, reply_text};
 
 mod amounts;
 mod digits;
 mod segments;
 
-use crate::layout::{GROUP, HEADER};
+use crate::layout::HEADER;
 use amounts::{put_amounts, put_reversed};
 use rx_claim::{Answer, Echo, EchoParts, Outcome, Paid, Refused, Reply};
 use rx_fields::{Memory, digits_write};
+use rx_text::GROUP;
 use segments::{put_codes, put_known, put_number, put_reference};
 use std::alloc::{AllocError, Global};
 
@@ -20,7 +22,8 @@ use std::alloc::{AllocError, Global};
 const MOST: usize = 137;
 
 fn put_paid(out: &mut Vec<u8>, status: u8, paid: &Paid) -> Result<(), AllocError>
-    ensures { OnOk result (out.new.items ≡ out.old.items ++ paid_text (status ∷ []) paid.now) }
+    ensures text { OnOk result (out.new.items ≡ out.old.items ++ paid_text (status ∷ []) paid.now) }
+    ensures within { OnOk result (IsPaid paid.now) }
 {
     put_number(out, status, paid.number)?;
     put_reference(out, paid.reference)?;
@@ -28,7 +31,8 @@ fn put_paid(out: &mut Vec<u8>, status: u8, paid: &Paid) -> Result<(), AllocError
 }
 
 fn put_answer(out: &mut Vec<u8>, answer: &Answer) -> Result<(), AllocError>
-    ensures { OnOk result (out.new.items ≡ out.old.items ++ answer_text answer.now) }
+    ensures text { OnOk result (out.new.items ≡ out.old.items ++ answer_text answer.now) }
+    ensures within { OnOk result (IsAnswer answer.now) }
 {
     match answer {
         Answer::Paid(paid) => put_paid(out, b'P', paid),
@@ -47,14 +51,16 @@ fn put_answer(out: &mut Vec<u8>, answer: &Answer) -> Result<(), AllocError>
 
 // GS and the answer.
 fn put_group(out: &mut Vec<u8>, answer: &Answer) -> Result<(), AllocError>
-    ensures { OnOk result (out.new.items ≡ out.old.items ++ group_text answer.now) }
+    ensures text { OnOk result (out.new.items ≡ out.old.items ++ group_text answer.now) }
+    ensures within { OnOk result (IsAnswer answer.now) }
 {
     out.push(GROUP)?;
     put_answer(out, answer)
 }
 
 fn put_groups(out: &mut Vec<u8>, answers: &[Answer]) -> Result<(), AllocError>
-    ensures { OnOk result (out.new.items ≡ out.old.items ++ flat_map group_text answers.now) }
+    ensures text { OnOk result (out.new.items ≡ out.old.items ++ flat_map group_text answers.now) }
+    ensures within { OnOk result (AllByRecursion IsAnswer answers.now) }
 {
     for answer in answers {
         put_group(out, answer)?;
@@ -62,11 +68,21 @@ fn put_groups(out: &mut Vec<u8>, answers: &[Answer]) -> Result<(), AllocError>
     Ok(())
 }
 
+// N bytes of the header.
+#[inline(always)]
+fn put_field<const N: usize>(out: &mut Vec<u8>, field: &[u8; N]) -> Result<(), AllocError>
+    ensures text { OnOk result (out.new.items ≡ out.old.items ++ field.now) }
+    ensures within { length field.now ≡ N }
+{
+    out.extend_from_slice(field)
+}
+
 // The first six bytes of the header: version, transaction code, count and status.
 #[inline(always)]
 fn header_front(echo: &EchoParts, count: u64, status: u8) -> [u8; 6]
     requires { count ≤ 9 }
-    ensures { result ≡ echo.now.version ++ (echo.now.code ++ (digits_text 1 count ++ status ∷ [])) }
+    ensures text { result ≡ echo.now.version ++ (echo.now.code ++ (digits_text 1 count ++ status ∷ [])) }
+    ensures within { (length echo.now.version ≡ 2) × (length echo.now.code ≡ 2) }
 {
     let [version, edition] = echo.version;
     let [kind, way] = echo.code;
@@ -77,13 +93,14 @@ fn header_front(echo: &EchoParts, count: u64, status: u8) -> [u8; 6]
 #[tactic(auto, using(std::proofs::Common::append_assoc))]
 fn put_header(out: &mut Vec<u8>, echo: &Echo, count: u64, status: u8) -> Result<(), AllocError>
     requires { count ≤ 9 }
-    ensures { OnOk result (out.new.items ≡ out.old.items ++ header_text echo.now count (status ∷ [])) }
+    ensures text { OnOk result (out.new.items ≡ out.old.items ++ header_text echo.now count (status ∷ [])) }
+    ensures within { OnOk result (IsHeader echo.now) }
 {
     let echo = echo.parts();
     out.extend_from_slice(&header_front(echo, count, status))?;
-    out.extend_from_slice(&echo.qualifier)?;
-    out.extend_from_slice(&echo.provider)?;
-    out.extend_from_slice(&echo.date)
+    put_field(out, &echo.qualifier)?;
+    put_field(out, &echo.provider)?;
+    put_field(out, &echo.date)
 }
 
 // Puts the text of a reply with these answers.
@@ -95,8 +112,9 @@ fn put_answers(
     answers: &[Answer],
 ) -> Result<(), AllocError>
     requires { length answers.now ≤ 4 }
-    ensures { OnOk result (out.new.items ≡ out.old.items ++ (header_text echo.now (length answers.now) (status ∷ [])
+    ensures text { OnOk result (out.new.items ≡ out.old.items ++ (header_text echo.now (length answers.now) (status ∷ [])
         ++ flat_map group_text answers.now)) }
+    ensures within { OnOk result (IsHeader echo.now × AllByRecursion IsAnswer answers.now) }
 {
     put_header(out, echo, answers.len() as u64, status)?;
     put_groups(out, answers)
@@ -108,7 +126,8 @@ fn put_answers(
 ///
 /// `AllocError` where a growth was refused; what was put by then stays.
 pub fn put_reply(out: &mut Vec<u8>, reply: &Reply) -> Result<(), AllocError>
-    ensures { OnOk result (out.new.items ≡ out.old.items ++ reply_text reply.now) }
+    ensures text { OnOk result (out.new.items ≡ out.old.items ++ reply_text reply.now) }
+    ensures within { OnOk result (IsReply reply.now) }
 {
     match &reply.outcome {
         Outcome::Rejected(rejected) => {
@@ -125,7 +144,8 @@ pub fn put_reply(out: &mut Vec<u8>, reply: &Reply) -> Result<(), AllocError>
 
 /// The one text of a reply (docs/FORMATS.md, "Reply transmission").
 pub fn encode(alloc: Global, reply: &Reply) -> Result<Vec<u8>, Memory>
-    ensures { IfOk result (λ text. text.items ≡ reply_text reply.now) }
+    ensures text { IfOk result (λ text. text.items ≡ reply_text reply.now) }
+    ensures within { IfOk result (λ text. IsReply reply.now) }
 {
     let mut text = Vec::with_capacity(alloc, room(reply))?;
     put_reply(&mut text, reply)?;

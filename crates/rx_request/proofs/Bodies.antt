@@ -1,12 +1,14 @@
 -- What follows the echo, out of what was read.
 use Rattle.std.proofs.Common.{◌≡◌, ℕ, Bool, true, false, ◌&&◌, List, length, drop, Option, Some, None, refl, sym, ap, ◌∙◌}
 use Rattle.std.specs.Prelude.{option_map, is_some}
+use Rattle.rx_text.specs.declared.separators.TheConstants.{GROUP}
 use Rattle.rx_fields.specs.declared.code.Code.{Code}
 use Rattle.rx_fields.specs.declared.door.Door.{Door}
 use Rattle.rx_claim.specs.declared.transmission.Body.TheVariants.{Rejected, Heard}
 use Rattle.rx_request.specs.declared.header.Header.{Header}
 use Rattle.rx_request.specs.Codes.{is_faulty, header_conditions}
-use Rattle.rx_request.specs.Cut.{cut, first, further}
+use Rattle.rx_text.specs.Bytes.{cut}
+use Rattle.rx_request.specs.Cut.{first, further}
 use Rattle.rx_request.specs.Headers.{header_bytes, header_of, is_clean}
 use Rattle.rx_request.specs.Known.{InsuranceTexts, common_of}
 use Rattle.rx_request.specs.Request.{parts, common, groups, conditions, body}
@@ -17,13 +19,13 @@ is_some_map f None = refl
 is_some_map f (Some x) = refl
 
 -- what was read of the bytes behind the header
-pub groups_are : (bytes rest : List ℕ) → rest ≡ drop 56 bytes → further (cut 29 rest) ≡ groups bytes
+pub groups_are : (bytes rest : List ℕ) → rest ≡ drop 56 bytes → further (cut GROUP rest) ≡ groups bytes
 unfolding groups parts
-groups_are bytes rest e = ap (λ (text : List ℕ). further (cut 29 text)) e
+groups_are bytes rest e = ap (λ (text : List ℕ). further (cut GROUP text)) e
 
-pub common_is : (bytes rest : List ℕ) → rest ≡ drop 56 bytes → common_of (first (cut 29 rest)) ≡ common bytes
+pub common_is : (bytes rest : List ℕ) → rest ≡ drop 56 bytes → common_of (first (cut GROUP rest)) ≡ common bytes
 unfolding common parts
-common_is bytes rest e = ap (λ (text : List ℕ). common_of (first (cut 29 text))) e
+common_is bytes rest e = ap (λ (text : List ℕ). common_of (first (cut GROUP text))) e
 
 pub conditions_are : (door : Door) (bytes : List ℕ) (h : Header) (clean has_common : Bool) (n : ℕ)
     → h ≡ header_of (header_bytes bytes) → clean ≡ is_clean bytes → has_common ≡ is_some (common bytes) → n ≡ length (groups bytes)

@@ -2,7 +2,8 @@
 use Rattle.std.proofs.Common.{◌≡◌, ℕ, ◌+◌, ◌==◌, List, [], ◌∷◌, length, arith}
 use Rattle.std.specs.Prelude.{count_by}
 use Rattle.std.proofs.lemmas.List.Splits.{length-slice_split}
-use Rattle.rx_request.specs.Cut.{cut, further}
+use Rattle.rx_text.specs.Bytes.{cut}
+use Rattle.rx_request.specs.Cut.{further}
 
 length_further : (pieces : List (List ℕ)) (n : ℕ) → length pieces ≡ n + 1 → length (further pieces) ≡ n
 length_further [] n e = absurd (omega arith)

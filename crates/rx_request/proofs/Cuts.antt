@@ -7,7 +7,8 @@ use Rattle.std.specs.List.{All}
 use Rattle.std.proofs.lemmas.List.{take-append-drop, length-take, length-drop, take_all}
 use Rattle.std.proofs.lemmas.List.Elements.{All-from_get_or}
 use Rattle.std.proofs.lemmas.List.Splits.{slice_split_none, slice_split_at}
-use Rattle.rx_request.specs.Cut.{cut, further}
+use Rattle.rx_text.specs.Bytes.{cut}
+use Rattle.rx_request.specs.Cut.{further}
 
 none_passes : (separator : ℕ) (bytes : List ℕ) → ((k : ℕ) → k < length bytes → eqb (get_or bytes k 0) separator ≡ true → ⊥)
     → All (λ b. eqb b separator ≡ false) bytes

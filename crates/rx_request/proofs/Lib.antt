@@ -11,5 +11,6 @@ pub mod WrittenFields
 pub mod WrittenHeader
 pub mod WrittenRequest
 pub mod Faults
+pub mod Readings
 pub mod Lists
 pub mod Bodies

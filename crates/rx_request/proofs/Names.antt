@@ -2,7 +2,9 @@
 use Rattle.std.proofs.Common.{◌≡◌, ℕ, Bool, true, false, ◌&&◌, cond, List, ◌∷◌, map, Option, Some, None, refl, sym, ap, ◌∙◌}
 use Rattle.std.specs.Prelude.{filter}
 use Rattle.std.specs.List.{list_all}
-use Rattle.rx_request.specs.Cut.{is_nonempty, has_id, is_name, is_named, field_of, fields, filled, is_segment, cut, begins_empty, further}
+use Rattle.rx_text.specs.declared.separators.TheConstants.{FIELD}
+use Rattle.rx_text.specs.Bytes.{cut}
+use Rattle.rx_request.specs.Cut.{is_nonempty, has_id, is_name, is_named, field_of, fields, filled, is_segment, begins_empty, further}
 use Rattle.rx_request.specs.Slots.{name_of, put_named}
 
 -- what pieces that follow the empty one say
@@ -15,10 +17,10 @@ both : {A : Type 0} (a b c : Bool) (o : Option A) → cond a (cond (b && c) o No
 both true b c o = refl
 both false b c o = refl
 
-pub named_total : (segment : List ℕ) → cond (begins_empty (cut 28 segment)) (named_by (further (cut 28 segment))) None
+pub named_total : (segment : List ℕ) → cond (begins_empty (cut FIELD segment)) (named_by (further (cut FIELD segment))) None
     ≡ cond (is_segment segment) (Some (name_of (fields segment))) None
 unfolding is_segment fields
-named_total segment = both (begins_empty (cut 28 segment)) (list_all has_id (filled segment)) (is_named (map field_of (filled segment)))
+named_total segment = both (begins_empty (cut FIELD segment)) (list_all has_id (filled segment)) (is_named (map field_of (filled segment)))
     (Some (name_of (map field_of (filled segment))))
 
 -- an empty piece is passed over

@@ -6,7 +6,7 @@ use Rattle.std.proofs.Math.ListN.{set, drop_of_length-le}
 use Rattle.std.proofs.lemmas.Grind.{common_steps}
 use Rattle.std.proofs.lemmas.List.{take_more, append-nil}
 use Rattle.rx_request.specs.Cut.{same}
-use Rattle.rx_request.specs.Known.{◌>>=◌}
+use Rattle.rx_text.specs.Options.{◌>>=◌}
 use Rattle.rx_request.specs.Slots.{text_of, filled_slot, put}
 
 abbrev Slot : Type 0

@@ -4,8 +4,11 @@ use Rattle.std.proofs.Common.{length, map, Option, Some, None, refl, sym, ap, �
 use Rattle.std.specs.Prelude.{filter}
 use Rattle.std.specs.List.{list_all}
 use Rattle.std.specs.Option.{option_to_list}
-use Rattle.rx_request.specs.Cut.{same, is_nonempty, Field, field_of, fields, is_segment, is_part, segments, cut, begins_empty, further}
-use Rattle.rx_request.specs.Known.{◌>>=◌, only, values, has_name, is_called, field, segment}
+use Rattle.rx_text.specs.declared.separators.TheConstants.{FIELD, SEGMENT}
+use Rattle.rx_text.specs.Bytes.{cut}
+use Rattle.rx_request.specs.Cut.{same, is_nonempty, Field, field_of, fields, is_segment, is_part, segments, begins_empty, further}
+use Rattle.rx_text.specs.Options.{◌>>=◌}
+use Rattle.rx_request.specs.Known.{only, values, has_name, is_called, field, segment}
 use Rattle.rx_request.specs.Slots.{all_of, filled_slot, each_slot, put, name_of, put_field, put_named, put_segment}
 use Rattle.std.proofs.lemmas.List.{length-map}
 use Rattle.std.specs.Borrow.{Bor}
@@ -208,10 +211,10 @@ run_off keys before pieces left piece total e put so_far =
 
 -- the slots have the values of the segment's fields
 pub fields_total : (ids : Keys) (slots : List Slot) (segment : List ℕ) → slots ≡ map (λ _. None) ids
-    → run_fields ids slots (map field_of (further (cut 28 segment))) ≡ all_of (λ id. field id (Some segment)) ids
+    → run_fields ids slots (map field_of (further (cut FIELD segment))) ≡ all_of (λ id. field id (Some segment)) ids
 unfolding field fields
 fields_total ids slots segment e =
-    let pieces = further (cut 28 segment) in
+    let pieces = further (cut FIELD segment) in
     ap (λ (from : List Slot). run_fields ids from (map field_of pieces)) e
     ∙ (run_fields_empty ids (map field_of pieces) ∙ same_all (λ id. only (values id (map field_of pieces))) (λ id. field id (Some segment))
     (λ id. ap only (sym (values_filled id pieces))) ids)
@@ -246,12 +249,12 @@ both false b o = refl
 
 -- the slots have the part's segments, where it begins empty
 pub segments_total : (names : Keys) (slots : List Slot) (part : List ℕ) → slots ≡ map (λ _. None) names
-    → cond (begins_empty (cut 30 part)) (run_segments names slots (further (cut 30 part))) None
+    → cond (begins_empty (cut SEGMENT part)) (run_segments names slots (further (cut SEGMENT part))) None
     ≡ cond (is_part part) (all_of (λ name. segment name part) names) None
 unfolding is_part segment segments
 segments_total names slots part e =
-    let texts = further (cut 30 part) in
+    let texts = further (cut SEGMENT part) in
     let all : run_segments names slots texts ≡ cond (list_all is_segment texts)
     (all_of (λ k. only (filter (has_name k) texts)) names) None =
     ap (λ (from : List Slot). run_segments names from texts) e ∙ run_segments_empty names texts in
-    rw all (both (begins_empty (cut 30 part)) (list_all is_segment texts) (all_of (λ k. only (filter (has_name k) texts)) names))
+    rw all (both (begins_empty (cut SEGMENT part)) (list_all is_segment texts) (all_of (λ k. only (filter (has_name k) texts)) names))

@@ -2,7 +2,8 @@
 use Rattle.std.proofs.Common.{◌≡◌, ℕ, Bool, true, false, cond, List, [], ◌∷◌, get_or, Option, Some, None, refl, sym, Bor}
 use Rattle.std.proofs.Math.ListN.{get_or-map}
 use Rattle.std.specs.Prelude.{codes}
-use Rattle.rx_request.specs.Known.{◌>>=◌, field, InsuranceTexts, ClaimTexts, PricingTexts, insurance_of, claim_of}
+use Rattle.rx_text.specs.Options.{◌>>=◌}
+use Rattle.rx_request.specs.Known.{field, InsuranceTexts, ClaimTexts, PricingTexts, insurance_of, claim_of}
 use Rattle.rx_request.specs.Known.{pricing_of, insurance_in, group_in, common_of, group_of, segment, GroupTexts}
 use Rattle.rx_request.specs.Cut.{is_part}
 use Rattle.rx_request.specs.Slots.{text_of, texts_of, all_of}

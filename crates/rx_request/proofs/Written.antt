@@ -1,6 +1,6 @@
 -- What is written is cut into the parts, segments and fields that it was written of.
-use Rattle.std.proofs.Common.{◌≡◌, ℕ, ◌+◌, ◌<◌, ◌≤◌, Bool, true, false, ◌&&◌, eqb, List, [], ◌∷◌, ◌++◌}
-use Rattle.std.proofs.Common.{length, map, take, drop, refl, sym, ap, ◌∙◌, inl, inr, arith}
+use Rattle.std.proofs.Common.{◌≡◌, ℕ, ◌<◌, ◌≤◌, true, false, eqb, List, [], ◌∷◌, ◌++◌}
+use Rattle.std.proofs.Common.{length, map, drop, refl, ap, ◌∙◌, inl, inr, arith}
 use Rattle.std.specs.Prelude.{filter}
 use Rattle.std.specs.List.{All, list_all}
 use Rattle.std.proofs.Math.Seq.{drop-append_seam}
@@ -9,8 +9,10 @@ use Rattle.std.proofs.lemmas.Bool.Decides.{nat_tests}
 use Rattle.std.proofs.lemmas.List.{append-nil}
 use Rattle.std.proofs.lemmas.List.Elements.{All-append, All-cons, All-head, All-map, All-nil, All-tail, All-weaker}
 use Rattle.std.proofs.lemmas.List.Splits.{slice_split_none, slice_split_at}
-use Rattle.rx_fields.specs.Text.{is_printable, trimmed}
-use Rattle.rx_request.specs.Cut.{Field, begins_empty, cut, field_of, fields, filled, first, further}
+use Rattle.rx_text.specs.declared.separators.TheConstants.{FIELD, SEGMENT}
+use Rattle.rx_text.specs.Bytes.{is_printable, cut}
+use Rattle.rx_fields.specs.Text.{trimmed}
+use Rattle.rx_request.specs.Cut.{Field, field_of, fields, filled, first, further}
 use Rattle.rx_request.specs.Cut.{has_id, is_named, is_nonempty, is_part, is_segment, segments}
 use Rattle.rx_request.specs.Request.{groups, parts}
 use Rattle.rx_request.specs.Written.{IsWritten, IsWrittenPart, IsWrittenSegment, behind, field_text, part_text, parts_text, segment_text}
@@ -96,7 +98,7 @@ texts_lack s low fs all = All-map (Lacks s) field_text fs
 -- ---- a segment
 
 module _ (fs : List Field) (all : All IsWritten fs) where
-  segment_cut : cut 28 (segment_text fs) ≡ [] ∷ map field_text fs
+  segment_cut : cut FIELD (segment_text fs) ≡ [] ∷ map field_text fs
   segment_cut = cut_behind 28 [] (map field_text fs) (All-nil (λ b. eqb b 28 ≡ false))
       (texts_lack 28 (omega arith) fs all)
 
@@ -126,7 +128,7 @@ all_cut (fs ∷ segs) all =
     rw (is_cut fs here.fields here.named) (all_cut segs (All-tail IsWrittenSegment fs segs all))
 
 module _ (segs : List (List Field)) (all : IsWrittenPart segs) where
-  part_cut : cut 30 (part_text segs) ≡ [] ∷ map segment_text segs
+  part_cut : cut SEGMENT (part_text segs) ≡ [] ∷ map segment_text segs
   part_cut = cut_behind 30 [] (map segment_text segs) (All-nil (λ b. eqb b 30 ≡ false))
       (segments_lack 30 (omega arith) refl segs all)
 

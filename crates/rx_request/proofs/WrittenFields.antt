@@ -1,17 +1,18 @@
 -- The fields of a group that is written have the values that they were written of.
-use Rattle.std.proofs.Common.{◌≡◌, ℕ, ◌+◌, ◌-◌, ◌/◌, ◌%◌, ◌<◌, ◌≤◌, ◌^◌, Bool, true, false, ◌&&◌, ◌||◌, not}
+use Rattle.std.proofs.Common.{◌≡◌, ℕ, ◌/◌, ◌%◌, ◌<◌, ◌≤◌, ◌^◌, Bool, true, false, ◌&&◌, ◌||◌, not}
 use Rattle.std.proofs.Common.{cond, eqb, ltb, List, [], ◌∷◌, ◌++◌, codes, length, map, pos, Option, Some, None}
 use Rattle.std.proofs.Common.{Result, Ok, Err, refl, sym, ap, ◌∙◌, inl, inr, arith, length-append}
 use Rattle.std.specs.Prelude.{filter, is_none, is_some}
 use Rattle.std.specs.List.{All, list_all, list_any}
 use Rattle.std.specs.Result.{result_ok}
-use Rattle.std.proofs.lemmas.Bool.{and_parts, cases_Bool, eqb-true, leb-true}
+use Rattle.std.proofs.lemmas.Bool.{and_parts, cases_Bool, leb-true}
 use Rattle.std.proofs.lemmas.Bool.Decides.{nat_tests}
-use Rattle.std.proofs.lemmas.List.Elements.{All-cons, All-head, All-nil, All-tail}
+use Rattle.std.proofs.lemmas.List.Elements.{All-cons, All-nil}
 use Rattle.std.proofs.lemmas.List.Folds.{list_all-append}
-use Rattle.rx_fields.specs.Amount.{is_negative, last_char, signed_text}
-use Rattle.rx_fields.specs.Digits.{all_digits, digits_text}
-use Rattle.rx_fields.specs.Text.{IsId, id_of, is_bar, is_printable, trimmed}
+use Rattle.rx_fields.specs.Amount.{last_char, signed_text}
+use Rattle.rx_text.specs.Bytes.{all_digits, is_printable}
+use Rattle.rx_fields.specs.Digits.{digits_text}
+use Rattle.rx_fields.specs.Text.{IsId, is_bar, trimmed}
 use Rattle.rx_fields.specs.declared.fault.IdFault.{IdFault}
 use Rattle.rx_fields.specs.declared.fault.IdFault.TheVariants as fault
 use Rattle.rx_fields.proofs.AmountLaws.{signed_again}
@@ -19,12 +20,11 @@ use Rattle.rx_fields.proofs.DigitLaws.{digits_text-again, digits_text-all, digit
 use Rattle.rx_fields.proofs.IdLaws.{id_printable}
 use Rattle.rx_claim.specs.declared.bill.BillParts.{BillParts}
 use Rattle.rx_claim.specs.declared.transaction.Reversal.{Reversal}
-use Rattle.rx_claim.specs.declared.transaction.Transaction.{Transaction}
 use Rattle.rx_claim.specs.declared.transaction.Transaction.TheVariants.{Bill, Reverse}
 use Rattle.rx_request.specs.Bills.{bill_parts, billing, reversal, reversal_parts, transaction}
 use Rattle.rx_request.specs.Codes.{has_no_charge, is_faulty}
 use Rattle.rx_request.specs.Cut.{Field, is_nonempty, is_part}
-use Rattle.rx_request.specs.Known.{◌>>=◌, ClaimTexts, GroupTexts, InsuranceTexts, PricingTexts, claim_of, common_of, field, group_in}
+use Rattle.rx_request.specs.Known.{ClaimTexts, GroupTexts, InsuranceTexts, PricingTexts, claim_of, common_of, field, group_in}
 use Rattle.rx_request.specs.Known.{group_of, has_name, insurance_in, insurance_of, is_called, only, pricing_of, segment, values}
 use Rattle.rx_request.specs.Values.{amount_in, cents, id_in, is_no_amount, is_plain, is_sole, is_text}
 use Rattle.rx_request.specs.Values.{nonzero, number_in, person_in, positive_in, product_in}

@@ -1,19 +1,20 @@
 -- A header that is written is read field by field.
-use Rattle.std.proofs.Common.{◌≡◌, ℕ, zero, suc, ◌+◌, ◌-◌, ◌<◌, ◌≤◌, ◌^◌, Bool, true, false, ◌&&◌, eqb, ltb}
+use Rattle.std.proofs.Common.{◌≡◌, ℕ, zero, suc, ◌+◌, ◌-◌, ◌<◌, ◌≤◌, ◌^◌, true}
 use Rattle.std.proofs.Common.{List, [], ◌∷◌, ◌++◌, codes, length, take, drop, get_or, slice_range, replicate}
-use Rattle.std.proofs.Common.{length-append, pos, Ok, Some, refl, sym, ap, subst, ◌∙◌, inl, inr, arith}
+use Rattle.std.proofs.Common.{length-append, pos, Some, refl, sym, ap, subst, ◌∙◌, arith}
 use Rattle.std.specs.List.{list_all}
 use Rattle.std.specs.Result.{result_ok}
 use Rattle.std.proofs.Math.Seq.{drop-append-add}
-use Rattle.std.proofs.lemmas.Bool.{and_parts, cases_Bool, leb-true, ltb-true}
+use Rattle.std.proofs.lemmas.Bool.{and_parts, leb-true, ltb-true}
 use Rattle.std.proofs.lemmas.Bool.Decides.{nat_tests}
 use Rattle.std.proofs.lemmas.List.{append-nil, drop_at, get_or-drop, length-replicate, take_at}
 use Rattle.std.proofs.lemmas.List.Folds.{list_all-append}
 use Rattle.jiff_core.specs.Calendar.{days_in_month}
 use Rattle.jiff_core.proofs.CalendarLemmas.{days_in_month_bounds}
-use Rattle.rx_fields.specs.Calendar.{Civil, IsCivil, civil_of, date_of, date_text, is_civil}
-use Rattle.rx_fields.specs.Digits.{all_digits, digits_text, is_digit}
-use Rattle.rx_fields.specs.Text.{IsId, id_of, is_printable, trimmed}
+use Rattle.rx_fields.specs.Calendar.{Civil, IsCivil, civil_of, date_text, is_civil}
+use Rattle.rx_text.specs.Bytes.{all_digits, is_digit, is_printable}
+use Rattle.rx_fields.specs.Digits.{digits_text}
+use Rattle.rx_fields.specs.Text.{IsId, id_of, trimmed}
 use Rattle.rx_fields.proofs.DigitLaws.{digits_text-all, digits_text-number, length-digits_text}
 use Rattle.rx_fields.proofs.IdLaws.{id_again, id_printable}
 use Rattle.rx_request.specs.declared.header.Header.{Header}

@@ -1,14 +1,15 @@
 -- A request that is written is heard as what it was written of.
-use Rattle.std.proofs.Common.{◌≡◌, ℕ, ◌+◌, ◌<◌, ◌≤◌, Bool, true, false, ◌&&◌, ◌||◌, eqb, List, [], ◌∷◌, ◌++◌, codes}
-use Rattle.std.proofs.Common.{length, map, replicate, Option, Some, None, refl, sym, ap, ◌∙◌, arith, append_assoc}
-use Rattle.std.specs.Prelude.{is_none, is_some}
+use Rattle.std.proofs.Common.{◌≡◌, ℕ, ◌+◌, true, false, eqb, List, [], ◌∷◌, ◌++◌, codes}
+use Rattle.std.proofs.Common.{length, map, replicate, Some, refl, ap, ◌∙◌, arith}
+use Rattle.std.specs.Prelude.{is_none}
 use Rattle.std.specs.List.{All, list_all}
 use Rattle.std.proofs.lemmas.Bool.Decides.{nat_tests}
-use Rattle.std.proofs.lemmas.List.{length-map, length-replicate}
+use Rattle.std.proofs.lemmas.List.{length-map}
 use Rattle.std.proofs.lemmas.List.Elements.{All-cons, All-head, All-map, All-nil, All-tail, All-weaker}
 use Rattle.std.proofs.lemmas.List.Folds.{list_all-append}
 use Rattle.rx_fields.specs.Calendar.{Civil, date_text}
-use Rattle.rx_fields.specs.Text.{IsId, is_printable}
+use Rattle.rx_text.specs.Bytes.{is_printable}
+use Rattle.rx_fields.specs.Text.{IsId}
 use Rattle.rx_fields.specs.declared.door.Door.{Door}
 use Rattle.rx_claim.specs.Echoed.{blanked_parts}
 use Rattle.rx_claim.specs.Listed.{is_few}
@@ -28,7 +29,7 @@ use Rattle.rx_request.specs.Request.{body, common, groups, transmission_of}
 use Rattle.rx_request.specs.Steps.{is_addressed}
 use Rattle.rx_request.specs.Values.{date_in, provider_in}
 use Rattle.rx_request.specs.Written.{Asker, IsAsker, IsBillOf, IsDoor, IsReversal, IsWrittenPart, IsWrittenSegment}
-use Rattle.rx_request.specs.Written.{bill_group, billing_text, header_text, heard_of, insurance_fields, part_text}
+use Rattle.rx_request.specs.Written.{bill_group, billing_text, heard_of, insurance_fields, part_text}
 use Rattle.rx_request.specs.Written.{parts_text, provider_text, reversal_group, reversal_text}
 use Rattle.rx_request.proofs.Faults.{header_heard}
 use Rattle.rx_request.proofs.Written.{common_back, groups_back}

@@ -1,16 +1,14 @@
 -- Meaning: what the separators cut (docs/FORMATS.md, "Parts, segments and fields"). GS is 29, SS is 30, FS is 28.
 use Rattle.std.specs.Prelude.{ℕ, Bool, true, false, ◌&&◌, nat_le, nat_eq, ◌==◌, List, [], ◌∷◌, length, map, filter, take, drop, codes}
-use Rattle.std.specs.List.{list_all, slice_split}
+use Rattle.std.specs.List.{list_all}
 use Rattle.std.specs.Cmp.Lexicographic.{pointwise}
+use Rattle.rx_text.specs.declared.separators.TheConstants.{FIELD, SEGMENT}
+use Rattle.rx_text.specs.Bytes.{cut}
 use Rattle.rx_fields.specs.Text.{trimmed}
 
 -- the same bytes
 abbrev pub same : List ℕ → List ℕ → Bool
 same a b = pointwise nat_eq a b
-
--- the pieces between the separators
-abbrev pub cut : ℕ → List ℕ → List (List ℕ)
-cut separator bytes = slice_split (λ b. b == separator) bytes
 
 abbrev pub is_nonempty : List ℕ → Bool
 is_nonempty bytes = nat_le 1 (length bytes)
@@ -32,7 +30,7 @@ further (front ∷ pieces) = pieces
 
 -- the pieces of a segment that are not passed over
 abbrev pub filled : List ℕ → List (List ℕ)
-filled segment = filter is_nonempty (further (cut 28 segment))
+filled segment = filter is_nonempty (further (cut FIELD segment))
 
 -- a field: an id of two bytes, and a value
 pub record Field : Type 0 where
@@ -63,12 +61,12 @@ is_named (f ∷ fs) = is_name f
 -- the segment is cut as it must be
 unfoldable pub is_segment : List ℕ → Bool
 is_segment segment =
-    begins_empty (cut 28 segment) && list_all has_id (filled segment) && is_named (fields segment)
+    begins_empty (cut FIELD segment) && list_all has_id (filled segment) && is_named (fields segment)
 
 -- the segments of a part
 unfoldable pub segments : List ℕ → List (List ℕ)
-segments part = further (cut 30 part)
+segments part = further (cut SEGMENT part)
 
 -- the part is cut as it must be, and each of its segments too
 unfoldable pub is_part : List ℕ → Bool
-is_part part = begins_empty (cut 30 part) && list_all is_segment (segments part)
+is_part part = begins_empty (cut SEGMENT part) && list_all is_segment (segments part)

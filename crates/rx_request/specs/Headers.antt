@@ -1,7 +1,7 @@
 -- Meaning: the header of a request (docs/FORMATS.md, "Request header").
 use Rattle.std.specs.Prelude.{ℕ, ◌-◌, Bool, ◌&&◌, nat_le, List, ◌++◌, length, take, replicate, slice_index, slice_range}
 use Rattle.std.specs.List.{list_all}
-use Rattle.rx_fields.specs.Text.{is_printable}
+use Rattle.rx_text.specs.Bytes.{is_printable}
 use Rattle.rx_claim.specs.declared.echo.EchoParts.{EchoParts}
 use Rattle.rx_request.specs.declared.header.Header.{Header}
 

@@ -1,12 +1,7 @@
 -- Meaning: the known segments of a part, and the values of their known fields (docs/FORMATS.md, "Parts, segments and fields").
 use Rattle.std.specs.Prelude.{ℕ, Bool, false, ◌&&◌, if◌then◌else◌, List, [], ◌∷◌, map, filter, Option, Some, None, codes}
+use Rattle.rx_text.specs.Options.{◌>>=◌}
 use Rattle.rx_request.specs.Cut.{same, is_nonempty, Field, fields, segments, is_part}
-
--- None is a syntax error of the part
-infixl 10 ◌>>=◌
-abbrev pub ◌>>=◌ : {A B : Type 0} → Option A → (A → Option B) → Option B
-None >>= f = None
-(Some x) >>= f = f x
 
 -- one or none; what stands twice is a syntax error
 abbrev pub only : {A : Type 0} → List A → Option (Option A)

@@ -1,5 +1,6 @@
 -- Meaning: what a request transmission is, for every byte string (docs/FORMATS.md, "Request transmission").
 use Rattle.std.specs.Prelude.{ℕ, Bool, ◌&&◌, is_some, min, max, if◌then◌else◌, List, [], length, drop, map, Option, unwrap_or, codes}
+use Rattle.rx_text.specs.declared.separators.TheConstants.{GROUP}
 use Rattle.rx_fields.specs.declared.code.Code.{Code}
 use Rattle.rx_fields.specs.declared.door.Door.{Door}
 use Rattle.rx_fields.specs.Calendar.{civil_of}
@@ -9,14 +10,15 @@ use Rattle.rx_claim.specs.declared.transmission.Body.TheVariants.{Rejected, Hear
 use Rattle.rx_claim.specs.Echoed.{blanked_parts}
 use Rattle.rx_request.specs.Bills.{transaction}
 use Rattle.rx_request.specs.Codes.{is_faulty, first_five, header_conditions}
-use Rattle.rx_request.specs.Cut.{same, cut, first, further}
+use Rattle.rx_text.specs.Bytes.{cut}
+use Rattle.rx_request.specs.Cut.{same, first, further}
 use Rattle.rx_request.specs.Headers.{header_bytes, header_of, is_clean, echo_parts}
 use Rattle.rx_request.specs.Known.{InsuranceTexts, no_insurance, common_of, group_of}
 use Rattle.rx_request.specs.Values.{provider_in, date_in}
 
 -- the parts: after the first 56 bytes, cut at each GS
 unfoldable pub parts : List ℕ → List (List ℕ)
-parts bytes = cut 29 (drop 56 bytes)
+parts bytes = cut GROUP (drop 56 bytes)
 
 -- the known values of the common part, or a syntax error
 unfoldable pub common : List ℕ → Option InsuranceTexts

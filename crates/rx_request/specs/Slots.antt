@@ -1,8 +1,9 @@
 -- Plumbing: a table of keys and what was found under each.
 use Rattle.std.specs.Prelude.{ℕ, Bool, is_some, if◌then◌else◌, List, [], ◌∷◌, map, Option, Some, None, option_map}
 use Rattle.std.specs.Borrow.{Bor}
-use Rattle.rx_request.specs.Cut.{same, cut, is_nonempty, Field, fields, is_segment}
-use Rattle.rx_request.specs.Known.{◌>>=◌}
+use Rattle.rx_text.specs.Bytes.{cut}
+use Rattle.rx_request.specs.Cut.{same, is_nonempty, Field, fields, is_segment}
+use Rattle.rx_text.specs.Options.{◌>>=◌}
 
 -- what was found under each key
 abbrev pub Slot : Type 0

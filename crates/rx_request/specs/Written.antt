@@ -2,20 +2,19 @@
 -- FS is 28, GS is 29, SS is 30.
 use Rattle.std.specs.Prelude.{◌≡◌, ℕ, ◌+◌, ◌-◌, ◌<◌, ◌≤◌, ◌^◌, true, pos, List, [], ◌∷◌, ◌++◌}
 use Rattle.std.specs.Prelude.{length, map, replicate, Option, Some, None, All, codes}
-use Rattle.std.specs.List.{flat_map, list_all}
+use Rattle.std.specs.List.{list_all}
+use Rattle.rx_fields.specs.declared.limits.TheConstants.{MOST_CENTS}
 use Rattle.rx_fields.specs.Amount.{signed_text}
 use Rattle.rx_fields.specs.Calendar.{Civil, IsCivil, date_text}
 use Rattle.rx_fields.specs.Digits.{digits_text}
-use Rattle.rx_fields.specs.Text.{IsId, is_printable, trimmed}
+use Rattle.rx_text.specs.Bytes.{is_printable}
+use Rattle.rx_fields.specs.Text.{IsId, trimmed}
 use Rattle.rx_fields.specs.declared.door.Door.{Door}
 use Rattle.rx_claim.specs.Billed.{IsCharged}
 use Rattle.rx_claim.specs.Echoed.{blanked_parts}
-use Rattle.rx_claim.specs.Listed.{is_few}
 use Rattle.rx_claim.specs.declared.bill.BillParts.{BillParts}
-use Rattle.rx_claim.specs.declared.echo.EchoParts.{EchoParts}
 use Rattle.rx_claim.specs.declared.transaction.Reversal.{Reversal}
 use Rattle.rx_claim.specs.declared.transaction.Transaction.{Transaction}
-use Rattle.rx_claim.specs.declared.transaction.Transaction.TheVariants.{Bill, Reverse}
 use Rattle.rx_claim.specs.declared.transmission.Body.TheVariants.{Heard}
 use Rattle.rx_claim.specs.declared.transmission.Transmission.{Transmission}
 use Rattle.rx_request.specs.Cut.{Field, is_named}
@@ -155,7 +154,7 @@ pub record IsAsker (who : Asker) : Type 0 where
 -- the amount has at most eight digits, where it is there
 abbrev pub IsAmountIfThere : Option ℕ → Type 0
 IsAmountIfThere None = Unit {0}
-IsAmountIfThere (Some n) = n ≤ 99_999_999
+IsAmountIfThere (Some n) = n ≤ MOST_CENTS
 
 -- a billing for this member within the limits of its fields, that states a charge
 pub record IsBillOf (family person : List ℕ) (b : BillParts) : Type 0 where
@@ -167,7 +166,7 @@ pub record IsBillOf (family person : List ℕ) (b : BillParts) : Type 0 where
   pub quantity : b.quantity < 10 ^ 10
   pub day : 0 < b.days
   pub days : b.days < 10 ^ 3
-  pub ingredient_cost : b.ingredient_cost ≤ 99_999_999
+  pub ingredient_cost : b.ingredient_cost ≤ MOST_CENTS
   pub dispensing_fee : IsAmountIfThere b.dispensing_fee
   pub usual_charge : IsAmountIfThere b.usual_charge
   pub gross_amount : IsAmountIfThere b.gross_amount

@@ -1,10 +1,7 @@
 ghost use Rattle.std.specs.Prelude.{◌≡◌, ◌&&◌, ◌+◌, ◌==◌, true};
-ghost use Rattle.rx_request.specs.Codes.{is_faulty, first_five, is_count, has_no_charge, header_conditions};
-ghost use Rattle.rx_request.specs.Codes.{bill_conditions, reversal_conditions};
-ghost use Rattle.rx_request.specs.Views.{insurance_texts, claim_texts, group_texts, pricing_texts};
+ghost use Rattle.rx_request.specs.Codes.{is_faulty, first_five, is_count, header_conditions};
 
 use crate::header::Header;
-use crate::known::{Claim, Group, Insurance, Pricing};
 use crate::value;
 use rx_claim::Codes;
 use rx_fields::{Code, Door};
@@ -56,62 +53,5 @@ pub(crate) fn header_conditions(
         (Code::Provider, value::provider(&header.provider).is_none()),
         (Code::DateOfService, value::date(&header.date).is_none()),
         (Code::Syntax, !is_sound),
-    ]
-}
-
-/// Whether the usual and customary charge is no amount, or neither charge is there.
-pub(crate) fn has_no_charge(pricing: &Pricing) -> bool
-    ensures { result ≡ has_no_charge (pricing_texts pricing.now) }
-{
-    value::is_no_amount(pricing.usual_charge)
-        || (pricing.usual_charge.is_none() && pricing.gross_amount.is_none())
-}
-
-/// The codes of a reversal, each with its condition.
-pub(crate) fn reversal_conditions(claim: &Claim) -> [(Code, bool); 4]
-    ensures { result ≡ reversal_conditions (claim_texts claim.now) }
-{
-    [
-        (
-            Code::ReferenceQualifier,
-            !value::is_text(claim.reference_qualifier, b"1"),
-        ),
-        (Code::Reference, value::reference(claim.reference).is_none()),
-        (
-            Code::ProductQualifier,
-            !value::is_text(claim.product_qualifier, b"03"),
-        ),
-        (Code::ProductId, value::product(claim.product).is_none()),
-    ]
-}
-
-/// The codes of a billing, each with its condition; among them are those of a reversal.
-pub(crate) fn bill_conditions(common: &Insurance, group: &Group) -> [(Code, bool); 14]
-    ensures { result ≡ bill_conditions (insurance_texts common.now) (group_texts group.now) }
-{
-    let claim = &group.claim;
-    let pricing = &group.pricing;
-    let [reference_qualifier, reference, product_qualifier, product] = reversal_conditions(claim);
-    [
-        (Code::Cardholder, value::family(common.cardholder).is_none()),
-        (Code::Person, value::person(common.person).is_none()),
-        reference_qualifier,
-        reference,
-        product_qualifier,
-        product,
-        (Code::Quantity, value::quantity(claim.quantity).is_none()),
-        (Code::DaysSupply, value::days(claim.days).is_none()),
-        (Code::Compound, !value::is_plain(claim.compound)),
-        (Code::OtherCoverage, !value::is_sole(claim.other_coverage)),
-        (
-            Code::IngredientCost,
-            value::amount(pricing.ingredient_cost).is_none(),
-        ),
-        (
-            Code::DispensingFee,
-            value::is_no_amount(pricing.dispensing_fee),
-        ),
-        (Code::UsualCharge, has_no_charge(pricing)),
-        (Code::GrossAmount, value::is_no_amount(pricing.gross_amount)),
     ]
 }

@@ -3,8 +3,9 @@ ghost use Rattle.rx_request.specs.Cut.{field_of, same};
 ghost use Rattle.rx_request.specs.Known.{field};
 ghost use Rattle.rx_request.specs.Slots.{texts_of, text_of, all_of, put, put_field};
 
-use crate::piece::{FS, Pieces};
+use crate::piece::Pieces;
 use rx_fields::trimmed;
+use rx_text::FIELD;
 
 // Whether these are the same two bytes. One test of both is guessed wrong less often than one after the other.
 #[inline(always)]
@@ -61,7 +62,7 @@ fn put_fields<'a>(slots: &mut [Option<&'a [u8]>], ids: &[[u8; 2]], segment: &'a 
     ensures { option_map (λ _. texts_of slots.new) result
         ≡ all_of (λ id. field id (Some segment.entry.now)) ids.now }
 {
-    let mut pieces = Pieces::new(segment, FS);
+    let mut pieces = Pieces::new(segment, FIELD);
     let _front = pieces.next();
     while let Some(piece) = pieces.next() {
         put_field(slots, ids, piece)?;

@@ -1,10 +1,9 @@
 ghost use Rattle.std.specs.Prelude.{◌≡◌, ◌+◌, ◌≤◌, ◌-◌, ◌++◌, length, replicate, drop, slice_range};
-ghost use Rattle.std.specs.List.{list_all};
-ghost use Rattle.rx_fields.specs.Text.{is_printable};
 ghost use Rattle.rx_claim.specs.Echoed.{blanked_parts};
 ghost use Rattle.rx_request.specs.Headers.{header_bytes, header_of, is_clean, echo_parts};
 
 use rx_claim::{Echo, EchoParts};
+use rx_text::all_printable;
 
 /// How many bytes a header has.
 const LENGTH: usize = 56;
@@ -96,12 +95,6 @@ impl Header {
             date: self.date,
         })
     }
-}
-
-fn all_printable(bytes: &[u8]) -> bool
-    ensures { result ≡ list_all is_printable bytes.now }
-{
-    bytes.iter().all(|b| *b >= b' ' && *b <= b'~')
 }
 
 /// Whether the 56 bytes are there, and printable.

@@ -21,6 +21,7 @@ mod law;
 mod marks;
 mod part;
 mod piece;
+mod reading;
 mod request;
 mod value;
 

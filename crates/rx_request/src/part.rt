@@ -5,8 +5,9 @@ ghost use Rattle.rx_request.specs.Known.{segment};
 ghost use Rattle.rx_request.specs.Slots.{texts_of, all_of, name_of, put_segment};
 
 use crate::field::put;
-use crate::piece::{FS, Pieces, SS};
+use crate::piece::Pieces;
 use rx_fields::trimmed;
+use rx_text::{FIELD, SEGMENT};
 
 /// The id of the field that names a segment.
 const AM: &[u8] = b"AM";
@@ -44,7 +45,7 @@ fn all_have_ids(mut pieces: Pieces<'_>) -> bool
 fn segment_name(segment: &[u8]) -> Option<Option<[u8; 2]>>
     ensures { result ≡ (if is_segment segment.now then Some (name_of (fields segment.now)) else None) }
 {
-    let mut pieces = Pieces::after_first(segment, FS)?;
+    let mut pieces = Pieces::after_first(segment, FIELD)?;
     while let Some(piece) = pieces.next() {
         if !piece.is_empty() {
             let name = name_in(piece)?;
@@ -84,7 +85,7 @@ pub(crate) fn put_segments<'a>(
     ensures { option_map (λ _. texts_of slots.new) result
         ≡ (if is_part part.entry.now then all_of (λ name. segment name part.entry.now) names.now else None) }
 {
-    let mut pieces = Pieces::after_first(part, SS)?;
+    let mut pieces = Pieces::after_first(part, SEGMENT)?;
     while let Some(segment) = pieces.next() {
         put_segment(slots, names, segment)?;
     }

@@ -4,13 +4,6 @@ use crate::marks::{MOST, first_marks};
 use memchr::memchr;
 use std::marker::Model;
 
-/// The group separator.
-pub(crate) const GS: u8 = 0x1D;
-/// The segment separator.
-pub(crate) const SS: u8 = 0x1E;
-/// The field separator.
-pub(crate) const FS: u8 = 0x1C;
-
 /// The pieces of a text between its separators that are left, in their order.
 #[derive(Drop)]
 pub(crate) struct Pieces<'a> {
@@ -35,7 +28,8 @@ impl<'a> Model for Pieces<'a> {
 
 ghost use Rattle.std.specs.Prelude.{◌∷◌, [], ◌≤◌, if◌then◌else◌, length, take, MatchOption, None, Some};
 ghost use Rattle.memchr.specs.Find.{IsFirstByte, is_byte};
-ghost use Rattle.rx_request.specs.Cut.{cut, begins_empty, first, further};
+ghost use Rattle.rx_text.specs.Bytes.{cut};
+ghost use Rattle.rx_request.specs.Cut.{begins_empty, first, further};
 ghost use Rattle.rx_request.specs.Marks.{marks_of};
 
 impl<'a> Pieces<'a> {

@@ -1,8 +1,10 @@
 ghost use Rattle.std.specs.Prelude.{◌≡◌, ◌&&◌, if◌then◌else◌, IfOk, length, min, max, true, map, option_map, is_some, None, Some};
+ghost use Rattle.rx_text.specs.declared.separators.TheConstants.{GROUP};
 ghost use Rattle.rx_claim.specs.Listed.{is_few};
 ghost use Rattle.rx_request.specs.Bills.{transaction};
 ghost use Rattle.rx_request.specs.Codes.{is_faulty, header_conditions};
-ghost use Rattle.rx_request.specs.Cut.{cut, further};
+ghost use Rattle.rx_text.specs.Bytes.{cut};
+ghost use Rattle.rx_request.specs.Cut.{further};
 ghost use Rattle.rx_request.specs.Headers.{header_bytes, header_of};
 ghost use Rattle.rx_request.specs.Known.{group_of};
 ghost use Rattle.rx_request.specs.Request.{transmission_of, body};
@@ -14,10 +16,11 @@ use crate::codes::{first_five, header_conditions, is_count};
 use crate::header::{Header, after_header, header_bytes, is_clean};
 use crate::known::{Insurance, common_read};
 use crate::marks::count_of;
-use crate::piece::{GS, Pieces};
+use crate::piece::Pieces;
 use crate::value;
 use rx_claim::{Body, Heard, Rejected, Transactions, Transmission};
 use rx_fields::{Count, Day, Door, Memory, Provider};
+use rx_text::GROUP;
 use std::alloc::Global;
 
 // What a header without codes opens.
@@ -31,9 +34,9 @@ struct Opening<'a> {
 
 // How many groups there are: one per separator.
 fn count_groups(rest: &[u8]) -> usize
-    ensures { result ≡ length (further (cut 29 rest.now)) }
+    ensures { result ≡ length (further (cut GROUP rest.now)) }
 {
-    count_of(rest, GS)
+    count_of(rest, GROUP)
 }
 
 // How many answers a rejected header has: the groups, at least 1 and at most 4.
@@ -154,7 +157,7 @@ fn body(alloc: Global, door: &Door, bytes: &[u8], header: &Header) -> Result<Bod
 {
     let rest = after_header(bytes);
     let groups = count_groups(rest);
-    let mut pieces = Pieces::new(rest, GS);
+    let mut pieces = Pieces::new(rest, GROUP);
     let common = common_read(pieces.first());
     let is_clean = is_clean(bytes);
     match opening_read(door, header, is_clean, common, groups) {

@@ -96,13 +96,6 @@ pub(crate) fn amount(value: Option<&[u8]>) -> Option<Cents>
     Cents::new(amount as u64)
 }
 
-/// Whether a field is present and no such amount.
-pub(crate) fn is_no_amount(value: Option<&[u8]>) -> bool
-    ensures { result ≡ is_no_amount (text_of value.entry) }
-{
-    value.is_some() && amount(value).is_none()
-}
-
 /// An amount that isn't negative, where there is a field. None: the field is present and no such amount.
 pub(crate) fn amount_if_any(value: Option<&[u8]>) -> Option<Option<Cents>>
     ensures { result

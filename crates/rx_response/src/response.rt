@@ -1,6 +1,7 @@
 ghost use Rattle.std.specs.Prelude.{◌≡◌, ◌+◌, ◌≤◌, ◌<◌, ◌++◌, [], length, IfOk, IsOkAnd, OnOk};
 ghost use Rattle.std.specs.List.{flat_map};
 ghost use Rattle.std.specs.Vec.{vec_items};
+ghost use Rattle.rx_fields.specs.declared.limits.TheConstants.{MOST_DETAILS};
 ghost use Rattle.rx_batch.specs.Grammar.{record_text};
 ghost use Rattle.rx_batch.specs.Writing.{trailer_text};
 ghost use Rattle.rx_response.specs.Pieces.{answer_text, records_text};
@@ -33,7 +34,7 @@ pub fn response_file<R: Threads + Sync>(
     replies: &[Reply],
 ) -> Result<Vec<u8>, Memory>
     requires equally_many { length details.now ≡ length replies.now }
-    requires within { length details.now ≤ 100_000 }
+    requires within { length details.now ≤ MOST_DETAILS }
     ensures { IfOk result (λ text. text.items ≡ response_text head.now stamp details.now replies.now) }
 {
     let parts = current_num_threads(rt);
@@ -52,7 +53,7 @@ pub fn response_in_parts<R: Threads + Sync>(
     replies: &[Reply],
 ) -> Result<Vec<u8>, Memory>
     requires equally_many { length details.now ≡ length replies.now }
-    requires within { length details.now ≤ 100_000 }
+    requires within { length details.now ≤ MOST_DETAILS }
     ensures { IfOk result (λ text. text.items ≡ response_text head.now stamp details.now replies.now) }
 {
     let pieces = response_pieces(rt, alloc, parts, head, stamp, details, replies)?;
@@ -70,7 +71,7 @@ pub fn response_pieces<R: Threads + Sync>(
     replies: &[Reply],
 ) -> Result<Vec<Vec<u8>>, Memory>
     requires equally_many { length details.now ≡ length replies.now }
-    requires within { length details.now ≤ 100_000 }
+    requires within { length details.now ≤ MOST_DETAILS }
     ensures { IfOk result (λ pieces.
         flat_map vec_items pieces.items ≡ response_text head.now stamp details.now replies.now) }
 {
@@ -109,7 +110,7 @@ fn in_one_part(
     replies: &[Reply],
 ) -> Result<Vec<u8>, Memory>
     requires equally_many { length details.now ≡ length replies.now }
-    requires within { length details.now ≤ 100_000 }
+    requires within { length details.now ≤ MOST_DETAILS }
     ensures { IfOk result (λ text. text.items ≡ response_text head.now stamp.now details.now replies.now) }
 {
     let mut text = Vec::with_capacity(alloc, room(details.len()).saturating_add(ENDS))?;
@@ -131,7 +132,7 @@ fn in_pieces<R: Threads + Sync>(
 ) -> Result<Vec<Vec<u8>>, Memory>
     requires some { 0 < parts }
     requires equally_many { length details.now ≡ length replies.now }
-    requires within { length details.now ≤ 100_000 }
+    requires within { length details.now ≤ MOST_DETAILS }
     ensures { IfOk result (λ pieces.
         flat_map vec_items pieces.items ≡ response_text head.now stamp.now details.now replies.now) }
 {
@@ -147,7 +148,7 @@ fn in_pieces<R: Threads + Sync>(
 
 // The trailer of the response.
 fn put_end(text: &mut Vec<u8>, head: &Head, details: &[Detail]) -> Result<(), AllocError>
-    requires { length details.now ≤ 100_000 }
+    requires { length details.now ≤ MOST_DETAILS }
     ensures { OnOk result (text.new.items ≡ text.old.items ++ record_text (trailer_text head.now.lot.number (length details.now + 2))) }
 {
     put_trailer(text, head.lot.number(), details.len() as u64 + 2)

@@ -9,7 +9,8 @@ use Rattle.std.proofs.lemmas.Bool.{cases_Bool}
 use Rattle.std.proofs.lemmas.Bool.Decides.{nat_tests, Decides-like, same_from_decides}
 use Rattle.rx_fields.specs.declared.fault.IdFault.{IdFault}
 use Rattle.rx_fields.specs.declared.fault.IdFault.TheVariants as fault
-use Rattle.rx_fields.specs.Text.{trimmed, id_of, is_printable, is_bar}
+use Rattle.rx_text.specs.Bytes.{is_printable}
+use Rattle.rx_fields.specs.Text.{trimmed, id_of, is_bar}
 use Rattle.rx_settle.specs.Counting.{field_text}
 use Rattle.rx_settle.specs.Providers.{named, is_same}
 

@@ -8,7 +8,8 @@ use Rattle.rx_ledger.specs.declared.sheet.Listed.{Listed}
 use Rattle.rx_sheet.specs.declared.fault.SheetFault.{SheetFault}
 use Rattle.rx_sheet.specs.declared.fault.SheetFault.TheVariants as fault
 use Rattle.rx_sheet.specs.Drugs.{listed_in, drugs_of}
-use Rattle.rx_sheet.specs.Fault.{UnlessMemory, ◌>>=◌}
+use Rattle.rx_text.specs.Results.{◌>>=◌}
+use Rattle.rx_sheet.specs.Fault.{UnlessMemory}
 
 -- what was read before, and what is still read
 abbrev pub with_front : List Listed → Result (List Listed) SheetFault → Result (List Listed) SheetFault

@@ -16,7 +16,8 @@ use Rattle.std.specs.declared.cmp.Ordering.TheVariants.{Less, Equal, Greater}
 use Rattle.toml.specs.Data.{Data, Members}
 use Rattle.toml.specs.View.{view, members_view}
 use Rattle.toml.specs.declared.value.Value.{Value}
-use Rattle.rx_fields.specs.Digits.{is_digit, all_digits, number}
+use Rattle.rx_text.specs.Bytes.{is_digit, all_digits}
+use Rattle.rx_fields.specs.Digits.{number}
 use Rattle.rx_fields.specs.Numbered.{product_of}
 use Rattle.rx_ledger.specs.Plan.{listed_product}
 use Rattle.rx_ledger.specs.declared.drug.Drug.{Drug}
@@ -26,7 +27,7 @@ use Rattle.rx_order.specs.Ascending.{IsAscending, IsBelow}
 use Rattle.rx_sheet.specs.declared.fault.SheetFault.{SheetFault}
 use Rattle.rx_sheet.specs.declared.fault.SheetFault.TheVariants.{Wrong}
 use Rattle.rx_sheet.specs.Drugs.{drug_in, drugs_of, listed_in}
-use Rattle.rx_sheet.specs.Fault.{◌>>=◌}
+use Rattle.rx_text.specs.Results.{◌>>=◌}
 
 -- ---- digits
 

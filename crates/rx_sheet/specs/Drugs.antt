@@ -2,6 +2,7 @@
 use Rattle.std.specs.Prelude.{◌≡◌, ℕ, Bool, true, ◌&&◌, if◌then◌else◌, codes, List, [], ◌∷◌, Option, Some, None, Result, Ok}
 use Rattle.std.specs.Option.{is_some, ok_or, option_and_then, option_map}
 use Rattle.std.specs.Ordering.{nat_cmp}
+use Rattle.rx_fields.specs.declared.limits.TheConstants.{MOST_CENTS}
 use Rattle.toml.specs.Data.{Data, integer, table, Members, no_members, member, get_member, as_str, as_table}
 use Rattle.rx_fields.specs.Numbered.{product_of}
 use Rattle.rx_ledger.specs.Plan.{are_drugs, listed_product}
@@ -13,7 +14,7 @@ use Rattle.rx_ledger.specs.declared.sheet_key.SheetKey.TheVariants as key
 use Rattle.rx_order.specs.Ascending.{IsAscending}
 use Rattle.rx_sheet.specs.declared.fault.SheetFault.{SheetFault}
 use Rattle.rx_sheet.specs.declared.fault.SheetFault.TheVariants.{Wrong}
-use Rattle.rx_sheet.specs.Fault.{◌>>=◌}
+use Rattle.rx_text.specs.Results.{◌>>=◌}
 use Rattle.rx_sheet.specs.Values.{read_at, number, whole}
 
 -- the percentage of a tier that is a table
@@ -22,7 +23,7 @@ percent_in tier = option_and_then (number 0 100) (get_member (codes "percent") t
 
 -- what a member pays in a tier: a copay in cents, or a table with a percentage
 abbrev pub share_in : Data → Option Share
-share_in (integer cents) = option_map Copay (whole 0 99_999_999 cents)
+share_in (integer cents) = option_map Copay (whole 0 MOST_CENTS cents)
 share_in (table tier) = option_map Percent (percent_in tier)
 share_in other = None
 

@@ -1,5 +1,7 @@
 -- Meaning: the numbers of the faults, and what a call answers that may want memory.
-use Rattle.std.specs.Prelude.{◌≡◌, ℕ, Option, Some, None, Result, Ok, Err, MatchResult}
+use Rattle.std.specs.Prelude.{ℕ, Bool, true, false, Option, Some, None, Result}
+use Rattle.rx_text.specs.Outcomes.{Unless}
+use Rattle.rx_text.specs.Outcomes as outcome
 use Rattle.rx_ledger.specs.declared.sheet_key.SheetKey.{SheetKey}
 use Rattle.rx_sheet.specs.declared.fault.SheetFault.{SheetFault}
 use Rattle.rx_sheet.specs.declared.fault.SheetFault.TheVariants as fault
@@ -18,21 +20,19 @@ key_of (fault.Missing key) = Some key
 key_of (fault.Wrong key) = Some key
 key_of fault.Memory = None
 
+-- the fault is want of memory
+abbrev pub wants_memory : SheetFault → Bool
+wants_memory fault.Memory = true
+wants_memory other = false
+
 -- the fact, unless the fault is want of memory
 abbrev pub UnlessMemory : SheetFault → Type 0 → Type 0
-UnlessMemory fault.Memory P = Unit {0}
-UnlessMemory other P = P
+UnlessMemory f P = Unless (wants_memory f) P
 
 -- what a call answered, seen by `view`, is what the definition has, unless memory was wanting
 abbrev pub GivesAs : {X Y : Type 0} → (X → Y) → Result X SheetFault → Result Y SheetFault → Type 0
-GivesAs view result meant = MatchResult result (λ x. meant ≡ Ok (view x)) (λ f. UnlessMemory f (meant ≡ Err f))
+GivesAs view result meant = outcome.GivesAs wants_memory view result meant
 
 -- what a call answered is what the definition has, unless memory was wanting
 abbrev pub Gives : {X : Type 0} → Result X SheetFault → Result X SheetFault → Type 0
-Gives result meant = GivesAs (λ x. x) result meant
-
--- the first step, and where it has no fault the next
-infixl 10 ◌>>=◌
-abbrev pub ◌>>=◌ : {A B : Type 0} → Result A SheetFault → (A → Result B SheetFault) → Result B SheetFault
-(Ok x) >>= f = f x
-(Err e) >>= f = Err e
+Gives result meant = outcome.Gives wants_memory result meant

@@ -1,6 +1,8 @@
 -- Plumbing: the figures of a sheet: keys 1 to 9, one after another by their numbers, and key 14.
 use Rattle.std.specs.Prelude.{ℕ, Option, None, Result, Ok}
 use Rattle.std.specs.Option.{option_and_then}
+use Rattle.rx_ledger.specs.declared.figures.TheConstants.{MOST_LIMIT}
+use Rattle.rx_fields.specs.declared.limits.TheConstants.{MOST_CENTS}
 use Rattle.toml.specs.Data.{Data, Members}
 use Rattle.rx_fields.specs.Calendar.{Civil}
 use Rattle.rx_fields.specs.Numbered.{Span, period_of}
@@ -8,7 +10,7 @@ use Rattle.rx_fields.specs.declared.door.Door.{Door}
 use Rattle.rx_ledger.specs.declared.figures.Figures.{Figures}
 use Rattle.rx_ledger.specs.declared.sheet_key.SheetKey.TheVariants as key
 use Rattle.rx_sheet.specs.declared.fault.SheetFault.{SheetFault}
-use Rattle.rx_sheet.specs.Fault.{◌>>=◌}
+use Rattle.rx_text.specs.Results.{◌>>=◌}
 use Rattle.rx_sheet.specs.Values.{read_at, read_if_there, bin, pcn, day, number}
 
 -- keys 1 and 2
@@ -33,11 +35,11 @@ unfoldable pub figures_in : Members → Result Figures SheetFault
 figures_in sheet = do
   door ← door_in sheet
   period ← period_in sheet
-  member_deductible ← read_at key.MemberDeductible (number 0 99_999_999_999) sheet
-  family_maximum ← read_at key.FamilyMaximum (number 0 99_999_999_999) sheet
+  member_deductible ← read_at key.MemberDeductible (number 0 MOST_LIMIT) sheet
+  family_maximum ← read_at key.FamilyMaximum (number 0 MOST_LIMIT) sheet
   refill_percent ← read_at key.RefillPercent (number 0 100) sheet
   max_days ← read_at key.MaxDays (number 1 999) sheet
-  fee ← read_at key.Fee (number 0 99_999_999) sheet
+  fee ← read_at key.Fee (number 0 MOST_CENTS) sheet
   Ok (record {
     door = door;
     period = period;
@@ -51,4 +53,4 @@ figures_in sheet = do
 
 -- key 14
 unfoldable pub family_deductible_in : Members → Result (Option ℕ) SheetFault
-family_deductible_in sheet = read_if_there key.FamilyDeductible (number 0 99_999_999_999) sheet
+family_deductible_in sheet = read_if_there key.FamilyDeductible (number 0 MOST_LIMIT) sheet

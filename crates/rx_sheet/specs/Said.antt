@@ -1,6 +1,8 @@
 -- Meaning: what a plan sheet says, key by key and not step by step (docs/FORMATS.md, "Plan sheet").
 use Rattle.std.specs.Prelude.{◌≡◌, ℕ, true, false, List, [], ◌∷◌, Option, Some, None}
 use Rattle.std.specs.Str.{is_utf8}
+use Rattle.rx_ledger.specs.declared.figures.TheConstants.{MOST_LIMIT}
+use Rattle.rx_fields.specs.declared.limits.TheConstants.{MOST_CENTS}
 use Rattle.toml.specs.Data.{Data, Members, no_members, member, get_member, as_table}
 use Rattle.toml.specs.Parse.{parse_document}
 use Rattle.rx_fields.specs.Calendar.{Civil}
@@ -45,11 +47,11 @@ pub record SaysPeriod (table : Members) (p : Span) : Type 0 where
 pub record SaysFigures (table : Members) (f : Figures) : Type 0 where
   pub door_is : SaysDoor table f.door
   pub period_is : SaysPeriod table f.period
-  pub member_deductible_is : Says key.MemberDeductible (number 0 99_999_999_999) table f.member_deductible
-  pub family_maximum_is : Says key.FamilyMaximum (number 0 99_999_999_999) table f.family_maximum
+  pub member_deductible_is : Says key.MemberDeductible (number 0 MOST_LIMIT) table f.member_deductible
+  pub family_maximum_is : Says key.FamilyMaximum (number 0 MOST_LIMIT) table f.family_maximum
   pub refill_percent_is : Says key.RefillPercent (number 0 100) table f.refill_percent
   pub max_days_is : Says key.MaxDays (number 1 999) table f.max_days
-  pub fee_is : Says key.Fee (number 0 99_999_999) table f.fee
+  pub fee_is : Says key.Fee (number 0 MOST_CENTS) table f.fee
 
 -- a drug under its product: its table has keys 12 and 13, the tier being one of these
 pub record SaysDrug (tiers : Members) (name : List ℕ) (value : Data) (d : Listed) : Type 0 where
@@ -81,7 +83,7 @@ pub record IsSheetText (text : List ℕ) (plan : Plan) : Type 0 where
   pub figures_are : SaysFigures table plan.figures
   pub drugs_are : SaysDrugs table plan.drugs
   pub family_deductible_is :
-      SaysIfThere key.FamilyDeductible (number 0 99_999_999_999) table plan.figures.family_deductible
+      SaysIfThere key.FamilyDeductible (number 0 MOST_LIMIT) table plan.figures.family_deductible
 
 -- ---- the first key that is at fault
 
@@ -107,25 +109,25 @@ pub data FailsFigures (table : Members) (f : SheetFault) : Type 0 where
   door_fails : FailsDoor table f → FailsFigures table f
   period_fails : (d : Door) → SaysDoor table d → FailsPeriod table f → FailsFigures table f
   member_deductible_fails : (d : Door) (p : Span) → SaysDoor table d → SaysPeriod table p
-      → Fails key.MemberDeductible (number 0 99_999_999_999) table f → FailsFigures table f
+      → Fails key.MemberDeductible (number 0 MOST_LIMIT) table f → FailsFigures table f
   family_maximum_fails : (d : Door) (p : Span) (m : ℕ) → SaysDoor table d → SaysPeriod table p
-      → Says key.MemberDeductible (number 0 99_999_999_999) table m
-      → Fails key.FamilyMaximum (number 0 99_999_999_999) table f → FailsFigures table f
+      → Says key.MemberDeductible (number 0 MOST_LIMIT) table m
+      → Fails key.FamilyMaximum (number 0 MOST_LIMIT) table f → FailsFigures table f
   refill_percent_fails : (d : Door) (p : Span) (m y : ℕ) → SaysDoor table d → SaysPeriod table p
-      → Says key.MemberDeductible (number 0 99_999_999_999) table m
-      → Says key.FamilyMaximum (number 0 99_999_999_999) table y
+      → Says key.MemberDeductible (number 0 MOST_LIMIT) table m
+      → Says key.FamilyMaximum (number 0 MOST_LIMIT) table y
       → Fails key.RefillPercent (number 0 100) table f → FailsFigures table f
   max_days_fails : (d : Door) (p : Span) (m y r : ℕ) → SaysDoor table d → SaysPeriod table p
-      → Says key.MemberDeductible (number 0 99_999_999_999) table m
-      → Says key.FamilyMaximum (number 0 99_999_999_999) table y
+      → Says key.MemberDeductible (number 0 MOST_LIMIT) table m
+      → Says key.FamilyMaximum (number 0 MOST_LIMIT) table y
       → Says key.RefillPercent (number 0 100) table r
       → Fails key.MaxDays (number 1 999) table f → FailsFigures table f
   fee_fails : (d : Door) (p : Span) (m y r x : ℕ) → SaysDoor table d → SaysPeriod table p
-      → Says key.MemberDeductible (number 0 99_999_999_999) table m
-      → Says key.FamilyMaximum (number 0 99_999_999_999) table y
+      → Says key.MemberDeductible (number 0 MOST_LIMIT) table m
+      → Says key.FamilyMaximum (number 0 MOST_LIMIT) table y
       → Says key.RefillPercent (number 0 100) table r
       → Says key.MaxDays (number 1 999) table x
-      → Fails key.Fee (number 0 99_999_999) table f → FailsFigures table f
+      → Fails key.Fee (number 0 MOST_CENTS) table f → FailsFigures table f
 
 -- a drug: its product and its table, then keys 12 and 13
 pub data FailsDrug (tiers : Members) (name : List ℕ) (value : Data) : SheetFault → Type 0 where
@@ -163,5 +165,5 @@ pub data HasFault (text : List ℕ) : SheetFault → Type 0 where
       → parse_document text ≡ Some table → SaysFigures table figures → FailsDrugs table f → HasFault text f
   family_deductible_fault : (table : Members) (figures : Figures) (ds : List Listed) (value : Data)
       → is_utf8 text ≡ true → parse_document text ≡ Some table → SaysFigures table figures → SaysDrugs table ds
-      → get_member (name_of key.FamilyDeductible) table ≡ Some value → number 0 99_999_999_999 value ≡ None
+      → get_member (name_of key.FamilyDeductible) table ≡ Some value → number 0 MOST_LIMIT value ≡ None
       → HasFault text (fault.Wrong key.FamilyDeductible)

@@ -10,7 +10,7 @@ use Rattle.rx_ledger.specs.declared.sheet.Listed.{Listed}
 use Rattle.rx_sheet.specs.declared.fault.SheetFault.{SheetFault}
 use Rattle.rx_sheet.specs.declared.fault.SheetFault.TheVariants.{NotToml}
 use Rattle.rx_sheet.specs.Drugs.{drugs_in}
-use Rattle.rx_sheet.specs.Fault.{◌>>=◌}
+use Rattle.rx_text.specs.Results.{◌>>=◌}
 use Rattle.rx_sheet.specs.Figures.{figures_in, family_deductible_in}
 
 -- the table of a TOML document, whose bytes are UTF-8

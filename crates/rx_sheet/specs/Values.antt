@@ -5,11 +5,11 @@ use Rattle.std.specs.Option.{ok_or, option_and_then, option_map}
 use Rattle.std.specs.Result.{result_ok}
 use Rattle.toml.specs.Data.{Data, Members, get_member, as_str, as_integer}
 use Rattle.rx_fields.specs.Calendar.{Civil, date_of}
-use Rattle.rx_ledger.specs.Plan.{are_digits, are_printable}
+use Rattle.rx_text.specs.Bytes.{all_digits, all_printable}
 use Rattle.rx_ledger.specs.declared.sheet_key.SheetKey.{SheetKey}
 use Rattle.rx_sheet.specs.declared.fault.SheetFault.{SheetFault}
 use Rattle.rx_sheet.specs.declared.fault.SheetFault.TheVariants.{Missing, Wrong}
-use Rattle.rx_sheet.specs.Fault.{◌>>=◌}
+use Rattle.rx_text.specs.Results.{◌>>=◌}
 use Rattle.rx_sheet.specs.Names.{name_of}
 
 -- the value at a key, which has to be there
@@ -39,7 +39,7 @@ number low high value = option_and_then (whole low high) (as_integer value)
 
 -- a text of six digits
 abbrev pub bin_text : List ℕ → Option (List ℕ)
-bin_text text = if length text == 6 && are_digits text then Some text else None
+bin_text text = if length text == 6 && all_digits text then Some text else None
 
 abbrev pub bin : Data → Option (List ℕ)
 bin value = option_and_then bin_text (as_str value)
@@ -47,7 +47,7 @@ bin value = option_and_then bin_text (as_str value)
 -- a text of 0 to 10 printable bytes, filled with blanks to 10
 abbrev pub pcn_text : List ℕ → Option (List ℕ)
 pcn_text text =
-    if nat_le (length text) 10 && are_printable text then Some (text ++ replicate (10 - length text) 32) else None
+    if nat_le (length text) 10 && all_printable text then Some (text ++ replicate (10 - length text) 32) else None
 
 abbrev pub pcn : Data → Option (List ℕ)
 pcn value = option_and_then pcn_text (as_str value)

@@ -11,7 +11,7 @@ ghost use Rattle.rx_sheet.specs.Values.{read_at};
 
 use crate::fault::SheetFault;
 use crate::values::{look_up, number, number_at, value_at};
-use rx_fields::Product;
+use rx_fields::{MOST_CENTS, Product};
 use rx_ledger::{Drug, Listed, Share, SheetKey};
 use std::alloc::Global;
 use toml::{Table, Value};
@@ -58,7 +58,7 @@ fn share_in(tier: &Value) -> Option<Share>
 {
     match tier.as_table() {
         Some(tier) => Some(Share::Percent(percent_in(tier)?)),
-        None => Some(Share::Copay(number(tier, 0, 99_999_999)?)),
+        None => Some(Share::Copay(number(tier, 0, MOST_CENTS)?)),
     }
 }
 

@@ -3,13 +3,14 @@ ghost use Rattle.std.specs.Option.{option_map};
 ghost use Rattle.std.specs.Result.{result_map_both};
 ghost use Rattle.toml.specs.Data.{get_member};
 ghost use Rattle.toml.specs.View.{view, table_view};
-ghost use Rattle.rx_ledger.specs.Plan.{are_digits, are_printable};
+ghost use Rattle.rx_text.specs.Bytes.{all_digits, all_printable};
 ghost use Rattle.rx_sheet.specs.Values.{value_at, read_at, read_if_there, whole, number, bin, bin_text, pcn, pcn_text, day};
 
 use crate::fault::SheetFault;
 use crate::names::name_of;
 use rx_fields::{Day, date_read};
 use rx_ledger::SheetKey;
+use rx_text::{all_digits, all_printable};
 use toml::{Table, Value};
 
 /// The value at a name, if there is one.
@@ -88,17 +89,17 @@ fn whole(integer: i64, low: u64, high: u64) -> Option<u64>
 /// A text of six digits.
 pub(crate) fn bin(value: &Value) -> Option<[u8; 6]>
     ensures value { result ≡ bin (view value.now) }
-    ensures within { IfSome result (λ bin. are_digits bin ≡ true) }
+    ensures within { IfSome result (λ bin. all_digits bin ≡ true) }
 {
     bin_text(value.as_str()?)
 }
 
 fn bin_text(text: &str) -> Option<[u8; 6]>
     ensures value { result ≡ bin_text text.now }
-    ensures within { IfSome result (λ bin. are_digits bin ≡ true) }
+    ensures within { IfSome result (λ bin. all_digits bin ≡ true) }
 {
     let bytes = text.as_bytes();
-    if bytes.len() != 6 || !are_digits(bytes) {
+    if bytes.len() != 6 || !all_digits(bytes) {
         return None;
     }
     let mut bin = [0; 6];
@@ -109,17 +110,17 @@ fn bin_text(text: &str) -> Option<[u8; 6]>
 /// A text of at most ten printable bytes, filled with blanks to ten.
 pub(crate) fn pcn(value: &Value) -> Option<[u8; 10]>
     ensures value { result ≡ pcn (view value.now) }
-    ensures within { IfSome result (λ pcn. are_printable pcn ≡ true) }
+    ensures within { IfSome result (λ pcn. all_printable pcn ≡ true) }
 {
     pcn_text(value.as_str()?)
 }
 
 fn pcn_text(text: &str) -> Option<[u8; 10]>
     ensures value { result ≡ pcn_text text.now }
-    ensures within { IfSome result (λ pcn. are_printable pcn ≡ true) }
+    ensures within { IfSome result (λ pcn. all_printable pcn ≡ true) }
 {
     let bytes = text.as_bytes();
-    if bytes.len() > 10 || !are_printable(bytes) {
+    if bytes.len() > 10 || !all_printable(bytes) {
         return None;
     }
     let mut pcn = [b' '; 10];
@@ -132,16 +133,4 @@ pub(crate) fn day(value: &Value) -> Option<Day>
     ensures { result ≡ day (view value.now) }
 {
     date_read(value.as_str()?.as_bytes()).ok()
-}
-
-fn are_digits(bytes: &[u8]) -> bool
-    ensures { result ≡ are_digits bytes.now }
-{
-    bytes.iter().all(|b| *b >= b'0' && *b <= b'9')
-}
-
-fn are_printable(bytes: &[u8]) -> bool
-    ensures { result ≡ are_printable bytes.now }
-{
-    bytes.iter().all(|b| *b >= b' ' && *b <= b'~')
 }

@@ -12,6 +12,7 @@ use Rattle.rx_claim.specs.declared.transaction.Transaction.TheVariants.{Bill, Re
 use Rattle.rx_claim.specs.declared.transmission.Body.{Body}
 use Rattle.rx_claim.specs.declared.transmission.Body.TheVariants.{Rejected, Heard}
 use Rattle.rx_claim.specs.declared.transmission.Heard.{Heard as HeardRecord}
+use Rattle.rx_claim.specs.declared.transmission.Rejected.{Rejected as RejectedHeader}
 use Rattle.rx_claim.specs.declared.transmission.Transmission.{Transmission}
 
 -- the words with a blank between each two, and the line's end
@@ -47,9 +48,13 @@ abbrev pub transaction_lines : ℕ → HeardRecord → ℕ → List Transaction 
 transaction_lines place h nth [] = []
 transaction_lines place h nth (t ∷ ts) = transaction_line place h nth t ++ transaction_lines place h (nth + 1) ts
 
+-- the line of a record whose header is rejected
+abbrev pub rejected_line : ℕ → RejectedHeader → List ℕ
+rejected_line place r = line (decimal place ∷ decimal 0 ∷ codes "rejected" ∷ code_list r.codes ∷ [])
+
 -- the lines of the record at a place: one for each transaction, or one for a rejected header
 abbrev pub body_lines : ℕ → Body → List ℕ
-body_lines place (Rejected r) = line (decimal place ∷ decimal 0 ∷ codes "rejected" ∷ code_list r.codes ∷ [])
+body_lines place (Rejected r) = rejected_line place r
 body_lines place (Heard h) = transaction_lines place h 1 h.list
 
 -- the lines of records in file order, the first of them at this place

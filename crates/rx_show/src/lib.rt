@@ -8,12 +8,17 @@
 //! ```
 //!
 //! `plan_lines` writes the lines of the command `plan`. Reading the batch and decoding its details is left to the caller.
+//! `sample_line` is the reply to the base claim under the plain sheet and the opening books, all of them fixed
+//! (`specs/Sample.antt`, docs/FORMATS.md, "Fixed inputs"), as the command `sample` prints it.
 #![tactic(auto)]
 
 mod bytes;
 mod lines;
 mod plan;
+mod sample;
+mod sample_inputs;
 
 pub use bytes::{hexadecimal, shown};
-pub use lines::{put_codes, show_lines};
+pub use lines::{put_codes, put_place, put_rejected, show_lines};
 pub use plan::plan_lines;
+pub use sample::sample_line;

@@ -2,10 +2,10 @@ ghost use Rattle.std.specs.Prelude.{◌≡◌, ◌++◌, ◌∷◌, ◌<◌, ◌
 ghost use Rattle.std.specs.Fmt.{decimal};
 ghost use Rattle.std.specs.List.{flat_map, join_with_byte};
 ghost use Rattle.rx_fields.specs.Calendar.{date_text};
-ghost use Rattle.rx_show.specs.Lines.{after_comma, bill_words, body_lines, code_list, line, reversal_words, shown_lines};
-ghost use Rattle.rx_show.specs.Lines.{transaction_line, transaction_lines, words_of};
+ghost use Rattle.rx_show.specs.Lines.{after_comma, bill_words, body_lines, code_list, rejected_line, reversal_words};
+ghost use Rattle.rx_show.specs.Lines.{shown_lines, transaction_lines, words_of};
 
-use rx_claim::{BillParts, Body, Codes, Heard, Reversal, Transaction, Transmission};
+use rx_claim::{BillParts, Body, Codes, Heard, Rejected, Reversal, Transaction, Transmission};
 use rx_fields::{Code, Memory, Reference, date_write};
 use std::alloc::{AllocError, Global};
 
@@ -26,16 +26,12 @@ fn put_body(alloc: Global, text: &mut Vec<u8>, place: usize, body: &Body) -> Res
     ensures { OnOk result (text.new.items ≡ text.old.items ++ body_lines place body.now) }
 {
     match body {
-        Body::Rejected(rejected) => {
-            put_place(alloc, text, place, 0)?;
-            text.extend_from_slice(b" rejected ")?;
-            put_codes(text, &rejected.codes)?;
-            text.extend_from_slice(b"\n")
-        }
+        Body::Rejected(rejected) => put_rejected(alloc, text, place, rejected),
         Body::Heard(heard) => put_transactions(alloc, text, place, heard),
     }
 }
 
+#[tactic(auto, using(std::proofs::Common::append_assoc))]
 fn put_transactions(
     alloc: Global,
     text: &mut Vec<u8>,
@@ -45,34 +41,12 @@ fn put_transactions(
     ensures { OnOk result (text.new.items ≡ text.old.items ++ transaction_lines place heard.now 1 heard.now.list) }
 {
     for (before, transaction) in heard.list.as_slice().iter().enumerate() {
-        put_line(alloc, text, place, before + 1, heard, transaction)?;
+        put_place(alloc, text, place, before + 1)?;
+        text.push(b' ')?;
+        put_transaction(alloc, text, heard, transaction)?;
+        text.extend_from_slice(b"\n")?;
     }
     Ok(())
-}
-
-// The line of the nth transaction of the record at a place.
-fn put_line(
-    alloc: Global,
-    text: &mut Vec<u8>,
-    place: usize,
-    nth: usize,
-    heard: &Heard,
-    transaction: &Transaction,
-) -> Result<(), AllocError>
-    ensures { OnOk result (text.new.items ≡ text.old.items ++ transaction_line place heard.now nth transaction.now) }
-{
-    put_place(alloc, text, place, nth)?;
-    text.push(b' ')?;
-    put_transaction(alloc, text, heard, transaction)?;
-    text.extend_from_slice(b"\n")
-}
-
-// The record's place in the batch and the transaction's place in the record.
-fn put_place(alloc: Global, text: &mut Vec<u8>, place: usize, nth: usize) -> Result<(), AllocError>
-    ensures { OnOk result (text.new.items ≡ text.old.items ++ join_with_byte 32 (decimal place ∷ decimal nth ∷ [])) }
-{
-    let places = format!(in alloc; "{place} {nth}")?;
-    text.extend_from_slice(places.as_str().as_bytes())
 }
 
 fn put_transaction(
@@ -135,6 +109,34 @@ fn put_key(
     let reference = format!(in alloc; " {number} ")?;
     text.extend_from_slice(reference.as_str().as_bytes())?;
     text.extend_from_slice(&date_write(heard.date))
+}
+
+/// Puts the line of the record at a place whose header is rejected.
+pub fn put_rejected(
+    alloc: Global,
+    text: &mut Vec<u8>,
+    place: usize,
+    rejected: &Rejected,
+) -> Result<(), AllocError>
+    ensures { OnOk result (text.new.items ≡ text.old.items ++ rejected_line place rejected.now) }
+{
+    put_place(alloc, text, place, 0)?;
+    text.extend_from_slice(b" rejected ")?;
+    put_codes(text, &rejected.codes)?;
+    text.extend_from_slice(b"\n")
+}
+
+/// Puts a record's place in its file, a blank, and the place in the record.
+pub fn put_place(
+    alloc: Global,
+    text: &mut Vec<u8>,
+    place: usize,
+    nth: usize,
+) -> Result<(), AllocError>
+    ensures { OnOk result (text.new.items ≡ text.old.items ++ join_with_byte 32 (decimal place ∷ decimal nth ∷ [])) }
+{
+    let places = format!(in alloc; "{place} {nth}")?;
+    text.extend_from_slice(places.as_str().as_bytes())
 }
 
 /// Puts codes at the end of a text, with a comma between each two.

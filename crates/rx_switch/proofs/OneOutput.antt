@@ -10,14 +10,14 @@ use Rattle.rx_books_kept.specs.BooksText.{parts_of}
 use Rattle.rx_books_kept.specs.Figures.{books_of, books_of_parts, unless_wrong, unsummed}
 use Rattle.rx_books_kept.specs.LedgerBooks.{LedgerBooks}
 use Rattle.rx_books_kept.proofs.BooksFile.{parts_right}
-use Rattle.rx_books_text.specs.Fault.{◌>>=◌}
+use Rattle.rx_text.specs.Results.{◌>>=◌}
 use Rattle.rx_books_text.specs.Printed.{PrintedParts}
 use Rattle.rx_books_text.proofs.Printing.{printed_again}
 use Rattle.rx_fields.specs.Numbered.{Span}
 use Rattle.rx_fields.specs.declared.stamp.Stamp.{Stamp}
 use Rattle.rx_ledger.specs.Ledger.{Ledger}
 use Rattle.rx_ledger.specs.Plan.{Plan}
-use Rattle.rx_switch.specs.Output.{Given, Inputs, IsOutput, StandFor, Texts, texts_of}
+use Rattle.rx_switch.specs.Output.{Accepted, Given, IsOutput, StandFor, Texts, texts_of}
 
 abbrev good : {A E : Type 0} → A → Result A E
 good x = Ok x
@@ -39,7 +39,7 @@ books_are text period L is =
 abbrev batch_read : Head → List Detail → Batch
 batch_read head details = record { head = head; details = details }
 
-same_inputs : (g : Given) (x y : Inputs) → StandFor g x → StandFor g y → x ≡ y
+same_inputs : (g : Given) (x y : Accepted) → StandFor g x → StandFor g y → x ≡ y
 same_inputs g x y is was =
     let stamps : x.stamp ≡ y.stamp = good_same x.stamp y.stamp (sym is.stamp ∙ was.stamp) in
     let plans : x.plan ≡ y.plan = good_same x.plan y.plan (sym is.sheet ∙ was.sheet) in

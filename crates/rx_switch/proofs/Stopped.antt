@@ -1,5 +1,5 @@
 -- A run whose inputs are accepted gives its texts, or is stopped by want of memory or of a thread.
-use Rattle.std.proofs.Common.{◌≡◌, ℕ, Bool, true, false, List, Option, Some, None, Result, Ok, Err, refl, sym, ap, ◌∙◌, inl, inr}
+use Rattle.std.proofs.Common.{◌≡◌, ℕ, Bool, true, false, List, Result, Ok, Err, refl, sym, ◌∙◌, inl, inr}
 use Rattle.std.specs.Prelude.{IfErr, IfOk}
 use Rattle.std.proofs.lemmas.Bool.{cases_Bool, false≢true}
 use Rattle.std.proofs.lemmas.Result.{IfErr-at_err}
@@ -12,7 +12,7 @@ use Rattle.rx_switch.specs.declared.fault.SwitchFault.TheVariants as fault
 use Rattle.rx_switch.specs.declared.job.OutputPieces.{OutputPieces}
 use Rattle.rx_switch.specs.Fault.{of_run}
 use Rattle.rx_switch.specs.Job.{texts_in_pieces}
-use Rattle.rx_switch.specs.Output.{Given, Inputs, IsOutput, IsRefused, IsStopped, RefusesOne, StandFor, stamp_for, texts_of}
+use Rattle.rx_switch.specs.Output.{Accepted, Given, IsOutput, IsRefused, IsStopped, RefusesOne, StandFor, stamp_for, texts_of}
 use Rattle.rx_switch.specs.Output.IsRefused.{memory as refused_memory, thread as refused_thread}
 
 -- where the stamp is read, so are the workers
@@ -55,7 +55,7 @@ module _ (plain : Bool) (starts : ℕ → Bool) (workers : ℕ) where
   if_thread r h e = IfErr-at_err (λ f. IsStopped plain starts workers f) e h
 
 -- the texts are the output of what was given
-pub if_output : (g : Given) (x : Inputs) → StandFor g x → (r : Result OutputPieces SwitchFault)
+pub if_output : (g : Given) (x : Accepted) → StandFor g x → (r : Result OutputPieces SwitchFault)
     → IfOk r (λ output. texts_in_pieces output ≡ texts_of x) → IfOk r (λ output. IsOutput g (texts_in_pieces output))
 if_output g x accepted (Ok output) h = record { inputs = x; accepted = accepted; texts_are = h }
 if_output g x accepted (Err f) h = tt

@@ -6,6 +6,8 @@ use Rattle.rx_devices.specs.Reading.{IsRead, most_reads}
 use Rattle.rx_devices.specs.Writing.{AppendsFront}
 use Rattle.rx_devices.specs.declared.fault.ReadFault.{ReadFault}
 use Rattle.rx_devices.specs.declared.fault.ReadFault.TheVariants as reading
+use Rattle.rx_switch.specs.declared.devices.Inputs.{Inputs}
+use Rattle.rx_switch.specs.declared.devices.Outputs.{Outputs}
 use Rattle.rx_switch.specs.declared.fault.Device.{Device}
 use Rattle.rx_switch.specs.declared.fault.Device.TheVariants as device
 use Rattle.rx_switch.specs.declared.fault.IoFault.{IoFault}
@@ -34,17 +36,28 @@ pub record Devices : Type 0 where
   pub inputs : Left
   pub outputs : Written
 
-abbrev pub left : Option (List ℕ) → Option (List ℕ) → Option (List ℕ) → Left
-left sheet books batch = record { sheet = sheet; books = books; batch = batch }
+-- what the inputs have left, by what each device tells
+abbrev pub left_of : {A B C : Type 0} → (A → Option (List ℕ)) → (B → Option (List ℕ)) → (C → Option (List ℕ))
+    → Inputs A B C → Left
+left_of of_sheet of_books of_batch inputs =
+    record { sheet = of_sheet inputs.sheet; books = of_books inputs.books; batch = of_batch inputs.batch }
 
-abbrev pub written : Option (List ℕ) → Option (List ℕ) → Option (List ℕ) → Written
-written response books settlement = record { response = response; books = books; settlement = settlement }
+-- what was written to the outputs
+abbrev pub written_of : {D E F : Type 0} → (D → Option (List ℕ)) → (E → Option (List ℕ)) → (F → Option (List ℕ))
+    → Outputs D E F → Written
+written_of of_response of_books of_settlement outputs =
+    record {
+      response = of_response outputs.response;
+      books = of_books outputs.end_books;
+      settlement = of_settlement outputs.settlement;
+    }
 
 -- all six, in the order of their numbers
-abbrev pub devices : Option (List ℕ) → Option (List ℕ) → Option (List ℕ)
-    → Option (List ℕ) → Option (List ℕ) → Option (List ℕ) → Devices
-devices sheet books batch response end_books settlement =
-    record { inputs = left sheet books batch; outputs = written response end_books settlement }
+abbrev pub devices_of : {A B C D E F : Type 0}
+    → (A → Option (List ℕ)) → (B → Option (List ℕ)) → (C → Option (List ℕ))
+    → (D → Option (List ℕ)) → (E → Option (List ℕ)) → (F → Option (List ℕ)) → Inputs A B C → Outputs D E F → Devices
+devices_of sheet books batch response end_books settlement inputs outputs =
+    record { inputs = left_of sheet books batch inputs; outputs = written_of response end_books settlement outputs }
 
 -- whether a call of this device failed, by the answer
 abbrev pub has_failed : {X : Type 0} → Device → Result X IoFault → Bool

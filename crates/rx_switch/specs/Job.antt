@@ -1,15 +1,15 @@
 -- Meaning: a job as what it gives a run, and an output as its texts.
-use Rattle.std.specs.Prelude.{ℕ, List}
+use Rattle.std.specs.Prelude.{◌≡◌, ℕ, List}
 use Rattle.std.specs.List.{flat_map}
 use Rattle.std.specs.Vec.{vec_items}
-use Rattle.rx_batch.specs.declared.batch.Batch.{Batch}
-use Rattle.rx_books_kept.specs.LedgerBooks.{LedgerBooks}
-use Rattle.rx_fields.specs.declared.stamp.Stamp.{Stamp}
-use Rattle.rx_ledger.specs.Plan.{Plan}
+use Rattle.rx_batch.specs.Pieces.{StandsFor}
+use Rattle.rx_switch.specs.declared.accepting.Accepted.{Accepted as AcceptedInputs}
+use Rattle.rx_switch.specs.declared.accepting.BatchFile.{BatchFile}
+use Rattle.rx_switch.specs.declared.accepting.BatchFile.TheVariants as file
 use Rattle.rx_switch.specs.declared.job.Job.{Job}
 use Rattle.rx_switch.specs.declared.job.Output.{Output}
 use Rattle.rx_switch.specs.declared.job.OutputPieces.{OutputPieces}
-use Rattle.rx_switch.specs.Output.{Given, Inputs, Texts}
+use Rattle.rx_switch.specs.Output.{Accepted, Given, Texts}
 
 abbrev pub given_by : Job → Given
 given_by job =
@@ -43,14 +43,19 @@ texts_in_pieces output =
       settlement = output.settlement.items;
     }
 
+-- the bytes of a batch file that is here, or was fed to pieces
+abbrev pub HasBytes : BatchFile → List ℕ → Type 0
+HasBytes (file.Bytes bytes) text = bytes.now ≡ text
+HasBytes (file.Fed pieces) text = StandsFor pieces text
+
 -- what the inputs stand for, once they are read
-abbrev pub inputs_of : Stamp → Plan → LedgerBooks → Batch → Inputs
-inputs_of stamp plan books batch =
+abbrev pub accepted_of : AcceptedInputs → Accepted
+accepted_of accepted =
     record {
-      stamp = stamp;
-      plan = plan;
-      period = books.period;
-      opening = books.ledger;
-      head = batch.head;
-      details = batch.details;
+      stamp = accepted.stamp;
+      plan = accepted.sheet;
+      period = accepted.books.period;
+      opening = accepted.books.ledger;
+      head = accepted.batch.head;
+      details = accepted.batch.details;
     }

@@ -42,7 +42,7 @@ pub record Texts : Type 0 where
   pub settlement : List ℕ
 
 -- what the inputs stand for
-pub record Inputs : Type 0 where
+pub record Accepted : Type 0 where
   pub stamp : Stamp
   pub plan : Plan
   pub period : Span
@@ -56,25 +56,25 @@ stamp_for workers stamp =
     if are_workers workers then ok_or (stamp_of stamp) fault.Stamp else Err fault.Workers
 
 -- the inputs are accepted, and stand for this
-pub record StandFor (g : Given) (x : Inputs) : Type 0 where
+pub record StandFor (g : Given) (x : Accepted) : Type 0 where
   pub stamp : stamp_for g.workers g.stamp ≡ Ok x.stamp
   pub sheet : sheet_of_text g.sheet ≡ Ok x.plan
   pub books : IsBooksText g.books x.period x.opening
   pub batch : IsFile g.batch x.head x.details
 
 -- the transmissions of the details, in file order
-abbrev pub asked : Inputs → List Transmission
+abbrev pub asked : Accepted → List Transmission
 asked x = transmissions_of x.plan.figures.door x.details
 
 -- the replies to them and the ledger after them, adjudicated one after another in file order
-abbrev pub replies : Inputs → List Reply
+abbrev pub replies : Accepted → List Reply
 replies x = fold_replies x.head.lot x.plan 1 (asked x) x.opening
 
-abbrev pub ledger_at_end : Inputs → Ledger
+abbrev pub ledger_at_end : Accepted → Ledger
 ledger_at_end x = fold_ledger x.head.lot x.plan 1 (asked x) x.opening
 
 -- the three texts: replies to the details, the ledger with the sums of the sheet's period, and the settlement
-abbrev pub texts_of : Inputs → Texts
+abbrev pub texts_of : Accepted → Texts
 texts_of x =
     record {
       response = response_text x.head x.stamp x.details (replies x);
@@ -84,7 +84,7 @@ texts_of x =
 
 -- the inputs are accepted, and these are their texts
 pub record IsOutput (g : Given) (texts : Texts) : Type 0 where
-  pub inputs : Inputs
+  pub inputs : Accepted
   pub accepted : StandFor g inputs
   pub texts_are : texts ≡ texts_of inputs
 

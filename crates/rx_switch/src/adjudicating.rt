@@ -1,15 +1,16 @@
 ghost use Rattle.std.specs.Prelude.{◌≡◌, ◌≤◌, IfErr, IfOk, length, true};
+ghost use Rattle.rx_fields.specs.declared.limits.TheConstants.{MOST_DETAILS};
 ghost use Rattle.rx_ledger.specs.Fold.{fold_ledger, fold_replies};
-ghost use Rattle.rx_switch.specs.Job.{inputs_of, texts_in_pieces};
+ghost use Rattle.rx_switch.specs.Job.{accepted_of, texts_in_pieces};
 ghost use Rattle.rx_switch.specs.Output.{IsStopped, texts_of};
 ghost use Rattle.rx_wave.specs.Workers.{are_workers};
 
+use crate::accepting::Accepted;
 use crate::fault::SwitchFault;
 use crate::job::OutputPieces;
-use rx_batch::Batch;
 use rx_books_kept::Books;
 use rx_claim::{Reply, Transmission};
-use rx_fields::{Lot, Memory, Stamp};
+use rx_fields::{Lot, Memory};
 use rx_in_order::Finished;
 use rx_ledger::{Sheet, plain_run};
 use rx_response::response_pieces;
@@ -32,33 +33,42 @@ pub(crate) fn parts_of(workers: u16, bytes: usize) -> usize {
     }
 }
 
-/// The texts of adjudicating the details, as if one after another in file order: by so many workers on the books
-/// themselves or, plainly, over lists. Decoding, rendering and writing go in so many parts beside one another; one part
-/// starts no thread. The memory of the spent text is used again.
+/// How the records are adjudicated: by so many workers at a gate or, plainly, over lists.
+#[derive(Drop)]
+pub(crate) struct Manner<'a, G> {
+    pub(crate) gate: &'a G,
+    pub(crate) workers: u16,
+    pub(crate) plain: bool,
+}
+
+/// The texts of adjudicating the details, as if one after another in file order. Decoding, rendering and writing go in so
+/// many parts beside one another; one part starts no thread. The memory of the spent text is used again.
 #[tactic(auto, using(crate::proofs::Replied::replied))]
 pub(crate) fn adjudicate<R: Threads + Wait + Sync, G: Gate + Sync>(
     rt: &R,
     alloc: Global,
-    gate: &G,
-    workers: u16,
+    manner: &Manner<'_, G>,
     parts: usize,
-    plain: bool,
-    stamp: &Stamp,
-    sheet: &Sheet,
-    books: Books,
-    batch: &Batch,
+    accepted: Accepted,
     spent: Vec<u8>,
 ) -> Result<OutputPieces, SwitchFault>
-    requires few { length batch.now.details ≤ 100_000 }
-    requires workers { are_workers workers ≡ true }
-    ensures output { IfOk result (λ output.
-        texts_in_pieces output ≡ texts_of (inputs_of stamp.now sheet.now books batch.now)) }
-    ensures stopped { IfErr result (λ fault. IsStopped plain (G.starts gate.now) workers fault) }
+    requires few { length accepted.batch.details ≤ MOST_DETAILS }
+    requires workers { are_workers manner.now.workers ≡ true }
+    ensures output { IfOk result (λ output. texts_in_pieces output ≡ texts_of (accepted_of accepted)) }
+    ensures stopped { IfErr result (λ fault.
+        IsStopped manner.now.plain (G.starts manner.now.gate.now) manner.now.workers fault) }
 {
+    let Accepted {
+        stamp,
+        sheet,
+        books,
+        batch,
+    } = accepted;
+    let stamp = &stamp;
     let details = batch.details.as_slice();
     let asked = decode_in_parts(rt, alloc, parts, sheet.door(), details)?;
     let lot = batch.head.lot();
-    let (books, replies) = finish(rt, alloc, gate, workers, plain, lot, sheet, books, &asked)?;
+    let (books, replies) = finish(rt, alloc, manner, lot, &sheet, books, &asked)?;
     drop(asked);
     let response = response_pieces(rt, alloc, parts, &batch.head, *stamp, details, &replies)?;
     let books = books.write_pieces(rt, alloc, parts, spent)?;
@@ -74,30 +84,36 @@ pub(crate) fn adjudicate<R: Threads + Wait + Sync, G: Gate + Sync>(
 fn finish<R: Threads + Wait + Sync, G: Gate + Sync>(
     rt: &R,
     alloc: Global,
-    gate: &G,
-    workers: u16,
-    plain: bool,
+    manner: &Manner<'_, G>,
     lot: Lot,
     sheet: &Sheet,
     books: Books,
     asked: &[Transmission],
 ) -> Result<(Books, Vec<Reply>), SwitchFault>
-    requires few { length asked.now ≤ 100_000 }
-    requires workers { are_workers workers ≡ true }
+    requires few { length asked.now ≤ MOST_DETAILS }
+    requires workers { are_workers manner.now.workers ≡ true }
     ensures books { IfOk result (λ finished. finished.0 ≡ record {
       period = sheet.now.figures.period;
       ledger = fold_ledger lot sheet.now 1 asked.now books.ledger;
     }) }
     ensures replies { IfOk result (λ finished.
         finished.1.items ≡ fold_replies lot sheet.now 1 asked.now books.ledger) }
-    ensures stopped { IfErr result (λ fault. IsStopped plain (G.starts gate.now) workers fault) }
+    ensures stopped { IfErr result (λ fault.
+        IsStopped manner.now.plain (G.starts manner.now.gate.now) manner.now.workers fault) }
 {
-    if plain {
+    if manner.plain {
         return Ok(finish_plainly(alloc, lot, sheet, &books, asked)?);
     }
     let books = books.with_period(alloc, sheet.period())?;
     let Finished { books, replies } = run_waves(
-        rt, alloc, gate, workers, lot, sheet, &books, asked,
+        rt,
+        alloc,
+        manner.gate,
+        manner.workers,
+        lot,
+        sheet,
+        &books,
+        asked,
     )?;
     Ok((books, replies))
 }
@@ -110,7 +126,7 @@ fn finish_plainly(
     books: &Books,
     asked: &[Transmission],
 ) -> Result<(Books, Vec<Reply>), Memory>
-    requires { length asked.now ≤ 100_000 }
+    requires { length asked.now ≤ MOST_DETAILS }
     ensures books { IfOk result (λ finished. finished.0 ≡ record {
       period = sheet.now.figures.period;
       ledger = fold_ledger lot sheet.now 1 asked.now books.now.ledger;

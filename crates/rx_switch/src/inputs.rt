@@ -1,7 +1,8 @@
 ghost use Rattle.std.specs.Prelude.{◌≡◌, IfErr, IfOk, false};
 ghost use Rattle.rx_devices.specs.Reading.{AreFewReads, IsRead};
-ghost use Rattle.rx_switch.specs.Devices.{AreRead, IsFed, IsUnread, IsUnreadAt, has_failed, left, of_reading};
+ghost use Rattle.rx_switch.specs.Devices.{AreRead, IsFed, IsUnread, IsUnreadAt, has_failed, left_of, of_reading};
 
+use crate::devices::Inputs;
 use crate::fault::{Device, IoFault, SwitchFault};
 use rx_batch::Pieces;
 use rx_devices::{Consumer, ReadFault, Source, read_each};
@@ -23,7 +24,7 @@ pub fn read_all<S: Source>(
     ensures read { IfOk result (λ text. IsRead (S.left source.old) (S.left source.new) text.items) }
     ensures unread { IfErr result (IsUnreadAt device (S.left source.old)) }
     ensures failed { S.failed source.new ≡ has_failed device result }
-    ensures reads { AreFewReads (S.reads source.old) (S.reads source.new) (S.cramped source.old) (S.cramped source.new) }
+    ensures reads { AreFewReads S.reads S.cramped source.old source.new }
 {
     match rx_devices::read_all(alloc, source) {
         Ok(text) => Ok(text),
@@ -65,7 +66,7 @@ fn read_pieces<S: Source>(alloc: Global, source: &mut S) -> Result<Pieces, IoFau
     ensures read { IfOk result (λ pieces. IsFed (S.left source.old) (S.left source.new) pieces) }
     ensures unread { IfErr result (IsUnreadAt Device.Batch (S.left source.old)) }
     ensures failed { S.failed source.new ≡ has_failed Device.Batch result }
-    ensures reads { AreFewReads (S.reads source.old) (S.reads source.new) (S.cramped source.old) (S.cramped source.new) }
+    ensures reads { AreFewReads S.reads S.cramped source.old source.new }
 {
     let mut fed = FedBatch {
         pieces: Pieces::new(alloc),
@@ -88,30 +89,25 @@ pub(crate) struct ReadInputs {
 #[tactic(auto, using(rx_devices::proofs::Passing::none_made))]
 pub(crate) fn read_inputs<A: Source, B: Source, C: Source>(
     alloc: Global,
-    sheet: &mut A,
-    books: &mut B,
-    batch: &mut C,
+    inputs: &mut Inputs<A, B, C>,
 ) -> Result<ReadInputs, IoFault>
-    requires sheet { A.failed sheet.old ≡ false }
-    requires books { B.failed books.old ≡ false }
-    requires batch { C.failed batch.old ≡ false }
-    ensures read { IfOk result (λ read. AreRead
-        (left (A.left sheet.old) (B.left books.old) (C.left batch.old))
-        (left (A.left sheet.new) (B.left books.new) (C.left batch.new))
-        read.sheet.items read.books.items read.batch) }
-    ensures unread { IfErr result (IsUnread
-        (left (A.left sheet.old) (B.left books.old) (C.left batch.old))
-        (left (A.left sheet.new) (B.left books.new) (C.left batch.new))) }
-    ensures sheet { A.failed sheet.new ≡ has_failed Device.Sheet result }
-    ensures books { B.failed books.new ≡ has_failed Device.Books result }
-    ensures batch { C.failed batch.new ≡ has_failed Device.Batch result }
-    ensures sheet_reads { AreFewReads (A.reads sheet.old) (A.reads sheet.new) (A.cramped sheet.old) (A.cramped sheet.new) }
-    ensures books_reads { AreFewReads (B.reads books.old) (B.reads books.new) (B.cramped books.old) (B.cramped books.new) }
-    ensures batch_reads { AreFewReads (C.reads batch.old) (C.reads batch.new) (C.cramped batch.old) (C.cramped batch.new) }
+    requires sheet { A.failed inputs.old.sheet ≡ false }
+    requires books { B.failed inputs.old.books ≡ false }
+    requires batch { C.failed inputs.old.batch ≡ false }
+    ensures read { let left = left_of A.left B.left C.left in
+        IfOk result (λ read. AreRead (left inputs.old) (left inputs.new) read.sheet.items read.books.items read.batch) }
+    ensures unread { let left = left_of A.left B.left C.left in
+        IfErr result (IsUnread (left inputs.old) (left inputs.new)) }
+    ensures sheet { A.failed inputs.new.sheet ≡ has_failed Device.Sheet result }
+    ensures books { B.failed inputs.new.books ≡ has_failed Device.Books result }
+    ensures batch { C.failed inputs.new.batch ≡ has_failed Device.Batch result }
+    ensures sheet_reads { AreFewReads A.reads A.cramped inputs.old.sheet inputs.new.sheet }
+    ensures books_reads { AreFewReads B.reads B.cramped inputs.old.books inputs.new.books }
+    ensures batch_reads { AreFewReads C.reads C.cramped inputs.old.batch inputs.new.batch }
 {
-    let sheet = read_all(alloc, sheet, Device::Sheet)?;
-    let books = read_all(alloc, books, Device::Books)?;
-    let batch = read_pieces(alloc, batch)?;
+    let sheet = read_all(alloc, &mut inputs.sheet, Device::Sheet)?;
+    let books = read_all(alloc, &mut inputs.books, Device::Books)?;
+    let batch = read_pieces(alloc, &mut inputs.batch)?;
     Ok(ReadInputs {
         sheet,
         books,

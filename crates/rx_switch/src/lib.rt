@@ -12,7 +12,9 @@
 //! The words of a command line and the files themselves are left to the program.
 #![tactic(auto)]
 
+mod accepting;
 mod adjudicating;
+mod devices;
 mod fault;
 mod inputs;
 mod job;
@@ -26,6 +28,7 @@ mod telling;
 #[cfg(test)]
 mod tests;
 
+pub use devices::{Inputs, Outputs};
 pub use fault::{Device, IoFault, SwitchFault, Told};
 pub use inputs::read_all;
 pub use job::{Job, Output};
@@ -34,6 +37,6 @@ pub use on_devices::run_io;
 pub use plan::plan_text;
 pub use running::run;
 pub use rx_devices::{ReaderSource, Sink, Source, WriterSink};
-pub use rx_sample::sample_line;
+pub use rx_show::sample_line;
 pub use show::show_text;
 pub use telling::told;

@@ -1,25 +1,20 @@
 ghost use Rattle.std.specs.Prelude.{◌≡◌, Err, IfErr, IfOk, List, OnOk, false, ℕ};
-ghost use Rattle.rx_batch.specs.Fault.{UnlessMemory};
-ghost use Rattle.rx_batch.specs.Grammar.{IsFile};
 ghost use Rattle.rx_batch.specs.Pieces.{StandsFor};
-ghost use Rattle.rx_batch.specs.Reading.{HasFault};
 ghost use Rattle.rx_devices.specs.Reading.{AreFewReads};
-ghost use Rattle.rx_switch.specs.Devices.{IsBroken, IsDone, devices, has_failed};
+ghost use Rattle.rx_switch.specs.Devices.{IsBroken, IsDone, devices_of, has_failed};
 ghost use Rattle.rx_switch.specs.Job.{given_read, texts_in_pieces};
 ghost use Rattle.rx_switch.specs.Output.{IsOutput, IsRefused, RefusesOne};
 ghost use Rattle.rx_switch.specs.declared.fault.Device.TheVariants as device;
 ghost use Rattle.rx_switch.specs.declared.fault.IoFault.TheVariants as io;
 
-use crate::adjudicating::{adjudicate, parts_of};
+use crate::accepting::{BatchFile, accept};
+use crate::adjudicating::{Manner, adjudicate, parts_of};
+use crate::devices::{Inputs, Outputs};
 use crate::fault::{IoFault, SwitchFault};
 use crate::inputs::{ReadInputs, read_inputs};
 use crate::job::OutputPieces;
 use crate::outputs::write_outputs;
-use crate::running::stamp_for;
-use rx_batch::{Batch, BatchFault, Pieces};
-use rx_books_kept::Books;
 use rx_devices::{Sink, Source};
-use rx_sheet::read_sheet;
 use rx_wave::Gate;
 use std::alloc::Global;
 use std::sync::Wait;
@@ -54,93 +49,73 @@ pub fn run_io<
     stamp: &[u8],
     workers: u16,
     plain: bool,
-    sheet: &mut A,
-    books: &mut B,
-    batch: &mut C,
-    response: &mut D,
-    end_books: &mut E,
-    settlement: &mut F,
+    inputs: &mut Inputs<A, B, C>,
+    outputs: &mut Outputs<D, E, F>,
 ) -> Result<(), IoFault>
-    requires sheet { A.failed sheet.old ≡ false }
-    requires books { B.failed books.old ≡ false }
-    requires batch { C.failed batch.old ≡ false }
-    requires response { D.failed response.old ≡ false }
-    requires end_books { E.failed end_books.old ≡ false }
-    requires settlement { F.failed settlement.old ≡ false }
-    ensures done { OnOk result (IsDone stamp.now workers
-        (devices (A.left sheet.old) (B.left books.old) (C.left batch.old)
-        (D.written response.old) (E.written end_books.old) (F.written settlement.old))
-        (devices (A.left sheet.new) (B.left books.new) (C.left batch.new)
-        (D.written response.new) (E.written end_books.new) (F.written settlement.new))) }
-    ensures broken { IfErr result (IsBroken stamp.now workers
-        (devices (A.left sheet.old) (B.left books.old) (C.left batch.old)
-        (D.written response.old) (E.written end_books.old) (F.written settlement.old))
-        (devices (A.left sheet.new) (B.left books.new) (C.left batch.new)
-        (D.written response.new) (E.written end_books.new) (F.written settlement.new))) }
+    requires sheet { A.failed inputs.old.sheet ≡ false }
+    requires books { B.failed inputs.old.books ≡ false }
+    requires batch { C.failed inputs.old.batch ≡ false }
+    requires response { D.failed outputs.old.response ≡ false }
+    requires end_books { E.failed outputs.old.end_books ≡ false }
+    requires settlement { F.failed outputs.old.settlement ≡ false }
+    ensures done { let told = devices_of A.left B.left C.left D.written E.written F.written in
+        OnOk result (IsDone stamp.now workers (told inputs.old outputs.old) (told inputs.new outputs.new)) }
+    ensures broken { let told = devices_of A.left B.left C.left D.written E.written F.written in
+        IfErr result (IsBroken stamp.now workers (told inputs.old outputs.old) (told inputs.new outputs.new)) }
     // A device failed in the run exactly where the answer tells it.
-    ensures sheet { A.failed sheet.new ≡ has_failed device.Sheet result }
-    ensures books { B.failed books.new ≡ has_failed device.Books result }
-    ensures batch { C.failed batch.new ≡ has_failed device.Batch result }
-    ensures response { D.failed response.new ≡ has_failed device.Response result }
-    ensures end_books { E.failed end_books.new ≡ has_failed device.EndBooks result }
-    ensures settlement { F.failed settlement.new ≡ has_failed device.Settlement result }
+    ensures sheet { A.failed inputs.new.sheet ≡ has_failed device.Sheet result }
+    ensures books { B.failed inputs.new.books ≡ has_failed device.Books result }
+    ensures batch { C.failed inputs.new.batch ≡ has_failed device.Batch result }
+    ensures response { D.failed outputs.new.response ≡ has_failed device.Response result }
+    ensures end_books { E.failed outputs.new.end_books ≡ has_failed device.EndBooks result }
+    ensures settlement { F.failed outputs.new.settlement ≡ has_failed device.Settlement result }
     ensures thread { result ≡ Err (io.Switch SwitchFault.Thread) → RefusesOne plain (G.starts gate.now) workers }
     // Each input is read at most 4,194,304 times, with room for at least 4,096 bytes.
-    ensures sheet_reads { AreFewReads (A.reads sheet.old) (A.reads sheet.new) (A.cramped sheet.old) (A.cramped sheet.new) }
-    ensures books_reads { AreFewReads (B.reads books.old) (B.reads books.new) (B.cramped books.old) (B.cramped books.new) }
-    ensures batch_reads { AreFewReads (C.reads batch.old) (C.reads batch.new) (C.cramped batch.old) (C.cramped batch.new) }
+    ensures sheet_reads { AreFewReads A.reads A.cramped inputs.old.sheet inputs.new.sheet }
+    ensures books_reads { AreFewReads B.reads B.cramped inputs.old.books inputs.new.books }
+    ensures batch_reads { AreFewReads C.reads C.cramped inputs.old.batch inputs.new.batch }
 {
-    let read = read_inputs(alloc, sheet, books, batch)?;
-    let output = output_of(rt, alloc, gate, stamp, workers, plain, read)?;
-    write_outputs(&output, response, end_books, settlement)
+    let manner = Manner {
+        gate,
+        workers,
+        plain,
+    };
+    let read = read_inputs(alloc, inputs)?;
+    let output = output_of(rt, alloc, &manner, stamp, read)?;
+    write_outputs(&output, outputs)
 }
 
 // What a run gives of the inputs that were read.
 fn output_of<R: Threads + Wait + Sync, G: Gate + Sync>(
     rt: &R,
     alloc: Global,
-    gate: &G,
+    manner: &Manner<'_, G>,
     stamp: &[u8],
-    workers: u16,
-    plain: bool,
     read: ReadInputs,
 ) -> Result<OutputPieces, SwitchFault>
     requires { (batch : List ℕ) × StandsFor read.batch batch }
-    ensures output { (batch : List ℕ) → StandsFor read.batch batch
-        → IfOk result (λ output. IsOutput (given_read stamp.now workers read.sheet.items read.books.items batch) (texts_in_pieces output)) }
-    ensures refused { (batch : List ℕ) → StandsFor read.batch batch
-        → IfErr result (λ fault. IsRefused (given_read stamp.now workers read.sheet.items read.books.items batch) fault) }
-    ensures thread { result ≡ Err SwitchFault.Thread → RefusesOne plain (G.starts gate.now) workers }
+    ensures output { (batch : List ℕ) → StandsFor read.batch batch → IfOk result (λ output.
+        IsOutput (given_read stamp.now manner.now.workers read.sheet.items read.books.items batch) (texts_in_pieces output)) }
+    ensures refused { (batch : List ℕ) → StandsFor read.batch batch → IfErr result (λ fault.
+        IsRefused (given_read stamp.now manner.now.workers read.sheet.items read.books.items batch) fault) }
+    ensures thread { result ≡ Err SwitchFault.Thread
+        → RefusesOne manner.now.plain (G.starts manner.now.gate.now) manner.now.workers }
 {
     let ReadInputs {
         sheet,
         books,
         batch,
     } = read;
-    let stamp = stamp_for(workers, stamp)?;
-    let sheet = read_sheet(alloc, sheet.as_slice())?;
-    let parts = parts_of(workers, books.len());
-    let opening = Books::read_in_parts(rt, alloc, parts, books.as_slice())?;
-    let batch = finished(batch)?;
-    let parts = parts.max(parts_of(workers, batch.details.len() * DETAIL_BYTES));
+    let batch = BatchFile::Fed(batch);
+    let accepted = accept(rt, alloc, manner.workers, stamp, &sheet, &books, batch)?;
+    let bytes = accepted.batch.details.len().saturating_mul(DETAIL_BYTES);
+    let parts = parts_of(manner.workers, books.len().max(bytes));
     let spent = spent_for(alloc, parts, books);
-    adjudicate(
-        rt, alloc, gate, workers, parts, plain, &stamp, &sheet, opening, &batch, spent,
-    )
+    adjudicate(rt, alloc, manner, parts, accepted, spent)
 }
 
 // The text whose memory the end books are written over: the opening books' for one part. Several parts are written at
 // once, each into memory of its own, and there the text goes at once.
 fn spent_for(alloc: Global, parts: usize, text: Vec<u8>) -> Vec<u8> {
     if parts < 2 { text } else { Vec::new(alloc) }
-}
-
-// The batch of the pieces.
-fn finished(pieces: Pieces) -> Result<Batch, BatchFault>
-    ensures ok { (text : List ℕ) → StandsFor pieces text
-        → IfOk result (λ batch. IsFile text batch.head batch.details) }
-    ensures refuses { (text : List ℕ) → StandsFor pieces text
-        → IfErr result (λ fault. UnlessMemory fault (HasFault text fault)) }
-{
-    pieces.finish()
 }

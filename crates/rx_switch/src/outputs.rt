@@ -3,10 +3,11 @@ ghost use Rattle.std.specs.Io.KnownBytes.{Appends};
 ghost use Rattle.std.specs.List.{flat_map};
 ghost use Rattle.std.specs.Vec.{vec_items};
 ghost use Rattle.rx_devices.specs.Writing.{AppendsFront};
-ghost use Rattle.rx_switch.specs.Devices.{AreWritten, IsUnwritten, has_failed, written};
+ghost use Rattle.rx_switch.specs.Devices.{AreWritten, IsUnwritten, has_failed, written_of};
 ghost use Rattle.rx_switch.specs.Job.{texts_in_pieces};
 ghost use Rattle.rx_switch.specs.declared.fault.IoFault.TheVariants as io;
 
+use crate::devices::Outputs;
 use crate::fault::{Device, IoFault};
 use crate::job::OutputPieces;
 use rx_devices::{Sink, write_pieces};
@@ -15,29 +16,23 @@ use std::slice;
 // Writes the three texts to their ends, in this order.
 pub(crate) fn write_outputs<D: Sink, E: Sink, F: Sink>(
     output: &OutputPieces,
-    response: &mut D,
-    end_books: &mut E,
-    settlement: &mut F,
+    outputs: &mut Outputs<D, E, F>,
 ) -> Result<(), IoFault>
-    requires response { D.failed response.old ≡ false }
-    requires end_books { E.failed end_books.old ≡ false }
-    requires settlement { F.failed settlement.old ≡ false }
-    ensures done { OnOk result (AreWritten
-        (written (D.written response.old) (E.written end_books.old) (F.written settlement.old))
-        (written (D.written response.new) (E.written end_books.new) (F.written settlement.new))
-        (texts_in_pieces output.now)) }
-    ensures unwritten { IfErr result (IsUnwritten
-        (written (D.written response.old) (E.written end_books.old) (F.written settlement.old))
-        (written (D.written response.new) (E.written end_books.new) (F.written settlement.new))
-        (texts_in_pieces output.now)) }
-    ensures response { D.failed response.new ≡ has_failed Device.Response result }
-    ensures end_books { E.failed end_books.new ≡ has_failed Device.EndBooks result }
-    ensures settlement { F.failed settlement.new ≡ has_failed Device.Settlement result }
+    requires response { D.failed outputs.old.response ≡ false }
+    requires end_books { E.failed outputs.old.end_books ≡ false }
+    requires settlement { F.failed outputs.old.settlement ≡ false }
+    ensures done { let written = written_of D.written E.written F.written in
+        OnOk result (AreWritten (written outputs.old) (written outputs.new) (texts_in_pieces output.now)) }
+    ensures unwritten { let written = written_of D.written E.written F.written in
+        IfErr result (IsUnwritten (written outputs.old) (written outputs.new) (texts_in_pieces output.now)) }
+    ensures response { D.failed outputs.new.response ≡ has_failed Device.Response result }
+    ensures end_books { E.failed outputs.new.end_books ≡ has_failed Device.EndBooks result }
+    ensures settlement { F.failed outputs.new.settlement ≡ has_failed Device.Settlement result }
 {
-    write_text(response, &output.response, Device::Response)?;
-    write_text(end_books, &output.books, Device::EndBooks)?;
+    write_text(&mut outputs.response, &output.response, Device::Response)?;
+    write_text(&mut outputs.end_books, &output.books, Device::EndBooks)?;
     write_text(
-        settlement,
+        &mut outputs.settlement,
         slice::from_ref(&output.settlement),
         Device::Settlement,
     )

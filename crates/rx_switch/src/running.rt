@@ -2,13 +2,10 @@ ghost use Rattle.std.specs.Prelude.{◌≡◌, IfErr, IfOk, Err};
 ghost use Rattle.rx_switch.specs.Job.{given_by, texts_in};
 ghost use Rattle.rx_switch.specs.Output.{IsOutput, IsRefused, RefusesOne, stamp_for};
 
-use crate::adjudicating::{adjudicate, parts_of};
+use crate::accepting::{BatchFile, accept};
+use crate::adjudicating::{Manner, adjudicate, parts_of};
 use crate::fault::SwitchFault;
 use crate::job::{Job, Output};
-use rx_batch::read_batch;
-use rx_books_kept::Books;
-use rx_fields::Stamp;
-use rx_sheet::read_sheet;
 use rx_wave::Gate;
 use std::alloc::Global;
 use std::sync::Wait;
@@ -37,34 +34,14 @@ pub fn run<R: Threads + Wait + Sync, G: Gate + Sync>(
     ensures words { (fault : SwitchFault) → stamp_for job.now.workers job.now.stamp.now ≡ Err fault → result ≡ Err fault }
     ensures thread { result ≡ Err SwitchFault.Thread → RefusesOne job.now.plain (G.starts gate.now) job.now.workers }
 {
-    let stamp = stamp_for(job.workers, job.stamp)?;
-    let sheet = read_sheet(alloc, job.sheet)?;
-    let parts = parts_of(job.workers, job.books.len());
-    let books = Books::read_in_parts(rt, alloc, parts, job.books)?;
-    let batch = read_batch(alloc, job.batch)?;
-    let parts = parts_of(job.workers, job.books.len().max(job.batch.len()));
-    let pieces = adjudicate(
-        rt,
-        alloc,
+    let (stamp, batch) = (job.stamp, BatchFile::Bytes(job.batch));
+    let accepted = accept(rt, alloc, job.workers, stamp, job.sheet, job.books, batch)?;
+    let manner = Manner {
         gate,
-        job.workers,
-        parts,
-        job.plain,
-        &stamp,
-        &sheet,
-        books,
-        &batch,
-        Vec::new(alloc),
-    )?;
+        workers: job.workers,
+        plain: job.plain,
+    };
+    let parts = parts_of(job.workers, job.books.len().max(job.batch.len()));
+    let pieces = adjudicate(rt, alloc, &manner, parts, accepted, Vec::new(alloc))?;
     Ok(pieces.joined(alloc)?)
-}
-
-// The run's date and time.
-pub(crate) fn stamp_for(workers: u16, stamp: &[u8]) -> Result<Stamp, SwitchFault>
-    ensures { result ≡ stamp_for workers stamp.now }
-{
-    if workers < 1 || workers > 64 {
-        return Err(SwitchFault::Workers);
-    }
-    Stamp::new(stamp).ok_or(SwitchFault::Stamp)
 }

@@ -1,10 +1,15 @@
 // What no clause says: which refusal a run on devices answers.
+ghost use Rattle.std.specs.Prelude.{◌≡◌, false};
+
 use crate::job::OutputPieces;
 use crate::outputs::write_outputs;
-use crate::{Device, IoFault, SwitchFault, read_all, run_io};
-use rx_devices::{SliceSource, VecSink};
+use crate::{Device, Inputs, IoFault, Outputs, SwitchFault, read_all, run_io};
+use rx_devices::{SliceSource, Source, VecSink};
 use rx_wave::NoGate;
+use std::alloc::Global;
+use std::sync::Wait;
 use std::test::Fail;
+use std::thread::Threads;
 
 const STAMP: &[u8] = b"202603010930";
 
@@ -16,83 +21,69 @@ fn reads_an_input_to_its_end(rt: HostRuntime) -> Result<(), Fail> {
     Ok(())
 }
 
+// What a run with empty books answers, and its response.
+fn run_on<'a, R: Threads + Wait + Sync>(
+    rt: &R,
+    alloc: Global,
+    stamp: &[u8],
+    workers: u16,
+    sheet: SliceSource<'a>,
+    batch: SliceSource<'a>,
+) -> (Result<(), IoFault>, VecSink)
+    requires sheet { ⟦<SliceSource<'a> as Source>⟧.failed sheet ≡ false }
+    requires batch { ⟦<SliceSource<'a> as Source>⟧.failed batch ≡ false }
+{
+    let mut sources = Inputs {
+        sheet,
+        books: SliceSource::new(b"", 1),
+        batch,
+    };
+    let mut sinks = Outputs {
+        response: VecSink::new(alloc, 7),
+        end_books: VecSink::new(alloc, 7),
+        settlement: VecSink::new(alloc, 7),
+    };
+    let answer = run_io(
+        rt,
+        alloc,
+        &NoGate,
+        stamp,
+        workers,
+        false,
+        &mut sources,
+        &mut sinks,
+    );
+    (answer, sinks.response)
+}
+
 #[test]
 fn refuses_a_bad_stamp_before_it_writes(rt: HostRuntime) {
-    let mut response = VecSink::new(rt.alloc(), 7);
-    let run = run_io(
-        &rt,
-        rt.alloc(),
-        &NoGate,
-        b"202603019930",
-        1,
-        false,
-        &mut SliceSource::new(b"", 1),
-        &mut SliceSource::new(b"", 1),
-        &mut SliceSource::new(b"", 1),
-        &mut response,
-        &mut VecSink::new(rt.alloc(), 7),
-        &mut VecSink::new(rt.alloc(), 7),
-    );
-    assert_eq!(rt; run, Err(IoFault::Switch(SwitchFault::Stamp)));
+    let (sheet, batch) = (SliceSource::new(b"", 1), SliceSource::new(b"", 1));
+    let (answer, response) = run_on(&rt, rt.alloc(), b"202603019930", 1, sheet, batch);
+    assert_eq!(rt; answer, Err(IoFault::Switch(SwitchFault::Stamp)));
     assert!(rt; response.bytes().is_empty());
 }
 
 #[test]
 fn tells_a_failed_sheet_before_the_workers(rt: HostRuntime) {
-    let run = run_io(
-        &rt,
-        rt.alloc(),
-        &NoGate,
-        STAMP,
-        65,
-        false,
-        &mut SliceSource::new(b"bin", 1).failing_after(2),
-        &mut SliceSource::new(b"", 1),
-        &mut SliceSource::new(b"", 1),
-        &mut VecSink::new(rt.alloc(), 7),
-        &mut VecSink::new(rt.alloc(), 7),
-        &mut VecSink::new(rt.alloc(), 7),
-    );
-    assert_eq!(rt; run, Err(IoFault::Read(Device::Sheet)));
+    let sheet = SliceSource::new(b"bin", 1).failing_after(2);
+    let (answer, _) = run_on(&rt, rt.alloc(), STAMP, 65, sheet, SliceSource::new(b"", 1));
+    assert_eq!(rt; answer, Err(IoFault::Read(Device::Sheet)));
 }
 
 #[test]
 fn refuses_sixty_five_workers(rt: HostRuntime) {
-    let run = run_io(
-        &rt,
-        rt.alloc(),
-        &NoGate,
-        STAMP,
-        65,
-        false,
-        &mut SliceSource::new(b"", 1),
-        &mut SliceSource::new(b"", 1),
-        &mut SliceSource::new(b"", 1),
-        &mut VecSink::new(rt.alloc(), 7),
-        &mut VecSink::new(rt.alloc(), 7),
-        &mut VecSink::new(rt.alloc(), 7),
-    );
-    assert_eq!(rt; run, Err(IoFault::Switch(SwitchFault::Workers)));
+    let (sheet, batch) = (SliceSource::new(b"", 1), SliceSource::new(b"", 1));
+    let (answer, _) = run_on(&rt, rt.alloc(), STAMP, 65, sheet, batch);
+    assert_eq!(rt; answer, Err(IoFault::Switch(SwitchFault::Workers)));
 }
 
 // One byte a read: the first is no batch's, the third read fails.
 #[test]
 fn reads_on_after_a_fault_of_the_batch(rt: HostRuntime) {
-    let run = run_io(
-        &rt,
-        rt.alloc(),
-        &NoGate,
-        STAMP,
-        1,
-        false,
-        &mut SliceSource::new(b"", 1),
-        &mut SliceSource::new(b"", 1),
-        &mut SliceSource::new(b"X\x02", 1).failing_after(2),
-        &mut VecSink::new(rt.alloc(), 7),
-        &mut VecSink::new(rt.alloc(), 7),
-        &mut VecSink::new(rt.alloc(), 7),
-    );
-    assert_eq!(rt; run, Err(IoFault::Read(Device::Batch)));
+    let batch = SliceSource::new(b"X\x02", 1).failing_after(2);
+    let (answer, _) = run_on(&rt, rt.alloc(), STAMP, 1, SliceSource::new(b"", 1), batch);
+    assert_eq!(rt; answer, Err(IoFault::Read(Device::Batch)));
 }
 
 #[test]
@@ -102,13 +93,15 @@ fn tells_which_output_broke_off(rt: HostRuntime) -> Result<(), Fail> {
         books: vec![in rt.alloc(); b"B".to_vec(rt.alloc())?, b"K".to_vec(rt.alloc())?]?,
         settlement: b"ST".to_vec(rt.alloc())?,
     };
-    let mut response = VecSink::new(rt.alloc(), 1);
-    let mut end_books = VecSink::new(rt.alloc(), 1).failing_after(1);
-    let mut settlement = VecSink::new(rt.alloc(), 1);
-    let written = write_outputs(&output, &mut response, &mut end_books, &mut settlement);
+    let mut sinks = Outputs {
+        response: VecSink::new(rt.alloc(), 1),
+        end_books: VecSink::new(rt.alloc(), 1).failing_after(1),
+        settlement: VecSink::new(rt.alloc(), 1),
+    };
+    let written = write_outputs(&output, &mut sinks);
     assert_eq!(rt; written, Err(IoFault::Write(Device::EndBooks)));
-    assert_eq!(rt; response.bytes(), b"RS".as_slice());
-    assert_eq!(rt; end_books.bytes(), b"B".as_slice());
-    assert!(rt; settlement.bytes().is_empty());
+    assert_eq!(rt; sinks.response.bytes(), b"RS".as_slice());
+    assert_eq!(rt; sinks.end_books.bytes(), b"B".as_slice());
+    assert!(rt; sinks.settlement.bytes().is_empty());
     Ok(())
 }

@@ -1,4 +1,5 @@
 ghost use Rattle.std.specs.Prelude.{◌≤◌, length};
+ghost use Rattle.rx_fields.specs.declared.limits.TheConstants.{MOST_DETAILS};
 
 use crate::rough::rough_weight;
 use rx_books_kept::Books;
@@ -19,7 +20,7 @@ pub(crate) fn may_gain(
     books: &Books,
     transmissions: &[Transmission],
 ) -> Result<bool, Memory>
-    requires few { length transmissions.now ≤ 100_000 }
+    requires few { length transmissions.now ≤ MOST_DETAILS }
 {
     let most = MOST_FOR_A_RECORD * transmissions.len() as u64;
     if rough_weight(alloc, books, transmissions)? <= most {

@@ -1,4 +1,5 @@
 ghost use Rattle.std.specs.Prelude.{◌≡◌, ◌≤◌, IfOk, length};
+ghost use Rattle.rx_fields.specs.declared.limits.TheConstants.{MOST_DETAILS};
 ghost use Rattle.rx_ledger.specs.Fold.{fold_ledger, fold_replies};
 
 use crate::gate::Gate;
@@ -20,7 +21,7 @@ pub fn run_one<G: Gate>(
     books: &Books,
     transmissions: &[Transmission],
 ) -> Result<Finished, Memory>
-    requires { length transmissions.now ≤ 100_000 }
+    requires { length transmissions.now ≤ MOST_DETAILS }
     ensures books { IfOk result (λ finished. finished.books ≡ record {
       period = sheet.now.figures.period;
       ledger = fold_ledger lot sheet.now 1 transmissions.now books.now.ledger;
@@ -42,7 +43,7 @@ pub fn run_one_on<G: Gate>(
     transmissions: &[Transmission],
 ) -> Result<Finished, Memory>
     requires period { books.period ≡ sheet.now.figures.period }
-    requires few { length transmissions.now ≤ 100_000 }
+    requires few { length transmissions.now ≤ MOST_DETAILS }
     ensures books { IfOk result (λ finished. finished.books ≡ record {
       period = sheet.now.figures.period;
       ledger = fold_ledger lot sheet.now 1 transmissions.now books.ledger;

@@ -1,4 +1,5 @@
 ghost use Rattle.std.specs.Prelude.{◌≡◌, ◌<◌, ◌≤◌, ◌↔◌, Err, IfOk, IfSome, IsTrue, false, length};
+ghost use Rattle.rx_fields.specs.declared.limits.TheConstants.{MOST_DETAILS};
 ghost use Rattle.rx_ledger.specs.Fold.{fold_ledger, fold_replies};
 ghost use Rattle.rx_wave.specs.Workers.{RefusesOne, are_workers};
 
@@ -51,7 +52,7 @@ pub fn run_waves<R: Threads + Wait + Sync, G: Gate + Sync>(
     transmissions: &[Transmission],
 ) -> Result<Finished, RunFault>
     requires period { books.now.period ≡ sheet.now.figures.period }
-    requires few { length transmissions.now ≤ 100_000 }
+    requires few { length transmissions.now ≤ MOST_DETAILS }
     ensures books { IfOk result (λ finished. finished.books ≡ record {
       period = sheet.now.figures.period;
       ledger = fold_ledger lot sheet.now 1 transmissions.now books.now.ledger;
@@ -86,7 +87,7 @@ fn run_shared<R: Threads + Wait + Sync, G: Gate + Sync>(
 ) -> Result<Option<Finished>, RunFault>
     requires several { 2 ≤ workers }
     requires period { books.now.period ≡ sheet.now.figures.period }
-    requires few { length transmissions.now ≤ 100_000 }
+    requires few { length transmissions.now ≤ MOST_DETAILS }
     ensures books { IfOk result (λ answer. IfSome answer (λ finished. finished.books ≡ record {
       period = sheet.now.figures.period;
       ledger = fold_ledger lot sheet.now 1 transmissions.now books.now.ledger;
@@ -153,7 +154,7 @@ fn desk_of(
     transmissions: &[Transmission],
 ) -> Result<Desk, Memory>
     requires period { books.now.period ≡ sheet.now.figures.period }
-    requires few { length transmissions.now ≤ 100_000 }
+    requires few { length transmissions.now ≤ MOST_DETAILS }
 {
     let books = books.copy(alloc, sheet.period())?;
     let transmissions = copies(alloc, transmissions)?;

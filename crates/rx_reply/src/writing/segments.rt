@@ -1,13 +1,14 @@
 //! Writing the fields and segments of an answer.
 
-ghost use Rattle.std.specs.Prelude.{◌≡◌, ◌++◌, ◌∷◌, [], OnOk};
+ghost use Rattle.std.specs.Prelude.{◌≡◌, ◌++◌, ◌∷◌, [], OnOk, IfSome};
 ghost use Rattle.std.specs.List.{flat_map};
+ghost use Rattle.rx_reply.specs.Limits.{IsNumber, IsReference, AreCodes};
 ghost use Rattle.rx_reply.specs.Text.{number_segment, reference_segment, known_reference, code_field, codes_segment};
 
 use super::digits::{fifteen_digits, twelve_digits};
-use crate::layout::{FIELD, SEGMENT};
 use rx_claim::Codes;
 use rx_fields::{Authorization, Code, Reference, digits_write};
+use rx_text::{FIELD, SEGMENT};
 use std::alloc::AllocError;
 
 // Segment 21 of an answer that has an authorization number.
@@ -16,7 +17,8 @@ pub(super) fn put_number(
     status: u8,
     number: Authorization,
 ) -> Result<(), AllocError>
-    ensures { OnOk result (out.new.items ≡ out.old.items ++ number_segment (status ∷ []) number) }
+    ensures text { OnOk result (out.new.items ≡ out.old.items ++ number_segment (status ∷ []) number) }
+    ensures within { OnOk result (IsNumber number) }
 {
     out.extend_from_slice(&[
         SEGMENT, FIELD, b'A', b'M', b'2', b'1', FIELD, b'A', b'N', status, FIELD, b'F', b'3',
@@ -26,7 +28,8 @@ pub(super) fn put_number(
 
 // Segment 22.
 pub(super) fn put_reference(out: &mut Vec<u8>, reference: Reference) -> Result<(), AllocError>
-    ensures { OnOk result (out.new.items ≡ out.old.items ++ reference_segment reference) }
+    ensures text { OnOk result (out.new.items ≡ out.old.items ++ reference_segment reference) }
+    ensures within { OnOk result (IsReference reference) }
 {
     out.extend_from_slice(b"\x1E\x1CAM22\x1CEM1\x1CD2")?;
     out.extend_from_slice(&twelve_digits(reference.get()))
@@ -34,7 +37,8 @@ pub(super) fn put_reference(out: &mut Vec<u8>, reference: Reference) -> Result<(
 
 // Segment 22, where the reference is known.
 pub(super) fn put_known(out: &mut Vec<u8>, reference: Option<Reference>) -> Result<(), AllocError>
-    ensures { OnOk result (out.new.items ≡ out.old.items ++ known_reference reference) }
+    ensures text { OnOk result (out.new.items ≡ out.old.items ++ known_reference reference) }
+    ensures within { OnOk result (IfSome reference IsReference) }
 {
     match reference {
         Some(reference) => put_reference(out, reference),
@@ -60,7 +64,8 @@ fn put_each_code(out: &mut Vec<u8>, codes: &[Code]) -> Result<(), AllocError>
 
 // Segment 21 of an answer that has reject codes.
 pub(super) fn put_codes(out: &mut Vec<u8>, codes: &Codes) -> Result<(), AllocError>
-    ensures { OnOk result (out.new.items ≡ out.old.items ++ codes_segment codes.now) }
+    ensures text { OnOk result (out.new.items ≡ out.old.items ++ codes_segment codes.now) }
+    ensures within { OnOk result (AreCodes codes.now) }
 {
     let codes = codes.as_slice();
     out.extend_from_slice(b"\x1E\x1CAM21\x1CANR\x1CFA")?;

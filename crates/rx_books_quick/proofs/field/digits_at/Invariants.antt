@@ -1,5 +1,6 @@
 use Rattle.std.proofs.Common.{◌≡◌, ◌<◌, ◌≤◌, ◌^◌, true, take}
-use Rattle.rx_fields.specs.Digits.{all_digits, number}
+use Rattle.rx_text.specs.Bytes.{all_digits}
+use Rattle.rx_fields.specs.Digits.{number}
 use Rattle.rx_books_quick.proofs.field.digits_at.Given as goal
 
 -- the bytes so far are digits, at most eighteen, of the number so far

@@ -1,7 +1,7 @@
 use Rattle.std.proofs.Common.{ℕ, ◌<◌, if◌then◌else◌, get_or, length, arith}
 use Rattle.std.proofs.lemmas.List.{get_or_default}
 use Rattle.std.proofs.lemmas.List.Edits.{map_over_more}
-use Rattle.rx_fields.specs.Text.{is_printable}
+use Rattle.rx_text.specs.Bytes.{is_printable}
 use Rattle.rx_claim.proofs.echo.blank_unprintable.Goals as goal
 
 pub loop-byte-preserved : goal.loop-byte-preserved

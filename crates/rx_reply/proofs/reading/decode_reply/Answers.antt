@@ -1,6 +1,6 @@
 use Rattle.std.proofs.Common.{◌≡◌, ◌∙◌, sym, ap, Some, None}
 use Rattle.rx_reply.specs.Reading.{reply_in}
-use Rattle.rx_reply.proofs.Laws.{some_same}
+use Rattle.rx_text.proofs.Steps.{some_same}
 use Rattle.rx_reply.proofs.ReplyLaws.{reply_is, reply_again}
 use Rattle.rx_reply.proofs.reading.decode_reply.Goals as goal
 

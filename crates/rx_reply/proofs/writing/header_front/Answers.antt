@@ -3,9 +3,9 @@ use Rattle.rx_fields.specs.Digits.{digits_text}
 use Rattle.rx_reply.proofs.DigitJoins.{pair_of}
 use Rattle.rx_reply.proofs.writing.header_front.Goals as goal
 
-pub returns : goal.returns
+pub returns-clause-text : goal.returns-clause-text
 unfolding digits_text
-returns c =
+returns-clause-text c =
     let version = c.args.echo.now.version in
     let code = c.args.echo.now.code in
     let behind = digits_text 1 c.args.count ++ c.args.status ∷ [] in

@@ -1,7 +1,12 @@
 use Rattle.std.proofs.Common.{◌≡◌, ◌++◌, take}
-use Rattle.std.specs.List.{flat_map}
+use Rattle.std.specs.List.{flat_map, AllByRecursion}
+use Rattle.rx_reply.specs.Limits.{IsAnswer}
 use Rattle.rx_reply.specs.Text.{group_text}
 use Rattle.rx_reply.proofs.writing.put_groups.Given as goal
 
 abbrev pub invariant-loop-answer : goal.invariant-loop-answer
-invariant-loop-answer l = l.out.items ≡ l.fn.out.items ++ flat_map group_text (take l.answer-index l.answers)
+invariant-loop-answer l =
+    record {
+      text : l.out.items ≡ l.fn.out.items ++ flat_map group_text (take l.answer-index l.answers);
+      within : AllByRecursion IsAnswer (take l.answer-index l.answers);
+    }

@@ -1,5 +1,7 @@
 use Rattle.std.proofs.Common.{List, ℕ, sym, ap, ◌∙◌, arith}
-use Rattle.rx_request.specs.Cut.{cut, begins_empty, further}
+use Rattle.rx_text.specs.declared.separators.TheConstants.{SEGMENT}
+use Rattle.rx_text.specs.Bytes.{cut}
+use Rattle.rx_request.specs.Cut.{begins_empty, further}
 use Rattle.rx_request.specs.Slots.{texts_of}
 use Rattle.rx_request.proofs.Names.{closed, opened}
 use Rattle.rx_request.proofs.Runs.{run_segments, segments_on, segments_off, segments_total, empty_length}
@@ -7,7 +9,7 @@ use Rattle.rx_request.proofs.part.put_segments.Goals as goal
 
 pub returns-in_err-pieces : goal.returns-in_err-pieces
 returns-in_err-pieces c =
-    let pieces = cut 30 c.args.part.now in
+    let pieces = cut SEGMENT c.args.part.now in
     let names = c.args.names.now in
     let slots = texts_of c.args.slots.now in
     rw c.from_residual.ensures (closed (begins_empty pieces) (further pieces)
@@ -24,7 +26,7 @@ loop-segment-preserved c =
 
 pub returns-in_err-put_segment : goal.returns-in_err-put_segment
 returns-in_err-put_segment c =
-    let pieces = cut 30 c.args.part.now in
+    let pieces = cut SEGMENT c.args.part.now in
     let names = c.args.names.now in
     let slots = texts_of c.args.slots.now in
     let none = segments_off names (texts_of c.loop-segment.slots) c.loop-segment.pieces c.next.new.self c.in-Some.segment.now _
@@ -34,7 +36,7 @@ returns-in_err-put_segment c =
 
 pub returns : goal.returns
 returns c =
-    let pieces = cut 30 c.args.part.now in
+    let pieces = cut SEGMENT c.args.part.now in
     let names = c.args.names.now in
     let slots = texts_of c.args.slots.now in
     let ended = ap (λ (left : List (List ℕ)). run_segments names (texts_of c.loop-segment.slots) left) c.in_default.ensures.value in

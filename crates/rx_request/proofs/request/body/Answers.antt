@@ -1,10 +1,12 @@
 use Rattle.std.proofs.Common.{◌≡◌, true, ◌&&◌, length, List, ℕ, sym, ap, ◌∙◌}
 use Rattle.std.specs.Prelude.{option_map, is_some}
+use Rattle.rx_text.specs.declared.separators.TheConstants.{GROUP}
 use Rattle.rx_claim.specs.Listed.{is_few}
 use Rattle.rx_claim.specs.declared.transmission.Heard as heard_type
 use Rattle.rx_claim.specs.declared.transmission.Body.TheVariants.{Heard}
 use Rattle.rx_request.specs.Codes.{is_faulty, header_conditions}
-use Rattle.rx_request.specs.Cut.{first, further, cut}
+use Rattle.rx_text.specs.Bytes.{cut}
+use Rattle.rx_request.specs.Cut.{first, further}
 use Rattle.rx_request.specs.Headers.{header_of, header_bytes}
 use Rattle.rx_request.specs.Known.{common_of}
 use Rattle.rx_request.specs.Request.{groups, common, conditions}
@@ -22,7 +24,7 @@ heard-requires c =
     let well = no_fault_of (is_faulty rows) _ _ c.in-Some.ensures in
     let few : is_few n ≡ true = header_few c.args.door.now c.args.header.now
     (c.is_clean-is_clean.result && is_some c.common_read-common.result) n well in
-    let left : c.first.new.self ≡ further (cut 29 rest) = c.first.ensures.rest ∙ ap further c.new-pieces.ensures in
+    let left : c.first.new.self ≡ further (cut GROUP rest) = c.first.ensures.rest ∙ ap further c.new-pieces.ensures in
     ap (λ (pieces : List (List ℕ)). is_few (length pieces)) left ∙ (ap is_few (sym c.count_groups-groups.ensures) ∙ few)
 
 pub rejected-requires : goal.rejected-requires

@@ -6,8 +6,8 @@ use Rattle.rx_switch.proofs.adjudicating.adjudicate.Goals as goal
 pub response_pieces-requires-clause-equally_many : goal.response_pieces-requires-clause-equally_many
 response_pieces-requires-clause-equally_many g c =
     rw (c.as_slice-details.ensures, c.deref-2.ensures.value, c.in_ok-books.ensures.replies, c.deref.ensures.value, c.in_ok-asked.ensures)
-    (λ _ _. sym (replied c.lot-lot.result c.args.sheet.now 1 c.door.result.now c.as_slice-details.result.now c.args.books.ledger
-    ∙ ap length c.as_slice-details.ensures))
+    (λ _ _. sym (replied c.lot-lot.result c.args.accepted.sheet 1 c.door.result.now c.as_slice-details.result.now
+    c.args.accepted.books.ledger ∙ ap length c.as_slice-details.ensures))
 
 pub returns-in_err-asked-clause-stopped : goal.returns-in_err-asked-clause-stopped
 returns-in_err-asked-clause-stopped g c =

@@ -18,5 +18,6 @@ returns-in_err-books-2-clause-stopped g c =
     let p = err_from_is_err_and c.from_residual-in_err-books-2.result c.from_residual-in_err-books-2.ensures.1 in
     let told = c.in_err-books-2.ensures in
     rw (p.1, p.2)
-    (of_workers c.args.plain (g.G.Gate.starts c.args.gate.now) c.args.workers c.if-plain.false c.requires.workers
+    (of_workers c.args.manner.now.plain (g.G.Gate.starts c.args.manner.now.gate.now) c.args.manner.now.workers
+    c.if-manner.false c.requires.workers
     c.in_err-books-2.field-0.0 (λ e. told.workers.0 (ap Err e)) (λ e. told.thread (ap Err e)))

@@ -1,6 +1,6 @@
 use Rattle.std.proofs.Common.{◌∙◌, IfErr, refl, sym}
 use Rattle.std.proofs.lemmas.Result.{IfErr-at_err, IfErr-weaker, on_ok_weaker, err_from_is_err_and}
-use Rattle.rx_switch.specs.Devices.{IsUnread, IsUnwritten, left}
+use Rattle.rx_switch.specs.Devices.{IsUnread, IsUnwritten, left_of}
 use Rattle.rx_switch.specs.Devices.IsBroken.{unread, refused, unwritten}
 use Rattle.rx_switch.specs.Job.{given_read, texts_in_pieces}
 use Rattle.rx_switch.specs.declared.fault.Device.TheVariants as device
@@ -16,9 +16,9 @@ returns-in_err-read-clause-broken g c =
 pub returns-in_err-read-clause-thread : goal.returns-in_err-read-clause-thread
 returns-in_err-read-clause-thread g c =
     let p = err_from_is_err_and c.from_residual.result c.from_residual.ensures.1 in
-    let before = left (g.A.Source.left c.args.sheet.now) (g.B.Source.left c.args.books.now) (g.C.Source.left c.args.batch.now) in
-    let after = left (g.A.Source.left c.read_inputs.new.sheet) (g.B.Source.left c.read_inputs.new.books)
-    (g.C.Source.left c.read_inputs.new.batch) in
+    let left = left_of g.A.Source.left g.B.Source.left g.C.Source.left in
+    let before = left c.args.inputs.now in
+    let after = left c.read_inputs.new.inputs in
     let broken : IfErr c.from_residual.result (IsUnread before after) = rw (p.1, p.2) c.in_err-read.ensures.unread in
     λ thread. absurd (unread_without_thread (IfErr-at_err (IsUnread before after) thread broken) refl)
 

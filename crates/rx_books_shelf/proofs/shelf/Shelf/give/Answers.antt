@@ -1,5 +1,6 @@
 use Rattle.std.proofs.Common.{◌≡◌, true, refl, sym, ap, subst, ◌∙◌}
 use Rattle.std.specs.List.{All}
+use Rattle.rx_parcels.specs.Few.{items_of}
 use Rattle.rx_parcels.specs.Parcels.{named_in}
 use Rattle.rx_places.specs.Shelves.{IsShelf, ShelfParts, has_slot, is_out, value_of}
 use Rattle.rx_books_shelf.specs.Closed.{HasSlot}
@@ -12,14 +13,14 @@ pub invariant_of-self : goal.invariant_of-self
 invariant_of-self c =
     let s : ShelfParts = shelf_parts c.self.inside.books.books c.self.inside.keys c.self.inside.families in
     let p = c.args.parcel in
-    let given = given_parts s p c.into_books-keys.result.0 c.into_vec.result.items c.into_books-keys.result.1.items
+    let given = given_parts s p (items_of c.into_books-keys.result.0) (items_of c.into_books-keys.result.1)
     c.give_keys.new.places c.give_families.new.places
-    c.into_vec.ensures c.into_books-keys.ensures.keys c.into_books-keys.ensures.families c.give_keys.ensures c.give_families.ensures in (
+    c.into_books-keys.ensures.keys c.into_books-keys.ensures.families c.give_keys.ensures c.give_families.ensures in (
       subst IsShelf (sym given) (shelf_given s p c.self.invariant.0 c.into_books-keys.ensures.within
           (sym c.period.ensures.value ∙ same_period c.period.result c.period-2.result c.ne.result c.ne.ensures c.if-ne.false
           ∙ c.period-2.ensures)),
       subst (All (HasSlot c.self.inside.books.slots)) (sym c.give_keys.ensures)
-          (slots_stay_given c.self.inside.books.slots c.into_vec.result.items c.self.inside.keys c.self.invariant.1),
+          (slots_stay_given c.self.inside.books.slots (items_of c.into_books-keys.result.0) c.self.inside.keys c.self.invariant.1),
     )
 
 pub returns-clause-accepts : goal.returns-clause-accepts
@@ -33,9 +34,9 @@ returns-clause-values c =
     let s : ShelfParts = shelf_parts c.self.inside.books.books c.self.inside.keys c.self.inside.families in
     let p = c.args.parcel in
     let out : are_out s (named_in p) ≡ true = rw (← c.self.view_is) at (sym c.are_out.ensures ∙ c.if-not-are_out.false) in
-    let given = given_parts s p c.into_books-keys.result.0 c.into_vec.result.items c.into_books-keys.result.1.items
+    let given = given_parts s p (items_of c.into_books-keys.result.0) (items_of c.into_books-keys.result.1)
     c.give_keys.new.places c.give_families.new.places
-    c.into_vec.ensures c.into_books-keys.ensures.keys c.into_books-keys.ensures.families c.give_keys.ensures c.give_families.ensures in
+    c.into_books-keys.ensures.keys c.into_books-keys.ensures.families c.give_keys.ensures c.give_families.ensures in
     rw (← c.self.view_is) (λ b. ap (λ t. value_of t b) given ∙ values_given s p out b)
 
 pub returns-clause-out : goal.returns-clause-out
@@ -43,16 +44,16 @@ returns-clause-out c =
     let s : ShelfParts = shelf_parts c.self.inside.books.books c.self.inside.keys c.self.inside.families in
     let p = c.args.parcel in
     let out : are_out s (named_in p) ≡ true = rw (← c.self.view_is) at (sym c.are_out.ensures ∙ c.if-not-are_out.false) in
-    let given = given_parts s p c.into_books-keys.result.0 c.into_vec.result.items c.into_books-keys.result.1.items
+    let given = given_parts s p (items_of c.into_books-keys.result.0) (items_of c.into_books-keys.result.1)
     c.give_keys.new.places c.give_families.new.places
-    c.into_vec.ensures c.into_books-keys.ensures.keys c.into_books-keys.ensures.families c.give_keys.ensures c.give_families.ensures in
+    c.into_books-keys.ensures.keys c.into_books-keys.ensures.families c.give_keys.ensures c.give_families.ensures in
     rw (← c.self.view_is) (λ b. ap (λ t. is_out t b) given ∙ out_given s p out b)
 
 pub returns-clause-slots : goal.returns-clause-slots
 returns-clause-slots c =
     let s : ShelfParts = shelf_parts c.self.inside.books.books c.self.inside.keys c.self.inside.families in
     let p = c.args.parcel in
-    let given = given_parts s p c.into_books-keys.result.0 c.into_vec.result.items c.into_books-keys.result.1.items
+    let given = given_parts s p (items_of c.into_books-keys.result.0) (items_of c.into_books-keys.result.1)
     c.give_keys.new.places c.give_families.new.places
-    c.into_vec.ensures c.into_books-keys.ensures.keys c.into_books-keys.ensures.families c.give_keys.ensures c.give_families.ensures in
+    c.into_books-keys.ensures.keys c.into_books-keys.ensures.families c.give_keys.ensures c.give_families.ensures in
     rw (← c.self.view_is) (λ b. ap (λ t. has_slot t b) given ∙ slots_given s p b)

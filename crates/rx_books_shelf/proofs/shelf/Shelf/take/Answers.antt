@@ -3,6 +3,7 @@ use Rattle.std.specs.List.{All}
 use Rattle.rx_fields.specs.Order.{id_cmp, key_cmp}
 use Rattle.rx_order.specs.Ascending.{IsAscending}
 use Rattle.rx_parcels.specs.FamilyBook.{FamilyBook, family_of}
+use Rattle.rx_parcels.specs.Few.{items_of}
 use Rattle.rx_parcels.specs.Parcels.{HasOwnRow, key_of, values_of}
 use Rattle.rx_places.specs.Shelves.{IsShelf, ShelfParts, has_slot, is_out, value_of}
 use Rattle.rx_books_shelf.specs.Closed.{HasSlot}
@@ -12,25 +13,25 @@ use Rattle.rx_books_shelf.proofs.ShelfKept.{shelf_parts, shelf_taken, slots_stay
 use Rattle.rx_books_shelf.proofs.Worth.{out_taken, slots_taken, values_left, values_taken}
 use Rattle.rx_books_shelf.proofs.shelf.Shelf.take.Goals as goal
 
-pub parcel_of-requires-clause-keys_rise : goal.parcel_of-requires-clause-keys_rise
-parcel_of-requires-clause-keys_rise c =
+pub new-requires-clause-keys_rise : goal.new-requires-clause-keys_rise
+new-requires-clause-keys_rise c =
     let F = c.args.footprint.now in
     subst (IsAscending key_cmp key_of) (sym (c.take_keys-keys.ensures.books))
     (keys_rise c.self.inside.keys c.keys-2.result.now (rw c.keys-2.ensures.value c.keys-2.ensures.within.keys_rise))
 
-pub parcel_of-requires-clause-rows_own : goal.parcel_of-requires-clause-rows_own
-parcel_of-requires-clause-rows_own c =
+pub new-requires-clause-rows_own : goal.new-requires-clause-rows_own
+new-requires-clause-rows_own c =
     subst (All HasOwnRow) (sym (c.take_keys-keys.ensures.books))
     (rows_own c.self.inside.keys c.keys-2.result.now c.self.invariant.0.rows_own)
 
-pub parcel_of-requires-clause-families_rise : goal.parcel_of-requires-clause-families_rise
-parcel_of-requires-clause-families_rise c =
+pub new-requires-clause-families_rise : goal.new-requires-clause-families_rise
+new-requires-clause-families_rise c =
     subst (IsAscending id_cmp family_of) (sym (c.take_families-families.ensures.books))
     (families_rise c.self.inside.books.books.period c.self.inside.families c.self.invariant.0.books_own c.families-2.result.now
     (rw c.families-2.ensures.value c.families-2.ensures.within.families_rise))
 
-pub parcel_of-requires-clause-one_period : goal.parcel_of-requires-clause-one_period
-parcel_of-requires-clause-one_period c =
+pub new-requires-clause-one_period : goal.new-requires-clause-one_period
+new-requires-clause-one_period c =
     subst (All (λ (b : FamilyBook). b.period ≡ c.period.result)) (sym (c.take_families-families.ensures.books))
     (rw c.period.ensures (one_period c.self.inside.books.books.period c.self.inside.families c.self.invariant.0.books_own
     c.families-2.result.now))
@@ -52,9 +53,9 @@ returns-clause-values c =
     let s : ShelfParts = shelf_parts c.self.inside.books.books c.self.inside.keys c.self.inside.families in
     let F = c.args.footprint.now in
     let all : has_all s F ≡ true = rw (← c.self.view_is) at (sym c.has_all.ensures ∙ c.if-not-has_all.false) in
-    let parcel = parcel_parts s F c.parcel_of.result c.period.result c.keys-2.result.now c.families-2.result.now
-    c.take_keys-keys.result.items
-    c.take_families-families.result.items c.parcel_of.ensures c.period.ensures c.keys-2.ensures.value c.families-2.ensures.value
+    let parcel = parcel_parts s F c.new.result c.period.result c.keys-2.result.now c.families-2.result.now
+    (items_of c.take_keys-keys.result)
+    (items_of c.take_families-families.result) c.new.ensures c.period.ensures c.keys-2.ensures.value c.families-2.ensures.value
     c.take_keys-keys.ensures.books c.take_families-families.ensures.books in
     rw (← c.self.view_is) (λ b. ap (λ p. values_of p b) parcel ∙ values_taken s F all c.self.invariant.0 b)
 

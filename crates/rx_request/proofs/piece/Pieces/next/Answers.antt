@@ -1,7 +1,8 @@
 use Rattle.std.proofs.Common.{◌≡◌, ◌+◌, ◌∷◌, List, ℕ, take, true≢false, sym, ap, ◌∙◌, arith, w64}
 use Rattle.std.specs.Int.{trailing_zeros}
 use Rattle.std.proofs.lemmas.List.{length-take}
-use Rattle.rx_request.specs.Cut.{cut, further}
+use Rattle.rx_text.specs.Bytes.{cut}
+use Rattle.rx_request.specs.Cut.{further}
 use Rattle.rx_request.specs.Slots.{pieces_left}
 use Rattle.rx_request.proofs.Bits.{left_marks, left_first, marks_behind, marks_at_first}
 use Rattle.rx_request.proofs.Cuts.{cut_none, cut_at, to_end}

@@ -1,0 +1,14 @@
+/// The largest amount of money in a claim, in cents: eight digits.
+pub const MOST_CENTS: u64 = 99_999_999;
+
+/// The largest prescription reference number: twelve digits.
+pub const MOST_REFERENCE: u64 = 999_999_999_999;
+
+/// The largest dispensed quantity, in thousandths of a unit: ten digits.
+pub const MOST_QUANTITY: u64 = 9_999_999_999;
+
+/// The largest authorization number: fifteen digits.
+pub const MOST_AUTHORIZATION: u64 = 999_999_999_999_999;
+
+/// How many details a batch file may have.
+pub const MOST_DETAILS: usize = 100_000;

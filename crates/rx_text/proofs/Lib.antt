@@ -1,0 +1,2 @@
+-- Plumbing: which files there are.
+pub mod Steps
