@@ -9,8 +9,7 @@ use rx_fields::{
     Quantity, Reference, date_read,
 };
 use rx_ledger::{Drug, Figures, Member, MemberKey, Row, Share, Sheet};
-use rx_order::Ascending;
-use rx_parcels::{Family, KeyBook, Parcel};
+use rx_parcels::{Family, Few, KeyBook, Parcel};
 use std::alloc::Global;
 use std::test::Fail;
 
@@ -175,29 +174,28 @@ fn book_with_row(alloc: Global) -> Result<Family, Fail> {
     Ok(book)
 }
 
-fn keys_with(alloc: Global, row: Option<Row>) -> Result<Ascending<KeyBook>, Fail> {
-    let mut keys = Ascending::new(alloc);
-    keys.insert(KeyBook {
+fn keys_with(row: Option<Row>) -> Result<Few<KeyBook>, Fail> {
+    Ok(Few::One(KeyBook {
         key: key(123)?,
         row,
-    })?;
-    Ok(keys)
+    }))
 }
 
 // The parcel of these keys and one family.
-fn parcel_of(alloc: Global, keys: Ascending<KeyBook>, family: Family) -> Result<Parcel, Fail> {
-    let period = this_year()?;
-    let mut families = Vec::new(alloc);
-    families.push(family)?;
-    if Parcel::are_books(period, &keys, &families) {
-        return Ok(Parcel::new(period, keys, families));
-    }
-    Err(Fail::from("books of a parcel"))
+fn parcel_of(keys: Few<KeyBook>, family: Family) -> Result<Parcel, Fail> {
+    parcel_with(this_year()?, keys, Few::One(family))
 }
 
 fn empty_parcel(alloc: Global, period: Period) -> Result<Parcel, Fail> {
-    let (keys, families) = (Ascending::new(alloc), Vec::new(alloc));
-    if Parcel::are_books(period, &keys, &families) {
+    parcel_with(
+        period,
+        Few::Many(Vec::new(alloc)),
+        Few::Many(Vec::new(alloc)),
+    )
+}
+
+fn parcel_with(period: Period, keys: Few<KeyBook>, families: Few<Family>) -> Result<Parcel, Fail> {
+    if Parcel::are_books(period, keys.as_slice(), families.as_slice()) {
         return Ok(Parcel::new(period, keys, families));
     }
     Err(Fail::from("books of a parcel"))
@@ -205,8 +203,7 @@ fn empty_parcel(alloc: Global, period: Period) -> Result<Parcel, Fail> {
 
 // The books of the key 123 and of C100 after one-billing.
 fn after_one_billing(alloc: Global) -> Result<Parcel, Fail> {
-    let keys = keys_with(alloc, Some(standing()?))?;
-    parcel_of(alloc, keys, book_with_row(alloc)?)
+    parcel_of(keys_with(Some(standing()?))?, book_with_row(alloc)?)
 }
 
 // The order of a record under the plain sheet, in this batch at this place.
@@ -249,20 +246,14 @@ fn four_transactions(alloc: Global) -> Result<Order, Fail> {
         bill(302, b"C100", b"00001000101")?,
         bill(303, b"C100", b"00003000303")?,
     ];
-    let mut keys = Ascending::new(alloc);
-    keys.insert(KeyBook {
-        key: key(301)?,
-        row: None,
-    })?;
-    keys.insert(KeyBook {
-        key: key(302)?,
-        row: None,
-    })?;
-    keys.insert(KeyBook {
-        key: key(303)?,
-        row: None,
-    })?;
-    let parcel = parcel_of(alloc, keys, book(alloc, b"C100")?)?;
+    let mut keys = Vec::new(alloc);
+    for reference in [301, 302, 303] {
+        keys.push(KeyBook {
+            key: key(reference)?,
+            row: None,
+        })?;
+    }
+    let parcel = parcel_of(Few::Many(keys), book(alloc, b"C100")?)?;
     ordered(
         alloc,
         42,
@@ -294,11 +285,7 @@ fn four_transactions_in_one_record(rt: HostRuntime) -> Result<(), Fail> {
 
 // The key's row is of C100, which isn't in the parcel.
 fn same_key(alloc: Global) -> Result<Parcel, Fail> {
-    parcel_of(
-        alloc,
-        keys_with(alloc, Some(standing()?))?,
-        book(alloc, b"C200")?,
-    )
+    parcel_of(keys_with(Some(standing()?))?, book(alloc, b"C200")?)
 }
 
 #[test]
@@ -371,7 +358,7 @@ fn fits_with_all_its_books(rt: HostRuntime) -> Result<(), Fail> {
     let alloc = rt.alloc();
     assert_eq!(rt; fits_both(alloc, after_one_billing(alloc)?)?, (true, true));
     // No row stands under the key, so its reversal needs no family.
-    let free = parcel_of(alloc, keys_with(alloc, None)?, book(alloc, b"C200")?)?;
+    let free = parcel_of(keys_with(None)?, book(alloc, b"C200")?)?;
     assert_eq!(rt; fits_both(alloc, free)?, (false, true));
     Ok(())
 }
@@ -379,7 +366,7 @@ fn fits_with_all_its_books(rt: HostRuntime) -> Result<(), Fail> {
 #[test]
 fn fits_not_without_a_book(rt: HostRuntime) -> Result<(), Fail> {
     let alloc = rt.alloc();
-    let no_key = parcel_of(alloc, Ascending::new(alloc), book_with_row(alloc)?)?;
+    let no_key = parcel_of(Few::Many(Vec::new(alloc)), book_with_row(alloc)?)?;
     assert_eq!(rt; fits_both(alloc, no_key)?, (false, false));
     assert_eq!(rt; fits_both(alloc, same_key(alloc)?)?, (false, false));
     Ok(())
@@ -388,7 +375,7 @@ fn fits_not_without_a_book(rt: HostRuntime) -> Result<(), Fail> {
 #[test]
 fn fits_not_where_the_books_disagree(rt: HostRuntime) -> Result<(), Fail> {
     let alloc = rt.alloc();
-    let torn = parcel_of(alloc, keys_with(alloc, None)?, book_with_row(alloc)?)?;
+    let torn = parcel_of(keys_with(None)?, book_with_row(alloc)?)?;
     assert_eq!(rt; fits_both(alloc, torn)?, (false, false));
     Ok(())
 }

@@ -14,7 +14,7 @@ use rx_fields::{
     Reference, date_read, digits_write,
 };
 use rx_in_order::{Finished, InOrder};
-use rx_ledger::{Drug, Figures, Ledger, Member, Share, Sheet};
+use rx_ledger::{Drug, Figures, Ledger, Member, Row, Share, Sheet};
 use std::alloc::Global;
 use std::test::Fail;
 
@@ -381,5 +381,33 @@ fn books_stay_where_no_record_comes(rt: HostRuntime) -> Result<(), Fail> {
     let finished = run_on(alloc, BILLED, &[])?;
     assert!(rt; finished.replies.is_empty());
     assert!(rt; finished.books == Books::read(alloc, BILLED)?);
+    Ok(())
+}
+
+// The reference numbers of a family's claims in these books.
+fn references_of(alloc: Global, text: &[u8], family: &[u8]) -> Result<Vec<u64>, Fail> {
+    let family = Id::new(family, 20)?;
+    let order = InOrder::new(alloc, Books::read(alloc, text)?, &[])?;
+    references(alloc, &order.rows_of(alloc, &family)?)
+}
+
+fn references(alloc: Global, rows: &[Row]) -> Result<Vec<u64>, Fail> {
+    let mut references = Vec::new(alloc);
+    for row in rows {
+        references.push(row.key.reference.get())?;
+    }
+    Ok(references)
+}
+
+#[test]
+fn a_familys_claims_are_told(rt: HostRuntime) -> Result<(), Fail> {
+    let told = references_of(rt.alloc(), FOUR, b"C100")?;
+    assert!(rt; told.as_slice() == [301, 302, 303].as_slice());
+    Ok(())
+}
+
+#[test]
+fn a_family_without_claims_has_none(rt: HostRuntime) -> Result<(), Fail> {
+    assert!(rt; references_of(rt.alloc(), FOUR, b"C200")?.is_empty());
     Ok(())
 }

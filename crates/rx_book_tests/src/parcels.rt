@@ -4,8 +4,7 @@ use rx_fields::{
     Authorization, Days, Id, Key, Period, Person, Product, Provider, Quantity, Reference, date_read,
 };
 use rx_ledger::{Member, MemberKey, Row};
-use rx_order::Ascending;
-use rx_parcels::{Family, Footprint, KeyBook, Parcel, counted_in};
+use rx_parcels::{Family, Few, Footprint, KeyBook, Parcel, counted_in};
 use std::alloc::Global;
 use std::test::Fail;
 
@@ -94,15 +93,13 @@ fn book_with(alloc: Global, family: &[u8], reference: u64) -> Result<Family, Fai
     Ok(book)
 }
 
-fn key_book(alloc: Global, key: Key, row: Option<Row>) -> Result<Ascending<KeyBook>, Fail> {
-    let mut keys = Ascending::new(alloc);
-    keys.insert(KeyBook { key, row })?;
-    Ok(keys)
+fn key_book(key: Key, row: Option<Row>) -> Few<KeyBook> {
+    Few::One(KeyBook { key, row })
 }
 
-fn parcel_of(keys: Ascending<KeyBook>, families: Vec<Family>) -> Result<Parcel, Fail> {
+fn parcel_of(keys: Few<KeyBook>, families: Few<Family>) -> Result<Parcel, Fail> {
     let period = this_year()?;
-    if Parcel::are_books(period, &keys, &families) {
+    if Parcel::are_books(period, keys.as_slice(), families.as_slice()) {
         return Ok(Parcel::new(period, keys, families));
     }
     Err(Fail::from("books of a parcel"))
@@ -110,9 +107,7 @@ fn parcel_of(keys: Ascending<KeyBook>, families: Vec<Family>) -> Result<Parcel, 
 
 // The key of reference 123 without a row, and the family C100.
 fn opening(alloc: Global) -> Result<Parcel, Fail> {
-    let mut families = Vec::new(alloc);
-    families.push(book(alloc, b"C100")?)?;
-    parcel_of(key_book(alloc, key(123)?, None)?, families)
+    parcel_of(key_book(key(123)?, None), Few::One(book(alloc, b"C100")?))
 }
 
 fn put(parcel: &mut Parcel, row: Row) -> Result<(), Fail> {
@@ -197,8 +192,8 @@ fn a_parcel_tells_its_members(rt: HostRuntime) -> Result<(), Fail> {
     assert_eq!(rt; member.key, MemberKey { family, person });
     assert_eq!(rt; parcel.member(&id(b"C200")?, &person), None);
     let (keys, families) = parcel.into_books();
-    assert_eq!(rt; keys.len(), 1);
-    assert_eq!(rt; families.len(), 1);
+    assert_eq!(rt; keys.as_slice().len(), 1);
+    assert_eq!(rt; families.as_slice().len(), 1);
     Ok(())
 }
 
@@ -222,20 +217,18 @@ fn families_of_two_periods_differ(rt: HostRuntime) -> Result<(), Fail> {
 }
 
 // The parcel of the key 123 with this row or none, and one family.
-fn beside(alloc: Global, row: Option<Row>, family: Family) -> Result<Parcel, Fail> {
-    let mut families = Vec::new(alloc);
-    families.push(family)?;
-    parcel_of(key_book(alloc, key(123)?, row)?, families)
+fn beside(row: Option<Row>, family: Family) -> Result<Parcel, Fail> {
+    parcel_of(key_book(key(123)?, row), Few::One(family))
 }
 
 #[test]
 fn books_that_disagree_are_told(rt: HostRuntime) -> Result<(), Fail> {
     let alloc = rt.alloc();
     let row = claim(key(123)?, b"C100")?;
-    assert!(rt; !beside(alloc, Some(row), book(alloc, b"C100")?)?.agrees());
-    assert!(rt; !beside(alloc, None, book_with(alloc, b"C100", 123)?)?.agrees());
-    assert!(rt; beside(alloc, Some(row), book_with(alloc, b"C100", 123)?)?.agrees());
-    assert!(rt; beside(alloc, Some(row), book_with(alloc, b"C200", 124)?)?.agrees());
+    assert!(rt; !beside(Some(row), book(alloc, b"C100")?)?.agrees());
+    assert!(rt; !beside(None, book_with(alloc, b"C100", 123)?)?.agrees());
+    assert!(rt; beside(Some(row), book_with(alloc, b"C100", 123)?)?.agrees());
+    assert!(rt; beside(Some(row), book_with(alloc, b"C200", 124)?)?.agrees());
     Ok(())
 }
 
@@ -243,7 +236,7 @@ fn books_that_disagree_are_told(rt: HostRuntime) -> Result<(), Fail> {
 fn a_family_without_members_counts_nothing(rt: HostRuntime) -> Result<(), Fail> {
     let c300 = id(b"C300")?;
     let empty = Family::new(rt.alloc(), c300, this_year()?);
-    let parcel = beside(rt.alloc(), None, empty)?;
+    let parcel = beside(None, empty)?;
     assert_eq!(rt; parcel.out_of_pocket(&c300), Some(0));
     assert_eq!(rt; parcel.family_deductible(&c300), Some(0));
     assert_eq!(rt; parcel.deductible(&c300, &person(b"01")?), None);
@@ -255,7 +248,7 @@ fn two_families(alloc: Global, of_c100: u64, of_c200: u64) -> Result<Parcel, Fai
     let mut families = Vec::new(alloc);
     families.push(book_with(alloc, b"C100", of_c100)?)?;
     families.push(book_with(alloc, b"C200", of_c200)?)?;
-    parcel_of(Ascending::new(alloc), families)
+    parcel_of(Few::Many(Vec::new(alloc)), Few::Many(families))
 }
 
 #[test]
@@ -269,15 +262,55 @@ fn two_families_with_one_key_disagree(rt: HostRuntime) -> Result<(), Fail> {
 fn books_of_no_parcel_are_told(rt: HostRuntime) -> Result<(), Fail> {
     let alloc = rt.alloc();
     let row = claim(key(123)?, b"C100")?;
-    let own = key_book(alloc, key(123)?, Some(row))?;
-    let other = key_book(alloc, key(124)?, Some(row))?;
+    let own = key_book(key(123)?, Some(row));
+    let other = key_book(key(124)?, Some(row));
     let mut families = Vec::new(alloc);
     families.push(book(alloc, b"C200")?)?;
-    assert!(rt; Parcel::are_books(this_year()?, &own, &families));
-    assert!(rt; !Parcel::are_books(next_year()?, &own, &families));
-    assert!(rt; !Parcel::are_books(this_year()?, &other, &families));
+    assert!(rt; Parcel::are_books(this_year()?, own.as_slice(), &families));
+    assert!(rt; !Parcel::are_books(next_year()?, own.as_slice(), &families));
+    assert!(rt; !Parcel::are_books(this_year()?, other.as_slice(), &families));
     families.push(book(alloc, b"C100")?)?;
-    assert!(rt; !Parcel::are_books(this_year()?, &own, &families));
+    assert!(rt; !Parcel::are_books(this_year()?, own.as_slice(), &families));
+    Ok(())
+}
+
+#[test]
+fn keys_of_a_parcel_ascend(rt: HostRuntime) -> Result<(), Fail> {
+    let free = |reference| -> Result<KeyBook, Fail> {
+        Ok(KeyBook {
+            key: key(reference)?,
+            row: None,
+        })
+    };
+    let (first, second) = (free(123)?, free(124)?);
+    assert!(rt; Parcel::are_books(this_year()?, &[first, second], &[]));
+    assert!(rt; !Parcel::are_books(this_year()?, &[second, first], &[]));
+    assert!(rt; !Parcel::are_books(this_year()?, &[first, first], &[]));
+    Ok(())
+}
+
+// The opening, with its one key and its one family in lists of their own.
+fn listed_opening(alloc: Global) -> Result<Parcel, Fail> {
+    let keys = vec![in alloc;
+        KeyBook {
+            key: key(123)?,
+            row: None
+        },
+    ]?;
+    let mut families = Vec::new(alloc);
+    families.push(book(alloc, b"C100")?)?;
+    parcel_of(Few::Many(keys), Few::Many(families))
+}
+
+#[test]
+fn a_list_of_one_is_like_one_in_place(rt: HostRuntime) -> Result<(), Fail> {
+    let (opening, mut listed) = (opening(rt.alloc())?, listed_opening(rt.alloc())?);
+    assert!(rt; listed == opening);
+    assert!(rt; listed.copy(rt.alloc())? == opening);
+    put(&mut listed, claim(key(123)?, b"C100")?)?;
+    assert!(rt; listed == after_one_billing(rt.alloc())?);
+    take_out(&mut listed, &key(123)?)?;
+    assert!(rt; listed == opening);
     Ok(())
 }
 
@@ -302,6 +335,63 @@ fn a_book_tells_whom_and_what_it_takes(rt: HostRuntime) -> Result<(), Fail> {
     assert!(rt; book.can_add(&claim(key(124)?, b"C100")?));
     assert!(rt; book.is_past(&person(b"03")?));
     assert!(rt; !book.is_past(&person(b"02")?));
+    Ok(())
+}
+
+// The book of the family C100 with four members, of whom 01 has one-billing's claim.
+fn family_of_four(alloc: Global) -> Result<Family, Fail> {
+    let mut book = book_with(alloc, b"C100", 123)?;
+    enroll(&mut book, b"03")?;
+    enroll(&mut book, b"04")?;
+    Ok(book)
+}
+
+// The book's members are these persons, and no others.
+fn has_members(book: &Family, persons: &[&[u8]]) -> Result<bool, Fail> {
+    let mut same = book.members().len() == persons.len();
+    for (member, text) in book.members().iter().zip(persons) {
+        same = same && member.key.person == person(text)?;
+    }
+    Ok(same)
+}
+
+#[test]
+fn a_fifth_member_follows_the_four(rt: HostRuntime) -> Result<(), Fail> {
+    let mut book = family_of_four(rt.alloc())?;
+    assert!(rt; has_members(&book, &[b"01", b"02", b"03", b"04"])?);
+    assert_eq!(rt; book.member(&person(b"05")?), None);
+    enroll(&mut book, b"05")?;
+    assert!(rt; has_members(&book, &[b"01", b"02", b"03", b"04", b"05"])?);
+    assert!(rt; book.member(&person(b"05")?).is_some());
+    assert!(rt; book.is_past(&person(b"06")?));
+    assert!(rt; !book.is_past(&person(b"05")?));
+    Ok(())
+}
+
+#[test]
+fn a_fifth_member_leaves_the_deductibles(rt: HostRuntime) -> Result<(), Fail> {
+    let mut book = family_of_four(rt.alloc())?;
+    assert_eq!(rt; book.deductible(&person(b"01")?), Some(10_000));
+    assert_eq!(rt; book.deductible(&person(b"04")?), Some(0));
+    assert_eq!(rt; book.deductible(&person(b"05")?), None);
+    enroll(&mut book, b"05")?;
+    assert_eq!(rt; book.deductible(&person(b"01")?), Some(10_000));
+    assert_eq!(rt; book.deductible(&person(b"04")?), Some(0));
+    assert_eq!(rt; book.deductible(&person(b"05")?), Some(0));
+    Ok(())
+}
+
+#[test]
+fn families_of_four_and_five_are_copied(rt: HostRuntime) -> Result<(), Fail> {
+    let mut book = family_of_four(rt.alloc())?;
+    let four = book.copy(rt.alloc())?;
+    assert!(rt; four == book);
+    enroll(&mut book, b"05")?;
+    assert!(rt; four != book);
+    assert!(rt; has_members(&four, &[b"01", b"02", b"03", b"04"])?);
+    let five = book.copy(rt.alloc())?;
+    assert!(rt; five == book);
+    assert!(rt; has_members(&five, &[b"01", b"02", b"03", b"04", b"05"])?);
     Ok(())
 }
 

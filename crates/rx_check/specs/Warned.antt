@@ -1,10 +1,19 @@
 -- Meaning: what a run takes and an operator would hardly mean.
-use Rattle.std.specs.Prelude.{◌≡◌, ℕ, ◌+◌, ◌/◌, ◌<◌, Bool, true, false, not, ◌&&◌, ◌==◌, nat_eq, nat_le, nat_lt, if◌then◌else◌, List, [], ◌∷◌, take, length, map, sum, count_by, slice_range, is_none}
+use Rattle.std.specs.Prelude.{◌≡◌, ◌≢◌, ℕ, ◌+◌, ◌/◌, Bool, true, false, not, ◌&&◌, ◌==◌, nat_eq, nat_le, nat_lt}
+use Rattle.std.specs.Prelude.{List, take, length, map, sum}
+use Rattle.std.specs.Prelude.{count_by, slice_range, Option, Some, None, MatchOption, is_none, option_copied, string_bytes}
 use Rattle.std.specs.Cmp.Lexicographic.{pointwise}
 use Rattle.std.specs.List.{list_any}
+use Rattle.rx_batch.specs.declared.batch.Batch.{Batch}
 use Rattle.rx_batch.specs.declared.detail.Detail.{Detail}
+use Rattle.rx_books_kept.specs.LedgerBooks.{LedgerBooks}
+use Rattle.rx_fields.specs.Numbered.{Span}
 use Rattle.rx_fields.specs.declared.door.Door.{Door}
+use Rattle.rx_ledger.specs.Plan.{Plan}
 use Rattle.rx_ledger.specs.declared.row.Row.{Row}
+use Rattle.rx_check.specs.Ignored.{ignored_lines}
+use Rattle.rx_check.specs.Inputs.{batch_taken, books_taken, sheet_taken}
+use Rattle.rx_check.specs.declared.checking.Files.{Files}
 use Rattle.rx_check.specs.declared.warnings.TheConstants.{MANY_LINES}
 use Rattle.rx_check.specs.declared.warnings.Warnings.{Warnings}
 
@@ -45,3 +54,50 @@ abbrev pub warns_of_nothing : Warnings → Bool
 warns_of_nothing w =
     length w.ignored.items == 0 && is_none w.period && not w.none_under && w.adjudicated == 0 && not (has_many_lines w.lines)
     && not w.may_pass
+
+-- the books' period, where it is another than the sheet's
+abbrev pub IsOtherPeriod : Plan → Option LedgerBooks → Option Span → Type 0
+IsOtherPeriod plan None told = told ≡ None
+IsOtherPeriod plan (Some books) told =
+    MatchOption told (plan.figures.period ≡ books.period)
+    (λ period. (plan.figures.period ≢ books.period) × (period ≡ books.period))
+
+-- how many lines the books have
+abbrev pub lines_in : Option (List ℕ) → Option LedgerBooks → ℕ
+lines_in (Some text) (Some books) = feeds text
+lines_in text books = 0
+
+-- the batch is of another plan
+abbrev pub none_under_in : Plan → Option Batch → Bool
+none_under_in plan None = false
+none_under_in plan (Some batch) = has_none_under plan.figures.door batch.details
+
+-- how many standing claims of the books have a number of the batch
+abbrev pub adjudicated_in : Option LedgerBooks → Option Batch → ℕ
+adjudicated_in (Some books) (Some batch) = adjudicated batch.head.lot.number books.ledger.rows
+adjudicated_in books batch = 0
+
+-- the end books could have too many lines
+abbrev pub may_pass_in : ℕ → Option LedgerBooks → Option Batch → Bool
+may_pass_in lines (Some books) (Some batch) = may_pass lines batch.details
+may_pass_in lines books batch = false
+
+-- the warnings beside a plan: of its sheet, and of the books and the batch that are taken
+pub record AreWarningsBeside (files : Files) (plan : Plan) (books : Option LedgerBooks) (batch : Option Batch) (w : Warnings) : Type 0 where
+  pub ignored : map string_bytes w.ignored.items ≡ ignored_lines files.sheet.now
+  pub period : IsOtherPeriod plan books w.period
+  pub lines : w.lines ≡ lines_in (option_copied files.books) books
+  pub none_under : w.none_under ≡ none_under_in plan batch
+  pub adjudicated : w.adjudicated ≡ adjudicated_in books batch
+  pub may_pass : w.may_pass ≡ may_pass_in (lines_in (option_copied files.books) books) books batch
+
+-- beside a sheet with a fault nothing is warned of
+abbrev pub AreWarningsOf : Files → Option Plan → Option LedgerBooks → Option Batch → Warnings → Type 0
+AreWarningsOf files None books batch w = (warns_of_nothing w ≡ true) × (w.lines ≡ 0)
+AreWarningsOf files (Some plan) books batch w = AreWarningsBeside files plan books batch w
+
+-- the warnings are those of what is taken of the inputs
+abbrev pub AreWarnings : Files → Warnings → Type 0
+AreWarnings files w =
+    AreWarningsOf files (sheet_taken files.sheet.now) (books_taken (option_copied files.books))
+    (batch_taken (option_copied files.batch)) w

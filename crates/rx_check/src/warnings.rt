@@ -1,6 +1,9 @@
-ghost use Rattle.std.specs.Prelude.{◌≡◌};
-ghost use Rattle.rx_check.specs.Warned.{has_many_lines, warns_of_nothing};
+ghost use Rattle.std.specs.Prelude.{◌≡◌, true, IfOk};
+ghost use Rattle.std.specs.Option.{option_copied};
+ghost use Rattle.rx_check.specs.Warned.{AreWarningsBeside, AreWarningsOf, IsOtherPeriod, adjudicated_in, has_many_lines};
+ghost use Rattle.rx_check.specs.Warned.{lines_in, may_pass_in, none_under_in, warns_of_nothing};
 
+use crate::checking::Files;
 use crate::ignored::ignored_keys;
 use crate::warned::{adjudicated, feeds, has_none_under, may_pass, period_apart};
 use rx_batch::Batch;
@@ -30,18 +33,6 @@ pub struct Warnings {
 const MANY_LINES: usize = 900_000;
 
 impl Warnings {
-    /// Without a warning.
-    pub(crate) fn none(alloc: Global) -> Warnings {
-        Warnings {
-            ignored: Vec::new(alloc),
-            period: None,
-            none_under: false,
-            adjudicated: 0,
-            lines: 0,
-            may_pass: false,
-        }
-    }
-
     /// Whether there is none.
     pub fn is_empty(&self) -> bool
         ensures { result ≡ warns_of_nothing self.now }
@@ -61,35 +52,116 @@ impl Warnings {
         self.lines > MANY_LINES
     }
 
-    // What the sheet alone tells.
-    pub(crate) fn of_sheet(&mut self, alloc: Global, text: &[u8]) -> Result<(), Memory> {
-        self.ignored = ignored_keys(alloc, text)?;
-        Ok(())
-    }
-
-    // What the books tell beside the sheet.
-    pub(crate) fn of_books(&mut self, text: &[u8], sheet: &Sheet, books: &Books) {
-        self.lines = feeds(text);
-        if period_apart(sheet.period(), books.period()) {
-            self.period = Some(books.period());
+    /// The warnings of what is taken of these inputs.
+    pub(crate) fn of(
+        alloc: Global,
+        files: &Files<'_>,
+        sheet: &Option<Sheet>,
+        books: &Option<Books>,
+        batch: &Option<Batch>,
+    ) -> Result<Warnings, Memory>
+        ensures { IfOk result (AreWarningsOf files.now sheet.now books.now batch.now) }
+    {
+        match sheet {
+            Some(sheet) => Warnings::beside(alloc, files, sheet, books, batch),
+            None => Ok(Warnings::none(alloc)),
         }
     }
 
-    // What the batch tells beside the sheet.
-    pub(crate) fn of_batch(&mut self, sheet: &Sheet, batch: &Batch) {
-        self.none_under = has_none_under(sheet.door(), batch.details.as_slice());
+    // Without a warning.
+    fn none(alloc: Global) -> Warnings
+        ensures nothing { warns_of_nothing result ≡ true }
+        ensures lines { result.lines ≡ 0 }
+    {
+        Warnings {
+            ignored: Vec::new(alloc),
+            period: None,
+            none_under: false,
+            adjudicated: 0,
+            lines: 0,
+            may_pass: false,
+        }
     }
 
-    // What the batch tells beside the books.
-    pub(crate) fn of_both(
-        &mut self,
+    // The warnings beside a plan.
+    fn beside(
         alloc: Global,
-        books: &Books,
-        batch: &Batch,
-    ) -> Result<(), Memory> {
-        let ledger = books.ledger(alloc)?;
-        self.adjudicated = adjudicated(batch.head.lot(), ledger.rows());
-        self.may_pass = may_pass(self.lines, batch.details.as_slice());
-        Ok(())
+        files: &Files<'_>,
+        sheet: &Sheet,
+        books: &Option<Books>,
+        batch: &Option<Batch>,
+    ) -> Result<Warnings, Memory>
+        ensures { IfOk result (AreWarningsBeside files.now sheet.now books.now batch.now) }
+    {
+        let ignored = ignored_keys(alloc, files.sheet)?;
+        let adjudicated = adjudicated_in(alloc, books, batch)?;
+        let lines = lines_in(files.books, books);
+        Ok(Warnings {
+            ignored,
+            period: other_period(sheet, books),
+            none_under: none_under_in(sheet, batch),
+            adjudicated,
+            lines,
+            may_pass: may_pass_in(lines, books, batch),
+        })
+    }
+}
+
+// The period of books that are of another one than the sheet.
+fn other_period(sheet: &Sheet, books: &Option<Books>) -> Option<Period>
+    ensures { IsOtherPeriod sheet.now books.now result }
+{
+    let Some(books) = books else {
+        return None;
+    };
+    if period_apart(sheet.period(), books.period()) {
+        Some(books.period())
+    } else {
+        None
+    }
+}
+
+// How many lines books have that are taken.
+fn lines_in(text: Option<&[u8]>, books: &Option<Books>) -> usize
+    ensures { result ≡ lines_in (option_copied text.entry) books.now }
+{
+    match (text, books) {
+        (Some(text), Some(_)) => feeds(text),
+        _ => 0,
+    }
+}
+
+// Whether a batch that is taken is of another plan.
+fn none_under_in(sheet: &Sheet, batch: &Option<Batch>) -> bool
+    ensures { result ≡ none_under_in sheet.now batch.now }
+{
+    match batch {
+        Some(batch) => has_none_under(sheet.door(), batch.details.as_slice()),
+        None => false,
+    }
+}
+
+// How many standing claims have a number of the batch.
+fn adjudicated_in(
+    alloc: Global,
+    books: &Option<Books>,
+    batch: &Option<Batch>,
+) -> Result<usize, Memory>
+    ensures { IfOk result (λ count. count ≡ adjudicated_in books.now batch.now) }
+{
+    let (Some(books), Some(batch)) = (books, batch) else {
+        return Ok(0);
+    };
+    let ledger = books.ledger(alloc)?;
+    Ok(adjudicated(batch.head.lot(), ledger.rows()))
+}
+
+// Whether the end books could have too many lines.
+fn may_pass_in(lines: usize, books: &Option<Books>, batch: &Option<Batch>) -> bool
+    ensures { result ≡ may_pass_in lines books.now batch.now }
+{
+    match (books, batch) {
+        (Some(_), Some(batch)) => may_pass(lines, batch.details.as_slice()),
+        _ => false,
     }
 }

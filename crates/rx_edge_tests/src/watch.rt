@@ -1,5 +1,5 @@
 use rx_devices::{Sink, SliceSource, VecSink, read_all, write_all};
-use rx_watch::{Heard, WatchedSink, WatchedSource};
+use rx_watch::{Heard, Watched};
 use std::test::*;
 use std::time::Duration;
 
@@ -9,7 +9,7 @@ const OF_ABC: [u8; 4] = [0xba, 0x78, 0x16, 0xbf];
 #[test]
 fn what_is_read_is_heard(rt: HostRuntime) -> Result<(), Fail> {
     let alloc = rt.alloc();
-    let mut source = WatchedSource::new(SliceSource::new(b"abc", 2), &rt);
+    let mut source = Watched::new(SliceSource::new(b"abc", 2), &rt);
     let Ok(text) = read_all(alloc, &mut source) else {
         return Err(Fail::from("it wasn't read"));
     };
@@ -25,7 +25,7 @@ fn what_is_read_is_heard(rt: HostRuntime) -> Result<(), Fail> {
 #[test]
 fn what_is_written_is_heard(rt: HostRuntime) -> Result<(), Fail> {
     let alloc = rt.alloc();
-    let mut sink = WatchedSink::new(VecSink::new(alloc, 2), &rt);
+    let mut sink = Watched::new(VecSink::new(alloc, 2), &rt);
     assert!(rt; write_all(&mut sink, b"abc").is_ok());
     assert_eq!(rt; sink.heard().bytes(), 3);
     assert!(rt; sink.heard().digest()?.starts_with(OF_ABC.as_slice()));
@@ -61,7 +61,7 @@ fn lines_and_records_are_counted(rt: HostRuntime) -> Result<(), Fail> {
 fn a_failed_write_is_not_heard(rt: HostRuntime) -> Result<(), Fail> {
     let alloc = rt.alloc();
     let sink = VecSink::new(alloc, 8).failing_after(0);
-    let mut sink = WatchedSink::new(sink, &rt);
+    let mut sink = Watched::new(sink, &rt);
     assert!(rt; sink.write(b"abc").is_err());
     assert_eq!(rt; sink.heard().bytes(), 0);
     assert!(rt; sink.heard().last() == None::<Duration>);

@@ -3,6 +3,7 @@ use rx_words::{
     command,
 };
 use std::alloc::{AllocError, Global};
+use std::process::Abort;
 use std::test::*;
 
 /// A whole line of `run`, as docs/CASES.md has it for told-refusals, with the end books under this path and so many
@@ -359,54 +360,37 @@ fn workers_are_digits_up_to_65535(rt: HostRuntime) -> Result<(), Fail> {
     Ok(())
 }
 
-#[test]
-fn the_text_is_claps(rt: HostRuntime) -> Result<(), Fail> {
-    let alloc = rt.alloc();
-    let Err(fault) = command(alloc, &["rxbatch", "pay"]) else {
+// These words are refused with status 1, and the fault's text begins so.
+fn tells(rt: &impl Abort, alloc: Global, words: &[&str], front: &str) -> Result<(), Fail> {
+    let Err(fault) = command(alloc, words) else {
         return Err(Fail::from("it was understood"));
     };
     assert_eq!(rt; fault.code(), 1);
     assert!(rt; !fault.is_version());
     let text = format!(in alloc; "{fault}")?;
-    assert!(rt;
-        text.as_str()
-            .starts_with("error: unrecognized subcommand 'pay'"),
-        "{text}"
-    );
+    assert!(rt; text.as_str().starts_with(front), "{text}");
     Ok(())
+}
+
+#[test]
+fn the_text_is_claps(rt: HostRuntime) -> Result<(), Fail> {
+    let front = "error: unrecognized subcommand 'pay'";
+    tells(&rt, rt.alloc(), &["rxbatch", "pay"], front)
 }
 
 // Its text quotes the value, and has the usage of `run`.
 #[test]
 fn a_sign_is_told_with_the_usage_of_run(rt: HostRuntime) -> Result<(), Fail> {
-    let alloc = rt.alloc();
     let words = run_words("o", "+5");
-    let Err(fault) = command(alloc, words.as_slice()) else {
-        return Err(Fail::from("it was understood"));
-    };
-    let text = format!(in alloc; "{fault}")?;
-    assert!(rt;
-        text.as_str().starts_with(
-            "error: invalid value '+5' for '--workers <N>': a number is digits alone\n\nUsage: rxbatch run "
-        ),
-        "{text}"
-    );
-    Ok(())
+    let front =
+        "error: invalid value '+5' for '--workers <N>': a number is digits alone\n\nUsage: rxbatch run ";
+    tells(&rt, rt.alloc(), words.as_slice(), front)
 }
 
 #[test]
 fn control_characters_are_shown(rt: HostRuntime) -> Result<(), Fail> {
-    let alloc = rt.alloc();
-    let Err(fault) = command(alloc, &["rxbatch", "p\x1b[2J\ty"]) else {
-        return Err(Fail::from("it was understood"));
-    };
-    let text = format!(in alloc; "{fault}")?;
-    assert!(rt;
-        text.as_str()
-            .starts_with("error: unrecognized subcommand 'p<1B>[2J<09>y'\n"),
-        "{text}"
-    );
-    Ok(())
+    let front = "error: unrecognized subcommand 'p<1B>[2J<09>y'\n";
+    tells(&rt, rt.alloc(), &["rxbatch", "p\x1b[2J\ty"], front)
 }
 
 #[test]

@@ -2,7 +2,7 @@
 use Rattle.std.specs.Prelude.{◌<◌, ℕ, suc, zero, ◌+◌, ◌-◌, ◌*◌, ◌/◌, ◌%◌, Bool, false, not, ◌||◌, nat_lt, ◌==◌}
 use Rattle.std.specs.Prelude.{if◌then◌else◌, List, [], ◌∷◌, ◌++◌, codes, All, length}
 use Rattle.std.specs.List.{flat_map}
-use Rattle.rx_fields.specs.Text.{is_printable}
+use Rattle.rx_text.specs.Bytes.{is_printable}
 use Rattle.rx_show.specs.Bytes.{hexadecimal}
 use Rattle.rx_escape.specs.declared.style.Style.{Style}
 use Rattle.rx_escape.specs.declared.style.Style.TheVariants.{Html, Json, Terminal}

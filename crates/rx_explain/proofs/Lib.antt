@@ -1,8 +1,8 @@
 -- Lemmas of a claim retraced.
 pub mod Answered
 pub mod Counted
-pub mod Explanations
 pub mod Laws
 pub mod Nexts
 pub mod Parted
+pub mod Retraced
 pub mod Sources

@@ -32,16 +32,15 @@ pub record IsOnLedger (lot : LotParts) (plan : Plan) (L : Ledger) (events : List
   pub open_from_is : IsOpenFrom plan.figures L s.transaction x.open_from
   pub counted_are : x.counted.items ≡ map (traced events at) (counted_for plan.figures.period L s.transaction x.case)
 
-module _ (lot : LotParts) (plan : Plan) (ts : List Transmission) (opening : Ledger) (at : At) where
-  -- on the ledger before the transaction, among what the batch changed
-  abbrev pub IsExplanation : Spot → Explanation → Type 0
-  IsExplanation s x =
-      IsOnLedger lot plan (ledger_before lot plan ts opening at.place s.heard at.nth)
-      (events_of 1 ts (fold_replies lot plan 1 ts opening)) at s x
+module _ (lot : LotParts) (plan : Plan) (ts : List Transmission) (opening : Ledger) where
+  -- on the ledger before the transaction, among these events; there is an explanation exactly where there is a transaction
+  abbrev pub IsAmong : List Event → At → Option Spot → Option Explanation → Type 0
+  IsAmong events at None None = Unit {0}
+  IsAmong events at None (Some x) = ⊥
+  IsAmong events at (Some s) None = ⊥
+  IsAmong events at (Some s) (Some x) =
+      IsOnLedger lot plan (ledger_before lot plan ts opening at.place s.heard at.nth) events at s x
 
-  -- there is an explanation exactly where there is a transaction
-  abbrev pub IsExplained : Option Spot → Option Explanation → Type 0
-  IsExplained None None = Unit {0}
-  IsExplained None (Some x) = ⊥
-  IsExplained (Some s) None = ⊥
-  IsExplained (Some s) (Some x) = IsExplanation s x
+  -- the same among what the batch changed
+  abbrev pub IsExplained : At → Option Spot → Option Explanation → Type 0
+  IsExplained at = IsAmong (events_of 1 ts (fold_replies lot plan 1 ts opening)) at

@@ -1,18 +1,15 @@
 -- Meaning: the transactions that are asked for.
-use Rattle.std.specs.Prelude.{ℕ, ◌+◌, ◌&&◌, ◌==◌, Bool, true, false, if◌then◌else◌, List, [], ◌∷◌, ◌++◌, Option, Some, None}
+use Rattle.std.specs.Prelude.{ℕ, ◌&&◌, ◌==◌, Bool, false, if◌then◌else◌, List, [], ◌∷◌, Option, Some, None}
 use Rattle.rx_claim.specs.declared.reply.Answer.{Answer}
 use Rattle.rx_claim.specs.declared.reply.Answer.TheVariants.{Paid, Twice, Approved, Refused}
-use Rattle.rx_claim.specs.declared.reply.Outcome.{Outcome}
-use Rattle.rx_claim.specs.declared.reply.Outcome.TheVariants as outcome
 use Rattle.rx_claim.specs.declared.reply.Reply.{Reply}
-use Rattle.rx_claim.specs.declared.transmission.Body.{Body}
-use Rattle.rx_claim.specs.declared.transmission.Body.TheVariants.{Rejected, Heard}
 use Rattle.rx_claim.specs.declared.transmission.Heard.{Heard as HeardRecord}
 use Rattle.rx_claim.specs.declared.transmission.Transmission.{Transmission}
 use Rattle.rx_ledger.specs.Members.{is_same}
 use Rattle.rx_explain.specs.declared.at.At.{At}
 use Rattle.rx_explain.specs.declared.finding.Wanted.{Wanted}
 use Rattle.rx_explain.specs.declared.finding.Wanted.TheVariants as wanted
+use Rattle.rx_explain.specs.Listed.{of_batch}
 
 -- the answer has this authorization number: its own, or of D the one that it repeats
 abbrev pub has_number : ℕ → Answer → Bool
@@ -39,21 +36,10 @@ is_wanted (wanted.Number number) at h a = has_number number a
 is_wanted (wanted.Reference reference) at h a = has_reference reference a
 is_wanted (wanted.ReferenceAt reference provider) at h a = has_reference reference a && is_same h.provider provider
 
--- the places of those of a record's answers, from the nth on, and of records with their replies, in order
-module _ (w : Wanted) where
-  abbrev pub found_answers : ℕ → HeardRecord → ℕ → List Answer → List At
-  found_answers place h nth [] = []
-  found_answers place h nth (a ∷ more) =
-      let at : At = record { place = place; nth = nth } in
-      (if is_wanted w at h a then at ∷ [] else []) ++ found_answers place h (nth + 1) more
+-- the place of the transaction, if it is asked for
+abbrev pub found_at : Wanted → HeardRecord → At → Answer → List At
+found_at w h at a = if is_wanted w at h a then at ∷ [] else []
 
-  abbrev pub found_record : ℕ → Body → Outcome → List At
-  found_record place (Rejected r) (outcome.Rejected s) = []
-  found_record place (Rejected r) (outcome.Heard answers) = []
-  found_record place (Heard h) (outcome.Rejected s) = []
-  found_record place (Heard h) (outcome.Heard answers) = found_answers place h 1 answers
-
-  abbrev pub found_in : ℕ → List Transmission → List Reply → List At
-  found_in place [] rs = []
-  found_in place (t ∷ ts) [] = []
-  found_in place (t ∷ ts) (r ∷ rs) = found_record place t.body r.outcome ++ found_in (place + 1) ts rs
+-- the places of those of records with their replies, the first of them at this place, in order
+abbrev pub found_in : Wanted → ℕ → List Transmission → List Reply → List At
+found_in w place ts rs = of_batch (found_at w) place ts rs

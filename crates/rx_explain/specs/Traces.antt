@@ -1,5 +1,5 @@
 -- Meaning: where a standing claim comes from, and what becomes of it: told by its fill key alone.
-use Rattle.std.specs.Prelude.{ℕ, ◌+◌, ◌&&◌, Bool, true, false, List, [], ◌∷◌, ◌++◌, reverse, Option, Some, None}
+use Rattle.std.specs.Prelude.{ℕ, ◌&&◌, Bool, true, false, List, [], ◌∷◌, reverse, Option, Some, None}
 use Rattle.std.specs.List.{find}
 use Rattle.std.specs.Option.{option_map}
 use Rattle.std.specs.Ordering.{is_eq, is_lt, nat_cmp, ordering_then}
@@ -8,11 +8,7 @@ use Rattle.rx_fields.specs.Order.{key_cmp}
 use Rattle.rx_fields.specs.declared.key.Key.{Key}
 use Rattle.rx_claim.specs.declared.reply.Answer.{Answer}
 use Rattle.rx_claim.specs.declared.reply.Answer.TheVariants.{Paid, Twice, Approved, Refused}
-use Rattle.rx_claim.specs.declared.reply.Outcome.{Outcome}
-use Rattle.rx_claim.specs.declared.reply.Outcome.TheVariants as outcome
 use Rattle.rx_claim.specs.declared.reply.Reply.{Reply}
-use Rattle.rx_claim.specs.declared.transmission.Body.{Body}
-use Rattle.rx_claim.specs.declared.transmission.Body.TheVariants.{Rejected, Heard}
 use Rattle.rx_claim.specs.declared.transmission.Heard.{Heard as HeardRecord}
 use Rattle.rx_claim.specs.declared.transmission.Transmission.{Transmission}
 use Rattle.rx_ledger.specs.declared.row.Row.{Row}
@@ -24,34 +20,20 @@ use Rattle.rx_explain.specs.declared.events.Event.{Event}
 use Rattle.rx_explain.specs.declared.traced.Source.{Source}
 use Rattle.rx_explain.specs.declared.traced.Source.TheVariants as source
 use Rattle.rx_explain.specs.declared.traced.Traced.{Traced}
+use Rattle.rx_explain.specs.Listed.{of_batch}
 
 -- ---- what a batch changed
 
 -- a claim that is paid stands from then on, and one that is taken back no longer; other answers change nothing
-abbrev pub event_of : ℕ → HeardRecord → ℕ → Answer → List Event
-event_of place h nth (Paid p) =
-    record { at = record { place = place; nth = nth }; key = key_in h p.reference; change = change.Paid } ∷ []
-event_of place h nth (Twice p) = []
-event_of place h nth (Approved p) =
-    record { at = record { place = place; nth = nth }; key = key_in h p.reference; change = change.TakenBack } ∷ []
-event_of place h nth (Refused p) = []
-
--- of a record's answers, from the nth on
-abbrev pub answer_events : ℕ → HeardRecord → ℕ → List Answer → List Event
-answer_events place h nth [] = []
-answer_events place h nth (a ∷ more) = event_of place h nth a ++ answer_events place h (nth + 1) more
-
-abbrev pub record_events : ℕ → Body → Outcome → List Event
-record_events place (Rejected r) (outcome.Rejected s) = []
-record_events place (Rejected r) (outcome.Heard answers) = []
-record_events place (Heard h) (outcome.Rejected s) = []
-record_events place (Heard h) (outcome.Heard answers) = answer_events place h 1 answers
+abbrev pub event_of : HeardRecord → At → Answer → List Event
+event_of h at (Paid p) = record { at = at; key = key_in h p.reference; change = change.Paid } ∷ []
+event_of h at (Twice p) = []
+event_of h at (Approved p) = record { at = at; key = key_in h p.reference; change = change.TakenBack } ∷ []
+event_of h at (Refused p) = []
 
 -- of records with their replies, the first of them at this place
 abbrev pub events_of : ℕ → List Transmission → List Reply → List Event
-events_of place [] rs = []
-events_of place (t ∷ ts) [] = []
-events_of place (t ∷ ts) (r ∷ rs) = record_events place t.body r.outcome ++ events_of (place + 1) ts rs
+events_of place ts rs = of_batch event_of place ts rs
 
 -- ---- a claim's source and end
 

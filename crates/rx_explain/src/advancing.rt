@@ -1,87 +1,116 @@
-ghost use Rattle.std.specs.Prelude.{◌≡◌, ◌≤◌, [], OnOk, length};
+ghost use Rattle.std.specs.Prelude.{◌≡◌, ◌≤◌, IfOk, OnOk};
 ghost use Rattle.rx_claim.specs.declared.transaction.Transaction.TheVariants as asks;
+ghost use Rattle.rx_explain.specs.Around.{HasRows};
+ghost use Rattle.rx_explain.specs.Explained.{IsOnLedger};
+ghost use Rattle.rx_fields.specs.declared.limits.TheConstants.{MOST_DETAILS};
 ghost use Rattle.rx_ledger.specs.Answers.{after, answer};
-ghost use Rattle.rx_ledger.specs.Claims.{asked_on};
-ghost use Rattle.rx_ledger.specs.Fold.{ledger_from};
+ghost use Rattle.rx_ledger.specs.Basis.{Holds, HoldsBill, HoldsReversal};
+ghost use Rattle.rx_ledger.specs.Fold.{asked};
+ghost use Rattle.rx_ledger.specs.Named.{key_in};
 
-use crate::deciding::decide;
+use crate::at::At;
+use crate::events::Events;
+use crate::explanation::{Explanation, explain_on};
 use rx_claim::{Answer, Bill, Heard, Reversal, Transaction};
 use rx_fields::{Lot, Memory};
-use rx_ledger::{Basis, Ledger, Occasion, Sheet, answer_reversal};
+use rx_ledger::{Basis, Occasion, Row, Sheet, answer_reversal};
+use std::alloc::Global;
 
-/// Adjudicates the first transactions of a record on a ledger.
-pub(crate) fn advance(
-    ledger: &mut Ledger,
+/// The explanation of a transaction on what answers as the ledger before it, as `explain_on` gives it; the transaction is
+/// then adjudicated there: a claim that is paid stands from then on, and one that is reversed no longer (docs/MODEL.md,
+/// "Record and fold"). Without memory, nothing is promised of what it is adjudicated on.
+pub fn explain_next<S: Basis>(
+    alloc: Global,
     lot: Lot,
     sheet: &Sheet,
-    place: u64,
+    basis: &mut S,
+    rows: &[Row],
+    events: &Events,
+    at: At,
     heard: &Heard,
-    earlier: &[Transaction],
-) -> Result<(), Memory>
-    requires place { place ≤ 100_000 }
-    requires few { length earlier.now ≤ 4 }
-    ensures { OnOk result (ledger.new ≡ ledger_from lot sheet.now place heard.now 1 earlier.now ledger.old) }
-{
-    for (at, transaction) in earlier.iter().enumerate() {
-        let occasion = Occasion::new(lot, sheet.figures(), place, heard, at as u64 + 1);
-        step(ledger, sheet, &occasion, transaction)?;
-    }
-    Ok(())
-}
-
-// Adjudicates a transaction on a ledger.
-fn step(
-    ledger: &mut Ledger,
-    sheet: &Sheet,
-    occasion: &Occasion,
     transaction: &Transaction,
-) -> Result<(), Memory>
-    requires { occasion.now.figures ≡ sheet.now.figures }
-    ensures { let a = asked_on occasion.now sheet.now.drugs in
-        OnOk result (ledger.new ≡ after a ledger.old transaction.now (answer a ledger.old transaction.now)) }
+) -> Result<Explanation, Memory>
+    requires place { at.place ≤ MOST_DETAILS }
+    requires nth { at.nth ≤ 4 }
+    requires held { Holds (S.scope basis.old) (key_in heard.now) (S.ledger basis.old) transaction.now }
+    requires rows { HasRows (S.ledger basis.old) rows.now transaction.now }
+    ensures explained { IfOk result (IsOnLedger lot sheet.now (S.ledger basis.old) events.now at
+        (record { heard = heard.now; transaction = transaction.now })) }
+    ensures after { let a = asked lot sheet.now at.place heard.now at.nth in
+        OnOk result (S.ledger basis.new
+        ≡ after a (S.ledger basis.old) transaction.now (answer a (S.ledger basis.old) transaction.now)) }
+    ensures scope { OnOk result (S.scope basis.new ≡ S.scope basis.old) }
 {
+    let explanation = explain_on(
+        alloc,
+        lot,
+        sheet,
+        &*basis,
+        rows,
+        events,
+        at,
+        heard,
+        transaction,
+    )?;
     match transaction {
-        Transaction::Bill(bill) => step_bill(ledger, sheet, occasion, bill),
-        Transaction::Reverse(reversal) => step_reversal(ledger, occasion, reversal),
-        Transaction::Faulty(_) => Ok(()),
+        Transaction::Bill(bill) => {
+            let answer = &explanation.answer;
+            stand_where_paid(lot, sheet, basis, at, heard, bill, answer)?
+        }
+        Transaction::Reverse(reversal) => take_back(lot, sheet, basis, at, heard, reversal)?,
+        Transaction::Faulty(_) => {}
     }
+    Ok(explanation)
 }
 
-fn step_bill(
-    ledger: &mut Ledger,
+// A billing that was answered so, adjudicated: a claim that is paid stands.
+fn stand_where_paid<S: Basis>(
+    lot: Lot,
     sheet: &Sheet,
-    occasion: &Occasion,
+    basis: &mut S,
+    at: At,
+    heard: &Heard,
     bill: &Bill,
+    given: &Answer,
 ) -> Result<(), Memory>
-    requires { occasion.now.figures ≡ sheet.now.figures }
-    ensures { let a = asked_on occasion.now sheet.now.drugs in
-        OnOk result (ledger.new ≡ after a ledger.old (asks.Bill bill.now) (answer a ledger.old (asks.Bill bill.now))) }
+    requires place { at.place ≤ MOST_DETAILS }
+    requires nth { at.nth ≤ 4 }
+    requires held { HoldsBill (S.scope basis.old) (key_in heard.now) bill.now }
+    requires given { let a = asked lot sheet.now at.place heard.now at.nth in
+        given.now ≡ answer a (S.ledger basis.old) (asks.Bill bill.now) }
+    ensures after { let a = asked lot sheet.now at.place heard.now at.nth in
+        OnOk result (S.ledger basis.new ≡ after a (S.ledger basis.old) (asks.Bill bill.now) given.now) }
+    ensures scope { OnOk result (S.scope basis.new ≡ S.scope basis.old) }
 {
-    let decision = decide(
-        occasion,
-        sheet,
-        &*ledger,
-        ledger.rows(),
-        &Transaction::Bill(*bill),
-    );
-    if let Answer::Paid(paid) = &decision.answer {
-        ledger.add(occasion.row(bill, paid))?;
+    let occasion = Occasion::new(lot, sheet.figures(), at.place, heard, at.nth);
+    if let Answer::Paid(paid) = given {
+        basis.add(occasion.row(bill, paid))?;
     }
     Ok(())
 }
 
-fn step_reversal(
-    ledger: &mut Ledger,
-    occasion: &Occasion,
+// A reversal adjudicated: a claim that is taken back no longer stands.
+fn take_back<S: Basis>(
+    lot: Lot,
+    sheet: &Sheet,
+    basis: &mut S,
+    at: At,
+    heard: &Heard,
     reversal: &Reversal,
 ) -> Result<(), Memory>
-    ensures { let a = asked_on occasion.now [] in
-        OnOk result (ledger.new ≡ after a ledger.old (asks.Reverse reversal.now) (answer a ledger.old (asks.Reverse reversal.now))) }
+    requires place { at.place ≤ MOST_DETAILS }
+    requires nth { at.nth ≤ 4 }
+    requires held { HoldsReversal (S.scope basis.old) (key_in heard.now) (S.ledger basis.old) reversal.now }
+    ensures after { let a = asked lot sheet.now at.place heard.now at.nth in
+        OnOk result (S.ledger basis.new
+        ≡ after a (S.ledger basis.old) (asks.Reverse reversal.now) (answer a (S.ledger basis.old) (asks.Reverse reversal.now))) }
+    ensures scope { OnOk result (S.scope basis.new ≡ S.scope basis.old) }
 {
+    let occasion = Occasion::new(lot, sheet.figures(), at.place, heard, at.nth);
     let key = occasion.key(reversal.reference);
-    let answer = answer_reversal(occasion, reversal, ledger.row_under(&key));
+    let answer = answer_reversal(&occasion, reversal, basis.row_under(&key));
     if let Answer::Approved(_) = answer {
-        ledger.remove(&key)?;
+        basis.remove(&key)?;
     }
     Ok(())
 }

@@ -1,7 +1,8 @@
 ghost use Rattle.std.specs.Prelude.{◌≡◌, ◌++◌, ◌==◌, ◌≤◌, [], IfOk, OnOk, filter, length};
 ghost use Rattle.std.specs.List.{All};
+ghost use Rattle.rx_explain.specs.Listed.{of_answers, of_record};
 ghost use Rattle.rx_explain.specs.Parts.{AreEventParts, part_of_key};
-ghost use Rattle.rx_explain.specs.Traces.{answer_events, event_of, events_of, record_events};
+ghost use Rattle.rx_explain.specs.Traces.{event_of, events_of};
 
 use crate::at::At;
 use crate::part::{PARTS, part_of_key};
@@ -126,7 +127,7 @@ fn put_record(
     body: &Body,
     outcome: &Outcome,
 ) -> Result<(), AllocError>
-    ensures { OnOk result (events.new.items ≡ events.old.items ++ record_events place body.now outcome.now) }
+    ensures { OnOk result (events.new.items ≡ events.old.items ++ of_record event_of place body.now outcome.now) }
 {
     match (body, outcome) {
         (Body::Heard(heard), Outcome::Heard(answers)) => {
@@ -142,23 +143,23 @@ fn put_answers(
     heard: &Heard,
     answers: &[Answer],
 ) -> Result<(), AllocError>
-    ensures { OnOk result (events.new.items ≡ events.old.items ++ answer_events place heard.now 1 answers.now) }
+    ensures { OnOk result (events.new.items ≡ events.old.items ++ of_answers event_of place heard.now 1 answers.now) }
 {
     for (before, answer) in answers.iter().enumerate() {
-        put_answer(events, place, heard, before as u64 + 1, answer)?;
+        let nth = before as u64 + 1;
+        put_answer(events, At { place, nth }, heard, answer)?;
     }
     Ok(())
 }
 
-// What the nth transaction of the record changed, if anything.
+// What the transaction changed, if anything.
 fn put_answer(
     events: &mut Vec<Event>,
-    place: u64,
+    at: At,
     heard: &Heard,
-    nth: u64,
     answer: &Answer,
 ) -> Result<(), AllocError>
-    ensures { OnOk result (events.new.items ≡ events.old.items ++ event_of place heard.now nth answer.now) }
+    ensures { OnOk result (events.new.items ≡ events.old.items ++ event_of heard.now at answer.now) }
 {
     let (reference, change) = match answer {
         Answer::Paid(paid) => (paid.reference, Change::Paid),
@@ -170,10 +171,5 @@ fn put_answer(
         reference,
         date: heard.date,
     };
-    let event = Event {
-        at: At { place, nth },
-        key,
-        change,
-    };
-    Ok(events.push(event)?)
+    Ok(events.push(Event { at, key, change })?)
 }

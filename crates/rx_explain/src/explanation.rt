@@ -1,28 +1,28 @@
-ghost use Rattle.std.specs.Prelude.{◌≡◌, ◌≤◌, ◌-◌, IfOk, filter, length, take};
+ghost use Rattle.std.specs.Prelude.{◌≡◌, ◌≤◌, IfOk, List, filter};
 ghost use Rattle.std.specs.Option.{option_map};
-ghost use Rattle.rx_ledger.specs.Fold.{fold_replies, ledger_from};
 ghost use Rattle.rx_ledger.specs.Basis.{Holds};
 ghost use Rattle.rx_ledger.specs.Ledger.{Ledger as LedgerLists};
 ghost use Rattle.rx_ledger.specs.Named.{key_in};
-ghost use Rattle.rx_explain.specs.Before.{ledger_at};
 ghost use Rattle.rx_ledger.specs.Members.{is_same};
 ghost use Rattle.rx_explain.specs.Around.{HasRows};
-ghost use Rattle.rx_explain.specs.Explained.{IsExplained, IsOnLedger};
+ghost use Rattle.rx_explain.specs.Explained.{IsOnLedger};
 ghost use Rattle.rx_explain.specs.Shown.{counted_for, is_counted, row_in};
-ghost use Rattle.rx_explain.specs.Spots.{Spot as SpotParts, spot_at};
-ghost use Rattle.rx_explain.specs.Traces.{events_of, traced};
+ghost use Rattle.rx_explain.specs.Spots.{Spot as SpotParts};
+ghost use Rattle.rx_explain.specs.Traces.{traced};
+ghost use Rattle.rx_explain.specs.declared.events.Event.{Event};
+ghost use Rattle.rx_fields.specs.Numbered.{LotParts};
+ghost use Rattle.rx_fields.specs.declared.limits.TheConstants.{MOST_DETAILS};
+ghost use Rattle.rx_ledger.specs.Plan.{Plan};
 
-use crate::advancing::advance;
 use crate::at::At;
 use crate::case::Case;
 use crate::deciding::{Decision, decide};
 use crate::events::Events;
 use crate::open_from::open_from;
-use crate::spot::{Spot, spot_at};
-use crate::traced::{Traced, trace, trace_each};
-use rx_claim::{Answer, Heard, Transaction, Transmission};
+use crate::traced::{Traced, trace, trace_again, trace_each};
+use rx_claim::{Answer, Heard, Transaction};
 use rx_fields::{Authorization, Day, Id, Lot, Memory, Period, Provider};
-use rx_ledger::{Basis, Ledger, Occasion, Row, Sheet};
+use rx_ledger::{Basis, Occasion, Row, Sheet};
 use std::alloc::Global;
 
 /// Why a transaction was answered as it was.
@@ -51,61 +51,27 @@ pub struct Explanation {
     pub counted: Vec<Traced>,
 }
 
-/// The explanation of the transaction at a place of a batch, given the ledger before its record, and what the batch
-/// changed when it was adjudicated on some opening ledger; None where there is no such transaction.
-pub fn explain(
-    alloc: Global,
-    lot: Lot,
-    sheet: &Sheet,
-    before: Ledger,
-    transmissions: &[Transmission],
-    events: &Events,
-    at: At,
-) -> Result<Option<Explanation>, Memory>
-    requires few { length transmissions.now ≤ 100_000 }
-    ensures { (opening : LedgerLists) → before ≡ ledger_at lot sheet.now transmissions.now opening at.place
-        → events.now ≡ events_of 1 transmissions.now (fold_replies lot sheet.now 1 transmissions.now opening)
-        → IfOk result (IsExplained lot sheet.now transmissions.now opening at (spot_at transmissions.now at)) }
-{
-    let Some(spot) = spot_at(transmissions, at) else {
-        return Ok(None);
-    };
-    let explanation = in_record(alloc, lot, sheet, before, events, at, &spot)?;
-    Ok(Some(explanation))
-}
-
-// The explanation on the ledger that is left by the earlier transactions of the record.
-fn in_record(
-    alloc: Global,
-    lot: Lot,
-    sheet: &Sheet,
-    before: Ledger,
-    events: &Events,
-    at: At,
-    spot: &Spot<'_>,
-) -> Result<Explanation, Memory>
-    requires place { at.place ≤ 100_000 }
-    requires first { 1 ≤ at.nth }
-    requires last { at.nth ≤ length spot.now.heard.now.list }
-    ensures { let s : SpotParts = record { heard = spot.now.heard.now; transaction = spot.now.transaction.now } in
-        IfOk result (IsOnLedger lot sheet.now
-        (ledger_from lot sheet.now at.place s.heard 1 (take (at.nth - 1) s.heard.list) before) events.now at s) }
-{
-    let mut ledger = before;
-    let earlier = &spot.heard.list.as_slice()[..(at.nth - 1) as usize];
-    advance(&mut ledger, lot, sheet, at.place, spot.heard, earlier)?;
-    let rows = ledger.rows();
-    explain_on(
-        alloc,
-        lot,
-        sheet,
-        &ledger,
-        rows,
-        events,
-        at,
-        spot.heard,
-        spot.transaction,
-    )
+impl Explanation {
+    /// The same explanation among these events: each claim's source and end are looked for there.
+    pub fn among(&self, alloc: Global, events: &Events) -> Result<Explanation, Memory>
+        ensures { (lot : LotParts) → (plan : Plan) → (L : LedgerLists) → (others : List Event) → (s : SpotParts)
+            → IsOnLedger lot plan L others self.now.at s self.now
+            → IfOk result (IsOnLedger lot plan L events.now self.now.at s) }
+    {
+        let counted = trace_again(alloc, events, self.at, &self.counted)?;
+        Ok(Explanation {
+            at: self.at,
+            provider: self.provider,
+            date: self.date,
+            number: self.number,
+            transaction: self.transaction,
+            case: self.case,
+            answer: self.answer,
+            standing: standing(events, self.at, &self.case),
+            open_from: self.open_from,
+            counted,
+        })
+    }
 }
 
 /// The explanation of a transaction on what answers as the ledger before it. `rows` are the claims that are gone through:
@@ -121,7 +87,7 @@ pub fn explain_on<S: Basis>(
     heard: &Heard,
     transaction: &Transaction,
 ) -> Result<Explanation, Memory>
-    requires place { at.place ≤ 100_000 }
+    requires place { at.place ≤ MOST_DETAILS }
     requires nth { at.nth ≤ 4 }
     requires held { Holds (S.scope basis.now) (key_in heard.now) (S.ledger basis.now) transaction.now }
     requires rows { HasRows (S.ledger basis.now) rows.now transaction.now }

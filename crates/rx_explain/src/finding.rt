@@ -1,6 +1,7 @@
-ghost use Rattle.std.specs.Prelude.{◌≡◌, ◌++◌, ◌≤◌, [], ◌∷◌, if◌then◌else◌, IfOk, OnOk, length};
+ghost use Rattle.std.specs.Prelude.{◌≡◌, ◌++◌, ◌≤◌, IfOk, OnOk, length};
 ghost use Rattle.rx_ledger.specs.Members.{is_same};
-ghost use Rattle.rx_explain.specs.Found.{found_answers, found_in, found_record, has_number, has_reference, is_wanted};
+ghost use Rattle.rx_explain.specs.Found.{found_at, found_in, has_number, has_reference, is_wanted};
+ghost use Rattle.rx_explain.specs.Listed.{of_answers, of_record};
 
 use crate::at::At;
 use rx_claim::{Answer, Body, Heard, Outcome, Reply, Transmission};
@@ -55,7 +56,7 @@ fn put_record(
     body: &Body,
     outcome: &Outcome,
 ) -> Result<(), AllocError>
-    ensures { OnOk result (found.new.items ≡ found.old.items ++ found_record wanted.now place body.now outcome.now) }
+    ensures { OnOk result (found.new.items ≡ found.old.items ++ of_record (found_at wanted.now) place body.now outcome.now) }
 {
     match (body, outcome) {
         (Body::Heard(heard), Outcome::Heard(answers)) => {
@@ -72,7 +73,7 @@ fn put_answers(
     heard: &Heard,
     answers: &[Answer],
 ) -> Result<(), AllocError>
-    ensures { OnOk result (found.new.items ≡ found.old.items ++ found_answers wanted.now place heard.now 1 answers.now) }
+    ensures { OnOk result (found.new.items ≡ found.old.items ++ of_answers (found_at wanted.now) place heard.now 1 answers.now) }
 {
     for (before, answer) in answers.iter().enumerate() {
         let nth = before as u64 + 1;
@@ -88,8 +89,7 @@ fn put_answer(
     heard: &Heard,
     answer: &Answer,
 ) -> Result<(), AllocError>
-    ensures { OnOk result (found.new.items
-        ≡ found.old.items ++ (if is_wanted wanted.now at heard.now answer.now then at ∷ [] else [])) }
+    ensures { OnOk result (found.new.items ≡ found.old.items ++ found_at wanted.now heard.now at answer.now) }
 {
     if is_wanted(wanted, at, heard, answer) {
         return Ok(found.push(at)?);

@@ -1,12 +1,13 @@
 //! A claim retraced: why a transaction of a batch was answered as it was, as values.
 //!
-//! In come the plan sheet, a batch's transmissions with what they changed (`Events`), the place of a transaction and the
-//! ledger before its record, or whatever answers as the ledger before it; out comes its `Explanation`: the case of the tables
-//! of adjudication that decided it, with what decided, and where each standing claim that mattered came from. What an
-//! explanation says is in `specs/Explained.antt`.
+//! In come the plan sheet, what a batch changed (`Events`), a transaction with its place, and what answers as the ledger
+//! before it; out comes its `Explanation`: the case of the tables of adjudication that decided it, with what decided, and
+//! where each standing claim that mattered came from. What an explanation says is in `specs/Explained.antt`.
 //!
 //! ```rust
-//! let explanation = rx_explain::explain(alloc, lot, &sheet, before, &transmissions, &events, at)?;
+//! let explanation = rx_explain::explain_on(
+//!     alloc, lot, &sheet, &ledger, &rows, &events, at, &heard, &transaction,
+//! )?;
 //! ```
 //!
 //! The replay that gives replies and ledger is left to the caller, and so are words for people.
@@ -26,11 +27,13 @@ mod spot;
 mod traced;
 mod workings;
 
-pub use at::At;
+pub use advancing::explain_next;
+pub use at::{At, place_at};
 pub use case::{Case, Payment};
 pub use events::{Change, Event, Events};
-pub use explanation::{Explanation, explain, explain_on};
+pub use explanation::{Explanation, explain_on};
 pub use finding::{Wanted, find};
 pub use law::{reply_is_shown, sums_are_of_counted_rows};
+pub use spot::item;
 pub use traced::{Source, Traced};
 pub use workings::Workings;

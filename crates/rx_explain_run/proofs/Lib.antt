@@ -1,5 +1,2 @@
--- Lemmas of a batch that is replayed with stops.
-pub mod Courses
-pub mod Listed
-pub mod Parts
-pub mod Steps
+-- Lemmas of what is found in a list.
+pub mod Found

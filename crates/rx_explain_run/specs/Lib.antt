@@ -1,4 +1,3 @@
 -- Plumbing: which files there are.
 pub mod Compared
-pub mod Courses
 pub mod Retraced

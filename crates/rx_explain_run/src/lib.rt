@@ -2,7 +2,7 @@
 //!
 //! In come the texts of plan sheet, opening books and batch file, and which transactions are asked for; out come their
 //! explanations, with the replies to the whole batch. What they are is in `specs/Retraced.antt`. The records are
-//! adjudicated once, in file order; a ledger is kept where a transaction is likely to be asked for.
+//! adjudicated once, in file order, and explained on the way where a transaction is likely to be asked for.
 //!
 //! ```rust
 //! let retraced = rx_explain_run::retrace(rt, alloc, sheet, books, batch, &wanted)?;
@@ -13,7 +13,6 @@
 #![tactic(auto)]
 
 mod likely;
-mod replay;
 mod response;
 mod retracing;
 mod telling;

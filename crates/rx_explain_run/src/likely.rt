@@ -3,7 +3,7 @@ use rx_explain::Wanted;
 use rx_fields::{Authorization, Key, Lot, Memory, Reference};
 use std::alloc::Global;
 
-// The most ledgers that are kept on the way: one of large books takes about 100 MB.
+// The most records that are explained on the way: for each billing of one all standing claims are gone over.
 const MOST: usize = 4;
 
 /// The places of records, ascending, at which a transaction is likely to be asked for: a guess from the requests alone.

@@ -1,20 +1,18 @@
-ghost use Rattle.std.specs.Prelude.{◌≡◌, ◌<◌, ◌≤◌, IfErr, IfOk, get_or, length};
-ghost use Rattle.std.specs.List.{All, AllZip};
-ghost use Rattle.rx_explain.specs.Explained.{IsExplained};
-ghost use Rattle.rx_explain.specs.Found.{found_in};
-ghost use Rattle.rx_explain.specs.Spots.{spot_at};
-ghost use Rattle.rx_explain.specs.Traces.{events_of};
+ghost use Rattle.std.specs.Prelude.{◌≡◌, ◌≤◌, ◌==◌, [], IfErr, IfOk, length};
+ghost use Rattle.std.specs.List.{All, AllZip, find};
+ghost use Rattle.std.specs.Option.{option_copied};
+ghost use Rattle.rx_course.specs.Records.{AreAmong, IsAt};
+ghost use Rattle.rx_fields.specs.declared.limits.TheConstants.{MOST_DETAILS};
 ghost use Rattle.rx_ledger.specs.Fold.{fold_replies};
 ghost use Rattle.rx_switch.specs.Planned.{IsNotPlanned};
 ghost use Rattle.rx_explain_run.specs.Retraced.{AreExplained, IsRetraced};
-ghost use Rattle.rx_explain_run.specs.Courses.{IsStop};
 
 use crate::likely::likely_places;
-use crate::replay::{Course, Stop, ledger_before, replay};
 use rx_batch::{Details, read_batch};
 use rx_books_kept::Books;
 use rx_claim::{Reply, Transmission};
-use rx_explain::{At, Events, Explanation, Wanted, explain, find};
+use rx_course::{Batch, Explained, Replayed, among, explain_each, replay};
+use rx_explain::{At, Events, Explanation, Wanted, find, item, place_at};
 use rx_fields::{Lot, Memory};
 use rx_ledger::{Figures, Sheet};
 use rx_sheet::read_sheet;
@@ -80,6 +78,7 @@ struct Answered {
 }
 
 // The replies to the records, one after another, and the explanations that are wanted.
+#[tactic(auto, using(rx_course::proofs::Replied::one_each))]
 fn answer(
     alloc: Global,
     lot: Lot,
@@ -88,119 +87,57 @@ fn answer(
     asked: &[Transmission],
     wanted: &Wanted,
 ) -> Result<Answered, Memory>
-    requires { length asked.now ≤ 100_000 }
+    requires { length asked.now ≤ MOST_DETAILS }
     ensures replies { IfOk result (λ a. a.replies.items ≡ fold_replies lot sheet.now 1 asked.now books.ledger) }
     ensures explained { IfOk result (λ a.
         AreExplained lot sheet.now asked.now books.ledger wanted.now a.replies.items a.explanations.items) }
 {
     let opening = books.with_period(alloc, sheet.period())?;
-    let course = replayed(alloc, lot, sheet, &opening, asked, wanted)?;
-    let explanations = explain_wanted(alloc, lot, sheet, &opening, asked, wanted, &course)?;
+    let batch = Batch {
+        lot,
+        sheet,
+        opening: &opening,
+        asked,
+    };
+    let likely = likely_places(alloc, lot, wanted, asked)?;
+    let Replayed { replies, explained } = replay(alloc, &batch, &likely)?;
+    let found = find(alloc, wanted, asked, &replies)?;
+    let events = Events::of(alloc, asked, &replies)?;
+    let explanations = explain_found(alloc, &batch, &events, &explained, &found)?;
     Ok(Answered {
-        replies: course.replies,
+        replies,
         explanations,
     })
 }
 
-// The records done on a copy of the books, with the ledgers before the places that are likely to be asked for.
-fn replayed(
+// An explanation of each of these transactions among what the batch changed: of those that were explained on the way, or
+// else of all by one more pass over the batch.
+fn explain_found(
     alloc: Global,
-    lot: Lot,
-    sheet: &Sheet,
-    opening: &Books,
-    asked: &[Transmission],
-    wanted: &Wanted,
-) -> Result<Course, Memory>
-    requires { length asked.now ≤ 100_000 }
-    ensures replies { IfOk result (λ c. c.replies.items ≡ fold_replies lot sheet.now 1 asked.now opening.now.ledger) }
-    ensures stops { IfOk result (λ c. All (IsStop lot sheet.now asked.now opening.now.ledger) c.stops.items) }
-{
-    let places = likely_places(alloc, lot, wanted, asked)?;
-    let copy = opening.copy(alloc, sheet.period())?;
-    replay(alloc, lot, sheet, copy, asked, &places)
-}
-
-// An explanation of each transaction that is asked for.
-#[tactic(auto, using(rx_switch::proofs::Replied::one_each))]
-fn explain_wanted(
-    alloc: Global,
-    lot: Lot,
-    sheet: &Sheet,
-    opening: &Books,
-    asked: &[Transmission],
-    wanted: &Wanted,
-    course: &Course,
-) -> Result<Vec<Option<Explanation>>, Memory>
-    requires few { length asked.now ≤ 100_000 }
-    requires replies { course.now.replies.items ≡ fold_replies lot sheet.now 1 asked.now opening.now.ledger }
-    requires stops { All (IsStop lot sheet.now asked.now opening.now.ledger) course.now.stops.items }
-    ensures { IfOk result (λ all.
-        AreExplained lot sheet.now asked.now opening.now.ledger wanted.now course.now.replies.items all.items) }
-{
-    let found = find(alloc, wanted, asked, &course.replies)?;
-    let events = Events::of(alloc, asked, &course.replies)?;
-    explain_each(
-        alloc,
-        lot,
-        sheet,
-        opening,
-        asked,
-        &events,
-        &course.stops,
-        &found,
-    )
-}
-
-// An explanation of each of these transactions.
-fn explain_each(
-    alloc: Global,
-    lot: Lot,
-    sheet: &Sheet,
-    opening: &Books,
-    asked: &[Transmission],
+    batch: &Batch<'_>,
     events: &Events,
-    stops: &[Stop],
+    explained: &[Explained],
     found: &[At],
 ) -> Result<Vec<Option<Explanation>>, Memory>
-    requires few { length asked.now ≤ 100_000 }
-    requires events { events.now ≡ events_of 1 asked.now (fold_replies lot sheet.now 1 asked.now opening.now.ledger) }
-    requires stops { All (IsStop lot sheet.now asked.now opening.now.ledger) stops.now }
-    ensures { IfOk result (λ all. AllZip
-        (λ at x. IsExplained lot sheet.now asked.now opening.now.ledger at (spot_at asked.now at) x) found.now all.items) }
+    requires few { length batch.now.asked.now ≤ MOST_DETAILS }
+    requires explained { All (λ k. AreAmong batch.now [] k.place k.explanations.items) explained.now }
+    ensures { IfOk result (λ all. AllZip (IsAt batch.now events.now) found.now all.items) }
 {
     let mut explanations = Vec::with_capacity(alloc, found.len())?;
     for nth in 0..found.len() {
-        let at = found_at(found, nth);
-        let explanation = explain_at(alloc, lot, sheet, opening, asked, events, stops, at)?;
-        explanations.push(explanation)?;
+        let at = place_at(found, nth);
+        let Some(record) = record_at(explained, at.place) else {
+            return explain_each(alloc, batch, events, found);
+        };
+        let explanation = item(&record.explanations, at.nth);
+        explanations.push(among(alloc, events, explanation)?)?;
     }
     Ok(explanations)
 }
 
-// One of these places.
-fn found_at(found: &[At], nth: usize) -> At
-    requires { nth < length found.now }
-    ensures { result ≡ get_or found.now nth result }
+// The record at a place, where it was explained.
+fn record_at(explained: &[Explained], place: u64) -> Option<&Explained>
+    ensures { option_copied result ≡ find (λ k. k.place == place) explained.now }
 {
-    found[nth]
-}
-
-fn explain_at(
-    alloc: Global,
-    lot: Lot,
-    sheet: &Sheet,
-    opening: &Books,
-    asked: &[Transmission],
-    events: &Events,
-    stops: &[Stop],
-    at: At,
-) -> Result<Option<Explanation>, Memory>
-    requires few { length asked.now ≤ 100_000 }
-    requires events { events.now ≡ events_of 1 asked.now (fold_replies lot sheet.now 1 asked.now opening.now.ledger) }
-    requires stops { All (IsStop lot sheet.now asked.now opening.now.ledger) stops.now }
-    ensures { IfOk result
-        (IsExplained lot sheet.now asked.now opening.now.ledger at (spot_at asked.now at)) }
-{
-    let before = ledger_before(alloc, lot, sheet, opening, asked, stops, at.place)?;
-    explain(alloc, lot, sheet, before, asked, events, at)
+    explained.iter().find(|record| record.place == place)
 }

@@ -2,7 +2,7 @@ use crate::response::compare;
 use crate::retracing::Retraced;
 use rx_batch::Detail;
 use rx_claim::{Body, Rejected};
-use rx_explain::{Explanation, Wanted};
+use rx_explain::{Explanation, Wanted, item};
 use rx_explain_text::{
     Compared, explanation_json, explanation_text, rejection_json, rejection_text,
 };
@@ -49,7 +49,7 @@ fn rejected_at<'a>(retraced: &'a Retraced, wanted: &Wanted) -> Option<(u64, &'a 
         Wanted::One(at) => (at.place, at.nth),
         _ => return None,
     };
-    let transmission = retraced.asked.get(place.checked_sub(1)? as usize)?;
+    let transmission = item(&retraced.asked, place)?;
     match &transmission.body {
         Body::Rejected(rejected) if nth >= 1 && nth <= rejected.groups.get() => {
             Some((place, rejected))
@@ -117,11 +117,7 @@ fn compared(
 
 // The text of the transmission at a place.
 fn request_at(retraced: &Retraced, place: u64) -> &[u8] {
-    match retraced
-        .details
-        .as_slice()
-        .get((place.saturating_sub(1)) as usize)
-    {
+    match item(retraced.details.as_slice(), place) {
         Some(detail) => detail.text.bytes(),
         None => &[],
     }

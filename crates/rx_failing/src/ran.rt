@@ -1,19 +1,17 @@
-use crate::case::Outputs;
+use crate::case::Case;
 use rx_devices::VecSink;
-use rx_switch::{Device, IoFault};
+use rx_switch::{Device, IoFault, Outputs};
 
 /// What a run answered and wrote.
 #[derive(Drop)]
 pub struct Ran {
     pub answer: Result<(), IoFault>,
-    pub response: VecSink,
-    pub books: VecSink,
-    pub settlement: VecSink,
+    pub outputs: Outputs<VecSink, VecSink, VecSink>,
 }
 
 impl Ran {
     /// Whether the run is done, and wrote the wanted bytes.
-    pub fn is_done(&self, wanted: &Outputs) -> bool {
+    pub fn is_done(&self, wanted: &Case) -> bool {
         self.answer.is_ok()
             && self.has_response(wanted)
             && self.has_books(wanted)
@@ -22,7 +20,7 @@ impl Ran {
 
     /// Whether the device is told as failed after so many bytes: where it is an input, nothing was written; where it
     /// is an output, those before it are whole, it has so many bytes of its text, and the later ones are empty.
-    pub fn is_broken_at(&self, wanted: &Outputs, device: Device, bytes: usize) -> bool {
+    pub fn is_broken_at(&self, wanted: &Case, device: Device, bytes: usize) -> bool {
         match device {
             Device::Sheet | Device::Books | Device::Batch => {
                 self.answer == Err(IoFault::Read(device)) && self.is_unwritten()
@@ -40,16 +38,16 @@ impl Ran {
     }
 
     fn is_unwritten(&self) -> bool {
-        self.response.bytes().is_empty()
-            && self.books.bytes().is_empty()
-            && self.settlement.bytes().is_empty()
+        self.outputs.response.bytes().is_empty()
+            && self.outputs.end_books.bytes().is_empty()
+            && self.outputs.settlement.bytes().is_empty()
     }
 
-    fn is_written_to(&self, wanted: &Outputs, device: Device, bytes: usize) -> bool {
+    fn is_written_to(&self, wanted: &Case, device: Device, bytes: usize) -> bool {
         let (response, books, settlement) = (
-            self.response.bytes(),
-            self.books.bytes(),
-            self.settlement.bytes(),
+            self.outputs.response.bytes(),
+            self.outputs.end_books.bytes(),
+            self.outputs.settlement.bytes(),
         );
         match device {
             Device::Response => {
@@ -59,7 +57,7 @@ impl Ran {
             }
             Device::EndBooks => {
                 self.has_response(wanted)
-                    && is_front(books, wanted.books.as_slice(), bytes)
+                    && is_front(books, wanted.end_books.as_slice(), bytes)
                     && settlement.is_empty()
             }
             _ => {
@@ -70,16 +68,16 @@ impl Ran {
         }
     }
 
-    fn has_response(&self, wanted: &Outputs) -> bool {
-        self.response.bytes() == wanted.response.as_slice()
+    fn has_response(&self, wanted: &Case) -> bool {
+        self.outputs.response.bytes() == wanted.response.as_slice()
     }
 
-    fn has_books(&self, wanted: &Outputs) -> bool {
-        self.books.bytes() == wanted.books.as_slice()
+    fn has_books(&self, wanted: &Case) -> bool {
+        self.outputs.end_books.bytes() == wanted.end_books.as_slice()
     }
 
-    fn has_settlement(&self, wanted: &Outputs) -> bool {
-        self.settlement.bytes() == wanted.settlement.as_slice()
+    fn has_settlement(&self, wanted: &Case) -> bool {
+        self.outputs.settlement.bytes() == wanted.settlement.as_slice()
     }
 }
 

@@ -59,7 +59,7 @@ fn is_too_long<R: Threads + Wait + Sync>(threads: &R, alloc: Global, case: &Case
         most: 1,
         flaw: Flaw::None,
     };
-    let ran = trial.run_on_sheet(threads, alloc, case, &mut Endless);
+    let ran = trial.run_on_sheet(threads, alloc, case, Endless);
     ran.is_too_long()
 }
 
@@ -115,7 +115,7 @@ fn is_done<R: Threads + Wait + Sync>(threads: &R, alloc: Global, case: &Case, mo
         most,
         flaw: Flaw::None,
     };
-    trial.run(threads, alloc, case).is_done(&case.outputs)
+    trial.run(threads, alloc, case).is_done(case)
 }
 
 // How many calls of the device can fail; None where a run with a failure differs, or the first that meets none.
@@ -137,10 +137,10 @@ fn failures<R: Threads + Wait + Sync>(
             flaw: Flaw::FailsAfter(device, calls),
         };
         let ran = trial.run(threads, alloc, case);
-        if ran.is_done(&case.outputs) {
+        if ran.is_done(case) {
             return Some(calls);
         }
-        if !ran.is_broken_at(&case.outputs, device, calls.saturating_mul(most)) {
+        if !ran.is_broken_at(case, device, calls.saturating_mul(most)) {
             return None;
         }
     }
@@ -163,7 +163,7 @@ fn tells_no_byte_taken<R: Threads + Wait + Sync>(
     };
     let ran = trial.run(threads, alloc, case);
     match device {
-        Device::Sheet | Device::Books | Device::Batch => ran.is_done(&case.outputs),
-        _ => ran.is_broken_at(&case.outputs, device, 0),
+        Device::Sheet | Device::Books | Device::Batch => ran.is_done(case),
+        _ => ran.is_broken_at(case, device, 0),
     }
 }

@@ -3,7 +3,7 @@ ghost use Rattle.std.specs.Prelude.{◌≡◌, ◌≤◌, false};
 use crate::case::Case;
 use crate::ran::Ran;
 use rx_devices::{Sink, SliceSource, Source, VecSink};
-use rx_switch::{Device, run_io};
+use rx_switch::{Device, Inputs, Outputs, run_io};
 use rx_wave::NoGate;
 use std::alloc::Global;
 use std::sync::Wait;
@@ -36,24 +36,30 @@ pub struct Trial {
 impl Trial {
     /// Runs the case on such devices.
     pub fn run<R: Threads + Wait + Sync>(self, threads: &R, alloc: Global, case: &Case) -> Ran {
-        let mut sheet = self.source(case.inputs.sheet.as_slice(), Device::Sheet);
-        self.run_on_sheet(threads, alloc, case, &mut sheet)
+        let sheet = self.source(case.sheet.as_slice(), Device::Sheet);
+        self.run_on_sheet(threads, alloc, case, sheet)
     }
 
     /// Runs the case on such devices, and this one for the sheet.
-    pub fn run_on_sheet<R: Threads + Wait + Sync, S: Source>(
+    pub fn run_on_sheet<R: Threads + Wait + Sync, S: Source + Drop>(
         self,
         threads: &R,
         alloc: Global,
         case: &Case,
-        sheet: &mut S,
+        sheet: S,
     ) -> Ran
-        requires { S.failed sheet.old ≡ false }
+        requires { S.failed sheet ≡ false }
     {
-        let inputs = &case.inputs;
-        let mut response = self.sink(alloc, Device::Response);
-        let mut books = self.sink(alloc, Device::EndBooks);
-        let mut settlement = self.sink(alloc, Device::Settlement);
+        let mut inputs = Inputs {
+            sheet,
+            books: self.source(case.books.as_slice(), Device::Books),
+            batch: self.source(case.batch.as_slice(), Device::Batch),
+        };
+        let mut outputs = Outputs {
+            response: self.sink(alloc, Device::Response),
+            end_books: self.sink(alloc, Device::EndBooks),
+            settlement: self.sink(alloc, Device::Settlement),
+        };
         let answer = run_io(
             threads,
             alloc,
@@ -61,19 +67,10 @@ impl Trial {
             STAMP,
             1,
             false,
-            sheet,
-            &mut self.source(inputs.books.as_slice(), Device::Books),
-            &mut self.source(inputs.batch.as_slice(), Device::Batch),
-            &mut response,
-            &mut books,
-            &mut settlement,
+            &mut inputs,
+            &mut outputs,
         );
-        Ran {
-            answer,
-            response,
-            books,
-            settlement,
-        }
+        Ran { answer, outputs }
     }
 
     fn source<'a>(self, bytes: &'a [u8], device: Device) -> SliceSource<'a>

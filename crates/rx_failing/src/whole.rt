@@ -15,19 +15,18 @@ pub fn gives_wanted<R: Threads + Wait + Sync>(
     plain: bool,
 ) -> bool {
     let job = Job {
-        sheet: case.inputs.sheet.as_slice(),
-        books: case.inputs.books.as_slice(),
-        batch: case.inputs.batch.as_slice(),
+        sheet: case.sheet.as_slice(),
+        books: case.books.as_slice(),
+        batch: case.batch.as_slice(),
         stamp: STAMP,
         workers,
         plain,
     };
-    let wanted = &case.outputs;
     match run(threads, alloc, &NoGate, &job) {
         Ok(output) => {
-            output.response.as_slice() == wanted.response.as_slice()
-                && output.books.as_slice() == wanted.books.as_slice()
-                && output.settlement.as_slice() == wanted.settlement.as_slice()
+            output.response.as_slice() == case.response.as_slice()
+                && output.books.as_slice() == case.end_books.as_slice()
+                && output.settlement.as_slice() == case.settlement.as_slice()
         }
         Err(_) => false,
     }

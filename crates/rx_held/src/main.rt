@@ -16,7 +16,7 @@ mod gate;
 
 use gate::Meeting;
 use rx_devices::{ReaderSource, WriterSink};
-use rx_switch::{Device, IoFault, run_io, told};
+use rx_switch::{Device, Inputs, IoFault, Outputs, run_io, told};
 use rx_words::{Command, RunWords, WordsFault, command};
 use std::fs::{File, OpenOptions};
 use std::process::ExitCode;
@@ -83,6 +83,16 @@ fn held_up<R: Threads + Wait + Sync>(
     words: &RunWords<'_>,
 ) -> Result<(), IoFault> {
     let (inputs, outputs) = (&words.inputs, &words.outputs);
+    let mut sources = Inputs {
+        sheet: ReaderSource::new(input(rt, inputs.sheet, Device::Sheet)?),
+        books: ReaderSource::new(input(rt, inputs.books, Device::Books)?),
+        batch: ReaderSource::new(input(rt, inputs.batch, Device::Batch)?),
+    };
+    let mut sinks = Outputs {
+        response: WriterSink::new(output(rt, outputs.response, Device::Response)?),
+        end_books: WriterSink::new(output(rt, outputs.books, Device::EndBooks)?),
+        settlement: WriterSink::new(output(rt, outputs.settlement, Device::Settlement)?),
+    };
     run_io(
         threads,
         rt.alloc(),
@@ -90,12 +100,8 @@ fn held_up<R: Threads + Wait + Sync>(
         words.stamp.as_bytes(),
         words.workers,
         words.plain,
-        &mut ReaderSource::new(input(rt, inputs.sheet, Device::Sheet)?),
-        &mut ReaderSource::new(input(rt, inputs.books, Device::Books)?),
-        &mut ReaderSource::new(input(rt, inputs.batch, Device::Batch)?),
-        &mut WriterSink::new(output(rt, outputs.response, Device::Response)?),
-        &mut WriterSink::new(output(rt, outputs.books, Device::EndBooks)?),
-        &mut WriterSink::new(output(rt, outputs.settlement, Device::Settlement)?),
+        &mut sources,
+        &mut sinks,
     )
 }
 

@@ -1,5 +1,6 @@
 -- Digits are text, and write a number.
-use Rattle.std.proofs.Common.{◌≡◌, ◌<◌, ◌≤◌, ℕ, zero, suc, List, [], ◌∷◌, true, ◌&&◌, nat_le, get_or, slice_index, Result, Ok, Err, Some, None, length, ◌^◌, inl, inr, ◌-◌, ◌+◌, ◌*◌, arith, refl, rules}
+use Rattle.std.proofs.Common.{◌≡◌, ◌<◌, ◌≤◌, ℕ, zero, suc, List, [], ◌∷◌, true, ◌&&◌, nat_le, get_or, slice_index}
+use Rattle.std.proofs.Common.{Result, Ok, Err, Some, None, length, ◌^◌, inl, inr, ◌-◌, ◌+◌, ◌*◌, arith, refl, rules}
 use Rattle.std.specs.List.{list_all}
 use Rattle.std.specs.Str.{IsAscii, IsUtf8}
 use Rattle.std.proofs.lemmas.Str.{IsUtf8-from_ascii}
@@ -9,7 +10,7 @@ use Rattle.std.proofs.lemmas.Grind.{common_steps}
 use Rattle.std.specs.Str.Parse.{ParsesUnsigned}
 use Rattle.std.specs.Result.{OkIff, result_ok}
 use Rattle.std.proofs.lemmas.Str.Parse.{IsNumeralModel, numerals_by_fold, parse_digits}
-use Rattle.rx_log.specs.Header.{is_digit}
+use Rattle.rx_text.specs.Bytes.{is_digit}
 use Rattle.rx_log.specs.Settlement.{count_of, number_after}
 
 -- a digit is ASCII, and so are those behind it

@@ -2,6 +2,7 @@
 use Rattle.std.specs.Prelude.{◌≡◌, ℕ, Bool, ◌==◌, ◌||◌, ◌&&◌, nat_le, if◌then◌else◌, List, drop, length, slice_range}
 use Rattle.std.specs.Prelude.{Option, Some, None, MatchOption}
 use Rattle.std.specs.List.{list_all, prefix_len}
+use Rattle.rx_text.specs.Bytes.{is_digit}
 use Rattle.rx_log.specs.declared.log.Lot.{Lot}
 
 -- CR or LF
@@ -11,10 +12,6 @@ is_line_end b = b == 13 || b == 10
 -- the file from its header on: the CR and LF before it are skipped
 abbrev pub from_header : List ℕ → List ℕ
 from_header bytes = drop (prefix_len is_line_end bytes) bytes
-
--- a decimal digit
-abbrev pub is_digit : ℕ → Bool
-is_digit b = nat_le 48 b && nat_le b 57
 
 -- the digits from one place up to another; none where another byte stands there, or the bytes end before
 abbrev pub digits_at : ℕ → ℕ → List ℕ → Option (List ℕ)

@@ -3,12 +3,9 @@ use Rattle.std.specs.Prelude.{◌≡◌, ℕ, ℤ, pos, neg_ℤ, ◌+◌, ◌-�
 use Rattle.std.specs.Prelude.{List, [], ◌∷◌, codes, drop, length, slice_index, take, Option, Some, None, MatchOption}
 use Rattle.std.specs.List.{list_all, prefix_len, starts_with, suffix_len}
 use Rattle.std.specs.Option.{option_and_then}
+use Rattle.rx_text.specs.Options.{◌>>=◌}
 use Rattle.rx_log.specs.declared.log.Totals.{Totals}
-use Rattle.rx_log.specs.Header.{is_digit}
-
-infixl 10 ◌>>=◌
-abbrev pub ◌>>=◌ : {A B : Type 0} → Option A → (A → Option B) → Option B
-o >>= f = option_and_then f o
+use Rattle.rx_text.specs.Bytes.{is_digit}
 
 -- no line feed; no bar
 abbrev pub is_in_line : ℕ → Bool

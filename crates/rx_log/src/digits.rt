@@ -1,6 +1,6 @@
 ghost use Rattle.std.specs.Prelude.{◌≡◌, true, IsSomeAnd};
 ghost use Rattle.std.specs.List.{list_all};
-ghost use Rattle.rx_log.specs.Header.{is_digit};
+ghost use Rattle.rx_text.specs.Bytes.{is_digit};
 
 use std::str;
 

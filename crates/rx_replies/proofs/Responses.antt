@@ -3,7 +3,8 @@ use Rattle.std.proofs.Common.{◌≡◌, ℕ, List, Result, refl, sym, ap, ◌�
 use Rattle.rx_batch.specs.declared.batch.Batch.{Batch}
 use Rattle.rx_batch.specs.declared.fault.BatchFault.{BatchFault}
 use Rattle.rx_batch.specs.declared.head.Head.{Head}
-use Rattle.rx_batch.specs.Fault.{Gives, UnlessMemory, ◌>>=◌}
+use Rattle.rx_text.specs.Results.{◌>>=◌}
+use Rattle.rx_batch.specs.Fault.{Gives, UnlessMemory}
 use Rattle.rx_batch.specs.Reading.{HasFault, batch_of}
 use Rattle.rx_batch.proofs.Readings.{batch_ok, batch_is_file, failed, fault_is_there, file_is_read}
 use Rattle.rx_batch.proofs.Steps.{unless_so}

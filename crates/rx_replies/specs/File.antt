@@ -5,7 +5,7 @@ use Rattle.rx_batch.specs.declared.detail.Detail.{Detail}
 use Rattle.rx_batch.specs.declared.fault.BatchFault.{BatchFault}
 use Rattle.rx_batch.specs.declared.head.Head.{Head}
 use Rattle.rx_batch.specs.declared.head.Kind.TheVariants.{Response}
-use Rattle.rx_batch.specs.Fault.{◌>>=◌}
+use Rattle.rx_text.specs.Results.{◌>>=◌}
 use Rattle.rx_batch.specs.Grammar.{IsFile}
 use Rattle.rx_batch.specs.Reading.{batch_of, gap, unskipped}
 

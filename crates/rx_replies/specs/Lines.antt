@@ -15,7 +15,7 @@ use Rattle.rx_claim.specs.declared.reply.Refused.{Refused}
 use Rattle.rx_claim.specs.Priced.{patient_pay, total_paid}
 use Rattle.rx_reply.specs.Fault.{fault_code}
 use Rattle.rx_settle.specs.Providers.{named}
-use Rattle.rx_show.specs.Lines.{code_list, line}
+use Rattle.rx_show.specs.Lines.{code_list, line, rejected_line}
 use Rattle.rx_replies.specs.declared.found.Found.{Found}
 use Rattle.rx_replies.specs.declared.found.Found.TheVariants as found
 
@@ -66,8 +66,7 @@ answer_lines place echo nth (a ∷ more) = answer_line place echo nth a ++ answe
 
 -- the lines of a reply: one for each answer, or one for a rejected header
 abbrev pub outcome_lines : ℕ → EchoParts → Outcome → List ℕ
-outcome_lines place echo (outcome.Rejected r) =
-    line (decimal place ∷ decimal 0 ∷ codes "rejected" ∷ code_list r.codes ∷ [])
+outcome_lines place echo (outcome.Rejected r) = rejected_line place r
 outcome_lines place echo (outcome.Heard answers) = answer_lines place echo 1 answers
 
 -- the lines of the record at a place

@@ -14,7 +14,7 @@ use crate::found::Found;
 use rx_claim::{Answer, Approved, EchoParts, Outcome, Paid, Pricing, Refused};
 use rx_fields::{Authorization, Memory, Provider, Reference, digits_write};
 use rx_reply::ReplyFault;
-use rx_show::put_codes;
+use rx_show::{put_codes, put_place, put_rejected};
 use std::alloc::{AllocError, Global};
 
 /// The lines of what the details of a response file hold, in file order (docs/PRODUCT.md, "The program"). Amounts are in
@@ -66,12 +66,7 @@ fn put_outcome(
     ensures { OnOk result (text.new.items ≡ text.old.items ++ outcome_lines place echo.now outcome.now) }
 {
     match outcome {
-        Outcome::Rejected(rejected) => {
-            put_place(alloc, text, place, 0)?;
-            text.extend_from_slice(b" rejected ")?;
-            put_codes(text, &rejected.codes)?;
-            text.extend_from_slice(b"\n")
-        }
+        Outcome::Rejected(rejected) => put_rejected(alloc, text, place, rejected),
         Outcome::Heard(answers) => put_answers(alloc, text, place, echo, answers.as_slice()),
     }
 }
@@ -105,14 +100,6 @@ fn put_line(
     put_place(alloc, text, place, nth)?;
     put_answer(alloc, text, echo, answer)?;
     text.extend_from_slice(b"\n")
-}
-
-// The record's place in the file and the answer's place in the record.
-fn put_place(alloc: Global, text: &mut Vec<u8>, place: usize, nth: usize) -> Result<(), AllocError>
-    ensures { OnOk result (text.new.items ≡ text.old.items ++ join_with_byte 32 (decimal place ∷ decimal nth ∷ [])) }
-{
-    let places = format!(in alloc; "{place} {nth}")?;
-    text.extend_from_slice(places.as_str().as_bytes())
 }
 
 fn put_answer(

@@ -82,14 +82,14 @@ impl Column {
     pub(crate) fn is_number(self) -> bool
         ensures { result ≡ is_number self }
     {
-        match self {
+        !matches!(
+            self,
             Column::Status
-            | Column::Codes
-            | Column::Provider
-            | Column::Date
-            | Column::Family
-            | Column::Person => false,
-            _ => true,
-        }
+                | Column::Codes
+                | Column::Provider
+                | Column::Date
+                | Column::Family
+                | Column::Person
+        )
     }
 }

@@ -70,21 +70,10 @@ fn put_cells(
     ensures { OnOk result (text.new.items ≡ text.old.items ++ flat_map (tab_cell line.now) columns.now) }
 {
     for column in columns {
-        put_tab_cell(alloc, text, line, *column)?;
+        text.push(b'\t')?;
+        put_cell(alloc, text, *column, line)?;
     }
     Ok(())
-}
-
-fn put_tab_cell(
-    alloc: Global,
-    text: &mut Vec<u8>,
-    line: &Line,
-    column: Column,
-) -> Result<(), AllocError>
-    ensures { OnOk result (text.new.items ≡ text.old.items ++ tab_cell line.now column) }
-{
-    text.push(b'\t')?;
-    put_cell(alloc, text, column, line)
 }
 
 /// The lines as JSON: an array with an object for each, whose names are the columns'. What isn't known is `null`; amounts
@@ -110,16 +99,10 @@ fn put_objects(alloc: Global, text: &mut Vec<u8>, lines: &[Line]) -> Result<(), 
     ensures { OnOk result (text.new.items ≡ text.old.items ++ flat_map comma_object lines.now) }
 {
     for line in lines {
-        put_next_object(alloc, text, line)?;
+        text.extend_from_slice(b",\n")?;
+        put_object(alloc, text, line)?;
     }
     Ok(())
-}
-
-fn put_next_object(alloc: Global, text: &mut Vec<u8>, line: &Line) -> Result<(), AllocError>
-    ensures { OnOk result (text.new.items ≡ text.old.items ++ comma_object line.now) }
-{
-    text.extend_from_slice(b",\n")?;
-    put_object(alloc, text, line)
 }
 
 #[tactic(auto, using(std::proofs::Common::append_assoc), unfolding(crate::specs::Texts::json_object))]
@@ -130,33 +113,6 @@ fn put_object(alloc: Global, text: &mut Vec<u8>, line: &Line) -> Result<(), Allo
     put_member(alloc, text, line, Column::Place)?;
     put_members(alloc, text, line, &OTHERS)?;
     text.extend_from_slice(b"}")
-}
-
-// Each member after a comma.
-fn put_members(
-    alloc: Global,
-    text: &mut Vec<u8>,
-    line: &Line,
-    columns: &[Column],
-) -> Result<(), AllocError>
-    ensures { OnOk result (text.new.items ≡ text.old.items ++ flat_map (comma_member line.now) columns.now) }
-{
-    for column in columns {
-        put_next_member(alloc, text, line, *column)?;
-    }
-    Ok(())
-}
-
-fn put_next_member(
-    alloc: Global,
-    text: &mut Vec<u8>,
-    line: &Line,
-    column: Column,
-) -> Result<(), AllocError>
-    ensures { OnOk result (text.new.items ≡ text.old.items ++ comma_member line.now column) }
-{
-    text.push(b',')?;
-    put_member(alloc, text, line, column)
 }
 
 #[tactic(auto, using(std::proofs::Common::append_assoc))]
@@ -188,4 +144,20 @@ fn put_value(text: &mut Vec<u8>, column: Column, value: &[u8]) -> Result<(), All
     text.extend_from_slice(b"\"")?;
     put_escaped(text, Style::Json, value)?;
     text.extend_from_slice(b"\"")
+}
+
+// Each member after a comma.
+fn put_members(
+    alloc: Global,
+    text: &mut Vec<u8>,
+    line: &Line,
+    columns: &[Column],
+) -> Result<(), AllocError>
+    ensures { OnOk result (text.new.items ≡ text.old.items ++ flat_map (comma_member line.now) columns.now) }
+{
+    for column in columns {
+        text.push(b',')?;
+        put_member(alloc, text, line, *column)?;
+    }
+    Ok(())
 }

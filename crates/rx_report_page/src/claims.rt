@@ -1,15 +1,17 @@
 use crate::page::Page;
+use crate::why::Whys;
 use rx_account::Section;
 use rx_claim::Answer;
 use rx_report::Line;
 use rx_report_text::Shown;
 use std::alloc::AllocError;
 
-/// A provider's claims, a line each that unfolds to its figures.
+/// A provider's claims, a line each that unfolds to its figures and to why they are so.
 pub(crate) fn put_claims(
     page: &mut Page,
     before: usize,
     section: &Section<'_>,
+    whys: &Whys,
 ) -> Result<(), AllocError> {
     page.markup("<section id=\"p")?;
     page.number(before as u128)?;
@@ -20,12 +22,12 @@ pub(crate) fn put_claims(
     )?;
     page.markup("<b>Member pays</b><b>Plan pays</b></div>\n")?;
     for line in section.lines {
-        put_claim(page, line)?;
+        put_claim(page, line, whys)?;
     }
     page.markup("</section>\n")
 }
 
-fn put_claim(page: &mut Page, line: &Line) -> Result<(), AllocError> {
+fn put_claim(page: &mut Page, line: &Line, whys: &Whys) -> Result<(), AllocError> {
     page.markup(match &line.answer {
         Answer::Twice(_) => "<details class=\"twice\"><summary>",
         Answer::Paid(_) | Answer::Approved(_) | Answer::Refused(_) => "<details><summary>",
@@ -39,9 +41,9 @@ fn put_claim(page: &mut Page, line: &Line) -> Result<(), AllocError> {
     put_span(page, "<span class=\"plan\">", Shown::PlanPays, line)?;
     page.markup("</summary>\n<dl>")?;
     put_figures(page, line)?;
-    page.markup("<dt>Why</dt><dd><code>rxbatch explain --sheet F --books F --batch F --record ")?;
-    page.cell(Shown::Record, line)?;
-    page.markup("</code></dd></dl></details>\n")
+    page.markup("</dl><pre>")?;
+    page.reason(whys, line)?;
+    page.markup("</pre></details>\n")
 }
 
 fn put_span(

@@ -1,15 +1,15 @@
 //! A report as one HTML page that takes nothing from outside: no script, no font, no picture.
 //!
 //! In comes an account (`rx_account`); out comes the page: a table of providers with counts, net and a bar for each, and
-//! behind it each provider's claims, a line each that unfolds to its figures. A page is written in two ways alone: by
-//! markup that stands in this crate, and by bytes that `rx_escape` turns into text; `specs/Pages.antt` says what a byte
-//! of a file becomes.
+//! behind it each provider's claims, a line each that unfolds to its figures and to why they are so. A page is written in
+//! two ways alone: by markup that stands in this crate, and by bytes that `rx_escape` turns into text; `specs/Pages.antt`
+//! says what a byte of a file becomes, `specs/Whys.antt` what stands there for an explanation.
 //!
 //! ```rust
-//! let page = rx_report_page::report_page(alloc, lot, portion, &account)?;
+//! let page = rx_report_page::explained_page(alloc, lot, portion, &account, &whys)?;
 //! ```
 //!
-//! Why a claim was answered so is left to the command `explain`, which the page names.
+//! Nothing is explained here: `shows_claims` tells whether a page has claims, and why they were answered so is given to it.
 #![tactic(auto)]
 
 mod claims;
@@ -17,6 +17,8 @@ mod page;
 mod providers;
 mod style;
 mod whole;
+mod why;
 
 pub use page::Page;
-pub use whole::{MOST_LINES, report_page};
+pub use whole::{MOST_LINES, explained_page, report_page, shows_claims};
+pub use why::{AnswerSpot, Why, Whys, why_of};

@@ -5,7 +5,9 @@ ghost use Rattle.rx_escape.specs.declared.style.Style.TheVariants.{Html};
 ghost use Rattle.rx_report_text.specs.Money.{dollars};
 ghost use Rattle.rx_settle.specs.Settlement.{net};
 ghost use Rattle.rx_report_page.specs.Pages.{cell_text, provider_text};
+ghost use Rattle.rx_report_page.specs.Whys.{command_text, escaped_lines, line_byte, reason_text};
 
+use crate::why::{Whys, why_of};
 use rx_escape::{Style, put_escaped};
 use rx_fields::Provider;
 use rx_report::Line;
@@ -50,6 +52,46 @@ impl Page {
         ensures { OnOk result (self.new.bytes.items ≡ self.old.bytes.items ++ escaped Html bytes.now) }
     {
         put_escaped(&mut self.bytes, Style::Html, bytes)
+    }
+
+    /// Writes lines of a text, which are read as text; each line feed stays one.
+    pub fn lines(&mut self, text: &[u8]) -> Result<(), AllocError>
+        ensures { OnOk result (self.new.bytes.items ≡ self.old.bytes.items ++ escaped_lines text.now) }
+    {
+        for byte in text {
+            self.line_byte(*byte)?;
+        }
+        Ok(())
+    }
+
+    // Writes a byte of a line, or its line feed.
+    fn line_byte(&mut self, byte: u8) -> Result<(), AllocError>
+        ensures { OnOk result (self.new.bytes.items ≡ self.old.bytes.items ++ line_byte byte) }
+    {
+        if byte == b'\n' {
+            Ok(self.bytes.push(byte)?)
+        } else {
+            self.text(&[byte])
+        }
+    }
+
+    /// Writes why a line's answer was given, as text; where that isn't among these, the command that tells it.
+    pub fn reason(&mut self, whys: &Whys, line: &Line) -> Result<(), AllocError>
+        ensures { OnOk result (self.new.bytes.items ≡ self.old.bytes.items ++ reason_text whys.now line.now) }
+    {
+        match why_of(whys, line) {
+            Some(text) => self.lines(text),
+            None => self.command(line),
+        }
+    }
+
+    // Writes the command that explains a line's answer.
+    fn command(&mut self, line: &Line) -> Result<(), AllocError>
+        ensures { OnOk result (self.new.bytes.items ≡ self.old.bytes.items ++ command_text line.now) }
+    {
+        self.markup("rxbatch explain --sheet F --books F --batch F --record ")?;
+        self.cell(Shown::Record, line)?;
+        Ok(())
     }
 
     /// Writes a number in decimal digits.

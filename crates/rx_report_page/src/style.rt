@@ -1,4 +1,5 @@
-/// How the page looks: on a screen, light or dark; narrow, as on a phone; on paper, where all claims are unfolded.
+/// How the page looks: on a screen, light or dark; narrow, as on a phone, where an
+/// explanation keeps its columns and is moved sideways; on paper, where all claims are unfolded.
 pub(crate) const STYLE: &str =
     ":root{color-scheme:light dark;--ink:#1b1f24;--soft:#57606a;--rule:#d0d7de;--paper:#fff;--tint:#f3f5f7;--plus:#2f7d57;--minus:#b3492f}
 @media (prefers-color-scheme:dark){:root{--ink:#e6e9ec;--soft:#9aa4ae;--rule:#3a424b;--paper:#15181c;--tint:#1f252b;--plus:#63b58a;--minus:#e08a70}}
@@ -33,10 +34,12 @@ details[open]{background:var(--tint)}
 summary span{overflow-wrap:anywhere}
 .refused{color:var(--minus)}
 .twice .pays,.twice .plan{color:var(--soft);font-style:italic}
-dl{display:grid;grid-template-columns:max-content 1fr;gap:.15rem 1.5rem;margin:0;padding:.2rem 1.4rem .8rem}
+dl{display:flex;flex-wrap:wrap;gap:0 .5rem;margin:0;padding:.1rem 1.4rem .4rem;font-size:.9em}
 dt{color:var(--soft)}
-dd{margin:0;overflow-wrap:anywhere}
+dd{margin:0 1rem 0 0;overflow-wrap:anywhere}
+details pre{margin:0;padding:.2rem 1.4rem .8rem;overflow-x:auto;background:none;font-size:.74em}
 @media (max-width:44rem){
+details pre{white-space:pre}
 body{padding:.9rem}
 thead,.names{display:none}
 tr{display:grid;grid-template-columns:repeat(4,1fr);padding:.6rem 0;border-bottom:1px solid var(--rule)}
@@ -63,9 +66,8 @@ summary span:first-child{grid-area:1/1}
 body{max-width:none;padding:0;font-size:11px}
 details::details-content{display:block;content-visibility:visible;block-size:auto}
 .names,summary{grid-template-columns:3rem 6rem 6.5rem 5rem 1fr 5rem 5rem}
-dl{display:flex;flex-wrap:wrap;gap:0 .4rem;padding-bottom:.4rem}
-dd{margin-right:.8rem}
-dt:last-of-type,dd:last-of-type{display:none}
+dl{padding-bottom:.2rem}
+details pre{white-space:pre-wrap;padding-bottom:.4rem}
 details,tr{break-inside:avoid}
 td.bar span{print-color-adjust:exact}
 }

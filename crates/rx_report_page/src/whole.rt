@@ -1,28 +1,44 @@
+ghost use Rattle.std.specs.Prelude.{◌≡◌, length, nat_le, sum_by};
+ghost use Rattle.rx_report_page.specs.Shown.{shows_claims};
+
 use crate::claims::put_claims;
 use crate::page::Page;
 use crate::providers::put_providers;
 use crate::style::STYLE;
-use rx_account::{Account, Portion};
+use crate::why::Whys;
+use rx_account::{Account, Portion, Section};
 use rx_fields::{Lot, Memory, date_write, digits_write};
+use rx_order::Ascending;
 use std::alloc::{AllocError, Global};
 
 /// How many lines of a whole batch a page shows at most; of more it has the table of providers alone.
 pub const MOST_LINES: usize = 2000;
 
-/// The account of a batch as an HTML page.
+/// The account of a batch as an HTML page, where each claim unfolds to its figures and to the command that explains it.
 pub fn report_page(
     alloc: Global,
     lot: Lot,
     portion: Portion<'_>,
     account: &Account<'_>,
 ) -> Result<Vec<u8>, Memory> {
+    explained_page(alloc, lot, portion, account, &Ascending::new(alloc))
+}
+
+/// The same page, where a claim whose answer is explained by these unfolds to its explanation.
+pub fn explained_page(
+    alloc: Global,
+    lot: Lot,
+    portion: Portion<'_>,
+    account: &Account<'_>,
+    whys: &Whys,
+) -> Result<Vec<u8>, Memory> {
     let mut page = Page::new(alloc);
     put_head(&mut page, lot)?;
     put_title(&mut page, lot, portion)?;
-    let unfolds = is_whole_shown(portion, account);
+    let unfolds = shows_claims(portion, account);
     put_providers(&mut page, portion, account, unfolds)?;
     if unfolds {
-        put_sections(&mut page, account)?;
+        put_sections(&mut page, account, whys)?;
     } else {
         put_command(&mut page)?;
     }
@@ -30,20 +46,29 @@ pub fn report_page(
     Ok(page.into_bytes())
 }
 
-// Whether the claims are shown too.
-fn is_whole_shown(portion: Portion<'_>, account: &Account<'_>) -> bool {
+/// Whether the page of an account has its claims, and not the table of providers alone: those of a portion, and those of
+/// a whole batch up to `MOST_LINES` of them.
+pub fn shows_claims(portion: Portion<'_>, account: &Account<'_>) -> bool
+    ensures { result ≡ shows_claims portion.entry account.now.sections.items }
+{
     match portion {
-        Portion::Whole => count_lines(account) <= MOST_LINES,
+        Portion::Whole => are_few(&account.sections),
         Portion::Provider(_) | Portion::Family(_) => true,
     }
 }
 
-fn count_lines(account: &Account<'_>) -> usize {
-    let mut count: usize = 0;
-    for section in &account.sections {
-        count = count.saturating_add(section.lines.len());
+// Whether these sections have so few lines.
+fn are_few(sections: &[Section<'_>]) -> bool
+    ensures { result ≡ nat_le (sum_by (λ s. length s.lines.now) sections.now) MOST_LINES }
+{
+    let mut left = MOST_LINES;
+    for section in sections {
+        if section.lines.len() > left {
+            return false;
+        }
+        left -= section.lines.len();
     }
-    count
+    true
 }
 
 fn put_head(page: &mut Page, lot: Lot) -> Result<(), AllocError> {
@@ -90,9 +115,9 @@ fn put_title(page: &mut Page, lot: Lot, portion: Portion<'_>) -> Result<(), Allo
 }
 
 // Each provider's claims.
-fn put_sections(page: &mut Page, account: &Account<'_>) -> Result<(), AllocError> {
+fn put_sections(page: &mut Page, account: &Account<'_>, whys: &Whys) -> Result<(), AllocError> {
     for (before, section) in account.sections.iter().enumerate() {
-        put_claims(page, before, section)?;
+        put_claims(page, before, section, whys)?;
     }
     Ok(())
 }

@@ -1,0 +1,2 @@
+-- Lemmas of a report that is explained.
+pub mod Spots

@@ -1,12 +1,12 @@
-use rx_fields::Lot;
+use rx_course::Adjudicated;
 use rx_report::Line;
 use rx_settle::Settled;
 
 /// What a batch is answered, line by line and in all.
 #[derive(Drop)]
 pub struct Report {
-    /// The batch.
-    pub lot: Lot,
+    /// The batch, with what it was adjudicated on.
+    pub batch: Adjudicated,
     /// The lines of its answers, in file order.
     pub lines: Vec<Line>,
     /// The tallies of its settlement.

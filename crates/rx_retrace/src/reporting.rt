@@ -1,6 +1,7 @@
 ghost use Rattle.std.specs.Prelude.{◌≡◌, ◌≤◌, IfErr, IfOk, length};
+ghost use Rattle.rx_course.specs.Adjudicated.{IsAdjudicated};
 ghost use Rattle.rx_ledger.specs.Fold.{fold_replies};
-ghost use Rattle.rx_retrace.specs.Reported.{IsReported, IsTold, replies_at};
+ghost use Rattle.rx_retrace.specs.Reported.{IsReported, IsTold};
 ghost use Rattle.rx_switch.specs.Planned.{IsNotPlanned};
 ghost use Rattle.rx_wave.specs.Decoding.{transmissions_of};
 
@@ -8,6 +9,7 @@ use crate::report::Report;
 use rx_batch::{Batch, read_batch};
 use rx_books_kept::Books;
 use rx_claim::{Reply, Transmission};
+use rx_course::Adjudicated;
 use rx_fields::{Lot, Memory};
 use rx_in_order::Finished;
 use rx_ledger::Sheet;
@@ -15,7 +17,7 @@ use rx_report::report_lines;
 use rx_settle::tally_replies;
 use rx_sheet::read_sheet;
 use rx_switch::SwitchFault;
-use rx_wave::{NoGate, decode_in_parts, run_one_on};
+use rx_wave::{NoGate, decode_in_parts, run_one};
 use std::alloc::Global;
 use std::thread::Threads;
 
@@ -33,55 +35,75 @@ pub fn job_report<R: Threads + Sync>(
     batch: &[u8],
 ) -> Result<Report, SwitchFault>
     ensures reported { IfOk result (λ report. IsReported sheet.now books.now batch.now report) }
+    // So `whys_of` explains its answers.
+    ensures ready { IfOk result (λ report. IsAdjudicated report.batch) }
     ensures refused { IfErr result (λ fault. IsNotPlanned sheet.now books.now batch.now fault) }
 {
     let sheet = read_sheet(alloc, sheet)?;
     let books = Books::read(alloc, books)?;
     let batch = read_batch(alloc, batch)?;
-    let report = told(rt, alloc, &sheet, books, &batch)?;
+    let answered = adjudicated(rt, alloc, sheet, books, batch)?;
+    let report = told(alloc, answered)?;
     Ok(report)
 }
 
-// What the batch is answered on these books.
-fn told<R: Threads + Sync>(
+// The batch adjudicated on these books.
+fn adjudicated<R: Threads + Sync>(
     rt: &R,
     alloc: Global,
-    sheet: &Sheet,
+    sheet: Sheet,
     books: Books,
-    batch: &Batch,
-) -> Result<Report, Memory>
-    requires { length batch.now.details ≤ 100_000 }
-    ensures lot { IfOk result (λ report. report.lot ≡ batch.now.head.lot) }
-    ensures told { IfOk result (λ report. IsTold (transmissions_of sheet.now.figures.door batch.now.details)
-        (replies_at batch.now.head sheet.now books.ledger (transmissions_of sheet.now.figures.door batch.now.details))
-        report) }
+    batch: Batch,
+) -> Result<Adjudicated, Memory>
+    requires { length batch.details ≤ 100_000 }
+    ensures lot { IfOk result (λ b. b.lot ≡ batch.head.lot) }
+    ensures sheet { IfOk result (λ b. b.sheet ≡ sheet) }
+    ensures opening { IfOk result (λ b. b.opening.ledger ≡ books.ledger) }
+    ensures details { IfOk result (λ b. b.details ≡ batch.details) }
+    ensures asked { IfOk result (λ b. b.asked.items ≡ transmissions_of sheet.figures.door batch.details) }
+    ensures ready { IfOk result IsAdjudicated }
 {
     let asked = decode_in_parts(rt, alloc, 1, sheet.door(), batch.details.as_slice())?;
     let lot = batch.head.lot();
-    let replies = replies_to(alloc, lot, sheet, books, &asked)?;
-    let lines = report_lines(alloc, &asked, &replies)?;
-    let settled = tally_replies(alloc, &replies)?;
-    Ok(Report {
+    let opening = books.with_period(alloc, sheet.period())?;
+    let replies = replies_to(alloc, lot, &sheet, &opening, &asked)?;
+    Ok(Adjudicated {
         lot,
-        lines,
-        settled,
+        sheet,
+        opening,
+        details: batch.details,
+        asked,
+        replies,
     })
 }
 
 // The replies to the records, one after another.
-#[tactic(auto, using(rx_switch::proofs::Replied::one_each))]
 fn replies_to(
     alloc: Global,
     lot: Lot,
     sheet: &Sheet,
-    books: Books,
+    opening: &Books,
     asked: &[Transmission],
 ) -> Result<Vec<Reply>, Memory>
     requires { length asked.now ≤ 100_000 }
-    ensures replies { IfOk result (λ replies. replies.items ≡ fold_replies lot sheet.now 1 asked.now books.ledger) }
-    ensures one_each { IfOk result (λ replies. length asked.now ≡ length replies.items) }
+    ensures { IfOk result (λ replies. replies.items ≡ fold_replies lot sheet.now 1 asked.now opening.now.ledger) }
 {
-    let books = books.with_period(alloc, sheet.period())?;
-    let Finished { books: _, replies } = run_one_on(&NoGate, alloc, lot, sheet, books, asked)?;
+    let Finished { books: _, replies } = run_one(&NoGate, alloc, lot, sheet, opening, asked)?;
     Ok(replies)
+}
+
+// What a batch is answered.
+#[tactic(auto, using(rx_course::proofs::Replied::one_each))]
+fn told(alloc: Global, batch: Adjudicated) -> Result<Report, Memory>
+    requires { IsAdjudicated batch }
+    ensures same { IfOk result (λ report. report.batch ≡ batch) }
+    ensures told { IfOk result (λ report. IsTold batch.asked.items batch.replies.items report) }
+{
+    let lines = report_lines(alloc, &batch.asked, &batch.replies)?;
+    let settled = tally_replies(alloc, &batch.replies)?;
+    Ok(Report {
+        batch,
+        lines,
+        settled,
+    })
 }

@@ -31,6 +31,8 @@ mod settle;
 #[cfg(test)]
 mod show;
 #[cfg(test)]
+mod shown;
+#[cfg(test)]
 mod steps;
 #[cfg(test)]
 mod tabs;

@@ -1,4 +1,4 @@
-use rx_sample::sample_line;
+use rx_show::sample_line;
 use std::test::Fail;
 
 // The line of docs/FORMATS.md, "Fixed inputs", at both ends.

@@ -5,6 +5,7 @@ use rx_claim::{
 use rx_fields::{Authorization, Cents, Code, Count, Lot, Reference, Stamp, date_read};
 use rx_settle::settle;
 use std::alloc::Global;
+use std::process::Abort;
 use std::test::Fail;
 
 // What one transmission is answered: to each transaction, or to a rejected header with so many groups.
@@ -75,55 +76,51 @@ fn settled(alloc: Global, number: u32, told: &[(&[u8; 15], Told)]) -> Result<Vec
     Ok(settle(alloc, lot, stamp, replies.as_slice())?)
 }
 
+// What is told in the batch of this number is settled by this text.
+fn settles(
+    rt: &impl Abort,
+    alloc: Global,
+    number: u32,
+    told: &[(&[u8; 15], Told)],
+    text: &str,
+) -> Result<(), Fail> {
+    let settlement = settled(alloc, number, told)?;
+    assert_eq!(rt; settlement.as_slice(), text.as_bytes());
+    Ok(())
+}
+
 const PHARMACY: &[u8; 15] = b"1234567893     ";
 
 #[test]
 fn settlements_of_the_worked_cases(rt: HostRuntime) -> Result<(), Fail> {
     let one_billing = [(PHARMACY, Told::Answers(&[Answer::Paid(paid(17175)?)]))];
     let text = "SETTLE|1|0000042|202603020600\nP|1234567893|1|0|0|0|17175\nTOTAL|1|0|0|0|17175\n";
-    assert_eq!(rt;
-        settled(rt.alloc(), 42, &one_billing)?.as_slice(),
-        text.as_bytes()
-    );
+    settles(&rt, rt.alloc(), 42, &one_billing, text)?;
     let text = "SETTLE|1|0000042|202603020600\nTOTAL|0|0|0|0|0\n";
-    assert_eq!(rt; settled(rt.alloc(), 42, &[])?.as_slice(), text.as_bytes());
+    settles(&rt, rt.alloc(), 42, &[], text)?;
     let empty_transmission = [(b"               ", Told::Header(1))];
     let text = "SETTLE|1|0000042|202603020600\nP||0|0|0|1|0\nTOTAL|0|0|0|1|0\n";
-    assert_eq!(rt;
-        settled(rt.alloc(), 42, &empty_transmission)?.as_slice(),
-        text.as_bytes()
-    );
-    Ok(())
+    settles(&rt, rt.alloc(), 42, &empty_transmission, text)
 }
 
 #[test]
 fn settlements_of_the_worked_reversals(rt: HostRuntime) -> Result<(), Fail> {
     let last_years = [(PHARMACY, Told::Answers(&[taken_back(17175)?]))];
     let text = "SETTLE|1|0000042|202603020600\nP|1234567893|0|0|1|0|-17175\nTOTAL|0|0|1|0|-17175\n";
-    assert_eq!(rt;
-        settled(rt.alloc(), 42, &last_years)?.as_slice(),
-        text.as_bytes()
-    );
+    settles(&rt, rt.alloc(), 42, &last_years, text)?;
     let twice_and_again = [
         (PHARMACY, Told::Answers(&[taken_back(17175)?])),
         (PHARMACY, Told::Answers(&[refused()])),
         (PHARMACY, Told::Answers(&[Answer::Paid(paid(17175)?)])),
     ];
     let text = "SETTLE|1|0000044|202603020600\nP|1234567893|1|0|1|1|0\nTOTAL|1|0|1|1|0\n";
-    assert_eq!(rt;
-        settled(rt.alloc(), 44, &twice_and_again)?.as_slice(),
-        text.as_bytes()
-    );
+    settles(&rt, rt.alloc(), 44, &twice_and_again, text)?;
     let family_deductible = [
         (PHARMACY, Told::Answers(&[taken_back(17175)?])),
         (PHARMACY, Told::Answers(&[Answer::Paid(paid(0)?)])),
     ];
     let text = "SETTLE|1|0000047|202603020600\nP|1234567893|1|0|1|0|-17175\nTOTAL|1|0|1|0|-17175\n";
-    assert_eq!(rt;
-        settled(rt.alloc(), 47, &family_deductible)?.as_slice(),
-        text.as_bytes()
-    );
-    Ok(())
+    settles(&rt, rt.alloc(), 47, &family_deductible, text)
 }
 
 // The text is what an independent program makes of these replies.
@@ -152,6 +149,5 @@ fn pharmacies_stand_in_order_of_first_appearance(rt: HostRuntime) -> Result<(), 
         P|1234567893|2|0|1|1|141\n\
         P|ABCDEFGHIJKLMNO|4|0|0|0|399999996\n\
         TOTAL|7|1|3|5|400000136\n";
-    assert_eq!(rt; settled(rt.alloc(), 42, &told)?.as_slice(), text.as_bytes());
-    Ok(())
+    settles(&rt, rt.alloc(), 42, &told, text)
 }

@@ -1,5 +1,14 @@
 use rx_steps::{Answers, Counted, Done, Name, Step, done_line, progress_line, step_line};
+use std::alloc::Global;
+use std::process::Abort;
 use std::test::*;
+
+// The line of this step.
+fn tells(rt: &impl Abort, alloc: Global, step: &Step, wanted: &str) -> Result<(), Fail> {
+    let line = step_line(alloc, step)?;
+    assert_eq!(rt; line.as_slice(), wanted.as_bytes());
+    Ok(())
+}
 
 #[test]
 fn books_of_a_million_lines(rt: HostRuntime) -> Result<(), Fail> {
@@ -9,12 +18,12 @@ fn books_of_a_million_lines(rt: HostRuntime) -> Result<(), Fail> {
         bytes: Some(78_041_222),
         micros: Some(214_999),
     };
-    let line = step_line(rt.alloc(), &step)?;
-    assert_eq!(rt;
-        line.as_slice(),
-        b"books        990,001 lines  78.0 MB  0.21 s\n".as_slice()
-    );
-    Ok(())
+    tells(
+        &rt,
+        rt.alloc(),
+        &step,
+        "books        990,001 lines  78.0 MB  0.21 s\n",
+    )
 }
 
 #[test]
@@ -25,12 +34,12 @@ fn a_step_of_which_little_is_known(rt: HostRuntime) -> Result<(), Fail> {
         bytes: Some(999_999),
         micros: None,
     };
-    let line = step_line(rt.alloc(), &step)?;
-    assert_eq!(rt;
-        line.as_slice(),
-        b"batch        1 record  999,999 bytes\n".as_slice()
-    );
-    Ok(())
+    tells(
+        &rt,
+        rt.alloc(),
+        &step,
+        "batch        1 record  999,999 bytes\n",
+    )
 }
 
 #[test]

@@ -1,8 +1,9 @@
 -- Meaning: how the line of a fault begins: with the name of its file and its place there.
-use Rattle.std.specs.Prelude.{◌≡◌, ℕ, List, codes, ◌++◌, zero, suc}
+use Rattle.std.specs.Prelude.{◌≡◌, ℕ, List, [], ◌∷◌, codes, ◌++◌, string_bytes, zero, suc}
 use Rattle.std.specs.Fmt.{decimal}
 use Rattle.rx_told.specs.declared.place.Place.{Place}
 use Rattle.rx_told.specs.declared.place.Place.TheVariants as place
+use Rattle.rx_told.specs.declared.words.Words.{Words}
 
 -- the header is named, a detail and the trailer have a number
 abbrev pub record_name : ℕ → List ℕ
@@ -18,6 +19,15 @@ place_text file (place.Column line column) =
 place_text file (place.Byte byte) = file ++ (codes ": byte " ++ (decimal byte ++ codes ": "))
 place_text file (place.Record number byte) =
     file ++ (codes ": " ++ (record_name number ++ (codes ", byte " ++ (decimal byte ++ codes ": "))))
+
+-- the command that mends the file, in parentheses; nothing where there is none
+abbrev pub mend_text : List ℕ → List ℕ → List ℕ
+mend_text file [] = []
+mend_text file (b ∷ mend) = codes " (" ++ ((b ∷ mend) ++ (codes " " ++ (file ++ codes ")")))
+
+-- the place, what is said of the fault, and how it is mended
+abbrev pub line_text : List ℕ → Words → List ℕ
+line_text file words = place_text file words.place ++ (string_bytes words.text ++ mend_text file words.mend.now)
 
 -- the line begins with the place
 abbrev pub BeginsAt : List ℕ → Place → List ℕ → Type 0

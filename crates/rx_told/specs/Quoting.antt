@@ -1,8 +1,8 @@
 -- Meaning: bytes in quotes, on one line.
 use Rattle.std.specs.Prelude.{ℕ, ◌/◌, ◌%◌, nat_lt, if◌then◌else◌, List, [], ◌∷◌, ◌++◌, codes, length, take}
 use Rattle.std.specs.List.{flat_map}
-use Rattle.rx_fields.specs.Text.{is_printable}
 use Rattle.rx_show.specs.Bytes.{hexadecimal}
+use Rattle.rx_text.specs.Bytes.{is_printable}
 use Rattle.rx_told.specs.declared.quoting.TheConstants.{LONGEST}
 
 -- the number of a byte: two hexadecimal digits in angle brackets

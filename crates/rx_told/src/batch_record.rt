@@ -1,6 +1,7 @@
-use crate::quoting::{are_digits, from, part, quoted, said};
+use crate::quoting::{from, part, quoted, said};
 use memchr::{memchr, memchr2};
 use rx_fields::{Time, date_read, number_read};
+use rx_text::all_digits;
 use std::alloc::{AllocError, Global};
 
 // The bytes between the STX at a place and the next ETX, or up to the end.
@@ -58,7 +59,7 @@ pub(crate) fn header_words(alloc: Global, text: &[u8], at: usize) -> Result<Stri
     if kind != b"T".as_slice() {
         return field_words(alloc, at, "type", body, 2, 3, "T is wanted");
     }
-    if !are_digits(part(body, 27, 34)) {
+    if !all_digits(part(body, 27, 34)) {
         return field_words(
             alloc,
             at,
@@ -105,7 +106,7 @@ fn last_fields(alloc: Global, at: usize, body: &[u8]) -> Result<String, AllocErr
 
 // Why eight bytes are no date.
 fn date_wanted(date: &[u8]) -> &'static str {
-    if are_digits(date) {
+    if all_digits(date) {
         "no such day"
     } else {
         "8 digits CCYYMMDD are wanted"
@@ -140,7 +141,7 @@ pub(crate) fn trailer_words(alloc: Global, text: &[u8], at: usize) -> Result<Str
             "the trailer's message has {message} bytes: at most 35 are wanted"
         );
     }
-    if !are_digits(part(body, 2, 9)) {
+    if !all_digits(part(body, 2, 9)) {
         return field_words(alloc, at, "batch number", body, 2, 9, "7 digits are wanted");
     }
     field_words(alloc, at, "count", body, 9, 19, "10 digits are wanted")

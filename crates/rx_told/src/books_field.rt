@@ -1,6 +1,6 @@
-use crate::quoting::are_digits;
 use rx_books_text::Version;
 use rx_fields::{date_read, number_read};
+use rx_text::all_digits;
 use std::alloc::{AllocError, Global};
 
 /// What a field of a books line holds.
@@ -85,7 +85,7 @@ pub(crate) fn fault_in(
         Holds::Number(low, high) => number_fault(alloc, low, high, field),
         Holds::Figure => figure_fault(alloc, field),
         Holds::Digits(count) => {
-            if field.len() == count && are_digits(field) {
+            if field.len() == count && all_digits(field) {
                 return Ok(None);
             }
             Ok(Some(format!(in alloc; "{count} digits are wanted")?))
@@ -111,7 +111,7 @@ fn id_fault(alloc: Global, most: usize, field: &[u8]) -> Result<Option<String>, 
 }
 
 fn date_fault(alloc: Global, field: &[u8]) -> Result<Option<String>, AllocError> {
-    if field.len() != 8 || !are_digits(field) {
+    if field.len() != 8 || !all_digits(field) {
         return some(alloc, "8 digits are wanted, as 20260101");
     }
     if date_read(field).is_err() {
@@ -126,7 +126,7 @@ fn number_fault(
     high: u64,
     field: &[u8],
 ) -> Result<Option<String>, AllocError> {
-    if field.is_empty() || !are_digits(field) {
+    if field.is_empty() || !all_digits(field) {
         return some(alloc, "digits alone are wanted");
     }
     if field.len() > 1 && field.starts_with(b"0") {
@@ -139,7 +139,7 @@ fn number_fault(
 }
 
 fn figure_fault(alloc: Global, field: &[u8]) -> Result<Option<String>, AllocError> {
-    if field.is_empty() || !are_digits(field) {
+    if field.is_empty() || !all_digits(field) {
         return some(alloc, "whole cents are wanted, digits alone");
     }
     if field.len() > 1 && field.starts_with(b"0") {

@@ -3,6 +3,7 @@ ghost use Rattle.rx_told.specs.Quoting.{byte_text, bytes_text, number_text, quot
 
 use crate::place::front;
 use rx_show::hexadecimal;
+use rx_text::is_printable;
 use std::alloc::{AllocError, Global};
 
 // How many bytes of a quotation are shown.
@@ -36,7 +37,7 @@ fn put_bytes(text: &mut String, bytes: &[u8]) -> Result<(), AllocError>
 fn put_byte(text: &mut String, byte: u8) -> Result<(), AllocError>
     ensures { OnOk result (string_bytes text.new ≡ string_bytes text.old ++ byte_text byte) }
 {
-    if byte >= b' ' && byte <= b'~' {
+    if is_printable(byte) {
         text.push(char::from(byte))
     } else {
         put_number(text, byte)
@@ -87,11 +88,6 @@ pub(crate) fn field_of(line: &[u8], number: usize) -> &[u8] {
         return &[];
     }
     line.split(|b| *b == b'|').nth(number - 1).unwrap_or(&[])
-}
-
-/// Whether all bytes are digits.
-pub(crate) fn are_digits(bytes: &[u8]) -> bool {
-    bytes.iter().all(|b| b.is_ascii_digit())
 }
 
 /// A copy of a fixed text.

@@ -12,6 +12,7 @@ use crate::words::Words;
 use rx_fields::{Memory, date_read};
 use rx_ledger::SheetKey;
 use rx_sheet::SheetFault;
+use rx_text::all_digits;
 use std::alloc::{AllocError, Global};
 use std::str::from_utf8;
 use toml::{Table, Value};
@@ -173,7 +174,7 @@ fn wrong_date(alloc: Global, key: SheetKey, sheet: &Table) -> Result<String, All
         return wrong_value(alloc, key, sheet);
     };
     let bytes = value.as_str().as_bytes();
-    if bytes.len() != 8 || !bytes.iter().all(|b| b.is_ascii_digit()) {
+    if bytes.len() != 8 || !all_digits(bytes) {
         return wrong_value(alloc, key, sheet);
     }
     let value = quoted(alloc, bytes)?;

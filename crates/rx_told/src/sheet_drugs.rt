@@ -1,7 +1,8 @@
-use crate::quoting::{are_digits, quoted};
+use crate::quoting::quoted;
 use crate::sheet_keys::{name_of, wanted_at};
 use crate::sheet_values::{found, is_number, shown_value, table_at};
 use rx_ledger::SheetKey;
+use rx_text::all_digits;
 use std::alloc::{AllocError, Global};
 use toml::{Table, Value};
 
@@ -100,7 +101,7 @@ fn drugs_words(alloc: Global, sheet: &Table) -> Result<String, AllocError> {
     };
     for (product, drug) in drugs.iter() {
         let bytes = product.as_str().as_bytes();
-        if bytes.len() != 11 || !are_digits(bytes) {
+        if bytes.len() != 11 || !all_digits(bytes) {
             let product = quoted(alloc, bytes)?;
             return format!(in alloc;
                 "drug {product}: a product is 11 digits without dashes, as 00001000101"

@@ -1,5 +1,5 @@
 ghost use Rattle.std.specs.Prelude.{◌≡◌, ◌++◌, IfOk, string_bytes};
-ghost use Rattle.rx_told.specs.Lines.{BeginsAt, place_text, record_name};
+ghost use Rattle.rx_told.specs.Lines.{BeginsAt, line_text, mend_text, place_text, record_name};
 
 use crate::place::Place;
 use rx_fields::Memory;
@@ -35,24 +35,33 @@ impl Words {
     ///
     /// Memory alone.
     pub fn line(&self, alloc: Global, file: &str) -> Result<String, Memory>
-        ensures { IfOk result (λ line. BeginsAt file.now self.now.place (string_bytes line)) }
+        ensures value { IfOk result (λ line. string_bytes line ≡ line_text file.now self.now) }
+        ensures begins { IfOk result (λ line. BeginsAt file.now self.now.place (string_bytes line)) }
     {
         let place = place_text(alloc, file, self.place)?;
-        let text = self.text.as_str();
-        if self.mend.is_empty() {
-            return joined(alloc, place, text);
-        }
-        let mend = self.mend;
-        let said = format!(in alloc; "{text} ({mend} {file})")?;
-        joined(alloc, place, said.as_str())
+        let mend = mend_text(alloc, file, self.mend)?;
+        joined(alloc, &place, self.text.as_str(), &mend)
     }
 }
 
-// The place and what is said of it.
-fn joined(alloc: Global, place: String, text: &str) -> Result<String, Memory>
-    ensures { IfOk result (λ line. string_bytes line ≡ string_bytes place ++ text.now) }
+// The place, what is said, and how it is mended.
+#[tactic(auto, using(std::proofs::Common::append_assoc))]
+fn joined(alloc: Global, place: &str, text: &str, mend: &str) -> Result<String, Memory>
+    ensures { IfOk result (λ line. string_bytes line ≡ place.now ++ (text.now ++ mend.now)) }
 {
-    Ok(format!(in alloc; "{place}{text}")?)
+    Ok(format!(in alloc; "{place}{text}{mend}")?)
+}
+
+// The command that mends the file, where there is one.
+#[tactic(auto, using(std::proofs::Common::append_assoc))]
+fn mend_text(alloc: Global, file: &str, mend: &str) -> Result<String, AllocError>
+    ensures { IfOk result (λ text. string_bytes text ≡ mend_text file.now mend.now) }
+{
+    if mend.is_empty() {
+        Ok(String::new(alloc))
+    } else {
+        format!(in alloc; " ({mend} {file})")
+    }
 }
 
 // The name of the file, and the place in it.

@@ -15,7 +15,7 @@ use Rattle.rx_fields.specs.declared.stamp.Stamp.{Stamp}
 use Rattle.rx_ledger.specs.Plan.{Plan}
 use Rattle.rx_sheet.specs.SheetText.{sheet_of_text}
 use Rattle.rx_sheet.specs.declared.fault.SheetFault.{SheetFault}
-use Rattle.rx_switch.specs.Output.{Given, Inputs, IsRefused, StandFor, stamp_for}
+use Rattle.rx_switch.specs.Output.{Accepted, Given, IsRefused, StandFor, stamp_for}
 use Rattle.rx_switch.specs.Output.IsRefused.{sheet as refused_sheet, books as refused_books, batch as refused_batch}
 use Rattle.rx_check.specs.Found.{first_fault}
 use Rattle.rx_told_run.specs.Refusals.{told_as}
@@ -31,7 +31,7 @@ pub runs : (g : Given) (s : Stamp) → stamp_for g.workers g.stamp ≡ Ok s
     → (b : Result LedgerBooks BooksFault) → books_of g.books ≡ b
     → (c : Result Batch BatchFault) → batch_of g.batch ≡ c
     → MatchOption (option_map told_as (first_fault (result_err a) (result_err b) (result_err c)))
-    ((x : Inputs) × StandFor g x) (IsRefused g)
+    ((x : Accepted) × StandFor g x) (IsRefused g)
 runs g s stamp (Err f) sheet b books c batch = refused_sheet s f stamp sheet
 runs g s stamp (Ok plan) sheet (Err f) books c batch =
     refused_books s plan f stamp sheet (subst (Says g.books) books (says g.books))
@@ -59,7 +59,7 @@ runs g s stamp (Ok plan) sheet (Ok b) books (Ok c) batch = (
 pub found_runs : (g : Given) (s : Stamp) → stamp_for g.workers g.stamp ≡ Ok s
     → (a : Option SheetFault) (b : Option BooksFault) (c : Option BatchFault)
     → a ≡ result_err (sheet_of_text g.sheet) → b ≡ result_err (books_of g.books) → c ≡ result_err (batch_of g.batch)
-    → MatchOption (option_map told_as (first_fault a b c)) ((x : Inputs) × StandFor g x) (IsRefused g)
+    → MatchOption (option_map told_as (first_fault a b c)) ((x : Accepted) × StandFor g x) (IsRefused g)
 found_runs g s stamp a b c sheet books batch =
     rw (sheet, books, batch)
     (runs g s stamp (sheet_of_text g.sheet) refl (books_of g.books) refl (batch_of g.batch) refl)

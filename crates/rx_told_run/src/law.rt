@@ -1,6 +1,6 @@
 ghost use Rattle.std.specs.Prelude.{◌≡◌, Ok, MatchOption, option_copied};
 ghost use Rattle.rx_fields.specs.declared.stamp.Stamp.{Stamp};
-ghost use Rattle.rx_switch.specs.Output.{Given, Inputs, IsRefused, StandFor, stamp_for};
+ghost use Rattle.rx_switch.specs.Output.{Accepted, Given, IsRefused, StandFor, stamp_for};
 ghost use Rattle.rx_check.specs.Found.{IsFound};
 ghost use Rattle.rx_check.specs.declared.checking.Files.{Files};
 ghost use Rattle.rx_check.specs.declared.found.Found.{Found};
@@ -10,7 +10,7 @@ ghost use Rattle.rx_told_run.specs.Refusals.{AreAccepted, AreAmong, AreOf, IsRef
 /// number of workers; where none is found, they stand for something, and a run refuses none of them for what they say.
 pub fn first_fault_is_the_runs()
     ensures { (files : Files) → (found : Found) → (g : Given) → (s : Stamp) → IsFound files found → AreOf files g
-        → stamp_for g.workers g.stamp ≡ Ok s → MatchOption (refusal_of found) ((x : Inputs) × StandFor g x) (IsRefused g) }
+        → stamp_for g.workers g.stamp ≡ Ok s → MatchOption (refusal_of found) ((x : Accepted) × StandFor g x) (IsRefused g) }
 {}
 
 /// The same where books or batch file are left out: what is found of the inputs that are looked at holds of every run that

@@ -1,5 +1,6 @@
 -- How the front and the end of bytes go on as more are heard.
-use Rattle.std.proofs.Common.{◌≡◌, ◌+◌, ◌-◌, ◌≤◌, ℕ, suc, zero, List, [], ◌∷◌, ◌++◌, length, min, take, drop, refl, sym, ◌∙◌, ap, inl, inr, arith, Result, Ok, Err, true, false}
+use Rattle.std.proofs.Common.{◌≡◌, ◌+◌, ◌-◌, ◌≤◌, ℕ, suc, zero, List, [], ◌∷◌, ◌++◌, length, min, take, drop, refl, sym}
+use Rattle.std.proofs.Common.{◌∙◌, ap, inl, inr, arith, Result, Ok, Err, true, false}
 use Rattle.std.specs.Result.{IsOk, OnOk}
 use Rattle.std.proofs.lemmas.Bool.{cases_lt}
 use native.Mathlib.Numerals.{unary_clauses}

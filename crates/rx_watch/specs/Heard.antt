@@ -1,6 +1,8 @@
 -- Meaning: what was heard of a device.
 use Rattle.std.specs.Prelude.{◌≡◌, ℕ, ◌-◌, ◌==◌, List, ◌++◌, count_by, drop, length, take}
+use Rattle.std.specs.Prelude.{IfOk, IfSome, OnErr, Result, Some}
 use Rattle.sha2.specs.Hashers.{Holds256}
+use Rattle.rx_devices.specs.declared.fault.Failed.{Failed}
 use Rattle.rx_watch.specs.declared.heard.Heard.{Heard}
 use Rattle.rx_watch.specs.declared.heard.TheConstants.{KEPT}
 
@@ -17,6 +19,13 @@ pub record HasHeard (h : Heard) (bytes : List ℕ) : Type 0 where
 -- these bytes were heard after those before
 abbrev pub HearsOn : Heard → Heard → List ℕ → Type 0
 HearsOn before after piece = (bytes : List ℕ) → HasHeard before bytes → HasHeard after (bytes ++ piece)
+
+-- of a call that gives or takes so many bytes of a piece these are heard, and of one that fails nothing; the time of the
+-- first call stays once it is told
+pub record HearsCall (result : Result ℕ Failed) (before after : Heard) (piece : List ℕ) : Type 0 where
+  pub passed : IfOk result (λ count. HearsOn before after (take count piece))
+  pub failed : OnErr result (after ≡ before)
+  pub first : IfSome before.first (λ time. after.first ≡ Some time)
 
 -- how many of the bytes are this one
 abbrev pub count_of : ℕ → List ℕ → ℕ

@@ -4,7 +4,7 @@
 //! SHA-256, their front and their end, and the times of the first and the last call.
 //!
 //! ```rust
-//! let mut batch = WatchedSource::new(ReaderSource::new(file), &rt);
+//! let mut batch = Watched::new(ReaderSource::new(file), &rt);
 //! let text = rx_devices::read_all(alloc, &mut batch)?;
 //! let digest = batch.heard().digest()?;
 //! ```
@@ -15,7 +15,7 @@
 mod heard;
 mod sink;
 mod source;
+mod watched;
 
 pub use heard::Heard;
-pub use sink::WatchedSink;
-pub use source::WatchedSource;
+pub use watched::Watched;

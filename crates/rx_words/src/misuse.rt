@@ -1,27 +1,49 @@
 //! The faults that are found after `clap`'s, in its form: a text, and the usage of the subcommand.
 
 use crate::fault::WordsFault;
-use clap::Command as Line;
+use crate::options::text;
+use crate::syntax::{explain, report, run, verify};
 use clap::error::ErrorKind;
+use clap::{ArgMatches, Command as Line};
 use std::alloc::{AllocError, Global};
 
-/// The fault of a number of workers that `clap` lets through though it has a sign.
-pub(crate) fn signed(
+/// The fault of `run` whose number of workers `clap` lets through though it has a sign.
+pub(crate) fn run_signed(alloc: Global, found: &ArgMatches<'_>) -> WordsFault {
+    signed(alloc, run(alloc).line(), "rxbatch run", found)
+}
+
+/// The fault of `verify` with such a number.
+pub(crate) fn verify_signed(alloc: Global, found: &ArgMatches<'_>) -> WordsFault {
+    signed(alloc, verify(alloc).line(), "rxbatch verify", found)
+}
+
+/// The fault of `explain` that is asked after no thing or more than one.
+pub(crate) fn explain_conflict(alloc: Global) -> WordsFault {
+    let text =
+        "one of '--record <PLACE>', '--number <AUTHORIZATION>' and '--rx <REFERENCE>' is wanted, \
+                and '--provider <ID>' only with '--rx'";
+    conflict(explain(alloc).line(), "rxbatch explain", text)
+}
+
+/// The fault of `report` of more than one portion, or in more than one form.
+pub(crate) fn report_conflict(alloc: Global) -> WordsFault {
+    let text =
+        "at most one of '--provider <ID>' and '--family <ID>' is taken, and of '--tsv', '--json' and '--html'";
+    conflict(report(alloc).line(), "rxbatch report", text)
+}
+
+fn signed(
     alloc: Global,
     line: Result<Line<'_>, AllocError>,
     program: &str,
-    number: Option<&str>,
+    found: &ArgMatches<'_>,
 ) -> WordsFault {
-    let number = number.unwrap_or("");
+    let number = text(found, "workers").unwrap_or("");
     fault(told_signed(alloc, line, program, number))
 }
 
-/// The fault of options that exclude or want each other.
-pub(crate) fn conflict(
-    line: Result<Line<'_>, AllocError>,
-    program: &str,
-    text: &str,
-) -> WordsFault {
+// Of options that exclude or want each other.
+fn conflict(line: Result<Line<'_>, AllocError>, program: &str, text: &str) -> WordsFault {
     fault(told(line, program, ErrorKind::ArgumentConflict, text))
 }
 

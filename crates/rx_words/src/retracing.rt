@@ -1,17 +1,12 @@
 //! The words of the commands that retrace a run, read.
-ghost use Rattle.std.specs.Prelude.{◌≡◌, IfErr, IfNone, IfOk, IfSome};
+ghost use Rattle.std.specs.Prelude.{◌≡◌, IfNone, IfSome};
 ghost use Rattle.clap.specs.Words.{found_of, rows_of};
 ghost use Rattle.rx_words.specs.Asked.{HoldsAsked, HoldsExplain, HoldsPortion, HoldsReport, HoldsVerify, NoneHolds};
 ghost use Rattle.rx_words.specs.Asked.{form_in};
-ghost use Rattle.rx_words.specs.Faults.{IsWords};
 
-use crate::fault::WordsFault;
-use crate::misuse::{conflict, signed};
 use crate::options::{flag, inputs, number_or, outputs, text};
 use crate::retrace::{Asked, ExplainWords, Form, Portion, ReportWords, VerifyWords};
-use crate::syntax::{explain as explain_line, report as report_line, verify as verify_line};
 use clap::ArgMatches;
-use std::alloc::Global;
 
 fn asked<'a>(found: &ArgMatches<'a>) -> Option<Asked<'a>>
     ensures some { IfSome result (HoldsAsked (rows_of (found_of found.now))) }
@@ -32,7 +27,8 @@ fn asked<'a>(found: &ArgMatches<'a>) -> Option<Asked<'a>>
     }
 }
 
-fn explain<'a>(found: &ArgMatches<'a>) -> Option<ExplainWords<'a>>
+/// What `explain` is asked after, which is one thing.
+pub(crate) fn explain<'a>(found: &ArgMatches<'a>) -> Option<ExplainWords<'a>>
     ensures some { IfSome result (HoldsExplain (rows_of (found_of found.now))) }
     ensures none { IfNone result (NoneHolds (HoldsExplain (rows_of (found_of found.now)))) }
 {
@@ -46,25 +42,8 @@ fn explain<'a>(found: &ArgMatches<'a>) -> Option<ExplainWords<'a>>
     })
 }
 
-/// `explain` that is asked after one thing.
-pub(crate) fn explain_apart<'a>(
-    alloc: Global,
-    found: &ArgMatches<'a>,
-) -> Result<ExplainWords<'a>, WordsFault>
-    ensures ok { IfOk result (HoldsExplain (rows_of (found_of found.now))) }
-    ensures words { IfErr result (λ e. IsWords e → NoneHolds (HoldsExplain (rows_of (found_of found.now)))) }
-{
-    match explain(found) {
-        Some(explain) => Ok(explain),
-        None => Err(conflict(
-            explain_line(alloc).line(),
-            "rxbatch explain",
-            "one of '--record <PLACE>', '--number <AUTHORIZATION>' and '--rx <REFERENCE>' is wanted, and '--provider <ID>' only with '--rx'",
-        )),
-    }
-}
-
-fn verify<'a>(found: &ArgMatches<'a>) -> Option<VerifyWords<'a>>
+/// What `verify` takes, with its workers in digits alone.
+pub(crate) fn verify<'a>(found: &ArgMatches<'a>) -> Option<VerifyWords<'a>>
     ensures some { IfSome result (HoldsVerify (rows_of (found_of found.now))) }
     ensures none { IfNone result (NoneHolds (HoldsVerify (rows_of (found_of found.now)))) }
 {
@@ -80,25 +59,6 @@ fn verify<'a>(found: &ArgMatches<'a>) -> Option<VerifyWords<'a>>
         workers,
         plain,
     })
-}
-
-/// `verify` whose workers are digits alone.
-pub(crate) fn verify_apart<'a>(
-    alloc: Global,
-    found: &ArgMatches<'a>,
-) -> Result<VerifyWords<'a>, WordsFault>
-    ensures ok { IfOk result (HoldsVerify (rows_of (found_of found.now))) }
-    ensures words { IfErr result (λ e. IsWords e → NoneHolds (HoldsVerify (rows_of (found_of found.now)))) }
-{
-    match verify(found) {
-        Some(verify) => Ok(verify),
-        None => Err(signed(
-            alloc,
-            verify_line(alloc).line(),
-            "rxbatch verify",
-            text(found, "workers"),
-        )),
-    }
 }
 
 fn portion<'a>(found: &ArgMatches<'a>) -> Option<Portion<'a>>
@@ -125,7 +85,8 @@ fn form(found: &ArgMatches<'_>) -> Option<Form>
     }
 }
 
-fn report<'a>(found: &ArgMatches<'a>) -> Option<ReportWords<'a>>
+/// What `report` takes: one portion in one form.
+pub(crate) fn report<'a>(found: &ArgMatches<'a>) -> Option<ReportWords<'a>>
     ensures some { IfSome result (HoldsReport (rows_of (found_of found.now))) }
     ensures none { IfNone result (NoneHolds (HoldsReport (rows_of (found_of found.now)))) }
 {
@@ -137,22 +98,4 @@ fn report<'a>(found: &ArgMatches<'a>) -> Option<ReportWords<'a>>
         portion,
         form,
     })
-}
-
-/// `report` of one portion in one form.
-pub(crate) fn report_apart<'a>(
-    alloc: Global,
-    found: &ArgMatches<'a>,
-) -> Result<ReportWords<'a>, WordsFault>
-    ensures ok { IfOk result (HoldsReport (rows_of (found_of found.now))) }
-    ensures words { IfErr result (λ e. IsWords e → NoneHolds (HoldsReport (rows_of (found_of found.now)))) }
-{
-    match report(found) {
-        Some(report) => Ok(report),
-        None => Err(conflict(
-            report_line(alloc).line(),
-            "rxbatch report",
-            "at most one of '--provider <ID>' and '--family <ID>' is taken, and of '--tsv', '--json' and '--html'",
-        )),
-    }
 }

@@ -12,7 +12,21 @@ use clap::{Arg, ArgAction, Command as Line, value_parser};
 use std::alloc::{AllocError, Global};
 
 /// What `rxbatch --version` prints behind the program's name: the version, and the kit that proved it.
-pub const VERSION: &str = "0.1.0 (rattle-kit-13b logic dac8208d650f15bf)";
+pub const VERSION: &str = "0.1.0 (rattle-kit-13f logic dac8208d650f15bf)";
+
+// What is told of the outputs of a command that writes them.
+const WRITTEN: [&'static str; 3] = [
+    "Response file, to be written",
+    "End books, to be written",
+    "Settlement, to be written",
+];
+
+// And of one that compares them.
+const COMPARED: [&'static str; 3] = [
+    "Response file, to be compared",
+    "End books, to be compared",
+    "Settlement, to be compared",
+];
 
 /// The option `--name VALUE`.
 fn option<'a>(alloc: Global, name: &'a str, value: &'a str, help: &'a str) -> Arg<'a>
@@ -85,13 +99,22 @@ fn takes_inputs<'a>(alloc: Global, line: Draft<'a>) -> Draft<'a>
         .arg(file(alloc, "batch", "Batch file"))
 }
 
-/// A line with the three output files.
-fn takes_outputs<'a>(alloc: Global, line: Draft<'a>) -> Draft<'a>
+/// A line with the three output files, each with what is told of it.
+fn takes_outputs<'a>(alloc: Global, line: Draft<'a>, told: [&'a str; 3]) -> Draft<'a>
     ensures { (app : App) → Draws app line.entry → Draws (with_outputs app) result }
 {
-    line.arg(file(alloc, "response", "Response file, to be written"))
-        .arg(file(alloc, "books-out", "End books, to be written"))
-        .arg(file(alloc, "settlement", "Settlement, to be written"))
+    let [response, books, settlement] = told;
+    line.arg(file(alloc, "response", response))
+        .arg(file(alloc, "books-out", books))
+        .arg(file(alloc, "settlement", settlement))
+}
+
+/// A line with the input files and the output files.
+fn takes_files<'a>(alloc: Global, line: Draft<'a>, told: [&'a str; 3]) -> Draft<'a>
+    ensures { (app : App) → Draws app line.entry → Draws (with_outputs (with_inputs app)) result }
+{
+    let inputs = takes_inputs(alloc, line);
+    takes_outputs(alloc, inputs, told)
 }
 
 /// A line with the options of `run` that are no files.
@@ -131,8 +154,7 @@ pub(crate) fn run<'a>(alloc: Global) -> Draft<'a>
     ensures { Draws run_line result }
 {
     let run = draft(alloc, "run", "Adjudicates a batch file");
-    let inputs = takes_inputs(alloc, run);
-    let files = takes_outputs(alloc, inputs);
+    let files = takes_files(alloc, run, WRITTEN);
     let options = takes_run_options(alloc, files);
     takes_watch(alloc, options)
 }
@@ -222,18 +244,8 @@ pub(crate) fn verify<'a>(alloc: Global) -> Draft<'a>
     ensures { Draws verify_line result }
 {
     let verify = draft(alloc, "verify", "Compares outputs with those of the inputs");
-    let inputs = takes_inputs(alloc, verify);
-    let files = takes_compared(alloc, inputs);
+    let files = takes_files(alloc, verify, COMPARED);
     takes_verify_options(alloc, files)
-}
-
-/// A line with the three output files, of a command that compares them.
-fn takes_compared<'a>(alloc: Global, line: Draft<'a>) -> Draft<'a>
-    ensures { (app : App) → Draws app line.entry → Draws (with_outputs app) result }
-{
-    line.arg(file(alloc, "response", "Response file, to be compared"))
-        .arg(file(alloc, "books-out", "End books, to be compared"))
-        .arg(file(alloc, "settlement", "Settlement, to be compared"))
 }
 
 /// A line with the three forms of a report.

@@ -7,10 +7,10 @@ ghost use Rattle.rx_words.specs.Faults.{IsWords};
 
 use crate::asked::{CheckWords, Command, RunWords, ShowWords};
 use crate::fault::WordsFault;
-use crate::misuse::signed;
+use crate::misuse::{explain_conflict, report_conflict, run_signed, verify_signed};
 use crate::options::{flag, inputs, number, outputs, text};
-use crate::retracing::{explain_apart, report_apart, verify_apart};
-use crate::syntax::{line, run as run_line};
+use crate::retracing::{explain, report, verify};
+use crate::syntax::line;
 use clap::ArgMatches;
 use std::alloc::Global;
 use std::convert::AsStr;
@@ -65,12 +65,7 @@ fn run_apart<'a>(alloc: Global, found: &ArgMatches<'a>) -> Result<RunWords<'a>, 
     ensures words { IfErr result (λ e. IsWords e → NoneHolds (HoldsRunApart (rows_of (found_of found.now)))) }
 {
     let Some(run) = run(found) else {
-        return Err(signed(
-            alloc,
-            run_line(alloc).line(),
-            "rxbatch run",
-            text(found, "workers"),
-        ));
+        return Err(run_signed(alloc, found));
     };
     if run.names_one_twice() {
         return Err(WordsFault::Words(None));
@@ -98,9 +93,18 @@ fn named<'a>(alloc: Global, name: &str, found: &ArgMatches<'a>) -> Result<Comman
             Some(check) => Ok(Command::Check(check)),
             None => Err(WordsFault::Words(None)),
         },
-        "explain" => Ok(Command::Explain(explain_apart(alloc, found)?)),
-        "verify" => Ok(Command::Verify(verify_apart(alloc, found)?)),
-        "report" => Ok(Command::Report(report_apart(alloc, found)?)),
+        "explain" => match explain(found) {
+            Some(explain) => Ok(Command::Explain(explain)),
+            None => Err(explain_conflict(alloc)),
+        },
+        "verify" => match verify(found) {
+            Some(verify) => Ok(Command::Verify(verify)),
+            None => Err(verify_signed(alloc, found)),
+        },
+        "report" => match report(found) {
+            Some(report) => Ok(Command::Report(report)),
+            None => Err(report_conflict(alloc)),
+        },
         "replies" => match text(found, "response") {
             Some(response) => Ok(Command::Replies(response)),
             None => Err(WordsFault::Words(None)),

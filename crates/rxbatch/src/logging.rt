@@ -7,8 +7,8 @@ use crate::told_source::ToldSource;
 use rx_devices::WriterSink;
 use rx_log::{FileLog, RunLog, Steps};
 use rx_steps::Name;
-use rx_switch::run_io;
-use rx_watch::{Heard, WatchedSink};
+use rx_switch::{Inputs, Outputs, run_io};
+use rx_watch::{Heard, Watched};
 use rx_words::{RunWords, VERSION};
 use std::alloc::Global;
 use std::fs;
@@ -130,12 +130,16 @@ fn on_files<R: Threads + Wait + Sync>(
     let alloc = rt.alloc();
     let RunFiles { inputs, outputs } = files;
     let [response, books_out, settlement] = outputs.files();
-    let mut sheet = ToldSource::new(rt, &inputs.sheet, Name::Sheet, teller);
-    let mut books = ToldSource::new(rt, &inputs.books, Name::Books, teller);
-    let mut batch = ToldSource::new(rt, &inputs.batch, Name::Batch, teller);
-    let mut response = WatchedSink::new(WriterSink::new(response), rt);
-    let mut books_out = WatchedSink::new(WriterSink::new(books_out), rt);
-    let mut settlement = WatchedSink::new(WriterSink::new(settlement), rt);
+    let mut sources = Inputs {
+        sheet: ToldSource::new(rt, &inputs.sheet, Name::Sheet, teller),
+        books: ToldSource::new(rt, &inputs.books, Name::Books, teller),
+        batch: ToldSource::new(rt, &inputs.batch, Name::Batch, teller),
+    };
+    let mut sinks = Outputs {
+        response: Watched::new(WriterSink::new(response), rt),
+        end_books: Watched::new(WriterSink::new(books_out), rt),
+        settlement: Watched::new(WriterSink::new(settlement), rt),
+    };
     let done = run_io(
         threads,
         alloc,
@@ -143,20 +147,16 @@ fn on_files<R: Threads + Wait + Sync>(
         words.stamp.as_bytes(),
         words.workers,
         words.plain,
-        &mut sheet,
-        &mut books,
-        &mut batch,
-        &mut response,
-        &mut books_out,
-        &mut settlement,
+        &mut sources,
+        &mut sinks,
     );
     let heard = RunHeard {
-        sheet: sheet.into_heard(),
-        books: books.into_heard(),
-        batch: batch.into_heard(),
-        response: response.into_heard(),
-        books_out: books_out.into_heard(),
-        settlement: settlement.into_heard(),
+        sheet: sources.sheet.into_heard(),
+        books: sources.books.into_heard(),
+        batch: sources.batch.into_heard(),
+        response: sinks.response.into_heard(),
+        books_out: sinks.end_books.into_heard(),
+        settlement: sinks.settlement.into_heard(),
     };
     (outputs.end(rt, done.map_err(Ending::Io)), heard)
 }

@@ -1,12 +1,14 @@
+ghost use Rattle.rx_course.specs.Adjudicated.{IsAdjudicated};
+
 use crate::ending::Ending;
 use crate::printing::print;
 use crate::texts::InputTexts;
 use rx_account::{Groups, Portion, account_of, kept_lines};
 use rx_fields::Memory;
 use rx_report::tsv_text;
-use rx_report_page::report_page;
+use rx_report_page::{Whys, explained_page, shows_claims};
 use rx_report_text::{columns_text, json_text};
-use rx_retrace::{Report, job_report};
+use rx_retrace::{Report, job_report, whys_of};
 use rx_switch::{IoFault, SwitchFault};
 use rx_words::{Form, Portion as PortionWords, ReportWords};
 use std::alloc::Global;
@@ -44,7 +46,9 @@ fn report_text(
     portion: Portion<'_>,
     form: Form,
     report: &Report,
-) -> Result<Vec<u8>, Memory> {
+) -> Result<Vec<u8>, Memory>
+    requires { IsAdjudicated report.now.batch }
+{
     let kept = kept_lines(alloc, portion, &report.lines)?;
     let groups = Groups::new(alloc, &kept)?;
     let account = account_of(alloc, portion, &report.settled, &kept, &groups)?;
@@ -52,6 +56,13 @@ fn report_text(
         Form::Tsv => tsv_text(alloc, &kept),
         Form::Columns => columns_text(alloc, portion, &account),
         Form::Json => json_text(alloc, portion, &account),
-        Form::Html => report_page(alloc, report.lot, portion, &account),
+        Form::Html => {
+            let whys = if shows_claims(portion, &account) {
+                whys_of(alloc, &report.batch, &kept)?
+            } else {
+                Whys::new(alloc)
+            };
+            explained_page(alloc, report.batch.lot, portion, &account, &whys)
+        }
     }
 }

@@ -4,7 +4,7 @@ use crate::logging;
 use crate::nodes::one_file_twice;
 use crate::outputs::RunOutputs;
 use rx_devices::{ReaderSource, WriterSink};
-use rx_switch::run_io;
+use rx_switch::{Inputs, Outputs, run_io};
 use rx_wave::NoGate;
 use rx_words::RunWords;
 use std::sync::Wait;
@@ -67,6 +67,16 @@ fn on_files<R: Threads + Wait + Sync>(
     outputs: &RunOutputs,
 ) -> Result<(), Ending> {
     let [response, end_books, settlement] = outputs.files();
+    let mut sources = Inputs {
+        sheet: ReaderSource::new(&inputs.sheet),
+        books: ReaderSource::new(&inputs.books),
+        batch: ReaderSource::new(&inputs.batch),
+    };
+    let mut sinks = Outputs {
+        response: WriterSink::new(response),
+        end_books: WriterSink::new(end_books),
+        settlement: WriterSink::new(settlement),
+    };
     let done = run_io(
         threads,
         rt.alloc(),
@@ -74,12 +84,8 @@ fn on_files<R: Threads + Wait + Sync>(
         words.stamp.as_bytes(),
         words.workers,
         words.plain,
-        &mut ReaderSource::new(&inputs.sheet),
-        &mut ReaderSource::new(&inputs.books),
-        &mut ReaderSource::new(&inputs.batch),
-        &mut WriterSink::new(response),
-        &mut WriterSink::new(end_books),
-        &mut WriterSink::new(settlement),
+        &mut sources,
+        &mut sinks,
     );
     done.map_err(Ending::Io)
 }

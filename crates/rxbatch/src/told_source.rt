@@ -4,13 +4,13 @@ ghost use Rattle.std.specs.Prelude.{◌≡◌, false};
 use crate::telling::Teller;
 use rx_devices::{Failed, ReaderSource, Source};
 use rx_steps::Name;
-use rx_watch::{Heard, WatchedSource};
+use rx_watch::{Heard, Watched};
 use std::fs::File;
 
 /// An input of a run, whose step is told when its end is read.
 #[derive(Debug, Drop)]
 pub struct ToldSource<'a> {
-    source: WatchedSource<'a, ReaderSource<&'a File>, HostRuntime>,
+    source: Watched<'a, ReaderSource<&'a File>, HostRuntime>,
     name: Name,
     teller: &'a Teller<'a>,
 }
@@ -26,7 +26,7 @@ impl<'a> ToldSource<'a> {
         ensures { ⟦<ToldSource<'a> as Source>⟧.failed result ≡ false }
     {
         ToldSource {
-            source: WatchedSource::new(ReaderSource::new(file), rt),
+            source: Watched::new(ReaderSource::new(file), rt),
             name,
             teller,
         }
@@ -39,13 +39,13 @@ impl<'a> ToldSource<'a> {
 }
 
 impl<'a> Source for ToldSource<'a> {
-    ghost left = { λ s. ⟦<WatchedSource<'a, ReaderSource<&'a File>, HostRuntime> as Source>⟧.left s.source };
+    ghost left = { λ s. ⟦<Watched<'a, ReaderSource<&'a File>, HostRuntime> as Source>⟧.left s.source };
 
-    ghost failed = { λ s. ⟦<WatchedSource<'a, ReaderSource<&'a File>, HostRuntime> as Source>⟧.failed s.source };
+    ghost failed = { λ s. ⟦<Watched<'a, ReaderSource<&'a File>, HostRuntime> as Source>⟧.failed s.source };
 
-    ghost reads = { λ s. ⟦<WatchedSource<'a, ReaderSource<&'a File>, HostRuntime> as Source>⟧.reads s.source };
+    ghost reads = { λ s. ⟦<Watched<'a, ReaderSource<&'a File>, HostRuntime> as Source>⟧.reads s.source };
 
-    ghost cramped = { λ s. ⟦<WatchedSource<'a, ReaderSource<&'a File>, HostRuntime> as Source>⟧.cramped s.source };
+    ghost cramped = { λ s. ⟦<Watched<'a, ReaderSource<&'a File>, HostRuntime> as Source>⟧.cramped s.source };
 
     fn read(&mut self, buffer: &mut [u8]) -> Result<usize, Failed> {
         let count = self.source.read(buffer)?;

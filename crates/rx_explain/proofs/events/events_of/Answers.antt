@@ -1,6 +1,7 @@
 -- The next record and its reply.
 use Rattle.std.proofs.Common.{◌<◌, ◌∙◌, length, arith}
-use Rattle.rx_explain.proofs.Nexts.{events_next}
+use Rattle.rx_explain.specs.Traces.{event_of}
+use Rattle.rx_explain.proofs.Nexts.{of_batch_next}
 use Rattle.rx_explain.proofs.events.events_of.Goals as goal
 
 pub loop-before-preserved : goal.loop-before-preserved
@@ -9,7 +10,7 @@ loop-before-preserved c =
     let in_ts : at < length c.args.transmissions.now = omega arith in
     let in_rs : at < length c.args.replies.now = omega arith in
     rw c.in_ok-put_record.ensures
-    (events_next c.args.transmissions.now c.args.replies.now at c.index-transmissions-before.result
+    (of_batch_next event_of c.args.transmissions.now c.args.replies.now at c.index-transmissions-before.result
     c.index-replies-before.result in_ts in_rs c.index-transmissions-before.is c.index-replies-before.is
     c.loop-before.events.items)
     ∙ c.loop-before.invariant

@@ -26,3 +26,8 @@ pub returns-in_err-report-clause-refused : goal.returns-in_err-report-clause-ref
 returns-in_err-report-clause-refused g c =
     let p = err_from_is_err_and c.from_residual-in_err-report.result c.from_residual-in_err-report.ensures.1 in
     rw (p.1, p.2) memory
+
+pub returns-in_err-answered-clause-refused : goal.returns-in_err-answered-clause-refused
+returns-in_err-answered-clause-refused g c =
+    let p = err_from_is_err_and c.from_residual-in_err-answered.result c.from_residual-in_err-answered.ensures.1 in
+    rw (p.1, p.2) memory

@@ -1,0 +1,11 @@
+use Rattle.std.proofs.Common.{◌≡◌}
+use Rattle.rx_told.specs.Places.{books_place}
+use Rattle.rx_check.proofs.Reports.{tells}
+use Rattle.rx_check.proofs.reporting.books_line.Goals as goal
+
+pub returns-in_ok-books_words-in-Some-Some : goal.returns-in_ok-books_words-in-Some-Some
+returns-in_ok-books_words-in-Some-Some c =
+    let given = c.in-Some-Some in
+    let words = c.in_ok-books_words-in-Some-Some in
+    rw (given.is-0, given.is-1)
+    (tells (λ at. at ≡ books_place given.fault) c.args.name.now words.field-0 c.line_of.result words.ensures c.line_of.ensures)

@@ -1,0 +1,7 @@
+-- Lemmas of a batch that is gone through.
+pub mod Courses
+pub mod EachExplained
+pub mod Folded
+pub mod Items
+pub mod Listed
+pub mod Replied

@@ -1,0 +1,4 @@
+-- Plumbing: which files there are.
+pub mod Adjudicated
+pub mod Courses
+pub mod Records
