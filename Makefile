@@ -6,7 +6,7 @@ HELD = crates/rx_held/out/rx_held
 JOB = examples/first_job
 PREFIX = /usr/local
 DESTDIR =
-KIT = rattle-kit-13b
+KIT = rattle-kit-13f
 
 # Without the kit nothing can be built.
 kit:

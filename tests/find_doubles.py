@@ -3,10 +3,18 @@
 
     python3 tests/find_doubles.py [FOLDER] [--least N] [--most N] [--crate NAME]
 
-Read are crates/*/src and crates/*/specs below FOLDER. Blank lines, comments, imports and lines of brackets alone are
-passed over. Lines are equal, names aside, where one becomes the other by giving each name, number and text another one
-throughout; keywords stay. Six lines of fewer than four forms are a table, as a `match` of codes or a list of fields,
-and no double.
+Read are crates/*/src and crates/*/specs below FOLDER. Lines are equal, names aside, where one becomes the other by giving
+each name, number and text another one throughout; keywords stay. What the language or the formatter asks for is no line:
+
+- Blank lines, comments, imports, attributes and lines of brackets alone are passed over. So are an `impl`'s rows
+  `ghost NAME = { .. };`, which a trait asks for and which name the type's own definitions, and the heads of an equality
+  and of a `From`, which are the trait's for every type, with the equality's clause; what they do stays. So is a word of
+  `specs/` that only passes one of the same name on, as `Gives result meant = outcome.Gives wants_memory result meant`,
+  with its type: it is an import.
+- What the formatter broke is one line: the parameters of a head, the arguments of a call, the fields of a literal, a
+  `let .. else` that returns. How long the names are doesn't make a double. So is a text that goes over several lines.
+- Lines of one form that follow each other are a table, as the arms of a `match` of codes, a list of fields or the
+  equations of a number: they count as one line. Six lines of fewer than four forms are a table too, and no double.
 
 One line is printed for each double, the longest first: how many lines, and the places. The last line counts them; the
 exit status is 1 where there are any. --least asks for longer ones, --crate for those that touch a crate.
@@ -22,6 +30,13 @@ TOKEN = re.compile(r'b?"(?:\\.|[^"\\])*"|b?\'(?:\\.|[^\'\\])\'|[^\W\d][\w\'-]*|\
 WORD = re.compile(r"[^\W\d]")
 NUMBER_OR_TEXT = re.compile(r"\d|b?[\"']")
 IMPORT = re.compile(r"(pub )?(ghost )?(use|mod)\b|#!?\[")
+GHOST_ROW = re.compile(r"ghost [\w-]+ = \{")
+TRAIT = re.compile(r"impl(<.*>)? (Eq|PartialEq|From<.*>) for |fn (eq\(&self, |from\()"
+                   r"|ensures \{ IsTrue result ↔ \(self\.now ≡ other\.now\) \}$")
+PASSED_ON = re.compile(r"([\w-]+)( [^=]*)? = [\w-]+\.\1 ")
+# a line that opens a literal, and one of its fields
+LITERAL = re.compile(r"(?!.*\b(fn|impl|struct|enum|trait|match|if|for|while|loop|else|unsafe)\b)(?!.*=> \{$).*\w \{$")
+FIELD = re.compile(r"(\w+(: [^{}]*)?|\.\.[^{}]*),?$")
 KEYWORDS = set("""
     abbrev as break const continue data elim else ensures enum fn for ghost if impl in invariant let loop match mod move mut
     open pub record ref requires return self Self struct then trait type unfoldable unfolding use where while
@@ -30,17 +45,64 @@ KEYWORDS = set("""
 FORMS = 4
 
 
+def texts_of(path):
+    """The lines of a file without comments, each as (its number, how far in it stands, its text)."""
+    comment = re.compile(r"//.*$" if path.suffix == ".rt" else r"-- .*$|--$")
+    texts = [comment.sub("", line).rstrip() for line in path.read_text().splitlines()]
+    return [(number, len(text) - len(text.lstrip()), text.strip()) for number, text in enumerate(texts, 1)]
+
+
+def joined(texts, at):
+    """How many lines the formatter broke the one at this place into, and their text."""
+    _, indent, text = texts[at]
+    if text.endswith("\\"):
+        many, rest = joined(texts, at + 1)
+        return 1 + many, text + rest
+    if text.startswith("let ") and text.endswith(" else {") and texts[at + 2][2] == "};":
+        return 3, f"{text} {texts[at + 1][2]} }};"
+    is_broken = (lambda inner: not re.search(r"[{};]$", inner)) if text.endswith("(") else FIELD.match
+    if not (text.endswith("(") or LITERAL.match(text)):
+        return 1, text
+    for end in range(at + 1, len(texts)):
+        _, inner_indent, inner = texts[end]
+        if inner and inner_indent <= indent:
+            return end + 1 - at, " ".join(line for _, _, line in texts[at:end + 1])
+        if inner and not is_broken(inner):
+            break
+    return 1, text
+
+
+def rows_of(path):
+    """The lines of a file as they were before the formatter broke them, each as (its number, its text)."""
+    texts, at = texts_of(path), 0
+    while at < len(texts):
+        many, text = joined(texts, at) if path.suffix == ".rt" else (1, texts[at][2])
+        yield texts[at][0], text
+        at += many
+
+
 def lines_of(path):
     """The lines of a file that count, each as (its number, its tokens)."""
-    found, in_import = [], False
-    for number, line in enumerate(path.read_text().splitlines(), 1):
-        text = re.sub(r"//.*$" if path.suffix == ".rt" else r"-- .*$|--$", "", line).strip()
+    found, in_import, form = [], False, ""
+    for number, text in rows_of(path):
         if in_import or IMPORT.match(text):
             in_import = "{" in text and "}" not in text or in_import and "}" not in text
             continue
+        if GHOST_ROW.match(text) or TRAIT.match(text):
+            continue
+        if path.suffix == ".antt" and (word := PASSED_ON.match(text)):
+            if found and found[-1][1][:3] == ["abbrev", "pub", word[1]]:
+                found.pop()
+            form = ""
+            continue
         tokens = TOKEN.findall(text)
-        if any(WORD.match(token) or NUMBER_OR_TEXT.match(token) for token in tokens):
+        if not any(WORD.match(token) or NUMBER_OR_TEXT.match(token) for token in tokens):
+            continue
+        if found and form_of(tokens) == form:
+            found[-1][1].extend(tokens)
+        else:
             found.append((number, tokens))
+        form = form_of(tokens)
     return found
 
 

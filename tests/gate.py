@@ -1,16 +1,21 @@
 #!/usr/bin/env python3
 """The gate's proofs, edits and programs: `rt ci`, with the must-fail edits of the crates that aren't as they were.
 
-An edit of a crate is refused or not by the texts of the crate, of the crates below it, and by the kit, and by nothing else.
-So where all of these are as they were when each edit of the crate was last seen refused, trying them again can show nothing
-new: these crates' edits are set aside while `rt ci` runs, and all others are tried. `edits_seen.txt` has a line for each
-crate: its name, and the digest of these texts, without comments and tests, however their lines are laid out.
+Whether an edit of a crate means something else than its contracts say is decided by the texts of the crate, and by what the
+crates below it state: their definitions (`specs/`), their types, and the signatures and clauses of their functions. How these
+functions do it, and how that was proved, decides nothing. So where all of this and the kit's logic are as they were when each
+edit of the crate was last seen refused, trying them again can show nothing new: these crates' edits are set aside while `rt ci`
+runs, and all others are tried. `edits_seen.txt` has a line for each crate: its name, and the digest of these texts, without
+comments and tests, however their lines are laid out.
 
     gate.py            the gate
     gate.py --all      the gate with the edits of all crates
     gate.py --list     which crates' edits the gate would try
     gate.py --see [NAME..]   tries the edits of these crates (none named: of those that the gate would try), and writes down
                        those of which each was refused
+    gate.py --note     writes down all crates' edits, after a gate that passed on these very texts and tried them all
+
+The proofs, tests and programs come first. Edits are tried then for as long as GATE_MINUTES (135) since the start aren't over.
 """
 
 import argparse
@@ -18,13 +23,19 @@ import hashlib
 import os
 import re
 import shutil
+import signal
 import subprocess
 import sys
+import tempfile
+import time
 
 TOP = os.path.dirname(os.path.dirname(os.path.abspath(__file__)))
 SEEN = f"{TOP}/tests/edits_seen.txt"
 ASIDE = f"{TOP}/out/edits-aside"
-PARTS = ("src", "specs", "proofs")
+OWN = ("src", "specs", "proofs", "must-fail")
+STATED = ("src", "specs")
+# how long the gate may take before it begins no further edit
+MINUTES = 135
 
 
 def crates_below(top):
@@ -64,6 +75,25 @@ def words_of(lines):
     return re.sub(names, lambda it: " ".join(f"{it[1]}.{name}" for name in it[2].split(", ")), text)
 
 
+def stated(lines):
+    """The lines of a source file without the bodies of its functions, by the layout of `rt fmt`: a body ends at the first `}`
+    that stands where its `fn` does."""
+    within, body_begins, body_ends = False, None, None
+    for line in lines:
+        indent = line[: len(line) - len(line.lstrip())]
+        if body_ends is not None:
+            body_ends = None if line == body_ends else body_ends
+            continue
+        if re.match(r"\s*(pub(\([a-z]+\))? )?(const )?(unsafe )?fn ", line):
+            within, body_begins = True, indent
+        yield line
+        if within and indent == body_begins:
+            if line.endswith("{") and not re.search(r"\b(requires|ensures)\b", line):
+                within, body_ends = False, f"{indent}}}"
+            elif line.endswith(("}", ";")) and not line.lstrip().startswith(("requires", "ensures")):
+                within = False
+
+
 def texts_of(top, crate, parts):
     """The crate's files in these folders, by their paths in it, each with what it says."""
     for part in parts:
@@ -74,12 +104,15 @@ def texts_of(top, crate, parts):
                     yield path, said(open(f"{at}/{name}", encoding="utf-8").read())
 
 
-def digest(top, crate, below, kit):
+def digest(top, crate, below, logic):
     """A number of all that decides whether the crate's edits are refused."""
-    found = hashlib.sha256(kit.encode())
-    for name in [crate, *sorted(below)]:
-        for path, lines in texts_of(top, name, (*PARTS, "must-fail") if name == crate else PARTS):
-            words = "\n".join(lines) if path.endswith(".edit") else words_of(lines)
+    found = hashlib.sha256(logic.encode())
+    for path, lines in texts_of(top, crate, OWN):
+        words = "\n".join(lines) if path.endswith(".edit") else words_of(lines)
+        found.update(f"\0{path}\n{words}".encode())
+    for name in sorted(below):
+        for path, lines in texts_of(top, name, STATED):
+            words = words_of(stated(lines) if path.endswith(".rt") else lines)
             found.update(f"\0{name}/{path}\n{words}".encode())
     return found.hexdigest()[:32]
 
@@ -92,9 +125,10 @@ def edited(top):
 
 def digests(top):
     """The digest of each crate that has edits."""
-    kit = subprocess.run(["rt", "version"], capture_output=True, text=True, check=True).stdout.strip()
+    version = subprocess.run(["rt", "version"], capture_output=True, text=True, check=True).stdout
+    logic = version.split()[-1]
     below = crates_below(top)
-    return {it: digest(top, it, below[it], kit) for it in edited(top)}
+    return {it: digest(top, it, below[it], logic) for it in edited(top)}
 
 
 def read_seen():
@@ -119,19 +153,52 @@ def put_back():
     shutil.rmtree(ASIDE, ignore_errors=True)
 
 
+def rt_ci(at, seconds=None):
+    """`rt ci` over the repository that stands there, with a check on each processor: its status, or None where it took longer."""
+    jobs = os.environ.get("RT_JOBS") or str(len(os.sched_getaffinity(0)))
+    run = subprocess.Popen(["rt", "ci"], cwd=at, env={**os.environ, "RT_JOBS": jobs}, start_new_session=True)
+    try:
+        return run.wait(seconds)
+    except BaseException as stopped:
+        os.killpg(run.pid, signal.SIGKILL)
+        run.wait()
+        if isinstance(stopped, subprocess.TimeoutExpired):
+            return None
+        raise
+
+
+def copied(to, changed):
+    """A copy of the crates, where only those that changed have their edits."""
+    left_out = lambda at, names: [it for it in names if it == "out" or it == "must-fail" and os.path.basename(at) not in changed]
+    shutil.copytree(f"{TOP}/crates", f"{to}/crates", ignore=left_out, symlinks=True)
+    for name in ("crates.txt", "HANDLES"):
+        shutil.copyfile(f"{TOP}/{name}", f"{to}/{name}")
+
+
 def gate(now, changed):
-    """Runs `rt ci` while the edits of the crates that didn't change are set aside, a check on each processor."""
+    """Runs `rt ci` without edits, and then, over what that has proved, with those of the crates that changed, for as long as there
+    is time: in a copy, so that what was built here stays whatever becomes of it."""
+    end = time.monotonic() + 60 * float(os.environ.get("GATE_MINUTES") or MINUTES)
     same = [it for it in now if it not in changed]
     print(f"gate: the edits of {len(changed)} crates are tried: {' '.join(changed) or 'none'}")
     print(f"gate: those of {len(same)} were each seen refused on these very texts (tests/edits_seen.txt): {' '.join(same) or 'none'}", flush=True)
     os.makedirs(ASIDE)
     try:
-        for crate in same:
+        for crate in now:
             os.rename(f"{TOP}/crates/{crate}/must-fail", f"{ASIDE}/{crate}")
-        jobs = os.environ.get("RT_JOBS") or str(len(os.sched_getaffinity(0)))
-        return subprocess.run(["rt", "ci"], cwd=TOP, env={**os.environ, "RT_JOBS": jobs}).returncode
+        status = rt_ci(TOP)
     finally:
         put_back()
+    left = end - time.monotonic()
+    if status or not changed:
+        return status
+    if left > 0:
+        with tempfile.TemporaryDirectory(prefix="gate-edits-") as room:
+            copied(room, changed)
+            status = rt_ci(room, left)
+    if left <= 0 or status is None:
+        print("gate: the time for edits is over, and not all of these were tried: the next gate here goes on with them", flush=True)
+    return status or 0
 
 
 def see(now, names):
@@ -148,12 +215,16 @@ def main():
     words.add_argument("--all", action="store_true", help="with the edits of all crates")
     words.add_argument("--list", action="store_true", help="say which crates' edits would be tried")
     words.add_argument("--see", nargs="*", metavar="NAME", help="try the edits of these crates, and write down that they were refused")
+    words.add_argument("--note", action="store_true", help="write down that all edits were refused, as a gate that passed has shown")
     given = words.parse_args()
     put_back()
     now, seen = digests(TOP), read_seen()
     changed = [it for it in now if given.all or seen.get(it) != now[it]]
     if given.list:
         print("\n".join(changed))
+        return 0
+    if given.note:
+        write_seen(now)
         return 0
     if given.see is not None:
         return see(now, given.see or changed)

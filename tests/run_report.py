@@ -11,6 +11,8 @@ with marks of HTML, JSON and terminals, and more lines than a page shows. Of eac
 - counts and net, summed over the lines of the table, have to be the settlement's, and so has what the columns, the JSON
   and the page say; with `--provider` its line alone, with `--family` the sums of the lines that name it;
 - the page may hold the elements and attributes that it is made of and no others, each closed, and nothing from outside;
+  each claim on it unfolds to the lines that `explain` prints of its place, and where the job has a file in tests/explain,
+  those lines have the answer, the number and the amounts that another program gives;
 - no form may hold a byte that isn't printable, but line feeds and the table's tabs;
 - `show --tsv` has to say what `show` says, and of a billing the amounts of its request;
 - a refused input has to be refused as by `run`.
@@ -37,6 +39,8 @@ SHOWN = "record nth kind provider prescription date family person product quanti
 HEADINGS = "record ans codes rx date member allowed deduct. copay coins. member pays plan pays"
 INPUTS = ["--sheet", "sheet.toml", "--books", "books.txt", "--batch", "batch.bin"]
 MOST_LINES = 2000
+ANSWERS = {"paid": "PAID", "duplicate": "DUPLICATE", "taken back": "TAKEN BACK", "refused": "REFUSED",
+           "header rejected": "HEADER REJECTED"}
 
 
 class Differs(Exception):
@@ -202,7 +206,7 @@ class Page(html.parser.HTMLParser):
     """The cells of the table of providers and the texts of the claims of a page that is made as it has to be."""
     LONE = {"meta"}
     KNOWN = set("html head meta title style body header main h1 h2 p table thead tbody tfoot tr th td i a span section "
-                "div b details summary dl dt dd code pre".split())
+                "div b details summary dl dt dd pre".split())
     ATTRIBUTES = set("lang charset http-equiv content name scope class style href id".split())
 
     def __init__(self):
@@ -223,7 +227,7 @@ class Page(html.parser.HTMLParser):
             self.rows[-1].append("")
         if tag == "details":
             self.claims.append([])
-        if tag in ("span", "dt", "dd") and self.claims:
+        if tag in ("span", "dt", "dd", "pre") and self.claims:
             self.claims[-1].append("")
         if tag not in self.LONE:
             self.open.append(tag)
@@ -235,13 +239,13 @@ class Page(html.parser.HTMLParser):
         inside = self.open[-1] if self.open else ""
         if inside in ("th", "td", "a"):
             self.rows[-1][-1] += data
-        elif inside in ("span", "dt", "dd", "code") and self.claims:
+        elif inside in ("span", "dt", "dd", "pre") and self.claims:
             self.claims[-1][-1] += data
         elif inside == "style":
             want([word for word in ("url", "@import", "expression", "//") if word in data], [], "parts from outside")
 
 
-def check_page(text, rows, lines, whole):
+def check_page(text, rows, lines, whole, whys):
     page = Page()
     page.feed(text)
     page.close()
@@ -259,6 +263,7 @@ def check_page(text, rows, lines, whole):
     want(len(page.claims), len(wanted), "claims on the page")
     for claim, row in zip(page.claims, wanted):
         check_claim(claim, row)
+        whys.check(claim[-1], claim[0])
 
 
 WORD = {"P": "paid", "D": "duplicate", "A": "reversed", "R": "rejected "}
@@ -278,19 +283,57 @@ def check_claim(claim, row):
         wanted += ["Given back", amounts[5]]
     else:
         wanted += ["Reject codes", row["codes"]]
-    wanted += ["Why", f"rxbatch explain --sheet F --books F --batch F --record {record}"]
-    want(claim, wanted, "a claim on the page")
+    want(claim[:-1], wanted, "a claim on the page")
 
 
 # ---------------------------------------------------------------- a job
 
-def check_portion(program, folder, rows, lines, words, scope, only):
+class Whys:
+    """What `explain` prints of a job's answers; of a job of many records of some of them."""
+    MOST_RECORDS = 60
+
+    def __init__(self, program, folder, told):
+        self.program, self.folder, self.told, self.records = program, folder, told, {}
+
+    def blocks(self, place):
+        """The explanations of a record, each from its line that isn't set in."""
+        if place not in self.records:
+            text = self.program.text(self.folder, "explain", *INPUTS, "--record", place)
+            self.records[place] = re.findall(r"(?m)^record .*\n(?:  .*\n)*", text)
+            want("".join(self.records[place]), text, "what explain prints")
+        return self.records[place]
+
+    def check(self, found, record):
+        """A claim's lines on the page, against those of `explain` and against the other program's explanation."""
+        place, nth = record.split(".")
+        want(found[:len("record ")], "record ", "why a claim was answered so")
+        if place in self.records or len(self.records) < self.MOST_RECORDS:
+            blocks = self.blocks(place)
+            want(found, blocks[int(nth) - 1] if len(blocks) > 1 else blocks[0], f"why of {record}")
+        for told in self.told:
+            if told["place"] == int(place) and told.get("nth", int(nth)) == int(nth) and "answer" in told:
+                check_told(found, told)
+
+
+def check_told(text, told):
+    """Answer, number and amounts of an explanation that another program made."""
+    first = text.split("\n")[0]
+    record = str(told["place"]) + (f".{told['nth']}" if "nth" in told else "")
+    want(first.startswith(f"record {record}  {ANSWERS[told['answer']]}"), True, f"the answer in {first}")
+    want(told.get("number", "") in first, True, f"the number in {first}")
+    if told["answer"] == "paid":
+        for label, name in (("member pays F5", "patient_pay"), ("plan pays F9", "total_paid")):
+            found = re.search(rf"(?m)^  {label} +(\S+)$", text)
+            want(found and found[1], "$" + dollars(told[name]), label)
+
+
+def check_portion(program, folder, rows, lines, words, scope, only, whys):
     """The four forms of the report of these lines."""
     report = ["report", *INPUTS, *words]
     want(table(program.text(folder, *report, "--tsv"), COLUMNS), rows, "the table")
     check_json(program.text(folder, *report, "--json"), rows, lines, only)
     check_columns(program.text(folder, *report), rows, lines, scope)
-    check_page(program.text(folder, *report, "--html"), rows, lines, not words)
+    check_page(program.text(folder, *report, "--html"), rows, lines, not words, whys)
 
 
 def with_members(rows, shown):
@@ -301,7 +344,7 @@ def with_members(rows, shown):
     return rows
 
 
-def check_accepted(program, folder):
+def check_accepted(program, folder, told):
     with open(os.path.join(folder, "response.bin"), "rb") as file:
         response = file.read()
     with open(os.path.join(folder, "settlement.txt"), encoding="ascii") as file:
@@ -309,19 +352,20 @@ def check_accepted(program, folder):
     rows = with_members(answers(response), check_shown(program, folder))
     groups = by_provider(rows)
     want([(name, *sums(group)) for name, group in groups.items()] + [(None, *sums(rows))], settlement, "the sums")
-    check_portion(program, folder, rows, settlement, [], "all", {})
+    whys = Whys(program, folder, told)
+    check_portion(program, folder, rows, settlement, [], "all", {}, whys)
     some = 4 if len(rows) < 500 else 1
     for name in [*list(groups)[:some], "no such id"]:
         line = [line for line in settlement if line[0] == name]
         total = (None, *(line[0][1:] if line else (0, 0, 0, 0, 0)))
         check_portion(program, folder, groups.get(name, []), line + [total], ["--provider", name],
-                      f"all of provider {terminal(name)}", {"only_provider": name})
+                      f"all of provider {terminal(name)}", {"only_provider": name}, whys)
     families = list(dict.fromkeys(row["family"] for row in rows if row["family"]))
     for name in [*families[:some], "no such id"]:
         kept = [row for row in rows if row["family"] == name]
         lines = [(provider, *sums(group)) for provider, group in by_provider(kept).items()] + [(None, *sums(kept))]
         check_portion(program, folder, kept, lines, ["--family", name],
-                      f"the lines shown, of family {terminal(name)}", {"only_family": name})
+                      f"the lines shown, of family {terminal(name)}", {"only_family": name}, whys)
 
 
 def check_shown(program, folder):
@@ -358,15 +402,27 @@ def check_job(program, source):
                 new.write(old.read())
         with open(os.path.join(source, "stamp"), encoding="utf-8") as file:
             stamp = file.read().strip()
-        return check_copied(program, folder, stamp)
+        return check_copied(program, folder, stamp, explanations_of(source))
 
 
-def check_copied(program, folder, stamp):
+def explanations_of(source):
+    """Those that another program made of the job, where there are any."""
+    name = os.path.relpath(source, os.path.join(HERE, "cases"))
+    if os.path.basename(source) == "first_job":
+        name = "first_job"
+    path = os.path.join(HERE, "explain", name.replace(os.sep, "--") + ".json")
+    if not os.path.exists(path):
+        return []
+    with open(path, encoding="utf-8") as file:
+        return [json.loads(line) for line in file]
+
+
+def check_copied(program, folder, stamp, told):
     """False where the job is refused for its stamp alone, of which a report knows nothing."""
     outputs = ["--response", "response.bin", "--books-out", "books-out.txt", "--settlement", "settlement.txt"]
     status, _, err = program.answer(folder, "run", *INPUTS, "--stamp", stamp, "--workers", "1", *outputs)
     if status == 0:
-        check_accepted(program, folder)
+        check_accepted(program, folder, told)
     elif re.match(rb"refused [345] ", err):
         for form in ([], ["--tsv"], ["--json"], ["--html"]):
             want(program.answer(folder, "report", *INPUTS, *form), (1, b"", err), "a refused report")
