@@ -1,11 +1,13 @@
 #!/usr/bin/env python3
 """Times `run` on the inputs that make_job.py wrote, and prints a table.
 
-    bench/time_run.py PROGRAM DIR [--workers LIST] [--rounds R] [--plain]
+    bench/time_run.py PROGRAM DIR [--workers LIST] [--rounds R] [--plain] [--retraced]
 
 PROGRAM is a path or a command line. For each number of workers it runs R rounds and prints the best and the middle of
 their times, the processor time of the best and its records a second; with `--plain` it times `--plain` too. Every run
-has to end with status 0 and to write the bytes that the first one wrote.
+has to end with status 0 and to write the bytes that the first one wrote. With `--retraced` it then times, in turn, `run`
+with one worker, `explain` of the first, the middle and the last record, `verify` with one worker, and `cat` of the three
+outputs, which `verify` reads beside the inputs.
 """
 
 import argparse
@@ -29,24 +31,54 @@ def processor_seconds():
     return used.ru_utime + used.ru_stime
 
 
-def one_run(program, folder, into, number, plain):
-    """Seconds by the clock, seconds of processor time, and a digest of what was written."""
+def stamp_of(folder):
     with open(os.path.join(folder, "stamp"), encoding="ascii") as file:
-        stamp = file.read()
-    words = ["run", "--stamp", stamp, "--workers", str(number)] + ["--plain"] * plain
-    for files, place in ((INPUTS, folder), (OUTPUTS, into)):
-        for option, name in files.items():
-            words += [option, os.path.join(place, name)]
+        return file.read()
+
+
+def paths(files, place):
+    """The options of files in a folder, each with its path."""
+    return [word for option, name in files.items() for word in (option, os.path.join(place, name))]
+
+
+def timed(words):
+    """Seconds by the clock and seconds of processor time that a command takes, which has to end with status 0."""
     used, begun = processor_seconds(), time.perf_counter()
-    ended = subprocess.run(program + words, stdin=subprocess.DEVNULL, capture_output=True)
+    ended = subprocess.run(words, stdin=subprocess.DEVNULL, capture_output=True)
     seconds, used = time.perf_counter() - begun, processor_seconds() - used
     if ended.returncode != 0:
         sys.exit(f"status {ended.returncode}: {ended.stderr.decode(errors='replace').strip()}")
+    return seconds, used
+
+
+def one_run(program, folder, into, number, plain):
+    """Seconds by the clock, seconds of processor time, and a digest of what was written."""
+    words = ["run", "--stamp", stamp_of(folder), "--workers", str(number)] + ["--plain"] * plain
+    seconds, used = timed(program + words + paths(INPUTS, folder) + paths(OUTPUTS, into))
     digest = hashlib.sha256()
     for name in OUTPUTS.values():
         with open(os.path.join(into, name), "rb") as file:
             digest.update(file.read())
     return seconds, used, digest.hexdigest()
+
+
+def retraced(program, folder, into, records, rounds):
+    """Times what replays a batch beside the run itself, in turn, and prints a line for each."""
+    inputs, outputs = paths(INPUTS, folder), paths(OUTPUTS, into)
+    stamp = ["--stamp", stamp_of(folder), "--workers", "1"]
+    commands = {"`run`, 1 worker": program + ["run"] + stamp + inputs + outputs}
+    for name, place in (("first", 1), ("middle", (records + 1) // 2), ("last", records)):
+        commands[f"`explain`, {name} record"] = program + ["explain", "--record", str(place)] + inputs
+    commands["`verify`, 1 worker"] = program + ["verify"] + stamp + inputs + outputs
+    commands["outputs read"] = ["cat"] + outputs[1::2]
+    times = {name: [] for name in commands}
+    for _ in range(rounds):
+        for name, words in commands.items():
+            times[name].append(timed(words))
+    print("\n| Command | Best | Middle | Processor time |\n|---|---|---|---|")
+    for name, found in times.items():
+        middle = statistics.median(seconds for seconds, _ in found)
+        print(f"| {name} | {min(found)[0]:.3f} s | {middle:.3f} s | {min(found)[1]:.3f} s |")
 
 
 def main(words):
@@ -56,6 +88,7 @@ def main(words):
     parser.add_argument("--workers", default="1,2,4", help="numbers of workers; default: 1,2,4")
     parser.add_argument("--rounds", type=int, default=3)
     parser.add_argument("--plain", action="store_true", help="time --plain with one worker too")
+    parser.add_argument("--retraced", action="store_true", help="time explain and verify beside run, too")
     options = parser.parse_args(words)
     program = [os.path.abspath(word) if os.path.exists(word) else word for word in shlex.split(options.program)]
     with open(os.path.join(options.folder, "batch.bin"), "rb") as file:
@@ -73,6 +106,8 @@ def main(words):
             middle = statistics.median(seconds for seconds, _, _ in rounds)
             print(f"| {number}{', plain' * plain} | {best[0]:.3f} s | {middle:.3f} s | {best[1]:.3f} s "
                   f"| {records / best[0]:,.0f} |", flush=True)
+        if options.retraced:
+            retraced(program, options.folder, into, records, options.rounds)
 
 
 if __name__ == "__main__":
