@@ -224,7 +224,7 @@ impl Parcel {
     }
 
     /// An equal parcel.
-    #[inline]
+    #[inline(always)]
     pub fn copy(&self, alloc: Global) -> Result<Parcel, Memory>
         ensures { IfOk result (λ parcel. parcel ≡ self.now) }
     {
