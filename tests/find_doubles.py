@@ -11,6 +11,8 @@ each name, number and text another one throughout; keywords stay. What the langu
   and of a `From`, which are the trait's for every type, with the equality's clause; what they do stays. So is a word of
   `specs/` that only passes one of the same name on, as `Gives result meant = outcome.Gives wants_memory result meant`,
   with its type: it is an import.
+- What a type holds and lends is said by names alone, and no line: the declaration of a `struct` or an `enum`, the head of an
+  `impl`, and a getter, which is a function whose body is `self.NAME` or the slice of it.
 - What the formatter broke is one line: the parameters of a head, the arguments of a call, the fields of a literal, a
   `let .. else` that returns. How long the names are doesn't make a double. So is a text that goes over several lines.
 - Lines of one form that follow each other are a table, as the arms of a `match` of codes, a list of fields or the
@@ -33,6 +35,11 @@ IMPORT = re.compile(r"(pub )?(ghost )?(use|mod)\b|#!?\[")
 GHOST_ROW = re.compile(r"ghost [\w-]+ = \{")
 TRAIT = re.compile(r"impl(<.*>)? (Eq|PartialEq|From<.*>) for |fn (eq\(&self, |from\()"
                    r"|ensures \{ IsTrue result ↔ \(self\.now ≡ other\.now\) \}$")
+# the first row of a type's declaration, an impl's head, a function's head, and what a getter lends
+DECLARED = re.compile(r"(pub(\(\w+\))? )?(struct|enum) .*\{$")
+IMPL = re.compile(r"impl\b.*\{$")
+FUNCTION = re.compile(r"(pub(\(\w+\))? )?fn ")
+LENT = re.compile(r"self\.\w+(\.as_slice\(\))?$")
 PASSED_ON = re.compile(r"([\w-]+)( [^=]*)? = [\w-]+\.\1 ")
 # a line that opens a literal, and one of its fields
 LITERAL = re.compile(r"(?!.*\b(fn|impl|struct|enum|trait|match|if|for|while|loop|else|unsafe)\b)(?!.*=> \{$).*\w \{$")
@@ -81,10 +88,32 @@ def rows_of(path):
         at += many
 
 
+def ends_of(rows, at, text):
+    """The place behind the next row that is this text."""
+    return next((end + 1 for end in range(at, len(rows)) if rows[end][1] == text), len(rows))
+
+
+def told_rows(path):
+    """The rows of a file without what a type holds and lends."""
+    rows, at = list(rows_of(path)), 0
+    while at < len(rows):
+        text = rows[at][1]
+        if DECLARED.match(text):
+            at = ends_of(rows, at, "}")
+            continue
+        body = ends_of(rows, at, "{") if FUNCTION.match(text) and not text.endswith("{") else len(rows)
+        if body + 1 < len(rows) and LENT.match(rows[body][1]) and rows[body + 1][1] == "}":
+            at = body + 2
+            continue
+        if not IMPL.match(text):
+            yield rows[at]
+        at += 1
+
+
 def lines_of(path):
     """The lines of a file that count, each as (its number, its tokens)."""
     found, in_import, form = [], False, ""
-    for number, text in rows_of(path):
+    for number, text in told_rows(path) if path.suffix == ".rt" else rows_of(path):
         if in_import or IMPORT.match(text):
             in_import = "{" in text and "}" not in text or in_import and "}" not in text
             continue

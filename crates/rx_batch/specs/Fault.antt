@@ -1,6 +1,5 @@
 -- Meaning: the numbers and places of the faults, and what a call answers that may want memory.
 use Rattle.std.specs.Prelude.{ℕ, Bool, true, false, Option, Some, None, Result}
-use Rattle.rx_text.specs.Outcomes.{Unless}
 use Rattle.rx_text.specs.Outcomes as outcome
 use Rattle.rx_batch.specs.declared.fault.BatchFault.{BatchFault}
 use Rattle.rx_batch.specs.declared.fault.BatchFault.TheVariants as fault
@@ -44,7 +43,7 @@ wants_memory other = false
 
 -- the fact, unless the fault is want of memory
 abbrev pub UnlessMemory : BatchFault → Type 0 → Type 0
-UnlessMemory f P = Unless (wants_memory f) P
+UnlessMemory f P = outcome.UnlessMemory wants_memory f P
 
 -- what a call answered is what the definition has, unless memory was wanting
 abbrev pub Gives : {X : Type 0} → Result X BatchFault → Result X BatchFault → Type 0

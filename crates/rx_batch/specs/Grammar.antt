@@ -12,12 +12,13 @@ use Rattle.rx_batch.specs.declared.front.Stage.{Stage}
 use Rattle.rx_batch.specs.declared.front.Stage.TheVariants.{Start, Headed, Whole}
 use Rattle.rx_batch.specs.declared.head.Head.{Head}
 use Rattle.rx_batch.specs.declared.trailer.Trailer.{Trailer}
+use Rattle.rx_text.specs.Bytes.{is_line_end}
 use Rattle.rx_text.specs.Results.{◌>>=◌}
 use Rattle.rx_batch.specs.Header.{is_kind, head_of, trailer_of}
 
 -- CR and LF, which are skipped before, between and after records
 abbrev pub is_skipped : ℕ → Bool
-is_skipped b = b == 13 || b == 10
+is_skipped = is_line_end
 
 -- STX and ETX, which no record holds inside
 abbrev pub is_mark : ℕ → Bool

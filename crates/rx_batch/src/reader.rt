@@ -1,7 +1,6 @@
 ghost use Rattle.std.specs.Prelude.{◌≡◌, ℕ, ◌<◌, ◌≤◌, ◌++◌, [], List, Ok, Some, None, length, IfOk, IfErr};
-ghost use Rattle.std.specs.List.{prefix_len};
 ghost use Rattle.rx_batch.specs.Fault.{Gives};
-ghost use Rattle.rx_batch.specs.Grammar.{is_skipped, no_front};
+ghost use Rattle.rx_batch.specs.Grammar.{no_front};
 ghost use Rattle.rx_batch.specs.Reading.{batch_of};
 ghost use Rattle.rx_batch.specs.Pieces.{IsRead, IsReadUpTo, IsFaultOf};
 
@@ -10,6 +9,7 @@ use crate::detail::Text;
 use crate::fault::BatchFault;
 use crate::front::Front;
 use memchr::memchr2;
+use rx_text::line_ends;
 use std::alloc::Global;
 
 pub(crate) const STX: u8 = 2;
@@ -72,7 +72,7 @@ impl Reader {
         ensures err { (text : List ℕ) → IsReadUpTo self.old text bytes.now
             → IfErr result (λ f. IsFaultOf f text) }
     {
-        let gap = gap(bytes);
+        let gap = line_ends(bytes);
         self.front.pass(gap)?;
         let (_, rest) = bytes.split_at(gap);
         if rest.is_empty() {
@@ -126,16 +126,4 @@ impl Reader {
             Some(_) => Err(BatchFault::Unclosed { at: front.length }),
         }
     }
-}
-
-// How many CR and LF the bytes begin with.
-fn gap(bytes: &[u8]) -> usize
-    ensures value { result ≡ prefix_len is_skipped bytes.now }
-    ensures within { result ≤ length bytes.now }
-{
-    let mut gap = 0;
-    while gap < bytes.len() && (bytes[gap] == b'\r' || bytes[gap] == b'\n') {
-        gap += 1;
-    }
-    gap
 }

@@ -8,6 +8,7 @@ use crate::detail::Detail;
 use crate::head::{Head, Kind};
 use crate::reader::{ETX, STX};
 use rx_fields::{Memory, date_write, digits_write};
+use rx_text::put;
 use std::alloc::{AllocError, Global};
 
 // The bytes of the header.
@@ -44,20 +45,6 @@ fn file_len(details: &[Detail]) -> usize {
         len = len.saturating_add(record);
     }
     len
-}
-
-// Puts bytes for which there is room.
-#[inline(always)]
-fn put(text: &mut Vec<u8>, bytes: &[u8])
-    requires { vec_len text.old + length bytes.now ≤ vec_capacity text.old }
-    ensures items { text.new.items ≡ text.old.items ++ bytes.now }
-    ensures len { vec_len text.new ≡ vec_len text.old + length bytes.now }
-    ensures capacity { vec_capacity text.old ≤ vec_capacity text.new }
-{
-    match text.extend_from_slice(bytes) {
-        Ok(()) => (),
-        Err(_) => unreachable!(),
-    }
 }
 
 /// Puts a header at the end of a text, which stays as it is where a growth is refused.

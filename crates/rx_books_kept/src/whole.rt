@@ -165,13 +165,8 @@ fn out_of_pocket_held(place: &FamilyPlace) -> Option<u128>
     ensures { result ≡ out_of_pocket_held place.now }
 {
     match &place.held {
-        Some(book) => {
-            if book.members().is_empty() {
-                return None;
-            }
-            Some(book.out_of_pocket())
-        }
-        None => None,
+        Some(book) if !book.members().is_empty() => Some(book.out_of_pocket()),
+        _ => None,
     }
 }
 
@@ -180,12 +175,7 @@ fn family_deductible_held(place: &FamilyPlace) -> Option<u128>
     ensures { result ≡ family_deductible_held place.now }
 {
     match &place.held {
-        Some(book) => {
-            if book.members().is_empty() {
-                return None;
-            }
-            Some(book.family_deductible())
-        }
-        None => None,
+        Some(book) if !book.members().is_empty() => Some(book.family_deductible()),
+        _ => None,
     }
 }

@@ -33,30 +33,21 @@ are_members_kept s = list_all (is_member_held s) s.rest.members && list_all (doe
 
 -- ---- the rows
 
--- open books with what a key's place holds, and with what these places hold
-abbrev pub with_place : OpenParts → KeyPlace → OpenParts
-with_place o p =
+-- open books with other rows, with what a key's place holds, and with what these places hold
+abbrev pub with_rows : OpenParts → List Row → OpenParts
+with_rows o rows =
     record o {
       books = record {
         period = o.books.period;
-        ledger = record {
-          members = o.books.ledger.members;
-          rows = with_slot key_cmp row_key place_key row_held o.books.ledger.rows p;
-        };
+        ledger = record { members = o.books.ledger.members; rows = rows };
       };
     }
 
+abbrev pub with_place : OpenParts → KeyPlace → OpenParts
+with_place o p = with_rows o (with_slot key_cmp row_key place_key row_held o.books.ledger.rows p)
+
 abbrev pub open_over : OpenParts → List KeyPlace → OpenParts
-open_over o places =
-    record o {
-      books = record {
-        period = o.books.period;
-        ledger = record {
-          members = o.books.ledger.members;
-          rows = overlaid key_cmp row_key place_key row_held o.books.ledger.rows places;
-        };
-      };
-    }
+open_over o places = with_rows o (overlaid key_cmp row_key place_key row_held o.books.ledger.rows places)
 
 -- the key of a place has a slot
 abbrev pub HasSlot : List Key → KeyPlace → Type 0

@@ -1,6 +1,5 @@
 -- Meaning: the numbers and lines of the faults, and what a call answers that may want memory.
 use Rattle.std.specs.Prelude.{ℕ, Bool, true, false, Option, Some, None, Result}
-use Rattle.rx_text.specs.Outcomes.{Unless}
 use Rattle.rx_text.specs.Outcomes as outcome
 use Rattle.rx_ledger.specs.declared.ledger.AddError.{AddError}
 use Rattle.rx_ledger.specs.declared.ledger.AddError.TheVariants as error
@@ -40,7 +39,7 @@ wants_memory other = false
 
 -- the fact, unless the fault is want of memory
 abbrev pub UnlessMemory : BooksFault → Type 0 → Type 0
-UnlessMemory f P = Unless (wants_memory f) P
+UnlessMemory f P = outcome.UnlessMemory wants_memory f P
 
 -- what a call answered is what the definition has, unless memory was wanting
 abbrev pub Gives : {X : Type 0} → Result X BooksFault → Result X BooksFault → Type 0

@@ -105,6 +105,12 @@ member_in bs =
     number_in 20 last.1 >>= λ n. Some
     (record { member = record { key = key.0; coverage = coverage }; deductible = n })
 
+-- three fields, and what follows
+abbrev pub three_at : List ℕ → Option ((List ℕ × List ℕ × List ℕ) × List ℕ)
+three_at bs =
+    split bs >>= λ first. split first.1 >>= λ second. split second.1 >>= λ third. Some
+    ((first.0, second.0, third.0), third.1)
+
 unfoldable pub key_in : List ℕ → List ℕ → List ℕ → Option Key
 key_in provider reference date =
     id_in 15 provider >>= λ p. count_in 0 MOST_REFERENCE reference >>= λ r. day_in date >>= λ d. Some

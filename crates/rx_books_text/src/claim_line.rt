@@ -1,6 +1,6 @@
 ghost use Rattle.std.specs.Prelude.{◌≡◌, option_map};
 ghost use Rattle.rx_books_text.specs.LineReading.{amounts_at, claim_in, coinsurance_at, dispensed_at};
-ghost use Rattle.rx_books_text.specs.LineReading.{dispensed_in, key_at, key_in, two_numbers_at};
+ghost use Rattle.rx_books_text.specs.LineReading.{dispensed_in, key_at, key_in, three_at, two_numbers_at};
 
 use crate::cut::split;
 use crate::field::{authorization_in, count_in, day_in, days_in, id_in, number_in};
@@ -51,11 +51,19 @@ pub(crate) fn claim_line(version: Version, bytes: &[u8]) -> Option<Row>
 fn key_at(bytes: &[u8]) -> Option<(Key, &[u8])>
     ensures { option_map (λ x. (x.0, x.1.now)) result ≡ key_at bytes.now }
 {
-    let (provider, rest) = split(bytes)?;
-    let (reference, rest) = split(rest)?;
-    let (date, rest) = split(rest)?;
+    let ((provider, reference, date), rest) = three_at(bytes)?;
     let key = key_in(provider, reference, date)?;
     Some((key, rest))
+}
+
+// Three fields, and what follows.
+fn three_at(bytes: &[u8]) -> Option<((&[u8], &[u8], &[u8]), &[u8])>
+    ensures { option_map (λ x. ((x.0.0.now, x.0.1.now, x.0.2.now), x.1.now)) result ≡ three_at bytes.now }
+{
+    let (first, rest) = split(bytes)?;
+    let (second, rest) = split(rest)?;
+    let (third, rest) = split(rest)?;
+    Some(((first, second, third), rest))
 }
 
 // The fill key of three fields.
@@ -78,9 +86,7 @@ fn key_in(provider: &[u8], reference: &[u8], date: &[u8]) -> Option<Key>
 fn dispensed_at(bytes: &[u8]) -> Option<(Dispensed, &[u8])>
     ensures { option_map (λ x. (x.0, x.1.now)) result ≡ dispensed_at bytes.now }
 {
-    let (product, rest) = split(bytes)?;
-    let (quantity, rest) = split(rest)?;
-    let (days, rest) = split(rest)?;
+    let ((product, quantity, days), rest) = three_at(bytes)?;
     let dispensed = dispensed_in(product, quantity, days)?;
     Some((dispensed, rest))
 }

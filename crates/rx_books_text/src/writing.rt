@@ -1,4 +1,5 @@
-ghost use Rattle.std.specs.Prelude.{◌≡◌, ◌≤◌, ◌+◌, ◌++◌, ◌∷◌, [], decimal, length, vec_capacity, vec_len, MatchResult};
+ghost use Rattle.std.specs.Prelude.{◌≡◌, ◌≤◌, ◌+◌, ◌++◌, ◌∷◌, [], decimal, length, vec_capacity, vec_len};
+ghost use Rattle.rx_text.specs.Outcomes.{PutsOrLeaves};
 ghost use Rattle.rx_fields.specs.Calendar.{date_text};
 ghost use Rattle.rx_fields.specs.Digits.{digits_text};
 ghost use Rattle.rx_books_text.specs.declared.line.Line.TheVariants as lines;
@@ -12,6 +13,7 @@ use rx_fields::{
     Authorization, Day, Days, Key, Memory, Period, Product, Quantity, date_write, digits_write,
 };
 use rx_ledger::{MemberKey, Row};
+use rx_text::put;
 
 // Room for any line: an id has at most 20 bytes, and a number is written in at most 40.
 const LINE: usize = 512;
@@ -19,9 +21,8 @@ const LINE: usize = 512;
 /// Puts the head line of version 3, with its line feed; where a growth is refused the text stays as it was.
 #[tactic(auto, using(std::proofs::Common::append_assoc))]
 pub fn put_head(text: &mut Vec<u8>, period: Period) -> Result<(), Memory>
-    ensures { MatchResult result
-        (λ _. text.new.items ≡ text.old.items ++ ended (head_text (record { version = versions.Three; period = period })))
-        (λ _. text.new.items ≡ text.old.items) }
+    ensures { PutsOrLeaves result text.old.items text.new.items
+        (ended (head_text (record { version = versions.Three; period = period }))) }
 {
     text.reserve(LINE)?;
     put(text, b"BOOKS|3|");
@@ -33,9 +34,7 @@ pub fn put_head(text: &mut Vec<u8>, period: Period) -> Result<(), Memory>
 /// Puts a member line, with its line feed; where a growth is refused the text stays as it was.
 #[tactic(auto, using(std::proofs::Common::append_assoc))]
 pub fn put_member(text: &mut Vec<u8>, line: &MemberLine) -> Result<(), Memory>
-    ensures { MatchResult result
-        (λ _. text.new.items ≡ text.old.items ++ ended (line_text versions.Three (lines.Member line.now)))
-        (λ _. text.new.items ≡ text.old.items) }
+    ensures { PutsOrLeaves result text.old.items text.new.items (ended (line_text versions.Three (lines.Member line.now))) }
 {
     text.reserve(LINE)?;
     put(text, b"M|");
@@ -50,9 +49,7 @@ pub fn put_member(text: &mut Vec<u8>, line: &MemberLine) -> Result<(), Memory>
 /// Puts a claim line of version 3, with its line feed; where a growth is refused the text stays as it was.
 #[tactic(auto, using(std::proofs::Common::append_assoc))]
 pub fn put_claim(text: &mut Vec<u8>, row: &Row) -> Result<(), Memory>
-    ensures { MatchResult result
-        (λ _. text.new.items ≡ text.old.items ++ ended (line_text versions.Three (lines.Claim row.now)))
-        (λ _. text.new.items ≡ text.old.items) }
+    ensures { PutsOrLeaves result text.old.items text.new.items (ended (line_text versions.Three (lines.Claim row.now))) }
 {
     text.reserve(LINE)?;
     put(text, b"C|");
@@ -65,9 +62,7 @@ pub fn put_claim(text: &mut Vec<u8>, row: &Row) -> Result<(), Memory>
 /// Puts a total line, with its line feed; where a growth is refused the text stays as it was.
 #[tactic(auto, using(std::proofs::Common::append_assoc))]
 pub fn put_total(text: &mut Vec<u8>, line: &TotalLine) -> Result<(), Memory>
-    ensures { MatchResult result
-        (λ _. text.new.items ≡ text.old.items ++ ended (line_text versions.Three (lines.Total line.now)))
-        (λ _. text.new.items ≡ text.old.items) }
+    ensures { PutsOrLeaves result text.old.items text.new.items (ended (line_text versions.Three (lines.Total line.now))) }
 {
     text.reserve(LINE)?;
     put(text, b"T|");
@@ -79,20 +74,6 @@ pub fn put_total(text: &mut Vec<u8>, line: &TotalLine) -> Result<(), Memory>
     }
     put(text, b"\n");
     Ok(())
-}
-
-// Puts bytes for which there is room.
-#[inline(always)]
-fn put(text: &mut Vec<u8>, bytes: &[u8])
-    requires { vec_len text.old + length bytes.now ≤ vec_capacity text.old }
-    ensures items { text.new.items ≡ text.old.items ++ bytes.now }
-    ensures len { vec_len text.new ≡ vec_len text.old + length bytes.now }
-    ensures capacity { vec_capacity text.old ≤ vec_capacity text.new }
-{
-    match text.extend_from_slice(bytes) {
-        Ok(()) => (),
-        Err(_) => unreachable!(),
-    }
 }
 
 // A number without leading zeros.

@@ -1,5 +1,6 @@
 -- Laws of the definitions in `specs/`.
 pub mod AmountLaws
+pub mod DateFaults
 pub mod DigitLaws
 pub mod IdLaws
 pub mod OrderLaws

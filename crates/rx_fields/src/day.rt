@@ -1,9 +1,8 @@
 ghost use Rattle.std.specs.Prelude.{◌≡◌};
 
-use crate::digits::{digits_write, value};
+use crate::digits::{check_digits, digits_write, value};
 use crate::fault::FieldFault;
 use jiff_core::civil::Date;
-use rx_text::all_digits;
 use std::marker::Model;
 
 /// A civil date of the years 0000 to 9999 that exists, ordered from earlier to later (docs/PRODUCT.md, "Words").
@@ -65,18 +64,11 @@ impl Day {
 }
 
 /// The day of the eight digits CCYYMMDD; fewer digits are no date (docs/FORMATS.md, "Dates").
+#[tactic(auto, using(crate::proofs::DateFaults::date_fault))]
 pub fn date_read(bytes: &[u8]) -> Result<Day, FieldFault>
     ensures { result ≡ date_of bytes.now }
 {
-    if bytes.is_empty() {
-        return Err(FieldFault::Empty);
-    }
-    if bytes.len() > 8 {
-        return Err(FieldFault::TooLong);
-    }
-    if !all_digits(bytes) {
-        return Err(FieldFault::NotDigit);
-    }
+    check_digits(bytes, 8)?;
     if bytes.len() < 8 {
         return Err(FieldFault::NotDate);
     }

@@ -1,4 +1,4 @@
-ghost use Rattle.std.specs.Prelude.{◌≡◌, ◌≤◌, ◌<◌, ◌^◌, length, true, Ok, IfOk};
+ghost use Rattle.std.specs.Prelude.{◌≡◌, ◌≤◌, ◌<◌, ◌^◌, length, true, Err, Ok, IfOk, MatchResult};
 ghost use Rattle.rx_text.specs.Bytes.{all_digits};
 ghost use Rattle.rx_fields.specs.Digits.{number, number_of, digits_text};
 
@@ -19,21 +19,28 @@ pub(crate) fn value(digits: &[u8]) -> u64
     sum
 }
 
+// Whether the bytes are 1 to `max` digits; where they aren't, the first fault.
+pub(crate) fn check_digits(bytes: &[u8], max: usize) -> Result<(), FieldFault>
+    ensures number { MatchResult result
+        (λ _. number_of max bytes.now ≡ Ok (number bytes.now)) (λ fault. number_of max bytes.now ≡ Err fault) }
+    ensures few { IfOk result (λ _. length bytes.now ≤ max) }
+    ensures digits { IfOk result (λ _. all_digits bytes.now ≡ true) }
+{
+    match bytes {
+        [] => Err(FieldFault::Empty),
+        _ if bytes.len() > max => Err(FieldFault::TooLong),
+        _ if !all_digits(bytes) => Err(FieldFault::NotDigit),
+        _ => Ok(()),
+    }
+}
+
 /// The number of 1 to `max` digits; leading zeros count as digits (docs/FORMATS.md, "Notation").
 pub fn number_read(bytes: &[u8], max: usize) -> Result<u64, FieldFault>
     requires { max ≤ 19 }
     ensures value { result ≡ number_of max bytes.now }
     ensures within { IfOk result (λ n. n < 10 ^ max) }
 {
-    if bytes.is_empty() {
-        return Err(FieldFault::Empty);
-    }
-    if bytes.len() > max {
-        return Err(FieldFault::TooLong);
-    }
-    if !all_digits(bytes) {
-        return Err(FieldFault::NotDigit);
-    }
+    check_digits(bytes, max)?;
     Ok(value(bytes))
 }
 

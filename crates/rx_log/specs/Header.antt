@@ -2,12 +2,8 @@
 use Rattle.std.specs.Prelude.{◌≡◌, ℕ, Bool, ◌==◌, ◌||◌, ◌&&◌, nat_le, if◌then◌else◌, List, drop, length, slice_range}
 use Rattle.std.specs.Prelude.{Option, Some, None, MatchOption}
 use Rattle.std.specs.List.{list_all, prefix_len}
-use Rattle.rx_text.specs.Bytes.{is_digit}
+use Rattle.rx_text.specs.Bytes.{is_digit, is_line_end}
 use Rattle.rx_log.specs.declared.log.Lot.{Lot}
-
--- CR or LF
-abbrev pub is_line_end : ℕ → Bool
-is_line_end b = b == 13 || b == 10
 
 -- the file from its header on: the CR and LF before it are skipped
 abbrev pub from_header : List ℕ → List ℕ

@@ -1,10 +1,10 @@
 //! What a log takes from a batch file.
 ghost use Rattle.std.specs.Prelude.{◌≡◌, ◌≤◌, length, None, Some, MatchOption};
-ghost use Rattle.std.specs.List.{prefix_len};
-ghost use Rattle.rx_log.specs.Header.{IsLot, digits_at, from_header, is_line_end, lot_of};
+ghost use Rattle.rx_log.specs.Header.{IsLot, digits_at, from_header, lot_of};
 
 use crate::digits::{all_digits, text_of};
 use crate::log::Lot;
+use rx_text::line_ends;
 
 // Where a batch header has its batch number and its creation date.
 const NUMBER_AT: usize = 28;
@@ -29,19 +29,7 @@ pub fn lot(front: &[u8]) -> Option<Lot<'_>>
 fn from_header(front: &[u8]) -> &[u8]
     ensures { result.now ≡ from_header front.now }
 {
-    &front[gap(front)..]
-}
-
-// How many CR and LF the bytes begin with.
-fn gap(bytes: &[u8]) -> usize
-    ensures value { result ≡ prefix_len is_line_end bytes.now }
-    ensures within { result ≤ length bytes.now }
-{
-    let mut gap = 0;
-    while gap < bytes.len() && (bytes[gap] == b'\r' || bytes[gap] == b'\n') {
-        gap += 1;
-    }
-    gap
+    &front[line_ends(front)..]
 }
 
 // The digits from one place up to another; `None` where another byte stands there, or the bytes end before.

@@ -1,11 +1,10 @@
-ghost use Rattle.std.specs.Prelude.{◌≡◌, ◌++◌, ◌≤◌, IfErr, IfOk, Ok, length};
-ghost use Rattle.std.specs.List.{prefix_len};
+ghost use Rattle.std.specs.Prelude.{◌≡◌, ◌++◌, IfErr, IfOk, Ok};
 ghost use Rattle.rx_batch.specs.Fault.{Gives, UnlessMemory};
-ghost use Rattle.rx_batch.specs.Grammar.{is_skipped};
 ghost use Rattle.rx_batch.specs.Reading.{HasFault, batch_of};
 ghost use Rattle.rx_replies.specs.File.{IsResponse, as_batch, exchanged, exchanged_in, response_of};
 
 use rx_batch::{Batch, BatchFault, Head, Kind, Pieces};
+use rx_text::line_ends;
 use std::alloc::Global;
 
 /// The records of a response file (docs/FORMATS.md, "Response file"): a file as a batch is one, but of type `R`. The
@@ -37,7 +36,7 @@ pub fn read_response(alloc: Global, bytes: &[u8]) -> Result<Batch, BatchFault>
 fn read_exchanged(alloc: Global, bytes: &[u8]) -> Result<Batch, BatchFault>
     ensures { Gives result (batch_of (as_batch bytes.now)) }
 {
-    let (skipped, record) = bytes.split_at(gap(bytes));
+    let (skipped, record) = bytes.split_at(line_ends(bytes));
     match record {
         [stx, first, second, kind, rest @ ..] => {
             let front = [*stx, *first, *second, exchanged(*kind)];
@@ -72,16 +71,4 @@ fn exchanged(kind: u8) -> u8
         b'T' => b'R',
         other => other,
     }
-}
-
-// How many CR and LF the bytes begin with.
-fn gap(bytes: &[u8]) -> usize
-    ensures value { result ≡ prefix_len is_skipped bytes.now }
-    ensures within { result ≤ length bytes.now }
-{
-    let mut gap = 0;
-    while gap < bytes.len() && (bytes[gap] == b'\r' || bytes[gap] == b'\n') {
-        gap += 1;
-    }
-    gap
 }

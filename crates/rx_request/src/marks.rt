@@ -16,9 +16,8 @@ fn window_marks(text: &[u8], byte: u8) -> u64
     requires { 64 ≤ length text.now }
     ensures { result ≡ marks_of byte (take 64 text.now) }
 {
-    u8x64::from_slice(text)
-        .simd_eq(u8x64::splat(byte))
-        .to_bitmask()
+    let window = u8x64::from_slice(text);
+    window.simd_eq(u8x64::splat(byte)).to_bitmask()
 }
 
 // The marks of the first 16 bytes.
@@ -27,9 +26,8 @@ fn chunk_marks(text: &[u8], byte: u8) -> u64
     requires { 16 ≤ length text.now }
     ensures { result ≡ marks_of byte (take 16 text.now) }
 {
-    u8x16::from_slice(text)
-        .simd_eq(u8x16::splat(byte))
-        .to_bitmask()
+    let chunk = u8x16::from_slice(text);
+    chunk.simd_eq(u8x16::splat(byte)).to_bitmask()
 }
 
 // The marks of fewer than 64 bytes, from the last to the first. What is left over at the end is read with bytes before

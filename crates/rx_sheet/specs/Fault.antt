@@ -1,6 +1,5 @@
 -- Meaning: the numbers of the faults, and what a call answers that may want memory.
 use Rattle.std.specs.Prelude.{ℕ, Bool, true, false, Option, Some, None, Result}
-use Rattle.rx_text.specs.Outcomes.{Unless}
 use Rattle.rx_text.specs.Outcomes as outcome
 use Rattle.rx_ledger.specs.declared.sheet_key.SheetKey.{SheetKey}
 use Rattle.rx_sheet.specs.declared.fault.SheetFault.{SheetFault}
@@ -27,7 +26,7 @@ wants_memory other = false
 
 -- the fact, unless the fault is want of memory
 abbrev pub UnlessMemory : SheetFault → Type 0 → Type 0
-UnlessMemory f P = Unless (wants_memory f) P
+UnlessMemory f P = outcome.UnlessMemory wants_memory f P
 
 -- what a call answered, seen by `view`, is what the definition has, unless memory was wanting
 abbrev pub GivesAs : {X Y : Type 0} → (X → Y) → Result X SheetFault → Result Y SheetFault → Type 0

@@ -4,7 +4,7 @@ ghost use Rattle.std.specs.Result.{result_map_both};
 ghost use Rattle.toml.specs.Data.{get_member};
 ghost use Rattle.toml.specs.View.{view, table_view};
 ghost use Rattle.rx_text.specs.Bytes.{all_digits, all_printable};
-ghost use Rattle.rx_sheet.specs.Values.{value_at, read_at, read_if_there, whole, number, bin, bin_text, pcn, pcn_text, day};
+ghost use Rattle.rx_sheet.specs.Values.{value_at, read_at, read_if_there, whole, number, bin, pcn, day};
 
 use crate::fault::SheetFault;
 use crate::names::name_of;
@@ -91,14 +91,7 @@ pub(crate) fn bin(value: &Value) -> Option<[u8; 6]>
     ensures value { result ≡ bin (view value.now) }
     ensures within { IfSome result (λ bin. all_digits bin ≡ true) }
 {
-    bin_text(value.as_str()?)
-}
-
-fn bin_text(text: &str) -> Option<[u8; 6]>
-    ensures value { result ≡ bin_text text.now }
-    ensures within { IfSome result (λ bin. all_digits bin ≡ true) }
-{
-    let bytes = text.as_bytes();
+    let bytes = value.as_str()?.as_bytes();
     if bytes.len() != 6 || !all_digits(bytes) {
         return None;
     }
@@ -112,14 +105,7 @@ pub(crate) fn pcn(value: &Value) -> Option<[u8; 10]>
     ensures value { result ≡ pcn (view value.now) }
     ensures within { IfSome result (λ pcn. all_printable pcn ≡ true) }
 {
-    pcn_text(value.as_str()?)
-}
-
-fn pcn_text(text: &str) -> Option<[u8; 10]>
-    ensures value { result ≡ pcn_text text.now }
-    ensures within { IfSome result (λ pcn. all_printable pcn ≡ true) }
-{
-    let bytes = text.as_bytes();
+    let bytes = value.as_str()?.as_bytes();
     if bytes.len() > 10 || !all_printable(bytes) {
         return None;
     }

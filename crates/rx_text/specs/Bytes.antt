@@ -1,5 +1,5 @@
 -- Meaning: classes of bytes, and what a separator cuts.
-use Rattle.std.specs.Prelude.{ℕ, Bool, ◌&&◌, nat_le, ◌==◌, List}
+use Rattle.std.specs.Prelude.{ℕ, Bool, ◌&&◌, ◌||◌, nat_le, ◌==◌, List}
 use Rattle.std.specs.List.{list_all, slice_split}
 
 -- the byte is printable ASCII, X'20' to X'7E'
@@ -15,6 +15,10 @@ all_printable bytes = list_all is_printable bytes
 
 abbrev pub all_digits : List ℕ → Bool
 all_digits bytes = list_all is_digit bytes
+
+-- CR or LF
+abbrev pub is_line_end : ℕ → Bool
+is_line_end b = b == 13 || b == 10
 
 -- the pieces between the separators
 abbrev pub cut : ℕ → List ℕ → List (List ℕ)

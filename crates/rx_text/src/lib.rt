@@ -1,7 +1,8 @@
-//! What readers and writers of texts share: classes of bytes and the bytes that separate.
+//! What readers and writers of texts share: classes of bytes, the bytes that separate, and bytes put where there is room.
 //!
-//! In come bytes; out comes whether they are of a class. What a class is stands in `specs/Bytes.antt`; the words in which
-//! the specs of readers say what a call answers, and one step behind another, in `Outcomes`, `Results` and `Options`.
+//! In come bytes; out comes whether they are of a class, or how many of them are. What a class is stands in
+//! `specs/Bytes.antt`; the words in which the specs of readers say what a call answers, and one step behind another, in
+//! `Outcomes`, `Results` and `Options`.
 //!
 //! ```rust
 //! if rx_text::all_digits(field) { .. }
@@ -11,7 +12,11 @@
 #![tactic(auto)]
 
 mod classes;
+mod ends;
 mod separators;
+mod writing;
 
 pub use classes::{all_digits, all_printable, is_printable};
+pub use ends::line_ends;
 pub use separators::{FIELD, GROUP, SEGMENT};
+pub use writing::put;

@@ -211,12 +211,24 @@ impl Gate for Passed {
     }
 }
 
+// Whether the records are answered where the gate holds them back so, and each of these places is passed once.
+fn goes_well<R: Threads + Wait + Sync>(
+    rt: &R,
+    alloc: Global,
+    workers: u16,
+    holds: Holds,
+    asked: &[Transmission],
+    places: u64,
+) -> Result<bool, Fail> {
+    let gate = Passed::new(holds);
+    let answered = is_right(rt, alloc, &gate, workers, asked)?;
+    Ok(answered && gate.is_once(places))
+}
+
 #[test]
 fn a_record_goes_beside_one_that_is_held(rt: HostRuntime) -> Result<(), Fail> {
     let asked = two_records(rt.alloc())?;
-    let gate = Passed::new(Holds::First);
-    assert!(rt; is_right(&rt, rt.alloc(), &gate, 2, &asked)?);
-    assert!(rt; gate.is_once(11));
+    assert!(rt; goes_well(&rt, rt.alloc(), 2, Holds::First, &asked, 11)?);
     Ok(())
 }
 
@@ -224,9 +236,7 @@ fn a_record_goes_beside_one_that_is_held(rt: HostRuntime) -> Result<(), Fail> {
 fn two_records_are_out_at_once(rt: HostRuntime) -> Result<(), Fail> {
     let asked = two_records(rt.alloc())?;
     for workers in [2, 3, 64] {
-        let gate = Passed::new(Holds::Both);
-        assert!(rt; is_right(&rt, rt.alloc(), &gate, workers, &asked)?);
-        assert!(rt; gate.is_once(11));
+        assert!(rt; goes_well(&rt, rt.alloc(), workers, Holds::Both, &asked, 11)?);
     }
     Ok(())
 }
@@ -235,9 +245,7 @@ fn two_records_are_out_at_once(rt: HostRuntime) -> Result<(), Fail> {
 fn each_place_is_passed_once(rt: HostRuntime) -> Result<(), Fail> {
     let asked = four_records(rt.alloc())?;
     for workers in [1, 2, 3, 64] {
-        let gate = Passed::new(Holds::Nobody);
-        assert!(rt; is_right(&rt, rt.alloc(), &gate, workers, &asked)?);
-        assert!(rt; gate.is_once(1_111));
+        assert!(rt; goes_well(&rt, rt.alloc(), workers, Holds::Nobody, &asked, 1_111)?);
     }
     Ok(())
 }

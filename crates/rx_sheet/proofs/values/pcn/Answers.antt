@@ -1,7 +1,7 @@
 use Rattle.std.proofs.Common.{◌≡◌, true, length, refl, sym, ◌∙◌}
 use Rattle.rx_text.specs.Bytes.{all_printable}
 use Rattle.rx_sheet.proofs.Blanks.{all_printable-both, all_printable-drop}
-use Rattle.rx_sheet.proofs.values.pcn_text.Goals as goal
+use Rattle.rx_sheet.proofs.values.pcn.Goals as goal
 
 pub returns-clause-within : goal.returns-clause-within
 returns-clause-within c =
