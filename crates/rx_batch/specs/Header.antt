@@ -2,7 +2,6 @@
 use Rattle.std.specs.Prelude.{ℕ, Bool, ◌&&◌, nat_eq, nat_le, ◌==◌, if◌then◌else◌, List, codes, length, slice_index, slice_range}
 use Rattle.std.specs.Prelude.{Option, Some, None}
 use Rattle.std.specs.List.{starts_with}
-use Rattle.std.specs.Option.{option_and_then}
 use Rattle.std.specs.Result.{result_ok}
 use Rattle.rx_text.specs.Options.{◌>>=◌}
 use Rattle.rx_fields.specs.Digits.{number_of}

@@ -7,8 +7,8 @@ use Rattle.rx_batch.proofs.reader.Reader.between.Goals.{then-is_whole-via-then-i
 pub returns-then-is_empty-clause-ok : goal.returns-then-is_empty-clause-ok
 returns-then-is_empty-clause-ok c text h =
     rw c.requires.none
-    (gap_passed c.args.self.now c.pass.new.self text c.args.bytes.now c.split_at.result.1.now c.line_ends.result
-    c.requires.none c.line_ends.ensures.value c.in_ok-pass.ensures c.split_at.ensures.back h)
+    (gap_passed c.args.self.now c.pass.new.self text c.args.bytes.now c.split_at.result.1.now c.line_ends-gap.result
+    c.requires.none c.line_ends-gap.ensures.value c.in_ok-pass.ensures c.split_at.ensures.back h)
 
 pub returns-then-is_whole-clause-err : goal.returns-then-is_whole-clause-err
 returns-then-is_whole-clause-err c text h =
@@ -21,9 +21,9 @@ returns-then-is_whole-clause-err c text h =
     ] in
     rw c.stray.ensures
     (stray_passed c.pass.new.self text rest some
-    (gap_ended c.args.bytes.now rest c.line_ends.result c.line_ends.ensures.value c.split_at.ensures.back some) early
-    (gap_passed c.args.self.now c.pass.new.self text c.args.bytes.now rest c.line_ends.result c.requires.none
-    c.line_ends.ensures.value c.in_ok-pass.ensures c.split_at.ensures.back h))
+    (gap_ended c.args.bytes.now rest c.line_ends-gap.result c.line_ends-gap.ensures.value c.split_at.ensures.back some) early
+    (gap_passed c.args.self.now c.pass.new.self text c.args.bytes.now rest c.line_ends-gap.result c.requires.none
+    c.line_ends-gap.ensures.value c.in_ok-pass.ensures c.split_at.ensures.back h))
 
 pub returns-clause-ok : goal.returns-clause-ok
 returns-clause-ok c text h =
@@ -31,5 +31,5 @@ returns-clause-ok c text h =
     let some : 0 < length rest = filled (length rest) c.is_empty.result c.is_empty.ensures c.if-is_empty.false in
     rw (c.new-2.ensures ∙ c.new.ensures.items)
     (begun_passed c.pass.new.self text rest some c.if-rest-ne-STX.false (sym c.is_whole.ensures ∙ c.if-is_whole.false)
-    (gap_passed c.args.self.now c.pass.new.self text c.args.bytes.now rest c.line_ends.result c.requires.none
-    c.line_ends.ensures.value c.in_ok-pass.ensures c.split_at.ensures.back h))
+    (gap_passed c.args.self.now c.pass.new.self text c.args.bytes.now rest c.line_ends-gap.result c.requires.none
+    c.line_ends-gap.ensures.value c.in_ok-pass.ensures c.split_at.ensures.back h))
