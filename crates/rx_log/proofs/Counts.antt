@@ -1,8 +1,8 @@
 -- Digits are text, and write a number.
-use Rattle.std.proofs.Common.{◌≡◌, ◌<◌, ◌≤◌, ℕ, zero, suc, List, [], ◌∷◌, true, ◌&&◌, nat_le, get_or, slice_index}
-use Rattle.std.proofs.Common.{Result, Ok, Err, Some, None, length, ◌^◌, inl, inr, ◌-◌, ◌+◌, ◌*◌, arith, refl, rules}
+use Rattle.std.proofs.Common.{◌≡◌, ◌<◌, ℕ, zero, suc, List, [], ◌∷◌, true, slice_index}
+use Rattle.std.proofs.Common.{Result, Ok, Err, Some, None, length, ◌^◌, inl, inr, arith, rules}
 use Rattle.std.specs.List.{list_all}
-use Rattle.std.specs.Str.{IsAscii, IsUtf8}
+use Rattle.std.specs.Str.{IsUtf8}
 use Rattle.std.proofs.lemmas.Str.{IsUtf8-from_ascii}
 use Rattle.std.proofs.lemmas.Bool.{cases_lt}
 use Rattle.std.proofs.lemmas.Bool.Decides.{nat_tests}

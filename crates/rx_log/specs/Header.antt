@@ -1,5 +1,5 @@
 -- Meaning: what a log tells of a batch file's header (docs/FORMATS.md, "Batch file").
-use Rattle.std.specs.Prelude.{◌≡◌, ℕ, Bool, ◌==◌, ◌||◌, ◌&&◌, nat_le, if◌then◌else◌, List, drop, length, slice_range}
+use Rattle.std.specs.Prelude.{◌≡◌, ℕ, ◌&&◌, nat_le, if◌then◌else◌, List, drop, length, slice_range}
 use Rattle.std.specs.Prelude.{Option, Some, None, MatchOption}
 use Rattle.std.specs.List.{list_all, prefix_len}
 use Rattle.rx_text.specs.Bytes.{is_digit, is_line_end}

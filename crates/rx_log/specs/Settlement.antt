@@ -1,8 +1,7 @@
 -- Meaning: what a log tells of a settlement: the counts and the net of its last line (docs/FORMATS.md, "Settlement file").
-use Rattle.std.specs.Prelude.{◌≡◌, ℕ, ℤ, pos, neg_ℤ, ◌+◌, ◌-◌, ◌*◌, ◌^◌, Bool, not, ◌&&◌, ◌==◌, nat_eq, nat_lt, if◌then◌else◌}
-use Rattle.std.specs.Prelude.{List, [], ◌∷◌, codes, drop, length, slice_index, take, Option, Some, None, MatchOption}
+use Rattle.std.specs.Prelude.{ℕ, ℤ, pos, neg_ℤ, ◌+◌, ◌-◌, ◌*◌, ◌^◌, Bool, not, ◌&&◌, ◌==◌, nat_eq, nat_lt, if◌then◌else◌}
+use Rattle.std.specs.Prelude.{List, [], ◌∷◌, codes, drop, length, slice_index, take, Option, Some, None}
 use Rattle.std.specs.List.{list_all, prefix_len, starts_with, suffix_len}
-use Rattle.std.specs.Option.{option_and_then}
 use Rattle.rx_text.specs.Options.{◌>>=◌}
 use Rattle.rx_log.specs.declared.log.Totals.{Totals}
 use Rattle.rx_text.specs.Bytes.{is_digit}
