@@ -1,5 +1,6 @@
 ghost use Rattle.std.specs.Prelude.{◌≡◌, ◌++◌, ◌==◌, ◌≤◌, [], IfOk, OnOk, filter, length};
 ghost use Rattle.std.specs.List.{All};
+ghost use Rattle.rx_fields.specs.declared.limits.TheConstants.{MOST_DETAILS};
 ghost use Rattle.rx_explain.specs.Listed.{of_answers, of_record};
 ghost use Rattle.rx_explain.specs.Parts.{AreEventParts, part_of_key};
 ghost use Rattle.rx_explain.specs.Traces.{event_of, events_of};
@@ -58,7 +59,7 @@ impl Events {
         transmissions: &[Transmission],
         replies: &[Reply],
     ) -> Result<Events, Memory>
-        requires few { length transmissions.now ≤ 100_000 }
+        requires few { length transmissions.now ≤ MOST_DETAILS }
         requires each { length replies.now ≡ length transmissions.now }
         ensures { IfOk result (λ events. events ≡ events_of 1 transmissions.now replies.now) }
     {
@@ -103,7 +104,7 @@ fn events_of(
     transmissions: &[Transmission],
     replies: &[Reply],
 ) -> Result<Vec<Event>, Memory>
-    requires few { length transmissions.now ≤ 100_000 }
+    requires few { length transmissions.now ≤ MOST_DETAILS }
     requires each { length replies.now ≡ length transmissions.now }
     ensures { IfOk result (λ events. events.items ≡ events_of 1 transmissions.now replies.now) }
 {

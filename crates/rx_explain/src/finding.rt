@@ -1,4 +1,5 @@
 ghost use Rattle.std.specs.Prelude.{◌≡◌, ◌++◌, ◌≤◌, IfOk, OnOk, length};
+ghost use Rattle.rx_fields.specs.declared.limits.TheConstants.{MOST_DETAILS};
 ghost use Rattle.rx_ledger.specs.Members.{is_same};
 ghost use Rattle.rx_explain.specs.Found.{found_at, found_in, has_number, has_reference, is_wanted};
 ghost use Rattle.rx_explain.specs.Listed.{of_answers, of_record};
@@ -30,7 +31,7 @@ pub fn find(
     transmissions: &[Transmission],
     replies: &[Reply],
 ) -> Result<Vec<At>, Memory>
-    requires few { length transmissions.now ≤ 100_000 }
+    requires few { length transmissions.now ≤ MOST_DETAILS }
     requires each { length replies.now ≡ length transmissions.now }
     ensures { IfOk result (λ found. found.items ≡ found_in wanted.now 1 transmissions.now replies.now) }
 {

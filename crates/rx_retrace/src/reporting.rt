@@ -1,4 +1,5 @@
 ghost use Rattle.std.specs.Prelude.{◌≡◌, ◌≤◌, IfErr, IfOk, length};
+ghost use Rattle.rx_fields.specs.declared.limits.TheConstants.{MOST_DETAILS};
 ghost use Rattle.rx_course.specs.Adjudicated.{IsAdjudicated};
 ghost use Rattle.rx_ledger.specs.Fold.{fold_replies};
 ghost use Rattle.rx_retrace.specs.Reported.{IsReported, IsTold};
@@ -55,7 +56,7 @@ fn adjudicated<R: Threads + Sync>(
     books: Books,
     batch: Batch,
 ) -> Result<Adjudicated, Memory>
-    requires { length batch.details ≤ 100_000 }
+    requires { length batch.details ≤ MOST_DETAILS }
     ensures lot { IfOk result (λ b. b.lot ≡ batch.head.lot) }
     ensures sheet { IfOk result (λ b. b.sheet ≡ sheet) }
     ensures opening { IfOk result (λ b. b.opening.ledger ≡ books.ledger) }
@@ -85,7 +86,7 @@ fn replies_to(
     opening: &Books,
     asked: &[Transmission],
 ) -> Result<Vec<Reply>, Memory>
-    requires { length asked.now ≤ 100_000 }
+    requires { length asked.now ≤ MOST_DETAILS }
     ensures { IfOk result (λ replies. replies.items ≡ fold_replies lot sheet.now 1 asked.now opening.now.ledger) }
 {
     let Finished { books: _, replies } = run_one(&NoGate, alloc, lot, sheet, opening, asked)?;
