@@ -31,7 +31,7 @@ import sys
 TOKEN = re.compile(r'b?"(?:\\.|[^"\\])*"|b?\'(?:\\.|[^\'\\])\'|[^\W\d][\w\'-]*|\d[\w.]*|\S')
 WORD = re.compile(r"[^\W\d]")
 NUMBER_OR_TEXT = re.compile(r"\d|b?[\"']")
-IMPORT = re.compile(r"(pub )?(ghost )?(use|mod)\b|#!?\[")
+IMPORT = re.compile(r"(pub(\(\w+\))? )?(ghost )?(use|mod)\b|#!?\[")
 GHOST_ROW = re.compile(r"ghost [\w-]+ = \{")
 TRAIT = re.compile(r"impl(<.*>)? (Eq|PartialEq|From<.*>) for |fn (eq\(&self, |from\()"
                    r"|ensures \{ IsTrue result ↔ \(self\.now ≡ other\.now\) \}$")

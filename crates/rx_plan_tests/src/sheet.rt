@@ -1,3 +1,4 @@
+use crate::table::same;
 use rx_fields::{Door, Period, Product, date_read};
 use rx_ledger::{Drug, Figures, Listed, Share, SheetKey};
 use rx_sheet::{SheetFault, one_reading, read_sheet};
@@ -83,13 +84,13 @@ fn the_plain_sheet(rt: HostRuntime) -> Result<(), Fail> {
     one_reading();
     let text = text(rt.alloc(), &PLAIN)?;
     let sheet = read_sheet(rt.alloc(), text.as_bytes())?;
-    assert_eq!(rt; *sheet.figures(), figures(None)?);
+    same!(rt; *sheet.figures(), figures(None)?);
     let drugs = [
         listed(b"00001000101", Share::Copay(1000), 2500)?,
         listed(b"00002000202", Share::Copay(3000), 100_000)?,
         listed(b"00003000303", Share::Copay(1000), 5000)?,
     ];
-    assert_eq!(rt; sheet.drugs(), drugs.as_slice());
+    same!(rt; sheet.drugs(), drugs.as_slice());
     Ok(())
 }
 
@@ -103,10 +104,10 @@ fn a_percentage_and_a_family_deductible(rt: HostRuntime) -> Result<(), Fail> {
     };
     let text = text(rt.alloc(), &lines)?;
     let sheet = read_sheet(rt.alloc(), text.as_bytes())?;
-    assert_eq!(rt; sheet.figures().family_deductible, Some(15_000));
+    same!(rt; sheet.figures().family_deductible, Some(15_000));
     let fourth = listed(b"00004000404", Share::Percent(20), 100_000)?;
-    assert_eq!(rt; sheet.drug(fourth.product), Some(fourth.drug));
-    assert_eq!(rt; sheet.drugs().len(), 4);
+    same!(rt; sheet.drug(fourth.product), Some(fourth.drug));
+    same!(rt; sheet.drugs().len(), 4);
     Ok(())
 }
 
@@ -161,7 +162,7 @@ fn damaged_sheets(rt: HostRuntime) -> Result<(), Fail> {
         ),
     ];
     for (lines, wanted) in cases {
-        assert_eq!(rt; fault(rt.alloc(), &lines)?, Some(wanted));
+        same!(rt; fault(rt.alloc(), &lines)?, Some(wanted));
     }
     Ok(())
 }
@@ -182,7 +183,7 @@ fn short_texts(rt: HostRuntime) {
     ];
     for (text, code, key) in cases {
         let fault = read_sheet(rt.alloc(), text).err();
-        assert_eq!(rt; fault.map(SheetFault::code), Some(code));
-        assert_eq!(rt; fault.and_then(SheetFault::key).map(SheetKey::code), key);
+        same!(rt; fault.map(SheetFault::code), Some(code));
+        same!(rt; fault.and_then(SheetFault::key).map(SheetKey::code), key);
     }
 }

@@ -4,7 +4,7 @@ use Rattle.std.proofs.lemmas.Option.{same_Some}
 use Rattle.rx_claim.specs.declared.transmission.Transmission.{Transmission}
 use Rattle.rx_ledger.specs.Basis.{HoldsRecord, Scope}
 use Rattle.rx_in_order.specs.Underway.{IsAwaited}
-use Rattle.rx_book_tests.proofs.in_order.answer_all.Goals as goal
+use Rattle.rx_order_tests.proofs.in_order.answer_all.Goals as goal
 
 pub record-requires-clause-awaited : goal.record-requires-clause-awaited
 record-requires-clause-awaited c =

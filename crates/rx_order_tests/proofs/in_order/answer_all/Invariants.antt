@@ -2,7 +2,7 @@
 use Rattle.std.proofs.Common.{◌≡◌}
 use Rattle.std.specs.List.{All}
 use Rattle.rx_in_order.specs.Underway.{IsAwaited}
-use Rattle.rx_book_tests.proofs.in_order.answer_all.Given as goal
+use Rattle.rx_order_tests.proofs.in_order.answer_all.Given as goal
 
 abbrev pub invariant-loop-at : goal.invariant-loop-at
 invariant-loop-at l =

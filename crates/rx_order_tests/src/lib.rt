@@ -1,0 +1,14 @@
+//! The tests of a record that is answered: on its parcel, and on the books underway. `claims` has the claims and the sheet that
+//! both are about.
+//!
+//! They stand apart from those crates, since a crate that has tests is proved twice.
+#![tactic(auto)]
+
+#[cfg(test)]
+mod adjudicate;
+#[cfg(test)]
+mod claims;
+#[cfg(test)]
+mod in_order;
+#[cfg(test)]
+mod table;
