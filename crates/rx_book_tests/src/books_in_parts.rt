@@ -1,5 +1,4 @@
 // What no clause says: that the texts of the worked cases are read and told alike, whatever the parts.
-use crate::table::same;
 use rx_books_kept::Books;
 use rx_books_text::BooksFault;
 use rx_fields::{Id, Person};
@@ -63,23 +62,23 @@ fn told_of<R: Threads + Sync>(rt: &R, alloc: Global, lines: &[u8]) -> Result<Boo
 #[test]
 fn damaged_totals_are_told(rt: HostRuntime) -> Result<(), Fail> {
     let alloc = rt.alloc();
-    same!(rt;
+    assert_eq!(rt;
         told_of(&rt, alloc, b"T|C100|5\nT|C200|0\n")?,
         BooksFault::Totals(6)
     );
-    same!(rt;
+    assert_eq!(rt;
         told_of(&rt, alloc, b"T|C100|0\nT|C200|0")?,
         BooksFault::Line(7)
     );
     let nine = text_of(alloc, b'9', b"T|C100|0\nT|C200|0\n")?;
-    same!(rt; told(&rt, alloc, &nine)?, BooksFault::Head);
-    same!(rt; told(&rt, alloc, b"")?, BooksFault::Head);
-    same!(rt; told_of(&rt, alloc, b"T|C100|0\n")?, BooksFault::Totals(7));
-    same!(rt;
+    assert_eq!(rt; told(&rt, alloc, &nine)?, BooksFault::Head);
+    assert_eq!(rt; told(&rt, alloc, b"")?, BooksFault::Head);
+    assert_eq!(rt; told_of(&rt, alloc, b"T|C100|0\n")?, BooksFault::Totals(7));
+    assert_eq!(rt;
         told_of(&rt, alloc, b"T|C100|0\nT|C200|0\nT|C300|0\n")?,
         BooksFault::UnknownMember(8)
     );
-    same!(rt;
+    assert_eq!(rt;
         told_of(&rt, alloc, b"T|C100|00\nT|C200|0\n")?,
         BooksFault::Line(6)
     );
@@ -92,16 +91,16 @@ fn damaged_claims_are_told(rt: HostRuntime) -> Result<(), Fail> {
     let alloc = rt.alloc();
     let unknown = b"C|1234567893|90|20251230|C300|01|00002000202|30000|30|30000|175|10000|3000|\
 000003100000051\nT|C100|0\nT|C200|0\n";
-    same!(rt; told_of(&rt, alloc, unknown)?, BooksFault::UnknownMember(6));
+    assert_eq!(rt; told_of(&rt, alloc, unknown)?, BooksFault::UnknownMember(6));
     let mut twice = text_of(alloc, b'1', OLD_CLAIM)?;
     twice.extend_from_slice(OLD_CLAIM)?;
-    same!(rt; told(&rt, alloc, &twice)?, BooksFault::Order(7));
+    assert_eq!(rt; told(&rt, alloc, &twice)?, BooksFault::Order(7));
     let older = text_of(alloc, b'2', OLD_CLAIM)?;
-    same!(rt; told(&rt, alloc, &older)?, BooksFault::Line(6));
+    assert_eq!(rt; told(&rt, alloc, &older)?, BooksFault::Line(6));
     let family = b"BOOKS|3|20260101|20261231\nM|C100|01|20260101|20261231|10000\n\
 C|1234567893|123|20260228|C100|01|00002000202|30000|30|30000|175|10000|3000|0|000004200000011\n\
 T|C100|13000|9999\n";
-    same!(rt; told(&rt, alloc, family)?, BooksFault::Totals(4));
+    assert_eq!(rt; told(&rt, alloc, family)?, BooksFault::Totals(4));
     Ok(())
 }
 
@@ -129,8 +128,8 @@ fn claims_are_read_and_written_in_any_parts(rt: HostRuntime) -> Result<(), Fail>
     let (family, person) = (Id::new(b"C200", 20)?, Person::new(b"01")?);
     for parts in 1..MOST {
         let books = Books::read_in_parts(&rt, alloc, parts, BOOKS)?;
-        same!(rt; books.deductible(&family, &person), Some(10_000));
-        same!(rt; books.out_of_pocket(&family), Some(13_000));
+        assert_eq!(rt; books.deductible(&family, &person), Some(10_000));
+        assert_eq!(rt; books.out_of_pocket(&family), Some(13_000));
         let written = books.write_in_parts(&rt, alloc, parts)?;
         assert!(rt; written.as_slice() == BOOKS);
         let mut all = Vec::new(alloc);

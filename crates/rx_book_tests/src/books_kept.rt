@@ -1,4 +1,3 @@
-use crate::table::same;
 use rx_books_kept::{Books, one_reading};
 use rx_books_text::BooksFault;
 use rx_claim::Amounts;
@@ -80,22 +79,22 @@ fn totals(books: &Books, family: &[u8], person: &[u8]) -> Result<[Option<u128>; 
 #[test]
 fn one_billing_is_counted(rt: HostRuntime) -> Result<(), Fail> {
     let books = after(rt.alloc(), this_year()?)?;
-    same!(rt;
+    assert_eq!(rt;
         totals(&books, b"C100", b"01")?,
         [Some(10_000), Some(13_000), Some(10_000)]
     );
-    same!(rt;
+    assert_eq!(rt;
         totals(&books, b"C100", b"04")?,
         [None, Some(13_000), Some(10_000)]
     );
-    same!(rt; totals(&books, b"C300", b"01")?, [None; 3]);
+    assert_eq!(rt; totals(&books, b"C300", b"01")?, [None; 3]);
     Ok(())
 }
 
 #[test]
 fn a_row_is_found(rt: HostRuntime) -> Result<(), Fail> {
     let books = after(rt.alloc(), this_year()?)?;
-    same!(rt;
+    assert_eq!(rt;
         books.row(&key(b"20260228")?).copied(),
         Some(billed(b"20260228")?)
     );
@@ -108,7 +107,7 @@ fn a_row_is_found(rt: HostRuntime) -> Result<(), Fail> {
 fn next_year_counts_nothing(rt: HostRuntime) -> Result<(), Fail> {
     let books = after(rt.alloc(), this_year()?)?;
     let next = books.copy(rt.alloc(), period(b"20270101", b"20271231")?)?;
-    same!(rt; totals(&next, b"C100", b"01")?, [Some(0); 3]);
+    assert_eq!(rt; totals(&next, b"C100", b"01")?, [Some(0); 3]);
     assert!(rt; books.period() != next.period());
     assert!(rt; books != next);
     Ok(())
@@ -118,8 +117,8 @@ fn next_year_counts_nothing(rt: HostRuntime) -> Result<(), Fail> {
 fn the_ledger_comes_back(rt: HostRuntime) -> Result<(), Fail> {
     let ledger = after_one_billing(rt.alloc())?;
     let back = after(rt.alloc(), this_year()?)?.ledger(rt.alloc())?;
-    same!(rt; back.members(), ledger.members());
-    same!(rt; back.rows(), ledger.rows());
+    assert_eq!(rt; back.members(), ledger.members());
+    assert_eq!(rt; back.rows(), ledger.rows());
     Ok(())
 }
 
@@ -127,7 +126,7 @@ fn the_ledger_comes_back(rt: HostRuntime) -> Result<(), Fail> {
 #[test]
 fn the_text_is_that_of_one_billing(rt: HostRuntime) -> Result<(), Fail> {
     let text = after(rt.alloc(), this_year()?)?.write(rt.alloc())?;
-    same!(rt; text.len(), 274);
+    assert_eq!(rt; text.len(), 274);
     assert!(rt;
         text.starts_with(b"BOOKS|3|20260101|20261231\nM|C100|01|20260101|20261231|10000\n")
     );
@@ -148,17 +147,17 @@ fn what_is_written_is_read(rt: HostRuntime) -> Result<(), Fail> {
 fn a_figure_that_is_no_sum_is_told(rt: HostRuntime) -> Result<(), Fail> {
     one_reading();
     let total = b"BOOKS|1|20260101|20261231\nM|C100|01|20260101|20261231|0\nT|C100|5\n";
-    same!(rt;
+    assert_eq!(rt;
         Books::read(rt.alloc(), total).err(),
         Some(BooksFault::Totals(3))
     );
     let deductible = b"BOOKS|1|20260101|20261231\nM|C100|01|20260101|20261231|1\nT|C100|0\n";
-    same!(rt;
+    assert_eq!(rt;
         Books::read(rt.alloc(), deductible).err(),
         Some(BooksFault::Totals(2))
     );
     let missing = b"BOOKS|1|20260101|20261231\nM|C100|01|20260101|20261231|0\n";
-    same!(rt;
+    assert_eq!(rt;
         Books::read(rt.alloc(), missing).err(),
         Some(BooksFault::Totals(3))
     );

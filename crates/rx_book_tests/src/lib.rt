@@ -7,5 +7,3 @@
 mod books_in_parts;
 #[cfg(test)]
 mod books_kept;
-#[cfg(test)]
-mod table;

@@ -1,5 +1,4 @@
 // The case desk-by-hand: three fills that reach the family maximum, from an order to the next by hand.
-use crate::table::same;
 use rx_adjudicate::{Done, Order, adjudicate};
 use rx_books_kept::Books;
 use rx_claim::{
@@ -179,9 +178,9 @@ fn done(alloc: Global, order: Order) -> Result<Done, Fail> {
 fn goes_alone(rt: &impl Abort, desk: &mut Desk, alloc: Global, place: u64) -> Result<(), Fail> {
     assert!(rt; desk.is_ready());
     let order = order(desk)?;
-    same!(*rt; order.place(), place);
+    assert_eq!(rt; order.place(), place);
     assert!(rt; !desk.is_ready());
-    same!(*rt; matches!(desk.next(), Next::Later), place < 3);
+    assert_eq!(rt; matches!(desk.next(), Next::Later), place < 3);
     let done = done(alloc, order)?;
     assert!(rt; desk.give(done).is_ok());
     Ok(())
@@ -223,7 +222,7 @@ fn sharers_go_one_after_another(rt: HostRuntime) -> Result<(), Fail> {
         Event::Take(3),
         Event::Give(3),
     ];
-    same!(rt; desk.history(), history.as_slice());
+    assert_eq!(rt; desk.history(), history.as_slice());
     Ok(())
 }
 
@@ -231,9 +230,9 @@ fn sharers_go_one_after_another(rt: HostRuntime) -> Result<(), Fail> {
 fn ends_with_the_books_of_the_case(rt: HostRuntime) -> Result<(), Fail> {
     let (family, third) = (Id::new(b"C100", 20)?, Person::new(b"03")?);
     let books = finished(rt.alloc())?.books;
-    same!(rt; books.out_of_pocket(&family), Some(30_000));
-    same!(rt; books.family_deductible(&family), Some(24_000));
-    same!(rt; books.deductible(&family, &third), Some(4000));
+    assert_eq!(rt; books.out_of_pocket(&family), Some(30_000));
+    assert_eq!(rt; books.family_deductible(&family), Some(24_000));
+    assert_eq!(rt; books.deductible(&family, &third), Some(4000));
     Ok(())
 }
 
@@ -241,9 +240,9 @@ fn ends_with_the_books_of_the_case(rt: HostRuntime) -> Result<(), Fail> {
 fn ends_with_the_replies_of_the_case(rt: HostRuntime) -> Result<(), Fail> {
     let replies = finished(rt.alloc())?.replies;
     let paid = replies.iter().map(|reply| patient_pay(reply).unwrap_or(0));
-    same!(rt; replies.len(), 3);
+    assert_eq!(rt; replies.len(), 3);
     for (amount, expected) in paid.zip([13_000, 13_000, 4000]) {
-        same!(rt; amount, expected);
+        assert_eq!(rt; amount, expected);
     }
     Ok(())
 }
@@ -274,7 +273,7 @@ fn turns_away_a_done_over_other_books(rt: HostRuntime) -> Result<(), Fail> {
     let stranger = first_done(rt.alloc(), b"20261130")?;
     let mut desk = with_one_out(rt.alloc())?;
     assert!(rt; desk.give(stranger).is_err());
-    same!(rt; desk.history(), [Event::Take(1)].as_slice());
+    assert_eq!(rt; desk.history(), [Event::Take(1)].as_slice());
     Ok(())
 }
 
@@ -283,7 +282,7 @@ fn turns_away_an_order_given_twice(rt: HostRuntime) -> Result<(), Fail> {
     let again = first_done(rt.alloc(), b"20261231")?;
     let mut desk = with_one_given(rt.alloc())?;
     assert!(rt; desk.give(again).is_err());
-    same!(rt; desk.history().len(), 2);
+    assert_eq!(rt; desk.history().len(), 2);
     Ok(())
 }
 
@@ -385,7 +384,7 @@ fn ends_as_in_file_order(rt: &impl Abort, alloc: Global, back: Back) -> Result<(
     let wanted = in_file_order(alloc, &ledger, &fills_by_turns(alloc)?)?;
     let finished = ended(alloc, &ledger, back)?;
     assert!(rt; finished.books == wanted.books);
-    same!(*rt; finished.replies.as_slice(), wanted.replies.as_slice());
+    assert_eq!(rt; finished.replies.as_slice(), wanted.replies.as_slice());
     Ok(())
 }
 

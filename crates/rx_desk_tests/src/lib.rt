@@ -5,5 +5,3 @@
 
 #[cfg(test)]
 mod desk;
-#[cfg(test)]
-mod table;

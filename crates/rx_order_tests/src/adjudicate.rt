@@ -1,26 +1,113 @@
 // What no clause says: that an order is made and answered, as the worked cases have it (docs/CASES.md).
-use crate::claims::{
-    DRUG, HEADER, base, bill, lot, plain_sheet, product, reference, reversal, today, year,
-};
-use crate::table::same;
 use rx_adjudicate::{Order, adjudicate, fits};
 use rx_claim::{
-    Amounts, Answer, Approved, Body, Codes, Echo, Outcome, Paid, Pricing, Refused, Rejected, Reply,
-    Transmission,
+    Amounts, Answer, Approved, Bill, BillParts, Body, Codes, Echo, EchoParts, Heard, Outcome, Paid,
+    Pricing, Refused, Rejected, Reply, Reversal, Transaction, Transactions, Transmission,
 };
 use rx_fields::{
-    Authorization, Cents, Code, Count, Days, Id, Key, Period, Person, Provider, Quantity, date_read,
+    Authorization, Cents, Code, Count, Days, Door, Id, Key, Lot, Period, Person, Product, Provider,
+    Quantity, Reference, date_read,
 };
-use rx_ledger::{Member, MemberKey, Row};
+use rx_ledger::{Drug, Figures, Member, MemberKey, Row, Share, Sheet};
 use rx_parcels::{Family, Few, KeyBook, Parcel};
 use std::alloc::Global;
 use std::test::Fail;
+
+const HEADER: EchoParts = EchoParts {
+    version: *b"D0",
+    code: *b"B1",
+    qualifier: *b"01",
+    provider: *b"1234567893     ",
+    date: *b"20260228",
+};
+
+fn this_year() -> Result<Period, Fail> {
+    Ok(Period::new(date_read(b"20260101")?, date_read(b"20261231")?).ok_or("a period")?)
+}
+
+fn reference(number: u64) -> Result<Reference, Fail> {
+    Ok(Reference::new(number).ok_or("a reference")?)
+}
+
+fn product(digits: &[u8]) -> Result<Product, Fail> {
+    Ok(Product::new(digits).ok_or("a product")?)
+}
+
+// The plain sheet.
+fn plain_sheet(alloc: Global) -> Result<Sheet, Fail> {
+    let figures = Figures {
+        door: Door {
+            bin: *b"900001",
+            pcn: *b"RXDEMO    ",
+        },
+        period: this_year()?,
+        member_deductible: 10_000,
+        family_maximum: 30_000,
+        refill_percent: 75,
+        max_days: 90,
+        fee: 175,
+        family_deductible: None,
+    };
+    let mut sheet = Sheet::new(alloc, figures)?;
+    list(&mut sheet, b"00001000101", 1_000, 2_500)?;
+    list(&mut sheet, b"00002000202", 3_000, 100_000)?;
+    list(&mut sheet, b"00003000303", 1_000, 5_000)?;
+    Ok(sheet)
+}
+
+fn list(sheet: &mut Sheet, digits: &[u8], copay: u64, price: u64) -> Result<(), Fail> {
+    let share = Share::Copay(copay);
+    Ok(sheet.add(product(digits)?, Drug { share, price })?)
+}
+
+fn lot(number: u32) -> Result<Lot, Fail> {
+    Ok(Lot::new(number, date_read(b"20260301")?).ok_or("a lot")?)
+}
 
 fn key(number: u64) -> Result<Key, Fail> {
     Ok(Key {
         provider: Provider::new(b"1234567893")?,
         reference: reference(number)?,
         date: date_read(b"20260228")?,
+    })
+}
+
+// The base claim with this reference, family and drug.
+fn bill(number: u64, family: &[u8], digits: &[u8]) -> Result<Transaction, Fail> {
+    let parts = BillParts {
+        reference: reference(number)?,
+        family: Id::new(family, 20)?,
+        person: Person::new(b"01")?,
+        product: product(digits)?,
+        quantity: Quantity::new(30_000).ok_or("a quantity")?,
+        days: Days::new(30).ok_or("days")?,
+        ingredient_cost: Cents::new(30_000).ok_or("a cost")?,
+        dispensing_fee: Cents::new(175),
+        usual_charge: Cents::new(40_000),
+        gross_amount: None,
+    };
+    Ok(Transaction::Bill(Bill::new(parts).ok_or("a charge")?))
+}
+
+fn base(number: u64, family: &[u8]) -> Result<Transaction, Fail> {
+    bill(number, family, b"00002000202")
+}
+
+fn reversal(number: u64) -> Result<Transaction, Fail> {
+    let (reference, product) = (reference(number)?, product(b"00002000202")?);
+    Ok(Transaction::Reverse(Reversal { reference, product }))
+}
+
+fn record(alloc: Global, transactions: &[Transaction]) -> Result<Transmission, Fail> {
+    let list = Transactions::new(transactions.to_vec(alloc)?)?;
+    let key = key(1)?;
+    Ok(Transmission {
+        echo: Echo::blanked(HEADER),
+        body: Body::Heard(Heard {
+            provider: key.provider,
+            date: key.date,
+            list,
+        }),
     })
 }
 
@@ -59,7 +146,7 @@ fn standing() -> Result<Row, Fail> {
         person: Person::new(b"01")?,
         days: Days::new(30).ok_or("days")?,
         pricing: pricing(30_000, 175, 10_000, 3_000)?,
-        product: product(DRUG)?,
+        product: product(b"00002000202")?,
         quantity: Quantity::new(30_000).ok_or("a quantity")?,
         number: Authorization::new(4_200_000_011).ok_or("a number")?,
     })
@@ -67,7 +154,7 @@ fn standing() -> Result<Row, Fail> {
 
 // The book of a family with the person 01.
 fn book(alloc: Global, family: &[u8]) -> Result<Family, Fail> {
-    let (family, person, coverage) = (Id::new(family, 20)?, Person::new(b"01")?, year()?);
+    let (family, person, coverage) = (Id::new(family, 20)?, Person::new(b"01")?, this_year()?);
     let mut book = Family::new(alloc, family, coverage);
     let key = MemberKey { family, person };
     if !book.is_past(&person) {
@@ -96,7 +183,7 @@ fn keys_with(row: Option<Row>) -> Result<Few<KeyBook>, Fail> {
 
 // The parcel of these keys and one family.
 fn parcel_of(keys: Few<KeyBook>, family: Family) -> Result<Parcel, Fail> {
-    parcel_with(year()?, keys, Few::One(family))
+    parcel_with(this_year()?, keys, Few::One(family))
 }
 
 fn empty_parcel(alloc: Global, period: Period) -> Result<Parcel, Fail> {
@@ -156,8 +243,8 @@ fn four_transactions(alloc: Global) -> Result<Order, Fail> {
     let transactions = [
         base(301, b"C100")?,
         base(301, b"C100")?,
-        bill(302, b"C100", b"01", b"00001000101")?,
-        bill(303, b"C100", b"01", b"00003000303")?,
+        bill(302, b"C100", b"00001000101")?,
+        bill(303, b"C100", b"00003000303")?,
     ];
     let mut keys = Vec::new(alloc);
     for reference in [301, 302, 303] {
@@ -167,7 +254,13 @@ fn four_transactions(alloc: Global) -> Result<Order, Fail> {
         })?;
     }
     let parcel = parcel_of(Few::Many(keys), book(alloc, b"C100")?)?;
-    ordered(alloc, 42, 1, today(alloc, transactions.as_slice())?, parcel)
+    ordered(
+        alloc,
+        42,
+        1,
+        record(alloc, transactions.as_slice())?,
+        parcel,
+    )
 }
 
 #[test]
@@ -182,11 +275,11 @@ fn four_transactions_in_one_record(rt: HostRuntime) -> Result<(), Fail> {
         Answer::Paid(fourth),
     ];
     let (after, reply) = done(rt.alloc(), four_transactions(rt.alloc())?)?;
-    same!(rt; answers(&reply), wanted.as_slice());
+    assert_eq!(rt; answers(&reply), wanted.as_slice());
     let family = Id::new(b"C100", 20)?;
-    same!(rt; after.out_of_pocket(&family), Some(14_925));
-    same!(rt; after.family_deductible(&family), Some(10_000));
-    same!(rt; after.rows(&family).len(), 3);
+    assert_eq!(rt; after.out_of_pocket(&family), Some(14_925));
+    assert_eq!(rt; after.family_deductible(&family), Some(10_000));
+    assert_eq!(rt; after.rows(&family).len(), 3);
     Ok(())
 }
 
@@ -198,23 +291,23 @@ fn same_key(alloc: Global) -> Result<Parcel, Fail> {
 #[test]
 fn same_key_another_family(rt: HostRuntime) -> Result<(), Fail> {
     let alloc = rt.alloc();
-    let asked = today(alloc, [base(123, b"C200")?].as_slice())?;
+    let asked = record(alloc, [base(123, b"C200")?].as_slice())?;
     let order = ordered(alloc, 43, 1, asked, same_key(alloc)?)?;
     let (after, reply) = done(alloc, order)?;
-    same!(rt; answers(&reply), [refused(Code::DuplicatePaid)?].as_slice());
+    assert_eq!(rt; answers(&reply), [refused(Code::DuplicatePaid)?].as_slice());
     assert!(rt; after == same_key(alloc)?);
     Ok(())
 }
 
 // The parcel after a reversal of 123 at its place in batch 44, and the reply to it.
 fn reversed(alloc: Global, place: u64, parcel: Parcel) -> Result<(Parcel, Reply), Fail> {
-    let asked = today(alloc, [reversal(123)?].as_slice())?;
+    let asked = record(alloc, [reversal(123)?].as_slice())?;
     done(alloc, ordered(alloc, 44, place, asked, parcel)?)
 }
 
 // The same for the base claim.
 fn billed(alloc: Global, place: u64, parcel: Parcel) -> Result<(Parcel, Reply), Fail> {
-    let asked = today(alloc, [base(123, b"C100")?].as_slice())?;
+    let asked = record(alloc, [base(123, b"C100")?].as_slice())?;
     done(alloc, ordered(alloc, 44, place, asked, parcel)?)
 }
 
@@ -235,24 +328,24 @@ fn paid_again() -> Result<Answer, Fail> {
 fn reverse_twice_and_bill_again(rt: HostRuntime) -> Result<(), Fail> {
     let alloc = rt.alloc();
     let (parcel, reply) = reversed(alloc, 1, after_one_billing(alloc)?)?;
-    same!(rt; answers(&reply), [taken_back()?].as_slice());
+    assert_eq!(rt; answers(&reply), [taken_back()?].as_slice());
     let (parcel, reply) = reversed(alloc, 2, parcel)?;
-    same!(rt;
+    assert_eq!(rt;
         answers(&reply),
         [refused(Code::ReversalNotProcessed)?].as_slice()
     );
-    same!(rt; parcel.row(&key(123)?), None);
+    assert_eq!(rt; parcel.row(&key(123)?), None);
     let (parcel, reply) = billed(alloc, 3, parcel)?;
-    same!(rt; answers(&reply), [paid_again()?].as_slice());
-    same!(rt; parcel.out_of_pocket(&Id::new(b"C100", 20)?), Some(13_000));
+    assert_eq!(rt; answers(&reply), [paid_again()?].as_slice());
+    assert_eq!(rt; parcel.out_of_pocket(&Id::new(b"C100", 20)?), Some(13_000));
     Ok(())
 }
 
 // Whether a parcel fits the billing of one-billing, and whether it fits its reversal.
 fn fits_both(alloc: Global, parcel: Parcel) -> Result<(bool, bool), Fail> {
     let sheet = plain_sheet(alloc)?;
-    let billed = today(alloc, [base(123, b"C100")?].as_slice())?;
-    let reversed = today(alloc, [reversal(123)?].as_slice())?;
+    let billed = record(alloc, [base(123, b"C100")?].as_slice())?;
+    let reversed = record(alloc, [reversal(123)?].as_slice())?;
     let terms = sheet.terms(lot(44)?, &billed);
     Ok((
         fits(&billed, &terms, &parcel),
@@ -263,10 +356,10 @@ fn fits_both(alloc: Global, parcel: Parcel) -> Result<(bool, bool), Fail> {
 #[test]
 fn fits_with_all_its_books(rt: HostRuntime) -> Result<(), Fail> {
     let alloc = rt.alloc();
-    same!(rt; fits_both(alloc, after_one_billing(alloc)?)?, (true, true));
+    assert_eq!(rt; fits_both(alloc, after_one_billing(alloc)?)?, (true, true));
     // No row stands under the key, so its reversal needs no family.
     let free = parcel_of(keys_with(None)?, book(alloc, b"C200")?)?;
-    same!(rt; fits_both(alloc, free)?, (false, true));
+    assert_eq!(rt; fits_both(alloc, free)?, (false, true));
     Ok(())
 }
 
@@ -274,8 +367,8 @@ fn fits_with_all_its_books(rt: HostRuntime) -> Result<(), Fail> {
 fn fits_not_without_a_book(rt: HostRuntime) -> Result<(), Fail> {
     let alloc = rt.alloc();
     let no_key = parcel_of(Few::Many(Vec::new(alloc)), book_with_row(alloc)?)?;
-    same!(rt; fits_both(alloc, no_key)?, (false, false));
-    same!(rt; fits_both(alloc, same_key(alloc)?)?, (false, false));
+    assert_eq!(rt; fits_both(alloc, no_key)?, (false, false));
+    assert_eq!(rt; fits_both(alloc, same_key(alloc)?)?, (false, false));
     Ok(())
 }
 
@@ -283,7 +376,7 @@ fn fits_not_without_a_book(rt: HostRuntime) -> Result<(), Fail> {
 fn fits_not_where_the_books_disagree(rt: HostRuntime) -> Result<(), Fail> {
     let alloc = rt.alloc();
     let torn = parcel_of(keys_with(None)?, book_with_row(alloc)?)?;
-    same!(rt; fits_both(alloc, torn)?, (false, false));
+    assert_eq!(rt; fits_both(alloc, torn)?, (false, false));
     Ok(())
 }
 
@@ -303,7 +396,7 @@ fn fits_in_the_period_of_its_terms_alone(rt: HostRuntime) -> Result<(), Fail> {
     let (sheet, asked) = (plain_sheet(alloc)?, rejected()?);
     let terms = sheet.terms(lot(42)?, &asked);
     let next = Period::new(date_read(b"20270101")?, date_read(b"20271231")?).ok_or("a period")?;
-    assert!(rt; fits(&asked, &terms, &empty_parcel(alloc, year()?)?));
+    assert!(rt; fits(&asked, &terms, &empty_parcel(alloc, this_year()?)?));
     assert!(rt; !fits(&asked, &terms, &empty_parcel(alloc, next)?));
     Ok(())
 }
@@ -319,7 +412,7 @@ fn a_rejected_header_changes_nothing(rt: HostRuntime) -> Result<(), Fail> {
 }
 
 fn reversing(alloc: Global, place: u64) -> Result<Order, Fail> {
-    let asked = today(alloc, [reversal(123)?].as_slice())?;
+    let asked = record(alloc, [reversal(123)?].as_slice())?;
     ordered(alloc, 44, place, asked, after_one_billing(alloc)?)
 }
 
@@ -329,7 +422,7 @@ fn orders_are_copied_and_compared(rt: HostRuntime) -> Result<(), Fail> {
     let order = reversing(alloc, 7)?;
     let copy = order.copy(alloc)?;
     assert!(rt; copy == order);
-    same!(rt; copy.place(), 7);
+    assert_eq!(rt; copy.place(), 7);
     assert!(rt; *copy.parcel() == after_one_billing(alloc)?);
     assert!(rt; copy != reversing(alloc, 8)?);
     Ok(())

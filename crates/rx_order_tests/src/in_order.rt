@@ -4,16 +4,27 @@ ghost use Rattle.std.specs.Prelude.{◌≡◌, ◌≤◌, length};
 ghost use Rattle.std.specs.List.{All};
 ghost use Rattle.rx_in_order.specs.Underway.{IsAwaited};
 
-use crate::claims::{self, day, lot, plain_sheet, record, reversal, sheet_with, today, year};
-use crate::table::same;
 use rx_books_kept::Books;
-use rx_claim::{Answer, Outcome, Reply, Transaction, Transmission};
-use rx_fields::{Authorization, Id, Lot, Person, digits_write};
+use rx_claim::{
+    Answer, Bill, BillParts, Body, Echo, EchoParts, Heard, Outcome, Reply, Reversal, Transaction,
+    Transactions, Transmission,
+};
+use rx_fields::{
+    Authorization, Cents, Day, Days, Door, Id, Lot, Period, Person, Product, Provider, Quantity,
+    Reference, date_read, digits_write,
+};
 use rx_in_order::{Finished, InOrder};
-use rx_ledger::{Ledger, Member, Row, Sheet};
+use rx_ledger::{Drug, Figures, Ledger, Member, Row, Share, Sheet};
 use std::alloc::Global;
-use std::process::Abort;
 use std::test::Fail;
+
+const HEADER: EchoParts = EchoParts {
+    version: *b"D0",
+    code: *b"B1",
+    qualifier: *b"01",
+    provider: *b"1234567893     ",
+    date: *b"20260228",
+};
 
 // One person, and nothing billed.
 const OPENING: &[u8] = b"BOOKS|3|20260101|20261231\nM|C100|01|20260101|20261231|0\nT|C100|0|0\n";
@@ -44,14 +55,99 @@ C|1234567893|302|20260228|C100|01|00001000101|30000|30|750|175|0|925|0|000004200
 C|1234567893|303|20260228|C100|01|00003000303|30000|30|1500|175|0|1000|0|000004200000014\n\
 T|C100|14925|10000\n";
 
-// The base claim with this reference, of C100.
-fn base(number: u64) -> Result<Transaction, Fail> {
-    claims::base(number, b"C100")
+fn day(digits: &[u8]) -> Result<Day, Fail> {
+    Ok(date_read(digits)?)
 }
 
-// The same of this person, and for this drug.
+fn product(digits: &[u8]) -> Result<Product, Fail> {
+    Ok(Product::new(digits).ok_or("a product")?)
+}
+
+fn year() -> Result<Period, Fail> {
+    Ok(Period::new(day(b"20260101")?, day(b"20261231")?).ok_or("a period")?)
+}
+
+// The plain sheet, with another percentage, and another copay for the drug of the base claim.
+fn sheet_with(alloc: Global, refill_percent: u64, copay: u64) -> Result<Sheet, Fail> {
+    if refill_percent > 100 {
+        return Err(Fail::from("a percentage"));
+    }
+    let figures = Figures {
+        door: Door {
+            bin: *b"900001",
+            pcn: *b"RXDEMO    ",
+        },
+        period: year()?,
+        member_deductible: 10_000,
+        family_maximum: 30_000,
+        refill_percent,
+        max_days: 90,
+        fee: 175,
+        family_deductible: None,
+    };
+    let mut sheet = Sheet::new(alloc, figures)?;
+    list(&mut sheet, b"00001000101", 1_000, 2_500)?;
+    list(&mut sheet, b"00002000202", copay, 100_000)?;
+    list(&mut sheet, b"00003000303", 1_000, 5_000)?;
+    Ok(sheet)
+}
+
+fn plain_sheet(alloc: Global) -> Result<Sheet, Fail> {
+    sheet_with(alloc, 75, 3_000)
+}
+
+fn list(sheet: &mut Sheet, digits: &[u8], copay: u64, price: u64) -> Result<(), Fail> {
+    let share = Share::Copay(copay);
+    Ok(sheet.add(product(digits)?, Drug { share, price })?)
+}
+
+// The base claim with this reference, person and drug.
 fn bill(number: u64, person: &[u8], digits: &[u8]) -> Result<Transaction, Fail> {
-    claims::bill(number, b"C100", person, digits)
+    let parts = BillParts {
+        reference: Reference::new(number).ok_or("a reference")?,
+        family: Id::new(b"C100", 20)?,
+        person: Person::new(person)?,
+        product: product(digits)?,
+        quantity: Quantity::new(30_000).ok_or("a quantity")?,
+        days: Days::new(30).ok_or("days")?,
+        ingredient_cost: Cents::new(30_000).ok_or("a cost")?,
+        dispensing_fee: Cents::new(175),
+        usual_charge: Cents::new(40_000),
+        gross_amount: None,
+    };
+    Ok(Transaction::Bill(Bill::new(parts).ok_or("a charge")?))
+}
+
+fn base(number: u64) -> Result<Transaction, Fail> {
+    bill(number, b"01", b"00002000202")
+}
+
+fn reversal(number: u64) -> Result<Transaction, Fail> {
+    Ok(Transaction::Reverse(Reversal {
+        reference: Reference::new(number).ok_or("a reference")?,
+        product: product(b"00002000202")?,
+    }))
+}
+
+fn record(alloc: Global, date: &[u8], transactions: &[Transaction]) -> Result<Transmission, Fail> {
+    let list = Transactions::new(transactions.to_vec(alloc)?)?;
+    Ok(Transmission {
+        echo: Echo::blanked(HEADER),
+        body: Body::Heard(Heard {
+            provider: Provider::new(b"1234567893")?,
+            date: day(date)?,
+            list,
+        }),
+    })
+}
+
+// A record on the date of the base claim.
+fn today(alloc: Global, transactions: &[Transaction]) -> Result<Transmission, Fail> {
+    record(alloc, b"20260228", transactions)
+}
+
+fn lot(number: u32) -> Result<Lot, Fail> {
+    Ok(Lot::new(number, day(b"20260301")?).ok_or("a lot")?)
 }
 
 // The books after the records of a batch, and the replies to them.
@@ -143,19 +239,6 @@ fn figures(answer: &Answer) -> Option<(Authorization, u64, u64)> {
     }
 }
 
-// The answers have these statuses, and the books after them are of this text.
-fn ended(
-    rt: &impl Abort,
-    alloc: Global,
-    finished: &Finished,
-    wanted: &[u8],
-    text: &[u8],
-) -> Result<(), Fail> {
-    same!(*rt; statuses(alloc, &finished.replies)?.as_slice(), wanted);
-    same!(*rt; finished.books.write(alloc)?.as_slice(), text);
-    Ok(())
-}
-
 // Thirty days were filled on 1 February. So many percent of them have to be over, whole days counted in hundredths.
 #[test]
 fn a_refill_is_too_soon_up_to_its_boundary(rt: HostRuntime) -> Result<(), Fail> {
@@ -192,7 +275,7 @@ fn a_fill_taken_back_makes_none_too_soon(rt: HostRuntime) -> Result<(), Fail> {
         record(alloc, b"20260224", &[base(125)?])?,
     ];
     let finished = run_on(alloc, FILLED, &asked)?;
-    same!(rt;
+    assert_eq!(rt;
         statuses(alloc, &finished.replies)?.as_slice(),
         b"R79PAPR79".as_slice()
     );
@@ -208,7 +291,13 @@ fn a_transaction_is_on_the_books_after_the_one_before(rt: HostRuntime) -> Result
         bill(303, b"01", b"00003000303")?,
     );
     let asked = [today(alloc, &[base(301)?, base(301)?, second, third])?];
-    ended(&rt, alloc, &run_on(alloc, OPENING, &asked)?, b"PDPP", FOUR)
+    let finished = run_on(alloc, OPENING, &asked)?;
+    assert_eq!(rt;
+        statuses(alloc, &finished.replies)?.as_slice(),
+        b"PDPP".as_slice()
+    );
+    assert!(rt; finished.books.write(alloc)?.as_slice() == FOUR);
+    Ok(())
 }
 
 // The last of 1,000 is billed, then the first: the family's figures are of both, the deductible of each alone.
@@ -228,14 +317,14 @@ fn a_family_has_a_thousand_members(rt: HostRuntime) -> Result<(), Fail> {
     ];
     let books = Books::from_ledger(alloc, &ledger, year()?)?;
     let Finished { books, replies } = run(alloc, lot(42)?, &plain_sheet(alloc)?, books, &asked)?;
-    same!(rt; statuses(alloc, &replies)?.as_slice(), b"PP".as_slice());
-    same!(rt; books.out_of_pocket(&family), Some(26_000));
-    same!(rt; books.family_deductible(&family), Some(20_000));
-    same!(rt;
+    assert_eq!(rt; statuses(alloc, &replies)?.as_slice(), b"PP".as_slice());
+    assert_eq!(rt; books.out_of_pocket(&family), Some(26_000));
+    assert_eq!(rt; books.family_deductible(&family), Some(20_000));
+    assert_eq!(rt;
         books.deductible(&family, &Person::new(b"999")?),
         Some(10_000)
     );
-    same!(rt; books.deductible(&family, &Person::new(b"500")?), Some(0));
+    assert_eq!(rt; books.deductible(&family, &Person::new(b"500")?), Some(0));
     Ok(())
 }
 
@@ -250,7 +339,12 @@ fn a_claim_is_taken_back_once_and_billed_again(rt: HostRuntime) -> Result<(), Fa
     ];
     let books = Books::read(alloc, BILLED)?;
     let finished = run(alloc, lot(44)?, &plain_sheet(alloc)?, books, &asked)?;
-    ended(&rt, alloc, &finished, b"AR87P", BILLED_AGAIN)
+    assert_eq!(rt;
+        statuses(alloc, &finished.replies)?.as_slice(),
+        b"AR87P".as_slice()
+    );
+    assert!(rt; finished.books.write(alloc)?.as_slice() == BILLED_AGAIN);
+    Ok(())
 }
 
 // What was paid is told again, whatever the sheet says by now: 13,000 of 30,175 cents are the patient's, as under a copay of
@@ -267,13 +361,17 @@ fn a_claim_billed_twice_is_not_priced_again(rt: HostRuntime) -> Result<(), Fail>
         books,
         &asked,
     )?;
-    ended(&rt, alloc, &finished, b"D", BILLED)?;
+    assert_eq!(rt;
+        statuses(alloc, &finished.replies)?.as_slice(),
+        b"D".as_slice()
+    );
     let all = answers(alloc, &finished.replies)?;
     let number = Authorization::new(4_200_000_011).ok_or("a number")?;
-    same!(rt;
+    assert_eq!(rt;
         all.first().and_then(figures),
         Some((number, 13_000, 17_175))
     );
+    assert!(rt; finished.books.write(alloc)?.as_slice() == BILLED);
     Ok(())
 }
 

@@ -1,5 +1,4 @@
-//! The tests of a record that is answered: on its parcel, and on the books underway. `claims` has the claims and the sheet that
-//! both are about.
+//! The tests of a record that is answered: on its parcel, and on the books underway.
 //!
 //! They stand apart from those crates, since a crate that has tests is proved twice.
 #![tactic(auto)]
@@ -7,8 +6,4 @@
 #[cfg(test)]
 mod adjudicate;
 #[cfg(test)]
-mod claims;
-#[cfg(test)]
 mod in_order;
-#[cfg(test)]
-mod table;

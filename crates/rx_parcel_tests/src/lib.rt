@@ -5,5 +5,3 @@
 
 #[cfg(test)]
 mod parcels;
-#[cfg(test)]
-mod table;

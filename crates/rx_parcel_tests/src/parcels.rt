@@ -1,5 +1,4 @@
 // What no clause says: that the calls succeed, on books whose figures were counted by hand.
-use crate::table::same;
 use rx_claim::Amounts;
 use rx_fields::{
     Authorization, Days, Id, Key, Period, Person, Product, Provider, Quantity, Reference, date_read,
@@ -77,9 +76,7 @@ fn enroll(book: &mut Family, text: &[u8]) -> Result<(), Fail> {
     Err(Fail::from("a member after the others"))
 }
 
-// Adds one-billing's claim under a key to the family's book.
-fn stand(book: &mut Family, key: Key, family: &[u8]) -> Result<(), Fail> {
-    let row = claim(key, family)?;
+fn stand(book: &mut Family, row: Row) -> Result<(), Fail> {
     if book.can_add(&row) {
         return Ok(book.add(row)?);
     }
@@ -97,7 +94,7 @@ fn book(alloc: Global, family: &[u8]) -> Result<Family, Fail> {
 // The book of a family with one-billing's claim under a key.
 fn book_with(alloc: Global, family: &[u8], reference: u64) -> Result<Family, Fail> {
     let mut book = book(alloc, family)?;
-    stand(&mut book, key(reference)?, family)?;
+    stand(&mut book, claim(key(reference)?, family)?)?;
     Ok(book)
 }
 
@@ -105,7 +102,8 @@ fn key_book(key: Key, row: Option<Row>) -> Few<KeyBook> {
     Few::One(KeyBook { key, row })
 }
 
-fn parcel_of(period: Period, keys: Few<KeyBook>, families: Few<Family>) -> Result<Parcel, Fail> {
+fn parcel_of(keys: Few<KeyBook>, families: Few<Family>) -> Result<Parcel, Fail> {
+    let period = this_year()?;
     if Parcel::are_books(period, keys.as_slice(), families.as_slice()) {
         return Ok(Parcel::new(period, keys, families));
     }
@@ -114,12 +112,10 @@ fn parcel_of(period: Period, keys: Few<KeyBook>, families: Few<Family>) -> Resul
 
 // The key of reference 123 without a row, and the family C100.
 fn opening(alloc: Global) -> Result<Parcel, Fail> {
-    beside(None, book(alloc, b"C100")?)
+    parcel_of(key_book(key(123)?, None), Few::One(book(alloc, b"C100")?))
 }
 
-// Adds one-billing's claim under a key to the parcel.
-fn put(parcel: &mut Parcel, key: Key) -> Result<(), Fail> {
-    let row = claim(key, b"C100")?;
+fn put(parcel: &mut Parcel, row: Row) -> Result<(), Fail> {
     if !parcel.agrees() || !parcel.has_key(&row.key) || !parcel.has_family(&row.family) {
         return Err(Fail::from("the books of the row"));
     }
@@ -143,56 +139,49 @@ fn take_out(parcel: &mut Parcel, key: &Key) -> Result<(), Fail> {
 // The opening with one-billing's claim put in.
 fn after_one_billing(alloc: Global) -> Result<Parcel, Fail> {
     let mut parcel = opening(alloc)?;
-    put(&mut parcel, key(123)?)?;
+    put(&mut parcel, claim(key(123)?, b"C100")?)?;
     Ok(parcel)
-}
-
-// Whether one-billing's claim stands under the key, and is the one claim of its family.
-fn stands_alone(parcel: &Parcel, key: Key) -> Result<bool, Fail> {
-    let row = claim(key, b"C100")?;
-    let is_held = are_same(&parcel.row(&key), &Some(row));
-    Ok(is_held && are_same(&parcel.rows(&row.family), &[row].as_slice()))
 }
 
 #[test]
 fn a_row_stands_in_both_books(rt: HostRuntime) -> Result<(), Fail> {
-    let (key, other) = (key(123)?, id(b"C200")?);
+    let (c100, row) = (id(b"C100")?, claim(key(123)?, b"C100")?);
     let parcel = after_one_billing(rt.alloc())?;
-    assert!(rt; stands_alone(&parcel, key)?);
-    assert!(rt; parcel.rows(&other).is_empty());
+    assert_eq!(rt; parcel.row(&row.key), Some(row));
+    assert_eq!(rt; parcel.rows(&c100), [row].as_slice());
+    assert!(rt; parcel.rows(&id(b"C200")?).is_empty());
     Ok(())
 }
 
 #[test]
 fn a_row_counts_for_its_person_and_family(rt: HostRuntime) -> Result<(), Fail> {
-    let (c100, c200) = (id(b"C100")?, id(b"C200")?);
-    let (first, second, ninth) = (person(b"01")?, person(b"02")?, person(b"09")?);
+    let c100 = id(b"C100")?;
     let parcel = after_one_billing(rt.alloc())?;
-    same!(rt; parcel.deductible(&c100, &first), Some(10_000));
-    same!(rt; parcel.deductible(&c100, &second), Some(0));
-    same!(rt; parcel.deductible(&c100, &ninth), None);
-    same!(rt; parcel.out_of_pocket(&c100), Some(13_000));
-    same!(rt; parcel.family_deductible(&c100), Some(10_000));
-    same!(rt; parcel.out_of_pocket(&c200), None);
+    assert_eq!(rt; parcel.deductible(&c100, &person(b"01")?), Some(10_000));
+    assert_eq!(rt; parcel.deductible(&c100, &person(b"02")?), Some(0));
+    assert_eq!(rt; parcel.deductible(&c100, &person(b"09")?), None);
+    assert_eq!(rt; parcel.out_of_pocket(&c100), Some(13_000));
+    assert_eq!(rt; parcel.family_deductible(&c100), Some(10_000));
+    assert_eq!(rt; parcel.out_of_pocket(&id(b"C200")?), None);
     Ok(())
 }
 
 #[test]
 fn a_row_goes_out_of_both_books(rt: HostRuntime) -> Result<(), Fail> {
-    let (c100, key) = (id(b"C100")?, key(123)?);
+    let c100 = id(b"C100")?;
     let mut parcel = after_one_billing(rt.alloc())?;
-    take_out(&mut parcel, &key)?;
-    assert!(rt; parcel.row(&key).is_none());
+    take_out(&mut parcel, &key(123)?)?;
+    assert_eq!(rt; parcel.row(&key(123)?), None);
     assert!(rt; parcel.rows(&c100).is_empty());
-    same!(rt; parcel.out_of_pocket(&c100), Some(0));
-    assert!(rt; are_same(&parcel, &opening(rt.alloc())?));
+    assert_eq!(rt; parcel.out_of_pocket(&c100), Some(0));
+    assert!(rt; parcel == opening(rt.alloc())?);
     Ok(())
 }
 
 #[test]
 fn a_parcel_tells_what_it_holds(rt: HostRuntime) -> Result<(), Fail> {
     let parcel = opening(rt.alloc())?;
-    same!(rt; parcel.period(), this_year()?);
+    assert_eq!(rt; parcel.period(), this_year()?);
     assert!(rt; parcel.has_key(&key(123)?));
     assert!(rt; !parcel.has_key(&key(124)?));
     assert!(rt; parcel.has_family(&id(b"C100")?));
@@ -202,24 +191,14 @@ fn a_parcel_tells_what_it_holds(rt: HostRuntime) -> Result<(), Fail> {
 
 #[test]
 fn a_parcel_tells_its_members(rt: HostRuntime) -> Result<(), Fail> {
-    let (family, other, person, coverage) = (
-        id(b"C100")?,
-        id(b"C200")?,
-        person(b"02")?,
-        this_year()?,
-    );
-    let key = MemberKey { family, person };
     let parcel = opening(rt.alloc())?;
-    same!(rt; parcel.member(&family, &person), Some(Member { key, coverage }));
-    same!(rt; parcel.member(&other, &person), None);
-    Ok(())
-}
-
-#[test]
-fn a_parcel_is_its_books(rt: HostRuntime) -> Result<(), Fail> {
-    let (keys, families) = opening(rt.alloc())?.into_books();
-    same!(rt; keys.as_slice().len(), 1);
-    same!(rt; families.as_slice().len(), 1);
+    let (family, person) = (id(b"C100")?, person(b"02")?);
+    let member = parcel.member(&family, &person).ok_or("a member")?;
+    assert_eq!(rt; member.key, MemberKey { family, person });
+    assert_eq!(rt; parcel.member(&id(b"C200")?, &person), None);
+    let (keys, families) = parcel.into_books();
+    assert_eq!(rt; keys.as_slice().len(), 1);
+    assert_eq!(rt; families.as_slice().len(), 1);
     Ok(())
 }
 
@@ -227,9 +206,9 @@ fn a_parcel_is_its_books(rt: HostRuntime) -> Result<(), Fail> {
 fn copies_are_equal_until_one_changes(rt: HostRuntime) -> Result<(), Fail> {
     let parcel = after_one_billing(rt.alloc())?;
     let mut copy = parcel.copy(rt.alloc())?;
-    assert!(rt; are_same(&copy, &parcel));
+    assert!(rt; copy == parcel);
     take_out(&mut copy, &key(123)?)?;
-    assert!(rt; !are_same(&copy, &parcel));
+    assert!(rt; copy != parcel);
     Ok(())
 }
 
@@ -245,7 +224,7 @@ fn families_of_two_periods_differ(rt: HostRuntime) -> Result<(), Fail> {
 
 // The parcel of the key 123 with this row or none, and one family.
 fn beside(row: Option<Row>, family: Family) -> Result<Parcel, Fail> {
-    parcel_of(this_year()?, key_book(key(123)?, row), Few::One(family))
+    parcel_of(key_book(key(123)?, row), Few::One(family))
 }
 
 #[test]
@@ -264,9 +243,9 @@ fn a_family_without_members_counts_nothing(rt: HostRuntime) -> Result<(), Fail> 
     let c300 = id(b"C300")?;
     let empty = Family::new(rt.alloc(), c300, this_year()?);
     let parcel = beside(None, empty)?;
-    same!(rt; parcel.out_of_pocket(&c300), Some(0));
-    same!(rt; parcel.family_deductible(&c300), Some(0));
-    same!(rt; parcel.deductible(&c300, &person(b"01")?), None);
+    assert_eq!(rt; parcel.out_of_pocket(&c300), Some(0));
+    assert_eq!(rt; parcel.family_deductible(&c300), Some(0));
+    assert_eq!(rt; parcel.deductible(&c300, &person(b"01")?), None);
     Ok(())
 }
 
@@ -275,11 +254,7 @@ fn two_families(alloc: Global, of_c100: u64, of_c200: u64) -> Result<Parcel, Fai
     let mut families = Vec::new(alloc);
     families.push(book_with(alloc, b"C100", of_c100)?)?;
     families.push(book_with(alloc, b"C200", of_c200)?)?;
-    parcel_of(
-        this_year()?,
-        Few::Many(Vec::new(alloc)),
-        Few::Many(families),
-    )
+    parcel_of(Few::Many(Vec::new(alloc)), Few::Many(families))
 }
 
 #[test]
@@ -330,38 +305,31 @@ fn listed_opening(alloc: Global) -> Result<Parcel, Fail> {
     ]?;
     let mut families = Vec::new(alloc);
     families.push(book(alloc, b"C100")?)?;
-    parcel_of(this_year()?, Few::Many(keys), Few::Many(families))
+    parcel_of(Few::Many(keys), Few::Many(families))
 }
 
 #[test]
 fn a_list_of_one_is_like_one_in_place(rt: HostRuntime) -> Result<(), Fail> {
     let (opening, mut listed) = (opening(rt.alloc())?, listed_opening(rt.alloc())?);
-    assert!(rt; are_same(&listed, &opening));
-    assert!(rt; are_same(&listed.copy(rt.alloc())?, &opening));
-    put(&mut listed, key(123)?)?;
-    assert!(rt; are_same(&listed, &after_one_billing(rt.alloc())?));
+    assert!(rt; listed == opening);
+    assert!(rt; listed.copy(rt.alloc())? == opening);
+    put(&mut listed, claim(key(123)?, b"C100")?)?;
+    assert!(rt; listed == after_one_billing(rt.alloc())?);
     take_out(&mut listed, &key(123)?)?;
-    assert!(rt; are_same(&listed, &opening));
+    assert!(rt; listed == opening);
     Ok(())
-}
-
-// The book of C100 with one-billing's claim, and with another under this key.
-fn book_with_another(alloc: Global, key: Key) -> Result<Family, Fail> {
-    let mut book = book_with(alloc, b"C100", 123)?;
-    stand(&mut book, key, b"C100")?;
-    Ok(book)
 }
 
 #[test]
 fn a_claim_of_last_year_counts_nothing(rt: HostRuntime) -> Result<(), Fail> {
-    let key = dated(90, b"20251230")?;
-    let period = this_year()?;
-    same!(rt; counted_in(period, &claim(key, b"C100")?).out_of_pocket, 0);
-    let mut book = book_with_another(rt.alloc(), key)?;
-    same!(rt; book.out_of_pocket(), 13_000);
-    same!(rt; book.remove(&key).map(|row| row.key), Some(key));
-    same!(rt; book.family_deductible(), 10_000);
-    assert!(rt; book.remove(&key).is_none());
+    let earlier = claim(dated(90, b"20251230")?, b"C100")?;
+    assert_eq!(rt; counted_in(this_year()?, &earlier).out_of_pocket, 0);
+    let mut book = book_with(rt.alloc(), b"C100", 123)?;
+    stand(&mut book, earlier)?;
+    assert_eq!(rt; book.out_of_pocket(), 13_000);
+    assert_eq!(rt; book.remove(&earlier.key), Some(earlier));
+    assert_eq!(rt; book.family_deductible(), 10_000);
+    assert_eq!(rt; book.remove(&earlier.key), None);
     Ok(())
 }
 
@@ -397,7 +365,7 @@ fn has_members(book: &Family, persons: &[&[u8]]) -> Result<bool, Fail> {
 fn a_fifth_member_follows_the_four(rt: HostRuntime) -> Result<(), Fail> {
     let mut book = family_of_four(rt.alloc())?;
     assert!(rt; has_members(&book, &[b"01", b"02", b"03", b"04"])?);
-    same!(rt; book.member(&person(b"05")?), None);
+    assert_eq!(rt; book.member(&person(b"05")?), None);
     enroll(&mut book, b"05")?;
     assert!(rt; has_members(&book, &[b"01", b"02", b"03", b"04", b"05"])?);
     assert!(rt; book.member(&person(b"05")?).is_some());
@@ -409,13 +377,13 @@ fn a_fifth_member_follows_the_four(rt: HostRuntime) -> Result<(), Fail> {
 #[test]
 fn a_fifth_member_leaves_the_deductibles(rt: HostRuntime) -> Result<(), Fail> {
     let mut book = family_of_four(rt.alloc())?;
-    same!(rt; book.deductible(&person(b"01")?), Some(10_000));
-    same!(rt; book.deductible(&person(b"04")?), Some(0));
-    same!(rt; book.deductible(&person(b"05")?), None);
+    assert_eq!(rt; book.deductible(&person(b"01")?), Some(10_000));
+    assert_eq!(rt; book.deductible(&person(b"04")?), Some(0));
+    assert_eq!(rt; book.deductible(&person(b"05")?), None);
     enroll(&mut book, b"05")?;
-    same!(rt; book.deductible(&person(b"01")?), Some(10_000));
-    same!(rt; book.deductible(&person(b"04")?), Some(0));
-    same!(rt; book.deductible(&person(b"05")?), Some(0));
+    assert_eq!(rt; book.deductible(&person(b"01")?), Some(10_000));
+    assert_eq!(rt; book.deductible(&person(b"04")?), Some(0));
+    assert_eq!(rt; book.deductible(&person(b"05")?), Some(0));
     Ok(())
 }
 
@@ -423,12 +391,12 @@ fn a_fifth_member_leaves_the_deductibles(rt: HostRuntime) -> Result<(), Fail> {
 fn families_of_four_and_five_are_copied(rt: HostRuntime) -> Result<(), Fail> {
     let mut book = family_of_four(rt.alloc())?;
     let four = book.copy(rt.alloc())?;
-    assert!(rt; are_same(&four, &book));
+    assert!(rt; four == book);
     enroll(&mut book, b"05")?;
-    assert!(rt; !are_same(&four, &book));
+    assert!(rt; four != book);
     assert!(rt; has_members(&four, &[b"01", b"02", b"03", b"04"])?);
     let five = book.copy(rt.alloc())?;
-    assert!(rt; are_same(&five, &book));
+    assert!(rt; five == book);
     assert!(rt; has_members(&five, &[b"01", b"02", b"03", b"04", b"05"])?);
     Ok(())
 }
@@ -452,19 +420,12 @@ fn footprints_ascend(rt: HostRuntime) -> Result<(), Fail> {
 #[test]
 fn footprints_tell_what_they_name(rt: HostRuntime) -> Result<(), Fail> {
     let alloc = rt.alloc();
-    let (own, other) = ((key(124)?, id(b"C100")?), (key(125)?, id(b"C200")?));
     let names = footprint(alloc, 123, 124)?.ok_or("in order")?;
-    assert!(rt; names.has_key(&own.0) && names.has_family(&own.1));
-    assert!(rt; !names.has_key(&other.0) && !names.has_family(&other.1));
-    Ok(())
-}
-
-#[test]
-fn footprints_of_other_keys_differ(rt: HostRuntime) -> Result<(), Fail> {
-    let alloc = rt.alloc();
-    let names = footprint(alloc, 123, 124)?;
-    let others = footprint(alloc, 123, 125)?;
-    assert!(rt; are_same(&names, &footprint(alloc, 123, 124)?));
-    assert!(rt; !are_same(&names, &others));
+    assert!(rt; names.has_key(&key(124)?));
+    assert!(rt; !names.has_key(&key(125)?));
+    assert!(rt; names.has_family(&id(b"C100")?));
+    assert!(rt; !names.has_family(&id(b"C200")?));
+    assert!(rt; names.copy(alloc)? == names);
+    assert!(rt; names != footprint(alloc, 123, 125)?.ok_or("in order")?);
     Ok(())
 }

@@ -1,4 +1,3 @@
-use crate::table::same;
 use rx_claim::Amounts;
 use rx_fields::{
     Authorization, Days, Id, Key, Person, Product, Provider, Quantity, Reference, date_read,
@@ -68,12 +67,12 @@ fn standing(reference: u64, family: &[u8]) -> Result<Row, Fail> {
 
 #[test]
 fn members_and_rows_have_their_limits(rt: HostRuntime) -> Result<(), Fail> {
-    same!(rt; member(b"C100", b"01", b"20261231", b"20260101")?, None);
+    assert_eq!(rt; member(b"C100", b"01", b"20261231", b"20260101")?, None);
     assert!(rt; member(b"C100", b"01", b"20260101", b"20260101")?.is_some());
-    same!(rt; claim(90, b"C100", 40_000)?, None);
+    assert_eq!(rt; claim(90, b"C100", 40_000)?, None);
     assert!(rt; claim(90, b"C100", 27_175)?.is_some());
-    same!(rt; claim(90, b"C100", 27_176)?, None);
-    same!(rt; standing(90, b"C100")?.pricing.total_paid(), 17_175);
+    assert_eq!(rt; claim(90, b"C100", 27_176)?, None);
+    assert_eq!(rt; standing(90, b"C100")?.pricing.total_paid(), 17_175);
     Ok(())
 }
 
@@ -81,10 +80,10 @@ fn members_and_rows_have_their_limits(rt: HostRuntime) -> Result<(), Fail> {
 fn a_member_is_added_once(rt: HostRuntime) -> Result<(), Fail> {
     let mut ledger = opening(rt.alloc())?;
     let again = ledger.add_member(covered(b"C100", b"02")?);
-    same!(rt; again, Err(AddError::There));
-    same!(rt; ledger.members().len(), 4);
+    assert_eq!(rt; again, Err(AddError::There));
+    assert_eq!(rt; ledger.members().len(), 4);
     for (member, (family, person)) in ledger.members().iter().zip(MEMBERS) {
-        same!(rt; *member, covered(family, person)?);
+        assert_eq!(rt; *member, covered(family, person)?);
     }
     Ok(())
 }
@@ -100,13 +99,13 @@ fn a_row_is_added_once_for_a_listed_member(rt: HostRuntime) -> Result<(), Fail> 
         (91, b"C300", Err(AddError::There)),
     ];
     for (reference, family, answer) in adds {
-        same!(rt; ledger.add_row(standing(reference, family)?), answer);
+        assert_eq!(rt; ledger.add_row(standing(reference, family)?), answer);
     }
-    same!(rt;
+    assert_eq!(rt;
         ledger.rows(),
         [standing(90, b"C200")?, standing(91, b"C100")?].as_slice()
     );
-    same!(rt;
+    assert_eq!(rt;
         [
             AddError::There.code(),
             AddError::Unknown.code(),
@@ -131,16 +130,16 @@ fn a_row_is_found_and_taken_out(rt: HostRuntime) -> Result<(), Fail> {
     let mut ledger = opening(rt.alloc())?;
     ledger.add_row(standing(90, b"C100")?)?;
     let copy = ledger.copy(rt.alloc())?;
-    same!(rt; ledger.row_under(&key(91)?), None);
-    same!(rt; taken_out(&mut ledger, &key(91)?)?, None);
-    same!(rt;
+    assert_eq!(rt; ledger.row_under(&key(91)?), None);
+    assert_eq!(rt; taken_out(&mut ledger, &key(91)?)?, None);
+    assert_eq!(rt;
         taken_out(&mut ledger, &key(90)?)?,
         Some(standing(90, b"C100")?)
     );
-    same!(rt; ledger.row_under(&key(90)?), None);
+    assert_eq!(rt; ledger.row_under(&key(90)?), None);
     assert!(rt; ledger.rows().is_empty());
-    same!(rt; ledger.members().len(), 4);
-    same!(rt; copy.rows(), [standing(90, b"C100")?].as_slice());
-    same!(rt; copy.members(), ledger.members());
+    assert_eq!(rt; ledger.members().len(), 4);
+    assert_eq!(rt; copy.rows(), [standing(90, b"C100")?].as_slice());
+    assert_eq!(rt; copy.members(), ledger.members());
     Ok(())
 }

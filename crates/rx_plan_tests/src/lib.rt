@@ -9,5 +9,3 @@ mod ledger;
 mod plan;
 #[cfg(test)]
 mod sheet;
-#[cfg(test)]
-mod table;

@@ -1,4 +1,3 @@
-use crate::table::same;
 use rx_fields::{Door, Period, Product, date_read};
 use rx_ledger::{AddFault, Drug, Figures, Share, Sheet, SheetKey, Wrong};
 use std::alloc::Global;
@@ -68,15 +67,15 @@ fn a_refused_drug_leaves_the_sheet(rt: HostRuntime) -> Result<(), Fail> {
     ];
     for (digits, share, price, fault) in refused {
         let added = sheet.add(product(digits)?, Drug { share, price });
-        same!(rt; added, Err(fault));
-        same!(rt; sheet.drugs().len(), 3);
+        assert_eq!(rt; added, Err(fault));
+        assert_eq!(rt; sheet.drugs().len(), 3);
     }
     let most = Drug {
         share: Share::Percent(100),
         price: 1_000_000_000,
     };
-    same!(rt; sheet.add(product(b"00004000404")?, most), Ok(()));
-    same!(rt; sheet.drug(product(b"00004000404")?), Some(most));
+    assert_eq!(rt; sheet.add(product(b"00004000404")?, most), Ok(()));
+    assert_eq!(rt; sheet.drug(product(b"00004000404")?), Some(most));
     Ok(())
 }
 
@@ -105,22 +104,22 @@ fn the_first_figure_outside_its_range_is_told(rt: HostRuntime) -> Result<(), Fai
         (family, SheetKey::FamilyDeductible, 14),
     ];
     for (figures, key, code) in told {
-        same!(rt; Sheet::new(rt.alloc(), figures).err(), Some(Wrong(key)));
-        same!(rt; Wrong(key).code(), code);
+        assert_eq!(rt; Sheet::new(rt.alloc(), figures).err(), Some(Wrong(key)));
+        assert_eq!(rt; Wrong(key).code(), code);
     }
-    same!(rt; plain.wrong(), None);
+    assert_eq!(rt; plain.wrong(), None);
     Ok(())
 }
 
 #[test]
 fn a_sheet_shows_its_figures(rt: HostRuntime) -> Result<(), Fail> {
     let sheet = plain_sheet(rt.alloc())?;
-    same!(rt; *sheet.figures(), figures()?);
-    same!(rt; sheet.door().bin, *b"900001");
-    same!(rt; sheet.period().last(), date_read(b"20261231")?);
-    same!(rt; sheet.drugs().len(), 3);
-    same!(rt; sheet.drug(product(b"00004000404")?), None);
-    same!(rt;
+    assert_eq!(rt; *sheet.figures(), figures()?);
+    assert_eq!(rt; sheet.door().bin, *b"900001");
+    assert_eq!(rt; sheet.period().last(), date_read(b"20261231")?);
+    assert_eq!(rt; sheet.drugs().len(), 3);
+    assert_eq!(rt; sheet.drug(product(b"00004000404")?), None);
+    assert_eq!(rt;
         [
             AddFault::Range.code(),
             AddFault::There.code(),

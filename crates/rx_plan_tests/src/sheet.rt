@@ -1,4 +1,3 @@
-use crate::table::same;
 use rx_fields::{Door, Period, Product, date_read};
 use rx_ledger::{Drug, Figures, Listed, Share, SheetKey};
 use rx_sheet::{SheetFault, one_reading, read_sheet};
@@ -84,13 +83,13 @@ fn the_plain_sheet(rt: HostRuntime) -> Result<(), Fail> {
     one_reading();
     let text = text(rt.alloc(), &PLAIN)?;
     let sheet = read_sheet(rt.alloc(), text.as_bytes())?;
-    same!(rt; *sheet.figures(), figures(None)?);
+    assert_eq!(rt; *sheet.figures(), figures(None)?);
     let drugs = [
         listed(b"00001000101", Share::Copay(1000), 2500)?,
         listed(b"00002000202", Share::Copay(3000), 100_000)?,
         listed(b"00003000303", Share::Copay(1000), 5000)?,
     ];
-    same!(rt; sheet.drugs(), drugs.as_slice());
+    assert_eq!(rt; sheet.drugs(), drugs.as_slice());
     Ok(())
 }
 
@@ -104,10 +103,10 @@ fn a_percentage_and_a_family_deductible(rt: HostRuntime) -> Result<(), Fail> {
     };
     let text = text(rt.alloc(), &lines)?;
     let sheet = read_sheet(rt.alloc(), text.as_bytes())?;
-    same!(rt; sheet.figures().family_deductible, Some(15_000));
+    assert_eq!(rt; sheet.figures().family_deductible, Some(15_000));
     let fourth = listed(b"00004000404", Share::Percent(20), 100_000)?;
-    same!(rt; sheet.drug(fourth.product), Some(fourth.drug));
-    same!(rt; sheet.drugs().len(), 4);
+    assert_eq!(rt; sheet.drug(fourth.product), Some(fourth.drug));
+    assert_eq!(rt; sheet.drugs().len(), 4);
     Ok(())
 }
 
@@ -162,7 +161,7 @@ fn damaged_sheets(rt: HostRuntime) -> Result<(), Fail> {
         ),
     ];
     for (lines, wanted) in cases {
-        same!(rt; fault(rt.alloc(), &lines)?, Some(wanted));
+        assert_eq!(rt; fault(rt.alloc(), &lines)?, Some(wanted));
     }
     Ok(())
 }
@@ -183,7 +182,7 @@ fn short_texts(rt: HostRuntime) {
     ];
     for (text, code, key) in cases {
         let fault = read_sheet(rt.alloc(), text).err();
-        same!(rt; fault.map(SheetFault::code), Some(code));
-        same!(rt; fault.and_then(SheetFault::key).map(SheetKey::code), key);
+        assert_eq!(rt; fault.map(SheetFault::code), Some(code));
+        assert_eq!(rt; fault.and_then(SheetFault::key).map(SheetKey::code), key);
     }
 }

@@ -7,5 +7,3 @@
 mod schedule;
 #[cfg(test)]
 mod shelf;
-#[cfg(test)]
-mod table;

@@ -1,4 +1,3 @@
-use crate::table::same;
 use rx_books_kept::Books;
 use rx_books_shelf::{Shelf, TakeFault};
 use rx_claim::Amounts;
@@ -137,7 +136,7 @@ fn a_book_that_is_out_is_absent(rt: HostRuntime) -> Result<(), Fail> {
     let mut shelf = shelf(rt.alloc())?;
     let _out = taken(rt.alloc(), &mut shelf, 201)?;
     let second = footprint(rt.alloc(), 202)?;
-    same!(rt;
+    assert_eq!(rt;
         shelf.take(rt.alloc(), &second).err(),
         Some(TakeFault::Absent)
     );
@@ -160,7 +159,7 @@ fn what_was_given_back_can_be_taken(rt: HostRuntime) -> Result<(), Fail> {
 fn a_stranger_comes_back_while_nothing_is_out(rt: HostRuntime) -> Result<(), Fail> {
     let mut shelf = shelf(rt.alloc())?;
     let back = shelf.give(twin(rt.alloc())?);
-    same!(rt; back.err().map(|fault| fault.code()), Some(1));
+    assert_eq!(rt; back.err().map(|fault| fault.code()), Some(1));
     Ok(())
 }
 
@@ -183,14 +182,13 @@ fn a_parcel_of_another_period_comes_back(rt: HostRuntime) -> Result<(), Fail> {
 }
 
 fn put(parcel: &mut Parcel, row: Row) -> Result<(), Fail> {
-    let is_held = parcel.agrees() && parcel.has_key(&row.key) && parcel.has_family(&row.family);
-    if is_held
-        && parcel.row(&row.key).is_none()
-        && parcel.member(&row.family, &row.person).is_some()
-    {
-        return Ok(parcel.add(row)?);
+    if !parcel.agrees() || !parcel.has_key(&row.key) || !parcel.has_family(&row.family) {
+        return Err(Fail::from("the books of the row"));
     }
-    Err(Fail::from("the books of the row, a free key and a listed member"))
+    if parcel.row(&row.key).is_some() || parcel.member(&row.family, &row.person).is_none() {
+        return Err(Fail::from("a free key and a listed member"));
+    }
+    Ok(parcel.add(row)?)
 }
 
 // The books after the first fill was added to its parcel.
@@ -210,9 +208,9 @@ fn what_is_added_to_a_parcel_is_in_the_books(rt: HostRuntime) -> Result<(), Fail
     let (key, fill) = (key(201)?, first_fill()?);
     let (family, person) = (c100()?, Person::new(b"01")?);
     let books = filled(rt.alloc())?;
-    same!(rt; books.row(&key).copied(), Some(fill));
-    same!(rt; books.out_of_pocket(&family), Some(13_000));
-    same!(rt; books.deductible(&family, &person), Some(10_000));
+    assert_eq!(rt; books.row(&key).copied(), Some(fill));
+    assert_eq!(rt; books.out_of_pocket(&family), Some(13_000));
+    assert_eq!(rt; books.deductible(&family, &person), Some(10_000));
     Ok(())
 }
 
@@ -261,11 +259,11 @@ fn other_members_are_in_the_books(rt: HostRuntime) -> Result<(), Fail> {
     let (key, fill) = (key(201)?, fill_of(b"04")?);
     let (family, person, third) = (c100()?, Person::new(b"04")?, Person::new(b"03")?);
     let books = with_other_members(rt.alloc())?;
-    same!(rt; books.row(&key).copied(), Some(fill));
-    same!(rt; books.out_of_pocket(&family), Some(13_000));
-    same!(rt; books.family_deductible(&family), Some(10_000));
-    same!(rt; books.deductible(&family, &person), Some(10_000));
-    same!(rt; books.deductible(&family, &third), None);
+    assert_eq!(rt; books.row(&key).copied(), Some(fill));
+    assert_eq!(rt; books.out_of_pocket(&family), Some(13_000));
+    assert_eq!(rt; books.family_deductible(&family), Some(10_000));
+    assert_eq!(rt; books.deductible(&family, &person), Some(10_000));
+    assert_eq!(rt; books.deductible(&family, &third), None);
     assert!(rt; books.write(rt.alloc())?.as_slice() == OTHER_MEMBERS);
     Ok(())
 }
@@ -283,7 +281,7 @@ fn books_with_other_members_are_those_of_their_text(rt: HostRuntime) -> Result<(
 
 #[test]
 fn faults_have_their_codes(rt: HostRuntime) -> Result<(), Fail> {
-    same!(rt; TakeFault::Absent.code(), 1);
-    same!(rt; TakeFault::Memory.code(), 2);
+    assert_eq!(rt; TakeFault::Absent.code(), 1);
+    assert_eq!(rt; TakeFault::Memory.code(), 2);
     Ok(())
 }
