@@ -9,7 +9,6 @@ use crate::profile::Profile;
 use rx_books_kept::Books;
 use rx_claim::{Reply, Transmission};
 use rx_desk::{Desk, Finished};
-use rx_fields::MOST_DETAILS;
 use rx_ledger::{Ledger, Sheet, plain_run};
 use std::alloc::Global;
 
@@ -52,7 +51,7 @@ impl Job {
     fn desk(&self, alloc: Global) -> Result<Desk, Miss> {
         let copies = self.copies(alloc)?;
         let books = opening(alloc, &self.ledger)?;
-        if copies.len() > MOST_DETAILS || books.period() != self.sheet.period() {
+        if copies.len() > 100_000 || books.period() != self.sheet.period() {
             return Err(Miss::Value);
         }
         Ok(Desk::new(alloc, lot()?, &self.sheet, books, copies)?)
@@ -94,7 +93,7 @@ impl Job {
     }
 
     fn in_file_order(&self, alloc: Global) -> Result<(Ledger, Vec<Reply>), Miss> {
-        if self.records.len() > MOST_DETAILS {
+        if self.records.len() > 100_000 {
             return Err(Miss::Value);
         }
         Ok(plain_run(alloc, lot()?, &self.sheet, &self.ledger, &self.records)?)
