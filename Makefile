@@ -6,12 +6,14 @@ HELD = crates/rx_held/out/rx_held
 JOB = examples/first_job
 PREFIX = /usr/local
 DESTDIR =
-KIT = rattle-kit-13f
+# (the letter behind the number is the kit's edition: its logic is the same)
+KIT = rattle-kit-13
+LOGIC = dac8208d650f15bf
 
 # Without the kit nothing can be built.
 kit:
 	@command -v rt > /dev/null || { echo "make: the command rt of the kit $(KIT) isn't on the path: see \"Have it\" in README.md" >&2; exit 1; }
-	@rt version | grep -q '^$(KIT) ' || echo "make: this is proved with $(KIT), and rt is $$(rt version)" >&2
+	@rt version | grep -q '^$(KIT)[a-z]* logic $(LOGIC)$$' || echo "make: this is proved with $(KIT) logic $(LOGIC), and rt is $$(rt version)" >&2
 
 FILES = --data sheet.toml=../../$(JOB)/sheet.toml --data books.txt=../../$(JOB)/books.txt --data batch.bin=../../$(JOB)/batch.bin
 

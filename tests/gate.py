@@ -15,7 +15,8 @@ comments and tests, however their lines are laid out.
                        those of which each was refused
     gate.py --note     writes down all crates' edits, after a gate that passed on these very texts and tried them all
 
-The proofs, tests and programs come first. Edits are tried then for as long as GATE_MINUTES (135) since the start aren't over.
+The proofs, tests and programs come first. Edits are tried then, of a few crates at a time and the lowest first, for as long as
+GATE_MINUTES (135) since the start aren't over.
 """
 
 import argparse
@@ -36,6 +37,8 @@ OWN = ("src", "specs", "proofs", "must-fail")
 STATED = ("src", "specs")
 # how long the gate may take before it begins no further edit
 MINUTES = 135
+# how many crates' edits are tried at once: those of one crate go one after another
+AT_ONCE = 8
 
 
 def crates_below(top):
@@ -167,20 +170,40 @@ def rt_ci(at, seconds=None):
         raise
 
 
-def copied(to, changed):
-    """A copy of the crates, where only those that changed have their edits."""
-    left_out = lambda at, names: [it for it in names if it == "out" or it == "must-fail" and os.path.basename(at) not in changed]
-    shutil.copytree(f"{TOP}/crates", f"{to}/crates", ignore=left_out, symlinks=True)
-    for name in ("crates.txt", "HANDLES"):
-        shutil.copyfile(f"{TOP}/{name}", f"{to}/{name}")
+def copied(to, edited, below):
+    """A copy of these crates, with their edits, and of those that they stand on, without."""
+    for crate in sorted(set(edited).union(*(below[it] for it in edited))):
+        left_out = ("out",) if crate in edited else ("out", "must-fail")
+        shutil.copytree(f"{TOP}/crates/{crate}", f"{to}/crates/{crate}", ignore=shutil.ignore_patterns(*left_out), symlinks=True)
+    with open(f"{TOP}/crates.txt", encoding="utf-8") as lines, open(f"{to}/crates.txt", "w", encoding="utf-8") as kept:
+        kept.writelines(it for it in lines if os.path.isdir(f"{to}/crates/{re.split('[ :]', it)[0]}"))
+    shutil.copyfile(f"{TOP}/HANDLES", f"{to}/HANDLES")
+
+
+def try_edits(changed, end):
+    """Tries the edits of these crates until the time is over, in copies, so that what was built here stays: a status that isn't 0
+    where one isn't refused."""
+    below = crates_below(TOP)
+    left = sorted(changed, key=lambda it: (len(below[it]), it))
+    while left:
+        seconds = end - time.monotonic()
+        with tempfile.TemporaryDirectory(prefix="gate-edits-") as room:
+            copied(room, left[:AT_ONCE], below)
+            status = rt_ci(room, seconds) if seconds > 0 else None
+        if status is None:
+            print(f"gate: the time for edits is over, those of {len(left)} crates weren't tried: {' '.join(left)}", flush=True)
+            return 0
+        if status:
+            return status
+        left = left[AT_ONCE:]
+    return 0
 
 
 def gate(now, changed):
-    """Runs `rt ci` without edits, and then, over what that has proved, with those of the crates that changed, for as long as there
-    is time: in a copy, so that what was built here stays whatever becomes of it."""
+    """Runs `rt ci` without edits, and then tries those of the crates that changed, for as long as there is time."""
     end = time.monotonic() + 60 * float(os.environ.get("GATE_MINUTES") or MINUTES)
     same = [it for it in now if it not in changed]
-    print(f"gate: the edits of {len(changed)} crates are tried: {' '.join(changed) or 'none'}")
+    print(f"gate: the edits of {len(changed)} crates are to be tried: {' '.join(changed) or 'none'}")
     print(f"gate: those of {len(same)} were each seen refused on these very texts (tests/edits_seen.txt): {' '.join(same) or 'none'}", flush=True)
     os.makedirs(ASIDE)
     try:
@@ -189,16 +212,7 @@ def gate(now, changed):
         status = rt_ci(TOP)
     finally:
         put_back()
-    left = end - time.monotonic()
-    if status or not changed:
-        return status
-    if left > 0:
-        with tempfile.TemporaryDirectory(prefix="gate-edits-") as room:
-            copied(room, changed)
-            status = rt_ci(room, left)
-    if left <= 0 or status is None:
-        print("gate: the time for edits is over, and not all of these were tried: the next gate here goes on with them", flush=True)
-    return status or 0
+    return status or try_edits(changed, end)
 
 
 def see(now, names):

@@ -18,6 +18,8 @@ ROOT = pathlib.Path(__file__).resolve().parent.parent
 CASES = ROOT / "tests" / "cases"
 # The latest version of the changelog.
 CHANGES = re.compile(r"^## ([^ ,\n]+)", re.M)
+# The letter of a kit's edition, which the program doesn't tell.
+EDITION = re.compile(r"^(rattle-kit-[0-9]+)[a-z]+")
 INPUTS = {"sheet": "sheet.toml", "books": "books.txt", "batch": "batch.bin"}
 OUTPUTS = {"response": "response.bin", "books_out": "books-out.txt", "settlement": "settlement.txt"}
 OPTIONS = {"books_out": "--books-out"}
@@ -149,7 +151,8 @@ def version_fault(program):
     if CHANGES.search((ROOT / "CHANGELOG.md").read_text())[1] != told:
         return f"--version tells {told}, CHANGELOG.md another"
     if shutil.which("rt"):
-        kit = subprocess.run(["rt", "version"], capture_output=True, text=True).stdout.strip()
+        printed = subprocess.run(["rt", "version"], capture_output=True, text=True).stdout.strip()
+        kit = EDITION.sub(r"\1", printed)
         if not ended.stdout.endswith(f" ({kit})\n"):
             return f"--version tells {ended.stdout!r}, the kit is {kit!r}"
     return None

@@ -5,5 +5,4 @@ pub mod FamilyBook
 pub mod Few
 pub mod FewLends
 pub mod Footprints
-pub mod Members
 pub mod Parcels

@@ -7,7 +7,6 @@ ghost use Rattle.rx_ledger.specs.Sums.{family_deductible_in, out_of_pocket_in};
 ghost use Rattle.rx_parcels.specs.FamilyBook.{AreTotals, IsOwn, book_with_member, book_with_row, book_without_row};
 ghost use Rattle.rx_parcels.specs.FamilyBook.{deductible_at, empty_book, own_ledger};
 
-use crate::members::{FEW_MEMBERS, Members};
 use crate::totals::{FamilyTotals, counted_in, place_of_member};
 use rx_fields::{Id, Key, Memory, Period, Person};
 use rx_ledger::{Member, MemberKey, Row};
@@ -16,6 +15,9 @@ use smallvec::SmallVec;
 use std::alloc::Global;
 use std::marker::Model;
 
+// For how many members their deductibles stand in the book itself, which is then copied without a list of its own for them.
+const FEW_MEMBERS: usize = 4;
+
 /// The book of a family: its members and its standing claims, with each member's deductible and the family's out of
 /// pocket and deductible stored beside them. Each total is the sum over the book's rows that are dated within its
 /// period (docs/PRODUCT.md, "Accumulators").
@@ -23,7 +25,7 @@ use std::marker::Model;
 pub struct Family {
     family: Id,
     period: Period,
-    members: Members,
+    members: Ascending<Member>,
     rows: Ascending<Row>,
     // The members' deductibles, in their order.
     deductibles: SmallVec<u128, FEW_MEMBERS>,
@@ -60,7 +62,7 @@ impl Family {
         Family {
             family,
             period,
-            members: Members::new(alloc),
+            members: Ascending::new(alloc),
             rows: Ascending::new(alloc),
             deductibles: SmallVec::new(alloc),
             out_of_pocket: 0,
@@ -89,7 +91,7 @@ impl Family {
         Family {
             family,
             period,
-            members: Members::of(members),
+            members,
             rows,
             deductibles: SmallVec::from_vec(deductibles),
             out_of_pocket,
@@ -191,7 +193,7 @@ impl Family {
         ensures err { OnErr result (self.new ≡ self.old) }
     {
         self.deductibles.reserve(1)?;
-        self.members.push(*self.deductibles.allocator(), member)?;
+        self.members.push(member)?;
         self.deductibles.push_reserved(0);
         Ok(())
     }
@@ -272,7 +274,7 @@ impl PartialEq for Family {
     {
         self.family == other.family
             && self.period == other.period
-            && self.members.as_slice() == other.members.as_slice()
+            && self.members == other.members
             && self.rows == other.rows
     }
 }

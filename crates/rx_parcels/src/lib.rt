@@ -10,7 +10,6 @@ mod few;
 mod footprint;
 mod key_book;
 mod law;
-mod members;
 mod parcel;
 mod totals;
 

@@ -50,6 +50,7 @@ impl Parcel {
     }
 
     /// The parcel of these books, each with rows of its own and totals of the period. It takes no memory.
+    #[inline(always)]
     pub fn new(period: Period, keys: Few<KeyBook>, families: Few<Family>) -> Parcel
         requires keys_rise { IsAscending key_cmp key_of (items_of keys) }
         requires rows_own { All HasOwnRow (items_of keys) }
@@ -66,6 +67,7 @@ impl Parcel {
     }
 
     /// Its books: those of fill keys and those of families, each in order. It takes no memory.
+    #[inline(always)]
     pub fn into_books(self) -> (Few<KeyBook>, Few<Family>)
         ensures keys { items_of result.0 ≡ self.keys }
         ensures families { items_of result.1 ≡ self.families }

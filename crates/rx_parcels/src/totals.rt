@@ -5,9 +5,9 @@ ghost use Rattle.rx_ledger.specs.Members.{member_cmp, member_key};
 ghost use Rattle.rx_ledger.specs.Sums.{counted, deductible_paid, paid_by_patient};
 ghost use Rattle.rx_order.specs.Ascending.{IsAt, contains_key};
 
-use crate::members::Members;
 use rx_fields::Period;
-use rx_ledger::{MemberKey, Row};
+use rx_ledger::{Member, MemberKey, Row};
+use rx_order::Ascending;
 
 /// What a row counts in a period, in cents: nothing where it isn't dated within it.
 #[derive(Clone, Copy, Debug, PartialEq, Eq)]
@@ -50,7 +50,7 @@ pub fn counted_in(period: Period, row: &Row) -> Counted
 }
 
 // The place of a listed member.
-pub(crate) fn place_of_member(members: &Members, key: &MemberKey) -> usize
+pub(crate) fn place_of_member(members: &Ascending<Member>, key: &MemberKey) -> usize
     requires { contains_key member_cmp member_key members.now key.now ≡ true }
     ensures { IsAt member_cmp member_key members.now key.now result }
 {

@@ -11,8 +11,9 @@ use crate::draft::Draft;
 use clap::{Arg, ArgAction, Command as Line, value_parser};
 use std::alloc::{AllocError, Global};
 
-/// What `rxbatch --version` prints behind the program's name: the version, and the kit that proved it.
-pub const VERSION: &str = "0.1.0 (rattle-kit-13f logic dac8208d650f15bf)";
+/// What `rxbatch --version` prints behind the program's name: the version, and the kit that proved it, without the letter of
+/// its edition, which proves nothing.
+pub const VERSION: &str = "0.1.0 (rattle-kit-13 logic dac8208d650f15bf)";
 
 // What is told of the outputs of a command that writes them.
 const WRITTEN: [&'static str; 3] = [

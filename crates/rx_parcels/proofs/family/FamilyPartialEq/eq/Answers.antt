@@ -21,10 +21,8 @@ returns-then-eq-3 c =
     ] in
     let lists : Decides c.if-eq-2.value (((a.family ≡ b.family) × (a.period ≡ b.period)) × (a.members ≡ b.members)) = elim
     c.if-eq-2.branch [
-      | then-eq-2 w ↦
-          let told = rw (w.as_slice.ensures.value, w.as_slice-then-eq-2.ensures.value) at w.eq-then-eq-2.ensures in
-          both_hold c.if-eq.value w.eq-then-eq-2.result c.if-eq-2.value heads w.if-eq-2.true
-          (Decides-at _ _ told (pointwise_decides member_decides a.members b.members)) w.value-is
+      | then-eq-2 w ↦ both_hold c.if-eq.value w.eq-then-eq-2.result c.if-eq-2.value heads w.if-eq-2.true
+          (Decides-at _ _ w.eq-then-eq-2.ensures (pointwise_decides member_decides a.members b.members)) w.value-is
       | else-eq-2 w ↦ first_fails c.if-eq.value c.if-eq-2.value heads w.if-eq-2.false w.value-is
     ] in
     rw (← c.self.view_is, ← c.other.view_is) (same_book a b c.if-eq-2.value c.eq-then-eq-3.result lists c.if-eq-3.true
@@ -44,10 +42,8 @@ returns-else-eq-3 c =
     ] in
     let lists : Decides c.if-eq-2.value (((a.family ≡ b.family) × (a.period ≡ b.period)) × (a.members ≡ b.members)) = elim
     c.if-eq-2.branch [
-      | then-eq-2 w ↦
-          let told = rw (w.as_slice.ensures.value, w.as_slice-then-eq-2.ensures.value) at w.eq-then-eq-2.ensures in
-          both_hold c.if-eq.value w.eq-then-eq-2.result c.if-eq-2.value heads w.if-eq-2.true
-          (Decides-at _ _ told (pointwise_decides member_decides a.members b.members)) w.value-is
+      | then-eq-2 w ↦ both_hold c.if-eq.value w.eq-then-eq-2.result c.if-eq-2.value heads w.if-eq-2.true
+          (Decides-at _ _ w.eq-then-eq-2.ensures (pointwise_decides member_decides a.members b.members)) w.value-is
       | else-eq-2 w ↦ first_fails c.if-eq.value c.if-eq-2.value heads w.if-eq-2.false w.value-is
     ] in
     rw (← c.self.view_is, ← c.other.view_is) (other_book a b c.if-eq-2.value lists c.if-eq-3.false)
