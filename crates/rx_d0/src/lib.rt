@@ -15,4 +15,4 @@ pub use rx_claim::{
     Transmission,
 };
 pub use rx_reply::{ReplyFault, decode_reply, encode, put_reply, read_back};
-pub use rx_request::{decode, written_is_heard};
+pub use rx_request::{HEADER_LENGTH, decode, written_is_heard};

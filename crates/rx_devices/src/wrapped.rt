@@ -1,14 +1,25 @@
-ghost use Rattle.std.specs.Prelude.{◌≡◌, false};
+ghost use Rattle.std.specs.Prelude.{◌≡◌, IfSome, MatchResult, Ok, Some, false, is_err, true};
 ghost use Rattle.std.specs.Io.{ReadsAtMost, WritesAtMost};
 ghost use Rattle.std.specs.Io.KnownBytes.{ReadConsumes, WriteAppends};
 
 use crate::fault::Failed;
 use crate::sink::Sink;
 use crate::source::Source;
-use std::io::{ErrorKind, Read, Write};
+use std::io::{self, ErrorKind, Read, Write};
 
 // How often a call that a signal interrupts is made, before it counts as failed.
 const TRIES: u32 = 64;
+
+// What a call answers; None where a signal interrupted it, so that it is made again.
+fn unless_interrupted(answer: io::Result<usize>) -> Option<Result<usize, Failed>>
+    ensures { MatchResult answer (λ count. result ≡ Some (Ok count)) (λ _. IfSome result (λ given. is_err given ≡ true)) }
+{
+    match answer {
+        Ok(count) => Some(Ok(count)),
+        Err(error) if error.kind() == ErrorKind::Interrupted => None,
+        Err(_) => Some(Err(Failed)),
+    }
+}
 
 /// A source that is one of std's readers. It tells the bytes that its reader tells: those of a text in memory, and
 /// none of a file.
@@ -53,13 +64,8 @@ fn read_through<R: Read>(reader: &mut R, buffer: &mut [u8]) -> Result<usize, Fai
     ensures bytes { ReadConsumes (R.remaining reader.old) (R.remaining reader.new) result buffer.new }
 {
     'by_try: for _ in 0..TRIES {
-        match reader.read(buffer) {
-            Ok(count) => return Ok(count),
-            Err(error) => {
-                if error.kind() != ErrorKind::Interrupted {
-                    return Err(Failed);
-                }
-            }
+        if let Some(answer) = unless_interrupted(reader.read(buffer)) {
+            return answer;
         }
     }
     Err(Failed)
@@ -112,13 +118,8 @@ fn write_through<W: Write>(writer: &mut W, piece: &[u8]) -> Result<usize, Failed
     ensures bytes { WriteAppends (W.contents writer.old) (W.contents writer.new) result piece.now }
 {
     'by_try: for _ in 0..TRIES {
-        match writer.write(piece) {
-            Ok(count) => return Ok(count),
-            Err(error) => {
-                if error.kind() != ErrorKind::Interrupted {
-                    return Err(Failed);
-                }
-            }
+        if let Some(answer) = unless_interrupted(writer.write(piece)) {
+            return answer;
         }
     }
     Err(Failed)

@@ -1,13 +1,15 @@
 -- Meaning: the bytes of a request that a reject code speaks of (docs/FORMATS.md, "Request transmission"), also where its
--- syntax is broken. FS is 28, GS is 29, SS is 30.
+-- syntax is broken.
 use Rattle.std.specs.Prelude.{ℕ, ◌+◌, Bool, false, ◌&&◌, not, nat_eq, ◌==◌, if◌then◌else◌, List, length, take, drop, codes}
 use Rattle.std.specs.Prelude.{Option, Some, None, is_some, find}
 use Rattle.std.specs.Cmp.Lexicographic.{pointwise}
 use Rattle.std.specs.List.{slice_get, slice_split}
 use Rattle.std.specs.Option.{option_map}
+use Rattle.rx_text.specs.declared.separators.TheConstants.{FIELD, GROUP, SEGMENT}
 use Rattle.rx_fields.specs.Text.{trimmed}
 use Rattle.rx_fields.specs.declared.code.Code.{Code}
 use Rattle.rx_fields.specs.declared.code.Code.TheVariants as code
+use Rattle.rx_request.specs.declared.header.TheConstants.{HEADER_LENGTH}
 use Rattle.rx_explain_text.specs.declared.request_field.Stand.{Stand}
 use Rattle.rx_explain_text.specs.declared.request_field.Stand.TheVariants.{Header, Common, Group, Part}
 
@@ -63,7 +65,7 @@ stand_of other = Part
 
 -- the common part, whose number is 0, or the nth group: what the separators behind the header cut
 abbrev pub part_of : List ℕ → ℕ → Option (List ℕ)
-part_of request nth = slice_get (slice_split (λ b. b == 29) (drop 56 request)) nth
+part_of request nth = slice_get (slice_split (λ b. b == GROUP) (drop HEADER_LENGTH request)) nth
 
 -- a piece of a segment is an id of two bytes and a value without its trailing blanks
 abbrev pub value_of : List ℕ → List ℕ
@@ -75,7 +77,7 @@ is_under id piece = pointwise nat_eq (take 2 piece) id && not (length (value_of 
 
 -- the first value under an id in a segment
 abbrev pub value_under : List ℕ → List ℕ → Option (List ℕ)
-value_under id segment = option_map value_of (find (is_under id) (slice_split (λ b. b == 28) segment))
+value_under id segment = option_map value_of (find (is_under id) (slice_split (λ b. b == FIELD) segment))
 
 abbrev pub is_text : List ℕ → Option (List ℕ) → Bool
 is_text text None = false
@@ -92,15 +94,15 @@ within f (Some text) = f text
 
 -- the value under an id in the first segment of this name that has one
 abbrev pub value_in : List ℕ → List ℕ → List ℕ → Option (List ℕ)
-value_in name id part = within (value_under id) (find (has_field name id) (slice_split (λ b. b == 30) part))
+value_in name id part = within (value_under id) (find (has_field name id) (slice_split (λ b. b == SEGMENT) part))
 
 -- header and common part
 abbrev pub front_of : List ℕ → Option (List ℕ) → List ℕ
 front_of request None = request
-front_of request (Some common) = take (56 + length common) request
+front_of request (Some common) = take (HEADER_LENGTH + length common) request
 
 abbrev pub bytes_at : List ℕ → ℕ → Stand → Option (List ℕ)
-bytes_at request nth (Header from count) = Some (take count (drop from (take 56 request)))
+bytes_at request nth (Header from count) = Some (take count (drop from (take HEADER_LENGTH request)))
 bytes_at request nth (Common name id) = within (value_in name id) (part_of request 0)
 bytes_at request nth (Group name id) = within (value_in name id) (part_of request nth)
 bytes_at request nth Part = if nth == 0 then Some (front_of request (part_of request 0)) else part_of request nth

@@ -1,20 +1,13 @@
 ghost use Rattle.std.specs.Prelude.{◌≡◌, ◌==◌, drop, find, take};
 ghost use Rattle.std.specs.List.{slice_split};
 ghost use Rattle.std.specs.Option.{option_copied};
+ghost use Rattle.rx_text.specs.declared.separators.TheConstants.{FIELD, SEGMENT};
 ghost use Rattle.rx_explain_text.specs.RequestField.{bytes_at, field_bytes, field_number, front_of, has_field, is_under};
 ghost use Rattle.rx_explain_text.specs.RequestField.{part_of, stand_of, value_in, value_of, value_under};
 
 use rx_fields::{Code, trimmed};
-
-// The separators of groups, segments and fields.
-const GS: u8 = 0x1D;
-
-const SS: u8 = 0x1E;
-
-const FS: u8 = 0x1C;
-
-// How many bytes a header has.
-const HEADER: usize = 56;
+use rx_request::HEADER_LENGTH;
+use rx_text::{FIELD, GROUP, SEGMENT};
 
 // Where the bytes stand that a code speaks of.
 #[derive(Clone, Copy)]
@@ -101,7 +94,10 @@ fn bytes_at(request: &[u8], nth: u64, stand: Stand) -> Option<&[u8]>
     ensures { option_copied result ≡ bytes_at request.now nth stand }
 {
     match stand {
-        Stand::Header(from, count) => Some(first(behind(first(request, HEADER), from), count)),
+        Stand::Header(from, count) => Some(first(
+            behind(first(request, HEADER_LENGTH), from),
+            count,
+        )),
         Stand::Common(name, id) => value_in(part_of(request, 0)?, name, id),
         Stand::Group(name, id) => value_in(part_of(request, nth)?, name, id),
         Stand::Part if nth == 0 => Some(front_of(request)),
@@ -128,7 +124,7 @@ fn front_of(request: &[u8]) -> &[u8]
     ensures { result.now ≡ front_of request.now (part_of request.now 0) }
 {
     match part_of(request, 0) {
-        Some(common) => first(request, HEADER.saturating_add(common.len())),
+        Some(common) => first(request, HEADER_LENGTH.saturating_add(common.len())),
         None => request,
     }
 }
@@ -137,8 +133,8 @@ fn front_of(request: &[u8]) -> &[u8]
 fn part_of(request: &[u8], nth: u64) -> Option<&[u8]>
     ensures { option_copied result ≡ part_of request.now nth }
 {
-    behind(request, HEADER)
-        .split(|byte| *byte == GS)
+    behind(request, HEADER_LENGTH)
+        .split(|byte| *byte == GROUP)
         .nth(nth as usize)
 }
 
@@ -150,9 +146,9 @@ fn value_in(part: &[u8], name: [u8; 2], id: [u8; 2]) -> Option<&[u8]>
 }
 
 fn segment_in(part: &[u8], name: [u8; 2], id: [u8; 2]) -> Option<&[u8]>
-    ensures { option_copied result ≡ find (has_field name id) (slice_split (λ b. b == 30) part.now) }
+    ensures { option_copied result ≡ find (has_field name id) (slice_split (λ b. b == SEGMENT) part.now) }
 {
-    part.split(|byte| *byte == SS)
+    part.split(|byte| *byte == SEGMENT)
         .find(|segment| has_field(segment, name, id))
 }
 
@@ -174,10 +170,10 @@ fn value_under(segment: &[u8], id: [u8; 2]) -> Option<&[u8]>
 }
 
 fn piece_under(segment: &[u8], id: [u8; 2]) -> Option<&[u8]>
-    ensures { option_copied result ≡ find (is_under id) (slice_split (λ b. b == 28) segment.now) }
+    ensures { option_copied result ≡ find (is_under id) (slice_split (λ b. b == FIELD) segment.now) }
 {
     segment
-        .split(|byte| *byte == FS)
+        .split(|byte| *byte == FIELD)
         .find(|piece| is_under(piece, id))
 }
 

@@ -1,4 +1,5 @@
 pub mod Amended
 pub mod AmendedTests
+pub mod Moving
 pub mod NearPlaces
 pub mod Valued

@@ -1,4 +1,5 @@
 -- Plumbing: which files there are.
 pub mod Amended
+pub mod Moving
 pub mod Near
 pub mod Shelves

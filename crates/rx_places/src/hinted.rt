@@ -1,10 +1,11 @@
-ghost use Rattle.std.specs.Prelude.{◌≡◌, IfErr, IfOk, OnErr, OnOk};
-ghost use Rattle.std.specs.Option.{ok_or, option_copied};
-ghost use Rattle.rx_order.specs.Ascending.{IsAscending, IsAt, IsGap, contains_key, item_at, put};
+ghost use Rattle.std.specs.Prelude.{◌≡◌, IfErr, IfOk, Option, is_some};
+ghost use Rattle.std.specs.Option.{option_and_then, option_copied};
+ghost use Rattle.rx_order.specs.Ascending.{IsAscending, IsAt, IsGap, contains_key, item_at};
+ghost use Rattle.rx_places.specs.Moving.{is_in, is_out, over};
 
 use crate::near::is_at;
 use rx_fields::Memory;
-use rx_order::{Ascending, Keyed};
+use rx_order::{Ascending, Keyed, place_of};
 use std::alloc::Global;
 use std::marker::Model;
 
@@ -28,12 +29,43 @@ pub trait Hashed: Keyed {
     fn hash_of(key: &Self::Key) -> u64;
 }
 
+/// The place of a book, which has the key of its place: it is there, or out.
+pub trait Place: Hashed {
+    /// The book.
+    type Book: Keyed<Key = Self::Key> + Drop;
+
+    ghost held: { Self → Option Self.Book };
+
+    ghost emptied: { Self → Self };
+
+    ghost filled: { Self.Book → Self → Self };
+
+    /// Whether the book is there.
+    fn is_held(&self) -> bool
+        ensures { result ≡ is_some (held self.now) };
+
+    /// Takes the book out, if it is there.
+    fn take(&mut self) -> Option<Self::Book>
+        ensures book { result ≡ held self.old }
+        ensures place { self.new ≡ emptied self.old };
+
+    /// Puts a book in.
+    fn put(&mut self, book: Self::Book)
+        ensures { self.new ≡ filled book self.old };
+
+    ghost emptied_keeps: { (place : Self) → Self.key_of (emptied place) ≡ Self.key_of place };
+
+    ghost filled_keeps: { (book : Self.Book) (place : Self) → Self.key_of (filled book place) ≡ Self.key_of place };
+
+    ghost filled_again: { (book : Self.Book) (other : Self.Book) (place : Self) → filled book (filled other place) ≡ filled book place };
+}
+
 /// A list in the ascending order of its items' keys, at most one item of a key, whose items are found by a hash of their
 /// keys. Contracts see the list: of the hints nothing is promised, for the item found is compared, and one that isn't
 /// found is searched for.
 #[derive(Debug, Drop)]
 pub struct Hinted<T: Hashed> {
-    items: Ascending<T>,
+    items: Vec<T>,
     // Where items probably are, by the upper halves of the hashes of their keys: each place below the lower half, so that
     // hardly any item is looked at but the one that is looked for.
     hints: Vec<u64>,
@@ -41,10 +73,13 @@ pub struct Hinted<T: Hashed> {
 
 impl<T: Hashed> Model for Hinted<T> {
     ghost use Rattle.std.specs.Prelude.{List};
+    ghost use Rattle.rx_order.specs.Ascending.{IsAscending};
 
     ghost Value = { List T };
 
-    ghost view = { λ h. h.items };
+    ghost view = { λ h. h.items.items };
+
+    ghost invariant = { λ h. IsAscending T.Key.cmp T.key_of h.items.items };
 }
 
 impl<T: Hashed> Hinted<T> {
@@ -55,6 +90,7 @@ impl<T: Hashed> Hinted<T> {
         ensures { IfOk result (λ list. list ≡ items) }
     {
         let hints = hints_of(alloc, items.as_slice())?;
+        let items = items.into_vec();
         Ok(Hinted { items, hints })
     }
 
@@ -76,11 +112,11 @@ impl<T: Hashed> Hinted<T> {
             let at = nth_try(self.hints.len(), hash, step);
             let hint = self.hints.get(at).copied().unwrap_or(EMPTY);
             let place = (hint & LOWER) as usize;
-            if hint >> 32 == hash & LOWER && is_at(self.items.as_slice(), place, key) {
+            if hint >> 32 == hash & LOWER && is_at(&self.items, place, key) {
                 return Ok(place);
             }
         }
-        self.items.place(key)
+        place_of(&self.items, key)
     }
 
     /// The item that has the key.
@@ -88,7 +124,7 @@ impl<T: Hashed> Hinted<T> {
         ensures { option_copied result ≡ item_at T.Key.cmp T.key_of self.now key.now }
     {
         match self.place(key) {
-            Ok(at) => Some(&self.items.as_slice()[at]),
+            Ok(at) => Some(&self.items[at]),
             Err(_) => None,
         }
     }
@@ -99,20 +135,49 @@ impl<T: Hashed> Hinted<T> {
     {
         self.place(key).is_ok()
     }
+}
 
-    /// Writes the item over the one that has its key, which comes back. An item with a new key comes back itself, as
-    /// an `Err`. It takes no memory.
-    pub fn replace(&mut self, item: T) -> Result<T, T>
-        ensures value { result ≡ ok_or (item_at T.Key.cmp T.key_of self.old (T.key_of item)) item }
-        ensures ok { OnOk result (self.new ≡ put T.Key.cmp T.key_of self.old item) }
-        ensures err { OnErr result (self.new ≡ self.old) }
-
-        ensures ascending { IsAscending T.Key.cmp T.key_of self.old }
+impl<T: Place> Hinted<T> {
+    /// Whether the key has a place, and its book is there.
+    pub fn is_in(&self, key: &T::Key) -> bool
+        ensures { result ≡ is_in T.held (item_at T.Key.cmp T.key_of self.now key.now) }
     {
-        self.as_slice();
-        match self.place(&item.key()) {
-            Ok(at) => Ok(self.items.replace_at(at, item)),
-            Err(_) => Err(item),
+        match self.get(key) {
+            Some(place) => place.is_held(),
+            None => false,
+        }
+    }
+
+    /// Whether the key has a place, and its book is out.
+    pub fn is_out(&self, key: &T::Key) -> bool
+        ensures { result ≡ is_out T.held (item_at T.Key.cmp T.key_of self.now key.now) }
+    {
+        match self.get(key) {
+            Some(place) => !place.is_held(),
+            None => false,
+        }
+    }
+
+    /// Takes the book of a key out of its place, if it is there. It takes no memory.
+    #[inline(always)]
+    pub fn take(&mut self, key: &T::Key) -> Option<T::Book>
+        ensures book { result ≡ option_and_then T.held (item_at T.Key.cmp T.key_of self.old key.now) }
+        ensures places { self.new ≡ over T.Key.cmp T.key_of T.emptied key.now self.old }
+    {
+        match self.place(key) {
+            Ok(at) => self.items[at].take(),
+            Err(_) => None,
+        }
+    }
+
+    /// Puts a book into the place of its key, if there is one. It takes no memory.
+    #[inline(always)]
+    pub fn put(&mut self, book: T::Book)
+        ensures { self.new ≡ over T.Key.cmp T.key_of (T.filled book) (T.Book.key_of book) self.old }
+    {
+        match self.place(&book.key()) {
+            Ok(at) => self.items[at].put(book),
+            Err(_) => {}
         }
     }
 }

@@ -11,6 +11,6 @@ mod near;
 mod place;
 
 pub use among::is_among;
-pub use hinted::{Hashed, Hinted};
+pub use hinted::{Hashed, Hinted, Place};
 pub use near::{item_of, place_near};
 pub use place::{FamilyPlace, KeyPlace};

@@ -1,13 +1,13 @@
-ghost use Rattle.std.specs.Prelude.{◌≡◌};
-ghost use Rattle.std.specs.Option.{option_copied};
+ghost use Rattle.std.specs.Prelude.{◌≡◌, None, Some, refl};
+ghost use Rattle.std.specs.Option.{option_copied, option_map};
 ghost use Rattle.rx_places.specs.Amended.{members_held};
 ghost use Rattle.rx_places.specs.Shelves.{row_held};
 
-use crate::hinted::{Hashed, hash_of_text, mixed};
+use crate::hinted::{Hashed, Place, hash_of_text, mixed};
 use rx_fields::{Id, Key};
 use rx_ledger::{Member, Row};
 use rx_order::Keyed;
-use rx_parcels::Family;
+use rx_parcels::{Family, KeyBook};
 
 /// The place of a fill key's book: the row that stands under the key, or none; or nothing, where the book is out.
 #[derive(Clone, Copy, Debug)]
@@ -52,6 +52,37 @@ impl Hashed for KeyPlace {
     }
 }
 
+impl Place for KeyPlace {
+    type Book = KeyBook;
+
+    ghost held = { λ place. option_map (λ row. record { key = place.key; row = row }) place.held };
+
+    ghost emptied = { λ place. record place { held = None } };
+
+    ghost filled = { λ book place. record place { held = Some book.row } };
+
+    ghost emptied_keeps = { λ place. refl };
+
+    ghost filled_keeps = { λ book place. refl };
+
+    ghost filled_again = { λ book other place. refl };
+
+    fn is_held(&self) -> bool {
+        self.held.is_some()
+    }
+
+    #[inline(always)]
+    fn take(&mut self) -> Option<KeyBook> {
+        let row = self.held.take()?;
+        Some(KeyBook { key: self.key, row })
+    }
+
+    #[inline(always)]
+    fn put(&mut self, book: KeyBook) {
+        self.held = Some(book.row);
+    }
+}
+
 /// The place of a family's book: the book, or nothing, where it is out.
 #[derive(Debug, Drop)]
 pub struct FamilyPlace {
@@ -86,5 +117,35 @@ impl Keyed for FamilyPlace {
 impl Hashed for FamilyPlace {
     fn hash_of(family: &Id) -> u64 {
         hash_of_text(family.bytes())
+    }
+}
+
+impl Place for FamilyPlace {
+    type Book = Family;
+
+    ghost held = { λ place. place.held };
+
+    ghost emptied = { λ place. record place { held = None } };
+
+    ghost filled = { λ book place. record place { held = Some book } };
+
+    ghost emptied_keeps = { λ place. refl };
+
+    ghost filled_keeps = { λ book place. refl };
+
+    ghost filled_again = { λ book other place. refl };
+
+    fn is_held(&self) -> bool {
+        self.held.is_some()
+    }
+
+    #[inline(always)]
+    fn take(&mut self) -> Option<Family> {
+        self.held.take()
+    }
+
+    #[inline(always)]
+    fn put(&mut self, book: Family) {
+        self.held = Some(book);
     }
 }

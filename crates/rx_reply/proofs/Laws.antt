@@ -1,5 +1,5 @@
 -- Readers and texts: what is read is spelled so, and what is spelled so is read again.
-use Rattle.std.proofs.Common.{◌≡◌, ℕ, zero, suc, Bool, true, false, cond, List, [], ◌∷◌, ◌++◌, length, take}
+use Rattle.std.proofs.Common.{◌≡◌, ℕ, zero, suc, Bool, ◌&&◌, true, false, cond, List, [], ◌∷◌, ◌++◌, length, take}
 use Rattle.std.proofs.Common.{drop, Option, Some, None, refl, sym, ap, subst, ◌∙◌, append_assoc}
 use Rattle.std.specs.Prelude.{nat_eq}
 use Rattle.std.specs.List.{flat_map, AllByRecursion}
@@ -29,6 +29,23 @@ after_takes text bs rest e =
     let same = guarded (pointwise nat_eq (take (length text) bs) text) (Some (drop (length text) bs)) rest e in
     sym (take-append-drop (length text) bs)
     ∙ rw (same_text (take (length text) bs) text (sym same.0), some_same same.1) refl
+
+-- one more test before those of two texts
+both_again : (same p q : Bool) (x y : List ℕ) (f : List ℕ → Option (List ℕ))
+    → cond p (Some x) None ≡ (cond q (Some y) None >>= f)
+    → cond (same && p) (Some x) None ≡ (cond (same && q) (Some y) None >>= f)
+both_again true p q x y f e = e
+both_again false p q x y f e = refl
+
+-- a text and another one behind it
+pub after_both : (text more bs : List ℕ) → after (text ++ more) bs ≡ (after text bs >>= after more)
+unfolding after
+after_both [] more bs = refl
+after_both (t ∷ ts) more [] = refl
+after_both (t ∷ ts) more (b ∷ bs) =
+    both_again (nat_eq b t) (pointwise nat_eq (take (length (ts ++ more)) bs) (ts ++ more))
+    (pointwise nat_eq (take (length ts) bs) ts) (drop (length (ts ++ more)) bs) (drop (length ts) bs) (after more)
+    (after_both ts more bs)
 
 pub after_again : (text rest : List ℕ) → after text (text ++ rest) ≡ Some rest
 unfolding after

@@ -1,4 +1,5 @@
 pub mod AnswerLaws
+pub mod Approval
 pub mod DigitJoins
 pub mod FieldLaws
 pub mod Loops

@@ -130,6 +130,11 @@ codes_at bs = labelled (field (codes "FA") []) (number_at 1 5 2) bs >>= λ count
 
 -- ---- answers
 
+-- the authorization number and the reference, in front of segment 23
+abbrev pub numbers_at : List ℕ → Option ((ℕ × ℕ) × List ℕ)
+numbers_at bs =
+    pair authorization_at reference_at bs >>= λ x. after (segment (codes "23") []) x.1 >>= λ rest. Some (x.0, rest)
+
 unfoldable pub paid_claim_at : List ℕ → Option (Paid × List ℕ)
 paid_claim_at bs =
     made (λ x. Some (record { number = x.0.0; reference = x.0.1; pricing = x.1 }))

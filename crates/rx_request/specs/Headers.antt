@@ -4,10 +4,11 @@ use Rattle.std.specs.List.{list_all}
 use Rattle.rx_text.specs.Bytes.{is_printable}
 use Rattle.rx_claim.specs.declared.echo.EchoParts.{EchoParts}
 use Rattle.rx_request.specs.declared.header.Header.{Header}
+use Rattle.rx_request.specs.declared.header.TheConstants.{HEADER_LENGTH}
 
--- the first 56 bytes, missing ones blanks
+-- the bytes of the header, missing ones blanks
 unfoldable pub header_bytes : List ℕ → List ℕ
-header_bytes bytes = take 56 bytes ++ replicate (56 - length bytes) 32
+header_bytes bytes = take HEADER_LENGTH bytes ++ replicate (HEADER_LENGTH - length bytes) 32
 
 -- its fields, of 6, 2, 2, 10, 1, 2, 15 and 8 bytes; the last 10 bytes, the software vendor's id, are not looked at
 unfoldable pub header_of : List ℕ → Header
@@ -23,9 +24,9 @@ header_of h =
       date = slice_range h 38 46;
     }
 
--- the 56 bytes are there, and each is printable
+-- the bytes of the header are there, and each is printable
 unfoldable pub is_clean : List ℕ → Bool
-is_clean bytes = nat_le 56 (length bytes) && list_all is_printable (header_bytes bytes)
+is_clean bytes = nat_le HEADER_LENGTH (length bytes) && list_all is_printable (header_bytes bytes)
 
 -- what a reply repeats
 abbrev pub echo_parts : Header → EchoParts

@@ -13,12 +13,13 @@ use Rattle.rx_request.specs.Codes.{is_faulty, first_five, header_conditions}
 use Rattle.rx_text.specs.Bytes.{cut}
 use Rattle.rx_request.specs.Cut.{same, first, further}
 use Rattle.rx_request.specs.Headers.{header_bytes, header_of, is_clean, echo_parts}
+use Rattle.rx_request.specs.declared.header.TheConstants.{HEADER_LENGTH}
 use Rattle.rx_request.specs.Known.{InsuranceTexts, no_insurance, common_of, group_of}
 use Rattle.rx_request.specs.Values.{provider_in, date_in}
 
--- the parts: after the first 56 bytes, cut at each GS
+-- the parts: behind the header, cut at each GS
 unfoldable pub parts : List ℕ → List (List ℕ)
-parts bytes = cut GROUP (drop 56 bytes)
+parts bytes = cut GROUP (drop HEADER_LENGTH bytes)
 
 -- the known values of the common part, or a syntax error
 unfoldable pub common : List ℕ → Option InsuranceTexts

@@ -1,12 +1,13 @@
 ghost use Rattle.std.specs.Prelude.{◌≡◌, ◌+◌, ◌≤◌, ◌-◌, ◌++◌, length, replicate, drop, slice_range};
 ghost use Rattle.rx_claim.specs.Echoed.{blanked_parts};
 ghost use Rattle.rx_request.specs.Headers.{header_bytes, header_of, is_clean, echo_parts};
+ghost use Rattle.rx_request.specs.declared.header.TheConstants.{HEADER_LENGTH};
 
 use rx_claim::{Echo, EchoParts};
 use rx_text::all_printable;
 
-/// How many bytes a header has.
-const LENGTH: usize = 56;
+/// How many bytes the header of a request has (docs/FORMATS.md, "Request header").
+pub const HEADER_LENGTH: usize = 56;
 
 /// The fields of a header, missing bytes being blanks.
 #[derive(Clone, Copy, Debug)]
@@ -32,21 +33,21 @@ pub(crate) fn padded<const N: usize>(text: &[u8], byte: u8) -> [u8; N]
     bytes
 }
 
-/// The first 56 bytes, missing ones blanks.
+/// The bytes of the header, missing ones blanks.
 #[tactic(auto, unfolding(crate::specs::Headers::header_bytes))]
-pub(crate) fn header_bytes(bytes: &[u8]) -> [u8; 56]
+pub(crate) fn header_bytes(bytes: &[u8]) -> [u8; HEADER_LENGTH]
     ensures { result ≡ header_bytes bytes.now }
 {
-    if bytes.len() < LENGTH {
+    if bytes.len() < HEADER_LENGTH {
         padded(bytes, b' ')
     } else {
-        padded(&bytes[..LENGTH], b' ')
+        padded(&bytes[..HEADER_LENGTH], b' ')
     }
 }
 
 // The N bytes from a place on.
-fn bytes_at<const N: usize>(front: &[u8; 56], at: usize) -> [u8; N]
-    requires { at + N ≤ 56 }
+fn bytes_at<const N: usize>(front: &[u8; HEADER_LENGTH], at: usize) -> [u8; N]
+    requires { at + N ≤ HEADER_LENGTH }
     ensures { result ≡ slice_range front.now at (at + N) }
 {
     let mut bytes = [0; N];
@@ -56,19 +57,19 @@ fn bytes_at<const N: usize>(front: &[u8; 56], at: usize) -> [u8; N]
 
 /// What follows the header.
 pub(crate) fn after_header(bytes: &[u8]) -> &[u8]
-    ensures { result.now ≡ drop 56 bytes.now }
+    ensures { result.now ≡ drop HEADER_LENGTH bytes.now }
 {
-    if bytes.len() < LENGTH {
+    if bytes.len() < HEADER_LENGTH {
         &[]
     } else {
-        &bytes[LENGTH..]
+        &bytes[HEADER_LENGTH..]
     }
 }
 
 impl Header {
     /// The fields of these bytes.
     #[tactic(auto, unfolding(crate::specs::Headers::header_of))]
-    pub(crate) fn new(front: &[u8; 56]) -> Header
+    pub(crate) fn new(front: &[u8; HEADER_LENGTH]) -> Header
         ensures { result ≡ header_of front.now }
     {
         Header {
@@ -97,10 +98,10 @@ impl Header {
     }
 }
 
-/// Whether the 56 bytes are there, and printable.
+/// Whether the bytes of a header are there, and printable.
 #[tactic(auto, unfolding(crate::specs::Headers::is_clean, crate::specs::Headers::header_bytes))]
 pub(crate) fn is_clean(bytes: &[u8]) -> bool
     ensures { result ≡ is_clean bytes.now }
 {
-    bytes.len() >= LENGTH && all_printable(&bytes[..LENGTH])
+    bytes.len() >= HEADER_LENGTH && all_printable(&bytes[..HEADER_LENGTH])
 }

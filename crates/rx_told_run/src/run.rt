@@ -7,6 +7,7 @@ use rx_books_text::BooksFault;
 use rx_fields::{Memory, date_read};
 use rx_sheet::SheetFault;
 use rx_switch::SwitchFault;
+use rx_text::all_digits;
 use rx_told::{
     Words, batch_words, books_words, quoted, sheet_words, unread_batch_words, unread_books_words,
     unread_sheet_words,
@@ -98,7 +99,7 @@ fn workers_words(alloc: Global, workers: u16) -> Result<String, AllocError> {
 fn stamp_words(alloc: Global, stamp: &str) -> Result<String, AllocError> {
     let bytes = stamp.as_bytes();
     let shown = quoted(alloc, bytes)?;
-    if bytes.len() != 12 || !bytes.iter().all(|b| b.is_ascii_digit()) {
+    if bytes.len() != 12 || !all_digits(bytes) {
         return format!(in alloc;
             "--stamp {shown}: 12 digits CCYYMMDDHHMM are wanted, as 202603020600"
         );

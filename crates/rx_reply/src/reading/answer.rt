@@ -3,7 +3,7 @@
 ghost use Rattle.std.specs.Prelude.{◌≡◌, ◌≤◌, option_map, take};
 ghost use Rattle.rx_reply.specs.Readers.{times};
 ghost use Rattle.rx_reply.specs.Reading.{authorization_at, reference_at, known_at, code_at, codes_at, paid_claim_at};
-ghost use Rattle.rx_reply.specs.Reading.{approved_at, refused_at, behind_status, answer_at, group_at};
+ghost use Rattle.rx_reply.specs.Reading.{approved_at, numbers_at, refused_at, behind_status, answer_at, group_at};
 
 use super::amounts::{pricing_at, reversed_at};
 use super::fields::{after, bytes_at, number_at};
@@ -85,10 +85,9 @@ pub(super) fn codes_at(bytes: &[u8]) -> Option<(Codes, &[u8])>
     Some((codes, rest))
 }
 
-// What stands behind the status of a paid claim, and what follows.
-#[tactic(auto, unfolding(crate::specs::Reading::paid_claim_at))]
-fn paid_claim_at(bytes: &[u8]) -> Option<(Paid, &[u8])>
-    ensures { option_map (λ x. (x.0, x.1.now)) result ≡ paid_claim_at bytes.now }
+// The authorization number and the reference, and what follows the front of segment 23.
+fn numbers_at(bytes: &[u8]) -> Option<((Authorization, Reference), &[u8])>
+    ensures { option_map (λ x. (x.0, x.1.now)) result ≡ numbers_at bytes.now }
 {
     let Some((number, rest)) = authorization_at(bytes) else {
         return None;
@@ -97,6 +96,17 @@ fn paid_claim_at(bytes: &[u8]) -> Option<(Paid, &[u8])>
         return None;
     };
     let rest = after(b"\x1E\x1CAM23", rest)?;
+    Some(((number, reference), rest))
+}
+
+// What stands behind the status of a paid claim, and what follows.
+#[tactic(auto, unfolding(crate::specs::Reading::paid_claim_at))]
+fn paid_claim_at(bytes: &[u8]) -> Option<(Paid, &[u8])>
+    ensures { option_map (λ x. (x.0, x.1.now)) result ≡ paid_claim_at bytes.now }
+{
+    let Some(((number, reference), rest)) = numbers_at(bytes) else {
+        return None;
+    };
     let Some((pricing, rest)) = pricing_at(rest) else {
         return None;
     };
@@ -109,17 +119,14 @@ fn paid_claim_at(bytes: &[u8]) -> Option<(Paid, &[u8])>
 }
 
 // What stands behind the status of a reversal, and what follows.
-#[tactic(auto, unfolding(crate::specs::Reading::approved_at))]
+#[tactic(auto, using(crate::proofs::Approval::approved_steps))]
 fn approved_at(bytes: &[u8]) -> Option<(Approved, &[u8])>
     ensures { option_map (λ x. (x.0, x.1.now)) result ≡ approved_at bytes.now }
 {
-    let Some((number, rest)) = authorization_at(bytes) else {
+    let Some(((number, reference), rest)) = numbers_at(bytes) else {
         return None;
     };
-    let Some((reference, rest)) = reference_at(rest) else {
-        return None;
-    };
-    let rest = after(b"\x1E\x1CAM23\x1CF9", rest)?;
+    let rest = after(b"\x1CF9", rest)?;
     let Some((total_paid, rest)) = reversed_at(rest) else {
         return None;
     };
