@@ -1,14 +1,14 @@
 // What no clause says: that an order is made and answered, as the worked cases have it (docs/CASES.md).
 use crate::worked::{
-    asking, authorization, base, bill, id, lot, period, person, plain_sheet, product, provider,
-    quantity, reference, reversal, same, thirty_days, this_year, today,
+    asking, authorization, base, bill, day, id, lot, period, person, plain_sheet, product,
+    provider, quantity, reference, reversal, same, thirty_days, this_year, today,
 };
 use rx_adjudicate::{Order, adjudicate, fits};
 use rx_claim::{
     Amounts, Answer, Approved, Body, Codes, Outcome, Paid, Pricing, Refused, Rejected, Reply,
     Transaction, Transmission,
 };
-use rx_fields::{Cents, Code, Count, Key, Period, date_read};
+use rx_fields::{Cents, Code, Count, Key, Period, Person};
 use rx_ledger::{Member, MemberKey, Row};
 use rx_parcels::{Family, Few, KeyBook, Parcel};
 use std::alloc::Global;
@@ -18,7 +18,7 @@ fn key(rt: &impl Abort, number: u64) -> Key {
     Key {
         provider: provider(rt),
         reference: reference(rt, number),
-        date: date_read(b"20260228").expect(rt, "a date"),
+        date: day(rt, b"20260228"),
     }
 }
 
@@ -65,13 +65,18 @@ fn standing(rt: &impl Abort) -> Row {
 
 // The book of a family with the person 01.
 fn book(rt: &impl Abort, alloc: Global, family: &[u8]) -> Family {
-    let (family, person, coverage) = (id(rt, family), person(rt, b"01"), this_year(rt));
+    let mut book = Family::new(alloc, id(rt, family), this_year(rt));
+    enroll(rt, &mut book, person(rt, b"01"));
+    book
+}
+
+// Lists a person, who is covered as long as the book counts.
+fn enroll(rt: &impl Abort, book: &mut Family, person: Person) {
+    let (family, coverage) = (book.family(), book.period());
     let key = MemberKey { family, person };
-    let mut book = Family::new(alloc, family, coverage);
-    assert!(rt; book.is_past(&person), "the first member");
+    assert!(rt; book.is_past(&person), "a person after the others");
     book.add_member(Member { key, coverage })
         .expect(rt, "memory");
-    book
 }
 
 // The book of C100 after one-billing.
