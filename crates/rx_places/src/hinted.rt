@@ -124,7 +124,7 @@ impl<T: Hashed> Hinted<T> {
         ensures { option_copied result ≡ item_at T.Key.cmp T.key_of self.now key.now }
     {
         match self.place(key) {
-            Ok(at) => Some(&self.items[at]),
+            Ok(at) => Some(&self.as_slice()[at]),
             Err(_) => None,
         }
     }
