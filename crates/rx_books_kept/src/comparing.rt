@@ -55,12 +55,9 @@ fn has_unplaced(books: &Whole<'_>, places: &[FamilyPlace], members: &[Member]) -
     requires { IsAscending id_cmp place_family places.now }
     ensures { result ≡ list_all (has_unplaced books.now.ledger places.now) members.now }
 {
-    for member in members {
-        if !has_if_unplaced(books, places, member) {
-            return false;
-        }
-    }
-    true
+    members
+        .iter()
+        .all(|member| has_if_unplaced(books, places, member))
 }
 
 // Whether they have the member, where its family has no place.

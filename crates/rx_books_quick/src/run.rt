@@ -2,9 +2,9 @@ ghost use Rattle.std.specs.Prelude.{IfSome};
 ghost use Rattle.rx_books_quick.specs.Lists.{BeginWith, claim_lines, total_lines};
 ghost use Rattle.rx_books_text.specs.Printed.{member_lines};
 
-use crate::line::{claim_at, member_at, total_at};
+use crate::line::line_at;
 use crate::members::Members;
-use rx_books_text::{TotalLine, Version};
+use rx_books_text::{MemberLine, TotalLine, Version};
 use rx_ledger::Row;
 use std::alloc::Global;
 
@@ -19,7 +19,7 @@ pub(crate) fn members_at(alloc: Global, version: Version, bytes: &[u8]) -> Optio
     let mut members = Vec::new(alloc);
     let mut deductibles = Vec::new(alloc);
     let mut rest = bytes;
-    while let Some((line, behind)) = member_at(version, rest) {
+    while let Some((line, behind)) = line_at::<MemberLine>(version, rest) {
         let Ok(()) = members.push(line.member) else {
             return None;
         };
@@ -41,7 +41,7 @@ pub(crate) fn claims_at(alloc: Global, version: Version, bytes: &[u8]) -> Option
 {
     let mut rows = Vec::with_capacity(alloc, bytes.len() / LEAST_CLAIM).ok()?;
     let mut rest = bytes;
-    while let Some((row, behind)) = claim_at(version, rest) {
+    while let Some((row, behind)) = line_at::<Row>(version, rest) {
         let Ok(()) = rows.push(row) else {
             return None;
         };
@@ -60,7 +60,7 @@ pub(crate) fn totals_at(
 {
     let mut totals = Vec::new(alloc);
     let mut rest = bytes;
-    while let Some((line, behind)) = total_at(version, rest) {
+    while let Some((line, behind)) = line_at::<TotalLine>(version, rest) {
         let Ok(()) = totals.push(line) else {
             return None;
         };

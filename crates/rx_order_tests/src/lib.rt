@@ -7,3 +7,5 @@
 mod adjudicate;
 #[cfg(test)]
 mod in_order;
+#[cfg(test)]
+mod worked;
