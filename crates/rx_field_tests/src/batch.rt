@@ -3,8 +3,8 @@ use rx_batch::{
     Batch, BatchFault, Detail, FileType, Head, Kind, Pieces, one_reading, read_batch, write_batch,
 };
 use rx_fields::{Lot, Time, date_read};
-use std::alloc::{AllocError, Global};
-use std::test::Fail;
+use std::alloc::Global;
+use std::process::Abort;
 
 const HEADER: &[u8] =
     b"\x0200TPHARMSYS                0000042202603010930P12RXSWITCH                \x03";
@@ -16,37 +16,42 @@ const CLAIM: &[u8] = b"900001D0B1RXDEMO    1011234567893     20260228          \
 
 const TRAILER: &[u8] = b"\x029900000420000000001                                   \x03";
 
-fn joined(alloc: Global, parts: &[&[u8]]) -> Result<Vec<u8>, AllocError> {
+// The parts of the file of one billing.
+const ONE_BILLING: &[&[u8]] = &[HEADER, b"\x02G10000000001", CLAIM, b"\x03", TRAILER];
+
+fn joined(rt: &impl Abort, alloc: Global, parts: &[&[u8]]) -> Vec<u8> {
     let mut text = Vec::new(alloc);
     for part in parts {
-        text.extend_from_slice(part)?;
+        text.extend_from_slice(part).expect(rt, "memory");
     }
-    Ok(text)
+    text
 }
 
 // The file of one billing, of 326 bytes.
-fn one_billing(alloc: Global) -> Result<Vec<u8>, AllocError> {
-    joined(
-        alloc,
-        &[HEADER, b"\x02G10000000001", CLAIM, b"\x03", TRAILER],
-    )
+fn one_billing(rt: &impl Abort, alloc: Global) -> Vec<u8> {
+    joined(rt, alloc, ONE_BILLING)
 }
 
 // A file with another byte at one place.
-fn changed(alloc: Global, file: &[u8], at: usize, byte: u8) -> Result<Vec<u8>, AllocError> {
-    let mut copy = Vec::from_slice(alloc, file)?;
+fn changed(rt: &impl Abort, alloc: Global, file: &[u8], at: usize, byte: u8) -> Vec<u8> {
+    let mut copy = Vec::from_slice(alloc, file).expect(rt, "memory");
     if let Some(there) = copy.get_mut(at) {
         *there = byte;
     }
-    Ok(copy)
+    copy
 }
 
 // The fault's number and place, or 0 and the number of details.
-fn told(outcome: &Result<Batch, BatchFault>) -> (u32, u64) {
+fn told_of(outcome: &Result<Batch, BatchFault>) -> (u32, u64) {
     match outcome {
         Ok(batch) => (0, batch.details.len() as u64),
         Err(fault) => (fault.code(), fault.place().unwrap_or(0)),
     }
+}
+
+// What is told of a file.
+fn told(alloc: Global, file: &[u8]) -> (u32, u64) {
+    told_of(&read_batch(alloc, file))
 }
 
 fn same_details(a: &[Detail], b: &[Detail]) -> bool {
@@ -55,7 +60,7 @@ fn same_details(a: &[Detail], b: &[Detail]) -> bool {
             && x.text.bytes() == y.text.bytes())
 }
 
-fn same(a: &Result<Batch, BatchFault>, b: &Result<Batch, BatchFault>) -> bool {
+fn are_alike(a: &Result<Batch, BatchFault>, b: &Result<Batch, BatchFault>) -> bool {
     match (a, b) {
         (Ok(a), Ok(b)) => a.head == b.head
             && same_details(a.details.as_slice(), b.details.as_slice()),
@@ -79,60 +84,64 @@ fn by_bytes(alloc: Global, file: &[u8]) -> Result<Batch, BatchFault> {
     pieces.finish()
 }
 
-// Whether a text is read byte by byte, and cut at each one place, as it is read whole.
-fn reads_alike(alloc: Global, text: &[u8]) -> bool {
+// A text is read byte by byte, and cut at each one place, as it is read whole.
+fn reads_alike(rt: &impl Abort, alloc: Global, text: &[u8]) {
     let whole = read_batch(alloc, text);
     for at in 0..=text.len() {
         let (front, back) = text.split_at(at);
-        if !same(&in_two(alloc, front, back), &whole) {
-            return false;
-        }
+        same!(*rt; (at, are_alike(&in_two(alloc, front, back), &whole)), (at, true));
     }
-    same(&by_bytes(alloc, text), &whole)
+    same!(*rt; are_alike(&by_bytes(alloc, text), &whole), true);
 }
 
 // The head of one-billing's file.
-fn head() -> Option<Head> {
-    Some(Head {
+fn head(rt: &impl Abort) -> Head {
+    let created = date_read(b"20260301").expect(rt, "a date");
+    Head {
         kind: Kind::Transmission,
         file: FileType::Production,
         sender: *b"PHARMSYS                ",
         receiver: *b"RXSWITCH                ",
-        lot: Lot::new(42, date_read(b"20260301").ok()?)?,
-        time: Time::new(b"0930")?,
-    })
-}
-
-#[test]
-fn reads_one_billing(rt: HostRuntime) -> Result<(), Fail> {
-    one_reading();
-    let file = one_billing(rt.alloc())?;
-    same!(rt; file.len(), 326);
-    let batch = read_batch(rt.alloc(), &file)?;
-    same!(rt; Some(batch.head), head());
-    same!(rt; batch.head.lot().created().number(), 20513);
-    same!(rt; batch.details.len(), 1);
-    for detail in batch.details.as_slice() {
-        same!(rt; (detail.reference, detail.text.bytes()), (*b"0000000001", CLAIM));
+        lot: Lot::new(42, created).expect(rt, "a lot"),
+        time: Time::new(b"0930").expect(rt, "a time"),
     }
-    Ok(())
 }
 
-// What is written of a file that is read.
-fn again(alloc: Global, file: &[u8]) -> Result<Vec<u8>, Fail> {
-    let batch = read_batch(alloc, file)?;
-    Ok(write_batch(alloc, &batch.head, batch.details.as_slice())?)
+// The details are that of one billing alone.
+fn is_one_claim(rt: &impl Abort, details: &[Detail]) {
+    same!(*rt; details.len(), 1);
+    for detail in details {
+        same!(*rt; detail.reference, *b"0000000001");
+        same!(*rt; detail.text.bytes(), CLAIM);
+    }
 }
 
 #[test]
-fn writes_what_it_reads_and_counts_its_records(rt: HostRuntime) -> Result<(), Fail> {
+fn reads_one_billing(rt: HostRuntime) {
+    one_reading();
+    let file = one_billing(&rt, rt.alloc());
+    same!(rt; file.len(), 326);
+    let batch = read_batch(rt.alloc(), &file).expect(&rt, "a batch");
+    same!(rt; batch.head, head(&rt));
+    same!(rt; batch.head.lot().created().number(), 20513);
+    is_one_claim(&rt, batch.details.as_slice());
+}
+
+// A file is written as this one, once it was read.
+fn is_written(rt: &impl Abort, alloc: Global, file: &[u8], wanted: &[u8]) {
+    let batch = read_batch(alloc, file).expect(rt, "a batch");
+    let written = write_batch(alloc, &batch.head, batch.details.as_slice());
+    same!(*rt; written.expect(rt, "memory").as_slice(), wanted);
+}
+
+#[test]
+fn writes_what_it_reads_and_counts_its_records(rt: HostRuntime) {
     let alloc = rt.alloc();
-    let file = one_billing(alloc)?;
-    same!(rt; again(alloc, &file)?.as_slice(), changed(alloc, &file, 289, b'3')?.as_slice());
-    let empty = joined(alloc, &[HEADER, TRAILER])?;
-    let without = changed(alloc, &empty, 94, b'0')?;
-    same!(rt; again(alloc, &without)?.as_slice(), changed(alloc, &empty, 94, b'2')?.as_slice());
-    Ok(())
+    let file = one_billing(&rt, alloc);
+    is_written(&rt, alloc, &file, &changed(&rt, alloc, &file, 289, b'3'));
+    let empty = joined(&rt, alloc, &[HEADER, TRAILER]);
+    let without = changed(&rt, alloc, &empty, 94, b'0');
+    is_written(&rt, alloc, &without, &changed(&rt, alloc, &empty, 94, b'2'));
 }
 
 // The count of an empty batch, and what is told of it.
@@ -144,18 +153,17 @@ const COUNTS: [(u8, (u32, u64)); 4] = [
 ];
 
 #[test]
-fn counts_an_empty_batch(rt: HostRuntime) -> Result<(), Fail> {
-    let file = joined(rt.alloc(), &[HEADER, TRAILER])?;
+fn counts_an_empty_batch(rt: HostRuntime) {
+    let file = joined(&rt, rt.alloc(), &[HEADER, TRAILER]);
     for (count, wanted) in COUNTS {
-        let file = changed(rt.alloc(), &file, 94, count)?;
-        same!(rt; (count, told(&read_batch(rt.alloc(), &file))), (count, wanted));
+        let file = changed(&rt, rt.alloc(), &file, 94, count);
+        same!(rt; (count, told(rt.alloc(), &file)), (count, wanted));
     }
-    Ok(())
 }
 
 #[test]
-fn names_the_fault_of_a_cut_file(rt: HostRuntime) -> Result<(), Fail> {
-    let file = one_billing(rt.alloc())?;
+fn names_the_fault_of_a_cut_file(rt: HostRuntime) {
+    let file = one_billing(&rt, rt.alloc());
     for length in 0..326usize {
         let wanted = match length {
             0 => (2, 0),
@@ -166,9 +174,8 @@ fn names_the_fault_of_a_cut_file(rt: HostRuntime) -> Result<(), Fail> {
             _ => (4, 270),
         };
         let cut = file.get(..length).unwrap_or(&[]);
-        same!(rt; (length, told(&read_batch(rt.alloc(), cut))), (length, wanted));
+        same!(rt; (length, told(rt.alloc(), cut)), (length, wanted));
     }
-    Ok(())
 }
 
 // The place of a byte in one-billing's file, another byte there, and what is told of the file then.
@@ -188,17 +195,24 @@ const CHANGES: [(usize, u8, (u32, u64)); 12] = [
 ];
 
 #[test]
-fn names_the_fault_of_a_damaged_file(rt: HostRuntime) -> Result<(), Fail> {
-    let file = one_billing(rt.alloc())?;
+fn names_the_fault_of_a_damaged_file(rt: HostRuntime) {
+    let file = one_billing(&rt, rt.alloc());
     for (at, byte, wanted) in CHANGES {
-        let damaged = changed(rt.alloc(), &file, at, byte)?;
-        same!(rt; (at, byte, told(&read_batch(rt.alloc(), &damaged))), (at, byte, wanted));
+        let damaged = changed(&rt, rt.alloc(), &file, at, byte);
+        same!(rt; (at, byte, told(rt.alloc(), &damaged)), (at, byte, wanted));
     }
-    Ok(())
 }
 
-fn framed(alloc: Global, before: &[u8], file: &[u8], behind: &[u8]) -> Result<Vec<u8>, AllocError> {
-    joined(alloc, &[before, file, behind])
+// What is told of a file between these texts.
+fn told_between(
+    rt: &impl Abort,
+    alloc: Global,
+    before: &[u8],
+    file: &[u8],
+    behind: &[u8],
+) -> (u32, u64) {
+    let text = joined(rt, alloc, &[before, file, behind]);
+    told(alloc, &text)
 }
 
 // What stands before one-billing's file and behind it, and what is told of the whole.
@@ -211,16 +225,14 @@ const BESIDE: [(&str, &[u8], &[u8], (u32, u64)); 5] = [
 ];
 
 #[test]
-fn names_the_fault_of_a_file_with_more_or_less(rt: HostRuntime) -> Result<(), Fail> {
-    let file = one_billing(rt.alloc())?;
+fn names_the_fault_of_a_file_with_more_or_less(rt: HostRuntime) {
+    let file = one_billing(&rt, rt.alloc());
     for (name, before, behind, wanted) in BESIDE {
-        let text = framed(rt.alloc(), before, &file, behind)?;
-        same_at(&rt, name, &told(&read_batch(rt.alloc(), &text)), &wanted);
+        let told = told_between(&rt, rt.alloc(), before, &file, behind);
+        same_at(&rt, name, &told, &wanted);
     }
     let cut = file.get(..325).unwrap_or(&[]);
-    let text = framed(rt.alloc(), b"", cut, b" \x03")?;
-    same!(rt; told(&read_batch(rt.alloc(), &text)), (7, 270));
-    Ok(())
+    same!(rt; told_between(&rt, rt.alloc(), b"", cut, b" \x03"), (7, 270));
 }
 
 // One-billing with ends of lines between its records.
@@ -237,49 +249,45 @@ const SPACED: [&[u8]; 9] = [
 ];
 
 #[test]
-fn reads_pieces_as_the_whole(rt: HostRuntime) -> Result<(), Fail> {
+fn reads_pieces_as_the_whole(rt: HostRuntime) {
     let alloc = rt.alloc();
-    let file = one_billing(alloc)?;
-    let spaced = joined(alloc, &SPACED)?;
-    same!(rt; told(&read_batch(alloc, &spaced)), (0, 1));
-    same!(rt; reads_alike(alloc, &spaced), true);
-    same!(rt; reads_alike(alloc, &file), true);
-    same!(rt; reads_alike(alloc, &joined(alloc, &[&file, b"X"])?), true);
-    same!(rt; reads_alike(alloc, &joined(alloc, &[b"X", &file])?), true);
-    same!(rt; reads_alike(alloc, &changed(alloc, &file, 289, b'2')?), true);
-    Ok(())
+    let file = one_billing(&rt, alloc);
+    let spaced = joined(&rt, alloc, &SPACED);
+    same!(rt; told(alloc, &spaced), (0, 1));
+    reads_alike(&rt, alloc, &spaced);
+    reads_alike(&rt, alloc, &file);
+    reads_alike(&rt, alloc, &joined(&rt, alloc, &[&file, b"X"]));
+    reads_alike(&rt, alloc, &joined(&rt, alloc, &[b"X", &file]));
+    reads_alike(&rt, alloc, &changed(&rt, alloc, &file, 289, b'2'));
 }
 
 #[test]
-fn reads_pieces_of_a_cut_file_as_the_whole(rt: HostRuntime) -> Result<(), Fail> {
-    let file = one_billing(rt.alloc())?;
+fn reads_pieces_of_a_cut_file_as_the_whole(rt: HostRuntime) {
+    let file = one_billing(&rt, rt.alloc());
     for length in [0usize, 1, 74, 75, 76, 269, 270, 271, 325] {
-        let cut = file.get(..length).unwrap_or(&[]);
-        same!(rt; (length, reads_alike(rt.alloc(), cut)), (length, true));
+        reads_alike(&rt, rt.alloc(), file.get(..length).unwrap_or(&[]));
     }
-    Ok(())
 }
 
 #[test]
-fn keeps_its_first_fault(rt: HostRuntime) -> Result<(), Fail> {
-    let file = one_billing(rt.alloc())?;
+fn keeps_its_first_fault(rt: HostRuntime) {
+    let file = one_billing(&rt, rt.alloc());
     let mut pieces = Pieces::new(rt.alloc());
     for byte in &file {
-        pieces.feed(&[*byte])?;
+        same!(rt; pieces.feed(&[*byte]), Ok(()));
     }
     for _ in 0..3u8 {
         same!(rt; pieces.feed(b"X"), Err(BatchFault::AfterTrailer { at: 326 }));
     }
-    same!(rt; told(&pieces.finish()), (11, 326));
-    Ok(())
+    same!(rt; told_of(&pieces.finish()), (11, 326));
 }
 
 #[test]
-fn refuses_one_detail_too_many(rt: HostRuntime) -> Result<(), Fail> {
-    let mut file = Vec::from_slice(rt.alloc(), HEADER)?;
+fn refuses_one_detail_too_many(rt: HostRuntime) {
+    let mut file = Vec::from_slice(rt.alloc(), HEADER).expect(&rt, "memory");
     for _ in 0..100_001u32 {
-        file.extend_from_slice(b"\x02G10000000001\x03")?;
+        file.extend_from_slice(b"\x02G10000000001\x03")
+            .expect(&rt, "memory");
     }
-    same!(rt; told(&read_batch(rt.alloc(), &file)), (12, 1_400_075));
-    Ok(())
+    same!(rt; told(rt.alloc(), &file), (12, 1_400_075));
 }

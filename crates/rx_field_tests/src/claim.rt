@@ -9,7 +9,7 @@ use rx_fields::{
     date_read,
 };
 use std::alloc::Global;
-use std::test::Fail;
+use std::process::Abort;
 
 // The header of a base claim, as a reply repeats it.
 const BASE: EchoParts = EchoParts {
@@ -58,32 +58,39 @@ fn amounts(all: [u64; 5]) -> Amounts {
 }
 
 #[test]
-fn patient_and_plan_share_what_is_allowed(rt: HostRuntime) -> Result<(), Fail> {
+fn patient_and_plan_share_what_is_allowed(rt: HostRuntime) {
     for (all, patient_pay, total_paid) in PAID {
-        let pricing = Pricing::new(amounts(all)).ok_or("within the limits")?;
+        let pricing = Pricing::new(amounts(all)).expect(&rt, "within the limits");
         let shares = (pricing.patient_pay(), pricing.total_paid());
         same!(rt; (pricing.amounts(), shares), (amounts(all), (patient_pay, total_paid)));
     }
     for all in NOT_PAID {
         same!(rt; (all, Pricing::new(amounts(all))), (all, None));
     }
-    Ok(())
+}
+
+fn reference(rt: &impl Abort) -> Reference {
+    Reference::new(123).expect(rt, "a reference")
+}
+
+fn product(rt: &impl Abort) -> Product {
+    Product::new(b"00002000202").expect(rt, "a product")
 }
 
 // The base claim with these charges.
-fn parts(usual_charge: Option<u64>, gross_amount: Option<u64>) -> Option<BillParts> {
-    Some(BillParts {
-        reference: Reference::new(123)?,
-        family: Id::new(b"C100", 20).ok()?,
-        person: Person::new(b"01").ok()?,
-        product: Product::new(b"00002000202")?,
-        quantity: Quantity::new(30000)?,
-        days: Days::new(30)?,
-        ingredient_cost: Cents::new(30000)?,
+fn parts(rt: &impl Abort, usual_charge: Option<u64>, gross_amount: Option<u64>) -> BillParts {
+    BillParts {
+        reference: reference(rt),
+        family: Id::new(b"C100", 20).expect(rt, "an id"),
+        person: Person::new(b"01").expect(rt, "a person"),
+        product: product(rt),
+        quantity: Quantity::new(30000).expect(rt, "a quantity"),
+        days: Days::new(30).expect(rt, "days"),
+        ingredient_cost: Cents::new(30000).expect(rt, "cents"),
         dispensing_fee: Cents::new(175),
         usual_charge: usual_charge.and_then(Cents::new),
         gross_amount: gross_amount.and_then(Cents::new),
-    })
+    }
 }
 
 // The usual charge, the gross amount, and what caps the payment.
@@ -96,15 +103,14 @@ const CAPS: [(Option<u64>, Option<u64>, u64); 5] = [
 ];
 
 #[test]
-fn the_usual_charge_caps_before_the_gross_amount(rt: HostRuntime) -> Result<(), Fail> {
+fn the_usual_charge_caps_before_the_gross_amount(rt: HostRuntime) {
     for (usual, gross, cap) in CAPS {
-        let parts = parts(usual, gross).ok_or("a claim")?;
-        let bill = Bill::new(parts).ok_or("a charge")?;
+        let parts = parts(&rt, usual, gross);
+        let bill = Bill::new(parts).expect(&rt, "a charge");
         same!(rt; *bill.parts(), parts);
         same!(rt; bill.cap().get(), cap);
     }
-    same!(rt; parts(None, None).map(Bill::new), Some(None));
-    Ok(())
+    same!(rt; Bill::new(parts(&rt, None, None)), None);
 }
 
 #[test]
@@ -129,8 +135,8 @@ fn an_answer_has_one_to_five_codes(rt: HostRuntime) {
 }
 
 #[test]
-fn an_echo_is_printable(rt: HostRuntime) -> Result<(), Fail> {
-    let echo = Echo::new(BASE).ok_or("printable")?;
+fn an_echo_is_printable(rt: HostRuntime) {
+    let echo = Echo::new(BASE).expect(&rt, "printable");
     same!(rt; *echo.parts(), BASE);
     same!(rt; Echo::blanked(BASE), echo);
     let strange = EchoParts {
@@ -147,19 +153,16 @@ fn an_echo_is_printable(rt: HostRuntime) -> Result<(), Fail> {
         ..BASE
     };
     same!(rt; *Echo::blanked(strange).parts(), blanked);
-    Ok(())
 }
 
-fn bill() -> Result<Transaction, Fail> {
-    let parts = parts(Some(40000), None).ok_or("a claim")?;
-    Ok(Transaction::Bill(Bill::new(parts).ok_or("a charge")?))
+fn bill(rt: &impl Abort) -> Transaction {
+    let parts = parts(rt, Some(40000), None);
+    Transaction::Bill(Bill::new(parts).expect(rt, "a charge"))
 }
 
-fn reverse() -> Result<Transaction, Fail> {
-    Ok(Transaction::Reverse(Reversal {
-        reference: Reference::new(123).ok_or("a reference")?,
-        product: Product::new(b"00002000202").ok_or("a product")?,
-    }))
+fn reverse(rt: &impl Abort) -> Transaction {
+    let (reference, product) = (reference(rt), product(rt));
+    Transaction::Reverse(Reversal { reference, product })
 }
 
 fn faulty() -> Transaction {
@@ -169,167 +172,197 @@ fn faulty() -> Transaction {
     })
 }
 
-// How a list of these is taken: as a list of them that is equal to its copy, or by giving them back.
+// How a list is taken: as a list of its items, or by giving them back.
 #[derive(Clone, Copy, Debug, PartialEq)]
 enum Taken {
     Listed,
     Back,
-    Otherwise,
 }
 
-fn how_taken(alloc: Global, items: &[Transaction]) -> Result<Taken, Fail> {
-    let (taken, is_same) = match Transactions::new(items.to_vec(alloc)?) {
-        Ok(list) => (
-            Taken::Listed,
-            list.as_slice() == items && list.copy(alloc)? == list,
-        ),
-        Err(back) => (Taken::Back, back.as_slice() == items),
-    };
-    Ok(if is_same { taken } else { Taken::Otherwise })
-}
-
-#[test]
-fn no_billing_stands_beside_a_reversal(rt: HostRuntime) -> Result<(), Fail> {
-    let (b, r, f) = (bill()?, reverse()?, faulty());
-    let lists: [(&str, &[Transaction], Taken); 9] = [
-        ("none", &[], Taken::Back),
-        ("a billing", &[b], Taken::Listed),
-        ("billings", &[b, b, f, b], Taken::Listed),
-        ("reversals", &[r, r, r, f], Taken::Listed),
-        ("faulty ones", &[f, f, f, f], Taken::Listed),
-        ("a billing and a reversal", &[b, r], Taken::Back),
-        ("a reversal and a billing", &[r, f, f, b], Taken::Back),
-        ("five billings", &[b, b, b, b, b], Taken::Back),
-        ("five faulty ones", &[f, f, f, f, f], Taken::Back),
-    ];
-    for (name, items, wanted) in lists {
-        same_at(&rt, name, &how_taken(rt.alloc(), items)?, &wanted);
+// How a list of these is taken, which is equal to its copy.
+fn how_taken(rt: &impl Abort, alloc: Global, items: &[Transaction]) -> Taken {
+    match Transactions::new(items.to_vec(alloc).expect(rt, "memory")) {
+        Ok(list) => {
+            same!(*rt; list.as_slice(), items);
+            same!(*rt; list.copy(alloc).expect(rt, "memory") == list, true);
+            Taken::Listed
+        }
+        Err(back) => {
+            same!(*rt; back.as_slice(), items);
+            Taken::Back
+        }
     }
-    Ok(())
 }
 
-// Whether a transaction is a list of its own, which is copied, and which is the list of it alone.
-fn is_one(alloc: Global, item: Transaction) -> Result<bool, Fail> {
-    let listed = Transactions::new([item].to_vec(alloc)?)?;
-    let one = Transactions::one(item);
-    Ok(one.as_slice() == [item].as_slice() && listed == one && one.copy(alloc)? == one)
+// A billing for each `b`, a reversal for each `r`, and a faulty one for each `f`.
+fn of_kinds(rt: &impl Abort, alloc: Global, kinds: &str) -> Vec<Transaction> {
+    let mut items = Vec::new(alloc);
+    for kind in kinds.as_bytes() {
+        let item = match kind {
+            b'b' => bill(rt),
+            b'r' => reverse(rt),
+            _ => faulty(),
+        };
+        items.push(item).expect(rt, "memory");
+    }
+    items
+}
+
+// Transactions of these kinds, and how a list of them is taken.
+const LISTS: [(&str, Taken); 9] = [
+    ("", Taken::Back),
+    ("b", Taken::Listed),
+    ("bbfb", Taken::Listed),
+    ("rrrf", Taken::Listed),
+    ("ffff", Taken::Listed),
+    ("br", Taken::Back),
+    ("rffb", Taken::Back),
+    ("bbbbb", Taken::Back),
+    ("fffff", Taken::Back),
+];
+
+#[test]
+fn no_billing_stands_beside_a_reversal(rt: HostRuntime) {
+    for (kinds, wanted) in LISTS {
+        let items = of_kinds(&rt, rt.alloc(), kinds);
+        same_at(&rt, kinds, &how_taken(&rt, rt.alloc(), &items), &wanted);
+    }
+}
+
+// A transaction is a list of its own, which is copied, and which is the list of it alone.
+fn is_one(rt: &impl Abort, alloc: Global, items: &[Transaction; 1]) {
+    let listed = items.to_vec(alloc).expect(rt, "memory");
+    let listed = Transactions::new(listed).expect(rt, "a list of one");
+    let one = Transactions::one(items[0]);
+    same!(*rt; one.as_slice(), items.as_slice());
+    same!(*rt; listed == one, true);
+    same!(*rt; one.copy(alloc).expect(rt, "memory") == one, true);
 }
 
 #[test]
-fn one_transaction_is_a_list_of_its_own(rt: HostRuntime) -> Result<(), Fail> {
-    let (bill, reverse) = (bill()?, reverse()?);
-    same!(rt; is_one(rt.alloc(), bill)?, true);
-    same!(rt; is_one(rt.alloc(), reverse)?, true);
-    same!(rt; is_one(rt.alloc(), faulty())?, true);
-    same!(rt; Transactions::one(bill) == Transactions::one(faulty()), false);
-    Ok(())
+fn one_transaction_is_a_list_of_its_own(rt: HostRuntime) {
+    is_one(&rt, rt.alloc(), &[bill(&rt)]);
+    is_one(&rt, rt.alloc(), &[reverse(&rt)]);
+    is_one(&rt, rt.alloc(), &[faulty()]);
+    same!(rt; Transactions::one(bill(&rt)) == Transactions::one(faulty()), false);
 }
 
 // The base claim's transmission, dated so.
-fn heard(alloc: Global, date: &[u8]) -> Result<Transmission, Fail> {
-    let (provider, date) = (Provider::new(b"1234567893")?, date_read(date)?);
-    let list = Transactions::new([bill()?, faulty()].to_vec(alloc)?)?;
-    let body = Body::Heard(Heard {
-        provider,
-        date,
-        list,
-    });
-    let echo = Echo::blanked(BASE);
-    Ok(Transmission { echo, body })
+fn heard(rt: &impl Abort, alloc: Global, date: &[u8]) -> Transmission {
+    let items = [bill(rt), faulty()].to_vec(alloc).expect(rt, "memory");
+    Transmission {
+        echo: Echo::blanked(BASE),
+        body: Body::Heard(Heard {
+            provider: Provider::new(b"1234567893").expect(rt, "a provider"),
+            date: date_read(date).expect(rt, "a date"),
+            list: Transactions::new(items).expect(rt, "a list"),
+        }),
+    }
 }
 
-fn rejected(groups: u64) -> Result<Rejected, Fail> {
-    Ok(Rejected {
-        codes: Codes::new(&[Code::Bin, Code::TransactionCount]).ok_or("two codes")?,
-        groups: Count::new(groups).ok_or("a count")?,
-    })
+fn rejected(rt: &impl Abort, groups: u64) -> Rejected {
+    Rejected {
+        codes: Codes::new(&[Code::Bin, Code::TransactionCount]).expect(rt, "two codes"),
+        groups: Count::new(groups).expect(rt, "a count"),
+    }
 }
 
 #[test]
-fn a_copy_of_a_transmission_is_equal_to_it(rt: HostRuntime) -> Result<(), Fail> {
+fn a_copy_of_a_transmission_is_equal_to_it(rt: HostRuntime) {
     let none = Transmission {
         echo: Echo::blanked(BASE),
-        body: Body::Rejected(rejected(1)?),
+        body: Body::Rejected(rejected(&rt, 1)),
     };
-    let one = heard(rt.alloc(), b"20260228")?;
-    same!(rt; one == one.copy(rt.alloc())?, true);
-    same!(rt; none == none.copy(rt.alloc())?, true);
-    same!(rt; one == heard(rt.alloc(), b"20260301")?, false);
+    let one = heard(&rt, rt.alloc(), b"20260228");
+    same!(rt; one == one.copy(rt.alloc()).expect(&rt, "memory"), true);
+    same!(rt; none == none.copy(rt.alloc()).expect(&rt, "memory"), true);
+    same!(rt; one == heard(&rt, rt.alloc(), b"20260301"), false);
     same!(rt; one == none, false);
-    Ok(())
 }
 
-// A paid answer with one billing's figures, and this authorization number.
-fn paid(number: u64) -> Result<Paid, Fail> {
-    Ok(Paid {
-        number: Authorization::new(number).ok_or("a number")?,
-        reference: Reference::new(123).ok_or("a reference")?,
-        pricing: Pricing::new(amounts([30000, 175, 10000, 3000, 0])).ok_or("within the limits")?,
-    })
+// A paid answer with one billing's figures.
+fn paid(rt: &impl Abort) -> Paid {
+    let amounts = amounts([30000, 175, 10000, 3000, 0]);
+    Paid {
+        number: Authorization::new(4_200_000_011).expect(rt, "a number"),
+        reference: reference(rt),
+        pricing: Pricing::new(amounts).expect(rt, "within the limits"),
+    }
 }
 
-fn taken_back() -> Result<Approved, Fail> {
-    Ok(Approved {
-        number: Authorization::new(4_500_000_011).ok_or("a number")?,
-        reference: Reference::new(123).ok_or("a reference")?,
-        total_paid: Cents::new(17175).ok_or("an amount")?,
-    })
+fn taken_back(rt: &impl Abort) -> Approved {
+    Approved {
+        number: Authorization::new(4_500_000_011).expect(rt, "a number"),
+        reference: reference(rt),
+        total_paid: Cents::new(17175).expect(rt, "an amount"),
+    }
+}
+
+fn refused() -> Refused {
+    Refused {
+        codes: Codes::one(Code::DuplicatePaid),
+        reference: Reference::new(123),
+    }
 }
 
 // A billing that is paid, the same again, a reversal, a refused billing, and the first once more.
-fn each_answer() -> Result<[Answer; 5], Fail> {
-    let paid = paid(4_200_000_011)?;
-    let refused = Refused {
-        codes: Codes::one(Code::DuplicatePaid),
-        reference: Reference::new(123),
-    };
-    Ok([
-        Answer::Paid(paid),
-        Answer::Twice(paid),
-        Answer::Approved(taken_back()?),
-        Answer::Refused(refused),
-        Answer::Paid(paid),
-    ])
+fn each_answer(rt: &impl Abort) -> [Answer; 5] {
+    [
+        Answer::Paid(paid(rt)),
+        Answer::Twice(paid(rt)),
+        Answer::Approved(taken_back(rt)),
+        Answer::Refused(refused()),
+        Answer::Paid(paid(rt)),
+    ]
 }
 
-fn told(alloc: Global, items: &[Answer]) -> Result<Reply, Fail> {
-    let outcome = Outcome::Heard(Answers::new(items.to_vec(alloc)?)?);
-    let echo = Echo::blanked(BASE);
-    Ok(Reply { echo, outcome })
+fn told(rt: &impl Abort, alloc: Global, items: &[Answer]) -> Reply {
+    let items = items.to_vec(alloc).expect(rt, "memory");
+    Reply {
+        echo: Echo::blanked(BASE),
+        outcome: Outcome::Heard(Answers::new(items).expect(rt, "answers")),
+    }
 }
 
 // How a list of these answers is taken.
-fn how_answers_are_taken(alloc: Global, items: &[Answer]) -> Result<Taken, Fail> {
-    let (taken, is_same) = match Answers::new(items.to_vec(alloc)?) {
-        Ok(answers) => (Taken::Listed, answers.as_slice() == items),
-        Err(back) => (Taken::Back, back.as_slice() == items),
-    };
-    Ok(if is_same { taken } else { Taken::Otherwise })
+fn how_answers_are_taken(rt: &impl Abort, alloc: Global, items: &[Answer]) -> Taken {
+    match Answers::new(items.to_vec(alloc).expect(rt, "memory")) {
+        Ok(answers) => {
+            same!(*rt; answers.as_slice(), items);
+            Taken::Listed
+        }
+        Err(back) => {
+            same!(*rt; back.as_slice(), items);
+            Taken::Back
+        }
+    }
 }
 
 #[test]
-fn a_reply_has_one_to_four_answers(rt: HostRuntime) -> Result<(), Fail> {
-    let all = each_answer()?;
+fn a_reply_has_one_to_four_answers(rt: HostRuntime) {
+    let all = each_answer(&rt);
     for n in 0..=5usize {
         let wanted = if 1 <= n && n <= 4 {
             Taken::Listed
         } else {
             Taken::Back
         };
-        same!(rt; (n, how_answers_are_taken(rt.alloc(), &all[..n])?), (n, wanted));
+        same!(rt; (n, how_answers_are_taken(&rt, rt.alloc(), &all[..n])), (n, wanted));
     }
-    Ok(())
+}
+
+fn rejection(rt: &impl Abort, groups: u64) -> Outcome {
+    Outcome::Rejected(rejected(rt, groups))
 }
 
 #[test]
-fn replies_are_equal_where_their_answers_are(rt: HostRuntime) -> Result<(), Fail> {
+fn replies_are_equal_where_their_answers_are(rt: HostRuntime) {
     let alloc = rt.alloc();
-    let all = each_answer()?;
-    same!(rt; told(alloc, &all[..4])? == told(alloc, &all[..4])?, true);
-    same!(rt; told(alloc, &all[..4])? == told(alloc, &all[..3])?, false);
-    same!(rt; told(alloc, &[all[0]])? == told(alloc, &[all[1]])?, false);
-    let (one, two) = (rejected(1)?, rejected(2)?);
-    same!(rt; Outcome::Rejected(one) == Outcome::Rejected(one), true);
-    same!(rt; Outcome::Rejected(one) == Outcome::Rejected(two), false);
-    Ok(())
+    let all = each_answer(&rt);
+    same!(rt; told(&rt, alloc, &all[..4]) == told(&rt, alloc, &all[..4]), true);
+    same!(rt; told(&rt, alloc, &all[..4]) == told(&rt, alloc, &all[..3]), false);
+    let once = told(&rt, alloc, &[Answer::Paid(paid(&rt))]);
+    same!(rt; once == told(&rt, alloc, &[Answer::Twice(paid(&rt))]), false);
+    same!(rt; rejection(&rt, 1) == rejection(&rt, 1), true);
+    same!(rt; rejection(&rt, 1) == rejection(&rt, 2), false);
 }

@@ -1,6 +1,10 @@
 use crate::table::{same, same_at};
 use rx_fields::{Day, FieldFault, Period, Stamp, Time, date_read, date_write};
-use std::test::Fail;
+use std::process::Abort;
+
+fn day(rt: &impl Abort, text: &str) -> Day {
+    date_read(text.as_bytes()).expect(rt, "a date")
+}
 
 // The numbers are those of Python's `(date - date(1970, 1, 1)).days`. Python has no year 0000: its 366 days are counted
 // back from 0001-01-01.
@@ -37,9 +41,9 @@ const DAYS_REFUSED: [(&str, FieldFault); 10] = [
 ];
 
 #[test]
-fn days_are_numbered_from_1970(rt: HostRuntime) -> Result<(), Fail> {
+fn days_are_numbered_from_1970(rt: HostRuntime) {
     for (text, date, number) in DAYS_READ {
-        let day = date_read(text.as_bytes())?;
+        let day = day(&rt, text);
         same_at(&rt, text, &(day.year(), day.month(), day.day()), &date);
         same_at(&rt, text, &day.number(), &number);
         same_at(&rt, text, &date_write(day).as_slice(), &text.as_bytes());
@@ -47,7 +51,6 @@ fn days_are_numbered_from_1970(rt: HostRuntime) -> Result<(), Fail> {
     for (text, fault) in DAYS_REFUSED {
         same_at(&rt, text, &date_read(text.as_bytes()), &Err(fault));
     }
-    Ok(())
 }
 
 // The last day of each month but February, and the day after it.
@@ -89,24 +92,20 @@ fn day_of(year: &str, rest: &str) -> Result<Day, FieldFault> {
     date_read(&text)
 }
 
+// The first of these days is of the year, and the second is none.
+fn ends(rt: &impl Abort, year: &str, (last, after): (&str, &str)) {
+    same_at(rt, year, &(last, day_of(year, last).is_ok()), &(last, true));
+    let none = Err(FieldFault::NotDate);
+    same_at(rt, year, &(after, day_of(year, after)), &(after, none));
+}
+
 #[test]
 fn months_end_on_their_last_day(rt: HostRuntime) {
     for (year, february) in YEARS {
-        for (last, after) in ENDS.into_iter().chain([february]) {
-            same_at(
-                &rt,
-                year,
-                &(last, day_of(year, last).is_ok()),
-                &(last, true),
-            );
-            let beyond = day_of(year, after);
-            same_at(
-                &rt,
-                year,
-                &(after, beyond),
-                &(after, Err(FieldFault::NotDate)),
-            );
+        for end in ENDS {
+            ends(&rt, year, end);
         }
+        ends(&rt, year, february);
     }
 }
 
@@ -119,17 +118,15 @@ const DAYS_OF_2026: [(&str, bool); 5] = [
 ];
 
 #[test]
-fn periods_hold_both_their_ends(rt: HostRuntime) -> Result<(), Fail> {
-    let (first, last) = (date_read(b"20260101")?, date_read(b"20261231")?);
-    let year = Period::new(first, last).ok_or("no period")?;
+fn periods_hold_both_their_ends(rt: HostRuntime) {
+    let (first, last) = (day(&rt, "20260101"), day(&rt, "20261231"));
+    let year = Period::new(first, last).expect(&rt, "a period");
     same!(rt; (year.first(), year.last()), (first, last));
     for (text, is_within) in DAYS_OF_2026 {
-        let day = date_read(text.as_bytes())?;
-        same_at(&rt, text, &year.contains(day), &is_within);
+        same_at(&rt, text, &year.contains(day(&rt, text)), &is_within);
     }
     same!(rt; Period::new(first, first).is_some(), true);
-    same!(rt; Period::new(date_read(b"20270101")?, last), None);
-    Ok(())
+    same!(rt; Period::new(day(&rt, "20270101"), last), None);
 }
 
 // A stamp, its day, its time, and the time's hour and minute.
@@ -152,24 +149,24 @@ const STAMPS_REFUSED: [&str; 8] = [
 
 const TIMES_REFUSED: [&str; 6] = ["2400", "0060", "9999", "600", "06000", "06:0"];
 
+// The stamp of a text has this day and time, and this hour and minute.
+fn is_stamp(rt: &impl Abort, text: &str, date: &str, time: &str, clock: (u8, u8)) {
+    let stamp = Stamp::new(text.as_bytes()).expect(rt, "a stamp");
+    same_at(
+        rt,
+        text,
+        &date_write(stamp.date).as_slice(),
+        &date.as_bytes(),
+    );
+    same_at(rt, text, &(stamp.time.hour(), stamp.time.minute()), &clock);
+    same_at(rt, text, &Time::new(time.as_bytes()), &Some(stamp.time));
+    same_at(rt, text, &stamp.digits().as_slice(), &text.as_bytes());
+}
+
 #[test]
-fn stamps_are_a_day_and_a_time(rt: HostRuntime) -> Result<(), Fail> {
-    for (text, date, time, (hour, minute)) in STAMPS_READ {
-        let stamp = Stamp::new(text.as_bytes()).ok_or("no stamp")?;
-        same_at(
-            &rt,
-            text,
-            &date_write(stamp.date).as_slice(),
-            &date.as_bytes(),
-        );
-        same_at(
-            &rt,
-            text,
-            &(stamp.time.hour(), stamp.time.minute()),
-            &(hour, minute),
-        );
-        same_at(&rt, text, &Time::new(time.as_bytes()), &Some(stamp.time));
-        same_at(&rt, text, &stamp.digits().as_slice(), &text.as_bytes());
+fn stamps_are_a_day_and_a_time(rt: HostRuntime) {
+    for (text, date, time, clock) in STAMPS_READ {
+        is_stamp(&rt, text, date, time, clock);
     }
     for text in STAMPS_REFUSED {
         same_at(&rt, text, &Stamp::new(text.as_bytes()), &None);
@@ -177,5 +174,4 @@ fn stamps_are_a_day_and_a_time(rt: HostRuntime) -> Result<(), Fail> {
     for text in TIMES_REFUSED {
         same_at(&rt, text, &Time::new(text.as_bytes()), &None);
     }
-    Ok(())
 }

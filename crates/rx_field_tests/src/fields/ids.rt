@@ -1,7 +1,7 @@
 use crate::table::{same, same_at};
 use rx_fields::{Id, IdFault, Key, Person, Provider, Reference, date_read, trimmed};
 use std::cmp::Ordering;
-use std::test::Fail;
+use std::process::Abort;
 
 // A text, the most bytes that its id may have, and the id.
 const IDS_READ: [(&str, usize, &str); 9] = [
@@ -34,13 +34,8 @@ const IDS_REFUSED: [(&str, usize, IdFault); 11] = [
 fn ids_are_trimmed_texts(rt: HostRuntime) {
     for (text, max, id) in IDS_READ {
         assert!(rt; max <= 20);
-        let read = Id::new(text.as_bytes(), max);
-        same_at(
-            &rt,
-            text,
-            &read.as_ref().ok().map(Id::bytes),
-            &Some(id.as_bytes()),
-        );
+        let read = Id::new(text.as_bytes(), max).expect(&rt, "an id");
+        same_at(&rt, text, &read.bytes(), &id.as_bytes());
     }
     for (text, max, fault) in IDS_REFUSED {
         assert!(rt; max <= 20);
@@ -59,11 +54,11 @@ fn texts_lose_the_blanks_at_their_end(rt: HostRuntime) {
 
 #[test]
 fn short_ids_have_at_most_their_length(rt: HostRuntime) {
-    let pharmacy = Provider::new(b"ABCDEFGHIJKLMNO ");
-    same!(rt; pharmacy.as_ref().ok().map(Provider::bytes), Some(b"ABCDEFGHIJKLMNO".as_slice()));
+    let pharmacy = Provider::new(b"ABCDEFGHIJKLMNO ").expect(&rt, "a provider");
+    same!(rt; pharmacy.bytes(), b"ABCDEFGHIJKLMNO".as_slice());
     same!(rt; Provider::new(b"ABCDEFGHIJKLMNOP"), Err(IdFault::TooLong));
-    same!(rt; Person::new(b"01 ").as_ref().ok().map(Person::bytes), Some(b"01".as_slice()));
-    same!(rt; Person::new(b"012").as_ref().map(Person::id), Id::new(b"012", 20).as_ref().copied());
+    same!(rt; Person::new(b"01 ").expect(&rt, "a person").bytes(), b"01".as_slice());
+    same!(rt; Ok(Person::new(b"012").expect(&rt, "a person").id()), Id::new(b"012", 20));
     same!(rt; Person::new(b"0123"), Err(IdFault::TooLong));
     same!(rt; Person::new(b"   "), Err(IdFault::Blank));
 }
@@ -82,10 +77,14 @@ const IDS_IN_ORDER: [&str; 10] = [
     "a",
 ];
 
+fn id(rt: &impl Abort, text: &str) -> Id {
+    Id::new(text.as_bytes(), 20).expect(rt, "an id")
+}
+
 // How the ids of two texts are ordered, in both directions, and whether they are equal.
-fn order(low: &str, high: &str) -> Result<(Ordering, Option<Ordering>, bool), IdFault> {
-    let (low, high) = (Id::new(low.as_bytes(), 20)?, Id::new(high.as_bytes(), 20)?);
-    Ok((low.cmp(&high), high.partial_cmp(&low), low == high))
+fn order(rt: &impl Abort, low: &str, high: &str) -> (Ordering, Option<Ordering>, bool) {
+    let (low, high) = (id(rt, low), id(rt, high));
+    (low.cmp(&high), high.partial_cmp(&low), low == high)
 }
 
 #[test]
@@ -93,9 +92,9 @@ fn ids_are_ordered_a_prefix_first(rt: HostRuntime) {
     let below = (Ordering::Less, Some(Ordering::Greater), false);
     let equal = (Ordering::Equal, Some(Ordering::Equal), true);
     for (i, low) in IDS_IN_ORDER.into_iter().enumerate() {
-        same_at(&rt, low, &order(low, low), &Ok(equal));
-        for high in IDS_IN_ORDER.into_iter().skip(i + 1) {
-            same_at(&rt, low, &(high, order(low, high)), &(high, Ok(below)));
+        same_at(&rt, low, &order(&rt, low, low), &equal);
+        for high in &IDS_IN_ORDER[i + 1..] {
+            same_at(&rt, low, &(*high, order(&rt, low, high)), &(*high, below));
         }
     }
     same!(rt; Id::new(b"A ", 20), Id::new(b"A", 3));
@@ -109,22 +108,19 @@ const KEYS_IN_ORDER: [(&str, u64, &str); 5] = [
     ("AA", 2, "20260101"),
 ];
 
-fn key((provider, reference, date): (&str, u64, &str)) -> Option<Key> {
-    Some(Key {
-        provider: Provider::new(provider.as_bytes()).ok()?,
-        reference: Reference::new(reference)?,
-        date: date_read(date.as_bytes()).ok()?,
-    })
+fn key(rt: &impl Abort, (provider, reference, date): (&str, u64, &str)) -> Key {
+    Key {
+        provider: Provider::new(provider.as_bytes()).expect(rt, "a provider"),
+        reference: Reference::new(reference).expect(rt, "a reference"),
+        date: date_read(date.as_bytes()).expect(rt, "a date"),
+    }
 }
 
 #[test]
-fn fill_keys_are_ordered_by_provider_then_reference_then_date(rt: HostRuntime) -> Result<(), Fail> {
-    for (i, line) in KEYS_IN_ORDER.into_iter().enumerate() {
-        let low = key(line).ok_or("a key")?;
-        for line in KEYS_IN_ORDER.into_iter().skip(i + 1) {
-            let high = key(line).ok_or("a key")?;
-            same_at(&rt, line.2, &(low < high), &true);
+fn fill_keys_are_ordered_by_provider_then_reference_then_date(rt: HostRuntime) {
+    for (i, low) in KEYS_IN_ORDER.into_iter().enumerate() {
+        for high in &KEYS_IN_ORDER[i + 1..] {
+            same_at(&rt, high.2, &(key(&rt, low) < key(&rt, *high)), &true);
         }
     }
-    Ok(())
 }
