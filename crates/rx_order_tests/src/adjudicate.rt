@@ -335,7 +335,6 @@ fn reversing(rt: &impl Abort, alloc: Global, place: u64) -> Order {
     order_of(rt, alloc, place, reversal(rt, 123), parcel)
 }
 
-// The copy of an order, made here since the place that makes it and compares it is dear to prove.
 fn copied(rt: &impl Abort, alloc: Global, order: &Order) -> Order {
     order.copy(alloc).expect(rt, "memory")
 }
@@ -350,11 +349,11 @@ fn is_on_one_billing(rt: &impl Abort, alloc: Global, order: &Order, place: u64) 
 #[test]
 fn orders_are_copied_and_compared(rt: HostRuntime) {
     let alloc = rt.alloc();
-    let (order, other) = (reversing(&rt, alloc, 7), reversing(&rt, alloc, 8));
-    let copy = copied(&rt, alloc, &order);
-    same(&rt, &copy, &order);
+    let order = reversing(&rt, alloc, 7);
+    let (copy, again) = (copied(&rt, alloc, &order), copied(&rt, alloc, &order));
     is_on_one_billing(&rt, alloc, &copy, 7);
-    differ(&rt, &copy, &other);
+    same(&rt, copy, order);
+    differ(&rt, again, reversing(&rt, alloc, 8));
 }
 
 #[test]
@@ -364,6 +363,6 @@ fn a_done_holds_its_order(rt: HostRuntime) {
     let done = adjudicate(alloc, order).expect(&rt, "memory");
     same(&rt, done.order(), &copy);
     let (order, after, _reply) = done.part();
-    same(&rt, &order, &copy);
     differ(&rt, &after, copy.parcel());
+    same(&rt, order, copy);
 }

@@ -21,7 +21,8 @@ const HEADER: EchoParts = EchoParts {
     date: *b"20260228",
 };
 
-/// What is given is what is wanted. Values are compared here, since each place that compares by itself is dear to prove.
+/// What is given is what is wanted. Values are compared and dropped here, since each place that does it by itself is dear to
+/// prove.
 pub(crate) fn same<T: PartialEq + Debug + Drop>(rt: &impl Abort, given: T, wanted: T) {
     assert_eq!(rt; given, wanted);
 }
