@@ -1,7 +1,7 @@
 // What no clause says: that an order is made and answered, as the worked cases have it (docs/CASES.md).
 use crate::worked::{
-    asking, authorization, base, bill, day, differ, id, lot, period, person, plain_sheet, product,
-    provider, quantity, reference, reversal, same, thirty_days, this_year, today,
+    TODAY, asking, authorization, base, day, differ, four, id, lot, period, person, plain_sheet,
+    product, provider, quantity, reference, reversal, same, thirty_days, this_year, today,
 };
 use rx_adjudicate::{Order, adjudicate, fits};
 use rx_claim::{
@@ -18,7 +18,7 @@ fn key(rt: &impl Abort, number: u64) -> Key {
     Key {
         provider: provider(rt),
         reference: reference(rt, number),
-        date: day(rt, b"20260228"),
+        date: day(rt, TODAY),
     }
 }
 
@@ -170,13 +170,7 @@ fn free_keys(rt: &impl Abort, alloc: Global) -> Parcel {
 }
 
 fn four_transactions(rt: &impl Abort, alloc: Global) -> Order {
-    let transactions = [
-        base(rt, 301, b"C100"),
-        base(rt, 301, b"C100"),
-        bill(rt, 302, b"C100", b"01", b"00001000101"),
-        bill(rt, 303, b"C100", b"01", b"00003000303"),
-    ];
-    let asked = today(rt, alloc, &transactions);
+    let asked = today(rt, alloc, &four(rt));
     ordered(rt, alloc, 42, 1, asked, free_keys(rt, alloc))
 }
 
