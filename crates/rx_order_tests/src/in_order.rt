@@ -245,14 +245,14 @@ fn a_transaction_is_on_the_books_after_the_one_before(rt: HostRuntime) {
 fn books_of_a_thousand(rt: &impl Abort, alloc: Global) -> Books {
     let mut ledger = Ledger::new(alloc);
     for number in 0..1000 {
-        enroll(rt, &mut ledger, number);
+        let digits: [u8; 3] = digits_write(number);
+        enroll(rt, &mut ledger, &digits);
     }
     Books::from_ledger(alloc, &ledger, this_year(rt)).expect(rt, "memory")
 }
 
-fn enroll(rt: &impl Abort, ledger: &mut Ledger, number: u64) {
-    let digits: [u8; 3] = digits_write(number);
-    let (family, person) = (id(rt, b"C100"), person(rt, &digits));
+fn enroll(rt: &impl Abort, ledger: &mut Ledger, digits: &[u8]) {
+    let (family, person) = (id(rt, b"C100"), person(rt, digits));
     let member = Member::new(family, person, day(rt, b"20260101"), day(rt, b"20261231"));
     ledger
         .add_member(member.expect(rt, "a coverage"))
