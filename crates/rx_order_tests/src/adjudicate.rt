@@ -1,7 +1,7 @@
 // What no clause says: that an order is made and answered, as the worked cases have it (docs/CASES.md).
 use crate::worked::{
-    asking, authorization, base, bill, day, differ, id, lot, period, person, plain_sheet, product,
-    provider, quantity, reference, reversal, same, thirty_days, this_year, today,
+    TODAY, asking, authorization, base, day, differ, four, id, lot, period, person, plain_sheet,
+    product, provider, quantity, reference, reversal, same, thirty_days, this_year, today,
 };
 use rx_adjudicate::{Order, adjudicate, fits};
 use rx_claim::{
@@ -18,7 +18,7 @@ fn key(rt: &impl Abort, number: u64) -> Key {
     Key {
         provider: provider(rt),
         reference: reference(rt, number),
-        date: day(rt, b"20260228"),
+        date: day(rt, TODAY),
     }
 }
 
@@ -170,13 +170,7 @@ fn free_keys(rt: &impl Abort, alloc: Global) -> Parcel {
 }
 
 fn four_transactions(rt: &impl Abort, alloc: Global) -> Order {
-    let transactions = [
-        base(rt, 301, b"C100"),
-        base(rt, 301, b"C100"),
-        bill(rt, 302, b"C100", b"01", b"00001000101"),
-        bill(rt, 303, b"C100", b"01", b"00003000303"),
-    ];
-    let asked = today(rt, alloc, &transactions);
+    let asked = today(rt, alloc, &four(rt));
     ordered(rt, alloc, 42, 1, asked, free_keys(rt, alloc))
 }
 
@@ -335,7 +329,6 @@ fn reversing(rt: &impl Abort, alloc: Global, place: u64) -> Order {
     order_of(rt, alloc, place, reversal(rt, 123), parcel)
 }
 
-// The copy of an order, made here since the place that makes it and compares it is dear to prove.
 fn copied(rt: &impl Abort, alloc: Global, order: &Order) -> Order {
     order.copy(alloc).expect(rt, "memory")
 }
@@ -350,11 +343,11 @@ fn is_on_one_billing(rt: &impl Abort, alloc: Global, order: &Order, place: u64) 
 #[test]
 fn orders_are_copied_and_compared(rt: HostRuntime) {
     let alloc = rt.alloc();
-    let (order, other) = (reversing(&rt, alloc, 7), reversing(&rt, alloc, 8));
-    let copy = copied(&rt, alloc, &order);
-    same(&rt, &copy, &order);
+    let order = reversing(&rt, alloc, 7);
+    let (copy, again) = (copied(&rt, alloc, &order), copied(&rt, alloc, &order));
     is_on_one_billing(&rt, alloc, &copy, 7);
-    differ(&rt, &copy, &other);
+    same(&rt, copy, order);
+    differ(&rt, again, reversing(&rt, alloc, 8));
 }
 
 #[test]
@@ -364,6 +357,6 @@ fn a_done_holds_its_order(rt: HostRuntime) {
     let done = adjudicate(alloc, order).expect(&rt, "memory");
     same(&rt, done.order(), &copy);
     let (order, after, _reply) = done.part();
-    same(&rt, &order, &copy);
     differ(&rt, &after, copy.parcel());
+    same(&rt, order, copy);
 }
