@@ -26,6 +26,11 @@ pub(crate) fn same<T: PartialEq + Debug + Drop>(rt: &impl Abort, given: T, wante
     assert_eq!(rt; given, wanted);
 }
 
+/// What is given is not this other value.
+pub(crate) fn differ<T: PartialEq + Debug + Drop>(rt: &impl Abort, given: T, other: T) {
+    assert_ne!(rt; given, other);
+}
+
 /// The day of a text.
 pub(crate) fn day(rt: &impl Abort, digits: &[u8]) -> Day {
     date_read(digits).expect(rt, "a date")
