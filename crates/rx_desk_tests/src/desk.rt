@@ -200,15 +200,30 @@ fn give(rt: &impl Abort, desk: &mut Desk, done: Done) {
     desk.give(done).expect(rt, "taken back");
 }
 
-// The record at the place goes out, and no other beside it; it comes in again.
-fn goes_alone(rt: &impl Abort, desk: &mut Desk, alloc: Global, place: u64) {
+// The record at the place goes out, and no other is ready beside it.
+fn only_order(rt: &impl Abort, desk: &mut Desk, place: u64) -> Order {
     same(rt, desk.is_ready(), true);
     let order = order(rt, desk);
     same(rt, order.place(), place);
-    let done = done(rt, alloc, order);
     same(rt, desk.is_ready(), false);
-    same(rt, matches!(desk.next(), Next::Later), place < 3);
-    give(rt, desk, done);
+    order
+}
+
+// Whether records are left, and none may go now.
+fn is_later(desk: &mut Desk) -> bool {
+    matches!(desk.next(), Next::Later)
+}
+
+// The record at the place goes out, and no other beside it; it comes in again.
+fn goes_alone(rt: &impl Abort, desk: &mut Desk, alloc: Global, place: u64) {
+    let order = only_order(rt, desk, place);
+    same(rt, is_later(desk), place < 3);
+    give(rt, desk, done(rt, alloc, order));
+}
+
+// These events were.
+fn went(rt: &impl Abort, desk: &Desk, history: &[Event]) {
+    same(rt, desk.history(), history);
 }
 
 // The next record goes out, and comes in again.
@@ -236,7 +251,6 @@ fn sharers_go_one_after_another(rt: HostRuntime) {
     for place in [1, 2, 3] {
         goes_alone(&rt, &mut desk, rt.alloc(), place);
     }
-    same(&rt, matches!(desk.next(), Next::Over), true);
     let history = [
         Event::Take(1),
         Event::Give(1),
@@ -245,7 +259,8 @@ fn sharers_go_one_after_another(rt: HostRuntime) {
         Event::Take(3),
         Event::Give(3),
     ];
-    same(&rt, desk.history(), history.as_slice());
+    went(&rt, &desk, &history);
+    same(&rt, matches!(desk.next(), Next::Over), true);
 }
 
 #[test]
@@ -287,19 +302,24 @@ fn with_one_given(rt: &impl Abort, alloc: Global) -> Desk {
     desk
 }
 
+// Whether what is done comes back.
+fn turns_away(desk: &mut Desk, done: Done) -> bool {
+    desk.give(done).is_err()
+}
+
 #[test]
 fn turns_away_a_done_over_other_books(rt: HostRuntime) {
     let stranger = first_done(&rt, rt.alloc(), b"20261130");
     let mut desk = with_one_out(&rt, rt.alloc());
-    same(&rt, desk.give(stranger).is_err(), true);
-    same(&rt, desk.history(), [Event::Take(1)].as_slice());
+    same(&rt, turns_away(&mut desk, stranger), true);
+    went(&rt, &desk, &[Event::Take(1)]);
 }
 
 #[test]
 fn turns_away_an_order_given_twice(rt: HostRuntime) {
     let again = first_done(&rt, rt.alloc(), b"20261231");
     let mut desk = with_one_given(&rt, rt.alloc());
-    same(&rt, desk.give(again).is_err(), true);
+    same(&rt, turns_away(&mut desk, again), true);
     same(&rt, desk.history().len(), 2);
 }
 
@@ -371,13 +391,22 @@ fn ended(rt: &impl Abort, alloc: Global, back: Back) -> Finished {
     closed(rt, desk)
 }
 
-// The books after the records, and the replies to them, one after another in file order.
-fn in_file_order(rt: &impl Abort, alloc: Global) -> Finished {
+// The ledger after the records, and the replies to them, one after another in file order.
+fn plain(
+    rt: &impl Abort,
+    alloc: Global,
+    ledger: &Ledger,
+    records: &[Transmission],
+) -> (Ledger, Vec<Reply>) {
     let (lot, sheet) = (lot(rt), sheet(rt, alloc));
-    let (ledger, records) = (two_families(rt, alloc), fills_by_turns(rt, alloc));
     assert!(rt; records.len() <= 100_000, "a batch");
-    let run = plain_run(alloc, lot, &sheet, &ledger, &records);
-    let (after, replies) = run.expect(rt, "memory");
+    plain_run(alloc, lot, &sheet, ledger, records).expect(rt, "memory")
+}
+
+// The books after the records, and the replies to them, in file order.
+fn in_file_order(rt: &impl Abort, alloc: Global) -> Finished {
+    let (ledger, records) = (two_families(rt, alloc), fills_by_turns(rt, alloc));
+    let (after, replies) = plain(rt, alloc, &ledger, &records);
     let books = books_of(rt, alloc, &after);
     Finished { books, replies }
 }

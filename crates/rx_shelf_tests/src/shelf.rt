@@ -130,7 +130,9 @@ fn next_years(rt: &impl Abort, alloc: Global) -> Parcel {
 
 // The books that the shelf closes to: its books agree, and it doesn't come back.
 fn closed(rt: &impl Abort, shelf: Shelf) -> Books {
-    assert!(rt; shelf.agrees(), "books that agree");
+    if !shelf.agrees() {
+        panic!(rt; "books that agree");
+    }
     shelf.close().expect(rt, "closed")
 }
 
