@@ -1,5 +1,5 @@
 -- Meaning: what a books file is, and the first fault of a text that is none (docs/FORMATS.md, "Books file").
-use Rattle.std.specs.Prelude.{◌≡◌, ℕ, ◌+◌, true, List, ◌∷◌, ◌++◌, length, Option, Some, None}
+use Rattle.std.specs.Prelude.{◌≡◌, ℕ, ◌+◌, true, List, ◌∷◌, ◌++◌, length, IfErr, IfOk, Ok, Option, Result, Some, None}
 use Rattle.std.specs.List.{All}
 use Rattle.rx_fields.specs.Numbered.{Span}
 use Rattle.rx_ledger.specs.Ledger.{Ledger}
@@ -9,9 +9,12 @@ use Rattle.rx_books_text.specs.declared.fault.BooksFault.TheVariants as fault
 use Rattle.rx_books_text.specs.declared.line.Line.{Line}
 use Rattle.rx_books_text.specs.declared.line.Line.TheVariants as line
 use Rattle.rx_books_text.specs.declared.version.Version.{Version}
+use Rattle.rx_books_text.specs.declared.version.Version.TheVariants.{Three}
+use Rattle.rx_books_text.specs.Fault.{Gives, UnlessMemory}
 use Rattle.rx_books_text.specs.Printed.{IsPrinted, PrintedParts, has_member, lines_of, printed_text}
 use Rattle.rx_books_text.specs.TextFault.{HasFault}
 use Rattle.rx_books_kept.specs.BooksText.{books_text, parts_of}
+use Rattle.rx_books_kept.specs.LedgerBooks.{LedgerBooks}
 
 -- the text is the one text of this ledger with the sums of this period, in one of the versions
 pub record IsBooksText (text : List ℕ) (period : Span) (L : Ledger) : Type 0 where
@@ -46,3 +49,23 @@ pub data HasBooksFault (text : List ℕ) : BooksFault → Type 0 where
   of_lines : (f : BooksFault) → HasFault text f → HasBooksFault text f
   of_figures : (p : PrintedParts) (n : ℕ) → text ≡ printed_text p → IsPrinted p → IsWrongLine p n
       → HasBooksFault text (fault.Totals n)
+
+-- ---- what reading a text answers
+
+-- the books that are read are those whose text it is
+abbrev pub ReadsBooksAlone : List ℕ → Result LedgerBooks BooksFault → Type 0
+ReadsBooksAlone text result = IfOk result (λ books. IsBooksText text books.period books.ledger)
+
+-- the text of books is read as those books, unless memory was wanting
+abbrev pub ReadsAllBooks : List ℕ → Result LedgerBooks BooksFault → Type 0
+ReadsAllBooks text result = (period : Span) → (L : Ledger) → IsBooksText text period L
+    → Gives result (Ok (record { period = period; ledger = L }))
+
+-- what was read, written in version 3, is a text of the same books
+abbrev pub ReadsWhatIsWritten : Result LedgerBooks BooksFault → Type 0
+ReadsWhatIsWritten result =
+    IfOk result (λ books. IsBooksText (books_text Three books.period books.ledger) books.period books.ledger)
+
+-- the fault is the text's first, unless memory was wanting
+abbrev pub NamesFirstFault : List ℕ → Result LedgerBooks BooksFault → Type 0
+NamesFirstFault text result = IfErr result (λ fault. UnlessMemory fault (HasBooksFault text fault))

@@ -1,10 +1,9 @@
-ghost use Rattle.std.specs.Prelude.{◌≡◌, ◌↔◌, IfErr, IfOk, IfSome, IsTrue, Ok};
+ghost use Rattle.std.specs.Prelude.{◌≡◌, ◌↔◌, IfOk, IfSome, IsTrue};
 ghost use Rattle.std.specs.Option.{option_copied};
-ghost use Rattle.rx_fields.specs.Numbered.{Span};
-ghost use Rattle.rx_ledger.specs.Ledger.{Ledger, row_under};
-ghost use Rattle.rx_books_kept.specs.BooksFile.{HasBooksFault, IsBooksText};
+ghost use Rattle.rx_ledger.specs.Ledger.{row_under};
+ghost use Rattle.rx_books_kept.specs.BooksFile.{NamesFirstFault, ReadsAllBooks, ReadsBooksAlone, ReadsWhatIsWritten};
 ghost use Rattle.rx_books_kept.specs.BooksText.{books_text};
-ghost use Rattle.rx_books_text.specs.Fault.{Gives, UnlessMemory};
+ghost use Rattle.rx_books_text.specs.Fault.{Gives};
 ghost use Rattle.rx_books_kept.specs.Figures.{books_of};
 ghost use Rattle.rx_books_kept.specs.LedgerBooks.{deductible_of_family, deductible_of_member, out_of_pocket_of_family};
 
@@ -54,14 +53,12 @@ impl Books {
     /// The books of a text, or its first fault (docs/FORMATS.md, "Books file"). A text is accepted exactly where it is the
     /// one text of these books in a version.
     pub fn read(alloc: Global, text: &[u8]) -> Result<Books, BooksFault>
-        ensures ok { IfOk result (λ books. IsBooksText text.now books.period books.ledger) }
+        ensures ok { ReadsBooksAlone text.now result }
         // The text of books is read as those books, unless memory was wanting.
-        ensures reads { (period : Span) → (L : Ledger) → IsBooksText text.now period L
-            → Gives result (Ok (record { period = period; ledger = L })) }
+        ensures reads { ReadsAllBooks text.now result }
         // What was read, written in version 3, is a text of the same books.
-        ensures again { IfOk result (λ books. IsBooksText
-            (books_text Version.Three books.period books.ledger) books.period books.ledger) }
-        ensures refuses { IfErr result (λ fault. UnlessMemory fault (HasBooksFault text.now fault)) }
+        ensures again { ReadsWhatIsWritten result }
+        ensures refuses { NamesFirstFault text.now result }
         // The same, computed.
         ensures value { Gives result (books_of text.now) }
     {

@@ -1,12 +1,10 @@
-ghost use Rattle.std.specs.Prelude.{◌≡◌, IfErr, IfOk, Ok};
+ghost use Rattle.std.specs.Prelude.{◌≡◌, IfOk};
 ghost use Rattle.std.specs.List.{flat_map};
 ghost use Rattle.std.specs.Vec.{vec_items};
-ghost use Rattle.rx_fields.specs.Numbered.{Span};
-ghost use Rattle.rx_ledger.specs.Ledger.{Ledger};
-ghost use Rattle.rx_books_kept.specs.BooksFile.{HasBooksFault, IsBooksText};
+ghost use Rattle.rx_books_kept.specs.BooksFile.{NamesFirstFault, ReadsAllBooks, ReadsBooksAlone, ReadsWhatIsWritten};
 ghost use Rattle.rx_books_kept.specs.BooksText.{books_text};
 ghost use Rattle.rx_books_kept.specs.Figures.{books_of};
-ghost use Rattle.rx_books_text.specs.Fault.{Gives, UnlessMemory};
+ghost use Rattle.rx_books_text.specs.Fault.{Gives};
 
 use crate::books::Books;
 use crate::kept::in_one_piece;
@@ -25,14 +23,12 @@ impl Books {
         parts: usize,
         text: &[u8],
     ) -> Result<Books, BooksFault>
-        ensures ok { IfOk result (λ books. IsBooksText text.now books.period books.ledger) }
+        ensures ok { ReadsBooksAlone text.now result }
         // The text of books is read as those books, unless memory was wanting.
-        ensures reads { (period : Span) → (L : Ledger) → IsBooksText text.now period L
-            → Gives result (Ok (record { period = period; ledger = L })) }
+        ensures reads { ReadsAllBooks text.now result }
         // What was read, written in version 3, is a text of the same books.
-        ensures again { IfOk result (λ books. IsBooksText
-            (books_text Version.Three books.period books.ledger) books.period books.ledger) }
-        ensures refuses { IfErr result (λ fault. UnlessMemory fault (HasBooksFault text.now fault)) }
+        ensures again { ReadsWhatIsWritten result }
+        ensures refuses { NamesFirstFault text.now result }
         // The same, computed.
         ensures value { Gives result (books_of text.now) }
     {

@@ -17,6 +17,8 @@ use Rattle.rx_order.proofs.Keys.{cases_Ordering, Equal-from_is_eq, Greater-from_
 use Rattle.rx_order.proofs.Keys.{IsBelow-tied, Less-from_Greater, item_at-below}
 use Rattle.rx_order.proofs.LookUps.{item_at-found, item_at-map}
 use Rattle.rx_parcels.specs.Footprints.{itself}
+use Rattle.rx_places.specs.Moving.{one_at, over}
+use Rattle.rx_places.proofs.Moving.{apart, one_keeps}
 
 pub map_map : {A B C : Type 0} (g : B → C) (f : A → B) (xs : List A) → map g (map f xs) ≡ map (λ x. g (f x)) xs
 map_map g f [] = refl
@@ -43,69 +45,13 @@ none_left i [] h = drop_nothing i
 none_left zero (x ∷ xs) h = absurd (omega (arith, h))
 none_left (suc i) (x ∷ xs) h = none_left i xs (omega (arith, h))
 
--- the items, of which the one that has the key is changed
-module _ {X K : Type 0} (cmp : K → K → Ordering) (key : X → K) where
-  abbrev pub one_at : (X → X) → K → X → X
-  one_at f k y = cond (has_key cmp key k y) (f y) y
-
-  abbrev pub over : (X → X) → K → List X → List X
-  over f k xs = map (one_at f k) xs
-
 module _ {X K : Type 0} (cmp : K → K → Ordering) (order : IsTotalOrder cmp) (exact : CmpEqualImpliesEq cmp) (key : X → K) where
-  -- ---- one place
-
-  apart : (k : K) (y : X) → cmp k (key y) ≡ Less → has_key cmp key k y ≡ false
-  apart k y less = ap is_eq (Greater-from_Less cmp order key k (key y) less)
-
-  pub over_below : (f : X → X) (k : K) (xs : List X) → IsBelow cmp key k xs → over cmp key f k xs ≡ xs
-  over_below f k [] b = refl
-  over_below f k (y ∷ ys) b = rw (apart k y b.0) (ap (λ zs. y ∷ zs) (over_below f k ys b.1))
-
-  pub over_absent : (f : X → X) (k : K) (xs : List X) → item_at cmp key xs k ≡ None → over cmp key f k xs ≡ xs
-  over_absent f k [] h = refl
-  over_absent f k (y ∷ ys) h = elim (cases_Bool (has_key cmp key k y)) [
-    | inl here ↦ absurd (let e = rw here at h in cc)
-    | inr other ↦ rw other (ap (λ zs. y ∷ zs) (over_absent f k ys (rw other at h)))
-  ]
-
-  put_over : (f : X → X) (x : X) → ((y : X) → cmp (key y) (key x) ≡ Equal → f y ≡ x) → (xs : List X)
-      → IsAscending cmp key xs → contains_key cmp key xs (key x) ≡ true → put cmp key xs x ≡ over cmp key f (key x) xs
-  put_over f x same [] a there = absurd (let e : false ≡ true = there in cc)
-  put_over f x same (y ∷ ys) a there = elim (cases_Ordering (cmp (key y) (key x))) [
-    | inl less ↦ rw less (ap (λ zs. y ∷ zs) (put_over f x same ys a.1 (rw less at there)))
-    | inr (inl tied) ↦
-        let rest : over cmp key f (key x) ys ≡ ys =
-        over_below f (key x) ys (IsBelow-tied cmp order key (key x) (key y) ys (tied_back order (key y) (key x) tied) a.0) in
-        let first : f y ≡ x = same y tied in
-        rw tied (let e : x ∷ ys ≡ f y ∷ over cmp key f (key x) ys = cc in e)
-    | inr (inr more) ↦
-        let none = item_at-below cmp order key (key x) ys
-        (IsBelow-through cmp order key (key x) (key y) ys (Less-from_Greater cmp order key (key y) (key x) more) a.0) in
-        absurd (let e : false ≡ true = sym (ap is_some none) ∙ rw more at there in cc)
-  ]
-
-  -- what `replace` makes of the items
-  pub replaced : (f : X → X) (x : X) → ((y : X) → cmp (key y) (key x) ≡ Equal → f y ≡ x) → (old new : List X) (r : Result X X)
-      → r ≡ ok_or (item_at cmp key old (key x)) x → OnOk r (new ≡ put cmp key old x) → OnErr r (new ≡ old)
-      → IsAscending cmp key old → new ≡ over cmp key f (key x) old
-  replaced f x same old new r is ok err a = by_item (item_at cmp key old (key x)) refl r is ok err
-    where
-      by_item : (o : Option X) → item_at cmp key old (key x) ≡ o → (r : Result X X) → r ≡ ok_or o x
-          → OnOk r (new ≡ put cmp key old x) → OnErr r (new ≡ old) → new ≡ over cmp key f (key x) old
-      by_item None e (Ok y) is ok err = absurd (cc is)
-      by_item None e (Err y) is ok err = err ∙ sym (over_absent f (key x) old e)
-      by_item (Some z) e (Ok y) is ok err = ok ∙ put_over f x same old a (ap is_some e)
-      by_item (Some z) e (Err y) is ok err = absurd (cc is)
-
   -- ---- many places, one after another
 
   module _ (f : X → X) (keeps : (y : X) → key (f y) ≡ key y) where
-    keeps_one : (k : K) (y : X) → key (one_at cmp key f k y) ≡ key y
-    keeps_one k y = elim (cases_Bool (has_key cmp key k y)) [ inl t ↦ rw t (keeps y) | inr n ↦ rw n ]
-
     pub item_over : (k j : K) (xs : List X) → item_at cmp key (over cmp key f k xs) j ≡ option_map (one_at cmp key f k) (item_at cmp
         key xs j)
-    item_over k j xs = item_at-map cmp order key key (one_at cmp key f k) (keeps_one k) xs j
+    item_over k j xs = item_at-map cmp order key key (one_at cmp key f k) (one_keeps cmp order key f keeps k) xs j
 
     item_later : (k j : K) (xs : List X) → cmp k j ≡ Less → item_at cmp key (over cmp key f k xs) j ≡ item_at cmp key xs j
     item_later k j xs less = item_over k j xs ∙ by_item (item_at cmp key xs j) refl
@@ -115,7 +61,7 @@ module _ {X K : Type 0} (cmp : K → K → Ordering) (order : IsTotalOrder cmp) 
         by_item (Some y) e =
             let found = item_at-found cmp order key xs j y e in
             let same : key y ≡ j = exact (key y) j found.1 in
-            let other : has_key cmp key k y ≡ false = apart k y (ap (cmp k) same ∙ less) in
+            let other : has_key cmp key k y ≡ false = apart cmp order key k y (ap (cmp k) same ∙ less) in
             rw other refl
 
     abbrev pub all_over : List K → List X → List X

@@ -1,21 +1,18 @@
 -- Books of families while members and rows are put into them, in order: at the end each has all of its family.
-use Rattle.std.proofs.Common.{◌≡◌, ℕ, zero, suc, ◌<◌, List, [], ◌∷◌, ◌++◌, map, set, get_or, length, cond, Bool, true, false}
-use Rattle.std.proofs.Common.{Option, Some, None, Result, Ok, Err, refl, sym, ap, subst, ◌∙◌, inl, inr, arith}
+use Rattle.std.proofs.Common.{◌≡◌, ℕ, List, [], ◌∷◌, ◌++◌, map, set, get_or, cond, true, false}
+use Rattle.std.proofs.Common.{Option, Some, None, Result, Ok, Err, refl, sym, ap, subst, ◌∙◌, inl, inr}
 use Rattle.std.specs.Prelude.{◌||◌, OnOk}
-use Rattle.std.specs.Cmp.{IsTotalOrder, eq_by_cmp_equiv}
+use Rattle.std.specs.Cmp.{eq_by_cmp_equiv}
 use Rattle.std.specs.List.{All, filter}
 use Rattle.std.specs.Option.{is_some}
 use Rattle.std.specs.Ordering.{is_eq}
-use Rattle.std.specs.declared.cmp.Ordering.{Ordering}
-use Rattle.std.specs.declared.cmp.Ordering.TheVariants.{Less, Equal}
+use Rattle.std.specs.declared.cmp.Ordering.TheVariants.{Less}
 use Rattle.std.proofs.lemmas.Bool.{and_from, and_parts, cases_Bool}
-use Rattle.std.proofs.lemmas.Cmp.{alike_right, tied_back, tied_itself}
+use Rattle.std.proofs.lemmas.Cmp.{tied_itself}
 use Rattle.std.proofs.lemmas.List.Elements.{All-cons, All-head, All-nil, All-tail, All-weaker}
-use Rattle.std.proofs.lemmas.Map.Lookups.{CmpEqualImpliesEq}
 use Rattle.rx_fields.specs.Order.{id_cmp, key_cmp}
 use Rattle.rx_order.specs.Ascending.{IsAscending, IsAt, IsBelow, contains_key, has_key, is_past, item_at, put, put_all}
 use Rattle.rx_order.proofs.Edits.{put-past, put_all-nil}
-use Rattle.rx_order.proofs.Keys.{IsBelow-at, IsBelow-tied}
 use Rattle.rx_order.proofs.Kept.{IsAscending-filter}
 use Rattle.rx_order.proofs.LookUps.{contains_key-put, item_at-filter_kept, item_at-found}
 use Rattle.rx_ledger.specs.declared.member.Member.{Member}
@@ -27,7 +24,9 @@ use Rattle.rx_ledger.specs.Rows.{claimed_by, member_of_row, row_key}
 use Rattle.rx_ledger.proofs.Orders.{id_exact, id_total, key_total, member_exact, member_total}
 use Rattle.rx_parcels.specs.FamilyBook.{FamilyBook, book_with_member, book_with_row, family_of, own_ledger}
 use Rattle.rx_books_shelf.specs.Gathered.{with_members, with_own_member, with_own_row, with_rows}
-use Rattle.rx_books_shelf.proofs.Moved.{map_map, map_same, one_at, over, over_absent, over_below}
+use Rattle.rx_places.specs.Moving.{one_at}
+use Rattle.rx_places.proofs.Moving.{over_absent, over_at}
+use Rattle.rx_books_shelf.proofs.Moved.{map_map, map_same}
 use Rattle.rx_books_shelf.proofs.ShelfKept.{ascending_changed}
 
 map_itself : {A : Type 0} (xs : List A) → map (λ x. x) xs ≡ xs
@@ -43,24 +42,6 @@ All-mapped P Q f h (x ∷ xs) all =
 pub all_map : {A B : Type 0} (P : B → Type 0) (f : A → B) → ((x : A) → P (f x)) → (xs : List A) → All P (map f xs)
 all_map P f h [] = All-nil P
 all_map P f h (x ∷ xs) = All-cons P (f x) (map f xs) (h x) (all_map P f h xs)
-
--- ---- one item of a list written over, by its place
-
-module _ {X K : Type 0} (cmp : K → K → Ordering) (order : IsTotalOrder cmp) (exact : CmpEqualImpliesEq cmp) (key : X → K) where
-  pub set_over : (f : X → X) (k : K) (xs : List X) (i : ℕ) (d : X) → IsAscending cmp key xs → IsAt cmp key xs k i
-      → set xs i (f (get_or xs i d)) ≡ over cmp key f k xs
-  set_over f k [] i d a is_at = absurd (omega (arith, is_at.in_range))
-  set_over f k (x ∷ xs) zero d a is_at =
-      let tied : cmp (key x) k ≡ Equal = is_at.has_it d in
-      let rest : over cmp key f k xs ≡ xs =
-      over_below cmp order exact key f k xs (IsBelow-tied cmp order key k (key x) xs (tied_back order (key x) k tied) a.0) in
-      rw tied (ap (λ zs. f x ∷ zs) (sym rest))
-  set_over f k (x ∷ xs) (suc i) d a is_at =
-      let lt : i < length xs = omega (arith, is_at.in_range) in
-      let less = IsBelow-at cmp order key (key x) xs i d a.0 lt in
-      let tied : cmp (key (get_or xs i d)) k ≡ Equal = is_at.has_it d in
-      let before : cmp (key x) k ≡ Less = sym (alike_right order (key (get_or xs i d)) k (key x) tied) ∙ less in
-      rw before (ap (λ zs. x ∷ zs) (set_over f k xs i d a.1 (record { in_range = lt; has_it = λ e. is_at.has_it e })))
 
 -- ---- members
 
@@ -78,25 +59,25 @@ pub member_at_place : (m : Member) (bs : List FamilyBook) (i : ℕ) (b : FamilyB
     → IsAt id_cmp family_of bs m.key.family i → b ≡ get_or bs i b → set bs i (book_with_member b m) ≡ map (with_own_member m) bs
 member_at_place m bs i b rise is_at is =
     ap (λ c. set bs i (book_with_member c m)) is
-    ∙ set_over id_cmp id_total id_exact family_of (λ c. book_with_member c m) m.key.family bs i b rise is_at
+    ∙ over_at id_cmp id_total family_of (λ c. book_with_member c m) m.key.family bs i b rise is_at
     ∙ map_same (one_at id_cmp family_of (λ c. book_with_member c m) m.key.family) (with_own_member m) (own_member m) bs
 
 pub member_nowhere : (m : Member) (bs : List FamilyBook) → item_at id_cmp family_of bs m.key.family ≡ None
     → bs ≡ map (with_own_member m) bs
 member_nowhere m bs none =
-    sym (over_absent id_cmp id_total id_exact family_of (λ c. book_with_member c m) m.key.family bs none)
+    sym (over_absent id_cmp id_total family_of (λ c. book_with_member c m) m.key.family bs none)
     ∙ map_same (one_at id_cmp family_of (λ c. book_with_member c m) m.key.family) (with_own_member m) (own_member m) bs
 
 pub row_at_place : (r : Row) (bs : List FamilyBook) (i : ℕ) (b : FamilyBook) → IsAscending id_cmp family_of bs
     → IsAt id_cmp family_of bs r.family i → b ≡ get_or bs i b → set bs i (book_with_row b r) ≡ map (with_own_row r) bs
 row_at_place r bs i b rise is_at is =
     ap (λ c. set bs i (book_with_row c r)) is
-    ∙ set_over id_cmp id_total id_exact family_of (λ c. book_with_row c r) r.family bs i b rise is_at
+    ∙ over_at id_cmp id_total family_of (λ c. book_with_row c r) r.family bs i b rise is_at
     ∙ map_same (one_at id_cmp family_of (λ c. book_with_row c r) r.family) (with_own_row r) (own_row r) bs
 
 pub row_nowhere : (r : Row) (bs : List FamilyBook) → item_at id_cmp family_of bs r.family ≡ None → bs ≡ map (with_own_row r) bs
 row_nowhere r bs none =
-    sym (over_absent id_cmp id_total id_exact family_of (λ c. book_with_row c r) r.family bs none)
+    sym (over_absent id_cmp id_total family_of (λ c. book_with_row c r) r.family bs none)
     ∙ map_same (one_at id_cmp family_of (λ c. book_with_row c r) r.family) (with_own_row r) (own_row r) bs
 
 -- the book at the place of a family is the family's

@@ -1,11 +1,11 @@
 -- The places of keys and of families while books are taken out of them and put back, one after another.
-use Rattle.std.proofs.Common.{◌≡◌, ℕ, List, [], ◌∷◌, ◌++◌, map, Option, Some, None, Result, refl, sym, ap, ◌∙◌}
-use Rattle.std.specs.Prelude.{OnErr, OnOk}
+use Rattle.std.proofs.Common.{◌≡◌, ℕ, not, List, [], ◌∷◌, ◌++◌, map, Option, Some, None, refl, sym, ap, ◌∙◌}
 use Rattle.std.specs.List.{flat_map}
-use Rattle.std.specs.Option.{ok_or, option_and_then, option_to_list}
+use Rattle.std.specs.Option.{is_some, option_and_then, option_map, option_to_list}
 use Rattle.rx_fields.specs.Order.{id_cmp, key_cmp}
 use Rattle.rx_fields.specs.declared.key.Key.{Key}
-use Rattle.rx_order.specs.Ascending.{IsAscending, item_at, put}
+use Rattle.rx_order.specs.Ascending.{IsAscending, item_at}
+use Rattle.rx_ledger.specs.declared.row.Row.{Row}
 use Rattle.rx_ledger.proofs.Orders.{id_exact, id_total, key_exact, key_total}
 use Rattle.rx_parcels.specs.declared.key_book.KeyBook.{KeyBook}
 use Rattle.rx_parcels.specs.FamilyBook.{FamilyBook, family_of}
@@ -13,11 +13,15 @@ use Rattle.rx_parcels.specs.Footprints.{itself}
 use Rattle.rx_parcels.specs.Parcels.{key_of}
 use Rattle.rx_places.specs.declared.place.FamilyPlace.{FamilyPlace}
 use Rattle.rx_places.specs.declared.place.KeyPlace.{KeyPlace}
-use Rattle.rx_places.specs.Shelves.{place_family, place_key, row_held}
+use Rattle.rx_places.specs.Moving.{is_in, is_out, over}
+use Rattle.rx_places.specs.Shelves.{is_family_in, is_family_out, is_key_in, is_key_out, place_family, place_key, row_held}
 use Rattle.rx_books_shelf.specs.Taken.{family_book, family_given, family_taken, key_book, key_given, key_taken, with_book, with_row}
-use Rattle.rx_books_shelf.proofs.Moved.{all_over, all_over_are, filled_more, over, reads, reads_are, replaced}
+use Rattle.rx_books_shelf.proofs.Moved.{all_over, all_over_are, filled_more, reads, reads_are}
 
 -- ---- keys
+
+abbrev pub key_held : KeyPlace → Option KeyBook
+key_held p = option_map (λ r. record { key = p.key; row = r }) p.held
 
 abbrev pub key_emptied : KeyPlace → KeyPlace
 key_emptied p = record p { held = None }
@@ -60,28 +64,25 @@ keys_filled_more = filled_more key_cmp key_total place_key key_of with_row (λ p
     same_key (Some b) p = refl
 
 -- one place
-pub key_emptied_is : (k : Key) (old new : List KeyPlace) (r : Result KeyPlace KeyPlace)
-    → r ≡ ok_or (item_at key_cmp place_key old k) (record { key = k; held = None })
-    → OnOk r (new ≡ put key_cmp place_key old (record { key = k; held = None })) → OnErr r (new ≡ old)
-    → IsAscending key_cmp place_key old → new ≡ map (key_taken (k ∷ [])) old
-key_emptied_is k old new r is ok err rise =
-    replaced key_cmp key_total key_exact place_key key_emptied (record { key = k; held = None })
-    (λ p tied. let same : p.key ≡ k = key_exact p.key k tied in λ i. record { key = same i; held = None })
-    old new r is ok err rise ∙ keys_emptied_are (k ∷ []) old
+pub key_filled_is : (b : KeyBook) (ps : List KeyPlace) → key_filled b ps ≡ map (key_given (b ∷ [])) ps
+key_filled_is b ps = sym (keys_filled_none (key_filled b ps)) ∙ keys_filled_more [] b ps
 
-pub key_filled_is : (b : KeyBook) (old new : List KeyPlace) (r : Result KeyPlace KeyPlace)
-    → r ≡ ok_or (item_at key_cmp place_key old b.key) (record { key = b.key; held = Some b.row })
-    → OnOk r (new ≡ put key_cmp place_key old (record { key = b.key; held = Some b.row })) → OnErr r (new ≡ old)
-    → IsAscending key_cmp place_key old → new ≡ map (key_given (b ∷ [])) old
-key_filled_is b old new r is ok err rise =
-    replaced key_cmp key_total key_exact place_key (with_row (Some b)) (record { key = b.key; held = Some b.row })
-    (λ p tied. let same : p.key ≡ b.key = key_exact p.key b.key tied in λ i. record { key = same i; held = Some b.row })
-    old new r is ok err rise ∙ sym (keys_filled_none (key_filled b old)) ∙ keys_filled_more [] b old
+pub key_in : (o : Option KeyPlace) → is_in key_held o ≡ is_key_in o
+key_in None = refl
+key_in (Some p) = by_held p.key p.held
+  where
+    by_held : (k : Key) (h : Option (Option Row)) → is_some (key_held (record { key = k; held = h })) ≡ is_some h
+    by_held k None = refl
+    by_held k (Some r) = refl
+
+pub key_out : (o : Option KeyPlace) → is_out key_held o ≡ is_key_out o
+key_out None = refl
+key_out (Some p) = ap not (key_in (Some p))
 
 pub keys_filled_last : (bs : List KeyBook) (b : KeyBook) (ps : List KeyPlace)
     → map (key_given bs) (map (key_given (b ∷ [])) ps) ≡ map (key_given (bs ++ b ∷ [])) ps
 keys_filled_last bs b ps =
-    ap (map (key_given bs)) (sym (sym (keys_filled_none (key_filled b ps)) ∙ keys_filled_more [] b ps)) ∙ keys_filled_more bs b ps
+    ap (map (key_given bs)) (sym (key_filled_is b ps)) ∙ keys_filled_more bs b ps
 
 -- one key more
 pub keys_emptied_next : (k : Key) (ks : List Key) (ps : List KeyPlace)
@@ -130,30 +131,21 @@ families_filled_more = filled_more id_cmp id_total place_family family_of with_b
     same_family (Some b) p = refl
 
 -- one place
-pub family_emptied_is : (f : List ℕ) (old new : List FamilyPlace) (r : Result FamilyPlace FamilyPlace)
-    → r ≡ ok_or (item_at id_cmp place_family old f) (record { family = f; held = None })
-    → OnOk r (new ≡ put id_cmp place_family old (record { family = f; held = None })) → OnErr r (new ≡ old)
-    → IsAscending id_cmp place_family old → new ≡ map (family_taken (f ∷ [])) old
-family_emptied_is f old new r is ok err rise =
-    replaced id_cmp id_total id_exact place_family family_emptied (record { family = f; held = None })
-    (λ p tied. let same : p.family ≡ f = id_exact p.family f tied in λ i. record { family = same i; held = None })
-    old new r is ok err rise ∙ families_emptied_are (f ∷ []) old
+pub family_filled_is : (b : FamilyBook) (ps : List FamilyPlace) → family_filled b ps ≡ map (family_given (b ∷ [])) ps
+family_filled_is b ps = sym (families_filled_none (family_filled b ps)) ∙ families_filled_more [] b ps
 
-pub family_filled_is : (f : List ℕ) (b : FamilyBook) → f ≡ b.family → (old new : List FamilyPlace) (r : Result FamilyPlace FamilyPlace)
-    → r ≡ ok_or (item_at id_cmp place_family old f) (record { family = f; held = Some b })
-    → OnOk r (new ≡ put id_cmp place_family old (record { family = f; held = Some b })) → OnErr r (new ≡ old)
-    → IsAscending id_cmp place_family old → new ≡ map (family_given (b ∷ [])) old
-family_filled_is f b own old new r is ok err rise =
-    replaced id_cmp id_total id_exact place_family (with_book (Some b)) (record { family = f; held = Some b })
-    (λ p tied. let same : p.family ≡ f = id_exact p.family f tied in λ i. record { family = same i; held = Some b })
-    old new r is ok err rise ∙ ap (λ g. over id_cmp place_family (with_book (Some b)) g old) own
-    ∙ sym (families_filled_none (family_filled b old)) ∙ families_filled_more [] b old
+pub family_in : (o : Option FamilyPlace) → is_in (λ p. p.held) o ≡ is_family_in o
+family_in None = refl
+family_in (Some p) = refl
+
+pub family_out : (o : Option FamilyPlace) → is_out (λ p. p.held) o ≡ is_family_out o
+family_out None = refl
+family_out (Some p) = refl
 
 pub families_filled_last : (bs : List FamilyBook) (b : FamilyBook) (ps : List FamilyPlace)
     → map (family_given bs) (map (family_given (b ∷ [])) ps) ≡ map (family_given (bs ++ b ∷ [])) ps
 families_filled_last bs b ps =
-    ap (map (family_given bs)) (sym (sym (families_filled_none (family_filled b ps)) ∙ families_filled_more [] b ps))
-    ∙ families_filled_more bs b ps
+    ap (map (family_given bs)) (sym (family_filled_is b ps)) ∙ families_filled_more bs b ps
 
 -- one family more
 pub families_emptied_next : (f : List ℕ) (fs : List (List ℕ)) (ps : List FamilyPlace)

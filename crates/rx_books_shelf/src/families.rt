@@ -16,20 +16,14 @@ use rx_places::{FamilyPlace, Hinted};
 fn is_family_in(places: &Hinted<FamilyPlace>, family: &Id) -> bool
     ensures { result ≡ is_family_in (item_at id_cmp place_family places.now family.now) }
 {
-    match places.get(family) {
-        Some(place) => place.held.is_some(),
-        None => false,
-    }
+    places.is_in(family)
 }
 
 // Whether the family has a place, and its book is out.
 fn is_family_out(places: &Hinted<FamilyPlace>, family: &Id) -> bool
     ensures { result ≡ is_family_out (item_at id_cmp place_family places.now family.now) }
 {
-    match places.get(family) {
-        Some(place) => place.held.is_none(),
-        None => false,
-    }
+    places.is_out(family)
 }
 
 /// Whether each of these families has a place, and its book is there.
@@ -96,10 +90,7 @@ fn take_family(places: &mut Hinted<FamilyPlace>, family: Id) -> Option<Family>
     ensures book { option_to_list result ≡ family_book places.old family }
     ensures places { places.new ≡ map (family_taken (family ∷ [])) places.old }
 {
-    match places.replace(FamilyPlace { family, held: None }) {
-        Ok(place) => place.held,
-        Err(_) => None,
-    }
+    places.take(&family)
 }
 
 /// Puts these books into the places of their families. It takes no memory.
@@ -126,8 +117,5 @@ fn give_each_family(places: &mut Hinted<FamilyPlace>, books: Vec<Family>)
 fn give_family(places: &mut Hinted<FamilyPlace>, book: Family)
     ensures { places.new ≡ map (family_given (book ∷ [])) places.old }
 {
-    let _before = places.replace(FamilyPlace {
-        family: book.family(),
-        held: Some(book),
-    });
+    places.put(book);
 }

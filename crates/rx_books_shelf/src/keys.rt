@@ -16,20 +16,14 @@ use rx_places::{Hinted, KeyPlace};
 fn is_key_in(places: &Hinted<KeyPlace>, key: &Key) -> bool
     ensures { result ≡ is_key_in (item_at key_cmp place_key places.now key.now) }
 {
-    match places.get(key) {
-        Some(place) => place.held.is_some(),
-        None => false,
-    }
+    places.is_in(key)
 }
 
 // Whether the key has a place, and its book is out.
 fn is_key_out(places: &Hinted<KeyPlace>, key: &Key) -> bool
     ensures { result ≡ is_key_out (item_at key_cmp place_key places.now key.now) }
 {
-    match places.get(key) {
-        Some(place) => place.held.is_none(),
-        None => false,
-    }
+    places.is_out(key)
 }
 
 /// Whether each of these keys has a place, and its book is there.
@@ -89,11 +83,7 @@ fn take_key(places: &mut Hinted<KeyPlace>, key: Key) -> Option<Row>
     ensures row { result ≡ (key_book places.old key).row }
     ensures places { places.new ≡ map (key_taken (key ∷ [])) places.old }
 {
-    let emptied = KeyPlace { key, held: None };
-    match places.replace(emptied) {
-        Ok(place) => row_held(place),
-        Err(_) => None,
-    }
+    places.take(&key)?.row
 }
 
 /// The row that a place holds.
@@ -130,8 +120,6 @@ fn give_each_key(places: &mut Hinted<KeyPlace>, books: Vec<KeyBook>)
 fn give_key(places: &mut Hinted<KeyPlace>, book: KeyBook)
     ensures { places.new ≡ map (key_given (book ∷ [])) places.old }
 {
-    let _before = places.replace(KeyPlace {
-        key: book.key,
-        held: Some(book.row),
-    });
+    let KeyBook { key, row } = book;
+    places.put(KeyBook { key, row });
 }

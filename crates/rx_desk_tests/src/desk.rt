@@ -7,92 +7,120 @@ use rx_claim::{
 };
 use rx_desk::{Desk, Event, Finished, Next};
 use rx_fields::{
-    Cents, Days, Door, Id, Lot, Period, Person, Product, Provider, Quantity, Reference, date_read,
+    Cents, Day, Days, Door, Id, Lot, Period, Person, Product, Provider, Quantity, Reference,
+    date_read,
 };
 use rx_ledger::{Drug, Figures, Ledger, Member, Share, Sheet, plain_run};
 use std::alloc::Global;
+use std::fmt::Debug;
 use std::process::Abort;
-use std::test::Fail;
 
-const PRODUCT: &[u8] = b"00002000202";
+// What is given is what is wanted. Values are compared here, since each place that compares by itself is dear to prove.
+fn same<T: PartialEq + Debug + Drop>(rt: &impl Abort, given: T, wanted: T) {
+    assert_eq!(rt; given, wanted);
+}
 
-fn figures() -> Result<Figures, Fail> {
-    Ok(Figures {
+fn day(rt: &impl Abort, text: &[u8]) -> Day {
+    date_read(text).expect(rt, "a date")
+}
+
+fn period(rt: &impl Abort) -> Period {
+    Period::new(day(rt, b"20260101"), day(rt, b"20261231")).expect(rt, "a period")
+}
+
+fn lot_of(rt: &impl Abort, batch: u32) -> Lot {
+    Lot::new(batch, day(rt, b"20260301")).expect(rt, "a lot")
+}
+
+fn lot(rt: &impl Abort) -> Lot {
+    lot_of(rt, 42)
+}
+
+fn id(rt: &impl Abort, text: &[u8]) -> Id {
+    Id::new(text, 20).expect(rt, "an id")
+}
+
+fn person(rt: &impl Abort, text: &[u8]) -> Person {
+    Person::new(text).expect(rt, "a person")
+}
+
+fn product(rt: &impl Abort) -> Product {
+    Product::new(b"00002000202").expect(rt, "a product")
+}
+
+fn cents(rt: &impl Abort, count: u64) -> Cents {
+    Cents::new(count).expect(rt, "cents")
+}
+
+// The plain sheet, without drugs.
+fn bare_sheet(rt: &impl Abort, alloc: Global) -> Sheet {
+    let figures = Figures {
         door: Door {
             bin: *b"900001",
             pcn: *b"RXDEMO    ",
         },
-        period: period()?,
+        period: period(rt),
         member_deductible: 10_000,
         family_maximum: 30_000,
         refill_percent: 75,
         max_days: 90,
         fee: 175,
         family_deductible: None,
-    })
-}
-
-fn period() -> Result<Period, Fail> {
-    Ok(Period::new(date_read(b"20260101")?, date_read(b"20261231")?).ok_or("a period")?)
+    };
+    Sheet::new(alloc, figures).expect(rt, "within their ranges")
 }
 
 // The plain sheet, with the one drug of the case.
-fn sheet(alloc: Global) -> Result<Sheet, Fail> {
-    let mut sheet = Sheet::new(alloc, figures()?)?;
+fn sheet(rt: &impl Abort, alloc: Global) -> Sheet {
+    let (product, share) = (product(rt), Share::Copay(3000));
+    let mut sheet = bare_sheet(rt, alloc);
     let drug = Drug {
-        share: Share::Copay(3000),
+        share,
         price: 100_000,
     };
-    sheet.add(Product::new(PRODUCT).ok_or("a product")?, drug)?;
-    Ok(sheet)
-}
-
-// Books of family C100, whose persons are covered to the day.
-fn books(alloc: Global, last: &[u8]) -> Result<Books, Fail> {
-    let mut ledger = Ledger::new(alloc);
-    enroll(&mut ledger, b"C100", last)?;
-    Ok(Books::from_ledger(alloc, &ledger, period()?)?)
+    sheet.add(product, drug).expect(rt, "a drug");
+    sheet
 }
 
 // Lists three persons of a family, who are covered to the day.
-fn enroll(ledger: &mut Ledger, family: &[u8], last: &[u8]) -> Result<(), Fail> {
-    for person in [b"01", b"02", b"03"] {
-        let member = Member::new(
-            Id::new(family, 20)?,
-            Person::new(person)?,
-            date_read(b"20260101")?,
-            date_read(last)?,
-        );
-        ledger.add_member(member.ok_or("a member")?)?;
+fn enroll(rt: &impl Abort, ledger: &mut Ledger, family: &[u8], last: &[u8]) {
+    for code in [b"01", b"02", b"03"] {
+        let (first, last) = (day(rt, b"20260101"), day(rt, last));
+        let member = Member::new(id(rt, family), person(rt, code), first, last);
+        let member = member.expect(rt, "a member");
+        ledger.add_member(member).expect(rt, "a new member");
     }
-    Ok(())
 }
 
-// A fill of 30 units for a person of C100.
-fn fill(alloc: Global, reference: u64, person: &[u8]) -> Result<Transmission, Fail> {
-    fill_of(alloc, reference, b"C100", person)
+fn books_of(rt: &impl Abort, alloc: Global, ledger: &Ledger) -> Books {
+    Books::from_ledger(alloc, ledger, period(rt)).expect(rt, "memory")
 }
 
-// A fill of 30 units for a person of a family.
-fn fill_of(
-    alloc: Global,
-    reference: u64,
-    family: &[u8],
-    person: &[u8],
-) -> Result<Transmission, Fail> {
-    let bill = Bill::new(BillParts {
-        reference: Reference::new(reference).ok_or("a reference")?,
-        family: Id::new(family, 20)?,
-        person: Person::new(person)?,
-        product: Product::new(PRODUCT).ok_or("a product")?,
-        quantity: Quantity::new(30_000).ok_or("a quantity")?,
-        days: Days::new(30).ok_or("days")?,
-        ingredient_cost: Cents::new(30_000).ok_or("cents")?,
-        dispensing_fee: Some(Cents::new(175).ok_or("cents")?),
-        usual_charge: Some(Cents::new(35_000).ok_or("cents")?),
+// Books of family C100, whose persons are covered to the day.
+fn books(rt: &impl Abort, alloc: Global, last: &[u8]) -> Books {
+    let mut ledger = Ledger::new(alloc);
+    enroll(rt, &mut ledger, b"C100", last);
+    books_of(rt, alloc, &ledger)
+}
+
+// A billing of 30 units for a person of a family.
+fn bill(rt: &impl Abort, reference: u64, family: &[u8], code: &[u8]) -> Bill {
+    let parts = BillParts {
+        reference: Reference::new(reference).expect(rt, "a reference"),
+        family: id(rt, family),
+        person: person(rt, code),
+        product: product(rt),
+        quantity: Quantity::new(30_000).expect(rt, "a quantity"),
+        days: Days::new(30).expect(rt, "days"),
+        ingredient_cost: cents(rt, 30_000),
+        dispensing_fee: Some(cents(rt, 175)),
+        usual_charge: Some(cents(rt, 35_000)),
         gross_amount: None,
-    });
-    let list = one_bill(alloc, bill.ok_or("a charge")?)?;
+    };
+    Bill::new(parts).expect(rt, "a charge")
+}
+
+fn echo(rt: &impl Abort) -> Echo {
     let echo = Echo::new(EchoParts {
         version: *b"D0",
         code: *b"B1",
@@ -100,59 +128,56 @@ fn fill_of(
         provider: *b"1234567893     ",
         date: *b"20260228",
     });
-    Ok(Transmission {
-        echo: echo.ok_or("printable")?,
-        body: Body::Heard(Heard {
-            provider: Provider::new(b"1234567893")?,
-            date: date_read(b"20260228")?,
-            list,
-        }),
-    })
+    echo.expect(rt, "printable")
 }
 
-// The list of one billing.
-fn one_bill(alloc: Global, bill: Bill) -> Result<Transactions, Fail> {
-    let mut items = Vec::new(alloc);
-    items.extend_from_slice(&[Transaction::Bill(bill)])?;
-    match Transactions::new(items) {
-        Ok(list) => Ok(list),
-        Err(_) => Err(Fail::from("a list")),
-    }
+// The record of one billing.
+fn record(rt: &impl Abort, bill: Bill) -> Transmission {
+    let provider = Provider::new(b"1234567893").expect(rt, "a provider");
+    let (echo, date) = (echo(rt), day(rt, b"20260228"));
+    let list = Transactions::one(Transaction::Bill(bill));
+    let body = Body::Heard(Heard {
+        provider,
+        date,
+        list,
+    });
+    Transmission { echo, body }
 }
 
-fn fills(alloc: Global) -> Result<Vec<Transmission>, Fail> {
+// Puts a fill for a person of a family to the others.
+fn put(rt: &impl Abort, fills: &mut Vec<Transmission>, reference: u64, family: &[u8], code: &[u8]) {
+    let fill = record(rt, bill(rt, reference, family, code));
+    fills.push(fill).expect(rt, "memory");
+}
+
+// The fills of the case.
+fn fills(rt: &impl Abort, alloc: Global) -> Vec<Transmission> {
     let mut fills = Vec::new(alloc);
-    fills.push(fill(alloc, 201, b"01")?)?;
-    fills.push(fill(alloc, 202, b"02")?)?;
-    fills.push(fill(alloc, 203, b"03")?)?;
-    Ok(fills)
+    put(rt, &mut fills, 201, b"C100", b"01");
+    put(rt, &mut fills, 202, b"C100", b"02");
+    put(rt, &mut fills, 203, b"C100", b"03");
+    fills
 }
 
-fn lot() -> Result<Lot, Fail> {
-    Ok(Lot::new(42, date_read(b"20260301")?).ok_or("a lot")?)
-}
-
-fn desk(alloc: Global, last: &[u8]) -> Result<Desk, Fail> {
-    desk_of(alloc, books(alloc, last)?, fills(alloc)?)
+// The desk of the case, over books that cover to the day.
+fn desk(rt: &impl Abort, alloc: Global, last: &[u8]) -> Desk {
+    let books = books(rt, alloc, last);
+    desk_of(rt, alloc, books, fills(rt, alloc))
 }
 
 // A desk of these books and records, under the plain sheet.
-fn desk_of(alloc: Global, books: Books, records: Vec<Transmission>) -> Result<Desk, Fail> {
-    let sheet = sheet(alloc)?;
-    if records.len() > 100_000 {
-        return Err(Fail::from("a batch"));
-    }
-    if books.period() == sheet.period() {
-        return Ok(Desk::new(alloc, lot()?, &sheet, books, records)?);
-    }
-    Err(Fail::from("one period"))
+fn desk_of(rt: &impl Abort, alloc: Global, books: Books, records: Vec<Transmission>) -> Desk {
+    let (lot, sheet) = (lot(rt), sheet(rt, alloc));
+    assert!(rt; records.len() <= 100_000, "a batch");
+    assert!(rt; books.period() == sheet.period(), "one period");
+    Desk::new(alloc, lot, &sheet, books, records).expect(rt, "memory")
 }
 
 // The order that comes next.
-fn order(desk: &mut Desk) -> Result<Order, Fail> {
+fn order(rt: &impl Abort, desk: &mut Desk) -> Order {
     match desk.next() {
-        Next::Order(order) => Ok(order),
-        Next::Later | Next::Over | Next::Memory => Err(Fail::from("an order")),
+        Next::Order(order) => order,
+        Next::Later | Next::Over | Next::Memory => panic!(rt; "an order"),
     }
 }
 
@@ -167,53 +192,65 @@ fn patient_pay(reply: &Reply) -> Option<u64> {
     }
 }
 
-fn done(alloc: Global, order: Order) -> Result<Done, Fail> {
-    match adjudicate(alloc, order) {
-        Ok(done) => Ok(done),
-        Err(_) => Err(Fail::from("a done")),
-    }
+fn done(rt: &impl Abort, alloc: Global, order: Order) -> Done {
+    adjudicate(alloc, order).expect(rt, "memory")
+}
+
+fn give(rt: &impl Abort, desk: &mut Desk, done: Done) {
+    desk.give(done).expect(rt, "taken back");
+}
+
+// The record at the place goes out, and no other is ready beside it.
+fn only_order(rt: &impl Abort, desk: &mut Desk, place: u64) -> Order {
+    same(rt, desk.is_ready(), true);
+    let order = order(rt, desk);
+    same(rt, order.place(), place);
+    same(rt, desk.is_ready(), false);
+    order
+}
+
+// Whether records are left, and none may go now.
+fn is_later(desk: &mut Desk) -> bool {
+    matches!(desk.next(), Next::Later)
 }
 
 // The record at the place goes out, and no other beside it; it comes in again.
-fn goes_alone(rt: &impl Abort, desk: &mut Desk, alloc: Global, place: u64) -> Result<(), Fail> {
-    assert!(rt; desk.is_ready());
-    let order = order(desk)?;
-    assert_eq!(rt; order.place(), place);
-    assert!(rt; !desk.is_ready());
-    assert_eq!(rt; matches!(desk.next(), Next::Later), place < 3);
-    let done = done(alloc, order)?;
-    assert!(rt; desk.give(done).is_ok());
-    Ok(())
+fn goes_alone(rt: &impl Abort, desk: &mut Desk, alloc: Global, place: u64) {
+    let order = only_order(rt, desk, place);
+    same(rt, is_later(desk), place < 3);
+    give(rt, desk, done(rt, alloc, order));
 }
 
-fn finished(alloc: Global) -> Result<Finished, Fail> {
-    let mut desk = desk(alloc, b"20261231")?;
-    for _ in 0..3 {
-        goes(alloc, &mut desk)?;
-    }
-    closed(desk)
+// These events were.
+fn went(rt: &impl Abort, desk: &Desk, history: &[Event]) {
+    same(rt, desk.history(), history);
 }
 
 // The next record goes out, and comes in again.
-fn goes(alloc: Global, desk: &mut Desk) -> Result<(), Fail> {
-    let order = order(desk)?;
-    given(alloc, desk, order)
+fn goes(rt: &impl Abort, alloc: Global, desk: &mut Desk) {
+    let order = order(rt, desk);
+    give(rt, desk, done(rt, alloc, order));
 }
 
-fn closed(desk: Desk) -> Result<Finished, Fail> {
-    match desk.close() {
-        Ok(finished) => Ok(finished),
-        Err(_) => Err(Fail::from("an end")),
+fn closed(rt: &impl Abort, desk: Desk) -> Finished {
+    desk.close().ok().expect(rt, "an end")
+}
+
+// What the desk of the case ends with.
+fn finished(rt: &impl Abort, alloc: Global) -> Finished {
+    let mut desk = desk(rt, alloc, b"20261231");
+    for _ in 0..3 {
+        goes(rt, alloc, &mut desk);
     }
+    closed(rt, desk)
 }
 
 #[test]
-fn sharers_go_one_after_another(rt: HostRuntime) -> Result<(), Fail> {
-    let mut desk = desk(rt.alloc(), b"20261231")?;
+fn sharers_go_one_after_another(rt: HostRuntime) {
+    let mut desk = desk(&rt, rt.alloc(), b"20261231");
     for place in [1, 2, 3] {
-        goes_alone(&rt, &mut desk, rt.alloc(), place)?;
+        goes_alone(&rt, &mut desk, rt.alloc(), place);
     }
-    assert!(rt; matches!(desk.next(), Next::Over));
     let history = [
         Event::Take(1),
         Event::Give(1),
@@ -222,93 +259,92 @@ fn sharers_go_one_after_another(rt: HostRuntime) -> Result<(), Fail> {
         Event::Take(3),
         Event::Give(3),
     ];
-    assert_eq!(rt; desk.history(), history.as_slice());
-    Ok(())
+    went(&rt, &desk, &history);
+    same(&rt, matches!(desk.next(), Next::Over), true);
 }
 
 #[test]
-fn ends_with_the_books_of_the_case(rt: HostRuntime) -> Result<(), Fail> {
-    let (family, third) = (Id::new(b"C100", 20)?, Person::new(b"03")?);
-    let books = finished(rt.alloc())?.books;
-    assert_eq!(rt; books.out_of_pocket(&family), Some(30_000));
-    assert_eq!(rt; books.family_deductible(&family), Some(24_000));
-    assert_eq!(rt; books.deductible(&family, &third), Some(4000));
-    Ok(())
+fn ends_with_the_books_of_the_case(rt: HostRuntime) {
+    let (family, third) = (id(&rt, b"C100"), person(&rt, b"03"));
+    let books = finished(&rt, rt.alloc()).books;
+    same(&rt, books.out_of_pocket(&family), Some(30_000));
+    same(&rt, books.family_deductible(&family), Some(24_000));
+    same(&rt, books.deductible(&family, &third), Some(4000));
 }
 
 #[test]
-fn ends_with_the_replies_of_the_case(rt: HostRuntime) -> Result<(), Fail> {
-    let replies = finished(rt.alloc())?.replies;
-    let paid = replies.iter().map(|reply| patient_pay(reply).unwrap_or(0));
-    assert_eq!(rt; replies.len(), 3);
-    for (amount, expected) in paid.zip([13_000, 13_000, 4000]) {
-        assert_eq!(rt; amount, expected);
+fn ends_with_the_replies_of_the_case(rt: HostRuntime) {
+    let replies = finished(&rt, rt.alloc()).replies;
+    same(&rt, replies.len(), 3);
+    for (reply, paid) in replies.iter().zip([13_000, 13_000, 4000]) {
+        same(&rt, patient_pay(reply), Some(paid));
     }
-    Ok(())
 }
 
 // The first record of a desk over books that cover to the day, done.
-fn first_done(alloc: Global, last: &[u8]) -> Result<Done, Fail> {
-    let mut desk = desk(alloc, last)?;
-    let order = order(&mut desk)?;
-    done(alloc, order)
+fn first_done(rt: &impl Abort, alloc: Global, last: &[u8]) -> Done {
+    let mut desk = desk(rt, alloc, last);
+    let order = order(rt, &mut desk);
+    done(rt, alloc, order)
 }
 
 // A desk whose first record is out, and won't come back.
-fn with_one_out(alloc: Global) -> Result<Desk, Fail> {
-    let mut desk = desk(alloc, b"20261231")?;
-    let _out = order(&mut desk)?;
-    Ok(desk)
+fn with_one_out(rt: &impl Abort, alloc: Global) -> Desk {
+    let mut desk = desk(rt, alloc, b"20261231");
+    let _out = order(rt, &mut desk);
+    desk
 }
 
 // A desk whose first record was given back.
-fn with_one_given(alloc: Global) -> Result<Desk, Fail> {
-    let mut desk = desk(alloc, b"20261231")?;
-    goes(alloc, &mut desk)?;
-    Ok(desk)
+fn with_one_given(rt: &impl Abort, alloc: Global) -> Desk {
+    let mut desk = desk(rt, alloc, b"20261231");
+    goes(rt, alloc, &mut desk);
+    desk
+}
+
+// Whether what is done comes back.
+fn turns_away(desk: &mut Desk, done: Done) -> bool {
+    desk.give(done).is_err()
 }
 
 #[test]
-fn turns_away_a_done_over_other_books(rt: HostRuntime) -> Result<(), Fail> {
-    let stranger = first_done(rt.alloc(), b"20261130")?;
-    let mut desk = with_one_out(rt.alloc())?;
-    assert!(rt; desk.give(stranger).is_err());
-    assert_eq!(rt; desk.history(), [Event::Take(1)].as_slice());
-    Ok(())
+fn turns_away_a_done_over_other_books(rt: HostRuntime) {
+    let stranger = first_done(&rt, rt.alloc(), b"20261130");
+    let mut desk = with_one_out(&rt, rt.alloc());
+    same(&rt, turns_away(&mut desk, stranger), true);
+    went(&rt, &desk, &[Event::Take(1)]);
 }
 
 #[test]
-fn turns_away_an_order_given_twice(rt: HostRuntime) -> Result<(), Fail> {
-    let again = first_done(rt.alloc(), b"20261231")?;
-    let mut desk = with_one_given(rt.alloc())?;
-    assert!(rt; desk.give(again).is_err());
-    assert_eq!(rt; desk.history().len(), 2);
-    Ok(())
+fn turns_away_an_order_given_twice(rt: HostRuntime) {
+    let again = first_done(&rt, rt.alloc(), b"20261231");
+    let mut desk = with_one_given(&rt, rt.alloc());
+    same(&rt, turns_away(&mut desk, again), true);
+    same(&rt, desk.history().len(), 2);
 }
 
 #[test]
-fn comes_back_while_a_record_is_left(rt: HostRuntime) -> Result<(), Fail> {
-    let desk = with_one_out(rt.alloc())?;
-    assert!(rt; desk.close().is_err());
-    Ok(())
+fn comes_back_while_a_record_is_left(rt: HostRuntime) {
+    let desk = with_one_out(&rt, rt.alloc());
+    same(&rt, desk.close().is_err(), true);
 }
 
 // Two families.
-fn two_families(alloc: Global) -> Result<Ledger, Fail> {
+fn two_families(rt: &impl Abort, alloc: Global) -> Ledger {
     let mut ledger = Ledger::new(alloc);
-    enroll(&mut ledger, b"C100", b"20261231")?;
-    enroll(&mut ledger, b"C200", b"20261231")?;
-    Ok(ledger)
+    enroll(rt, &mut ledger, b"C100", b"20261231");
+    enroll(rt, &mut ledger, b"C200", b"20261231");
+    ledger
 }
 
 // Two fills of each, by turns.
-fn fills_by_turns(alloc: Global) -> Result<Vec<Transmission>, Fail> {
+fn fills_by_turns(rt: &impl Abort, alloc: Global) -> Vec<Transmission> {
     let mut fills = Vec::new(alloc);
-    fills.push(fill_of(alloc, 201, b"C100", b"01")?)?;
-    fills.push(fill_of(alloc, 202, b"C200", b"01")?)?;
-    fills.push(fill_of(alloc, 203, b"C100", b"02")?)?;
-    fills.push(fill_of(alloc, 204, b"C200", b"02")?)?;
-    Ok(fills)
+    put(rt, &mut fills, 201, b"C100", b"01");
+    put(rt, &mut fills, 202, b"C200", b"01");
+    put(rt, &mut fills, 203, b"C100", b"02");
+    put(rt, &mut fills, 204, b"C200", b"02");
+    fills
 }
 
 // Which of the records that are out comes back first.
@@ -319,83 +355,77 @@ enum Back {
 }
 
 // All that are ready go out, of four records at most.
-fn all_taken(desk: &mut Desk, out: &mut Vec<Order>) -> Result<(), Fail> {
+fn all_taken(rt: &impl Abort, desk: &mut Desk, out: &mut Vec<Order>) {
     for _ in 0..4 {
         if desk.is_ready() {
-            out.push(order(desk)?)?;
+            let order = order(rt, desk);
+            out.push(order).expect(rt, "memory");
         }
     }
-    Ok(())
 }
 
 // One of the orders that are out.
-fn picked(out: &mut Vec<Order>, back: Back) -> Result<Order, Fail> {
-    if out.is_empty() {
-        return Err(Fail::from("an order that is out"));
-    }
+fn picked(rt: &impl Abort, out: &mut Vec<Order>, back: Back) -> Order {
+    assert!(rt; !out.is_empty(), "an order that is out");
     match back {
-        Back::First => Ok(out.remove(0)),
-        Back::Last => Ok(out.pop().ok_or("the last order")?),
-    }
-}
-
-fn given(alloc: Global, desk: &mut Desk, order: Order) -> Result<(), Fail> {
-    match desk.give(done(alloc, order)?) {
-        Ok(()) => Ok(()),
-        Err(_) => Err(Fail::from("taken back")),
+        Back::First => out.remove(0),
+        Back::Last => out.pop().expect(rt, "the last order"),
     }
 }
 
 // A desk of four records is worked off: all that are ready go out, and one of those that are out comes back.
-fn worked_off(alloc: Global, desk: Desk, back: Back) -> Result<Finished, Fail> {
-    let mut desk = desk;
+fn worked_off(rt: &impl Abort, alloc: Global, desk: &mut Desk, back: Back) {
     let mut out = Vec::new(alloc);
     for _ in 0..4 {
-        all_taken(&mut desk, &mut out)?;
-        let order = picked(&mut out, back)?;
-        given(alloc, &mut desk, order)?;
+        all_taken(rt, desk, &mut out);
+        let order = picked(rt, &mut out, back);
+        give(rt, desk, done(rt, alloc, order));
     }
-    closed(desk)
-}
-
-// The books after the records, and the replies to them, one after another in file order.
-fn in_file_order(
-    alloc: Global,
-    ledger: &Ledger,
-    records: &[Transmission],
-) -> Result<Finished, Fail> {
-    if records.len() > 100_000 {
-        return Err(Fail::from("a batch"));
-    }
-    let (after, replies) = plain_run(alloc, lot()?, &sheet(alloc)?, ledger, records)?;
-    let books = Books::from_ledger(alloc, &after, period()?)?;
-    Ok(Finished { books, replies })
 }
 
 // What a desk ends with, where this one of the records that are out comes back first.
-fn ended(alloc: Global, ledger: &Ledger, back: Back) -> Result<Finished, Fail> {
-    let books = Books::from_ledger(alloc, ledger, period()?)?;
-    let desk = desk_of(alloc, books, fills_by_turns(alloc)?)?;
-    worked_off(alloc, desk, back)
+fn ended(rt: &impl Abort, alloc: Global, back: Back) -> Finished {
+    let books = books_of(rt, alloc, &two_families(rt, alloc));
+    let mut desk = desk_of(rt, alloc, books, fills_by_turns(rt, alloc));
+    worked_off(rt, alloc, &mut desk, back);
+    closed(rt, desk)
 }
 
-fn ends_as_in_file_order(rt: &impl Abort, alloc: Global, back: Back) -> Result<(), Fail> {
-    let ledger = two_families(alloc)?;
-    let wanted = in_file_order(alloc, &ledger, &fills_by_turns(alloc)?)?;
-    let finished = ended(alloc, &ledger, back)?;
-    assert!(rt; finished.books == wanted.books);
-    assert_eq!(rt; finished.replies.as_slice(), wanted.replies.as_slice());
-    Ok(())
+// The ledger after the records, and the replies to them, one after another in file order.
+fn plain(
+    rt: &impl Abort,
+    alloc: Global,
+    ledger: &Ledger,
+    records: &[Transmission],
+) -> (Ledger, Vec<Reply>) {
+    let (lot, sheet) = (lot(rt), sheet(rt, alloc));
+    assert!(rt; records.len() <= 100_000, "a batch");
+    plain_run(alloc, lot, &sheet, ledger, records).expect(rt, "memory")
+}
+
+// The books after the records, and the replies to them, in file order.
+fn in_file_order(rt: &impl Abort, alloc: Global) -> Finished {
+    let (ledger, records) = (two_families(rt, alloc), fills_by_turns(rt, alloc));
+    let (after, replies) = plain(rt, alloc, &ledger, &records);
+    let books = books_of(rt, alloc, &after);
+    Finished { books, replies }
+}
+
+fn ends_as_in_file_order(rt: &impl Abort, alloc: Global, back: Back) {
+    let wanted = in_file_order(rt, alloc);
+    let finished = ended(rt, alloc, back);
+    same(rt, finished.replies.as_slice(), wanted.replies.as_slice());
+    same(rt, finished.books, wanted.books);
 }
 
 #[test]
-fn the_first_out_may_come_back_first(rt: HostRuntime) -> Result<(), Fail> {
-    ends_as_in_file_order(&rt, rt.alloc(), Back::First)
+fn the_first_out_may_come_back_first(rt: HostRuntime) {
+    ends_as_in_file_order(&rt, rt.alloc(), Back::First);
 }
 
 #[test]
-fn the_last_out_may_come_back_first(rt: HostRuntime) -> Result<(), Fail> {
-    ends_as_in_file_order(&rt, rt.alloc(), Back::Last)
+fn the_last_out_may_come_back_first(rt: HostRuntime) {
+    ends_as_in_file_order(&rt, rt.alloc(), Back::Last);
 }
 
 // What is asked of the desk of the case: the batch number, the drugs that the sheet lists, the last day that the books
@@ -415,31 +445,29 @@ const OWN: Asked = Asked {
     records: 3,
 };
 
-fn asked_sheet(alloc: Global, drugs: usize) -> Result<Sheet, Fail> {
+fn asked_sheet(rt: &impl Abort, alloc: Global, drugs: usize) -> Sheet {
     match drugs {
-        0 => Ok(Sheet::new(alloc, figures()?)?),
-        _ => sheet(alloc),
+        0 => bare_sheet(rt, alloc),
+        _ => sheet(rt, alloc),
     }
 }
 
-fn is_job(alloc: Global, asked: Asked) -> Result<bool, Fail> {
-    let lot = Lot::new(asked.batch, date_read(b"20260301")?).ok_or("a lot")?;
-    let mut records = fills(alloc)?;
+fn is_job(rt: &impl Abort, alloc: Global, asked: Asked) -> bool {
+    let lot = lot_of(rt, asked.batch);
+    let mut records = fills(rt, alloc);
     records.truncate(asked.records);
-    let sheet = asked_sheet(alloc, asked.drugs)?;
-    let books = books(alloc, asked.last)?;
-    let desk = desk(alloc, b"20261231")?;
-    Ok(desk.job_is(lot, &sheet, &books, &records))
+    let sheet = asked_sheet(rt, alloc, asked.drugs);
+    let books = books(rt, alloc, asked.last);
+    desk(rt, alloc, b"20261231").job_is(lot, &sheet, &books, &records)
 }
 
 #[test]
-fn knows_its_job(rt: HostRuntime) -> Result<(), Fail> {
+fn knows_its_job(rt: HostRuntime) {
     let alloc = rt.alloc();
     let last = b"20261130";
-    assert!(rt; is_job(alloc, OWN)?);
-    assert!(rt; !is_job(alloc, Asked { batch: 43, ..OWN })?);
-    assert!(rt; !is_job(alloc, Asked { drugs: 0, ..OWN })?);
-    assert!(rt; !is_job(alloc, Asked { last, ..OWN })?);
-    assert!(rt; !is_job(alloc, Asked { records: 2, ..OWN })?);
-    Ok(())
+    same(&rt, is_job(&rt, alloc, OWN), true);
+    same(&rt, is_job(&rt, alloc, Asked { batch: 43, ..OWN }), false);
+    same(&rt, is_job(&rt, alloc, Asked { drugs: 0, ..OWN }), false);
+    same(&rt, is_job(&rt, alloc, Asked { last, ..OWN }), false);
+    same(&rt, is_job(&rt, alloc, Asked { records: 2, ..OWN }), false);
 }

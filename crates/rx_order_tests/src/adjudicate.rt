@@ -1,7 +1,7 @@
 // What no clause says: that an order is made and answered, as the worked cases have it (docs/CASES.md).
 use crate::worked::{
-    asking, authorization, base, bill, day, id, lot, period, person, plain_sheet, product,
-    provider, quantity, reference, reversal, same, thirty_days, this_year, today,
+    TODAY, asking, authorization, base, day, differ, four, id, lot, period, person, plain_sheet,
+    product, provider, quantity, reference, reversal, same, thirty_days, this_year, today,
 };
 use rx_adjudicate::{Order, adjudicate, fits};
 use rx_claim::{
@@ -9,7 +9,7 @@ use rx_claim::{
     Transaction, Transmission,
 };
 use rx_fields::{Cents, Code, Count, Key, Period, Person};
-use rx_ledger::{Member, MemberKey, Row};
+use rx_ledger::{Member, MemberKey, Row, Terms};
 use rx_parcels::{Family, Few, KeyBook, Parcel};
 use std::alloc::Global;
 use std::process::Abort;
@@ -18,7 +18,7 @@ fn key(rt: &impl Abort, number: u64) -> Key {
     Key {
         provider: provider(rt),
         reference: reference(rt, number),
-        date: day(rt, b"20260228"),
+        date: day(rt, TODAY),
     }
 }
 
@@ -40,6 +40,12 @@ fn paid(rt: &impl Abort, number: u64, reference_number: u64, pricing: Pricing) -
         reference: reference(rt, reference_number),
         pricing,
     }
+}
+
+// What is paid for the base claim, where nothing was billed before.
+fn base_paid(rt: &impl Abort, number: u64, reference_number: u64) -> Paid {
+    let pricing = pricing(rt, 30_000, 175, 10_000, 3_000);
+    paid(rt, number, reference_number, pricing)
 }
 
 fn refused(rt: &impl Abort, code: Code) -> Answer {
@@ -119,6 +125,11 @@ fn after_one_billing(rt: &impl Abort, alloc: Global) -> Parcel {
     parcel_of(rt, keys, book_with_row(rt, alloc))
 }
 
+// The terms of a record under the plain sheet, in this batch.
+fn terms(rt: &impl Abort, alloc: Global, batch: u32, asked: &Transmission) -> Terms {
+    plain_sheet(rt, alloc).terms(lot(rt, batch), asked)
+}
+
 // The order of a record under the plain sheet, in this batch at this place.
 fn ordered(
     rt: &impl Abort,
@@ -128,7 +139,7 @@ fn ordered(
     asked: Transmission,
     parcel: Parcel,
 ) -> Order {
-    let terms = plain_sheet(rt, alloc).terms(lot(rt, batch), &asked);
+    let terms = terms(rt, alloc, batch, &asked);
     assert!(rt; place >= 1 && place <= 100_000, "a place in the batch");
     assert!(rt; fits(&asked, &terms, &parcel), "a parcel that fits");
     Order::new(place, asked, terms, parcel)
@@ -159,31 +170,19 @@ fn free_keys(rt: &impl Abort, alloc: Global) -> Parcel {
 }
 
 fn four_transactions(rt: &impl Abort, alloc: Global) -> Order {
-    let transactions = [
-        base(rt, 301, b"C100"),
-        base(rt, 301, b"C100"),
-        bill(rt, 302, b"C100", b"01", b"00001000101"),
-        bill(rt, 303, b"C100", b"01", b"00003000303"),
-    ];
-    let asked = today(rt, alloc, &transactions);
+    let asked = today(rt, alloc, &four(rt));
     ordered(rt, alloc, 42, 1, asked, free_keys(rt, alloc))
 }
 
 #[test]
 fn four_transactions_in_one_record(rt: HostRuntime) {
-    let first = paid(
-        &rt,
-        4_200_000_011,
-        301,
-        pricing(&rt, 30_000, 175, 10_000, 3_000),
-    );
-    let third = paid(&rt, 4_200_000_013, 302, pricing(&rt, 750, 175, 0, 925));
-    let fourth = paid(&rt, 4_200_000_014, 303, pricing(&rt, 1_500, 175, 0, 1_000));
+    let third = pricing(&rt, 750, 175, 0, 925);
+    let fourth = pricing(&rt, 1_500, 175, 0, 1_000);
     let wanted = [
-        Answer::Paid(first),
-        Answer::Twice(first),
-        Answer::Paid(third),
-        Answer::Paid(fourth),
+        Answer::Paid(base_paid(&rt, 4_200_000_011, 301)),
+        Answer::Twice(base_paid(&rt, 4_200_000_011, 301)),
+        Answer::Paid(paid(&rt, 4_200_000_013, 302, third)),
+        Answer::Paid(paid(&rt, 4_200_000_014, 303, fourth)),
     ];
     let order = four_transactions(&rt, rt.alloc());
     let after = answered(&rt, rt.alloc(), order, &wanted);
@@ -240,11 +239,6 @@ fn taken_back(rt: &impl Abort) -> Answer {
     })
 }
 
-fn paid_again(rt: &impl Abort) -> Answer {
-    let pricing = pricing(rt, 30_000, 175, 10_000, 3_000);
-    Answer::Paid(paid(rt, 4_400_000_031, 123, pricing))
-}
-
 #[test]
 fn reverse_twice_and_bill_again(rt: HostRuntime) {
     let (alloc, not_processed) = (rt.alloc(), refused(&rt, Code::ReversalNotProcessed));
@@ -252,15 +246,15 @@ fn reverse_twice_and_bill_again(rt: HostRuntime) {
     let parcel = reversed(&rt, alloc, 1, parcel, taken_back(&rt));
     let parcel = reversed(&rt, alloc, 2, parcel, not_processed);
     same(&rt, parcel.row(&key(&rt, 123)), None);
-    let parcel = billed(&rt, alloc, 3, parcel, paid_again(&rt));
+    let again = Answer::Paid(base_paid(&rt, 4_400_000_031, 123));
+    let parcel = billed(&rt, alloc, 3, parcel, again);
     same(&rt, parcel.out_of_pocket(&id(&rt, b"C100")), Some(13_000));
 }
 
 // Whether a parcel fits the record of one transaction.
 fn fits_one(rt: &impl Abort, alloc: Global, transaction: Transaction, parcel: &Parcel) -> bool {
     let asked = today(rt, alloc, &[transaction]);
-    let terms = plain_sheet(rt, alloc).terms(lot(rt, 44), &asked);
-    fits(&asked, &terms, parcel)
+    fits(&asked, &terms(rt, alloc, 44, &asked), parcel)
 }
 
 // Whether a parcel fits the billing of one-billing, and whether it fits its reversal.
@@ -307,14 +301,17 @@ fn rejected(rt: &impl Abort) -> Transmission {
     }))
 }
 
+// Whether the parcel without books, of a period, fits the record whose header is rejected.
+fn fits_rejected(rt: &impl Abort, alloc: Global, period: Period) -> bool {
+    let (asked, empty) = (rejected(rt), empty_parcel(rt, alloc, period));
+    fits(&asked, &terms(rt, alloc, 42, &asked), &empty)
+}
+
 #[test]
 fn fits_in_the_period_of_its_terms_alone(rt: HostRuntime) {
-    let (alloc, asked) = (rt.alloc(), rejected(&rt));
-    let terms = plain_sheet(&rt, alloc).terms(lot(&rt, 42), &asked);
-    let own = empty_parcel(&rt, alloc, this_year(&rt));
-    same(&rt, fits(&asked, &terms, &own), true);
-    let next = empty_parcel(&rt, alloc, period(&rt, b"20270101", b"20271231"));
-    same(&rt, fits(&asked, &terms, &next), false);
+    let (this_year, next_year) = (this_year(&rt), period(&rt, b"20270101", b"20271231"));
+    same(&rt, fits_rejected(&rt, rt.alloc(), this_year), true);
+    same(&rt, fits_rejected(&rt, rt.alloc(), next_year), false);
 }
 
 #[test]
@@ -332,15 +329,25 @@ fn reversing(rt: &impl Abort, alloc: Global, place: u64) -> Order {
     order_of(rt, alloc, place, reversal(rt, 123), parcel)
 }
 
+fn copied(rt: &impl Abort, alloc: Global, order: &Order) -> Order {
+    order.copy(alloc).expect(rt, "memory")
+}
+
+// The order has this place, and its books are those after one-billing.
+fn is_on_one_billing(rt: &impl Abort, alloc: Global, order: &Order, place: u64) {
+    let books = after_one_billing(rt, alloc);
+    same(rt, order.place(), place);
+    same(rt, order.parcel(), &books);
+}
+
 #[test]
 fn orders_are_copied_and_compared(rt: HostRuntime) {
     let alloc = rt.alloc();
     let order = reversing(&rt, alloc, 7);
-    let copy = order.copy(alloc).expect(&rt, "memory");
-    same(&rt, copy == order, true);
-    same(&rt, copy.place(), 7);
-    same(&rt, *copy.parcel() == after_one_billing(&rt, alloc), true);
-    same(&rt, copy == reversing(&rt, alloc, 8), false);
+    let (copy, again) = (copied(&rt, alloc, &order), copied(&rt, alloc, &order));
+    is_on_one_billing(&rt, alloc, &copy, 7);
+    same(&rt, copy, order);
+    differ(&rt, again, reversing(&rt, alloc, 8));
 }
 
 #[test]
@@ -348,8 +355,8 @@ fn a_done_holds_its_order(rt: HostRuntime) {
     let alloc = rt.alloc();
     let (order, copy) = (reversing(&rt, alloc, 7), reversing(&rt, alloc, 7));
     let done = adjudicate(alloc, order).expect(&rt, "memory");
-    same(&rt, *done.order() == copy, true);
+    same(&rt, done.order(), &copy);
     let (order, after, _reply) = done.part();
-    same(&rt, order == copy, true);
-    same(&rt, after == *copy.parcel(), false);
+    differ(&rt, &after, copy.parcel());
+    same(&rt, order, copy);
 }

@@ -5,11 +5,11 @@ ghost use Rattle.std.specs.List.{All};
 ghost use Rattle.rx_in_order.specs.Underway.{IsAwaited};
 
 use crate::worked::{
-    authorization, base, bill, day, id, lot, person, plain_sheet, record, reversal, same,
-    sheet_with, this_year, today,
+    TODAY, authorization, base, bill, day, four, id, lot, person, plain_sheet, record, reversal,
+    same, sheet_with, this_year, today,
 };
 use rx_books_kept::Books;
-use rx_claim::{Answer, Outcome, Reply, Transmission};
+use rx_claim::{Answer, Outcome, Reply, Transaction, Transmission};
 use rx_fields::{Authorization, Lot, digits_write};
 use rx_in_order::{Finished, InOrder};
 use rx_ledger::{Ledger, Member, Row, Sheet};
@@ -53,17 +53,17 @@ fn books(rt: &impl Abort, alloc: Global, text: &[u8]) -> Books {
 fn run(
     rt: &impl Abort,
     alloc: Global,
-    lot: Lot,
-    sheet: &Sheet,
+    batch: u32,
+    sheet: Sheet,
     books: Books,
-    asked: &[Transmission],
+    asked: Vec<Transmission>,
 ) -> Finished {
     assert!(rt; asked.len() <= 100, "few records");
     let books = books
         .with_period(alloc, sheet.period())
         .expect(rt, "memory");
-    let mut order = InOrder::new(alloc, books, asked).expect(rt, "memory");
-    let replies = answer_all(rt, alloc, lot, sheet, &mut order, asked);
+    let mut order = InOrder::new(alloc, books, &asked).expect(rt, "memory");
+    let replies = answer_all(rt, alloc, lot(rt, batch), &sheet, &mut order, &asked);
     Finished {
         books: order.close(),
         replies,
@@ -94,17 +94,26 @@ fn answer_all(
     replies
 }
 
-// What the plain sheet's batch of a number gives on the books of a text.
+// What a batch gives under the plain sheet, on the books of a text.
 fn run_on(
     rt: &impl Abort,
     alloc: Global,
     batch: u32,
     text: &[u8],
-    asked: &[Transmission],
+    asked: Vec<Transmission>,
 ) -> Finished {
-    let sheet = plain_sheet(rt, alloc);
     let books = books(rt, alloc, text);
-    run(rt, alloc, lot(rt, batch), &sheet, books, asked)
+    run(rt, alloc, batch, plain_sheet(rt, alloc), books, asked)
+}
+
+// A record of each of these transactions, on its date.
+fn each(rt: &impl Abort, alloc: Global, asked: &[(&[u8], Transaction)]) -> Vec<Transmission> {
+    let mut records = Vec::new(alloc);
+    for (date, transaction) in asked {
+        let record = record(rt, alloc, date, &[*transaction]);
+        records.push(record).expect(rt, "memory");
+    }
+    records
 }
 
 // The answers of these replies, one after another.
@@ -137,15 +146,20 @@ fn statuses(rt: &impl Abort, alloc: Global, replies: &[Reply]) -> Vec<u8> {
     text
 }
 
-// These replies have these statuses.
-fn have(rt: &impl Abort, alloc: Global, replies: &[Reply], wanted: &[u8]) {
-    same(rt, statuses(rt, alloc, replies).as_slice(), wanted);
+// The replies have these statuses.
+fn replied(rt: &impl Abort, alloc: Global, finished: &Finished, wanted: &[u8]) {
+    same(
+        rt,
+        statuses(rt, alloc, &finished.replies).as_slice(),
+        wanted,
+    );
 }
 
-// The text of these books is this one.
-fn have_text(rt: &impl Abort, alloc: Global, books: &Books, wanted: &[u8]) {
-    let text = books.write(alloc).expect(rt, "memory");
-    same(rt, text.as_slice(), wanted);
+// The replies have these statuses, and the books are those of a text.
+fn ended(rt: &impl Abort, alloc: Global, finished: &Finished, wanted: &[u8], text: &[u8]) {
+    replied(rt, alloc, finished, wanted);
+    let written = finished.books.write(alloc).expect(rt, "memory");
+    same(rt, written.as_slice(), text);
 }
 
 // The authorization number of a paid claim, what the patient pays and what the pharmacy gets.
@@ -160,13 +174,23 @@ fn figures(answer: &Answer) -> Option<(Authorization, u64, u64)> {
     }
 }
 
-// A refill on a date has this status on the fill's books, where so many percent of it have to be over.
+// The figures of the first answer of these replies.
+fn first_figures(
+    rt: &impl Abort,
+    alloc: Global,
+    replies: &[Reply],
+) -> Option<(Authorization, u64, u64)> {
+    answers(rt, alloc, replies).first().and_then(figures)
+}
+
+// A refill on a date has this status on the fill's books, where so many percent of the fill have to be over.
 fn refill(rt: &impl Abort, alloc: Global, percent: u64, date: &[u8], wanted: &[u8]) {
-    let asked = [record(rt, alloc, date, &[base(rt, 124, b"C100")])];
-    let sheet = sheet_with(rt, alloc, percent, 3_000);
-    let filled = books(rt, alloc, FILLED);
-    let finished = run(rt, alloc, lot(rt, 42), &sheet, filled, &asked);
-    have(rt, alloc, &finished.replies, wanted);
+    let asked = each(rt, alloc, &[(date, base(rt, 124, b"C100"))]);
+    let (sheet, filled) = (
+        sheet_with(rt, alloc, percent, 3_000),
+        books(rt, alloc, FILLED),
+    );
+    replied(rt, alloc, &run(rt, alloc, 42, sheet, filled, asked), wanted);
 }
 
 // Thirty days were filled on 1 February. So many percent of them have to be over, whole days counted in hundredths.
@@ -191,46 +215,44 @@ fn a_refill_is_too_soon_up_to_its_boundary(rt: HostRuntime) {
 // The fill that was too early is taken back, and one of 31 January stands: 23 days are over on 23 February, 1 on the 24th.
 #[test]
 fn a_fill_taken_back_makes_none_too_soon(rt: HostRuntime) {
-    let alloc = rt.alloc();
-    let asked = [
-        record(&rt, alloc, b"20260223", &[base(&rt, 124, b"C100")]),
-        record(&rt, alloc, b"20260131", &[base(&rt, 126, b"C100")]),
-        record(&rt, alloc, b"20260201", &[reversal(&rt, 123)]),
-        record(&rt, alloc, b"20260223", &[base(&rt, 127, b"C100")]),
-        record(&rt, alloc, b"20260224", &[base(&rt, 125, b"C100")]),
+    let asked: [(&[u8], Transaction); 5] = [
+        (b"20260223", base(&rt, 124, b"C100")),
+        (b"20260131", base(&rt, 126, b"C100")),
+        (b"20260201", reversal(&rt, 123)),
+        (b"20260223", base(&rt, 127, b"C100")),
+        (b"20260224", base(&rt, 125, b"C100")),
     ];
-    let finished = run_on(&rt, alloc, 42, FILLED, &asked);
-    have(&rt, alloc, &finished.replies, b"R79PAPR79");
+    let finished = run_on(&rt, rt.alloc(), 42, FILLED, each(&rt, rt.alloc(), &asked));
+    replied(&rt, rt.alloc(), &finished, b"R79PAPR79");
 }
 
-// Case four-transactions-in-one-record.
+// The one record of case four-transactions-in-one-record.
+fn four_in_one(rt: &impl Abort, alloc: Global) -> Vec<Transmission> {
+    let mut asked = Vec::new(alloc);
+    let record = today(rt, alloc, &four(rt));
+    asked.push(record).expect(rt, "memory");
+    asked
+}
+
 #[test]
 fn a_transaction_is_on_the_books_after_the_one_before(rt: HostRuntime) {
-    let alloc = rt.alloc();
-    let transactions = [
-        base(&rt, 301, b"C100"),
-        base(&rt, 301, b"C100"),
-        bill(&rt, 302, b"C100", b"01", b"00001000101"),
-        bill(&rt, 303, b"C100", b"01", b"00003000303"),
-    ];
-    let asked = [today(&rt, alloc, &transactions)];
-    let finished = run_on(&rt, alloc, 42, OPENING, &asked);
-    have(&rt, alloc, &finished.replies, b"PDPP");
-    have_text(&rt, alloc, &finished.books, FOUR);
+    let asked = four_in_one(&rt, rt.alloc());
+    let finished = run_on(&rt, rt.alloc(), 42, OPENING, asked);
+    ended(&rt, rt.alloc(), &finished, b"PDPP", FOUR);
 }
 
 // The books of a family of 1,000 members, of whom none has a claim.
 fn books_of_a_thousand(rt: &impl Abort, alloc: Global) -> Books {
     let mut ledger = Ledger::new(alloc);
     for number in 0..1000 {
-        enroll(rt, &mut ledger, number);
+        let digits: [u8; 3] = digits_write(number);
+        enroll(rt, &mut ledger, &digits);
     }
     Books::from_ledger(alloc, &ledger, this_year(rt)).expect(rt, "memory")
 }
 
-fn enroll(rt: &impl Abort, ledger: &mut Ledger, number: u64) {
-    let digits: [u8; 3] = digits_write(number);
-    let (family, person) = (id(rt, b"C100"), person(rt, &digits));
+fn enroll(rt: &impl Abort, ledger: &mut Ledger, digits: &[u8]) {
+    let (family, person) = (id(rt, b"C100"), person(rt, digits));
     let member = Member::new(family, person, day(rt, b"20260101"), day(rt, b"20261231"));
     ledger
         .add_member(member.expect(rt, "a coverage"))
@@ -241,21 +263,13 @@ fn enroll(rt: &impl Abort, ledger: &mut Ledger, number: u64) {
 #[test]
 fn a_family_has_a_thousand_members(rt: HostRuntime) {
     let (alloc, family) = (rt.alloc(), id(&rt, b"C100"));
-    let asked = [
-        today(
-            &rt,
-            alloc,
-            &[bill(&rt, 123, b"C100", b"999", b"00002000202")],
-        ),
-        today(
-            &rt,
-            alloc,
-            &[bill(&rt, 124, b"C100", b"000", b"00002000202")],
-        ),
-    ];
+    let last = bill(&rt, 123, b"C100", b"999", b"00002000202");
+    let first = bill(&rt, 124, b"C100", b"000", b"00002000202");
+    let asked = each(&rt, alloc, &[(TODAY, last), (TODAY, first)]);
     let (sheet, books) = (plain_sheet(&rt, alloc), books_of_a_thousand(&rt, alloc));
-    let Finished { books, replies } = run(&rt, alloc, lot(&rt, 42), &sheet, books, &asked);
-    have(&rt, alloc, &replies, b"PP");
+    let finished = run(&rt, alloc, 42, sheet, books, asked);
+    replied(&rt, alloc, &finished, b"PP");
+    let books = &finished.books;
     same(&rt, books.out_of_pocket(&family), Some(26_000));
     same(&rt, books.family_deductible(&family), Some(20_000));
     same(
@@ -273,15 +287,13 @@ fn a_family_has_a_thousand_members(rt: HostRuntime) {
 // Case reverse-twice-and-bill-again.
 #[test]
 fn a_claim_is_taken_back_once_and_billed_again(rt: HostRuntime) {
-    let alloc = rt.alloc();
     let asked = [
-        today(&rt, alloc, &[reversal(&rt, 123)]),
-        today(&rt, alloc, &[reversal(&rt, 123)]),
-        today(&rt, alloc, &[base(&rt, 123, b"C100")]),
+        (TODAY, reversal(&rt, 123)),
+        (TODAY, reversal(&rt, 123)),
+        (TODAY, base(&rt, 123, b"C100")),
     ];
-    let finished = run_on(&rt, alloc, 44, BILLED, &asked);
-    have(&rt, alloc, &finished.replies, b"AR87P");
-    have_text(&rt, alloc, &finished.books, BILLED_AGAIN);
+    let finished = run_on(&rt, rt.alloc(), 44, BILLED, each(&rt, rt.alloc(), &asked));
+    ended(&rt, rt.alloc(), &finished, b"AR87P", BILLED_AGAIN);
 }
 
 // What was paid is told again, whatever the sheet says by now: 13,000 of 30,175 cents are the patient's, as under a copay of
@@ -289,22 +301,27 @@ fn a_claim_is_taken_back_once_and_billed_again(rt: HostRuntime) {
 #[test]
 fn a_claim_billed_twice_is_not_priced_again(rt: HostRuntime) {
     let alloc = rt.alloc();
-    let asked = [today(&rt, alloc, &[base(&rt, 123, b"C100")])];
-    let sheet = sheet_with(&rt, alloc, 75, 5_000);
-    let billed = books(&rt, alloc, BILLED);
-    let finished = run(&rt, alloc, lot(&rt, 43), &sheet, billed, &asked);
-    have(&rt, alloc, &finished.replies, b"D");
-    let all = answers(&rt, alloc, &finished.replies);
+    let asked = each(&rt, alloc, &[(TODAY, base(&rt, 123, b"C100"))]);
+    let (sheet, billed) = (sheet_with(&rt, alloc, 75, 5_000), books(&rt, alloc, BILLED));
+    let finished = run(&rt, alloc, 43, sheet, billed, asked);
+    ended(&rt, alloc, &finished, b"D", BILLED);
     let wanted = (authorization(&rt, 4_200_000_011), 13_000, 17_175);
-    same(&rt, all.first().and_then(figures), Some(wanted));
-    have_text(&rt, alloc, &finished.books, BILLED);
+    same(
+        &rt,
+        first_figures(&rt, alloc, &finished.replies),
+        Some(wanted),
+    );
 }
 
 #[test]
 fn books_stay_where_no_record_comes(rt: HostRuntime) {
-    let finished = run_on(&rt, rt.alloc(), 42, BILLED, &[]);
-    same(&rt, finished.replies.len(), 0);
-    same(&rt, finished.books == books(&rt, rt.alloc(), BILLED), true);
+    let alloc = rt.alloc();
+    let Finished {
+        books: after,
+        replies,
+    } = run_on(&rt, alloc, 42, BILLED, Vec::new(alloc));
+    same(&rt, replies.len(), 0);
+    same(&rt, after, books(&rt, alloc, BILLED));
 }
 
 // The reference numbers of a family's claims in these books are these.

@@ -21,9 +21,18 @@ const HEADER: EchoParts = EchoParts {
     date: *b"20260228",
 };
 
-/// What is given is what is wanted. Values are compared here, since each place that compares by itself is dear to prove.
+/// The date of the base claim.
+pub(crate) const TODAY: &[u8] = b"20260228";
+
+/// What is given is what is wanted. Values are compared and dropped here, since each place that does it by itself is dear to
+/// prove.
 pub(crate) fn same<T: PartialEq + Debug + Drop>(rt: &impl Abort, given: T, wanted: T) {
     assert_eq!(rt; given, wanted);
+}
+
+/// What is given is not this other value.
+pub(crate) fn differ<T: PartialEq + Debug + Drop>(rt: &impl Abort, given: T, other: T) {
+    assert_ne!(rt; given, other);
 }
 
 /// The day of a text.
@@ -148,6 +157,16 @@ pub(crate) fn base(rt: &impl Abort, number: u64, family: &[u8]) -> Transaction {
     bill(rt, number, family, b"01", b"00002000202")
 }
 
+/// The transactions of case four-transactions-in-one-record.
+pub(crate) fn four(rt: &impl Abort) -> [Transaction; 4] {
+    [
+        base(rt, 301, b"C100"),
+        base(rt, 301, b"C100"),
+        bill(rt, 302, b"C100", b"01", b"00001000101"),
+        bill(rt, 303, b"C100", b"01", b"00003000303"),
+    ]
+}
+
 /// The reversal of the base claim with this reference.
 pub(crate) fn reversal(rt: &impl Abort, number: u64) -> Transaction {
     let (reference, product) = (reference(rt, number), product(rt, b"00002000202"));
@@ -171,7 +190,7 @@ pub(crate) fn record(
 
 /// The record of these transactions on the date of the base claim.
 pub(crate) fn today(rt: &impl Abort, alloc: Global, transactions: &[Transaction]) -> Transmission {
-    record(rt, alloc, b"20260228", transactions)
+    record(rt, alloc, TODAY, transactions)
 }
 
 /// The record that asks for this.

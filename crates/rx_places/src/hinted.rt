@@ -56,8 +56,6 @@ pub trait Place: Hashed {
     ghost emptied_keeps: { (place : Self) → Self.key_of (emptied place) ≡ Self.key_of place };
 
     ghost filled_keeps: { (book : Self.Book) (place : Self) → Self.key_of (filled book place) ≡ Self.key_of place };
-
-    ghost filled_again: { (book : Self.Book) (other : Self.Book) (place : Self) → filled book (filled other place) ≡ filled book place };
 }
 
 /// A list in the ascending order of its items' keys, at most one item of a key, whose items are found by a hash of their
@@ -124,7 +122,7 @@ impl<T: Hashed> Hinted<T> {
         ensures { option_copied result ≡ item_at T.Key.cmp T.key_of self.now key.now }
     {
         match self.place(key) {
-            Ok(at) => Some(&self.items[at]),
+            Ok(at) => Some(&self.as_slice()[at]),
             Err(_) => None,
         }
     }

@@ -65,8 +65,6 @@ impl Place for KeyPlace {
 
     ghost filled_keeps = { λ book place. refl };
 
-    ghost filled_again = { λ book other place. refl };
-
     fn is_held(&self) -> bool {
         self.held.is_some()
     }
@@ -132,8 +130,6 @@ impl Place for FamilyPlace {
     ghost emptied_keeps = { λ place. refl };
 
     ghost filled_keeps = { λ book place. refl };
-
-    ghost filled_again = { λ book other place. refl };
 
     fn is_held(&self) -> bool {
         self.held.is_some()

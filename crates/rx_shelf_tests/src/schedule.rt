@@ -2,6 +2,7 @@
 ghost use Rattle.std.specs.Prelude.{◌≤◌, ℕ};
 ghost use Rattle.rx_schedule.specs.Machine.{Was};
 
+use crate::same::same;
 use rx_books_kept::Books;
 use rx_claim::{
     Bill, BillParts, Body, Codes, Echo, EchoParts, Heard, Rejected, Reversal, Transaction,
@@ -14,7 +15,7 @@ use rx_fields::{
 use rx_parcels::Footprint;
 use rx_schedule::{Queues, footprints, waves, weight};
 use std::alloc::Global;
-use std::test::Fail;
+use std::process::Abort;
 
 const OPENING: &[u8] = b"BOOKS|3|20260101|20261231\n";
 
@@ -28,241 +29,252 @@ C|1234567893|123|20260228|C100|01|00002000202|30000|30|30000|175|10000|3000|0|00
 T|C100|13000|10000\n\
 T|C200|0|0\n";
 
-fn key(reference: u64) -> Result<Key, Fail> {
-    Ok(Key {
-        provider: Provider::new(b"1234567893").ok().ok_or("an id")?,
-        reference: Reference::new(reference).ok_or("a reference")?,
-        date: date_read(b"20260228").ok().ok_or("a date")?,
-    })
+fn key(rt: &impl Abort, reference: u64) -> Key {
+    Key {
+        provider: Provider::new(b"1234567893").expect(rt, "a provider"),
+        reference: Reference::new(reference).expect(rt, "a reference"),
+        date: date_read(b"20260228").expect(rt, "a date"),
+    }
 }
 
-fn family(text: &[u8]) -> Result<Id, Fail> {
-    Ok(Id::new(text, 20).ok().ok_or("an id")?)
+fn family(rt: &impl Abort, text: &[u8]) -> Id {
+    Id::new(text, 20).expect(rt, "an id")
 }
 
-fn echo() -> Echo {
-    Echo::blanked(EchoParts {
+fn product(rt: &impl Abort) -> Product {
+    Product::new(b"00002000202").expect(rt, "a product")
+}
+
+fn sent(body: Body) -> Transmission {
+    let echo = Echo::blanked(EchoParts {
         version: *b"D0",
         code: *b"B1",
         qualifier: *b"01",
         provider: *b"1234567893     ",
         date: *b"20260228",
-    })
-}
-
-fn put(records: &mut Vec<Transmission>, list: Transactions) -> Result<(), Fail> {
-    let body = Body::Heard(Heard {
-        provider: Provider::new(b"1234567893").ok().ok_or("an id")?,
-        date: date_read(b"20260228").ok().ok_or("a date")?,
-        list,
     });
-    Ok(
-        records
-            .push(Transmission { echo: echo(), body })
-            .ok()
-            .ok_or("room")?,
-    )
+    Transmission { echo, body }
 }
 
-fn put_rejected(records: &mut Vec<Transmission>) -> Result<(), Fail> {
-    let body = Body::Rejected(Rejected {
-        codes: Codes::new(&[Code::Bin]).ok_or("codes")?,
-        groups: Count::new(1).ok_or("a count")?,
-    });
-    Ok(
-        records
-            .push(Transmission { echo: echo(), body })
-            .ok()
-            .ok_or("room")?,
-    )
+// Puts a record of this one transaction to the others.
+fn put(rt: &impl Abort, records: &mut Vec<Transmission>, one: Transaction) {
+    let heard = Heard {
+        provider: Provider::new(b"1234567893").expect(rt, "a provider"),
+        date: date_read(b"20260228").expect(rt, "a date"),
+        list: Transactions::one(one),
+    };
+    records.push(sent(Body::Heard(heard))).expect(rt, "memory");
 }
 
-fn bill(alloc: Global, reference: u64, family: Id) -> Result<Transactions, Fail> {
+fn put_rejected(rt: &impl Abort, records: &mut Vec<Transmission>) {
+    let codes = Codes::new(&[Code::Bin]).expect(rt, "codes");
+    let groups = Count::new(1).expect(rt, "a count");
+    let rejected = Body::Rejected(Rejected { codes, groups });
+    records.push(sent(rejected)).expect(rt, "memory");
+}
+
+fn bill(rt: &impl Abort, reference: u64, family: Id) -> Transaction {
     let parts = BillParts {
-        reference: Reference::new(reference).ok_or("a reference")?,
+        reference: Reference::new(reference).expect(rt, "a reference"),
         family,
-        person: Person::new(b"01").ok().ok_or("an id")?,
-        product: Product::new(b"00002000202").ok_or("a product")?,
-        quantity: Quantity::new(30_000).ok_or("a quantity")?,
-        days: Days::new(30).ok_or("days")?,
-        ingredient_cost: Cents::new(30_000).ok_or("an amount")?,
+        person: Person::new(b"01").expect(rt, "a person"),
+        product: product(rt),
+        quantity: Quantity::new(30_000).expect(rt, "a quantity"),
+        days: Days::new(30).expect(rt, "days"),
+        ingredient_cost: Cents::new(30_000).expect(rt, "an amount"),
         dispensing_fee: None,
         usual_charge: Cents::new(40_000),
         gross_amount: None,
     };
-    let items = [Transaction::Bill(Bill::new(parts).ok_or("a charge")?)].to_vec(alloc)?;
-    Ok(Transactions::new(items).ok().ok_or("one")?)
+    Transaction::Bill(Bill::new(parts).expect(rt, "a charge"))
 }
 
-fn reversal(alloc: Global, reference: u64) -> Result<Transactions, Fail> {
-    let reversal = Reversal {
-        reference: Reference::new(reference).ok_or("a reference")?,
-        product: Product::new(b"00002000202").ok_or("a product")?,
-    };
-    let items = [Transaction::Reverse(reversal)].to_vec(alloc)?;
-    Ok(Transactions::new(items).ok().ok_or("one")?)
+fn reversal(rt: &impl Abort, reference: u64) -> Transaction {
+    let reference = Reference::new(reference).expect(rt, "a reference");
+    let product = product(rt);
+    Transaction::Reverse(Reversal { reference, product })
 }
 
-fn books(alloc: Global, text: &[u8]) -> Result<Books, Fail> {
-    Ok(Books::read(alloc, text).ok().ok_or("books")?)
-}
-
-// Whether the footprint names these fill keys and families alone.
-fn names(footprint: &Footprint, keys: &[Key], families: &[Id]) -> bool {
-    footprint.keys() == keys && footprint.families() == families
+fn books(rt: &impl Abort, alloc: Global, text: &[u8]) -> Books {
+    Books::read(alloc, text).expect(rt, "books")
 }
 
 // Three claims of one family.
-fn three_fills(alloc: Global) -> Result<Vec<Transmission>, Fail> {
+fn three_fills(rt: &impl Abort, alloc: Global) -> Vec<Transmission> {
     let mut records = Vec::new(alloc);
-    put(&mut records, bill(alloc, 201, family(b"C100")?)?)?;
-    put(&mut records, bill(alloc, 202, family(b"C100")?)?)?;
-    put(&mut records, bill(alloc, 203, family(b"C100")?)?)?;
-    Ok(records)
+    for reference in [201, 202, 203] {
+        put(rt, &mut records, bill(rt, reference, family(rt, b"C100")));
+    }
+    records
 }
 
 // The footprints of the records on the books of this text.
 fn footprints_on(
+    rt: &impl Abort,
     alloc: Global,
     text: &[u8],
     records: &[Transmission],
-) -> Result<Vec<Footprint>, Fail> {
-    let opening = books(alloc, text)?;
-    Ok(footprints(alloc, &opening, records)?)
+) -> Vec<Footprint> {
+    let opening = books(rt, alloc, text);
+    footprints(alloc, &opening, records).expect(rt, "memory")
+}
+
+// The footprint of the record at the place, from 0, names these fill keys and families alone.
+fn names(rt: &impl Abort, list: &[Footprint], at: usize, keys: &[Key], families: &[Id]) {
+    let footprint = list.get(at).expect(rt, "a footprint");
+    same(rt, footprint.keys(), keys);
+    same(rt, footprint.families(), families);
+}
+
+// The records go in waves of these numbers, and the chain of as many as there are waves is of these records.
+fn waves_are(
+    rt: &impl Abort,
+    alloc: Global,
+    list: &[Footprint],
+    numbers: &[usize],
+    chain: &[usize],
+) {
+    let waves = waves(alloc, list).expect(rt, "memory");
+    same(rt, waves.numbers.as_slice(), numbers);
+    same(rt, waves.count, chain.len());
+    same(rt, waves.chain.as_slice(), chain);
 }
 
 #[test]
-fn three_fills_reach_the_family_maximum(rt: HostRuntime) -> Result<(), Fail> {
-    let alloc = rt.alloc();
-    let c100 = [family(b"C100")?];
-    let keys = [[key(201)?], [key(202)?], [key(203)?]];
-    let fills = three_fills(alloc)?;
-    let list = footprints_on(alloc, OPENING, &fills)?;
-    assert_eq!(rt; list.len(), 3);
-    assert!(rt; names(&list[0], &keys[0], &c100));
-    assert!(rt; names(&list[1], &keys[1], &c100));
-    assert!(rt; names(&list[2], &keys[2], &c100));
-    let waves = waves(alloc, &list)?;
-    assert_eq!(rt; waves.numbers.as_slice(), [1, 2, 3].as_slice());
-    assert_eq!(rt; waves.count, 3);
-    assert_eq!(rt; waves.chain.as_slice(), [1, 2, 3].as_slice());
-    Ok(())
+fn three_fills_reach_the_family_maximum(rt: HostRuntime) {
+    let c100 = [family(&rt, b"C100")];
+    let fills = three_fills(&rt, rt.alloc());
+    let list = footprints_on(&rt, rt.alloc(), OPENING, &fills);
+    same(&rt, list.len(), 3);
+    names(&rt, &list, 0, &[key(&rt, 201)], &c100);
+    names(&rt, &list, 1, &[key(&rt, 202)], &c100);
+    names(&rt, &list, 2, &[key(&rt, 203)], &c100);
+    waves_are(&rt, rt.alloc(), &list, &[1, 2, 3], &[1, 2, 3]);
 }
 
 #[test]
-fn same_key_another_family(rt: HostRuntime) -> Result<(), Fail> {
-    let alloc = rt.alloc();
+fn same_key_another_family(rt: HostRuntime) {
+    let c200 = family(&rt, b"C200");
+    let mut records = Vec::new(rt.alloc());
+    put(&rt, &mut records, bill(&rt, 123, c200));
+    let list = footprints_on(&rt, rt.alloc(), BILLED, &records);
+    same(&rt, list.len(), 1);
+    names(&rt, &list, 0, &[key(&rt, 123)], &[c200]);
+    waves_are(&rt, rt.alloc(), &list, &[1], &[1]);
+}
+
+// The claim of one-billing taken back, billed for C200 and taken back again.
+fn billed_for_another_family(rt: &impl Abort, alloc: Global) -> Vec<Transmission> {
     let mut records = Vec::new(alloc);
-    put(&mut records, bill(alloc, 123, family(b"C200")?)?)?;
-    let list = footprints_on(alloc, BILLED, &records)?;
-    assert_eq!(rt; list.len(), 1);
-    assert!(rt; names(&list[0], &[key(123)?], &[family(b"C200")?]));
-    let waves = waves(alloc, &list)?;
-    assert_eq!(rt; waves.numbers.as_slice(), [1].as_slice());
-    assert_eq!(rt; waves.chain.as_slice(), [1].as_slice());
-    Ok(())
+    put(rt, &mut records, reversal(rt, 123));
+    put(rt, &mut records, bill(rt, 123, family(rt, b"C200")));
+    put(rt, &mut records, reversal(rt, 123));
+    records
 }
 
 #[test]
-fn reversal_frees_a_key(rt: HostRuntime) -> Result<(), Fail> {
-    let alloc = rt.alloc();
-    let mut records = Vec::new(alloc);
-    put(&mut records, reversal(alloc, 123)?)?;
-    put(&mut records, bill(alloc, 123, family(b"C200")?)?)?;
-    put(&mut records, reversal(alloc, 123)?)?;
-    put(&mut records, bill(alloc, 125, family(b"C100")?)?)?;
-    let list = footprints_on(alloc, BILLED, &records)?;
-    assert_eq!(rt; list.len(), 4);
-    let c100 = family(b"C100")?;
-    let c200 = family(b"C200")?;
-    assert!(rt; names(&list[0], &[key(123)?], &[c100]));
-    assert!(rt; names(&list[1], &[key(123)?], &[c200]));
-    assert!(rt; names(&list[2], &[key(123)?], &[c100, c200]));
-    assert!(rt; names(&list[3], &[key(125)?], &[c100]));
-    let waves = waves(alloc, &list)?;
-    assert_eq!(rt; waves.numbers.as_slice(), [1, 2, 3, 4].as_slice());
-    assert_eq!(rt; waves.count, 4);
-    assert_eq!(rt; waves.chain.as_slice(), [1, 2, 3, 4].as_slice());
-    Ok(())
+fn reversal_frees_a_key(rt: HostRuntime) {
+    let (c100, c200) = (family(&rt, b"C100"), family(&rt, b"C200"));
+    let mut records = billed_for_another_family(&rt, rt.alloc());
+    put(&rt, &mut records, bill(&rt, 125, c100));
+    let list = footprints_on(&rt, rt.alloc(), BILLED, &records);
+    same(&rt, list.len(), 4);
+    names(&rt, &list, 0, &[key(&rt, 123)], &[c100]);
+    names(&rt, &list, 1, &[key(&rt, 123)], &[c200]);
+    names(&rt, &list, 2, &[key(&rt, 123)], &[c100, c200]);
+    names(&rt, &list, 3, &[key(&rt, 125)], &[c100]);
+    waves_are(&rt, rt.alloc(), &list, &[1, 2, 3, 4], &[1, 2, 3, 4]);
+}
+
+// What the records weigh on the books of this text, up to a bound.
+fn weight_on(
+    rt: &impl Abort,
+    alloc: Global,
+    text: &[u8],
+    records: &[Transmission],
+    most: u64,
+) -> u64 {
+    let opening = books(rt, alloc, text);
+    weight(alloc, &opening, records, most).expect(rt, "memory")
 }
 
 // C100 has three members and a claim, C200 one member: each earlier billing of the family adds one.
-// What the records weigh on the books of this text, up to a bound.
-fn weight_on(alloc: Global, text: &[u8], records: &[Transmission], most: u64) -> Result<u64, Fail> {
-    let opening = books(alloc, text)?;
-    Ok(weight(alloc, &opening, records, most)?)
+#[test]
+fn weights_counted_by_hand(rt: HostRuntime) {
+    let alloc = rt.alloc();
+    let fills = three_fills(&rt, alloc);
+    same(&rt, weight_on(&rt, alloc, BILLED, &fills, 1000), 4 + 5 + 6);
+    same(&rt, weight_on(&rt, alloc, OPENING, &fills, 1000), 1 + 2);
+    same(&rt, weight_on(&rt, alloc, BILLED, &fills, 9), 9);
+    same(&rt, weight_on(&rt, alloc, BILLED, &fills, 8), 8);
 }
 
 #[test]
-fn weights_counted_by_hand(rt: HostRuntime) -> Result<(), Fail> {
-    let alloc = rt.alloc();
-    let fills = three_fills(alloc)?;
-    assert_eq!(rt; weight_on(alloc, BILLED, &fills, 1000)?, 4 + 5 + 6);
-    assert_eq!(rt; weight_on(alloc, OPENING, &fills, 1000)?, 1 + 2);
-    assert_eq!(rt; weight_on(alloc, BILLED, &fills, 9)?, 9);
-    assert_eq!(rt; weight_on(alloc, BILLED, &fills, 8)?, 8);
-    Ok(())
+fn weight_of_a_fill_taken_back_and_billed_for_another_family(rt: HostRuntime) {
+    let records = billed_for_another_family(&rt, rt.alloc());
+    let weight = weight_on(&rt, rt.alloc(), BILLED, &records, 1000);
+    same(&rt, weight, 4 + 1 + (4 + 2));
 }
 
-#[test]
-fn weight_of_a_fill_taken_back_and_billed_for_another_family(rt: HostRuntime) -> Result<(), Fail> {
-    let alloc = rt.alloc();
-    let mut records = Vec::new(alloc);
-    put(&mut records, reversal(alloc, 123)?)?;
-    put(&mut records, bill(alloc, 123, family(b"C200")?)?)?;
-    put(&mut records, reversal(alloc, 123)?)?;
-    assert_eq!(rt; weight_on(alloc, BILLED, &records, 1000)?, 4 + 1 + (4 + 2));
-    Ok(())
-}
-
-#[test]
-fn five_hundred_families(rt: HostRuntime) -> Result<(), Fail> {
-    let alloc = rt.alloc();
+// Two records of each of five hundred families, the second ones after the first.
+fn two_of_each_family(rt: &impl Abort, alloc: Global) -> Vec<Transmission> {
     let mut records = Vec::new(alloc);
     for place in 1..1001 {
         let digits: [u8; 3] = digits_write(7 * place % 500 + 1);
-        put(&mut records, bill(alloc, place, family(&digits)?)?)?;
+        put(rt, &mut records, bill(rt, place, family(rt, &digits)));
     }
-    let list = footprints_on(alloc, OPENING, &records)?;
-    let waves = waves(alloc, &list)?;
-    assert_eq!(rt; waves.numbers.len(), 1000);
-    assert!(rt; waves.numbers.iter().take(500).all(|wave| *wave == 1));
-    assert!(rt; waves.numbers.iter().skip(500).all(|wave| *wave == 2));
-    assert_eq!(rt; waves.count, 2);
-    assert_eq!(rt; waves.chain.as_slice(), [1, 501].as_slice());
-    let mut queues = Queues::of(alloc, &list)?;
-    assert_eq!(rt; drive(&mut queues, 2000), 1000);
-    assert!(rt; queues.ready().is_none());
-    Ok(())
+    records
+}
+
+// Whether the first records, so many, are in wave 1, and the others in wave 2.
+fn are_in_two(numbers: &[usize], count: usize) -> bool {
+    numbers.iter().take(count).all(|wave| *wave == 1)
+        && numbers.iter().skip(count).all(|wave| *wave == 2)
 }
 
 #[test]
-fn empty_batch(rt: HostRuntime) -> Result<(), Fail> {
-    let alloc = rt.alloc();
-    let list = footprints_on(alloc, OPENING, &[])?;
-    assert_eq!(rt; list.len(), 0);
-    let waves = waves(alloc, &list)?;
-    assert_eq!(rt; waves.count, 0);
-    assert_eq!(rt; waves.numbers.len(), 0);
-    assert_eq!(rt; waves.chain.len(), 0);
-    assert!(rt; Queues::of(alloc, &list)?.ready().is_none());
-    Ok(())
+fn five_hundred_families(rt: HostRuntime) {
+    let records = two_of_each_family(&rt, rt.alloc());
+    let list = footprints_on(&rt, rt.alloc(), OPENING, &records);
+    let waves = waves(rt.alloc(), &list).expect(&rt, "memory");
+    same(&rt, waves.numbers.len(), 1000);
+    same(&rt, are_in_two(&waves.numbers, 500), true);
+    same(&rt, waves.count, 2);
+    same(&rt, waves.chain.as_slice(), [1, 501].as_slice());
+    all_go(&rt, rt.alloc(), &list, 1000);
 }
 
 #[test]
-fn rejected_headers_share_with_nobody(rt: HostRuntime) -> Result<(), Fail> {
-    let alloc = rt.alloc();
+fn empty_batch(rt: HostRuntime) {
+    let list = footprints_on(&rt, rt.alloc(), OPENING, &[]);
+    same(&rt, list.len(), 0);
+    waves_are(&rt, rt.alloc(), &list, &[], &[]);
+    all_go(&rt, rt.alloc(), &list, 0);
+}
+
+#[test]
+fn rejected_headers_share_with_nobody(rt: HostRuntime) {
+    let mut records = Vec::new(rt.alloc());
+    put_rejected(&rt, &mut records);
+    put_rejected(&rt, &mut records);
+    let list = footprints_on(&rt, rt.alloc(), BILLED, &records);
+    same(&rt, list.len(), 2);
+    names(&rt, &list, 0, &[], &[]);
+    names(&rt, &list, 1, &[], &[]);
+    waves_are(&rt, rt.alloc(), &list, &[1, 1], &[1]);
+}
+
+// Three hundred families bill under one key, and then it is taken back twenty times.
+fn billed_and_taken_back(rt: &impl Abort, alloc: Global) -> Vec<Transmission> {
     let mut records = Vec::new(alloc);
-    put_rejected(&mut records)?;
-    put_rejected(&mut records)?;
-    let list = footprints_on(alloc, BILLED, &records)?;
-    assert_eq!(rt; list.len(), 2);
-    assert!(rt; names(&list[0], &[], &[]));
-    assert!(rt; names(&list[1], &[], &[]));
-    let waves = waves(alloc, &list)?;
-    assert_eq!(rt; waves.numbers.as_slice(), [1, 1].as_slice());
-    assert_eq!(rt; waves.chain.as_slice(), [1].as_slice());
-    Ok(())
+    for place in 0..300 {
+        let digits: [u8; 3] = digits_write(place);
+        put(rt, &mut records, bill(rt, 7, family(rt, &digits)));
+    }
+    for _ in 0..20 {
+        put(rt, &mut records, reversal(rt, 7));
+    }
+    records
 }
 
 // How many footprints name so many families.
@@ -273,40 +285,47 @@ fn naming(list: &[Footprint], families: usize) -> usize {
 }
 
 #[test]
-fn reversals_after_three_hundred_billers(rt: HostRuntime) -> Result<(), Fail> {
-    let alloc = rt.alloc();
-    let mut records = Vec::new(alloc);
-    for place in 0..300 {
-        let digits: [u8; 3] = digits_write(place);
-        put(&mut records, bill(alloc, 7, family(&digits)?)?)?;
-    }
-    for _ in 0..20 {
-        put(&mut records, reversal(alloc, 7)?)?;
-    }
-    let list = footprints_on(alloc, OPENING, &records)?;
-    assert_eq!(rt; list.len(), 320);
-    assert_eq!(rt; naming(&list, 1), 300);
-    assert_eq!(rt; naming(&list, 300), 20);
-    let waves = waves(alloc, &list)?;
-    assert_eq!(rt; waves.count, 320);
-    assert_eq!(rt; waves.chain.len(), 320);
-    let mut queues = Queues::of(alloc, &list)?;
-    assert_eq!(rt; drive(&mut queues, 400), 320);
-    Ok(())
+fn reversals_after_three_hundred_billers(rt: HostRuntime) {
+    let records = billed_and_taken_back(&rt, rt.alloc());
+    let list = footprints_on(&rt, rt.alloc(), OPENING, &records);
+    same(&rt, list.len(), 320);
+    same(&rt, naming(&list, 1), 300);
+    same(&rt, naming(&list, 300), 20);
+    let waves = waves(rt.alloc(), &list).expect(&rt, "memory");
+    same(&rt, waves.count, 320);
+    same(&rt, waves.chain.len(), 320);
+    all_go(&rt, rt.alloc(), &list, 320);
 }
 
-// Hands out and passes the ready place at once, one after another, and says how many went.
+fn queues_of(rt: &impl Abort, alloc: Global, list: &[Footprint]) -> Queues {
+    Queues::of(alloc, list).expect(rt, "memory")
+}
+
+// Hands out the place that is ready and passes it at once, or tells that none is.
+fn pass_next(queues: &mut Queues) -> bool {
+    let Some(place) = queues.ready() else {
+        return false;
+    };
+    queues.hand();
+    queues.pass(place);
+    true
+}
+
+// How many places go so, one after another.
 fn drive(queues: &mut Queues, most: usize) -> usize {
     for went in 0..most {
-        match queues.ready() {
-            Some(place) => {
-                queues.hand();
-                queues.pass(place);
-            }
-            None => return went,
+        if !pass_next(queues) {
+            return went;
         }
     }
     most
+}
+
+// So many places of the footprints go, one after another, and then none is ready.
+fn all_go(rt: &impl Abort, alloc: Global, list: &[Footprint], count: usize) {
+    let mut queues = queues_of(rt, alloc, list);
+    same(rt, drive(&mut queues, 2000), count);
+    same(rt, queues.ready(), None);
 }
 
 // Hands out what is ready, and then passes it, the last of it first; it says how many went.
@@ -329,35 +348,39 @@ fn drive_back(queues: &mut Queues, most: usize) -> usize
     }
 }
 
+// So many go together.
+fn go_together(rt: &impl Abort, queues: &mut Queues, count: usize) {
+    same(rt, drive_back(queues, 9), count);
+}
+
 #[test]
-fn sharers_wait_for_each_other(rt: HostRuntime) -> Result<(), Fail> {
-    let alloc = rt.alloc();
-    let fills = three_fills(alloc)?;
-    let list = footprints_on(alloc, OPENING, &fills)?;
-    let mut queues = Queues::of(alloc, &list)?;
-    assert_eq!(rt; queues.ready(), Some(1));
-    assert_eq!(rt; drive_back(&mut queues, 9), 1);
-    assert_eq!(rt; queues.ready(), Some(2));
-    assert_eq!(rt; drive_back(&mut queues, 9), 1);
-    assert_eq!(rt; queues.ready(), Some(3));
-    assert_eq!(rt; drive_back(&mut queues, 9), 1);
-    assert!(rt; queues.ready().is_none());
-    Ok(())
+fn sharers_wait_for_each_other(rt: HostRuntime) {
+    let fills = three_fills(&rt, rt.alloc());
+    let list = footprints_on(&rt, rt.alloc(), OPENING, &fills);
+    let mut queues = queues_of(&rt, rt.alloc(), &list);
+    for place in [1, 2, 3] {
+        same(&rt, queues.ready(), Some(place));
+        go_together(&rt, &mut queues, 1);
+    }
+    same(&rt, queues.ready(), None);
 }
 
 // Three families with two records each.
-#[test]
-fn last_ready_goes_first(rt: HostRuntime) -> Result<(), Fail> {
-    let alloc = rt.alloc();
+fn two_of_three_families(rt: &impl Abort, alloc: Global) -> Vec<Transmission> {
     let mut records = Vec::new(alloc);
     for place in 0..6 {
         let digits: [u8; 3] = digits_write(place % 3);
-        put(&mut records, bill(alloc, place, family(&digits)?)?)?;
+        put(rt, &mut records, bill(rt, place, family(rt, &digits)));
     }
-    let list = footprints_on(alloc, OPENING, &records)?;
-    let mut queues = Queues::of(alloc, &list)?;
-    assert_eq!(rt; drive_back(&mut queues, 9), 3);
-    assert_eq!(rt; drive_back(&mut queues, 9), 3);
-    assert!(rt; queues.ready().is_none());
-    Ok(())
+    records
+}
+
+#[test]
+fn last_ready_goes_first(rt: HostRuntime) {
+    let records = two_of_three_families(&rt, rt.alloc());
+    let list = footprints_on(&rt, rt.alloc(), OPENING, &records);
+    let mut queues = queues_of(&rt, rt.alloc(), &list);
+    go_together(&rt, &mut queues, 3);
+    go_together(&rt, &mut queues, 3);
+    same(&rt, queues.ready(), None);
 }

@@ -1,3 +1,5 @@
+// The shelf: what is taken from it and given back, by hand.
+use crate::same::same;
 use rx_books_kept::Books;
 use rx_books_shelf::{Shelf, TakeFault};
 use rx_claim::Amounts;
@@ -7,211 +9,240 @@ use rx_fields::{
 use rx_ledger::{Ledger, Member, Row};
 use rx_parcels::{Footprint, Parcel};
 use std::alloc::Global;
-use std::test::Fail;
+use std::process::Abort;
 
-fn member(family: &[u8], person: &[u8]) -> Result<Member, Fail> {
-    let (first, last) = (date_read(b"20260101")?, date_read(b"20261231")?);
-    Ok(Member::new(Id::new(family, 20)?, Person::new(person)?, first, last).ok_or("a member")?)
+fn year(rt: &impl Abort, first: &[u8], last: &[u8]) -> Period {
+    let (first, last) = (date_read(first), date_read(last));
+    let (first, last) = (first.expect(rt, "a date"), last.expect(rt, "a date"));
+    Period::new(first, last).expect(rt, "a period")
 }
 
-fn year(first: &[u8], last: &[u8]) -> Result<Period, Fail> {
-    Ok(Period::new(date_read(first)?, date_read(last)?).ok_or("a period")?)
+fn id(rt: &impl Abort, text: &[u8]) -> Id {
+    Id::new(text, 20).expect(rt, "an id")
+}
+
+fn c100(rt: &impl Abort) -> Id {
+    id(rt, b"C100")
+}
+
+fn person(rt: &impl Abort, text: &[u8]) -> Person {
+    Person::new(text).expect(rt, "a person")
+}
+
+fn key(rt: &impl Abort, reference: u64) -> Key {
+    let provider = Provider::new(b"1234567893").expect(rt, "a provider");
+    let reference = Reference::new(reference).expect(rt, "a reference");
+    let date = date_read(b"20260228").expect(rt, "a date");
+    Key {
+        provider,
+        reference,
+        date,
+    }
+}
+
+fn member(rt: &impl Abort, family: &[u8], code: &[u8]) -> Member {
+    let first = date_read(b"20260101").expect(rt, "a date");
+    let last = date_read(b"20261231").expect(rt, "a date");
+    Member::new(id(rt, family), person(rt, code), first, last).expect(rt, "a member")
+}
+
+fn enroll(rt: &impl Abort, ledger: &mut Ledger, member: Member) {
+    ledger.add_member(member).expect(rt, "a new member");
 }
 
 // The opening books of case one-billing.
-fn opening(alloc: Global) -> Result<Books, Fail> {
-    opening_with(alloc, b"03")
+fn opening(rt: &impl Abort, alloc: Global) -> Books {
+    opening_with(rt, alloc, b"03")
 }
 
 // The same, where the third person of C100 has another code.
-fn opening_with(alloc: Global, third: &[u8]) -> Result<Books, Fail> {
+fn opening_with(rt: &impl Abort, alloc: Global, third: &[u8]) -> Books {
+    let period = year(rt, b"20260101", b"20261231");
+    let ledger = listed(rt, alloc, third);
+    Books::from_ledger(alloc, &ledger, period).expect(rt, "memory")
+}
+
+// Their members.
+fn listed(rt: &impl Abort, alloc: Global, third: &[u8]) -> Ledger {
     let mut ledger = Ledger::new(alloc);
-    ledger.add_member(member(b"C100", b"01")?)?;
-    ledger.add_member(member(b"C100", b"02")?)?;
-    ledger.add_member(member(b"C100", third)?)?;
-    ledger.add_member(member(b"C200", b"01")?)?;
-    Ok(Books::from_ledger(alloc, &ledger, year(b"20260101", b"20261231")?)?)
-}
-
-fn key(reference: u64) -> Result<Key, Fail> {
-    Ok(Key {
-        provider: Provider::new(b"1234567893")?,
-        reference: Reference::new(reference).ok_or("a reference")?,
-        date: date_read(b"20260228")?,
-    })
-}
-
-fn c100() -> Result<Id, Fail> {
-    Ok(Id::new(b"C100", 20)?)
+    enroll(rt, &mut ledger, member(rt, b"C100", b"01"));
+    enroll(rt, &mut ledger, member(rt, b"C100", b"02"));
+    enroll(rt, &mut ledger, member(rt, b"C100", third));
+    enroll(rt, &mut ledger, member(rt, b"C200", b"01"));
+    ledger
 }
 
 // The footprint of a fill of C100.
-fn footprint(alloc: Global, reference: u64) -> Result<Footprint, Fail> {
-    let mut keys = Vec::new(alloc);
-    keys.push(key(reference)?)?;
-    let mut families = Vec::new(alloc);
-    families.push(c100()?)?;
-    Ok(Footprint::new(keys, families).ok_or("in order")?)
+fn footprint(rt: &impl Abort, alloc: Global, reference: u64) -> Footprint {
+    let keys = [key(rt, reference)].to_vec(alloc).expect(rt, "memory");
+    let families = [c100(rt)].to_vec(alloc).expect(rt, "memory");
+    Footprint::new(keys, families).expect(rt, "in order")
 }
 
 // The footprints of case three-fills-reach-the-family-maximum.
-fn three_fills(alloc: Global) -> Result<Vec<Footprint>, Fail> {
+fn three_fills(rt: &impl Abort, alloc: Global) -> Vec<Footprint> {
     let mut footprints = Vec::new(alloc);
-    footprints.push(footprint(alloc, 201)?)?;
-    footprints.push(footprint(alloc, 202)?)?;
-    footprints.push(footprint(alloc, 203)?)?;
-    Ok(footprints)
+    for reference in [201, 202, 203] {
+        let footprint = footprint(rt, alloc, reference);
+        footprints.push(footprint).expect(rt, "memory");
+    }
+    footprints
+}
+
+// The shelf of these books for the three fills.
+fn shelf_of(rt: &impl Abort, alloc: Global, books: Books) -> Shelf {
+    let footprints = three_fills(rt, alloc);
+    Shelf::of(alloc, books, &footprints).expect(rt, "memory")
 }
 
 // The shelf of the case shelf-by-hand.
-fn shelf(alloc: Global) -> Result<Shelf, Fail> {
-    let footprints = three_fills(alloc)?;
-    Ok(Shelf::of(alloc, opening(alloc)?, &footprints)?)
+fn shelf(rt: &impl Abort, alloc: Global) -> Shelf {
+    shelf_of(rt, alloc, opening(rt, alloc))
 }
 
 // The parcel of a fill, taken from a shelf.
-fn taken(alloc: Global, shelf: &mut Shelf, reference: u64) -> Result<Parcel, Fail> {
-    let footprint = footprint(alloc, reference)?;
-    match shelf.take(alloc, &footprint) {
-        Ok(parcel) => Ok(parcel),
-        Err(_) => Err(Fail::from("taken")),
-    }
+fn taken(rt: &impl Abort, alloc: Global, shelf: &mut Shelf, reference: u64) -> Parcel {
+    let footprint = footprint(rt, alloc, reference);
+    shelf.take(alloc, &footprint).expect(rt, "taken")
+}
+
+fn give(rt: &impl Abort, shelf: &mut Shelf, parcel: Parcel) {
+    shelf.give(parcel).expect(rt, "given back");
 }
 
 // The parcel of the first fill, from a shelf of these books.
-fn first_of(alloc: Global, books: Books) -> Result<Parcel, Fail> {
-    let footprints = three_fills(alloc)?;
-    let mut other = Shelf::of(alloc, books, &footprints)?;
-    taken(alloc, &mut other, 201)
+fn first_of(rt: &impl Abort, alloc: Global, books: Books) -> Parcel {
+    let mut other = shelf_of(rt, alloc, books);
+    taken(rt, alloc, &mut other, 201)
 }
 
 // The parcel of the first fill, from another shelf of the same books.
-fn twin(alloc: Global) -> Result<Parcel, Fail> {
-    first_of(alloc, opening(alloc)?)
+fn twin(rt: &impl Abort, alloc: Global) -> Parcel {
+    first_of(rt, alloc, opening(rt, alloc))
 }
 
 // The same, where the books were copied to the next year.
-fn next_years(alloc: Global) -> Result<Parcel, Fail> {
-    let later = opening(alloc)?.copy(alloc, year(b"20270101", b"20271231")?)?;
-    first_of(alloc, later)
+fn next_years(rt: &impl Abort, alloc: Global) -> Parcel {
+    let books = opening(rt, alloc);
+    let later = books.copy(alloc, year(rt, b"20270101", b"20271231"));
+    first_of(rt, alloc, later.expect(rt, "memory"))
 }
 
-// The books that the shelf closes to, where its books agree and it doesn't come back.
-fn closed(shelf: Shelf) -> Option<Books> {
+// The books that the shelf closes to: its books agree, and it doesn't come back.
+fn closed(rt: &impl Abort, shelf: Shelf) -> Books {
     if !shelf.agrees() {
-        return None;
+        panic!(rt; "books that agree");
     }
-    shelf.close().ok()
+    shelf.close().expect(rt, "closed")
 }
 
-// The row that the first of the three fills adds.
-fn first_fill() -> Result<Row, Fail> {
-    fill_of(b"01")
+// A shelf whose parcel of the first fill is out, and was let go.
+fn lent(rt: &impl Abort, alloc: Global) -> Shelf {
+    let mut shelf = shelf(rt, alloc);
+    let _out = taken(rt, alloc, &mut shelf, 201);
+    shelf
 }
 
-// The same, of another person.
-fn fill_of(person: &[u8]) -> Result<Row, Fail> {
-    let amounts = Amounts {
-        ingredient_cost: 30_000,
-        dispensing_fee: 175,
-        deductible: 10_000,
-        copay: 3000,
-        coinsurance: 0,
-    };
+const AMOUNTS: Amounts = Amounts {
+    ingredient_cost: 30_000,
+    dispensing_fee: 175,
+    deductible: 10_000,
+    copay: 3000,
+    coinsurance: 0,
+};
+
+// The row that the first of the three fills adds, of this person.
+fn fill_of(rt: &impl Abort, code: &[u8]) -> Row {
+    let product = Product::new(b"00002000202").expect(rt, "a product");
+    let quantity = Quantity::new(30_000).expect(rt, "a quantity");
+    let days = Days::new(30).expect(rt, "days");
+    let number = Authorization::new(4_200_000_011).expect(rt, "a number");
+    let (key, family, person) = (key(rt, 201), c100(rt), person(rt, code));
     let row = Row::new(
-        key(201)?,
-        c100()?,
-        Person::new(person)?,
-        Product::new(b"00002000202").ok_or("a product")?,
-        Quantity::new(30_000).ok_or("a quantity")?,
-        Days::new(30).ok_or("days")?,
-        amounts,
-        Authorization::new(4_200_000_011).ok_or("a number")?,
+        key, family, person, product, quantity, days, AMOUNTS, number,
     );
-    Ok(row.ok_or("within the limits")?)
+    row.expect(rt, "within the limits")
+}
+
+// Adds the row to the parcel, whose books agree and have its key and family, where the key is free and the member listed.
+fn put(rt: &impl Abort, parcel: &mut Parcel, row: Row) {
+    assert!(rt; parcel.agrees(), "books that agree");
+    assert!(rt; parcel.has_key(&row.key), "the book of the key");
+    assert!(rt; parcel.has_family(&row.family), "the book of the family");
+    assert!(rt; parcel.row(&row.key).is_none(), "a free key");
+    let member = parcel.member(&row.family, &row.person);
+    assert!(rt; member.is_some(), "a listed member");
+    parcel.add(row).expect(rt, "memory");
 }
 
 #[test]
-fn a_book_that_is_out_is_absent(rt: HostRuntime) -> Result<(), Fail> {
-    let mut shelf = shelf(rt.alloc())?;
-    let _out = taken(rt.alloc(), &mut shelf, 201)?;
-    let second = footprint(rt.alloc(), 202)?;
-    assert_eq!(rt;
-        shelf.take(rt.alloc(), &second).err(),
-        Some(TakeFault::Absent)
-    );
-    assert!(rt; !shelf.agrees());
-    Ok(())
+fn a_book_that_is_out_is_absent(rt: HostRuntime) {
+    let mut shelf = lent(&rt, rt.alloc());
+    let second = footprint(&rt, rt.alloc(), 202);
+    let fault = shelf.take(rt.alloc(), &second).err();
+    same(&rt, fault, Some(TakeFault::Absent));
+    same(&rt, shelf.agrees(), false);
 }
 
 #[test]
-fn what_was_given_back_can_be_taken(rt: HostRuntime) -> Result<(), Fail> {
-    let mut shelf = shelf(rt.alloc())?;
-    let first = taken(rt.alloc(), &mut shelf, 201)?;
-    assert!(rt; shelf.give(first).is_ok());
-    let second = taken(rt.alloc(), &mut shelf, 202)?;
-    assert!(rt; shelf.give(second).is_ok());
-    assert!(rt; closed(shelf).ok_or("closed")? == opening(rt.alloc())?);
-    Ok(())
-}
-
-#[test]
-fn a_stranger_comes_back_while_nothing_is_out(rt: HostRuntime) -> Result<(), Fail> {
-    let mut shelf = shelf(rt.alloc())?;
-    let back = shelf.give(twin(rt.alloc())?);
-    assert_eq!(rt; back.err().map(|fault| fault.code()), Some(1));
-    Ok(())
-}
-
-#[test]
-fn a_parcel_of_another_shelf_is_accepted_for_an_equal_one(rt: HostRuntime) -> Result<(), Fail> {
-    let mut shelf = shelf(rt.alloc())?;
-    let first = taken(rt.alloc(), &mut shelf, 201)?;
-    let twin = twin(rt.alloc())?;
-    assert!(rt; first == twin);
-    assert!(rt; shelf.give(twin).is_ok());
-    Ok(())
-}
-
-#[test]
-fn a_parcel_of_another_period_comes_back(rt: HostRuntime) -> Result<(), Fail> {
-    let mut shelf = shelf(rt.alloc())?;
-    let _out = taken(rt.alloc(), &mut shelf, 201)?;
-    assert!(rt; shelf.give(next_years(rt.alloc())?).is_err());
-    Ok(())
-}
-
-fn put(parcel: &mut Parcel, row: Row) -> Result<(), Fail> {
-    if !parcel.agrees() || !parcel.has_key(&row.key) || !parcel.has_family(&row.family) {
-        return Err(Fail::from("the books of the row"));
+fn what_was_given_back_can_be_taken(rt: HostRuntime) {
+    let mut shelf = shelf(&rt, rt.alloc());
+    for reference in [201, 202] {
+        let parcel = taken(&rt, rt.alloc(), &mut shelf, reference);
+        give(&rt, &mut shelf, parcel);
     }
-    if parcel.row(&row.key).is_some() || parcel.member(&row.family, &row.person).is_none() {
-        return Err(Fail::from("a free key and a listed member"));
-    }
-    Ok(parcel.add(row)?)
+    same(&rt, closed(&rt, shelf), opening(&rt, rt.alloc()));
 }
 
-// The books after the first fill was added to its parcel.
-fn filled(alloc: Global) -> Result<Books, Fail> {
-    let mut shelf = shelf(alloc)?;
-    let mut parcel = taken(alloc, &mut shelf, 201)?;
-    put(&mut parcel, first_fill()?)?;
-    match shelf.give(parcel) {
-        Ok(()) => Ok(closed(shelf).ok_or("closed")?),
-        Err(_) => Err(Fail::from("given back")),
-    }
+#[test]
+fn a_stranger_comes_back_while_nothing_is_out(rt: HostRuntime) {
+    let stranger = twin(&rt, rt.alloc());
+    let mut shelf = shelf(&rt, rt.alloc());
+    let fault = shelf.give(stranger).expect_err(&rt, "a stranger");
+    same(&rt, fault.code(), 1);
+}
+
+#[test]
+fn a_parcel_of_another_shelf_is_accepted_for_an_equal_one(rt: HostRuntime) {
+    let mut shelf = shelf(&rt, rt.alloc());
+    let first = taken(&rt, rt.alloc(), &mut shelf, 201);
+    let twin = twin(&rt, rt.alloc());
+    same(&rt, first == twin, true);
+    give(&rt, &mut shelf, twin);
+}
+
+#[test]
+fn a_parcel_of_another_period_comes_back(rt: HostRuntime) {
+    let later = next_years(&rt, rt.alloc());
+    let mut shelf = lent(&rt, rt.alloc());
+    same(&rt, shelf.give(later).is_err(), true);
+}
+
+// The books of a shelf that was given this parcel in the place of its own of the first fill.
+fn after(rt: &impl Abort, alloc: Global, parcel: Parcel) -> Books {
+    let mut shelf = lent(rt, alloc);
+    give(rt, &mut shelf, parcel);
+    closed(rt, shelf)
+}
+
+// The parcel of the first fill with that fill, of the person 01.
+fn filled(rt: &impl Abort, shelf: &mut Shelf, alloc: Global) {
+    let row = fill_of(rt, b"01");
+    let mut parcel = taken(rt, alloc, shelf, 201);
+    put(rt, &mut parcel, row);
+    give(rt, shelf, parcel);
 }
 
 // The first record of case three-fills-reach-the-family-maximum: F5 13000, FH 10000.
 #[test]
-fn what_is_added_to_a_parcel_is_in_the_books(rt: HostRuntime) -> Result<(), Fail> {
-    let (key, fill) = (key(201)?, first_fill()?);
-    let (family, person) = (c100()?, Person::new(b"01")?);
-    let books = filled(rt.alloc())?;
-    assert_eq!(rt; books.row(&key).copied(), Some(fill));
-    assert_eq!(rt; books.out_of_pocket(&family), Some(13_000));
-    assert_eq!(rt; books.deductible(&family, &person), Some(10_000));
-    Ok(())
+fn what_is_added_to_a_parcel_is_in_the_books(rt: HostRuntime) {
+    let (fill, family, person) = (fill_of(&rt, b"01"), c100(&rt), person(&rt, b"01"));
+    let mut shelf = shelf(&rt, rt.alloc());
+    filled(&rt, &mut shelf, rt.alloc());
+    let books = closed(&rt, shelf);
+    same(&rt, books.row(&fill.key).copied(), Some(fill));
+    same(&rt, books.out_of_pocket(&family), Some(13_000));
+    same(&rt, books.deductible(&family, &person), Some(10_000));
 }
 
 // The text of the books where C100 has the persons 01, 02 and 04, and the fill is of the last of these.
@@ -224,64 +255,64 @@ C|1234567893|201|20260228|C100|04|00002000202|30000|30|30000|175|10000|3000|0|00
 T|C100|13000|10000\n\
 T|C200|0|0\n";
 
-// The books of a shelf that was given a parcel with other members, which is accepted for its name and period.
-fn with_other_members(alloc: Global) -> Result<Books, Fail> {
-    let shelf = given(alloc, with_other_member(alloc)?)?;
-    Ok(closed(shelf).ok_or("closed")?)
-}
-
 // The parcel of the first fill, from a shelf of books where the third person has another code, with a fill of that one.
-fn with_other_member(alloc: Global) -> Result<Parcel, Fail> {
-    let fill = fill_of(b"04")?;
-    let mut other = first_of(alloc, opening_with(alloc, b"04")?)?;
-    put(&mut other, fill)?;
-    Ok(other)
+fn with_other_member(rt: &impl Abort, alloc: Global) -> Parcel {
+    let fill = fill_of(rt, b"04");
+    let mut other = first_of(rt, alloc, opening_with(rt, alloc, b"04"));
+    put(rt, &mut other, fill);
+    other
 }
 
-// A shelf that was given this parcel in the place of its own.
-fn given(alloc: Global, parcel: Parcel) -> Result<Shelf, Fail> {
-    let mut shelf = lent(alloc)?;
-    match shelf.give(parcel) {
-        Ok(()) => Ok(shelf),
-        Err(_) => Err(Fail::from("given")),
-    }
-}
-
-// A shelf whose parcel of the first fill is out, and was let go.
-fn lent(alloc: Global) -> Result<Shelf, Fail> {
-    let mut shelf = shelf(alloc)?;
-    let _out = taken(alloc, &mut shelf, 201)?;
-    Ok(shelf)
+// The books of a shelf that was given a parcel with other members, which is accepted for its name and period.
+fn with_other_members(rt: &impl Abort, alloc: Global) -> Books {
+    after(rt, alloc, with_other_member(rt, alloc))
 }
 
 #[test]
-fn other_members_are_in_the_books(rt: HostRuntime) -> Result<(), Fail> {
-    let (key, fill) = (key(201)?, fill_of(b"04")?);
-    let (family, person, third) = (c100()?, Person::new(b"04")?, Person::new(b"03")?);
-    let books = with_other_members(rt.alloc())?;
-    assert_eq!(rt; books.row(&key).copied(), Some(fill));
-    assert_eq!(rt; books.out_of_pocket(&family), Some(13_000));
-    assert_eq!(rt; books.family_deductible(&family), Some(10_000));
-    assert_eq!(rt; books.deductible(&family, &person), Some(10_000));
-    assert_eq!(rt; books.deductible(&family, &third), None);
-    assert!(rt; books.write(rt.alloc())?.as_slice() == OTHER_MEMBERS);
-    Ok(())
+fn other_members_are_in_the_books(rt: HostRuntime) {
+    let fill = fill_of(&rt, b"04");
+    let (family, person, third) = (c100(&rt), person(&rt, b"04"), person(&rt, b"03"));
+    let books = with_other_members(&rt, rt.alloc());
+    same(&rt, books.row(&fill.key).copied(), Some(fill));
+    same(&rt, books.out_of_pocket(&family), Some(13_000));
+    same(&rt, books.family_deductible(&family), Some(10_000));
+    same(&rt, books.deductible(&family, &person), Some(10_000));
+    same(&rt, books.deductible(&family, &third), None);
 }
 
 #[test]
-fn books_with_other_members_are_those_of_their_text(rt: HostRuntime) -> Result<(), Fail> {
-    let books = with_other_members(rt.alloc())?;
-    let read = Books::read(rt.alloc(), OTHER_MEMBERS)?;
-    assert!(rt; books == read && read == books);
-    assert!(rt; books != opening(rt.alloc())?);
-    assert!(rt; books.copy(rt.alloc(), books.period())? == read);
-    assert!(rt; books.open(rt.alloc(), &[])?.close() == read);
-    Ok(())
+fn other_members_are_in_the_text(rt: HostRuntime) {
+    let books = with_other_members(&rt, rt.alloc());
+    let text = books.write(rt.alloc()).expect(&rt, "memory");
+    same(&rt, text.as_slice(), OTHER_MEMBERS);
+}
+
+// The books of that text.
+fn read(rt: &impl Abort, alloc: Global) -> Books {
+    Books::read(alloc, OTHER_MEMBERS).expect(rt, "books")
+}
+
+// A copy of the books, of their period.
+fn copied(rt: &impl Abort, alloc: Global, books: &Books) -> Books {
+    books.copy(alloc, books.period()).expect(rt, "memory")
+}
+
+// The books, opened and closed again.
+fn reopened(rt: &impl Abort, alloc: Global, books: Books) -> Books {
+    books.open(alloc, &[]).expect(rt, "memory").close()
 }
 
 #[test]
-fn faults_have_their_codes(rt: HostRuntime) -> Result<(), Fail> {
-    assert_eq!(rt; TakeFault::Absent.code(), 1);
-    assert_eq!(rt; TakeFault::Memory.code(), 2);
-    Ok(())
+fn books_with_other_members_are_those_of_their_text(rt: HostRuntime) {
+    let (books, read) = (with_other_members(&rt, rt.alloc()), read(&rt, rt.alloc()));
+    same(&rt, books == read && read == books, true);
+    same(&rt, books != opening(&rt, rt.alloc()), true);
+    same(&rt, copied(&rt, rt.alloc(), &books) == read, true);
+    same(&rt, reopened(&rt, rt.alloc(), books), read);
+}
+
+#[test]
+fn faults_have_their_codes(rt: HostRuntime) {
+    same(&rt, TakeFault::Absent.code(), 1);
+    same(&rt, TakeFault::Memory.code(), 2);
 }

@@ -1,12 +1,9 @@
-use Rattle.rx_books_shelf.proofs.TakenPlaces.{key_emptied_is}
+use Rattle.std.proofs.Common.{[], ◌∷◌, ◌∙◌}
+use Rattle.rx_books_shelf.proofs.TakenPlaces.{keys_emptied_are}
 use Rattle.rx_books_shelf.proofs.keys.take_key.Goals as goal
 
-pub returns-in-Ok-clause-places : goal.returns-in-Ok-clause-places
-returns-in-Ok-clause-places c =
-    key_emptied_is c.args.key c.args.places.now c.replace.new.self c.replace.result c.replace.ensures.value c.replace.ensures.ok
-    c.replace.ensures.err c.replace.ensures.ascending
+pub returns-in_err-take-clause-places : goal.returns-in_err-take-clause-places
+returns-in_err-take-clause-places c = c.take.ensures.places ∙ keys_emptied_are (c.args.key ∷ []) c.args.places.now
 
-pub returns-in-Err-clause-places : goal.returns-in-Err-clause-places
-returns-in-Err-clause-places c =
-    key_emptied_is c.args.key c.args.places.now c.replace.new.self c.replace.result c.replace.ensures.value c.replace.ensures.ok
-    c.replace.ensures.err c.replace.ensures.ascending
+pub returns-clause-places : goal.returns-clause-places
+returns-clause-places c = c.take.ensures.places ∙ keys_emptied_are (c.args.key ∷ []) c.args.places.now

@@ -5,7 +5,7 @@ use Rattle.rx_in_order.specs.Underway.{IsAwaited}
 use Rattle.rx_order_tests.proofs.in_order.answer_all.Given as goal
 
 abbrev pub invariant-loop-at : goal.invariant-loop-at
-invariant-loop-at l =
+invariant-loop-at g l =
     record {
       period : l.order.books.period ≡ l.sheet.figures.period;
       awaited : All (IsAwaited l.order) l.asked;
