@@ -6,47 +6,61 @@ use rx_fields::{
 use rx_ledger::{Member, MemberKey, Row};
 use rx_parcels::{Family, Few, Footprint, KeyBook, Parcel, counted_in};
 use std::alloc::Global;
-use std::test::Fail;
+use std::fmt::Debug;
+use std::process::Abort;
 
-// Whether two values are one. They are compared here, since each place that compares by itself is dear to prove.
-fn are_same<T: PartialEq>(one: &T, other: &T) -> bool {
-    one == other
+// What the first expression gives is what the second gives.
+macro_rules! same {
+    ($rt:expr; $given:expr, $wanted:expr) => {
+        are_same(&$rt, &$given, &$wanted)
+    };
 }
 
-fn period(first: &[u8], last: &[u8]) -> Result<Period, Fail> {
-    Ok(Period::new(date_read(first)?, date_read(last)?).ok_or("a period")?)
+// Values are compared here, since each place that compares by itself is dear to prove.
+fn are_same<T: PartialEq + Debug>(rt: &impl Abort, given: &T, wanted: &T) {
+    assert_eq!(rt; *given, *wanted);
 }
 
-fn this_year() -> Result<Period, Fail> {
-    period(b"20260101", b"20261231")
+fn differ<T: PartialEq + Debug>(rt: &impl Abort, one: &T, other: &T) {
+    assert_ne!(rt; *one, *other);
 }
 
-fn next_year() -> Result<Period, Fail> {
-    period(b"20270101", b"20271231")
+fn period(rt: &impl Abort, first: &[u8], last: &[u8]) -> Period {
+    let first = date_read(first).expect(rt, "a date");
+    let last = date_read(last).expect(rt, "a date");
+    Period::new(first, last).expect(rt, "a period")
 }
 
-fn id(text: &[u8]) -> Result<Id, Fail> {
-    Ok(Id::new(text, 20)?)
+fn this_year(rt: &impl Abort) -> Period {
+    period(rt, b"20260101", b"20261231")
 }
 
-fn person(text: &[u8]) -> Result<Person, Fail> {
-    Ok(Person::new(text)?)
+fn next_year(rt: &impl Abort) -> Period {
+    period(rt, b"20270101", b"20271231")
 }
 
-fn dated(reference: u64, date: &[u8]) -> Result<Key, Fail> {
-    Ok(Key {
-        provider: Provider::new(b"1234567893")?,
-        reference: Reference::new(reference).ok_or("a reference")?,
-        date: date_read(date)?,
-    })
+fn id(rt: &impl Abort, text: &[u8]) -> Id {
+    Id::new(text, 20).expect(rt, "an id")
 }
 
-fn key(reference: u64) -> Result<Key, Fail> {
-    dated(reference, b"20260228")
+fn person(rt: &impl Abort, text: &[u8]) -> Person {
+    Person::new(text).expect(rt, "a person")
+}
+
+fn dated(rt: &impl Abort, reference: u64, date: &[u8]) -> Key {
+    Key {
+        provider: Provider::new(b"1234567893").expect(rt, "a provider"),
+        reference: Reference::new(reference).expect(rt, "a reference"),
+        date: date_read(date).expect(rt, "a date"),
+    }
+}
+
+fn key(rt: &impl Abort, reference: u64) -> Key {
+    dated(rt, reference, b"20260228")
 }
 
 // The claim of one-billing under this key, for person 01 of the family.
-fn claim(key: Key, family: &[u8]) -> Result<Row, Fail> {
+fn claim(rt: &impl Abort, key: Key, family: &[u8]) -> Row {
     let amounts = Amounts {
         ingredient_cost: 30_000,
         dispensing_fee: 175,
@@ -56,376 +70,385 @@ fn claim(key: Key, family: &[u8]) -> Result<Row, Fail> {
     };
     let row = Row::new(
         key,
-        id(family)?,
-        person(b"01")?,
-        Product::new(b"00002000202").ok_or("a product")?,
-        Quantity::new(30_000).ok_or("a quantity")?,
-        Days::new(30).ok_or("days")?,
+        id(rt, family),
+        person(rt, b"01"),
+        Product::new(b"00002000202").expect(rt, "a product"),
+        Quantity::new(30_000).expect(rt, "a quantity"),
+        Days::new(30).expect(rt, "days"),
         amounts,
-        Authorization::new(4_200_000_011).ok_or("a number")?,
+        Authorization::new(4_200_000_011).expect(rt, "a number"),
     );
-    Ok(row.ok_or("within the limits")?)
+    row.expect(rt, "within the limits")
 }
 
-fn enroll(book: &mut Family, text: &[u8]) -> Result<(), Fail> {
-    let (family, person, coverage) = (book.family(), person(text)?, this_year()?);
+fn one_billing(rt: &impl Abort) -> Row {
+    claim(rt, key(rt, 123), b"C100")
+}
+
+fn enroll(rt: &impl Abort, book: &mut Family, text: &[u8]) {
+    let (family, person, coverage) = (book.family(), person(rt, text), this_year(rt));
     let key = MemberKey { family, person };
-    if book.is_past(&person) {
-        return Ok(book.add_member(Member { key, coverage })?);
-    }
-    Err(Fail::from("a member after the others"))
+    assert!(rt; book.is_past(&person), "a member after the others");
+    book.add_member(Member { key, coverage })
+        .expect(rt, "memory");
 }
 
-fn stand(book: &mut Family, row: Row) -> Result<(), Fail> {
-    if book.can_add(&row) {
-        return Ok(book.add(row)?);
-    }
-    Err(Fail::from("a free key and a listed member"))
+fn stand(rt: &impl Abort, book: &mut Family, row: Row) {
+    assert!(rt; book.can_add(&row), "a free key and a listed member");
+    book.add(row).expect(rt, "memory");
 }
 
 // The book of a family with the persons 01 and 02.
-fn book(alloc: Global, family: &[u8]) -> Result<Family, Fail> {
-    let mut book = Family::new(alloc, id(family)?, this_year()?);
-    enroll(&mut book, b"01")?;
-    enroll(&mut book, b"02")?;
-    Ok(book)
+fn book(rt: &impl Abort, alloc: Global, family: &[u8]) -> Family {
+    let mut book = Family::new(alloc, id(rt, family), this_year(rt));
+    enroll(rt, &mut book, b"01");
+    enroll(rt, &mut book, b"02");
+    book
 }
 
 // The book of a family with one-billing's claim under a key.
-fn book_with(alloc: Global, family: &[u8], reference: u64) -> Result<Family, Fail> {
-    let mut book = book(alloc, family)?;
-    stand(&mut book, claim(key(reference)?, family)?)?;
-    Ok(book)
+fn book_with(rt: &impl Abort, alloc: Global, family: &[u8], reference: u64) -> Family {
+    let mut book = book(rt, alloc, family);
+    stand(rt, &mut book, claim(rt, key(rt, reference), family));
+    book
 }
 
 fn key_book(key: Key, row: Option<Row>) -> Few<KeyBook> {
     Few::One(KeyBook { key, row })
 }
 
-fn parcel_of(keys: Few<KeyBook>, families: Few<Family>) -> Result<Parcel, Fail> {
-    let period = this_year()?;
-    if Parcel::are_books(period, keys.as_slice(), families.as_slice()) {
-        return Ok(Parcel::new(period, keys, families));
-    }
-    Err(Fail::from("books of a parcel"))
+fn parcel_of(rt: &impl Abort, keys: Few<KeyBook>, families: Few<Family>) -> Parcel {
+    let period = this_year(rt);
+    assert!(rt; Parcel::are_books(period, keys.as_slice(), families.as_slice()));
+    Parcel::new(period, keys, families)
 }
 
 // The key of reference 123 without a row, and the family C100.
-fn opening(alloc: Global) -> Result<Parcel, Fail> {
-    parcel_of(key_book(key(123)?, None), Few::One(book(alloc, b"C100")?))
+fn opening(rt: &impl Abort, alloc: Global) -> Parcel {
+    let keys = key_book(key(rt, 123), None);
+    parcel_of(rt, keys, Few::One(book(rt, alloc, b"C100")))
 }
 
-fn put(parcel: &mut Parcel, row: Row) -> Result<(), Fail> {
-    if !parcel.agrees() || !parcel.has_key(&row.key) || !parcel.has_family(&row.family) {
-        return Err(Fail::from("the books of the row"));
-    }
-    if parcel.row(&row.key).is_some() || parcel.member(&row.family, &row.person).is_none() {
-        return Err(Fail::from("a free key and a listed member"));
-    }
-    Ok(parcel.add(row)?)
+fn put(rt: &impl Abort, parcel: &mut Parcel, row: Row) {
+    assert!(rt; parcel.agrees());
+    assert!(rt; parcel.has_key(&row.key) && parcel.has_family(&row.family));
+    assert!(rt; parcel.row(&row.key).is_none(), "a free key");
+    assert!(rt;
+        parcel.member(&row.family, &row.person).is_some(),
+        "a listed member"
+    );
+    parcel.add(row).expect(rt, "memory");
 }
 
-fn take_out(parcel: &mut Parcel, key: &Key) -> Result<(), Fail> {
-    let Some(row) = parcel.row(key) else {
-        return Err(Fail::from("a row under the key"));
-    };
-    if !parcel.agrees() || !parcel.has_key(key) || !parcel.has_family(&row.family) {
-        return Err(Fail::from("the books of the row"));
-    }
+fn take_out(rt: &impl Abort, parcel: &mut Parcel, key: &Key) {
+    let row = parcel.row(key).expect(rt, "a row under the key");
+    assert!(rt; parcel.agrees());
+    assert!(rt; parcel.has_key(key) && parcel.has_family(&row.family));
     parcel.remove(key);
-    Ok(())
 }
 
 // The opening with one-billing's claim put in.
-fn after_one_billing(alloc: Global) -> Result<Parcel, Fail> {
-    let mut parcel = opening(alloc)?;
-    put(&mut parcel, claim(key(123)?, b"C100")?)?;
-    Ok(parcel)
+fn after_one_billing(rt: &impl Abort, alloc: Global) -> Parcel {
+    let mut parcel = opening(rt, alloc);
+    put(rt, &mut parcel, one_billing(rt));
+    parcel
 }
 
 #[test]
-fn a_row_stands_in_both_books(rt: HostRuntime) -> Result<(), Fail> {
-    let (c100, row) = (id(b"C100")?, claim(key(123)?, b"C100")?);
-    let parcel = after_one_billing(rt.alloc())?;
-    assert_eq!(rt; parcel.row(&row.key), Some(row));
-    assert_eq!(rt; parcel.rows(&c100), [row].as_slice());
-    assert!(rt; parcel.rows(&id(b"C200")?).is_empty());
-    Ok(())
+fn a_row_stands_in_both_books(rt: HostRuntime) {
+    let row = one_billing(&rt);
+    let parcel = after_one_billing(&rt, rt.alloc());
+    same!(rt; parcel.row(&row.key), Some(row));
+    same!(rt; parcel.rows(&row.family), [row].as_slice());
+    same!(rt; parcel.rows(&id(&rt, b"C200")).len(), 0);
 }
 
 #[test]
-fn a_row_counts_for_its_person_and_family(rt: HostRuntime) -> Result<(), Fail> {
-    let c100 = id(b"C100")?;
-    let parcel = after_one_billing(rt.alloc())?;
-    assert_eq!(rt; parcel.deductible(&c100, &person(b"01")?), Some(10_000));
-    assert_eq!(rt; parcel.deductible(&c100, &person(b"02")?), Some(0));
-    assert_eq!(rt; parcel.deductible(&c100, &person(b"09")?), None);
-    assert_eq!(rt; parcel.out_of_pocket(&c100), Some(13_000));
-    assert_eq!(rt; parcel.family_deductible(&c100), Some(10_000));
-    assert_eq!(rt; parcel.out_of_pocket(&id(b"C200")?), None);
-    Ok(())
+fn a_row_counts_for_its_person_and_family(rt: HostRuntime) {
+    let c100 = id(&rt, b"C100");
+    let parcel = after_one_billing(&rt, rt.alloc());
+    same!(rt; parcel.deductible(&c100, &person(&rt, b"01")), Some(10_000));
+    same!(rt; parcel.deductible(&c100, &person(&rt, b"02")), Some(0));
+    same!(rt; parcel.deductible(&c100, &person(&rt, b"09")), None);
+    same!(rt; parcel.out_of_pocket(&c100), Some(13_000));
+    same!(rt; parcel.family_deductible(&c100), Some(10_000));
+    same!(rt; parcel.out_of_pocket(&id(&rt, b"C200")), None);
 }
 
 #[test]
-fn a_row_goes_out_of_both_books(rt: HostRuntime) -> Result<(), Fail> {
-    let c100 = id(b"C100")?;
-    let mut parcel = after_one_billing(rt.alloc())?;
-    take_out(&mut parcel, &key(123)?)?;
-    assert_eq!(rt; parcel.row(&key(123)?), None);
-    assert!(rt; parcel.rows(&c100).is_empty());
-    assert_eq!(rt; parcel.out_of_pocket(&c100), Some(0));
-    assert!(rt; parcel == opening(rt.alloc())?);
-    Ok(())
+fn a_row_goes_out_of_both_books(rt: HostRuntime) {
+    let (c100, key) = (id(&rt, b"C100"), key(&rt, 123));
+    let mut parcel = after_one_billing(&rt, rt.alloc());
+    take_out(&rt, &mut parcel, &key);
+    same!(rt; parcel.row(&key), None);
+    same!(rt; parcel.rows(&c100).len(), 0);
+    same!(rt; parcel.out_of_pocket(&c100), Some(0));
+    same!(rt; parcel, opening(&rt, rt.alloc()));
 }
 
 #[test]
-fn a_parcel_tells_what_it_holds(rt: HostRuntime) -> Result<(), Fail> {
-    let parcel = opening(rt.alloc())?;
-    assert_eq!(rt; parcel.period(), this_year()?);
-    assert!(rt; parcel.has_key(&key(123)?));
-    assert!(rt; !parcel.has_key(&key(124)?));
-    assert!(rt; parcel.has_family(&id(b"C100")?));
-    assert!(rt; !parcel.has_family(&id(b"C200")?));
-    Ok(())
+fn a_parcel_tells_what_it_holds(rt: HostRuntime) {
+    let parcel = opening(&rt, rt.alloc());
+    same!(rt; parcel.period(), this_year(&rt));
+    same!(rt; parcel.has_key(&key(&rt, 123)), true);
+    same!(rt; parcel.has_key(&key(&rt, 124)), false);
+    same!(rt; parcel.has_family(&id(&rt, b"C100")), true);
+    same!(rt; parcel.has_family(&id(&rt, b"C200")), false);
 }
 
 #[test]
-fn a_parcel_tells_its_members(rt: HostRuntime) -> Result<(), Fail> {
-    let parcel = opening(rt.alloc())?;
-    let (family, person) = (id(b"C100")?, person(b"02")?);
-    let member = parcel.member(&family, &person).ok_or("a member")?;
-    assert_eq!(rt; member.key, MemberKey { family, person });
-    assert_eq!(rt; parcel.member(&id(b"C200")?, &person), None);
+fn a_parcel_tells_its_members(rt: HostRuntime) {
+    let parcel = opening(&rt, rt.alloc());
+    let (family, person) = (id(&rt, b"C100"), person(&rt, b"02"));
+    let member = parcel.member(&family, &person).expect(&rt, "a member");
+    same!(rt; member.key, MemberKey { family, person });
+    same!(rt; parcel.member(&id(&rt, b"C200"), &person), None);
     let (keys, families) = parcel.into_books();
-    assert_eq!(rt; keys.as_slice().len(), 1);
-    assert_eq!(rt; families.as_slice().len(), 1);
-    Ok(())
+    same!(rt; keys.as_slice().len(), 1);
+    same!(rt; families.as_slice().len(), 1);
 }
 
 #[test]
-fn copies_are_equal_until_one_changes(rt: HostRuntime) -> Result<(), Fail> {
-    let parcel = after_one_billing(rt.alloc())?;
-    let mut copy = parcel.copy(rt.alloc())?;
-    assert!(rt; copy == parcel);
-    take_out(&mut copy, &key(123)?)?;
-    assert!(rt; copy != parcel);
-    Ok(())
+fn copies_are_equal_until_one_changes(rt: HostRuntime) {
+    let parcel = after_one_billing(&rt, rt.alloc());
+    let mut copy = parcel.copy(rt.alloc()).expect(&rt, "memory");
+    same!(rt; copy, parcel);
+    take_out(&rt, &mut copy, &key(&rt, 123));
+    differ(&rt, &copy, &parcel);
+}
+
+// The book of C100 without members, with totals of this period.
+fn without_members(rt: &impl Abort, alloc: Global, period: Period) -> Family {
+    Family::new(alloc, id(rt, b"C100"), period)
 }
 
 #[test]
-fn families_of_two_periods_differ(rt: HostRuntime) -> Result<(), Fail> {
-    let (c100, first, second) = (id(b"C100")?, this_year()?, next_year()?);
-    let empty = Family::new(rt.alloc(), c100, first);
-    let later = Family::new(rt.alloc(), c100, second);
-    assert!(rt; are_same(&empty, &empty));
-    assert!(rt; !are_same(&empty, &later));
-    Ok(())
+fn families_of_two_periods_differ(rt: HostRuntime) {
+    let empty = without_members(&rt, rt.alloc(), this_year(&rt));
+    let later = without_members(&rt, rt.alloc(), next_year(&rt));
+    same!(rt; empty, empty);
+    differ(&rt, &empty, &later);
 }
 
-// The parcel of the key 123 with this row or none, and one family.
-fn beside(row: Option<Row>, family: Family) -> Result<Parcel, Fail> {
-    parcel_of(key_book(key(123)?, row), Few::One(family))
+// Whether the books of a parcel agree: of the key 123 with this row or none, and of one family.
+fn agree(rt: &impl Abort, row: Option<Row>, family: Family) -> bool {
+    parcel_of(rt, key_book(key(rt, 123), row), Few::One(family)).agrees()
 }
 
 #[test]
-fn books_that_disagree_are_told(rt: HostRuntime) -> Result<(), Fail> {
+fn books_that_disagree_are_told(rt: HostRuntime) {
     let alloc = rt.alloc();
-    let row = claim(key(123)?, b"C100")?;
-    assert!(rt; !beside(Some(row), book(alloc, b"C100")?)?.agrees());
-    assert!(rt; !beside(None, book_with(alloc, b"C100", 123)?)?.agrees());
-    assert!(rt; beside(Some(row), book_with(alloc, b"C100", 123)?)?.agrees());
-    assert!(rt; beside(Some(row), book_with(alloc, b"C200", 124)?)?.agrees());
-    Ok(())
+    same!(rt; agree(&rt, Some(one_billing(&rt)), book(&rt, alloc, b"C100")), false);
+    same!(rt; agree(&rt, None, book_with(&rt, alloc, b"C100", 123)), false);
+    same!(rt; agree(&rt, Some(one_billing(&rt)), book_with(&rt, alloc, b"C100", 123)), true);
+    same!(rt; agree(&rt, Some(one_billing(&rt)), book_with(&rt, alloc, b"C200", 124)), true);
 }
 
 #[test]
-fn a_family_without_members_counts_nothing(rt: HostRuntime) -> Result<(), Fail> {
-    let c300 = id(b"C300")?;
-    let empty = Family::new(rt.alloc(), c300, this_year()?);
-    let parcel = beside(None, empty)?;
-    assert_eq!(rt; parcel.out_of_pocket(&c300), Some(0));
-    assert_eq!(rt; parcel.family_deductible(&c300), Some(0));
-    assert_eq!(rt; parcel.deductible(&c300, &person(b"01")?), None);
-    Ok(())
+fn a_family_without_members_counts_nothing(rt: HostRuntime) {
+    let c300 = id(&rt, b"C300");
+    let empty = Family::new(rt.alloc(), c300, this_year(&rt));
+    let parcel = parcel_of(&rt, key_book(key(&rt, 123), None), Few::One(empty));
+    same!(rt; parcel.out_of_pocket(&c300), Some(0));
+    same!(rt; parcel.family_deductible(&c300), Some(0));
+    same!(rt; parcel.deductible(&c300, &person(&rt, b"01")), None);
 }
 
 // The parcel of two families, each with a row under its key.
-fn two_families(alloc: Global, of_c100: u64, of_c200: u64) -> Result<Parcel, Fail> {
+fn two_families(rt: &impl Abort, alloc: Global, of_c100: u64, of_c200: u64) -> Parcel {
     let mut families = Vec::new(alloc);
-    families.push(book_with(alloc, b"C100", of_c100)?)?;
-    families.push(book_with(alloc, b"C200", of_c200)?)?;
-    parcel_of(Few::Many(Vec::new(alloc)), Few::Many(families))
+    families
+        .push(book_with(rt, alloc, b"C100", of_c100))
+        .expect(rt, "memory");
+    families
+        .push(book_with(rt, alloc, b"C200", of_c200))
+        .expect(rt, "memory");
+    parcel_of(rt, Few::Many(Vec::new(alloc)), Few::Many(families))
 }
 
 #[test]
-fn two_families_with_one_key_disagree(rt: HostRuntime) -> Result<(), Fail> {
-    assert!(rt; !two_families(rt.alloc(), 123, 123)?.agrees());
-    assert!(rt; two_families(rt.alloc(), 123, 124)?.agrees());
-    Ok(())
+fn two_families_with_one_key_disagree(rt: HostRuntime) {
+    same!(rt; two_families(&rt, rt.alloc(), 123, 123).agrees(), false);
+    same!(rt; two_families(&rt, rt.alloc(), 123, 124).agrees(), true);
+}
+
+// Whether the key of this reference with one-billing's row, and these families, are books of a parcel of the period.
+fn are_books(rt: &impl Abort, period: Period, reference: u64, families: &[Family]) -> bool {
+    let keys = key_book(key(rt, reference), Some(one_billing(rt)));
+    Parcel::are_books(period, keys.as_slice(), families)
 }
 
 #[test]
-fn books_of_no_parcel_are_told(rt: HostRuntime) -> Result<(), Fail> {
+fn books_of_no_parcel_are_told(rt: HostRuntime) {
     let alloc = rt.alloc();
-    let row = claim(key(123)?, b"C100")?;
-    let own = key_book(key(123)?, Some(row));
-    let other = key_book(key(124)?, Some(row));
     let mut families = Vec::new(alloc);
-    families.push(book(alloc, b"C200")?)?;
-    assert!(rt; Parcel::are_books(this_year()?, own.as_slice(), &families));
-    assert!(rt; !Parcel::are_books(next_year()?, own.as_slice(), &families));
-    assert!(rt; !Parcel::are_books(this_year()?, other.as_slice(), &families));
-    families.push(book(alloc, b"C100")?)?;
-    assert!(rt; !Parcel::are_books(this_year()?, own.as_slice(), &families));
-    Ok(())
+    families
+        .push(book(&rt, alloc, b"C200"))
+        .expect(&rt, "memory");
+    same!(rt; are_books(&rt, this_year(&rt), 123, &families), true);
+    same!(rt; are_books(&rt, next_year(&rt), 123, &families), false);
+    same!(rt; are_books(&rt, this_year(&rt), 124, &families), false);
+    families
+        .push(book(&rt, alloc, b"C100"))
+        .expect(&rt, "memory");
+    same!(rt; are_books(&rt, this_year(&rt), 123, &families), false);
+}
+
+fn free(rt: &impl Abort, reference: u64) -> KeyBook {
+    KeyBook {
+        key: key(rt, reference),
+        row: None,
+    }
+}
+
+// Whether the keys of two references without rows are books of a parcel.
+fn are_keys(rt: &impl Abort, first: u64, second: u64) -> bool {
+    let keys = [free(rt, first), free(rt, second)];
+    Parcel::are_books(this_year(rt), &keys, &[])
 }
 
 #[test]
-fn keys_of_a_parcel_ascend(rt: HostRuntime) -> Result<(), Fail> {
-    let free = |reference| -> Result<KeyBook, Fail> {
-        Ok(KeyBook {
-            key: key(reference)?,
-            row: None,
-        })
-    };
-    let (first, second) = (free(123)?, free(124)?);
-    assert!(rt; Parcel::are_books(this_year()?, &[first, second], &[]));
-    assert!(rt; !Parcel::are_books(this_year()?, &[second, first], &[]));
-    assert!(rt; !Parcel::are_books(this_year()?, &[first, first], &[]));
-    Ok(())
+fn keys_of_a_parcel_ascend(rt: HostRuntime) {
+    same!(rt; are_keys(&rt, 123, 124), true);
+    same!(rt; are_keys(&rt, 124, 123), false);
+    same!(rt; are_keys(&rt, 123, 123), false);
 }
 
 // The opening, with its one key and its one family in lists of their own.
-fn listed_opening(alloc: Global) -> Result<Parcel, Fail> {
-    let keys = vec![in alloc;
-        KeyBook {
-            key: key(123)?,
-            row: None
-        },
-    ]?;
+fn listed_opening(rt: &impl Abort, alloc: Global) -> Parcel {
+    let keys = [free(rt, 123)].to_vec(alloc).expect(rt, "memory");
     let mut families = Vec::new(alloc);
-    families.push(book(alloc, b"C100")?)?;
-    parcel_of(Few::Many(keys), Few::Many(families))
+    families.push(book(rt, alloc, b"C100")).expect(rt, "memory");
+    parcel_of(rt, Few::Many(keys), Few::Many(families))
 }
 
 #[test]
-fn a_list_of_one_is_like_one_in_place(rt: HostRuntime) -> Result<(), Fail> {
-    let (opening, mut listed) = (opening(rt.alloc())?, listed_opening(rt.alloc())?);
-    assert!(rt; listed == opening);
-    assert!(rt; listed.copy(rt.alloc())? == opening);
-    put(&mut listed, claim(key(123)?, b"C100")?)?;
-    assert!(rt; listed == after_one_billing(rt.alloc())?);
-    take_out(&mut listed, &key(123)?)?;
-    assert!(rt; listed == opening);
-    Ok(())
+fn a_list_of_one_is_like_one_in_place(rt: HostRuntime) {
+    let (opening, mut listed) = (opening(&rt, rt.alloc()), listed_opening(&rt, rt.alloc()));
+    same!(rt; listed, opening);
+    same!(rt; listed.copy(rt.alloc()).expect(&rt, "memory"), opening);
+    put(&rt, &mut listed, one_billing(&rt));
+    same!(rt; listed, after_one_billing(&rt, rt.alloc()));
+    take_out(&rt, &mut listed, &key(&rt, 123));
+    same!(rt; listed, opening);
 }
 
 #[test]
-fn a_claim_of_last_year_counts_nothing(rt: HostRuntime) -> Result<(), Fail> {
-    let earlier = claim(dated(90, b"20251230")?, b"C100")?;
-    assert_eq!(rt; counted_in(this_year()?, &earlier).out_of_pocket, 0);
-    let mut book = book_with(rt.alloc(), b"C100", 123)?;
-    stand(&mut book, earlier)?;
-    assert_eq!(rt; book.out_of_pocket(), 13_000);
-    assert_eq!(rt; book.remove(&earlier.key), Some(earlier));
-    assert_eq!(rt; book.family_deductible(), 10_000);
-    assert_eq!(rt; book.remove(&earlier.key), None);
-    Ok(())
+fn a_claim_of_last_year_counts_nothing(rt: HostRuntime) {
+    let earlier = claim(&rt, dated(&rt, 90, b"20251230"), b"C100");
+    same!(rt; counted_in(this_year(&rt), &earlier).out_of_pocket, 0);
+    let mut book = book_with(&rt, rt.alloc(), b"C100", 123);
+    stand(&rt, &mut book, earlier);
+    same!(rt; book.out_of_pocket(), 13_000);
+    same!(rt; book.remove(&earlier.key), Some(earlier));
+    same!(rt; book.family_deductible(), 10_000);
+    same!(rt; book.remove(&earlier.key), None);
 }
 
 #[test]
-fn a_book_tells_whom_and_what_it_takes(rt: HostRuntime) -> Result<(), Fail> {
-    let book = book_with(rt.alloc(), b"C100", 123)?;
-    assert!(rt; !book.can_add(&claim(key(123)?, b"C100")?));
-    assert!(rt; !book.can_add(&claim(key(124)?, b"C200")?));
-    assert!(rt; book.can_add(&claim(key(124)?, b"C100")?));
-    assert!(rt; book.is_past(&person(b"03")?));
-    assert!(rt; !book.is_past(&person(b"02")?));
-    Ok(())
+fn a_book_tells_whom_and_what_it_takes(rt: HostRuntime) {
+    let book = book_with(&rt, rt.alloc(), b"C100", 123);
+    same!(rt; book.can_add(&one_billing(&rt)), false);
+    same!(rt; book.can_add(&claim(&rt, key(&rt, 124), b"C200")), false);
+    same!(rt; book.can_add(&claim(&rt, key(&rt, 124), b"C100")), true);
+    same!(rt; book.is_past(&person(&rt, b"03")), true);
+    same!(rt; book.is_past(&person(&rt, b"02")), false);
 }
+
+// The persons of the family of four, and of the same with one more.
+const FOUR: &[&[u8]] = &[b"01", b"02", b"03", b"04"];
+
+const FIVE: &[&[u8]] = &[b"01", b"02", b"03", b"04", b"05"];
 
 // The book of the family C100 with four members, of whom 01 has one-billing's claim.
-fn family_of_four(alloc: Global) -> Result<Family, Fail> {
-    let mut book = book_with(alloc, b"C100", 123)?;
-    enroll(&mut book, b"03")?;
-    enroll(&mut book, b"04")?;
-    Ok(book)
+fn family_of_four(rt: &impl Abort, alloc: Global) -> Family {
+    let mut book = book_with(rt, alloc, b"C100", 123);
+    enroll(rt, &mut book, b"03");
+    enroll(rt, &mut book, b"04");
+    book
 }
 
 // The book's members are these persons, and no others.
-fn has_members(book: &Family, persons: &[&[u8]]) -> Result<bool, Fail> {
-    let mut same = book.members().len() == persons.len();
-    for (member, text) in book.members().iter().zip(persons) {
-        same = same && member.key.person == person(text)?;
+fn has_members(rt: &impl Abort, book: &Family, persons: &[&[u8]]) {
+    let members = book.members();
+    assert!(rt; members.len() == persons.len());
+    for at in 0..persons.len() {
+        same!(rt; members[at].key.person, person(rt, persons[at]));
     }
-    Ok(same)
 }
 
 #[test]
-fn a_fifth_member_follows_the_four(rt: HostRuntime) -> Result<(), Fail> {
-    let mut book = family_of_four(rt.alloc())?;
-    assert!(rt; has_members(&book, &[b"01", b"02", b"03", b"04"])?);
-    assert_eq!(rt; book.member(&person(b"05")?), None);
-    enroll(&mut book, b"05")?;
-    assert!(rt; has_members(&book, &[b"01", b"02", b"03", b"04", b"05"])?);
-    assert!(rt; book.member(&person(b"05")?).is_some());
-    assert!(rt; book.is_past(&person(b"06")?));
-    assert!(rt; !book.is_past(&person(b"05")?));
-    Ok(())
+fn a_fifth_member_follows_the_four(rt: HostRuntime) {
+    let mut book = family_of_four(&rt, rt.alloc());
+    has_members(&rt, &book, FOUR);
+    same!(rt; book.member(&person(&rt, b"05")), None);
+    enroll(&rt, &mut book, b"05");
+    has_members(&rt, &book, FIVE);
+    same!(rt; book.member(&person(&rt, b"05")).is_some(), true);
+    same!(rt; book.is_past(&person(&rt, b"06")), true);
+    same!(rt; book.is_past(&person(&rt, b"05")), false);
+}
+
+// The deductibles of the persons 01, 04 and 05.
+fn deductibles(rt: &impl Abort, book: &Family) -> [Option<u128>; 3] {
+    [
+        book.deductible(&person(rt, b"01")),
+        book.deductible(&person(rt, b"04")),
+        book.deductible(&person(rt, b"05")),
+    ]
 }
 
 #[test]
-fn a_fifth_member_leaves_the_deductibles(rt: HostRuntime) -> Result<(), Fail> {
-    let mut book = family_of_four(rt.alloc())?;
-    assert_eq!(rt; book.deductible(&person(b"01")?), Some(10_000));
-    assert_eq!(rt; book.deductible(&person(b"04")?), Some(0));
-    assert_eq!(rt; book.deductible(&person(b"05")?), None);
-    enroll(&mut book, b"05")?;
-    assert_eq!(rt; book.deductible(&person(b"01")?), Some(10_000));
-    assert_eq!(rt; book.deductible(&person(b"04")?), Some(0));
-    assert_eq!(rt; book.deductible(&person(b"05")?), Some(0));
-    Ok(())
+fn a_fifth_member_leaves_the_deductibles(rt: HostRuntime) {
+    let mut book = family_of_four(&rt, rt.alloc());
+    same!(rt; deductibles(&rt, &book), [Some(10_000), Some(0), None]);
+    enroll(&rt, &mut book, b"05");
+    same!(rt; deductibles(&rt, &book), [Some(10_000), Some(0), Some(0)]);
+}
+
+// The copy of a book, which is equal to it and has these persons.
+fn copied(rt: &impl Abort, alloc: Global, book: &Family, persons: &[&[u8]]) -> Family {
+    let copy = book.copy(alloc).expect(rt, "memory");
+    same!(rt; copy, *book);
+    has_members(rt, &copy, persons);
+    copy
 }
 
 #[test]
-fn families_of_four_and_five_are_copied(rt: HostRuntime) -> Result<(), Fail> {
-    let mut book = family_of_four(rt.alloc())?;
-    let four = book.copy(rt.alloc())?;
-    assert!(rt; four == book);
-    enroll(&mut book, b"05")?;
-    assert!(rt; four != book);
-    assert!(rt; has_members(&four, &[b"01", b"02", b"03", b"04"])?);
-    let five = book.copy(rt.alloc())?;
-    assert!(rt; five == book);
-    assert!(rt; has_members(&five, &[b"01", b"02", b"03", b"04", b"05"])?);
-    Ok(())
+fn families_of_four_and_five_are_copied(rt: HostRuntime) {
+    let mut book = family_of_four(&rt, rt.alloc());
+    let four = copied(&rt, rt.alloc(), &book, FOUR);
+    enroll(&rt, &mut book, b"05");
+    differ(&rt, &four, &book);
+    has_members(&rt, &four, FOUR);
+    copied(&rt, rt.alloc(), &book, FIVE);
 }
 
 // The footprint of the keys of two references and of one family.
-fn footprint(alloc: Global, first: u64, second: u64) -> Result<Option<Footprint>, Fail> {
-    let keys = [key(first)?, key(second)?].as_slice().to_vec(alloc)?;
-    let families = [id(b"C100")?].as_slice().to_vec(alloc)?;
-    Ok(Footprint::new(keys, families))
+fn footprint(rt: &impl Abort, alloc: Global, first: u64, second: u64) -> Option<Footprint> {
+    let keys = [key(rt, first), key(rt, second)]
+        .to_vec(alloc)
+        .expect(rt, "memory");
+    let families = [id(rt, b"C100")].to_vec(alloc).expect(rt, "memory");
+    Footprint::new(keys, families)
 }
 
 #[test]
-fn footprints_ascend(rt: HostRuntime) -> Result<(), Fail> {
-    let alloc = rt.alloc();
-    assert!(rt; footprint(alloc, 123, 124)?.is_some());
-    assert!(rt; footprint(alloc, 124, 123)?.is_none());
-    assert!(rt; footprint(alloc, 123, 123)?.is_none());
-    Ok(())
+fn footprints_ascend(rt: HostRuntime) {
+    same!(rt; footprint(&rt, rt.alloc(), 123, 124).is_some(), true);
+    same!(rt; footprint(&rt, rt.alloc(), 124, 123).is_some(), false);
+    same!(rt; footprint(&rt, rt.alloc(), 123, 123).is_some(), false);
 }
 
 #[test]
-fn footprints_tell_what_they_name(rt: HostRuntime) -> Result<(), Fail> {
-    let alloc = rt.alloc();
-    let names = footprint(alloc, 123, 124)?.ok_or("in order")?;
-    assert!(rt; names.has_key(&key(124)?));
-    assert!(rt; !names.has_key(&key(125)?));
-    assert!(rt; names.has_family(&id(b"C100")?));
-    assert!(rt; !names.has_family(&id(b"C200")?));
-    assert!(rt; names.copy(alloc)? == names);
-    assert!(rt; names != footprint(alloc, 123, 125)?.ok_or("in order")?);
-    Ok(())
+fn footprints_tell_what_they_name(rt: HostRuntime) {
+    let names = footprint(&rt, rt.alloc(), 123, 124).expect(&rt, "in order");
+    same!(rt; names.has_key(&key(&rt, 124)), true);
+    same!(rt; names.has_key(&key(&rt, 125)), false);
+    same!(rt; names.has_family(&id(&rt, b"C100")), true);
+    same!(rt; names.has_family(&id(&rt, b"C200")), false);
+    let copy = names.copy(rt.alloc()).expect(&rt, "memory");
+    same!(rt; copy, names);
+    let other = footprint(&rt, rt.alloc(), 123, 125).expect(&rt, "in order");
+    differ(&rt, &names, &other);
 }
