@@ -58,12 +58,13 @@ fn run(
     books: Books,
     asked: Vec<Transmission>,
 ) -> Finished {
+    let asked = asked.as_slice();
     assert!(rt; asked.len() <= 100, "few records");
     let books = books
         .with_period(alloc, sheet.period())
         .expect(rt, "memory");
-    let mut order = InOrder::new(alloc, books, &asked).expect(rt, "memory");
-    let replies = answer_all(rt, alloc, lot(rt, batch), &sheet, &mut order, &asked);
+    let mut order = InOrder::new(alloc, books, asked).expect(rt, "memory");
+    let replies = answer_all(rt, alloc, lot(rt, batch), &sheet, &mut order, asked);
     Finished {
         books: order.close(),
         replies,
