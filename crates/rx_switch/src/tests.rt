@@ -7,18 +7,23 @@ use crate::{Device, Inputs, IoFault, Outputs, SwitchFault, read_all, run_io};
 use rx_devices::{SliceSource, Source, VecSink};
 use rx_wave::NoGate;
 use std::alloc::Global;
+use std::fmt::Debug;
+use std::process::Abort;
 use std::sync::Wait;
-use std::test::Fail;
 use std::thread::Threads;
 
 const STAMP: &[u8] = b"202603010930";
 
+// Values are compared here, since each place that compares by itself is dear to prove.
+fn same<T: PartialEq + Debug + Drop>(rt: &impl Abort, given: T, wanted: T) {
+    assert_eq!(rt; given, wanted);
+}
+
 #[test]
-fn reads_an_input_to_its_end(rt: HostRuntime) -> Result<(), Fail> {
+fn reads_an_input_to_its_end(rt: HostRuntime) {
     let mut source = SliceSource::new(b"RXBOOKS|1|", 7);
-    let text = read_all(rt.alloc(), &mut source, Device::Books)?;
-    assert_eq!(rt; text.as_slice(), b"RXBOOKS|1|".as_slice());
-    Ok(())
+    let text = read_all(rt.alloc(), &mut source, Device::Books).expect(&rt, "a text");
+    same(&rt, text.as_slice(), b"RXBOOKS|1|");
 }
 
 // What a run with empty books answers, and its response.
@@ -60,22 +65,22 @@ fn run_on<'a, R: Threads + Wait + Sync>(
 fn refuses_a_bad_stamp_before_it_writes(rt: HostRuntime) {
     let (sheet, batch) = (SliceSource::new(b"", 1), SliceSource::new(b"", 1));
     let (answer, response) = run_on(&rt, rt.alloc(), b"202603019930", 1, sheet, batch);
-    assert_eq!(rt; answer, Err(IoFault::Switch(SwitchFault::Stamp)));
-    assert!(rt; response.bytes().is_empty());
+    same(&rt, answer, Err(IoFault::Switch(SwitchFault::Stamp)));
+    same(&rt, response.bytes().len(), 0);
 }
 
 #[test]
 fn tells_a_failed_sheet_before_the_workers(rt: HostRuntime) {
     let sheet = SliceSource::new(b"bin", 1).failing_after(2);
     let (answer, _) = run_on(&rt, rt.alloc(), STAMP, 65, sheet, SliceSource::new(b"", 1));
-    assert_eq!(rt; answer, Err(IoFault::Read(Device::Sheet)));
+    same(&rt, answer, Err(IoFault::Read(Device::Sheet)));
 }
 
 #[test]
 fn refuses_sixty_five_workers(rt: HostRuntime) {
     let (sheet, batch) = (SliceSource::new(b"", 1), SliceSource::new(b"", 1));
     let (answer, _) = run_on(&rt, rt.alloc(), STAMP, 65, sheet, batch);
-    assert_eq!(rt; answer, Err(IoFault::Switch(SwitchFault::Workers)));
+    same(&rt, answer, Err(IoFault::Switch(SwitchFault::Workers)));
 }
 
 // One byte a read: the first is no batch's, the third read fails.
@@ -83,25 +88,37 @@ fn refuses_sixty_five_workers(rt: HostRuntime) {
 fn reads_on_after_a_fault_of_the_batch(rt: HostRuntime) {
     let batch = SliceSource::new(b"X\x02", 1).failing_after(2);
     let (answer, _) = run_on(&rt, rt.alloc(), STAMP, 1, SliceSource::new(b"", 1), batch);
-    assert_eq!(rt; answer, Err(IoFault::Read(Device::Batch)));
+    same(&rt, answer, Err(IoFault::Read(Device::Batch)));
+}
+
+fn piece(rt: &impl Abort, alloc: Global, bytes: &[u8]) -> Vec<u8> {
+    bytes.to_vec(alloc).expect(rt, "memory")
+}
+
+fn pieces(rt: &impl Abort, alloc: Global, all: &[&[u8]]) -> Vec<Vec<u8>> {
+    let mut pieces = Vec::new(alloc);
+    for bytes in all {
+        pieces.push(piece(rt, alloc, bytes)).expect(rt, "memory");
+    }
+    pieces
 }
 
 #[test]
-fn tells_which_output_broke_off(rt: HostRuntime) -> Result<(), Fail> {
+fn tells_which_output_broke_off(rt: HostRuntime) {
+    let alloc = rt.alloc();
     let output = OutputPieces {
-        response: vec![in rt.alloc(); b"RS".to_vec(rt.alloc())?]?,
-        books: vec![in rt.alloc(); b"B".to_vec(rt.alloc())?, b"K".to_vec(rt.alloc())?]?,
-        settlement: b"ST".to_vec(rt.alloc())?,
+        response: pieces(&rt, alloc, &[b"RS"]),
+        books: pieces(&rt, alloc, &[b"B", b"K"]),
+        settlement: piece(&rt, alloc, b"ST"),
     };
     let mut sinks = Outputs {
-        response: VecSink::new(rt.alloc(), 1),
-        end_books: VecSink::new(rt.alloc(), 1).failing_after(1),
-        settlement: VecSink::new(rt.alloc(), 1),
+        response: VecSink::new(alloc, 1),
+        end_books: VecSink::new(alloc, 1).failing_after(1),
+        settlement: VecSink::new(alloc, 1),
     };
     let written = write_outputs(&output, &mut sinks);
-    assert_eq!(rt; written, Err(IoFault::Write(Device::EndBooks)));
-    assert_eq!(rt; sinks.response.bytes(), b"RS".as_slice());
-    assert_eq!(rt; sinks.end_books.bytes(), b"B".as_slice());
-    assert!(rt; sinks.settlement.bytes().is_empty());
-    Ok(())
+    same(&rt, written, Err(IoFault::Write(Device::EndBooks)));
+    same(&rt, sinks.response.bytes(), b"RS");
+    same(&rt, sinks.end_books.bytes(), b"B");
+    same(&rt, sinks.settlement.bytes().len(), 0);
 }

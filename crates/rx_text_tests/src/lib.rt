@@ -25,6 +25,8 @@ mod report_text;
 #[cfg(test)]
 mod response;
 #[cfg(test)]
+mod same;
+#[cfg(test)]
 mod sample;
 #[cfg(test)]
 mod settle;

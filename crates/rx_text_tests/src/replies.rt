@@ -1,8 +1,9 @@
 // The response files of the worked cases (docs/CASES.md, docs/FORMATS.md).
+use crate::same::same;
 use rx_batch::BatchFault;
 use rx_replies::replies_text;
-use std::alloc::{AllocError, Global};
-use std::test::Fail;
+use std::alloc::Global;
+use std::process::Abort;
 
 const HEADER: &[u8] =
     b"\x0200RRXSWITCH                0000042202603020600P12PHARMSYS                \x03";
@@ -22,16 +23,16 @@ const REJECTED: &[u8] =
     b"D0B12R01               20260228\x1D\x1E\x1CAM21\x1CANR\x1CFA02\x1CFB01\x1CFBA9\x1D\x1E\x1CAM21\x1CANR\x1CFA02\x1CFB01\x1CFBA9";
 
 // The response file of one detail with this text.
-fn file(alloc: Global, header: &[u8], reply: &[u8]) -> Result<Vec<u8>, AllocError> {
+fn file(rt: &impl Abort, alloc: Global, header: &[u8], reply: &[u8]) -> Vec<u8> {
     let mut text = Vec::new(alloc);
     for part in [header, b"\x02G10000000001", reply, b"\x03", TRAILER] {
-        text.extend_from_slice(part)?;
+        text.extend_from_slice(part).expect(rt, "memory");
     }
-    Ok(text)
+    text
 }
 
 #[test]
-fn each_answer_has_a_line(rt: HostRuntime) -> Result<(), Fail> {
+fn each_answer_has_a_line(rt: HostRuntime) {
     let cases: [(&[u8], &str); 5] = [
         (
             PAID,
@@ -46,22 +47,30 @@ fn each_answer_has_a_line(rt: HostRuntime) -> Result<(), Fail> {
         (b"nothing", "1 0 unreadable 1\n"),
     ];
     for (reply, wanted) in cases {
-        let bytes = file(rt.alloc(), HEADER, reply)?;
-        let text = replies_text(rt.alloc(), &bytes)?;
-        assert_eq!(rt; text.as_slice(), wanted.as_bytes());
+        let bytes = file(&rt, rt.alloc(), HEADER, reply);
+        let text = replies_text(rt.alloc(), &bytes).expect(&rt, "memory");
+        same(&rt, text.as_slice(), wanted.as_bytes());
     }
-    Ok(())
 }
 
 #[test]
-fn a_batch_is_no_response_file(rt: HostRuntime) -> Result<(), Fail> {
+fn a_batch_is_no_response_file(rt: HostRuntime) {
     let header =
         b"\x0200TRXSWITCH                0000042202603020600P12PHARMSYS                \x03";
-    let bytes = file(rt.alloc(), header, PAID)?;
+    let bytes = file(&rt, rt.alloc(), header, PAID);
     assert!(rt; replies_text(rt.alloc(), &bytes).err() == Some(BatchFault::HeaderShape { at: 0 }));
-    let stray = [b"\r\n\n", bytes.as_slice()].concat(rt.alloc())?;
+    let stray = [b"\r\n\n", bytes.as_slice()]
+        .concat(rt.alloc())
+        .expect(&rt, "memory");
     assert!(rt; replies_text(rt.alloc(), &stray).err() == Some(BatchFault::HeaderShape { at: 3 }));
-    assert!(rt; replies_text(rt.alloc(), b"").err() == Some(BatchFault::NoHeader { at: 0 }));
-    assert!(rt; replies_text(rt.alloc(), b"\x02T").err() == Some(BatchFault::Unclosed { at: 0 }));
-    Ok(())
+    same(
+        &rt,
+        replies_text(rt.alloc(), b"").err(),
+        Some(BatchFault::NoHeader { at: 0 }),
+    );
+    same(
+        &rt,
+        replies_text(rt.alloc(), b"\x02T").err(),
+        Some(BatchFault::Unclosed { at: 0 }),
+    );
 }

@@ -1,10 +1,10 @@
+use crate::same::same;
 use rx_check::{Files, check};
 use rx_switch::SwitchFault;
 use rx_told_run::{Asked, Given, fault_words, refusal};
-use std::test::Fail;
 
 #[test]
-fn a_missing_key_and_a_time_that_is_none(rt: HostRuntime) -> Result<(), Fail> {
+fn a_missing_key_and_a_time_that_is_none(rt: HostRuntime) {
     let asked = Asked {
         sheet: Given {
             name: "sheet.toml",
@@ -26,19 +26,18 @@ fn a_missing_key_and_a_time_that_is_none(rt: HostRuntime) -> Result<(), Fail> {
         books: None,
         batch: None,
     };
-    let found = check(rt.alloc(), &files).ok().ok_or("memory")?;
-    let fault = refusal(&found).ok_or("an empty sheet is taken")?;
-    let line = fault_words(rt.alloc(), fault, &asked).ok().ok_or("memory")?;
-    assert_eq!(rt;
+    let found = check(rt.alloc(), &files).expect(&rt, "memory");
+    let fault = refusal(&found).expect(&rt, "an empty sheet is taken");
+    let line = fault_words(rt.alloc(), fault, &asked).expect(&rt, "memory");
+    same(
+        &rt,
         line.as_str(),
-        "sheet.toml: bin is missing: 6 digits in quotes are wanted, as \"900001\""
+        "sheet.toml: bin is missing: 6 digits in quotes are wanted, as \"900001\"",
     );
-    let line = fault_words(rt.alloc(), SwitchFault::Stamp, &asked)
-        .ok()
-        .ok_or("memory")?;
-    assert_eq!(rt;
+    let line = fault_words(rt.alloc(), SwitchFault::Stamp, &asked).expect(&rt, "memory");
+    same(
+        &rt,
         line.as_str(),
-        "--stamp \"202603020660\": its last 4 digits are no time from 0000 to 2359"
+        "--stamp \"202603020660\": its last 4 digits are no time from 0000 to 2359",
     );
-    Ok(())
 }

@@ -1,9 +1,10 @@
 // The texts are those of one-billing (docs/CASES.md).
+use crate::same::same;
 use rx_switch::{Job, Output, SwitchFault};
 use rx_verify::{Differences, Files, Verified, verdict_text, verify};
 use rx_wave::NoGate;
-use std::alloc::{AllocError, Global};
-use std::test::Fail;
+use std::alloc::Global;
+use std::process::Abort;
 
 const SHEET: &[u8] = b"bin = \"900001\"
 pcn = \"RXDEMO\"
@@ -56,17 +57,17 @@ T|C200|0|0
 const SETTLEMENT: &[u8] =
     b"SETTLE|1|0000042|202603020600\nP|1234567893|1|0|0|0|17175\nTOTAL|1|0|0|0|17175\n";
 
-fn output(alloc: Global) -> Result<Output, AllocError> {
-    Ok(Output {
-        response: Vec::from_slice(alloc, b"\x0200R\x03\x02G10000000001\x03")?,
-        books: Vec::from_slice(alloc, &[b'-'; 2093])?,
-        settlement: Vec::from_slice(alloc, SETTLEMENT)?,
-    })
+fn output(rt: &impl Abort, alloc: Global) -> Output {
+    Output {
+        response: Vec::from_slice(alloc, b"\x0200R\x03\x02G10000000001\x03").expect(rt, "memory"),
+        books: Vec::from_slice(alloc, &[b'-'; 2093]).expect(rt, "memory"),
+        settlement: Vec::from_slice(alloc, SETTLEMENT).expect(rt, "memory"),
+    }
 }
 
 #[test]
-fn the_sizes_are_told(rt: HostRuntime) -> Result<(), Fail> {
-    let output = output(rt.alloc())?;
+fn the_sizes_are_told(rt: HostRuntime) {
+    let output = output(&rt, rt.alloc());
     let differences = Differences {
         response: None,
         books: None,
@@ -81,17 +82,17 @@ fn the_sizes_are_told(rt: HostRuntime) -> Result<(), Fail> {
         output,
         differences,
     };
-    let text = verdict_text(rt.alloc(), &verified, &files)?;
-    assert_eq!(rt;
+    let text = verdict_text(rt.alloc(), &verified, &files).expect(&rt, "memory");
+    same(
+        &rt,
         text.as_slice(),
-        b"same: response 19 bytes, books 2,093, settlement 77\n".as_slice()
+        b"same: response 19 bytes, books 2,093, settlement 77\n".as_slice(),
     );
-    Ok(())
 }
 
 #[test]
-fn the_first_difference_is_told(rt: HostRuntime) -> Result<(), Fail> {
-    let output = output(rt.alloc())?;
+fn the_first_difference_is_told(rt: HostRuntime) {
+    let output = output(&rt, rt.alloc());
     let differences = Differences {
         response: Some(14),
         books: None,
@@ -106,12 +107,13 @@ fn the_first_difference_is_told(rt: HostRuntime) -> Result<(), Fail> {
         output,
         differences,
     };
-    let text = verdict_text(rt.alloc(), &verified, &files)?;
+    let text = verdict_text(rt.alloc(), &verified, &files).expect(&rt, "memory");
     let response = "response: record 1 differs from byte 14: file \\x1B001, replay 0001\n";
     let settlement = "settlement: line 2 differs from byte 54: file 85, replay 75\n";
-    let wanted = [response, settlement].concat(rt.alloc())?;
-    assert_eq!(rt; text.as_slice(), wanted.as_bytes());
-    Ok(())
+    let wanted = [response, settlement]
+        .concat(rt.alloc())
+        .expect(&rt, "memory");
+    same(&rt, text.as_slice(), wanted.as_bytes());
 }
 
 const FILES: Files<'static> = Files {
@@ -133,37 +135,41 @@ fn job(workers: u16, plain: bool) -> Job<'static> {
 }
 
 #[test]
-fn outputs_are_found_the_same(rt: HostRuntime) -> Result<(), Fail> {
+fn outputs_are_found_the_same(rt: HostRuntime) {
     for (workers, plain) in [(1, false), (1, true), (2, false), (64, true)] {
-        let verified = verify(&rt, rt.alloc(), &NoGate, &job(workers, plain), &FILES)?;
+        let verified = verify(&rt, rt.alloc(), &NoGate, &job(workers, plain), &FILES).expect(
+            &rt,
+            "an answer",
+        );
         assert!(rt; verified.differences.are_none());
-        let text = verdict_text(rt.alloc(), &verified, &FILES)?;
+        let text = verdict_text(rt.alloc(), &verified, &FILES).expect(&rt, "memory");
         let wanted = "same: response 302 bytes, books 274, settlement 77\n";
-        assert_eq!(rt; text.as_slice(), wanted.as_bytes());
+        same(&rt, text.as_slice(), wanted.as_bytes());
     }
-    Ok(())
 }
 
 #[test]
-fn a_changed_byte_is_found(rt: HostRuntime) -> Result<(), Fail> {
-    let mut response = RESPONSE.to_vec(rt.alloc())?;
+fn a_changed_byte_is_found(rt: HostRuntime) {
+    let mut response = RESPONSE.to_vec(rt.alloc()).expect(&rt, "memory");
     response[75 + 13] = b'E';
     let files = Files {
         response: &response,
         ..FILES
     };
-    let verified = verify(&rt, rt.alloc(), &NoGate, &job(1, false), &files)?;
+    let verified = verify(&rt, rt.alloc(), &NoGate, &job(1, false), &files).expect(
+        &rt,
+        "an answer",
+    );
     let wanted = Differences {
         response: Some(88),
         books: None,
         settlement: None,
     };
-    assert_eq!(rt; verified.differences, wanted);
-    Ok(())
+    same(&rt, verified.differences, wanted);
 }
 
 #[test]
 fn sixty_five_workers_are_refused(rt: HostRuntime) {
     let refused = verify(&rt, rt.alloc(), &NoGate, &job(65, false), &FILES);
-    assert!(rt; refused.err() == Some(SwitchFault::Workers));
+    same(&rt, refused.err(), Some(SwitchFault::Workers));
 }
