@@ -1,7 +1,6 @@
 pub mod AllNamed
 pub mod Ascended
 pub mod PutBooks
-pub mod Moved
 pub mod OpenedShelf
 pub mod ShelfAgreed
 pub mod ShelfKept

@@ -32,7 +32,7 @@ use Rattle.rx_places.specs.Shelves.{key_place, key_value_or, place_family, place
 use Rattle.rx_books_shelf.specs.Closed.{HasSlot}
 use Rattle.rx_books_shelf.specs.Opened.{all_families, all_keys, family_book, filled_place, full_key_place, is_named, shelf_of}
 use Rattle.rx_books_shelf.proofs.Ascended.{joined_has}
-use Rattle.rx_books_shelf.proofs.Moved.{map_map}
+use Rattle.rx_places.proofs.Moved.{map_map}
 use Rattle.rx_books_shelf.proofs.ShelfKept.{ascending_changed}
 
 -- the row under a key, as a list

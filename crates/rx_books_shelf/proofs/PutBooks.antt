@@ -6,19 +6,20 @@ use Rattle.std.specs.Cmp.{eq_by_cmp_equiv}
 use Rattle.std.specs.List.{All, filter}
 use Rattle.std.specs.Option.{is_some}
 use Rattle.std.specs.Ordering.{is_eq}
+use Rattle.std.specs.declared.cmp.Ordering.{Ordering}
 use Rattle.std.specs.declared.cmp.Ordering.TheVariants.{Less}
 use Rattle.std.proofs.lemmas.Bool.{and_from, and_parts, cases_Bool}
 use Rattle.std.proofs.lemmas.Cmp.{tied_itself}
 use Rattle.std.proofs.lemmas.List.Elements.{All-cons, All-head, All-nil, All-tail, All-weaker}
 use Rattle.rx_fields.specs.Order.{id_cmp, key_cmp}
-use Rattle.rx_order.specs.Ascending.{IsAscending, IsAt, IsBelow, contains_key, has_key, is_past, item_at, put, put_all}
+use Rattle.rx_order.specs.Ascending.{IsAscending, IsAt, IsBelow, contains_key, is_past, item_at, put, put_all}
 use Rattle.rx_order.proofs.Edits.{put-past, put_all-nil}
 use Rattle.rx_order.proofs.Kept.{IsAscending-filter}
-use Rattle.rx_order.proofs.LookUps.{contains_key-put, item_at-filter_kept, item_at-found}
+use Rattle.rx_order.proofs.LookUps.{item_at-filter_kept, item_at-found}
 use Rattle.rx_ledger.specs.declared.member.Member.{Member}
 use Rattle.rx_ledger.specs.declared.member.MemberKey.{MemberKey}
 use Rattle.rx_ledger.specs.declared.row.Row.{Row}
-use Rattle.rx_ledger.specs.Ledger.{Ledger, is_listed, is_taken, members_of, rows_of}
+use Rattle.rx_ledger.specs.Ledger.{Ledger, is_listed, members_of, rows_of}
 use Rattle.rx_ledger.specs.Members.{is_same, member_cmp, member_key, of_family}
 use Rattle.rx_ledger.specs.Rows.{claimed_by, member_of_row, row_key}
 use Rattle.rx_ledger.proofs.Orders.{id_exact, id_total, key_total, member_exact, member_total}
@@ -26,7 +27,7 @@ use Rattle.rx_parcels.specs.FamilyBook.{FamilyBook, book_with_member, book_with_
 use Rattle.rx_books_shelf.specs.Gathered.{with_members, with_own_member, with_own_row, with_rows}
 use Rattle.rx_places.specs.Moving.{one_at}
 use Rattle.rx_places.proofs.Moving.{over_absent, over_at}
-use Rattle.rx_books_shelf.proofs.Moved.{map_map, map_same}
+use Rattle.rx_places.proofs.Moved.{map_map, map_same}
 use Rattle.rx_books_shelf.proofs.ShelfKept.{ascending_changed}
 
 map_itself : {A : Type 0} (xs : List A) → map (λ x. x) xs ≡ xs
@@ -111,41 +112,44 @@ members_put_are (m ∷ ms) bs = members_put_are ms (map (with_own_member m) bs) 
     one : (b : FamilyBook) → with_all ms (with_own_member m b) ≡ with_all (m ∷ ms) b
     one b = elim (cases_Bool (of_family b.family m)) [ inl t ↦ rw t refl | inr n ↦ rw n refl ]
 
+-- each of these items is past those that are there
+module _ {X K : Type 0} (cmp : K → K → Ordering) (key : X → K) where
+  abbrev pub ArePast : List X → List X → Type 0
+  ArePast xs rest = All (λ y. is_past cmp key xs (key y) ≡ true) rest
+
+  past_more : (xs : List X) (x y : X) → is_past cmp key xs (key y) ≡ true → cmp (key x) (key y) ≡ Less
+      → is_past cmp key (xs ++ x ∷ []) (key y) ≡ true
+  past_more [] x y h less = rw less refl
+  past_more (z ∷ xs) x y h less = let parts = and_parts _ _ h in and_from _ _ parts.0 (past_more xs x y parts.1 less)
+
+  past_all : (xs : List X) (x : X) (rest : List X) → IsBelow cmp key (key x) rest → ArePast xs rest → ArePast (xs ++ x ∷ []) rest
+  past_all xs x [] below all = All-nil _
+  past_all xs x (y ∷ rest) below all =
+      let P : X → Type 0 = λ z. is_past cmp key xs (key z) ≡ true in
+      let Q : X → Type 0 = λ z. is_past cmp key (xs ++ x ∷ []) (key z) ≡ true in
+      All-cons Q y rest (past_more xs x y (All-head P y rest all) below.0) (past_all xs x rest below.1 (All-tail P y rest all))
+
+  past_nothing : (rest : List X) → ArePast [] rest
+  past_nothing [] = All-nil _
+  past_nothing (y ∷ rest) = All-cons (λ z. is_past cmp key [] (key z) ≡ true) y rest refl (past_nothing rest)
+
 -- each member is past those of its family's book
 abbrev pub Past : List Member → FamilyBook → Type 0
-Past ms b = All (λ m. is_past member_cmp member_key b.members m.key ≡ true) ms
+Past ms b = ArePast member_cmp member_key b.members ms
 
-past_more : (ms : List Member) (m n : Member) → is_past member_cmp member_key ms n.key ≡ true → member_cmp m.key n.key ≡ Less
-    → is_past member_cmp member_key (ms ++ m ∷ []) n.key ≡ true
-past_more [] m n h less = rw less refl
-past_more (x ∷ ms) m n h less = let parts = and_parts _ _ h in and_from _ _ parts.0 (past_more ms m n parts.1 less)
-
-past_all : (ms : List Member) (m : Member) (rest : List Member) → IsBelow member_cmp member_key m.key rest
-    → All (λ (n : Member). is_past member_cmp member_key ms n.key ≡ true) rest
-    → All (λ (n : Member). is_past member_cmp member_key (ms ++ m ∷ []) n.key ≡ true) rest
-past_all ms m [] below all = All-nil _
-past_all ms m (n ∷ rest) below all =
-    let P : Member → Type 0 = λ x. is_past member_cmp member_key ms x.key ≡ true in
-    let Q : Member → Type 0 = λ x. is_past member_cmp member_key (ms ++ m ∷ []) x.key ≡ true in
-    All-cons Q n rest (past_more ms m n (All-head P n rest all) below.0) (past_all ms m rest below.1 (All-tail P n rest all))
-
-pub past_kept : (m : Member) (rest : List Member) → IsBelow member_cmp member_key m.key rest → (b : FamilyBook) → Past (m ∷ rest) b
+past_kept : (m : Member) (rest : List Member) → IsBelow member_cmp member_key m.key rest → (b : FamilyBook) → Past (m ∷ rest) b
     → Past rest (with_own_member m b)
 past_kept m rest below b past =
     let P : Member → Type 0 = λ x. is_past member_cmp member_key b.members x.key ≡ true in
     elim (cases_Bool (of_family b.family m)) [
       | inl t ↦
           let behind = put-past member_cmp member_total member_key b.members m (All-head P m rest past) in
-          rw (t, behind) (past_all b.members m rest below (All-tail P m rest past))
+          rw (t, behind) (past_all member_cmp member_key b.members m rest below (All-tail P m rest past))
       | inr n ↦ rw n (All-tail P m rest past)
     ]
 
-pub past_none : (ms : List Member) (b : FamilyBook) → b.members ≡ [] → Past ms b
-past_none ms b none = rw none (each ms)
-  where
-    each : (ns : List Member) → All (λ (n : Member). is_past member_cmp member_key [] n.key ≡ true) ns
-    each [] = All-nil _
-    each (n ∷ ns) = All-cons (λ (x : Member). is_past member_cmp member_key [] x.key ≡ true) n ns refl (each ns)
+past_none : (ms : List Member) (b : FamilyBook) → b.members ≡ [] → Past ms b
+past_none ms b none = rw none (past_nothing member_cmp member_key ms)
 
 pub all_past : (ms : List Member) (bs : List FamilyBook) → All (λ (b : FamilyBook). b.members ≡ []) bs → All (Past ms) bs
 all_past ms bs none = All-weaker (λ (b : FamilyBook). b.members ≡ []) (Past ms) (past_none ms) bs none
@@ -201,50 +205,36 @@ rows_put_are (r ∷ rs) bs = rows_put_are rs (map (with_own_row r) bs) ∙ map_m
     one : (b : FamilyBook) → with_all_rows rs (with_own_row r b) ≡ with_all_rows (r ∷ rs) b
     one b = elim (cases_Bool (claimed_by b.family r)) [ inl t ↦ rw t refl | inr n ↦ rw n refl ]
 
--- no row is under the key of one that is still to come
-abbrev pub Free : List Row → FamilyBook → Type 0
-Free rs b = All (λ r. is_taken (own_ledger b) r.key ≡ false) rs
+-- each row is past those of its family's book
+abbrev pub PastRows : List Row → FamilyBook → Type 0
+PastRows rs b = ArePast key_cmp row_key b.rows rs
 
-free_all : (rows : List Row) (r : Row) (rest : List Row) → IsBelow key_cmp row_key r.key rest
-    → All (λ (x : Row). contains_key key_cmp row_key rows x.key ≡ false) rest
-    → All (λ (x : Row). contains_key key_cmp row_key (put key_cmp row_key rows r) x.key ≡ false) rest
-free_all rows r [] below all = All-nil _
-free_all rows r (x ∷ rest) below all =
-    let P : Row → Type 0 = λ y. contains_key key_cmp row_key rows y.key ≡ false in
-    let Q : Row → Type 0 = λ y. contains_key key_cmp row_key (put key_cmp row_key rows r) y.key ≡ false in
-    let other : has_key key_cmp row_key x.key r ≡ false = ap is_eq below.0 in
-    let first : contains_key key_cmp row_key (put key_cmp row_key rows r) x.key ≡ false =
-    contains_key-put key_cmp key_total row_key rows r x.key ∙ ap (λ t. t || contains_key key_cmp row_key rows x.key) other
-    ∙ All-head P x rest all in
-    All-cons Q x rest first (free_all rows r rest below.1 (All-tail P x rest all))
-
-pub free_kept : (r : Row) (rest : List Row) → IsBelow key_cmp row_key r.key rest → (b : FamilyBook) → Free (r ∷ rest) b
-    → Free rest (with_own_row r b)
-free_kept r rest below b free =
-    let P : Row → Type 0 = λ x. is_taken (own_ledger b) x.key ≡ false in
+past_row_kept : (r : Row) (rest : List Row) → IsBelow key_cmp row_key r.key rest → (b : FamilyBook) → PastRows (r ∷ rest) b
+    → PastRows rest (with_own_row r b)
+past_row_kept r rest below b past =
+    let P : Row → Type 0 = λ x. is_past key_cmp row_key b.rows x.key ≡ true in
     elim (cases_Bool (claimed_by b.family r)) [
-      | inl t ↦ rw t (free_all b.rows r rest below (All-tail P r rest free))
-      | inr n ↦ rw n (All-tail P r rest free)
+      | inl t ↦
+          let behind = put-past key_cmp key_total row_key b.rows r (All-head P r rest past) in
+          rw (t, behind) (past_all key_cmp row_key b.rows r rest below (All-tail P r rest past))
+      | inr n ↦ rw n (All-tail P r rest past)
     ]
 
-free_none : (rs : List Row) (b : FamilyBook) → b.rows ≡ [] → Free rs b
-free_none rs b none = rw none (each rs)
-  where
-    each : (ns : List Row) → All (λ (x : Row). contains_key key_cmp row_key [] x.key ≡ false) ns
-    each [] = All-nil _
-    each (n ∷ ns) = All-cons (λ (x : Row). contains_key key_cmp row_key [] x.key ≡ false) n ns refl (each ns)
+no_rows_past : (rs : List Row) (b : FamilyBook) → b.rows ≡ [] → PastRows rs b
+no_rows_past rs b none = rw none (past_nothing key_cmp row_key rs)
 
-pub all_free : (rs : List Row) (bs : List FamilyBook) → All (λ (b : FamilyBook). b.rows ≡ []) bs → All (Free rs) bs
-all_free rs bs none = All-weaker (λ (b : FamilyBook). b.rows ≡ []) (Free rs) (free_none rs) bs none
+pub all_rows_past : (rs : List Row) (bs : List FamilyBook) → All (λ (b : FamilyBook). b.rows ≡ []) bs → All (PastRows rs) bs
+all_rows_past rs bs none = All-weaker (λ (b : FamilyBook). b.rows ≡ []) (PastRows rs) (no_rows_past rs) bs none
 
-pub all_free_kept : (r : Row) (rest : List Row) → IsBelow key_cmp row_key r.key rest → (bs : List FamilyBook)
-    → All (Free (r ∷ rest)) bs → All (Free rest) (map (with_own_row r) bs)
-all_free_kept r rest below bs all = All-mapped (Free (r ∷ rest)) (Free rest) (with_own_row r) (free_kept r rest below) bs all
+pub all_rows_past_kept : (r : Row) (rest : List Row) → IsBelow key_cmp row_key r.key rest → (bs : List FamilyBook)
+    → All (PastRows (r ∷ rest)) bs → All (PastRows rest) (map (with_own_row r) bs)
+all_rows_past_kept r rest below bs all =
+    All-mapped (PastRows (r ∷ rest)) (PastRows rest) (with_own_row r) (past_row_kept r rest below) bs all
 
-pub free_first : (r : Row) (rest : List Row) (bs : List FamilyBook) → All (Free (r ∷ rest)) bs
-    → All (λ (b : FamilyBook). is_taken (own_ledger b) r.key ≡ false) bs
-free_first r rest bs all = All-weaker (Free (r ∷ rest)) (λ (b : FamilyBook). is_taken (own_ledger b) r.key ≡ false)
-    (λ b free. All-head (λ (x : Row). is_taken (own_ledger b) x.key ≡ false) r rest free) bs all
+pub row_past_first : (r : Row) (rest : List Row) (bs : List FamilyBook) → All (PastRows (r ∷ rest)) bs
+    → All (λ (b : FamilyBook). is_past key_cmp row_key b.rows r.key ≡ true) bs
+row_past_first r rest bs all = All-weaker (PastRows (r ∷ rest)) (λ (b : FamilyBook). is_past key_cmp row_key b.rows r.key ≡ true)
+    (λ b past. All-head (λ (x : Row). is_past key_cmp row_key b.rows x.key ≡ true) r rest past) bs all
 
 same_family : (r : Row) (b : FamilyBook) → family_of (with_own_row r b) ≡ family_of b
 same_family r b = elim (cases_Bool (claimed_by b.family r)) [ inl t ↦ rw t refl | inr n ↦ rw n refl ]

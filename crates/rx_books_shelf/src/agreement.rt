@@ -10,7 +10,7 @@ ghost use Rattle.rx_places.specs.Shelves.{AreAllAgreed, IsShelf, are_all_in, fam
 ghost use Rattle.rx_places.specs.Shelves.{row_held, value_of};
 ghost use Rattle.rx_books_shelf.specs.Agreement.{agree, book_stands, rest_stands, row_stands, stands};
 
-use crate::keys::row_held;
+use crate::held::row_held;
 use crate::shelf::Shelf;
 use rx_fields::{Id, Key};
 use rx_ledger::Row;

@@ -7,7 +7,7 @@ ghost use Rattle.rx_books_kept.specs.OpenBooks.{open_with, open_without};
 ghost use Rattle.rx_places.specs.Shelves.{AreAllAgreed, HoldsOwnRow, IsShelf, are_all_in, row_held, value_of};
 ghost use Rattle.rx_books_shelf.specs.Closed.{HasSlot, are_members_kept, does_book_keep, is_member_held, open_over, with_place};
 
-use crate::keys::row_held;
+use crate::held::row_held;
 use crate::shelf::Shelf;
 use rx_books_kept::{Books, OpenBooks};
 use rx_fields::Key;

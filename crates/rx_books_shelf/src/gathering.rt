@@ -1,10 +1,10 @@
-ghost use Rattle.std.specs.Prelude.{◌≡◌, [], IfOk, OnOk, false, map, true};
+ghost use Rattle.std.specs.Prelude.{◌≡◌, [], IfOk, OnOk, map, true};
 ghost use Rattle.std.specs.List.{All};
-ghost use Rattle.rx_fields.specs.Order.{id_cmp};
+ghost use Rattle.rx_fields.specs.Order.{id_cmp, key_cmp};
 ghost use Rattle.rx_order.specs.Ascending.{IsAscending, is_past};
-ghost use Rattle.rx_ledger.specs.Ledger.{is_listed, is_taken, members_of};
+ghost use Rattle.rx_ledger.specs.Ledger.{is_listed, members_of};
 ghost use Rattle.rx_ledger.specs.Members.{member_cmp, member_key};
-ghost use Rattle.rx_ledger.specs.Rows.{member_of_row};
+ghost use Rattle.rx_ledger.specs.Rows.{member_of_row, row_key};
 ghost use Rattle.rx_parcels.specs.FamilyBook.{IsOwn, empty_book, family_of, own_ledger};
 ghost use Rattle.rx_parcels.specs.Footprints.{itself};
 ghost use Rattle.rx_books_shelf.specs.Gathered.{with_members, with_own_member, with_own_row, with_rows};
@@ -106,10 +106,10 @@ fn put_member(books: &mut Vec<Unsummed>, home: usize, member: Member) -> Result<
     }
 }
 
-// Puts a row under its free key into its family's book, if the book is there: it is looked for at `home`.
+// Puts a row behind the others of its family's book, if the book is there: it is looked for at `home`.
 fn put_row(books: &mut Vec<Unsummed>, home: usize, row: Row) -> Result<(), Memory>
     requires rise { IsAscending id_cmp family_of books.old.items }
-    requires free { All (λ b. is_taken (own_ledger b) row.key ≡ false) books.old.items }
+    requires past { All (λ b. is_past key_cmp row_key b.rows row.key ≡ true) books.old.items }
     requires listed { All (λ b. b.family ≡ row.family → is_listed (own_ledger b) (member_of_row row) ≡ true) books.old.items }
     ensures { OnOk result (books.new.items ≡ map (with_own_row row) books.old.items) }
 {

@@ -16,10 +16,9 @@
 
 mod agreement;
 mod closing;
-mod families;
 mod fault;
 mod gathering;
-mod keys;
+mod held;
 mod naming;
 mod placing;
 mod rooms;

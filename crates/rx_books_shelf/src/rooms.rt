@@ -43,27 +43,25 @@ pub(crate) fn rooms_of(
     homes: &[u32],
 ) -> Result<Vec<Room>, Memory> {
     let mut rooms = vec![in alloc; Room::NONE; families.len()]?;
+    // The home of each member whose family is one of these. A row is counted without a look at it.
+    let mut named = Vec::with_capacity(alloc, homes.len())?;
     for (place, member) in open.members().iter().enumerate() {
-        let home = home_at(homes, place);
-        if is_named(families, home, &member.key.family) {
-            count_member(&mut rooms, home);
-        }
+        let home = named_home(families, home_at(homes, place), &member.key.family);
+        count_member(&mut rooms, home as usize);
+        named.push(home)?;
     }
     let mut standing = open.standing();
-    'rows: while let Some((row, member)) = standing.next_row() {
-        let home = home_at(homes, member);
-        if is_named(families, home, &row.family) {
-            count_row(&mut rooms, home);
-        }
+    'rows: while let Some((_, member)) = standing.next_row() {
+        count_row(&mut rooms, home_at(&named, member));
     }
     Ok(rooms)
 }
 
-// Whether the family at the place is this one.
-fn is_named(families: &[Id], place: usize, family: &Id) -> bool {
+// The place, where the family there is this one; else one that no family has.
+fn named_home(families: &[Id], place: usize, family: &Id) -> u32 {
     match families.get(place) {
-        Some(named) => named == family,
-        None => false,
+        Some(named) if named == family => u32::try_from(place).unwrap_or(u32::MAX),
+        _ => u32::MAX,
     }
 }
 

@@ -1,4 +1,4 @@
-ghost use Rattle.std.specs.Prelude.{◌≡◌, ◌≢◌, ◌≤◌, ◌↔◌, ◌||◌, if◌then◌else◌, Bool, false, true, is_ok, length, vec_capacity};
+ghost use Rattle.std.specs.Prelude.{◌≡◌, ◌≢◌, ◌≤◌, ◌↔◌, ◌||◌, if◌then◌else◌, Bool, false, true, is_ok, is_some, length, vec_capacity};
 ghost use Rattle.std.specs.Prelude.{IfErr, IfOk, IsErrOf, IsOk, OnErr, OnOk};
 ghost use Rattle.rx_ledger.specs.Ledger.{empty};
 ghost use Rattle.rx_parcels.specs.Books.{Book, book};
@@ -8,10 +8,8 @@ ghost use Rattle.rx_places.specs.Shelves.{AreAllAgreed, IsShelf, are_all_in, has
 ghost use Rattle.rx_books_shelf.specs.Opened.{is_named, shelf_of};
 ghost use Rattle.rx_books_shelf.specs.Taken.{are_out, has_all, parcel_of, put_back, taken_out};
 
-use crate::families::{are_families_in, are_families_out, give_families, take_families};
 use crate::fault::{GiveFault, TakeFault};
 use crate::gathering::gathered;
-use crate::keys::{are_keys_in, are_keys_out, give_keys, take_keys};
 use crate::naming::{families_named, keys_named};
 use crate::placing::{family_places, key_places};
 use rx_books_kept::{Books, OpenBooks};
@@ -94,13 +92,15 @@ impl Shelf {
         ensures out { OnOk result ((b : Book) → is_out self.new b ≡ (names footprint.now b || is_out self.old b)) }
         ensures slots { OnOk result ((b : Book) → has_slot self.new b ≡ has_slot self.old b) }
     {
-        if !self.has_all(footprint) {
+        let Some(near) = self.all_in(footprint) else {
             return Err(TakeFault::Absent);
-        }
+        };
         let keys = book_room(alloc, footprint.keys().len())?;
         let families = book_room(alloc, footprint.families().len())?;
-        let keys = take_keys(&mut self.keys, footprint.keys(), keys);
-        let families = take_families(&mut self.families, footprint.families(), families);
+        let keys = self.keys.take_all(near.key, footprint.keys(), keys);
+        let families = self
+            .families
+            .take_all(near.family, footprint.families(), families);
         Ok(Parcel::new(self.books.period(), keys, families))
     }
 
@@ -117,30 +117,42 @@ impl Shelf {
         ensures out { OnOk result ((b : Book) → is_out self.new b ≡ (if names (named_in parcel) b then false else is_out self.old b)) }
         ensures slots { OnOk result ((b : Book) → has_slot self.new b ≡ has_slot self.old b) }
     {
-        if parcel.period() != self.books.period() || !self.are_out(&parcel) {
+        if parcel.period() != self.books.period() {
             return Err(GiveFault { parcel });
         }
+        let Some(near) = self.all_out(&parcel) else {
+            return Err(GiveFault { parcel });
+        };
         let (keys, families) = parcel.into_books();
-        give_keys(&mut self.keys, keys);
-        give_families(&mut self.families, families);
+        self.keys.put_all(near.key, keys);
+        self.families.put_all(near.family, families);
         Ok(())
     }
 
-    // Whether each book that the footprint names is in.
-    fn has_all(&self, footprint: &Footprint) -> bool
-        ensures { result ≡ has_all self.now footprint.now }
+    // Whether each book that the footprint names is in: then where to look for their places first.
+    fn all_in(&self, footprint: &Footprint) -> Option<Near>
+        ensures { is_some result ≡ has_all self.now footprint.now }
     {
-        are_keys_in(&self.keys, footprint.keys())
-            && are_families_in(&self.families, footprint.families())
+        let key = self.keys.all_in(footprint.keys())?;
+        let family = self.families.all_in(footprint.families())?;
+        Some(Near { key, family })
     }
 
-    // Whether each book of the parcel has a place, and is out.
-    fn are_out(&self, parcel: &Parcel) -> bool
-        ensures { result ≡ are_out self.now (named_in parcel.now) }
+    // Whether each book of the parcel has a place, and is out: then where to look for their places first.
+    fn all_out(&self, parcel: &Parcel) -> Option<Near>
+        ensures { is_some result ≡ are_out self.now (named_in parcel.now) }
     {
-        are_keys_out(&self.keys, parcel.keys())
-            && are_families_out(&self.families, parcel.families())
+        let key = self.keys.all_out(parcel.keys())?;
+        let family = self.families.all_out(parcel.families())?;
+        Some(Near { key, family })
     }
+}
+
+// Where a place of a parcel's keys and one of its families is, or may be.
+#[derive(Clone, Copy, Debug)]
+struct Near {
+    key: usize,
+    family: usize,
 }
 
 // Room for so many books; a single one needs none.

@@ -1,14 +1,14 @@
-ghost use Rattle.std.specs.Prelude.{◌≡◌, ◌<◌, ◌^◌, [], IfOk, IsTrue, OnErr, OnOk, false, length, true};
+ghost use Rattle.std.specs.Prelude.{◌≡◌, ◌<◌, ◌^◌, [], IfOk, IsTrue, OnErr, OnOk, length, true};
 ghost use Rattle.rx_fields.specs.Order.{key_cmp};
-ghost use Rattle.rx_order.specs.Ascending.{contains_key, is_past, put};
-ghost use Rattle.rx_ledger.specs.Ledger.{is_listed, is_taken};
+ghost use Rattle.rx_order.specs.Ascending.{is_past, put};
+ghost use Rattle.rx_ledger.specs.Ledger.{is_listed};
 ghost use Rattle.rx_ledger.specs.Members.{member_cmp, member_key};
 ghost use Rattle.rx_ledger.specs.Rows.{member_of_row, row_key};
 ghost use Rattle.rx_parcels.specs.FamilyBook.{AreTotals, IsOwn, book_with_member, book_with_row, empty_book, own_ledger};
 
 use rx_fields::{Id, Memory, Period};
 use rx_ledger::{Member, Row};
-use rx_order::{Ascending, InsertError, Keyed};
+use rx_order::{Ascending, Keyed};
 use rx_parcels::{Family, FamilyTotals, counted_in};
 use std::alloc::Global;
 use std::marker::Model;
@@ -88,9 +88,10 @@ impl Unsummed {
         Ok(())
     }
 
-    /// Adds a standing claim of a member under a free fill key. On a refusal the book is unchanged.
+    /// Adds a standing claim of a member, whose fill key comes after those that are there. On a refusal the book is
+    /// unchanged.
     pub(crate) fn add(&mut self, row: Row) -> Result<(), Memory>
-        requires free { is_taken (own_ledger self.old) row.key ≡ false }
+        requires past { IsTrue (is_past key_cmp row_key self.old.rows row.key) }
         requires listed { is_listed (own_ledger self.old) (member_of_row row) ≡ true }
         ensures ok { OnOk result (self.new ≡ book_with_row self.old row) }
         ensures err { OnErr result (self.new ≡ self.old) }
@@ -140,20 +141,13 @@ fn with_room<T: Keyed>(alloc: Global, count: usize) -> Result<Ascending<T>, Memo
     }
 }
 
-// Puts a row under a free key, which mostly comes behind the others.
+// Puts a row behind the others.
 fn put_behind(rows: &mut Ascending<Row>, row: Row) -> Result<(), Memory>
-    requires { contains_key key_cmp row_key rows.old row.key ≡ false }
+    requires { IsTrue (is_past key_cmp row_key rows.old row.key) }
     ensures ok { OnOk result (rows.new ≡ put key_cmp row_key rows.old row) }
     ensures err { OnErr result (rows.new ≡ rows.old) }
     ensures small { OnOk result (length rows.new < 2 ^ 63) }
 {
-    if rows.is_past(&row.key) {
-        rows.push(row)?;
-        return Ok(());
-    }
-    match rows.insert(row) {
-        Ok(()) => Ok(()),
-        Err(InsertError::There(_)) => unreachable!(),
-        Err(InsertError::Memory(_)) => Err(Memory),
-    }
+    rows.push(row)?;
+    Ok(())
 }

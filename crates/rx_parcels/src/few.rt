@@ -27,6 +27,18 @@ impl<T> Few<T> {
         }
     }
 
+    /// The list of these items, which can be copied: a single one stands in place. It takes no memory.
+    pub(crate) fn of(items: Vec<T>) -> Few<T>
+    where
+        T: Copy,
+        ensures { items_of result ≡ items.items }
+    {
+        match items.as_slice() {
+            [item] => Few::One(*item),
+            _ => Few::Many(items),
+        }
+    }
+
     /// The item at a place, for writing.
     pub(crate) fn at_mut(&mut self, place: usize) -> &mut T
         requires { place < length (items_of self.old) }

@@ -4,6 +4,7 @@ ghost use Rattle.rx_order.specs.Ascending.{IsAscending, is_ascending};
 ghost use Rattle.rx_parcels.specs.Books.{OfFamily, OfKey};
 ghost use Rattle.rx_parcels.specs.Footprints.{IsFootprint, itself, names};
 
+use crate::few::Few;
 use rx_fields::{Id, Key, Memory};
 use std::alloc::Global;
 use std::marker::Model;
@@ -11,18 +12,19 @@ use std::marker::Model;
 /// The books that a record names: fill keys and families, each in order without repeats (docs/PRODUCT.md, "Words").
 #[derive(Debug, Drop)]
 pub struct Footprint {
-    keys: Vec<Key>,
-    families: Vec<Id>,
+    keys: Few<Key>,
+    families: Few<Id>,
 }
 
 impl Model for Footprint {
+    ghost use Rattle.rx_parcels.specs.Few.{items_of};
     ghost use Rattle.rx_parcels.specs.Footprints.{FootprintParts, IsFootprint};
 
     ghost Value = { FootprintParts };
 
-    ghost view = { λ f. record { keys = f.keys.items; families = f.families.items } };
+    ghost view = { λ f. record { keys = items_of f.keys; families = items_of f.families } };
 
-    ghost invariant = { λ f. IsFootprint (record { keys = f.keys.items; families = f.families.items }) };
+    ghost invariant = { λ f. IsFootprint (record { keys = items_of f.keys; families = items_of f.families }) };
 }
 
 impl Footprint {
@@ -32,6 +34,8 @@ impl Footprint {
         ensures value { IfSome result (λ f. f ≡ record { keys = keys.items; families = families.items }) }
     {
         if are_keys_ascending(&keys) && are_families_ascending(&families) {
+            let keys = Few::of(keys);
+            let families = Few::of(families);
             Some(Footprint { keys, families })
         } else {
             None
@@ -58,14 +62,14 @@ impl Footprint {
     pub fn has_key(&self, key: &Key) -> bool
         ensures { result ≡ names self.now (OfKey key.now) }
     {
-        self.keys.binary_search_by_key(key, |own| *own).is_ok()
+        self.keys().binary_search_by_key(key, |own| *own).is_ok()
     }
 
     /// Whether it names the family.
     pub fn has_family(&self, family: &Id) -> bool
         ensures { result ≡ names self.now (OfFamily family.now) }
     {
-        self.families
+        self.families()
             .binary_search_by_key(family, |own| *own)
             .is_ok()
     }
@@ -74,8 +78,8 @@ impl Footprint {
     pub fn copy(&self, alloc: Global) -> Result<Footprint, Memory>
         ensures { IfOk result (λ footprint. footprint ≡ self.now) }
     {
-        let keys = Vec::from_slice(alloc, &self.keys)?;
-        let families = Vec::from_slice(alloc, &self.families)?;
+        let keys = self.keys.to_copy(alloc)?;
+        let families = self.families.to_copy(alloc)?;
         Ok(Footprint { keys, families })
     }
 }
@@ -105,7 +109,7 @@ impl PartialEq for Footprint {
     fn eq(&self, other: &Footprint) -> bool
         ensures { IsTrue result ↔ (self.now ≡ other.now) }
     {
-        self.keys == other.keys && self.families == other.families
+        self.keys() == other.keys() && self.families() == other.families()
     }
 }
 

@@ -1,5 +1,7 @@
 -- Places in order, of which one is changed: the list with the changed place written over it.
-use Rattle.std.proofs.Common.{◌≡◌, ℕ, zero, suc, List, [], ◌∷◌, get_or, set, true, false, None, refl, sym, ap, inl, inr, arith}
+use Rattle.std.proofs.Common.{◌≡◌, ℕ, zero, suc, List, [], ◌∷◌, get_or, set, Bool, true, false, None, refl, sym, ap, inl, inr, arith}
+use Rattle.std.specs.Bool.{then_some}
+use Rattle.std.specs.Option.{is_some}
 use Rattle.std.specs.Cmp.{IsTotalOrder}
 use Rattle.std.specs.Ordering.{is_eq}
 use Rattle.std.specs.declared.cmp.Ordering.{Ordering}
@@ -11,6 +13,11 @@ use Rattle.rx_order.proofs.Keys.{Greater-from_Less, IsBelow-tied}
 use Rattle.rx_order.proofs.Kept.{IsAscending-map}
 use Rattle.rx_order.proofs.Places.{has_key-elsewhere, item_at-gap}
 use Rattle.rx_places.specs.Moving.{one_at, over}
+
+-- whether a place is told
+pub is_told : (b : Bool) (place : ℕ) → is_some (then_some b place) ≡ b
+is_told true place = refl
+is_told false place = refl
 
 module _ {X K : Type 0} (cmp : K → K → Ordering) (order : IsTotalOrder cmp) (key : X → K) where
   pub apart : (k : K) (y : X) → cmp k (key y) ≡ Less → has_key cmp key k y ≡ false

@@ -1,8 +1,9 @@
--- Plumbing: places in order, of which the one that has a key is changed, and whether its book is there.
+-- Plumbing: places in order, of which those that have some keys are changed, and whether their books are there.
 use Rattle.std.specs.Prelude.{Bool, false, not, List, map, Option, Some, None, if◌then◌else◌}
-use Rattle.std.specs.Option.{is_some}
+use Rattle.std.specs.Option.{is_some, option_and_then, option_to_list}
 use Rattle.std.specs.declared.cmp.Ordering.{Ordering}
-use Rattle.rx_order.specs.Ascending.{has_key}
+use Rattle.rx_order.specs.Ascending.{contains_key, has_key, item_at}
+use Rattle.rx_parcels.specs.Footprints.{itself}
 
 module _ {X K : Type 0} (cmp : K → K → Ordering) (key : X → K) where
   abbrev pub one_at : (X → X) → K → X → X
@@ -20,3 +21,22 @@ is_in held (Some p) = is_some (held p)
 abbrev pub is_out : {P B : Type 0} → (P → Option B) → Option P → Bool
 is_out held None = false
 is_out held (Some p) = not (is_some (held p))
+
+-- the place with the book, if there is one
+abbrev pub with_book : {P B : Type 0} → (B → P → P) → Option B → P → P
+with_book filled None p = p
+with_book filled (Some b) p = filled b p
+
+module _ {P K : Type 0} (cmp : K → K → Ordering) (key : P → K) where
+  -- the place, emptied if its key is one of these
+  abbrev pub emptied_of : (P → P) → List K → P → P
+  emptied_of emptied ks p = if contains_key cmp itself ks (key p) then emptied p else p
+
+  module _ {B : Type 0} where
+    -- the book of a key, if its place holds it
+    abbrev pub book_at : (P → Option B) → List P → K → List B
+    book_at held places k = option_to_list (option_and_then held (item_at cmp key places k))
+
+    -- the place, with the book of these that has its key, if there is one
+    abbrev pub filled_of : (B → K) → (B → P → P) → List B → P → P
+    filled_of name filled books p = with_book filled (item_at cmp name books (key p)) p

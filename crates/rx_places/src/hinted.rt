@@ -1,7 +1,6 @@
 ghost use Rattle.std.specs.Prelude.{◌≡◌, IfErr, IfOk, Option, is_some};
-ghost use Rattle.std.specs.Option.{option_and_then, option_copied};
+ghost use Rattle.std.specs.Option.{option_copied};
 ghost use Rattle.rx_order.specs.Ascending.{IsAscending, IsAt, IsGap, contains_key, item_at};
-ghost use Rattle.rx_places.specs.Moving.{is_in, is_out, over};
 
 use crate::near::is_at;
 use rx_fields::Memory;
@@ -56,6 +55,10 @@ pub trait Place: Hashed {
     ghost emptied_keeps: { (place : Self) → Self.key_of (emptied place) ≡ Self.key_of place };
 
     ghost filled_keeps: { (book : Self.Book) (place : Self) → Self.key_of (filled book place) ≡ Self.key_of place };
+
+    ghost emptied_again: { (place : Self) → emptied (emptied place) ≡ emptied place };
+
+    ghost filled_again: { (b c : Self.Book) (place : Self) → filled b (filled c place) ≡ filled b place };
 }
 
 /// A list in the ascending order of its items' keys, at most one item of a key, whose items are found by a hash of their
@@ -63,7 +66,7 @@ pub trait Place: Hashed {
 /// found is searched for.
 #[derive(Debug, Drop)]
 pub struct Hinted<T: Hashed> {
-    items: Vec<T>,
+    pub(crate) items: Vec<T>,
     // Where items probably are, by the upper halves of the hashes of their keys: each place below the lower half, so that
     // hardly any item is looked at but the one that is looked for.
     hints: Vec<u64>,
@@ -117,6 +120,17 @@ impl<T: Hashed> Hinted<T> {
         place_of(&self.items, key)
     }
 
+    /// Where the item with the key is, or where it would go. It is looked for at the place `near` first.
+    pub(crate) fn place_from(&self, near: usize, key: &T::Key) -> Result<usize, usize>
+        ensures found { IfOk result (IsAt T.Key.cmp T.key_of self.now key.now) }
+        ensures absent { IfErr result (IsGap T.Key.cmp T.key_of self.now key.now) }
+    {
+        if is_at(&self.items, near, key) {
+            return Ok(near);
+        }
+        self.place(key)
+    }
+
     /// The item that has the key.
     pub fn get(&self, key: &T::Key) -> Option<&T>
         ensures { option_copied result ≡ item_at T.Key.cmp T.key_of self.now key.now }
@@ -132,51 +146,6 @@ impl<T: Hashed> Hinted<T> {
         ensures { result ≡ contains_key T.Key.cmp T.key_of self.now key.now }
     {
         self.place(key).is_ok()
-    }
-}
-
-impl<T: Place> Hinted<T> {
-    /// Whether the key has a place, and its book is there.
-    pub fn is_in(&self, key: &T::Key) -> bool
-        ensures { result ≡ is_in T.held (item_at T.Key.cmp T.key_of self.now key.now) }
-    {
-        match self.get(key) {
-            Some(place) => place.is_held(),
-            None => false,
-        }
-    }
-
-    /// Whether the key has a place, and its book is out.
-    pub fn is_out(&self, key: &T::Key) -> bool
-        ensures { result ≡ is_out T.held (item_at T.Key.cmp T.key_of self.now key.now) }
-    {
-        match self.get(key) {
-            Some(place) => !place.is_held(),
-            None => false,
-        }
-    }
-
-    /// Takes the book of a key out of its place, if it is there. It takes no memory.
-    #[inline(always)]
-    pub fn take(&mut self, key: &T::Key) -> Option<T::Book>
-        ensures book { result ≡ option_and_then T.held (item_at T.Key.cmp T.key_of self.old key.now) }
-        ensures places { self.new ≡ over T.Key.cmp T.key_of T.emptied key.now self.old }
-    {
-        match self.place(key) {
-            Ok(at) => self.items[at].take(),
-            Err(_) => None,
-        }
-    }
-
-    /// Puts a book into the place of its key, if there is one. It takes no memory.
-    #[inline(always)]
-    pub fn put(&mut self, book: T::Book)
-        ensures { self.new ≡ over T.Key.cmp T.key_of (T.filled book) (T.Book.key_of book) self.old }
-    {
-        match self.place(&book.key()) {
-            Ok(at) => self.items[at].put(book),
-            Err(_) => {}
-        }
     }
 }
 

@@ -7,6 +7,7 @@
 
 mod among;
 mod hinted;
+mod moves;
 mod near;
 mod place;
 

@@ -65,6 +65,10 @@ impl Place for KeyPlace {
 
     ghost filled_keeps = { λ book place. refl };
 
+    ghost emptied_again = { λ place. refl };
+
+    ghost filled_again = { λ b c place. refl };
+
     fn is_held(&self) -> bool {
         self.held.is_some()
     }
@@ -130,6 +134,10 @@ impl Place for FamilyPlace {
     ghost emptied_keeps = { λ place. refl };
 
     ghost filled_keeps = { λ book place. refl };
+
+    ghost emptied_again = { λ place. refl };
+
+    ghost filled_again = { λ b c place. refl };
 
     fn is_held(&self) -> bool {
         self.held.is_some()

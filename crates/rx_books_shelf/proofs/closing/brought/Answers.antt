@@ -14,7 +14,7 @@ use Rattle.rx_books_kept.specs.OpenBooks.{OpenParts}
 use Rattle.rx_places.specs.declared.place.KeyPlace.{KeyPlace}
 use Rattle.rx_places.specs.Shelves.{HoldsOwnRow, place_key, row_held}
 use Rattle.rx_books_shelf.specs.Closed.{HasSlot}
-use Rattle.rx_books_shelf.proofs.Moved.{drop_next, none_left}
+use Rattle.rx_places.proofs.Moved.{drop_next, none_left}
 use Rattle.rx_books_shelf.proofs.closing.brought.Goals as goal
 
 -- a fact of each place is one of this

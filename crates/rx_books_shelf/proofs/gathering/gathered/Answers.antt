@@ -7,7 +7,7 @@ use Rattle.rx_parcels.specs.FamilyBook.{FamilyBook, empty_book, family_of}
 use Rattle.rx_parcels.specs.Footprints.{itself}
 use Rattle.rx_books_shelf.specs.Gathered.{with_members, with_rows}
 use Rattle.rx_books_shelf.specs.Opened.{family_book}
-use Rattle.rx_books_shelf.proofs.Moved.{map_map}
+use Rattle.rx_places.proofs.Moved.{map_map}
 use Rattle.rx_books_shelf.proofs.PutBooks.{all_map}
 use Rattle.rx_books_shelf.proofs.ShelfKept.{ascending_changed}
 use Rattle.rx_books_shelf.proofs.gathering.gathered.Goals as goal

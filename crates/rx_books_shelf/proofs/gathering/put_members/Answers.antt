@@ -8,7 +8,7 @@ use Rattle.rx_ledger.specs.Members.{member_cmp, member_key}
 use Rattle.rx_ledger.proofs.Orders.{member_total}
 use Rattle.rx_parcels.specs.FamilyBook.{FamilyBook, family_of}
 use Rattle.rx_books_shelf.specs.Gathered.{with_own_member}
-use Rattle.rx_books_shelf.proofs.Moved.{drop_next, none_left}
+use Rattle.rx_places.proofs.Moved.{drop_next, none_left}
 use Rattle.rx_books_shelf.proofs.PutBooks.{Past, all_past, all_past_kept, members_put, members_put_all, past_first, rise_with_member}
 use Rattle.rx_books_shelf.proofs.gathering.put_members.Goals as goal
 

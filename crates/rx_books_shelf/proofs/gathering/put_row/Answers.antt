@@ -1,10 +1,9 @@
 use Rattle.std.proofs.Common.{◌≡◌, true, set, sym, ap, subst, ◌∙◌}
-use Rattle.rx_fields.specs.Order.{id_cmp}
+use Rattle.rx_fields.specs.Order.{id_cmp, key_cmp}
 use Rattle.rx_order.specs.Ascending.{IsAt, is_past}
 use Rattle.rx_order.proofs.Places.{item_at-gap}
 use Rattle.rx_ledger.specs.Ledger.{is_listed}
-use Rattle.rx_ledger.specs.Members.{member_cmp, member_key}
-use Rattle.rx_ledger.specs.Rows.{member_of_row}
+use Rattle.rx_ledger.specs.Rows.{member_of_row, row_key}
 use Rattle.rx_ledger.proofs.Orders.{id_total}
 use Rattle.rx_parcels.specs.FamilyBook.{FamilyBook, book_with_row, family_of, own_ledger}
 use Rattle.rx_books_shelf.proofs.PutBooks.{family_at_place, row_at_place, row_nowhere, of_book, on_ok}
@@ -21,6 +20,13 @@ add-requires-clause-listed c =
     → is_listed (own_ledger b) (member_of_row c.args.row) ≡ true) c.args.books.now.items c.args.row.family c.in-Ok.at
     c.index_mut-book.result.now c.requires.listed is_at c.index_mut-book.ensures.value
     (family_at_place c.args.books.now.items c.args.row.family c.in-Ok.at c.index_mut-book.result.now is_at c.index_mut-book.ensures.value)
+
+pub add-requires-clause-past : goal.add-requires-clause-past
+add-requires-clause-past c =
+    let is_at : IsAt id_cmp family_of c.args.books.now.items c.args.row.family c.in-Ok.at = rw c.deref.ensures.value at
+    c.in-Ok.ensures.found in
+    of_book (λ (b : FamilyBook). is_past key_cmp row_key b.rows c.args.row.key ≡ true) c.args.books.now.items c.args.row.family
+    c.in-Ok.at c.index_mut-book.result.now c.requires.past is_at c.index_mut-book.ensures.value
 
 pub returns-in-Ok : goal.returns-in-Ok
 returns-in-Ok c =

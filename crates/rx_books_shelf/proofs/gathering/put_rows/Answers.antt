@@ -9,7 +9,7 @@ use Rattle.rx_ledger.specs.Ledger.{Ledger, is_listed}
 use Rattle.rx_ledger.specs.Rows.{member_of_row, row_key}
 use Rattle.rx_parcels.specs.FamilyBook.{FamilyBook, family_of}
 use Rattle.rx_books_shelf.specs.Gathered.{with_own_row}
-use Rattle.rx_books_shelf.proofs.PutBooks.{Free, HasMembers, all_free, all_free_kept, free_first, listed_first}
+use Rattle.rx_books_shelf.proofs.PutBooks.{HasMembers, PastRows, all_rows_past, all_rows_past_kept, listed_first, row_past_first}
 use Rattle.rx_books_shelf.proofs.PutBooks.{members_stay, rise_with_row, rows_put, rows_put_all}
 use Rattle.rx_books_shelf.proofs.gathering.put_rows.Goals as goal
 
@@ -21,19 +21,19 @@ rows-init c =
     record {
       put = refl;
       rise = c.requires.rise;
-      free = all_free c.standing-standing.result.rows c.args.books.now.items c.requires.none;
+      past = all_rows_past c.standing-standing.result.rows c.args.books.now.items c.requires.none;
       members = c.requires.members;
       listed = subst (λ (M : Ledger). All (λ (r : Row). is_listed L (member_of_row r) ≡ true) M.rows) (sym value)
           (AllPass-from_list_all (λ (r : Row). is_listed L (member_of_row r)) L.rows within.whole);
       in_order = subst (λ (M : Ledger). IsAscending key_cmp row_key M.rows) (sym value) within.rows_rise;
     }
 
-pub put_row-requires-clause-free : goal.put_row-requires-clause-free
-put_row-requires-clause-free c =
+pub put_row-requires-clause-past : goal.put_row-requires-clause-past
+put_row-requires-clause-past c =
     let r : Row = c.in-Some.row.now in
     let rest : List Row = c.next_row.new.self.rows in
     let here : c.rows.standing.rows ≡ r ∷ rest = c.in-Some.ensures.row in
-    free_first r rest c.rows.books.items (subst (λ rs. All (Free rs) c.rows.books.items) here c.rows.invariant.free)
+    row_past_first r rest c.rows.books.items (subst (λ rs. All (PastRows rs) c.rows.books.items) here c.rows.invariant.past)
 
 pub put_row-requires-clause-listed : goal.put_row-requires-clause-listed
 put_row-requires-clause-listed c =
@@ -55,11 +55,11 @@ rows-preserved c =
     let P : Row → Type 0 = λ x. is_listed L (member_of_row x) ≡ true in
     let left : IsAscending key_cmp row_key (r ∷ rest) = subst (IsAscending key_cmp row_key) here c.rows.invariant.in_order in
     let new : c.put_row.new.books.items ≡ map (with_own_row r) bs = c.in_ok-put_row.ensures in
-    let free = subst (λ rs. All (Free rs) bs) here c.rows.invariant.free in
+    let past = subst (λ rs. All (PastRows rs) bs) here c.rows.invariant.past in
     record {
       put = ap (rows_put rest) new ∙ ap (λ rs. rows_put rs bs) (sym here) ∙ c.rows.invariant.put;
       rise = subst (IsAscending id_cmp family_of) (sym new) (rise_with_row r bs c.rows.invariant.rise);
-      free = subst (All (Free rest)) (sym new) (all_free_kept r rest left.0 bs free);
+      past = subst (All (PastRows rest)) (sym new) (all_rows_past_kept r rest left.0 bs past);
       members = subst (All (HasMembers L)) (sym new) (members_stay L r bs c.rows.invariant.members);
       listed = All-tail P r rest (subst (All P) here c.rows.invariant.listed);
       in_order = left.1;

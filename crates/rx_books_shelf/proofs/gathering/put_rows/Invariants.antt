@@ -1,4 +1,4 @@
--- The rows that are still to be put, each under a key that is free in its family's book.
+-- The rows that are still to be put, each past those of its family's book.
 use Rattle.std.proofs.Common.{◌≡◌, length, true}
 use Rattle.std.specs.List.{All}
 use Rattle.rx_fields.specs.Order.{id_cmp, key_cmp}
@@ -7,14 +7,14 @@ use Rattle.rx_ledger.specs.declared.row.Row.{Row}
 use Rattle.rx_ledger.specs.Ledger.{is_listed}
 use Rattle.rx_ledger.specs.Rows.{member_of_row, row_key}
 use Rattle.rx_parcels.specs.FamilyBook.{family_of}
-use Rattle.rx_books_shelf.proofs.PutBooks.{Free, HasMembers, rows_put}
+use Rattle.rx_books_shelf.proofs.PutBooks.{HasMembers, PastRows, rows_put}
 use Rattle.rx_books_shelf.proofs.gathering.put_rows.Given as goal
 
 abbrev pub invariant-rows : goal.invariant-rows
 invariant-rows l = record {
   put : rows_put l.standing.rows l.books.items ≡ rows_put l.initial.standing.rows l.initial.books.items;
   rise : IsAscending id_cmp family_of l.books.items;
-  free : All (Free l.standing.rows) l.books.items;
+  past : All (PastRows l.standing.rows) l.books.items;
   members : All (HasMembers l.open.books.ledger) l.books.items;
   listed : All (λ (r : Row). is_listed l.open.books.ledger (member_of_row r) ≡ true) l.standing.rows;
   in_order : IsAscending key_cmp row_key l.standing.rows;

@@ -11,7 +11,7 @@ use Rattle.rx_books_kept.proofs.Figured.{all_back, all_front}
 use Rattle.rx_places.specs.declared.place.FamilyPlace.{FamilyPlace}
 use Rattle.rx_places.specs.Shelves.{place_family}
 use Rattle.rx_books_shelf.specs.Opened.{family_book, filled_place}
-use Rattle.rx_books_shelf.proofs.Moved.{no_items}
+use Rattle.rx_places.proofs.Moved.{no_items}
 use Rattle.rx_books_shelf.proofs.ShelfKept.{ascending_changed}
 use Rattle.rx_books_shelf.proofs.placing.family_places.Goals as goal
 

@@ -6,7 +6,7 @@ use Rattle.rx_parcels.proofs.Owned.{own-added}
 use Rattle.rx_books_shelf.proofs.unsummed.Unsummed.add.Goals as goal
 
 pub put_behind-requires : goal.put_behind-requires
-put_behind-requires c = rw (← c.self.view_is) at c.requires.free
+put_behind-requires c = rw (← c.self.view_is) at c.requires.past
 
 pub invariant_of-self-2 : goal.invariant_of-self-2
 invariant_of-self-2 c =

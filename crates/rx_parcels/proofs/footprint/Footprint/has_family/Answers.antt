@@ -5,17 +5,16 @@ use Rattle.rx_fields.specs.Order.{id_cmp}
 use Rattle.rx_order.specs.Ascending.{IsAscending, contains_key}
 use Rattle.rx_order.proofs.Places.{contains_key-searched, searched}
 use Rattle.rx_ledger.proofs.Orders.{id_total}
-use Rattle.rx_parcels.specs.Footprints.{FootprintParts, itself}
+use Rattle.rx_parcels.specs.Footprints.{itself}
 use Rattle.rx_parcels.proofs.footprint.Footprint.has_family.Goals as goal
 
 pub returns : goal.returns
 returns c =
     let facts = c.binary_search_by_key.ensures in
     let by_key = facts.position itself (answers_always _ _ _ (λ f a r h called. search rules)) in
-    let xs = c.deref.result.now in
-    let rise : IsAscending id_cmp itself xs = rw c.deref.ensures.value c.self.invariant.families_rise in
+    let xs = c.families.result.now in
+    let rise : IsAscending id_cmp itself xs = rw c.families.ensures.value c.families.ensures.within.families_rise in
     let ends = searched id_cmp id_total itself xs c.args.family.now c.binary_search_by_key.result rise facts.bound by_key in
     c.is_ok.ensures.value
     ∙ contains_key-searched id_cmp id_total itself xs c.args.family.now c.binary_search_by_key.result ends.0 ends.1
-    ∙ ap (λ ks. contains_key id_cmp itself ks c.args.family.now) c.deref.ensures.value
-    ∙ ap (λ (F : FootprintParts). contains_key id_cmp itself F.families c.args.family.now) c.self.view_is
+    ∙ ap (λ ks. contains_key id_cmp itself ks c.args.family.now) c.families.ensures.value

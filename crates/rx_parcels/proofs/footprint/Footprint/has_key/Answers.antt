@@ -5,17 +5,16 @@ use Rattle.rx_fields.specs.Order.{key_cmp}
 use Rattle.rx_order.specs.Ascending.{IsAscending, contains_key}
 use Rattle.rx_order.proofs.Places.{contains_key-searched, searched}
 use Rattle.rx_ledger.proofs.Orders.{key_total}
-use Rattle.rx_parcels.specs.Footprints.{FootprintParts, itself}
+use Rattle.rx_parcels.specs.Footprints.{itself}
 use Rattle.rx_parcels.proofs.footprint.Footprint.has_key.Goals as goal
 
 pub returns : goal.returns
 returns c =
     let facts = c.binary_search_by_key.ensures in
     let by_key = facts.position itself (answers_always _ _ _ (λ f a r h called. search rules)) in
-    let xs = c.deref.result.now in
-    let rise : IsAscending key_cmp itself xs = rw c.deref.ensures.value c.self.invariant.keys_rise in
+    let xs = c.keys.result.now in
+    let rise : IsAscending key_cmp itself xs = rw c.keys.ensures.value c.keys.ensures.within.keys_rise in
     let ends = searched key_cmp key_total itself xs c.args.key.now c.binary_search_by_key.result rise facts.bound by_key in
     c.is_ok.ensures.value
     ∙ contains_key-searched key_cmp key_total itself xs c.args.key.now c.binary_search_by_key.result ends.0 ends.1
-    ∙ ap (λ ks. contains_key key_cmp itself ks c.args.key.now) c.deref.ensures.value
-    ∙ ap (λ (F : FootprintParts). contains_key key_cmp itself F.keys c.args.key.now) c.self.view_is
+    ∙ ap (λ ks. contains_key key_cmp itself ks c.args.key.now) c.keys.ensures.value

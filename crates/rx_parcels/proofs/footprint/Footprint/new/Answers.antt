@@ -8,10 +8,10 @@ use Rattle.rx_parcels.proofs.footprint.Footprint.new.Goals as goal
 
 pub invariant_of-result : goal.invariant_of-result
 invariant_of-result c = record {
-  keys_rise = IsAscending-from_test key_cmp key_total itself c.args.keys.items
+  keys_rise = rw c.of-keys.ensures (IsAscending-from_test key_cmp key_total itself c.args.keys.items
       (ap (is_ascending key_cmp itself) (sym c.deref.ensures.value) ∙ sym c.are_keys_ascending.ensures
-      ∙ c.if-are_keys_ascending.true);
-  families_rise = IsAscending-from_test id_cmp id_total itself c.args.families.items
+      ∙ c.if-are_keys_ascending.true));
+  families_rise = rw c.of-families.ensures (IsAscending-from_test id_cmp id_total itself c.args.families.items
       (ap (is_ascending id_cmp itself) (sym c.deref-then-are_keys_ascending.ensures.value)
-      ∙ sym c.are_families_ascending.ensures ∙ c.if-are_families_ascending.true);
+      ∙ sym c.are_families_ascending.ensures ∙ c.if-are_families_ascending.true));
 }

@@ -4,7 +4,7 @@ use Rattle.std.proofs.Common.{cond, Bool, true, false, Option, Some, None, Resul
 use Rattle.std.specs.Prelude.{OnErr, OnOk}
 use Rattle.std.specs.Cmp.{IsTotalOrder, eq_by_cmp_equiv}
 use Rattle.std.specs.List.{All, flat_map}
-use Rattle.std.specs.Option.{is_some, ok_or, option_map, option_or}
+use Rattle.std.specs.Option.{is_some, ok_or, option_and_then, option_map, option_or, option_to_list}
 use Rattle.std.specs.Ordering.{is_eq}
 use Rattle.std.specs.declared.cmp.Ordering.{Ordering}
 use Rattle.std.specs.declared.cmp.Ordering.TheVariants.{Less, Equal, Greater}
@@ -17,7 +17,7 @@ use Rattle.rx_order.proofs.Keys.{cases_Ordering, Equal-from_is_eq, Greater-from_
 use Rattle.rx_order.proofs.Keys.{IsBelow-tied, Less-from_Greater, item_at-below}
 use Rattle.rx_order.proofs.LookUps.{item_at-found, item_at-map}
 use Rattle.rx_parcels.specs.Footprints.{itself}
-use Rattle.rx_places.specs.Moving.{one_at, over}
+use Rattle.rx_places.specs.Moving.{filled_of, one_at, over, with_book}
 use Rattle.rx_places.proofs.Moving.{apart, one_keeps}
 
 pub map_map : {A B C : Type 0} (g : B → C) (f : A → B) (xs : List A) → map g (map f xs) ≡ map (λ x. g (f x)) xs
@@ -45,9 +45,23 @@ none_left i [] h = drop_nothing i
 none_left zero (x ∷ xs) h = absurd (omega (arith, h))
 none_left (suc i) (x ∷ xs) h = none_left i xs (omega (arith, h))
 
-module _ {X K : Type 0} (cmp : K → K → Ordering) (order : IsTotalOrder cmp) (exact : CmpEqualImpliesEq cmp) (key : X → K) where
-  -- ---- many places, one after another
+-- ---- many places, one after another
 
+-- the book that a place holds, if there is one
+abbrev pub book_read : {K P B : Type 0} → (P → Option B) → K → Option P → List B
+book_read held k o = option_to_list (option_and_then held o)
+
+module _ {X K : Type 0} (cmp : K → K → Ordering) (key : X → K) (f : X → X) where
+  abbrev pub all_over : List K → List X → List X
+  all_over [] xs = xs
+  all_over (k ∷ ks) xs = all_over ks (over cmp key f k xs)
+
+  -- what is read of each, before it is written over
+  abbrev pub reads : {B : Type 0} → (K → Option X → List B) → List K → List X → List B
+  reads read [] xs = []
+  reads read (k ∷ ks) xs = read k (item_at cmp key xs k) ++ reads read ks (over cmp key f k xs)
+
+module _ {X K : Type 0} (cmp : K → K → Ordering) (order : IsTotalOrder cmp) (exact : CmpEqualImpliesEq cmp) (key : X → K) where
   module _ (f : X → X) (keeps : (y : X) → key (f y) ≡ key y) where
     pub item_over : (k j : K) (xs : List X) → item_at cmp key (over cmp key f k xs) j ≡ option_map (one_at cmp key f k) (item_at cmp
         key xs j)
@@ -64,16 +78,7 @@ module _ {X K : Type 0} (cmp : K → K → Ordering) (order : IsTotalOrder cmp) 
             let other : has_key cmp key k y ≡ false = apart cmp order key k y (ap (cmp k) same ∙ less) in
             rw other refl
 
-    abbrev pub all_over : List K → List X → List X
-    all_over [] xs = xs
-    all_over (k ∷ ks) xs = all_over ks (over cmp key f k xs)
-
-    -- what is read of each, before it is written over
     module _ {B : Type 0} (read : K → Option X → List B) where
-      abbrev pub reads : List K → List X → List B
-      reads [] xs = []
-      reads (k ∷ ks) xs = read k (item_at cmp key xs k) ++ reads ks (over cmp key f k xs)
-
       reads_later : (k : K) (xs : List X) (ks : List K) → IsBelow cmp itself k ks
           → flat_map (λ j. read j (item_at cmp key (over cmp key f k xs) j)) ks ≡ flat_map (λ j. read j (item_at cmp key xs j)) ks
       reads_later k xs [] b = refl
@@ -85,14 +90,14 @@ module _ {X K : Type 0} (cmp : K → K → Ordering) (order : IsTotalOrder cmp) 
 
       -- is what is there at the beginning
       pub reads_are : (ks : List K) (xs : List X) → IsAscending cmp itself ks
-          → reads ks xs ≡ flat_map (λ k. read k (item_at cmp key xs k)) ks
+          → reads cmp key f read ks xs ≡ flat_map (λ k. read k (item_at cmp key xs k)) ks
       reads_are [] xs a = refl
       reads_are (k ∷ ks) xs a =
           ap (λ bs. read k (item_at cmp key xs k) ++ bs) (reads_are ks (over cmp key f k xs) a.1 ∙ reads_later k xs ks a.0)
 
     -- all are changed whose key is one of these
     pub all_over_are : ((y : X) → f (f y) ≡ f y) → (ks : List K) (xs : List X)
-        → all_over ks xs ≡ map (λ y. cond (contains_key cmp itself ks (key y)) (f y) y) xs
+        → all_over cmp key f ks xs ≡ map (λ y. cond (contains_key cmp itself ks (key y)) (f y) y) xs
     all_over_are again [] xs = sym (map_same (λ y. y) (λ y. y) (λ y. refl) xs ∙ map_itself xs)
       where
         map_itself : (ys : List X) → map (λ y. y) ys ≡ ys
@@ -160,3 +165,18 @@ module _ {X B K : Type 0} (cmp : K → K → Ordering) (order : IsTotalOrder cmp
       → filled bs (over cmp key (fill (Some b)) (name b) xs) ≡ filled (bs ++ b ∷ []) xs
   filled_more bs b xs =
       map_map (λ y. fill (item_at cmp name bs (key y)) y) (one_at cmp key (fill (Some b)) (name b)) xs ∙ map_same _ _ (one_more bs b) xs
+
+-- the same of places that are filled as they say
+module _ {X B K : Type 0} (cmp : K → K → Ordering) (order : IsTotalOrder cmp) (key : X → K) (name : B → K) (fill : B → X → X)
+    (keeps : (b : B) (y : X) → key (fill b y) ≡ key y) (again : (b c : B) (y : X) → fill b (fill c y) ≡ fill b y) where
+  keeps_book : (o : Option B) (y : X) → key (with_book fill o y) ≡ key y
+  keeps_book None y = refl
+  keeps_book (Some b) y = keeps b y
+
+  pub filled_none : (xs : List X) → map (filled_of cmp key name fill []) xs ≡ xs
+  filled_none [] = refl
+  filled_none (x ∷ xs) = ap (λ ys. x ∷ ys) (filled_none xs)
+
+  pub filled_last : (bs : List B) (b : B) (xs : List X)
+      → map (filled_of cmp key name fill bs) (over cmp key (fill b) (name b) xs) ≡ map (filled_of cmp key name fill (bs ++ b ∷ [])) xs
+  filled_last bs b xs = filled_more cmp order key name (with_book fill) (λ y. refl) keeps_book again bs b xs

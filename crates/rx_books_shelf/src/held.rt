@@ -1,0 +1,15 @@
+ghost use Rattle.std.specs.Prelude.{◌≡◌};
+ghost use Rattle.rx_places.specs.Shelves.{row_held};
+
+use rx_ledger::Row;
+use rx_places::KeyPlace;
+
+/// The row that a place holds.
+pub(crate) fn row_held(place: KeyPlace) -> Option<Row>
+    ensures { result ≡ row_held place }
+{
+    match place.held {
+        Some(row) => row,
+        None => None,
+    }
+}
