@@ -1,10 +1,11 @@
 //! A desk on one thread: its records handed out, adjudicated and taken back, so many at once as several workers have.
 
 use crate::inputs::Inputs;
-use crate::job::{Job, MOST};
+use crate::job::Job;
 use crate::timing::Watch;
 use rx_adjudicate::{Done, Order, adjudicate};
 use rx_desk::{Desk, Next};
+use rx_fields::MOST_DETAILS;
 use std::alloc::Global;
 use std::rt::Clock;
 use std::thread::Threads;
@@ -28,7 +29,7 @@ pub fn round<R: Clock + Threads + Sync>(watch: &mut Watch<R>, inputs: &Inputs) -
     };
     watch.begin();
     // Each turn but the last takes one record at least.
-    for _ in 0..=MOST {
+    for _ in 0..=MOST_DETAILS {
         if turn(watch, &mut desk, &mut hands) == 0 {
             break;
         }

@@ -2,11 +2,11 @@
 //! settlement rendered, beside a plain copy of the response.
 
 use crate::inputs::{Inputs, STAMP};
-use crate::job::{Job, MOST};
+use crate::job::Job;
 use crate::timing::{Watch, length};
 use rx_batch::Batch;
 use rx_claim::Reply;
-use rx_fields::Stamp;
+use rx_fields::{MOST_DETAILS, Stamp};
 use rx_in_order::{Finished, InOrder};
 use rx_response::response_file;
 use rx_settle::settle;
@@ -39,7 +39,7 @@ fn adjudicated<R: Clock + Threads + Sync>(watch: &mut Watch<R>, job: &Job) -> Op
 }
 
 fn finished(alloc: Global, job: &Job) -> Option<Finished> {
-    if job.asked.len() > MOST {
+    if job.asked.len() > MOST_DETAILS {
         return None;
     }
     let books = job.books(alloc)?;
@@ -53,7 +53,7 @@ fn rendered<R: Clock + Threads + Sync>(
     replies: &[Reply],
 ) -> Option<()> {
     let (stamp, details) = (Stamp::new(STAMP)?, batch.details.as_slice());
-    if details.len() != replies.len() || details.len() > MOST {
+    if details.len() != replies.len() || details.len() > MOST_DETAILS {
         return None;
     }
     watch.begin();

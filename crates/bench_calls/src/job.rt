@@ -7,15 +7,12 @@ use rx_batch::{Batch, read_batch};
 use rx_books_kept::Books;
 use rx_claim::Transmission;
 use rx_desk::Desk;
-use rx_fields::Lot;
+use rx_fields::{Lot, MOST_DETAILS};
 use rx_ledger::Sheet;
 use rx_sheet::read_sheet;
 use rx_wave::decode_in_parts;
 use std::alloc::Global;
 use std::thread::Threads;
-
-/// How many records a batch has at most.
-pub const MOST: usize = 100_000;
 
 /// What a run is made of.
 #[derive(Drop)]
@@ -68,7 +65,7 @@ fn desk_of(
     books: Books,
     asked: Vec<Transmission>,
 ) -> Option<Desk> {
-    if asked.len() > MOST {
+    if asked.len() > MOST_DETAILS {
         return None;
     }
     let books = books.with_period(alloc, sheet.period()).ok()?;

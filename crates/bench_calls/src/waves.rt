@@ -4,8 +4,9 @@
 ghost use Rattle.std.specs.Prelude.{true};
 
 use crate::inputs::Inputs;
-use crate::job::{Job, MOST};
+use crate::job::Job;
 use crate::timing::Watch;
+use rx_fields::MOST_DETAILS;
 use rx_wave::{Finished, Gate, NoGate, run_waves};
 use std::alloc::Global;
 use std::hint::spin_loop;
@@ -83,7 +84,7 @@ fn finished<R: Threads + Wait + Sync, G: Gate + Sync>(
     gate: &G,
     workers: u16,
 ) -> Option<Finished> {
-    if job.asked.len() > MOST {
+    if job.asked.len() > MOST_DETAILS {
         return None;
     }
     let books = job.books(alloc)?;

@@ -9,6 +9,7 @@ use Rattle.rx_batch.specs.declared.detail.Detail.{Detail}
 use Rattle.rx_books_kept.specs.LedgerBooks.{LedgerBooks}
 use Rattle.rx_fields.specs.Numbered.{Span}
 use Rattle.rx_fields.specs.declared.door.Door.{Door}
+use Rattle.rx_fields.specs.declared.limits.TheConstants.{NUMBERS_OF_A_BATCH}
 use Rattle.rx_ledger.specs.Plan.{Plan}
 use Rattle.rx_ledger.specs.declared.row.Row.{Row}
 use Rattle.rx_check.specs.Ignored.{ignored_lines}
@@ -32,7 +33,7 @@ has_none_under door details = not (length details == 0) && not (list_any (is_und
 
 -- a standing claim has a number of this batch: the first seven of its fifteen digits are the batch number
 abbrev pub is_of_batch : ℕ → Row → Bool
-is_of_batch number row = row.number / 100_000_000 == number
+is_of_batch number row = row.number / NUMBERS_OF_A_BATCH == number
 
 abbrev pub adjudicated : ℕ → List Row → ℕ
 adjudicated number rows = count_by (is_of_batch number) rows

@@ -3,7 +3,7 @@ ghost use Rattle.std.specs.List.{list_any};
 ghost use Rattle.rx_check.specs.Warned.{adjudicated, feeds, groups, has_none_under, is_under, may_pass};
 
 use rx_batch::Detail;
-use rx_fields::{Door, Lot, Period};
+use rx_fields::{Door, Lot, NUMBERS_OF_A_BATCH, Period};
 use rx_ledger::Row;
 
 // The most line feeds of a books file that is read.
@@ -51,7 +51,7 @@ pub fn adjudicated(lot: Lot, rows: &[Row]) -> usize
 {
     let number = u64::from(lot.number());
     rows.iter()
-        .filter(|row| row.number.get() / 100_000_000 == number)
+        .filter(|row| row.number.get() / NUMBERS_OF_A_BATCH == number)
         .count()
 }
 

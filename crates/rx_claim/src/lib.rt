@@ -9,12 +9,13 @@
 //! for transaction in heard.list.iter() { .. }
 //! ```
 //!
-//! `==` tells without memory whether two of them are the same value; a `Transmission` is copied by `copy`, for which
-//! memory may be wanting. How they are read from bytes and written is left to `rx_request` and `rx_reply`.
+//! `==` tells without memory whether two of them are the same value; a `Transmission` is copied by `copy`, and a list
+//! by `copies`, for which memory may be wanting. How they are read from bytes and written is left to `rx_request` and `rx_reply`.
 #![tactic(auto)]
 
 mod bill;
 mod codes;
+mod copying;
 mod echo;
 mod pricing;
 mod reply;
@@ -23,6 +24,7 @@ mod transmission;
 
 pub use bill::{Bill, BillParts};
 pub use codes::Codes;
+pub use copying::{TryCopy, copies};
 pub use echo::{Echo, EchoParts};
 pub use pricing::{Amounts, Pricing};
 pub use reply::{Answer, Answers, Approved, Outcome, Paid, Refused, Reply};

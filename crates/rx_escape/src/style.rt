@@ -1,6 +1,8 @@
 ghost use Rattle.std.specs.Prelude.{◌≡◌};
 ghost use Rattle.rx_escape.specs.Escape.{back_of, front_of, is_special};
 
+use rx_text::is_printable;
+
 /// Where bytes are to stand.
 #[derive(Clone, Copy, Debug, PartialEq, Eq)]
 pub enum Style {
@@ -17,8 +19,7 @@ impl Style {
     pub(crate) fn is_special(self, byte: u8) -> bool
         ensures { result ≡ is_special self byte }
     {
-        let printable = byte >= b' ' && byte <= b'~';
-        !printable
+        !is_printable(byte)
             || match self {
                 Style::Html => {
                     byte == b'&' || byte == b'<' || byte == b'>' || byte == b'"' || byte == b'\''

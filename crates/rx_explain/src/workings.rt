@@ -1,13 +1,12 @@
 ghost use Rattle.std.specs.Prelude.{◌≡◌, ◌≤◌, true};
 ghost use Rattle.std.specs.Option.{option_map};
 ghost use Rattle.rx_ledger.specs.Plan.{is_drug};
-ghost use Rattle.rx_ledger.specs.Price.{cost_of};
-ghost use Rattle.rx_ledger.specs.Share.{left, under_deductible};
+ghost use Rattle.rx_fields.specs.declared.limits.TheConstants.{MOST_CENTS};
+ghost use Rattle.rx_ledger.specs.Share.{left};
 ghost use Rattle.rx_explain.specs.Workings.{share_of, workings_of};
 
 use rx_claim::Bill;
-use rx_fields::Quantity;
-use rx_ledger::{Allowance, Drug, Figures, Share, Used};
+use rx_ledger::{Allowance, Drug, Figures, Share, Used, cost_of, left, under_deductible};
 
 /// The steps from a billing to its amounts, in cents (docs/PRODUCT.md, "Rules of adjudication").
 #[derive(Clone, Copy, Debug, PartialEq, Eq)]
@@ -55,21 +54,6 @@ pub(crate) fn workings_of(figures: &Figures, bill: &Bill, drug: Drug, used: Used
     }
 }
 
-// The cost of a quantity at a price, in whole cents.
-fn cost_of(quantity: Quantity, price: u64) -> u64
-    requires { price ≤ 1_000_000_000 }
-    ensures { result ≡ cost_of quantity price }
-{
-    quantity.get() * price / 100_000
-}
-
-// The plan's figure less what is used of it, and 0 where that is negative.
-fn left(figure: u64, used: u128) -> u64
-    ensures { result ≡ left figure used }
-{
-    u128::from(figure).saturating_sub(used) as u64
-}
-
 fn family_deductible_left(figures: &Figures, used: Used) -> Option<u64>
     ensures { result ≡ option_map (λ figure. left figure used.family_deductible) figures.now.family_deductible }
 {
@@ -79,20 +63,8 @@ fn family_deductible_left(figures: &Figures, used: Used) -> Option<u64>
     }
 }
 
-// What falls under the deductible.
-fn under_deductible(figures: &Figures, used: Used, allowed: u64) -> u64
-    ensures value { result ≡ under_deductible figures.now used allowed }
-    ensures within { result ≤ allowed }
-{
-    let of_member = allowed.min(left(figures.member_deductible, used.deductible));
-    match family_deductible_left(figures, used) {
-        Some(left) => of_member.min(left),
-        None => of_member,
-    }
-}
-
 fn share_of(share: Share, rest: u64) -> u64
-    requires { rest ≤ 99_999_999 }
+    requires { rest ≤ MOST_CENTS }
     ensures { result ≡ share_of share rest }
 {
     match share {

@@ -1,6 +1,6 @@
 use rx_claim::{Body, Heard, Transaction, Transmission};
 use rx_explain::Wanted;
-use rx_fields::{Authorization, Key, Lot, Memory, Reference};
+use rx_fields::{Authorization, Key, Lot, Memory, NUMBERS_OF_A_BATCH, Reference};
 use std::alloc::Global;
 
 // The most records that are explained on the way: for each billing of one all standing claims are gone over.
@@ -59,10 +59,10 @@ fn key_with(lot: Lot, wanted: &Wanted, asked: &[Transmission]) -> Option<Key> {
 // Place and place in the record of an authorization number of the lot.
 fn place_in(lot: Lot, number: Authorization) -> Option<(usize, usize)> {
     let number = number.get();
-    if number / 100_000_000 != u64::from(lot.number()) {
+    if number / NUMBERS_OF_A_BATCH != u64::from(lot.number()) {
         return None;
     }
-    let place = number % 100_000_000 / 10;
+    let place = number % NUMBERS_OF_A_BATCH / 10;
     Some((place as usize, (number % 10) as usize))
 }
 

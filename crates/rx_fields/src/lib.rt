@@ -44,7 +44,9 @@ pub use door::Door;
 pub use fault::{FieldFault, IdFault};
 pub use id::{Id, trimmed};
 pub use key::Key;
-pub use limits::{MOST_AUTHORIZATION, MOST_CENTS, MOST_DETAILS, MOST_QUANTITY, MOST_REFERENCE};
+pub use limits::{
+    MOST_AUTHORIZATION, MOST_CENTS, MOST_DETAILS, MOST_QUANTITY, MOST_REFERENCE, NUMBERS_OF_A_BATCH,
+};
 pub use lot::Lot;
 pub use memory::Memory;
 pub use period::Period;

@@ -10,5 +10,8 @@ pub const MOST_QUANTITY: u64 = 9_999_999_999;
 /// The largest authorization number: fifteen digits.
 pub const MOST_AUTHORIZATION: u64 = 999_999_999_999_999;
 
+/// How many authorization numbers one batch number has: seven digits of the place and one of the transaction.
+pub const NUMBERS_OF_A_BATCH: u64 = 100_000_000;
+
 /// How many details a batch file may have.
 pub const MOST_DETAILS: usize = 100_000;

@@ -1,6 +1,7 @@
 -- Meaning: one record, and the records of a batch one after another in file order.
-use Rattle.std.specs.Prelude.{ℕ, ◌+◌, ◌*◌, ◌^◌, List, [], ◌∷◌}
+use Rattle.std.specs.Prelude.{ℕ, ◌+◌, ◌*◌, List, [], ◌∷◌}
 use Rattle.rx_fields.specs.Numbered.{LotParts}
+use Rattle.rx_fields.specs.declared.limits.TheConstants.{NUMBERS_OF_A_BATCH}
 use Rattle.rx_claim.specs.declared.reply.Answer.{Answer}
 use Rattle.rx_claim.specs.declared.reply.Outcome.{Outcome}
 use Rattle.rx_claim.specs.declared.reply.Outcome.TheVariants as outcome
@@ -16,7 +17,7 @@ use Rattle.rx_ledger.specs.Plan.{Plan}
 
 -- seven digits of the batch number, seven of the place, one of the transaction's place in its record
 abbrev pub authorization : LotParts → ℕ → ℕ → ℕ
-authorization lot place nth = lot.number * 10 ^ 8 + place * 10 + nth
+authorization lot place nth = lot.number * NUMBERS_OF_A_BATCH + place * 10 + nth
 
 -- what the nth transaction of the record at a place is asked under
 abbrev pub asked : LotParts → Plan → ℕ → HeardRecord → ℕ → Asked

@@ -4,6 +4,7 @@ use Rattle.std.specs.List.{list_all}
 use Rattle.std.specs.Option.{option_map}
 use Rattle.std.specs.Ordering.{is_eq, nat_cmp}
 use Rattle.rx_ledger.specs.declared.figures.TheConstants.{MOST_LIMIT}
+use Rattle.rx_ledger.specs.declared.drug.TheConstants.{MOST_PRICE}
 use Rattle.rx_fields.specs.declared.limits.TheConstants.{MOST_CENTS}
 use Rattle.rx_text.specs.Bytes.{all_digits, all_printable}
 use Rattle.rx_order.specs.Ascending.{contains_key, item_at, put}
@@ -46,7 +47,7 @@ is_share (Percent percent) = nat_le percent 100
 
 -- share and price are within their ranges
 abbrev pub is_drug : Drug → Bool
-is_drug d = is_share d.share && nat_le d.price 1_000_000_000
+is_drug d = is_share d.share && nat_le d.price MOST_PRICE
 
 -- a plan: its figures, and its drugs by product
 pub record Plan : Type 0 where

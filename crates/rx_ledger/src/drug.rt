@@ -3,6 +3,9 @@ ghost use Rattle.rx_ledger.specs.Plan.{is_drug};
 
 use rx_fields::MOST_CENTS;
 
+/// The largest price of a plan, in hundredths of a cent per unit.
+pub const MOST_PRICE: u64 = 1_000_000_000;
+
 /// What a member pays of a drug, beside the deductible.
 #[derive(Clone, Copy, Debug, PartialEq, Eq)]
 pub enum Share {
@@ -30,6 +33,6 @@ impl Drug {
             Share::Copay(cents) => cents <= MOST_CENTS,
             Share::Percent(percent) => percent <= 100,
         };
-        fits && self.price <= 1_000_000_000
+        fits && self.price <= MOST_PRICE
     }
 }

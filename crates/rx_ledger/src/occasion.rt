@@ -6,7 +6,7 @@ ghost use Rattle.rx_ledger.specs.Claims.{asked_on, occasion_of};
 use crate::figures::Figures;
 use crate::row::Row;
 use rx_claim::{Bill, Heard, Paid};
-use rx_fields::{Authorization, Day, Key, Lot, Provider, Reference};
+use rx_fields::{Authorization, Day, Key, Lot, NUMBERS_OF_A_BATCH, Provider, Reference};
 
 /// What a transaction is asked under.
 #[derive(Clone, Copy, Debug, PartialEq, Eq)]
@@ -31,7 +31,7 @@ impl Occasion {
         requires nth { nth ≤ 4 }
         ensures { result ≡ occasion_of lot figures.now place heard.now nth }
     {
-        let number = u64::from(lot.number()) * 100_000_000 + place * 10 + nth;
+        let number = u64::from(lot.number()) * NUMBERS_OF_A_BATCH + place * 10 + nth;
         Occasion {
             lot,
             figures: *figures,

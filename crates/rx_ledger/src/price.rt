@@ -1,6 +1,7 @@
 ghost use Rattle.std.specs.Prelude.{◌≡◌};
 ghost use Rattle.rx_fields.specs.declared.limits.TheConstants.{MOST_CENTS};
 
+use crate::drug::MOST_PRICE;
 use rx_claim::Bill;
 use rx_fields::Quantity;
 use std::marker::Model;
@@ -27,14 +28,14 @@ impl Model for Allowance {
     ghost inverse = { λ a. record { ingredient_cost = a.ingredient_cost; dispensing_fee = a.dispensing_fee } };
 }
 
-ghost use Rattle.std.specs.Prelude.{◌≤◌, ◌+◌};
+ghost use Rattle.std.specs.Prelude.{◌≤◌, ◌+◌, ◌*◌};
 ghost use Rattle.rx_ledger.specs.Price.{allowance, capped, cost_of};
 
 impl Allowance {
     /// What is allowed for a billing at a price, in hundredths of a cent per unit, where the plan pays a fee of at
     /// most `most_fee` cents (docs/PRODUCT.md, "Rules of adjudication").
     pub fn new(price: u64, most_fee: u64, bill: &Bill) -> Allowance
-        requires { price ≤ 1_000_000_000 }
+        requires { price ≤ MOST_PRICE }
         ensures { result ≡ allowance price most_fee bill.now }
     {
         let parts = bill.parts();
@@ -70,9 +71,9 @@ impl Allowance {
     }
 }
 
-// The cost of a quantity at a price, in whole cents.
-fn cost_of(quantity: Quantity, price: u64) -> u64
-    requires { price ≤ 1_000_000_000 }
+/// The cost of a quantity, in thousandths, at a price, in hundredths of a cent per unit: in whole cents, rounded down.
+pub fn cost_of(quantity: Quantity, price: u64) -> u64
+    requires { price ≤ MOST_PRICE }
     ensures { result ≡ cost_of quantity price }
 {
     quantity.get() * price / 100_000
@@ -81,7 +82,7 @@ fn cost_of(quantity: Quantity, price: u64) -> u64
 // Cost and fee; where they exceed the cap, the fee first.
 fn capped(cap: u64, ingredient_cost: u64, dispensing_fee: u64) -> Allowance
     requires cap { cap ≤ MOST_CENTS }
-    requires fit { ingredient_cost + dispensing_fee ≤ 199_999_998 }
+    requires fit { ingredient_cost + dispensing_fee ≤ 2 * MOST_CENTS }
     ensures { result ≡ capped cap (record { ingredient_cost = ingredient_cost; dispensing_fee = dispensing_fee }) }
 {
     if ingredient_cost + dispensing_fee <= cap {

@@ -40,15 +40,15 @@ pub fn shared(figures: &Figures, share: Share, used: Used, allowance: Allowance)
     Pricing::new(amounts).unwrap()
 }
 
-// The plan's figure less what is used of it, and 0 where that is negative.
-fn left(figure: u64, used: u128) -> u64
+/// A figure of the plan less what is used of it, in cents, and 0 where that is negative.
+pub fn left(figure: u64, used: u128) -> u64
     ensures { result ≡ left figure used }
 {
     u128::from(figure).saturating_sub(used) as u64
 }
 
-// What falls under the deductible.
-fn under_deductible(figures: &Figures, used: Used, allowed: u64) -> u64
+/// What of an allowed amount falls under the deductible, in cents, before the family's maximum cuts it.
+pub fn under_deductible(figures: &Figures, used: Used, allowed: u64) -> u64
     ensures value { result ≡ under_deductible figures.now used allowed }
     ensures within { result ≤ allowed }
 {

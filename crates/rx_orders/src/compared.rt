@@ -9,6 +9,7 @@ use crate::profile::Profile;
 use rx_books_kept::Books;
 use rx_claim::{Reply, Transmission};
 use rx_desk::{Desk, Finished};
+use rx_fields::MOST_DETAILS;
 use rx_ledger::{Ledger, Sheet, plain_run};
 use std::alloc::Global;
 
@@ -51,7 +52,7 @@ impl Job {
     fn desk(&self, alloc: Global) -> Result<Desk, Miss> {
         let copies = self.copies(alloc)?;
         let books = opening(alloc, &self.ledger)?;
-        if copies.len() > 100_000 || books.period() != self.sheet.period() {
+        if copies.len() > MOST_DETAILS || books.period() != self.sheet.period() {
             return Err(Miss::Value);
         }
         Ok(Desk::new(alloc, lot()?, &self.sheet, books, copies)?)
@@ -93,7 +94,7 @@ impl Job {
     }
 
     fn in_file_order(&self, alloc: Global) -> Result<(Ledger, Vec<Reply>), Miss> {
-        if self.records.len() > 100_000 {
+        if self.records.len() > MOST_DETAILS {
             return Err(Miss::Value);
         }
         Ok(plain_run(alloc, lot()?, &self.sheet, &self.ledger, &self.records)?)

@@ -8,6 +8,7 @@ ghost use Rattle.rx_parcels.specs.FamilyBook.{AreTotals, IsOwn, book_with_member
 ghost use Rattle.rx_parcels.specs.FamilyBook.{deductible_at, empty_book, own_ledger};
 
 use crate::totals::{FamilyTotals, counted_in, place_of_member};
+use rx_claim::TryCopy;
 use rx_fields::{Id, Key, Memory, Period, Person};
 use rx_ledger::{Member, MemberKey, Row};
 use rx_order::{Ascending, InsertError, Keyed};
@@ -258,6 +259,12 @@ impl Family {
             out_of_pocket: self.out_of_pocket,
             deductible: self.deductible,
         })
+    }
+}
+
+impl TryCopy for Family {
+    fn try_copy(&self, alloc: Global) -> Result<Family, Memory> {
+        self.copy(alloc)
     }
 }
 

@@ -14,6 +14,7 @@ ghost use Rattle.rx_parcels.specs.Parcels.{row_at, rows_at};
 use crate::family::Family;
 use crate::few::Few;
 use crate::key_book::KeyBook;
+use rx_claim::copies;
 use rx_fields::{Id, Key, Memory, Period, Person};
 use rx_ledger::{Member, Row};
 use rx_order::{Keyed, is_ascending, place_of};
@@ -339,17 +340,6 @@ fn families_copied(alloc: Global, families: &Few<Family>) -> Result<Few<Family>,
         Few::One(family) => Ok(Few::One(family.copy(alloc)?)),
         Few::Many(families) => Ok(Few::Many(copies(alloc, families)?)),
     }
-}
-
-// Equal books of a list.
-fn copies(alloc: Global, families: &[Family]) -> Result<Vec<Family>, Memory>
-    ensures { IfOk result (λ copies. copies.items ≡ families.now) }
-{
-    let mut copies = Vec::with_capacity(alloc, families.len())?;
-    for family in families {
-        copies.push(family.copy(alloc)?)?;
-    }
-    Ok(copies)
 }
 
 ghost use Rattle.rx_claim.specs.Same.{same, same_laws, same_equivalence};

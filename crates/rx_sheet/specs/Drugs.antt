@@ -7,6 +7,7 @@ use Rattle.toml.specs.Data.{Data, integer, table, Members, no_members, member, g
 use Rattle.rx_fields.specs.Numbered.{product_of}
 use Rattle.rx_ledger.specs.Plan.{are_drugs, listed_product}
 use Rattle.rx_ledger.specs.declared.drug.Drug.{Drug}
+use Rattle.rx_ledger.specs.declared.drug.TheConstants.{MOST_PRICE}
 use Rattle.rx_ledger.specs.declared.drug.Share.{Share}
 use Rattle.rx_ledger.specs.declared.drug.Share.TheVariants.{Copay, Percent}
 use Rattle.rx_ledger.specs.declared.sheet.Listed.{Listed}
@@ -48,7 +49,7 @@ unfoldable pub drug_in : Members → Data → Result Drug SheetFault
 drug_in tiers value = do
   drug ← ok_or (as_table value) (Wrong key.Drugs)
   share ← read_at key.Tier (share_of tiers) drug
-  price ← read_at key.Price (number 0 1_000_000_000) drug
+  price ← read_at key.Price (number 0 MOST_PRICE) drug
   Ok (record { share = share; price = price })
 
 -- a drug under its product

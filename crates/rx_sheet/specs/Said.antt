@@ -2,6 +2,7 @@
 use Rattle.std.specs.Prelude.{◌≡◌, ℕ, true, false, List, [], ◌∷◌, Option, Some, None}
 use Rattle.std.specs.Str.{is_utf8}
 use Rattle.rx_ledger.specs.declared.figures.TheConstants.{MOST_LIMIT}
+use Rattle.rx_ledger.specs.declared.drug.TheConstants.{MOST_PRICE}
 use Rattle.rx_fields.specs.declared.limits.TheConstants.{MOST_CENTS}
 use Rattle.toml.specs.Data.{Data, Members, no_members, member, get_member, as_table}
 use Rattle.toml.specs.Parse.{parse_document}
@@ -59,7 +60,7 @@ pub record SaysDrug (tiers : Members) (name : List ℕ) (value : Data) (d : List
   pub table : Members
   pub table_is : as_table value ≡ Some table
   pub tier_is : Says key.Tier (share_of tiers) table d.drug.share
-  pub price_is : Says key.Price (number 0 1_000_000_000) table d.drug.price
+  pub price_is : Says key.Price (number 0 MOST_PRICE) table d.drug.price
 
 -- the drugs of a table, each of its members one
 pub data SaysEach (tiers : Members) : Members → List Listed → Type 0 where
@@ -138,7 +139,7 @@ pub data FailsDrug (tiers : Members) (name : List ℕ) (value : Data) : SheetFau
       → Fails key.Tier (share_of tiers) table f → FailsDrug tiers name value f
   price_fails : {f : SheetFault} (p : ℕ) (table : Members) (share : Share) → product_of name ≡ Some p
       → as_table value ≡ Some table → Says key.Tier (share_of tiers) table share
-      → Fails key.Price (number 0 1_000_000_000) table f → FailsDrug tiers name value f
+      → Fails key.Price (number 0 MOST_PRICE) table f → FailsDrug tiers name value f
 
 -- the first drug of a table that is at fault
 pub data FailsEach (tiers : Members) (f : SheetFault) : Members → Type 0 where

@@ -12,7 +12,7 @@ ghost use Rattle.rx_sheet.specs.Values.{read_at};
 use crate::fault::SheetFault;
 use crate::values::{look_up, number, number_at, value_at};
 use rx_fields::{MOST_CENTS, Product};
-use rx_ledger::{Drug, Listed, Share, SheetKey};
+use rx_ledger::{Drug, Listed, MOST_PRICE, Share, SheetKey};
 use std::alloc::Global;
 use toml::{Table, Value};
 
@@ -104,7 +104,7 @@ fn drug(tiers: &Table, value: &Value) -> Result<Drug, SheetFault>
     let drug = value.as_table().ok_or(SheetFault::Wrong(SheetKey::Drugs))?;
     let tier = value_at(drug, SheetKey::Tier)?;
     let share = share_of(tiers, tier).ok_or(SheetFault::Wrong(SheetKey::Tier))?;
-    let price = number_at(drug, SheetKey::Price, 0, 1_000_000_000)?;
+    let price = number_at(drug, SheetKey::Price, 0, MOST_PRICE)?;
     Ok(Drug { share, price })
 }
 

@@ -1,6 +1,6 @@
 use rx_books_text::Version;
 use rx_fields::{date_read, number_read};
-use rx_text::all_digits;
+use rx_text::{all_digits, all_printable};
 use std::alloc::{AllocError, Global};
 
 /// What a field of a books line holds.
@@ -104,7 +104,7 @@ fn id_fault(alloc: Global, most: usize, field: &[u8]) -> Result<Option<String>, 
     if field.ends_with(b" ") {
         return some(alloc, "a blank stands at its end");
     }
-    if !field.iter().all(|b| *b >= b' ' && *b <= b'~') {
+    if !all_printable(field) {
         return some(alloc, "printable characters alone are wanted");
     }
     Ok(None)

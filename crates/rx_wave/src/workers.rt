@@ -11,7 +11,7 @@ use crate::in_order::run_one;
 use crate::run_fault::RunFault;
 use rx_adjudicate::{Done, Order};
 use rx_books_kept::Books;
-use rx_claim::Transmission;
+use rx_claim::{Transmission, copies};
 use rx_desk::Desk;
 use rx_fields::{Lot, Memory};
 use rx_in_order::Finished;
@@ -159,17 +159,6 @@ fn desk_of(
     let books = books.copy(alloc, sheet.period())?;
     let transmissions = copies(alloc, transmissions)?;
     Desk::new(alloc, lot, sheet, books, transmissions)
-}
-
-// Equal transmissions, in the same order.
-fn copies(alloc: Global, transmissions: &[Transmission]) -> Result<Vec<Transmission>, Memory>
-    ensures { IfOk result (λ copies. copies.items ≡ transmissions.now) }
-{
-    let mut copies = Vec::with_capacity(alloc, transmissions.len())?;
-    for transmission in transmissions {
-        copies.push(transmission.copy(alloc)?)?;
-    }
-    Ok(copies)
 }
 
 /// The desk, after so many workers took what it handed out and gave it back.
