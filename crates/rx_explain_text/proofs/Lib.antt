@@ -1,2 +1,3 @@
 -- Lemmas of the words of an explanation.
+pub mod Joined
 mod Worked

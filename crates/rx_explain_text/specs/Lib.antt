@@ -1,5 +1,14 @@
 -- Plumbing: which files there are.
+pub mod Answered
+pub mod Claims
+pub mod Codes
 pub mod Dates
+pub mod Figures
+pub mod Json
 pub mod Money
+pub mod Reasons
+pub mod Rejections
 pub mod RequestField
+pub mod Said
+pub mod Texts
 pub mod Words

@@ -1,5 +1,5 @@
 ghost use Rattle.std.specs.Prelude.{◌≡◌};
-ghost use Rattle.rx_explain_text.specs.Words.{name_of, wanted_for};
+ghost use Rattle.rx_explain_text.specs.Words.{case_name_of, name_of, wanted_for};
 
 use rx_explain::Case;
 use rx_fields::Code;
@@ -85,7 +85,9 @@ pub fn wanted(code: Code) -> &'static str
 }
 
 /// The name of a case, for programs.
-pub(crate) fn case_name(case: &Case) -> &'static str {
+pub(crate) fn case_name(case: &Case) -> &'static str
+    ensures { result.now ≡ case_name_of case.now }
+{
     match case {
         Case::NoFamily => "no family",
         Case::NoPerson => "no person",

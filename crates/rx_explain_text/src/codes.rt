@@ -1,48 +1,120 @@
+ghost use Rattle.std.specs.Prelude.{◌≡◌, ◌++◌, OnOk, codes, option_map};
+ghost use Rattle.std.specs.Option.{unwrap_or};
+ghost use Rattle.rx_explain_text.specs.Codes.{bytes_text, code_line, code_lines, in_quotes, named_code, own_text, value_text};
+ghost use Rattle.rx_explain_text.specs.Codes.{wanted_text};
+ghost use Rattle.rx_explain_text.specs.RequestField.{field_number};
+
 use crate::code_words::{name, wanted};
-use crate::draft::Draft;
+use crate::page::Page;
 use crate::request_field::{field_bytes, field_name};
 use rx_claim::Codes;
 use rx_escape::Style;
 use rx_fields::{Code, Door};
+use std::alloc::AllocError;
 
 /// A line for each code of the nth transaction of a request, or of its header, where `nth` is 0: the field, its bytes and
 /// what the table of codes wants.
-pub(crate) fn put_codes(draft: &mut Draft, door: &Door, codes: &Codes, request: &[u8], nth: u64) {
+pub(crate) fn put_codes(
+    page: &mut Page,
+    door: &Door,
+    codes: &Codes,
+    request: &[u8],
+    nth: u64,
+) -> Result<(), AllocError>
+    ensures { OnOk result (page.new.bytes.items ≡ page.old.bytes.items ++ code_lines door.now request.now nth codes.now) }
+{
     for code in codes.as_slice() {
-        draft.say("  ");
-        draft.put(&code.text());
-        draft.say(" ");
-        draft.say(name(*code));
-        draft.say(": ");
-        draft.say(field_name(*code).unwrap_or("the text"));
-        put_bytes(draft, field_bytes(request, nth, *code));
-        draft.say(", wanted is ");
-        draft.say(wanted(*code));
-        put_own(draft, door, *code);
-        draft.say("\n");
+        put_code(page, door, *code, request, nth)?;
     }
+    Ok(())
+}
+
+#[tactic(auto, using(std::proofs::Common::append_assoc), unfolding(crate::specs::Codes::code_line))]
+fn put_code(
+    page: &mut Page,
+    door: &Door,
+    code: Code,
+    request: &[u8],
+    nth: u64,
+) -> Result<(), AllocError>
+    ensures { OnOk result (page.new.bytes.items ≡ page.old.bytes.items ++ code_line door.now request.now nth code) }
+{
+    page.say("  ")?;
+    put_named(page, code)?;
+    page.say(": ")?;
+    page.say(field_or_text(code))?;
+    put_bytes(page, field_bytes(request, nth, code))?;
+    put_wanted(page, door, code)
+}
+
+// The field that a code speaks of, or the text as a whole.
+fn field_or_text(code: Code) -> &'static str
+    ensures { result.now ≡ unwrap_or (field_number code) (codes "the text") }
+{
+    match field_name(code) {
+        Some(field) => field,
+        None => "the text",
+    }
+}
+
+#[tactic(auto, using(std::proofs::Common::append_assoc), unfolding(crate::specs::Codes::wanted_text))]
+fn put_wanted(page: &mut Page, door: &Door, code: Code) -> Result<(), AllocError>
+    ensures { OnOk result (page.new.bytes.items ≡ page.old.bytes.items ++ wanted_text door.now code) }
+{
+    page.say(", wanted is ")?;
+    page.say(wanted(code))?;
+    put_own(page, door, code)?;
+    page.say("\n")
+}
+
+/// A code with its name.
+#[tactic(auto, using(std::proofs::Common::append_assoc), unfolding(crate::specs::Codes::named_code))]
+pub(crate) fn put_named(page: &mut Page, code: Code) -> Result<(), AllocError>
+    ensures { OnOk result (page.new.bytes.items ≡ page.old.bytes.items ++ named_code code) }
+{
+    page.put(&code.text())?;
+    page.say(" ")?;
+    page.say(name(code))
 }
 
 // The bytes of a field, or that it is absent.
-fn put_bytes(draft: &mut Draft, bytes: Option<&[u8]>) {
+#[tactic(auto, using(std::proofs::Common::append_assoc))]
+fn put_bytes(page: &mut Page, bytes: Option<&[u8]>) -> Result<(), AllocError>
+    ensures { OnOk result (page.new.bytes.items ≡ page.old.bytes.items ++ bytes_text (option_map (λ b. b.now) bytes.entry)) }
+{
     match bytes {
         Some(bytes) => {
-            draft.say(" is \"");
-            draft.escaped(Style::Terminal, bytes);
-            draft.say("\"");
+            page.say(" is ")?;
+            put_quoted(page, bytes)
         }
-        None => draft.say(" is absent"),
+        None => page.say(" is absent"),
     }
 }
 
+#[tactic(auto, using(std::proofs::Common::append_assoc), unfolding(crate::specs::Codes::in_quotes))]
+fn put_quoted(page: &mut Page, bytes: &[u8]) -> Result<(), AllocError>
+    ensures { OnOk result (page.new.bytes.items ≡ page.old.bytes.items ++ in_quotes bytes.now) }
+{
+    page.say("\"")?;
+    page.escaped(Style::Terminal, bytes)?;
+    page.say("\"")
+}
+
 // The plan's own value, where the code wants that.
-fn put_own(draft: &mut Draft, door: &Door, code: Code) {
-    let own = match code {
-        Code::Bin => door.bin.as_slice(),
-        Code::ProcessorControlNumber => door.pcn.as_slice(),
-        _ => return,
-    };
-    draft.say(", \"");
-    draft.escaped(Style::Terminal, own);
-    draft.say("\"");
+fn put_own(page: &mut Page, door: &Door, code: Code) -> Result<(), AllocError>
+    ensures { OnOk result (page.new.bytes.items ≡ page.old.bytes.items ++ own_text door.now code) }
+{
+    match code {
+        Code::Bin => put_value(page, &door.bin),
+        Code::ProcessorControlNumber => put_value(page, &door.pcn),
+        _ => Ok(()),
+    }
+}
+
+#[tactic(auto, using(std::proofs::Common::append_assoc), unfolding(crate::specs::Codes::value_text))]
+fn put_value(page: &mut Page, bytes: &[u8]) -> Result<(), AllocError>
+    ensures { OnOk result (page.new.bytes.items ≡ page.old.bytes.items ++ value_text bytes.now) }
+{
+    page.say(", ")?;
+    put_quoted(page, bytes)
 }

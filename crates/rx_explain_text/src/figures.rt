@@ -1,8 +1,17 @@
-use crate::draft::Draft;
+ghost use Rattle.std.specs.Prelude.{◌≡◌, ◌+◌, ◌++◌, OnOk};
+ghost use Rattle.std.specs.Option.{unwrap_or};
+ghost use Rattle.rx_explain_text.specs.Figures.{accumulator_lines, allowed_line, charge_text, coinsurance_line, copay_line};
+ghost use Rattle.rx_explain_text.specs.Figures.{cost_line, counted_line, counted_lines, counted_of, cut_text};
+ghost use Rattle.rx_explain_text.specs.Figures.{family_left_lines, family_lines, fee_line, figure_lines, labelled, left_lines};
+ghost use Rattle.rx_explain_text.specs.Figures.{less_text, paid_lines, payer_lines, payment_lines, pays_line, priced_text};
+ghost use Rattle.rx_explain_text.specs.Figures.{share_line, submitted_text};
+
+use crate::page::Page;
 use crate::reasons::put_traced;
 use rx_claim::{Bill, Transaction};
 use rx_explain::{Case, Explanation, Payment, Traced};
 use rx_ledger::{Figures, Share};
+use std::alloc::AllocError;
 
 // How wide the labels and the amounts are, in bytes.
 const LABEL: usize = 26;
@@ -10,86 +19,193 @@ const LABEL: usize = 26;
 const AMOUNT: usize = 14;
 
 /// The figures of a claim that is paid, a line each, with where each comes from; nothing of another.
-pub(crate) fn put_figures(draft: &mut Draft, figures: &Figures, explanation: &Explanation) {
+pub(crate) fn put_figures(
+    page: &mut Page,
+    figures: &Figures,
+    explanation: &Explanation,
+) -> Result<(), AllocError>
+    ensures { OnOk result (page.new.bytes.items
+        ≡ page.old.bytes.items ++ figure_lines explanation.now.transaction figures.now explanation.now) }
+{
     match (&explanation.transaction, &explanation.case) {
         (Transaction::Bill(bill), Case::Payable(payment)) => {
-            put_cost(draft, bill, payment);
-            put_fee(draft, figures, bill, payment);
-            put_allowed(draft, bill, payment);
-            put_accumulators(draft, figures, explanation, bill, payment);
-            put_payment(draft, payment);
+            put_paid(page, figures, explanation, bill, payment)
         }
-        _ => {}
+        _ => Ok(()),
     }
+}
+
+#[tactic(auto, using(std::proofs::Common::append_assoc), unfolding(crate::specs::Figures::paid_lines))]
+fn put_paid(
+    page: &mut Page,
+    figures: &Figures,
+    explanation: &Explanation,
+    bill: &Bill,
+    payment: &Payment,
+) -> Result<(), AllocError>
+    ensures { OnOk result (page.new.bytes.items
+        ≡ page.old.bytes.items ++ paid_lines figures.now explanation.now bill.now payment.now) }
+{
+    put_cost(page, bill, payment)?;
+    put_fee(page, figures, bill, payment)?;
+    put_allowed(page, bill, payment)?;
+    put_accumulators(page, figures, explanation, bill, payment)?;
+    put_payment(page, payment)
 }
 
 // A label and an amount, each in its column.
-fn line(draft: &mut Draft, label: &str, cents: u64) {
-    draft.say("  ");
-    draft.say(label);
-    draft.blanks(LABEL.saturating_sub(label.len()));
-    draft.column(AMOUNT, u128::from(cents));
+#[tactic(auto, using(std::proofs::Common::append_assoc), unfolding(crate::specs::Figures::labelled))]
+fn line(page: &mut Page, label: &str, cents: u128) -> Result<(), AllocError>
+    ensures { OnOk result (page.new.bytes.items ≡ page.old.bytes.items ++ labelled label.now cents) }
+{
+    page.say("  ")?;
+    page.say(label)?;
+    page.blanks(LABEL.saturating_sub(label.len()))?;
+    page.column(AMOUNT, cents)
+}
+
+// Whether a limit cut a figure.
+#[tactic(auto, using(std::proofs::Common::append_assoc), unfolding(crate::specs::Figures::cut_text))]
+fn put_cut(page: &mut Page, limit: &str, paid: u128, due: u128) -> Result<(), AllocError>
+    ensures { OnOk result (page.new.bytes.items ≡ page.old.bytes.items ++ cut_text limit.now paid due) }
+{
+    if paid >= due {
+        return Ok(());
+    }
+    page.say("  CUT by ")?;
+    page.say(limit)?;
+    page.say(" from ")?;
+    page.money(due)
+}
+
+// What was submitted, where the plan's figure isn't above it, with words for either case.
+#[tactic(auto, using(std::proofs::Common::append_assoc), unfolding(crate::specs::Figures::submitted_text))]
+fn put_submitted(
+    page: &mut Page,
+    submitted: u64,
+    plan: u64,
+    lower: &str,
+    higher: &str,
+) -> Result<(), AllocError>
+    ensures { OnOk result (page.new.bytes.items ≡ page.old.bytes.items ++ submitted_text submitted plan lower.now higher.now) }
+{
+    if submitted < plan {
+        return page.say(lower);
+    }
+    page.money(u128::from(submitted))?;
+    page.say(higher)
 }
 
 // The ingredient cost: which of two is lower, and what the charge cuts off.
-fn put_cost(draft: &mut Draft, bill: &Bill, payment: &Payment) {
+#[tactic(auto, using(std::proofs::Common::append_assoc), unfolding(crate::specs::Figures::cost_line))]
+fn put_cost(page: &mut Page, bill: &Bill, payment: &Payment) -> Result<(), AllocError>
+    ensures { OnOk result (page.new.bytes.items ≡ page.old.bytes.items ++ cost_line bill.now payment.now) }
+{
     let workings = &payment.workings;
-    let parts = bill.parts();
-    let submitted = parts.ingredient_cost.get();
-    let paid = payment.pricing.amounts().ingredient_cost;
-    line(draft, "ingredient cost F6", paid);
-    put_cut(draft, "the charge", paid, workings.ingredient_cost);
-    draft.say("  ");
-    if submitted < workings.cost {
-        draft.say("as submitted; the plan's price is ");
-    } else {
-        draft.money(u128::from(submitted));
-        draft.say(" submitted, paid by the plan's price: ");
-    }
-    draft.thousandths(parts.quantity.get());
-    draft.say(" x ");
-    draft.price(payment.drug.price);
-    draft.say(" = ");
-    draft.money(u128::from(workings.cost));
-    draft.say("\n");
+    let submitted = bill.parts().ingredient_cost.get();
+    let paid = u128::from(payment.pricing.amounts().ingredient_cost);
+    line(page, "ingredient cost F6", paid)?;
+    put_cut(
+        page,
+        "the charge",
+        paid,
+        u128::from(workings.ingredient_cost),
+    )?;
+    page.say("  ")?;
+    put_submitted(
+        page,
+        submitted,
+        workings.cost,
+        "as submitted; the plan's price is ",
+        " submitted, paid by the plan's price: ",
+    )?;
+    put_priced(page, bill, payment)
+}
+
+// The quantity at the plan's price.
+#[tactic(auto, using(std::proofs::Common::append_assoc), unfolding(crate::specs::Figures::priced_text))]
+fn put_priced(page: &mut Page, bill: &Bill, payment: &Payment) -> Result<(), AllocError>
+    ensures { OnOk result (page.new.bytes.items ≡ page.old.bytes.items ++ priced_text bill.now payment.now) }
+{
+    page.thousandths(bill.parts().quantity.get())?;
+    page.say(" x ")?;
+    page.price(payment.drug.price)?;
+    page.say(" = ")?;
+    page.money(u128::from(payment.workings.cost))?;
+    page.say("\n")
 }
 
 // The dispensing fee: which of two is lower, and what the charge cuts off.
-fn put_fee(draft: &mut Draft, figures: &Figures, bill: &Bill, payment: &Payment) {
-    let submitted = bill.parts().dispensing_fee.map_or(0, |fee| fee.get());
-    let paid = payment.pricing.amounts().dispensing_fee;
-    line(draft, "dispensing fee F7", paid);
-    put_cut(draft, "the charge", paid, payment.workings.dispensing_fee);
-    draft.say("  ");
-    if submitted < figures.fee {
-        draft.say("as submitted; the plan's fee is ");
-        draft.money(u128::from(figures.fee));
-    } else {
-        draft.money(u128::from(submitted));
-        draft.say(" submitted, paid by the plan's fee of ");
-        draft.money(u128::from(figures.fee));
+#[tactic(auto, using(std::proofs::Common::append_assoc), unfolding(crate::specs::Figures::fee_line))]
+fn put_fee(
+    page: &mut Page,
+    figures: &Figures,
+    bill: &Bill,
+    payment: &Payment,
+) -> Result<(), AllocError>
+    ensures { OnOk result (page.new.bytes.items ≡ page.old.bytes.items ++ fee_line figures.now bill.now payment.now) }
+{
+    let paid = u128::from(payment.pricing.amounts().dispensing_fee);
+    line(page, "dispensing fee F7", paid)?;
+    put_cut(
+        page,
+        "the charge",
+        paid,
+        u128::from(payment.workings.dispensing_fee),
+    )?;
+    page.say("  ")?;
+    put_submitted(
+        page,
+        submitted_fee(bill),
+        figures.fee,
+        "as submitted; the plan's fee is ",
+        " submitted, paid by the plan's fee of ",
+    )?;
+    page.money(u128::from(figures.fee))?;
+    page.say("\n")
+}
+
+// The dispensing fee submitted, nothing where there is none.
+fn submitted_fee(bill: &Bill) -> u64
+    ensures { result ≡ unwrap_or bill.now.dispensing_fee 0 }
+{
+    match bill.parts().dispensing_fee {
+        Some(fee) => fee.get(),
+        None => 0,
     }
-    draft.say("\n");
 }
 
 // What both come to, beside the charge.
-fn put_allowed(draft: &mut Draft, bill: &Bill, payment: &Payment) {
-    let workings = &payment.workings;
-    let before = workings
-        .ingredient_cost
-        .saturating_add(workings.dispensing_fee);
+#[tactic(auto, using(std::proofs::Common::append_assoc), unfolding(crate::specs::Figures::allowed_line))]
+fn put_allowed(page: &mut Page, bill: &Bill, payment: &Payment) -> Result<(), AllocError>
+    ensures { OnOk result (page.new.bytes.items ≡ page.old.bytes.items ++ allowed_line bill.now payment.now) }
+{
     let amounts = payment.pricing.amounts();
-    let allowed = amounts
-        .ingredient_cost
-        .saturating_add(amounts.dispensing_fee);
-    line(draft, "allowed", allowed);
-    put_cut(draft, "the charge", allowed, before);
-    draft.say(match bill.parts().usual_charge {
-        Some(_) => "  the usual charge DQ is ",
-        None => "  the gross amount due DU, for want of a usual charge, is ",
-    });
-    draft.money(u128::from(workings.cap));
-    draft.say("\n");
+    let workings = &payment.workings;
+    let allowed = both(amounts.ingredient_cost, amounts.dispensing_fee);
+    let before = both(workings.ingredient_cost, workings.dispensing_fee);
+    line(page, "allowed", allowed)?;
+    put_cut(page, "the charge", allowed, before)?;
+    put_charge(page, bill)?;
+    page.money(u128::from(workings.cap))?;
+    page.say("\n")
+}
+
+// What two amounts come to.
+fn both(a: u64, b: u64) -> u128
+    ensures { result ≡ a + b }
+{
+    u128::from(a) + u128::from(b)
+}
+
+// The charge by its field.
+fn put_charge(page: &mut Page, bill: &Bill) -> Result<(), AllocError>
+    ensures { OnOk result (page.new.bytes.items ≡ page.old.bytes.items ++ charge_text bill.now.usual_charge) }
+{
+    match bill.parts().usual_charge {
+        Some(_) => page.say("  the usual charge DQ is "),
+        None => page.say("  the gross amount due DU, for want of a usual charge, is "),
+    }
 }
 
 // Which figure of a claim an accumulator adds up.
@@ -101,55 +217,144 @@ enum Counts {
 }
 
 // What is left of the plan's figures, with the claims that used them.
+#[tactic(auto, using(std::proofs::Common::append_assoc), unfolding(crate::specs::Figures::accumulator_lines))]
 fn put_accumulators(
-    draft: &mut Draft,
+    page: &mut Page,
     figures: &Figures,
     explanation: &Explanation,
     bill: &Bill,
     payment: &Payment,
-) {
+) -> Result<(), AllocError>
+    ensures { OnOk result (page.new.bytes.items
+        ≡ page.old.bytes.items ++ accumulator_lines figures.now explanation.now.counted.items bill.now payment.now) }
+{
     let used = &payment.used;
     let workings = &payment.workings;
-    line(draft, "member's deductible left", workings.deductible_left);
-    put_less(draft, figures.member_deductible, used.deductible);
-    put_claims(draft, explanation, bill, Counts::MemberDeductible);
-    if let (Some(figure), Some(left)) = (
-        figures.family_deductible,
-        workings.family_deductible_left,
-    ) {
-        line(draft, "family's deductible left", left);
-        put_less(draft, figure, used.family_deductible);
-        put_claims(draft, explanation, bill, Counts::FamilyDeductible);
-    }
-    line(draft, "family's maximum left", workings.room);
-    put_less(draft, figures.family_maximum, used.out_of_pocket);
-    put_claims(draft, explanation, bill, Counts::OutOfPocket);
+    let counted = explanation.counted.as_slice();
+    line(
+        page,
+        "member's deductible left",
+        u128::from(workings.deductible_left),
+    )?;
+    put_left(
+        page,
+        figures.member_deductible,
+        used.deductible,
+        counted,
+        bill,
+        Counts::MemberDeductible,
+    )?;
+    put_family(page, figures.family_deductible, counted, bill, payment)?;
+    line(page, "family's maximum left", u128::from(workings.room))?;
+    put_left(
+        page,
+        figures.family_maximum,
+        used.out_of_pocket,
+        counted,
+        bill,
+        Counts::OutOfPocket,
+    )
 }
 
-fn put_less(draft: &mut Draft, figure: u64, used: u128) {
-    draft.say("  ");
-    draft.money(u128::from(figure));
-    draft.say(" less ");
-    draft.money(used);
-    draft.say("\n");
+// The family's deductible, where the plan has one.
+#[tactic(auto, using(std::proofs::Common::append_assoc))]
+fn put_family(
+    page: &mut Page,
+    figure: Option<u64>,
+    counted: &[Traced],
+    bill: &Bill,
+    payment: &Payment,
+) -> Result<(), AllocError>
+    ensures { OnOk result (page.new.bytes.items ≡ page.old.bytes.items
+        ++ family_lines figure payment.now.workings.family_deductible_left counted.now bill.now payment.now) }
+{
+    match (figure, payment.workings.family_deductible_left) {
+        (Some(figure), Some(left)) => {
+            put_family_left(page, figure, left, counted, bill, payment)
+        }
+        _ => Ok(()),
+    }
+}
+
+#[tactic(auto, using(std::proofs::Common::append_assoc), unfolding(crate::specs::Figures::family_left_lines))]
+fn put_family_left(
+    page: &mut Page,
+    figure: u64,
+    left: u64,
+    counted: &[Traced],
+    bill: &Bill,
+    payment: &Payment,
+) -> Result<(), AllocError>
+    ensures { OnOk result (page.new.bytes.items ≡ page.old.bytes.items
+        ++ family_left_lines figure left counted.now bill.now payment.now) }
+{
+    let used = payment.used.family_deductible;
+    line(page, "family's deductible left", u128::from(left))?;
+    put_left(page, figure, used, counted, bill, Counts::FamilyDeductible)
+}
+
+// What an amount left is the rest of, and the claims that used it.
+#[tactic(auto, using(std::proofs::Common::append_assoc), unfolding(crate::specs::Figures::left_lines))]
+fn put_left(
+    page: &mut Page,
+    figure: u64,
+    used: u128,
+    counted: &[Traced],
+    bill: &Bill,
+    counts: Counts,
+) -> Result<(), AllocError>
+    ensures { OnOk result (page.new.bytes.items ≡ page.old.bytes.items ++ left_lines figure used counts bill.now counted.now) }
+{
+    put_less(page, figure, used)?;
+    put_claims(page, counted, bill, counts)
+}
+
+#[tactic(auto, using(std::proofs::Common::append_assoc), unfolding(crate::specs::Figures::less_text))]
+fn put_less(page: &mut Page, figure: u64, used: u128) -> Result<(), AllocError>
+    ensures { OnOk result (page.new.bytes.items ≡ page.old.bytes.items ++ less_text figure used) }
+{
+    page.say("  ")?;
+    page.money(u128::from(figure))?;
+    page.say(" less ")?;
+    page.money(used)?;
+    page.say("\n")
 }
 
 // A line for each claim that counts, with what it counts.
-fn put_claims(draft: &mut Draft, explanation: &Explanation, bill: &Bill, counts: Counts) {
-    for traced in &explanation.counted {
-        let cents = counted_of(traced, bill, counts);
-        if cents > 0 {
-            draft.blanks(4 + LABEL + AMOUNT);
-            draft.column(AMOUNT, u128::from(cents));
-            draft.say("  ");
-            put_traced(draft, traced);
-            draft.say("\n");
-        }
+fn put_claims(
+    page: &mut Page,
+    counted: &[Traced],
+    bill: &Bill,
+    counts: Counts,
+) -> Result<(), AllocError>
+    ensures { OnOk result (page.new.bytes.items ≡ page.old.bytes.items ++ counted_lines counts bill.now counted.now) }
+{
+    for traced in counted {
+        put_claim(page, traced, counted_of(traced, bill, counts))?;
     }
+    Ok(())
+}
+
+// The claim with what it counts, in cents; nothing where it counts nothing.
+#[tactic(auto, using(std::proofs::Common::append_assoc), unfolding(crate::specs::Figures::counted_line))]
+fn put_claim(page: &mut Page, traced: &Traced, cents: u64) -> Result<(), AllocError>
+    ensures { OnOk result (page.new.bytes.items ≡ page.old.bytes.items ++ counted_line cents traced.now) }
+{
+    if cents == 0 {
+        return Ok(());
+    }
+    page.blanks(4 + LABEL + AMOUNT)?;
+    page.column(AMOUNT, u128::from(cents))?;
+    page.say("  ")?;
+    put_traced(page, traced)?;
+    page.say("\n")
 }
 
 // What the claim counts, in cents.
-fn counted_of(traced: &Traced, bill: &Bill, counts: Counts) -> u64 {
+#[tactic(auto, using(rx_ledger::proofs::SameText::same_text))]
+fn counted_of(traced: &Traced, bill: &Bill, counts: Counts) -> u64
+    ensures { result ≡ counted_of counts bill.now traced.now }
+{
     let row = &traced.row;
     match counts {
         Counts::MemberDeductible if row.person != bill.parts().person => 0,
@@ -159,42 +364,71 @@ fn counted_of(traced: &Traced, bill: &Bill, counts: Counts) -> u64 {
 }
 
 // The deductible, the copay or coinsurance, and who pays what.
-fn put_payment(draft: &mut Draft, payment: &Payment) {
-    let workings = &payment.workings;
-    let amounts = payment.pricing.amounts();
-    line(draft, "deductible FH", amounts.deductible);
-    put_cut(draft, MAXIMUM, amounts.deductible, workings.under);
-    draft.say("\n");
+#[tactic(auto, using(std::proofs::Common::append_assoc), unfolding(crate::specs::Figures::payment_lines))]
+fn put_payment(page: &mut Page, payment: &Payment) -> Result<(), AllocError>
+    ensures { OnOk result (page.new.bytes.items ≡ page.old.bytes.items ++ payment_lines payment.now) }
+{
+    let deductible = u128::from(payment.pricing.amounts().deductible);
+    line(page, "deductible FH", deductible)?;
+    put_cut(
+        page,
+        MAXIMUM,
+        deductible,
+        u128::from(payment.workings.under),
+    )?;
+    page.say("\n")?;
+    put_share(page, payment)?;
+    page.say("\n")?;
+    put_payers(page, payment)
+}
+
+// The copay or the coinsurance, and the tier's.
+fn put_share(page: &mut Page, payment: &Payment) -> Result<(), AllocError>
+    ensures { OnOk result (page.new.bytes.items ≡ page.old.bytes.items ++ share_line payment.now.drug.share payment.now) }
+{
     match payment.drug.share {
-        Share::Copay(cents) => {
-            line(draft, "copay FI", amounts.copay);
-            put_cut(draft, MAXIMUM, amounts.copay, workings.share);
-            draft.say("  tier of ");
-            draft.money(u128::from(cents));
-        }
-        Share::Percent(percent) => {
-            line(draft, "coinsurance 4U", amounts.coinsurance);
-            put_cut(draft, MAXIMUM, amounts.coinsurance, workings.share);
-            draft.say("  tier of ");
-            draft.number(u128::from(percent));
-            draft.say(" percent");
-        }
+        Share::Copay(cents) => put_copay(page, payment, cents),
+        Share::Percent(percent) => put_coinsurance(page, payment, percent),
     }
-    draft.say("\n");
-    line(draft, "member pays F5", payment.pricing.patient_pay());
-    draft.say("\n");
-    line(draft, "plan pays F9", payment.pricing.total_paid());
-    draft.say("\n");
+}
+
+#[tactic(auto, using(std::proofs::Common::append_assoc), unfolding(crate::specs::Figures::copay_line))]
+fn put_copay(page: &mut Page, payment: &Payment, cents: u64) -> Result<(), AllocError>
+    ensures { OnOk result (page.new.bytes.items ≡ page.old.bytes.items ++ copay_line cents payment.now) }
+{
+    let paid = u128::from(payment.pricing.amounts().copay);
+    line(page, "copay FI", paid)?;
+    put_cut(page, MAXIMUM, paid, u128::from(payment.workings.share))?;
+    page.say("  tier of ")?;
+    page.money(u128::from(cents))
+}
+
+#[tactic(auto, using(std::proofs::Common::append_assoc), unfolding(crate::specs::Figures::coinsurance_line))]
+fn put_coinsurance(page: &mut Page, payment: &Payment, percent: u8) -> Result<(), AllocError>
+    ensures { OnOk result (page.new.bytes.items ≡ page.old.bytes.items ++ coinsurance_line percent payment.now) }
+{
+    let paid = u128::from(payment.pricing.amounts().coinsurance);
+    line(page, "coinsurance 4U", paid)?;
+    put_cut(page, MAXIMUM, paid, u128::from(payment.workings.share))?;
+    page.say("  tier of ")?;
+    page.number(u128::from(percent))?;
+    page.say(" percent")
+}
+
+#[tactic(auto, using(std::proofs::Common::append_assoc), unfolding(crate::specs::Figures::payer_lines))]
+fn put_payers(page: &mut Page, payment: &Payment) -> Result<(), AllocError>
+    ensures { OnOk result (page.new.bytes.items ≡ page.old.bytes.items ++ payer_lines payment.now) }
+{
+    put_pays(page, "member pays F5", payment.pricing.patient_pay())?;
+    put_pays(page, "plan pays F9", payment.pricing.total_paid())
+}
+
+#[tactic(auto, using(std::proofs::Common::append_assoc), unfolding(crate::specs::Figures::pays_line))]
+fn put_pays(page: &mut Page, label: &str, cents: u64) -> Result<(), AllocError>
+    ensures { OnOk result (page.new.bytes.items ≡ page.old.bytes.items ++ pays_line label.now cents) }
+{
+    line(page, label, u128::from(cents))?;
+    page.say("\n")
 }
 
 const MAXIMUM: &str = "the family's maximum";
-
-// Whether a limit cut a figure.
-fn put_cut(draft: &mut Draft, limit: &str, paid: u64, due: u64) {
-    if paid < due {
-        draft.say("  CUT by ");
-        draft.say(limit);
-        draft.say(" from ");
-        draft.money(u128::from(due));
-    }
-}

@@ -1,20 +1,28 @@
-use crate::code_words::name;
-use crate::codes::put_codes;
+ghost use Rattle.std.specs.Prelude.{◌≡◌, ◌++◌, Some, IfOk, OnOk, option_map};
+ghost use Rattle.rx_explain_text.specs.Answered.{answer_text, answered_line, member_text, numbered_text, reference_of};
+ghost use Rattle.rx_explain_text.specs.Answered.{refused_count, refused_for, refused_text, rx_text, whose_text};
+ghost use Rattle.rx_explain_text.specs.Claims.{at_text};
+ghost use Rattle.rx_explain_text.specs.Rejections.{compared_line, compared_words, rejected_line, rejection_words, sent_text};
+ghost use Rattle.rx_explain_text.specs.Rejections.{trimmed_text};
+ghost use Rattle.rx_explain_text.specs.Texts.{explanation_words};
+
+use crate::codes::{put_codes, put_named};
 use crate::compared::Compared;
-use crate::draft::Draft;
 use crate::figures::put_figures;
+use crate::page::Page;
 use crate::reasons::put_reason;
 use crate::request_field::field_bytes;
-use rx_claim::{Answer, Bill, Refused, Rejected, Transaction};
+use rx_claim::{Answer, Bill, Rejected, Transaction};
 use rx_escape::Style;
 use rx_explain::{At, Case, Explanation};
-use rx_fields::{Code, Id, Lot, Memory, Person, Reference};
+use rx_fields::{Authorization, Code, Id, Lot, Memory, Person, Reference, trimmed};
 use rx_ledger::Figures;
-use std::alloc::Global;
+use std::alloc::{AllocError, Global};
 
 /// An explanation in words: a line that says what was answered to whom, and below it, set in, why
 /// (docs/PRODUCT.md, "Rules of adjudication"). `request` is the text of the record's transmission; the last line says what
 /// a response file has there, where one was looked at.
+#[tactic(auto, using(std::proofs::Common::append_assoc))]
 pub fn explanation_text(
     alloc: Global,
     lot: Lot,
@@ -22,16 +30,19 @@ pub fn explanation_text(
     explanation: &Explanation,
     request: &[u8],
     compared: Option<Compared>,
-) -> Result<Vec<u8>, Memory> {
-    let mut draft = Draft::new(alloc);
-    put_header(&mut draft, explanation);
-    put_reason(&mut draft, lot, figures, explanation, request);
-    put_figures(&mut draft, figures, explanation);
-    put_compared(&mut draft, explanation.at.place, compared);
-    draft.into_bytes()
+) -> Result<Vec<u8>, Memory>
+    ensures { IfOk result (λ text. text.items ≡ explanation_words lot figures.now explanation.now request.now compared) }
+{
+    let mut page = Page::new(alloc);
+    put_header(&mut page, explanation)?;
+    put_reason(&mut page, lot, figures, explanation, request)?;
+    put_figures(&mut page, figures, explanation)?;
+    put_compared(&mut page, explanation.at.place, compared)?;
+    Ok(page.into_bytes())
 }
 
 /// The same of a record whose header is rejected, with its pharmacy and date of service as they were sent.
+#[tactic(auto, using(std::proofs::Common::append_assoc))]
 pub fn rejection_text(
     alloc: Global,
     figures: &Figures,
@@ -39,128 +50,202 @@ pub fn rejection_text(
     rejected: &Rejected,
     request: &[u8],
     compared: Option<Compared>,
-) -> Result<Vec<u8>, Memory> {
-    let mut draft = Draft::new(alloc);
-    draft.say("record ");
-    draft.number(u128::from(place));
-    draft.say("  HEADER REJECTED, and with it each transaction  pharmacy ");
-    put_sent(&mut draft, request, Code::Provider);
-    draft.say("  date ");
-    put_sent(&mut draft, request, Code::DateOfService);
-    draft.say("\n");
-    put_codes(&mut draft, &figures.door, &rejected.codes, request, 0);
-    put_compared(&mut draft, place, compared);
-    draft.into_bytes()
+) -> Result<Vec<u8>, Memory>
+    ensures { IfOk result (λ text. text.items ≡ rejection_words figures.now.door place rejected.now request.now compared) }
+{
+    let mut page = Page::new(alloc);
+    put_rejected(&mut page, place, request)?;
+    put_codes(&mut page, &figures.door, &rejected.codes, request, 0)?;
+    put_compared(&mut page, place, compared)?;
+    Ok(page.into_bytes())
+}
+
+// The record with its pharmacy and its date as they were sent.
+#[tactic(auto, using(std::proofs::Common::append_assoc), unfolding(crate::specs::Rejections::rejected_line))]
+fn put_rejected(page: &mut Page, place: u64, request: &[u8]) -> Result<(), AllocError>
+    ensures { OnOk result (page.new.bytes.items ≡ page.old.bytes.items ++ rejected_line place request.now) }
+{
+    page.say("record ")?;
+    page.number(u128::from(place))?;
+    page.say("  HEADER REJECTED, and with it each transaction  pharmacy ")?;
+    put_sent(page, request, Code::Provider)?;
+    page.say("  date ")?;
+    put_sent(page, request, Code::DateOfService)?;
+    page.say("\n")
 }
 
 // A field of the header, as it was sent.
-fn put_sent(draft: &mut Draft, request: &[u8], code: Code) {
-    let sent = field_bytes(request, 0, code).unwrap_or(&[]);
-    draft.escaped(Style::Terminal, rx_fields::trimmed(sent));
+#[tactic(auto, unfolding(crate::specs::Rejections::sent_text))]
+fn put_sent(page: &mut Page, request: &[u8], code: Code) -> Result<(), AllocError>
+    ensures { OnOk result (page.new.bytes.items ≡ page.old.bytes.items ++ sent_text request.now code) }
+{
+    put_trimmed(page, field_bytes(request, 0, code))
+}
+
+fn put_trimmed(page: &mut Page, sent: Option<&[u8]>) -> Result<(), AllocError>
+    ensures { OnOk result (page.new.bytes.items ≡ page.old.bytes.items ++ trimmed_text (option_map (λ b. b.now) sent.entry)) }
+{
+    match sent {
+        Some(bytes) => page.escaped(Style::Terminal, trimmed(bytes)),
+        None => Ok(()),
+    }
 }
 
 // Who is answered, and what.
-fn put_header(draft: &mut Draft, explanation: &Explanation) {
-    draft.say("record ");
-    put_at(draft, explanation.at);
-    draft.say("  ");
-    put_answer(draft, &explanation.answer);
-    draft.say("  pharmacy ");
-    draft.escaped(Style::Terminal, explanation.provider.bytes());
-    put_reference(draft, &explanation.transaction);
-    draft.say("  ");
-    draft.day(explanation.date);
-    put_whose(draft, explanation);
-    draft.say("\n");
+#[tactic(auto, using(std::proofs::Common::append_assoc), unfolding(crate::specs::Answered::answered_line))]
+fn put_header(page: &mut Page, explanation: &Explanation) -> Result<(), AllocError>
+    ensures { OnOk result (page.new.bytes.items ≡ page.old.bytes.items ++ answered_line explanation.now) }
+{
+    page.say("record ")?;
+    put_at(page, explanation.at)?;
+    page.say("  ")?;
+    put_answer(page, &explanation.answer)?;
+    page.say("  pharmacy ")?;
+    page.escaped(Style::Terminal, explanation.provider.bytes())?;
+    put_reference(page, &explanation.transaction)?;
+    page.say("  ")?;
+    page.day(explanation.date)?;
+    put_whose(page, &explanation.transaction, &explanation.case)?;
+    page.say("\n")
 }
 
 /// The place of a transaction, as `2.1`.
-pub(crate) fn put_at(draft: &mut Draft, at: At) {
-    draft.number(u128::from(at.place));
-    draft.say(".");
-    draft.number(u128::from(at.nth));
+#[tactic(auto, using(std::proofs::Common::append_assoc), unfolding(crate::specs::Claims::at_text))]
+pub(crate) fn put_at(page: &mut Page, at: At) -> Result<(), AllocError>
+    ensures { OnOk result (page.new.bytes.items ≡ page.old.bytes.items ++ at_text at) }
+{
+    page.number(u128::from(at.place))?;
+    page.say(".")?;
+    page.number(u128::from(at.nth))
 }
 
-fn put_answer(draft: &mut Draft, answer: &Answer) {
+fn put_answer(page: &mut Page, answer: &Answer) -> Result<(), AllocError>
+    ensures { OnOk result (page.new.bytes.items ≡ page.old.bytes.items ++ answer_text answer.now) }
+{
     match answer {
-        Answer::Paid(paid) => {
-            draft.say("PAID ");
-            draft.authorization(paid.number);
-        }
-        Answer::Twice(paid) => {
-            draft.say("DUPLICATE of ");
-            draft.authorization(paid.number);
-        }
-        Answer::Approved(approved) => {
-            draft.say("TAKEN BACK ");
-            draft.authorization(approved.number);
-        }
-        Answer::Refused(refused) => put_refused(draft, refused),
+        Answer::Paid(paid) => put_numbered(page, "PAID ", paid.number),
+        Answer::Twice(paid) => put_numbered(page, "DUPLICATE of ", paid.number),
+        Answer::Approved(approved) => put_numbered(page, "TAKEN BACK ", approved.number),
+        Answer::Refused(refused) => put_refused(page, refused.codes.as_slice()),
     }
+}
+
+// Words and an authorization number.
+#[tactic(auto, using(std::proofs::Common::append_assoc), unfolding(crate::specs::Answered::numbered_text))]
+fn put_numbered(page: &mut Page, words: &str, number: Authorization) -> Result<(), AllocError>
+    ensures { OnOk result (page.new.bytes.items ≡ page.old.bytes.items ++ numbered_text words.now number) }
+{
+    page.say(words)?;
+    page.authorization(number)
 }
 
 // The code of a refusal with its name, or how many codes a transaction has that can't be read.
-fn put_refused(draft: &mut Draft, refused: &Refused) {
-    draft.say("REFUSED ");
-    match refused.codes.as_slice() {
-        [code] => {
-            draft.put(&code.text());
-            draft.say(" ");
-            draft.say(name(*code));
-        }
-        codes => {
-            draft.number(codes.len() as u128);
-            draft.say(" codes");
-        }
+fn put_refused(page: &mut Page, codes: &[Code]) -> Result<(), AllocError>
+    ensures { OnOk result (page.new.bytes.items ≡ page.old.bytes.items ++ refused_text codes.now) }
+{
+    match codes {
+        [code] => put_refused_for(page, *code),
+        codes => put_refused_count(page, codes.len()),
     }
 }
 
-fn put_reference(draft: &mut Draft, transaction: &Transaction) {
-    let reference = match transaction {
+#[tactic(auto, using(std::proofs::Common::append_assoc), unfolding(crate::specs::Answered::refused_for))]
+fn put_refused_for(page: &mut Page, code: Code) -> Result<(), AllocError>
+    ensures { OnOk result (page.new.bytes.items ≡ page.old.bytes.items ++ refused_for code) }
+{
+    page.say("REFUSED ")?;
+    put_named(page, code)
+}
+
+#[tactic(auto, using(std::proofs::Common::append_assoc), unfolding(crate::specs::Answered::refused_count))]
+fn put_refused_count(page: &mut Page, count: usize) -> Result<(), AllocError>
+    ensures { OnOk result (page.new.bytes.items ≡ page.old.bytes.items ++ refused_count count) }
+{
+    page.say("REFUSED ")?;
+    page.number(count as u128)?;
+    page.say(" codes")
+}
+
+fn put_reference(page: &mut Page, transaction: &Transaction) -> Result<(), AllocError>
+    ensures { OnOk result (page.new.bytes.items ≡ page.old.bytes.items ++ rx_text (reference_of transaction.now)) }
+{
+    match reference_of(transaction) {
+        Some(reference) => put_rx(page, reference),
+        None => Ok(()),
+    }
+}
+
+fn reference_of(transaction: &Transaction) -> Option<Reference>
+    ensures { result ≡ reference_of transaction.now }
+{
+    match transaction {
         Transaction::Bill(bill) => Some(bill.parts().reference),
         Transaction::Reverse(reversal) => Some(reversal.reference),
         Transaction::Faulty(faulty) => faulty.reference,
-    };
-    match reference {
-        Some(reference) => put_rx(draft, reference),
-        None => {}
     }
 }
 
-fn put_rx(draft: &mut Draft, reference: Reference) {
-    draft.say("  rx ");
-    draft.number(u128::from(reference.get()));
+#[tactic(auto, using(std::proofs::Common::append_assoc))]
+fn put_rx(page: &mut Page, reference: Reference) -> Result<(), AllocError>
+    ensures { OnOk result (page.new.bytes.items ≡ page.old.bytes.items ++ rx_text (Some reference)) }
+{
+    page.say("  rx ")?;
+    page.number(u128::from(reference.get()))
 }
 
 // The family and person: of a claim that is taken back those of the claim.
-fn put_whose(draft: &mut Draft, explanation: &Explanation) {
-    match (&explanation.transaction, &explanation.case) {
-        (Transaction::Bill(bill), _) => put_billed(draft, bill),
-        (_, Case::TakenBack(row)) => put_member(draft, &row.family, &row.person),
-        _ => {}
+fn put_whose(page: &mut Page, transaction: &Transaction, case: &Case) -> Result<(), AllocError>
+    ensures { OnOk result (page.new.bytes.items ≡ page.old.bytes.items ++ whose_text transaction.now case.now) }
+{
+    match (transaction, case) {
+        (Transaction::Bill(bill), _) => put_billed(page, bill),
+        (_, Case::TakenBack(row)) => put_member(page, &row.family, &row.person),
+        _ => Ok(()),
     }
 }
 
-fn put_billed(draft: &mut Draft, bill: &Bill) {
-    put_member(draft, &bill.parts().family, &bill.parts().person);
+#[tactic(auto, using(std::proofs::Common::append_assoc), unfolding(crate::specs::Answered::member_text))]
+fn put_billed(page: &mut Page, bill: &Bill) -> Result<(), AllocError>
+    ensures { OnOk result (page.new.bytes.items ≡ page.old.bytes.items ++ member_text bill.now.family bill.now.person) }
+{
+    put_member(page, &bill.parts().family, &bill.parts().person)
 }
 
-fn put_member(draft: &mut Draft, family: &Id, person: &Person) {
-    draft.say("  family ");
-    draft.escaped(Style::Terminal, family.bytes());
-    draft.say(", person ");
-    draft.escaped(Style::Terminal, person.bytes());
+#[tactic(auto, using(std::proofs::Common::append_assoc), unfolding(crate::specs::Answered::member_text))]
+fn put_member(page: &mut Page, family: &Id, person: &Person) -> Result<(), AllocError>
+    ensures { OnOk result (page.new.bytes.items ≡ page.old.bytes.items ++ member_text family.now person.now) }
+{
+    page.say("  family ")?;
+    page.escaped(Style::Terminal, family.bytes())?;
+    page.say(", person ")?;
+    page.escaped(Style::Terminal, person.bytes())
 }
 
-// What a response file has at the place of the record.
-fn put_compared(draft: &mut Draft, place: u64, compared: Option<Compared>) {
-    let words = match compared {
-        None => return,
-        Some(Compared::Same) => " of the response file is this reply, byte for byte\n",
-        Some(Compared::Differs) => " of the response file DIFFERS from this reply\n",
-        Some(Compared::Absent) => " isn't there in the response file\n",
-    };
-    draft.say("  record ");
-    draft.number(u128::from(place));
-    draft.say(words);
+// What a response file has at the place of the record, where one was looked at.
+fn put_compared(page: &mut Page, place: u64, compared: Option<Compared>) -> Result<(), AllocError>
+    ensures { OnOk result (page.new.bytes.items ≡ page.old.bytes.items ++ compared_line place compared) }
+{
+    match compared {
+        Some(compared) => put_found(page, place, compared),
+        None => Ok(()),
+    }
+}
+
+#[tactic(auto, using(std::proofs::Common::append_assoc))]
+fn put_found(page: &mut Page, place: u64, compared: Compared) -> Result<(), AllocError>
+    ensures { OnOk result (page.new.bytes.items ≡ page.old.bytes.items ++ compared_line place (Some compared)) }
+{
+    page.say("  record ")?;
+    page.number(u128::from(place))?;
+    page.say(compared_words(compared))
+}
+
+fn compared_words(compared: Compared) -> &'static str
+    ensures { result.now ≡ compared_words compared }
+{
+    match compared {
+        Compared::Same => " of the response file is this reply, byte for byte\n",
+        Compared::Differs => " of the response file DIFFERS from this reply\n",
+        Compared::Absent => " isn't there in the response file\n",
+    }
 }

@@ -1,16 +1,34 @@
+ghost use Rattle.std.specs.Prelude.{◌≡◌, ◌++◌, IfOk, OnOk, option_map};
+ghost use Rattle.std.specs.List.{flat_map};
+ghost use Rattle.std.specs.Option.{unwrap_or};
+ghost use Rattle.rx_explain_text.specs.Json.{accumulators_json, after_comma, amounts_json, answer_json, approved_json};
+ghost use Rattle.rx_explain_text.specs.Json.{asked_json, at_member, between_commas, bill_json, bytes_json, bytes_member};
+ghost use Rattle.rx_explain_text.specs.Json.{case_json, charge_json, code_json, codes_json, compared_json, counted_json};
+ghost use Rattle.rx_explain_text.specs.Json.{coverage_json, day_member, decided_code, decided_json, decider_json, due_json};
+ghost use Rattle.rx_explain_text.specs.Json.{end_json, explanation_object, family_json, family_left_json, field_json};
+ghost use Rattle.rx_explain_text.specs.Json.{figures_json, from_json, front_json, header_json, named, number_member};
+ghost use Rattle.rx_explain_text.specs.Json.{numbered_json, open_json, paid_json, payable_json, place_json, price_json};
+ghost use Rattle.rx_explain_text.specs.Json.{quoted, reference_json, refusal_json, refused_json, rejection_object, row_json};
+ghost use Rattle.rx_explain_text.specs.Json.{said_member, share_json, soon_json, spoken_field, standing_json, text_member};
+ghost use Rattle.rx_explain_text.specs.Json.{traced_json, whole_part, workings_json};
+ghost use Rattle.rx_explain_text.specs.RequestField.{field_number};
+
 use crate::code_words::{case_name, name, wanted};
 use crate::compared::Compared;
-use crate::draft::Draft;
-use crate::reasons::without_end;
+use crate::page::Page;
+use crate::reasons::{as_decided, days_between};
 use crate::request_field::{field_bytes, field_name};
-use rx_claim::{Amounts, Answer, Bill, Codes, Pricing, Refused, Rejected, Transaction};
+use rx_claim::{
+    Amounts, Answer, Approved, Bill, BillParts, Codes, Paid, Pricing, Rejected, Transaction,
+};
 use rx_escape::Style;
 use rx_explain::{At, Case, Explanation, Payment, Source, Traced};
-use rx_fields::{Code, Day, Lot, Memory};
-use rx_ledger::{Figures, Share};
-use std::alloc::Global;
+use rx_fields::{Authorization, Cents, Code, Day, Lot, Memory, Period, Reference};
+use rx_ledger::{Figures, Row, Share};
+use std::alloc::{AllocError, Global};
 
 /// An explanation as one JSON object on one line. Amounts are in cents. `request` is the text of the record's transmission.
+#[tactic(auto, using(std::proofs::Common::append_assoc))]
 pub fn explanation_json(
     alloc: Global,
     lot: Lot,
@@ -18,123 +36,168 @@ pub fn explanation_json(
     explanation: &Explanation,
     request: &[u8],
     compared: Option<Compared>,
-) -> Result<Vec<u8>, Memory> {
-    let mut draft = Draft::new(alloc);
-    draft.say("{");
-    put_header(&mut draft, explanation, request);
-    draft.say(",\"case\":\"");
-    draft.say(case_name(&explanation.case));
-    draft.say("\"");
-    put_case(&mut draft, lot, figures, explanation);
-    put_standing(&mut draft, explanation);
-    put_figures(&mut draft, figures, explanation);
-    put_compared(&mut draft, compared);
-    draft.say("}\n");
-    draft.into_bytes()
+) -> Result<Vec<u8>, Memory>
+    ensures { IfOk result (λ text. text.items ≡ explanation_object lot figures.now explanation.now request.now compared) }
+{
+    let mut page = Page::new(alloc);
+    put_header(&mut page, explanation, request)?;
+    put_case(&mut page, lot, figures, explanation)?;
+    put_standing(&mut page, explanation)?;
+    put_figures(&mut page, figures, explanation)?;
+    put_compared(&mut page, compared)?;
+    page.say("}\n")?;
+    Ok(page.into_bytes())
 }
 
 /// The same of a record whose header is rejected.
+#[tactic(auto, using(std::proofs::Common::append_assoc))]
 pub fn rejection_json(
     alloc: Global,
     place: u64,
     rejected: &Rejected,
     request: &[u8],
     compared: Option<Compared>,
-) -> Result<Vec<u8>, Memory> {
-    let mut draft = Draft::new(alloc);
-    draft.say("{\"place\":");
-    draft.number(u128::from(place));
-    draft.say(",\"pharmacy\":");
-    put_bytes(&mut draft, field_bytes(request, 0, Code::Provider));
-    draft.say(",\"date\":");
-    put_bytes(&mut draft, field_bytes(request, 0, Code::DateOfService));
-    draft.say(",\"answer\":\"header rejected\"");
-    put_codes(&mut draft, &rejected.codes, request, 0);
-    put_compared(&mut draft, compared);
-    draft.say("}\n");
-    draft.into_bytes()
+) -> Result<Vec<u8>, Memory>
+    ensures { IfOk result (λ text. text.items ≡ rejection_object place rejected.now request.now compared) }
+{
+    let mut page = Page::new(alloc);
+    put_place(&mut page, place)?;
+    put_spoken(&mut page, "pharmacy", request, 0, Code::Provider)?;
+    put_spoken(&mut page, "date", request, 0, Code::DateOfService)?;
+    put_said(&mut page, "answer", "header rejected")?;
+    put_codes(&mut page, rejected.codes.as_slice(), request, 0)?;
+    put_compared(&mut page, compared)?;
+    page.say("}\n")?;
+    Ok(page.into_bytes())
+}
+
+// The object's front, and the record's place.
+#[tactic(auto, using(std::proofs::Common::append_assoc), unfolding(crate::specs::Json::place_json))]
+fn put_place(page: &mut Page, place: u64) -> Result<(), AllocError>
+    ensures { OnOk result (page.new.bytes.items ≡ page.old.bytes.items ++ place_json place) }
+{
+    page.say("{\"place\":")?;
+    page.number(u128::from(place))
+}
+
+// The bytes of a request that a code speaks of.
+#[tactic(auto, using(std::proofs::Common::append_assoc), unfolding(crate::specs::Json::bytes_member))]
+fn put_spoken(
+    page: &mut Page,
+    name: &str,
+    request: &[u8],
+    nth: u64,
+    code: Code,
+) -> Result<(), AllocError>
+    ensures { OnOk result (page.new.bytes.items ≡ page.old.bytes.items ++ bytes_member name.now request.now nth code) }
+{
+    put_name(page, name)?;
+    put_bytes(page, field_bytes(request, nth, code))
 }
 
 // What a response file has at the place of the record.
-fn put_compared(draft: &mut Draft, compared: Option<Compared>) {
+fn put_compared(page: &mut Page, compared: Option<Compared>) -> Result<(), AllocError>
+    ensures { OnOk result (page.new.bytes.items ≡ page.old.bytes.items ++ compared_json compared) }
+{
     match compared {
-        None => {}
-        Some(Compared::Same) => draft.say(",\"response\":\"same\""),
-        Some(Compared::Differs) => draft.say(",\"response\":\"differs\""),
-        Some(Compared::Absent) => draft.say(",\"response\":\"absent\""),
+        None => Ok(()),
+        Some(Compared::Same) => put_said(page, "response", "same"),
+        Some(Compared::Differs) => put_said(page, "response", "differs"),
+        Some(Compared::Absent) => put_said(page, "response", "absent"),
     }
 }
 
-fn put_header(draft: &mut Draft, explanation: &Explanation, request: &[u8]) {
-    draft.say("\"place\":");
-    draft.number(u128::from(explanation.at.place));
-    draft.say(",\"nth\":");
-    draft.number(u128::from(explanation.at.nth));
-    draft.say(",\"pharmacy\":");
-    put_text(draft, explanation.provider.bytes());
-    draft.say(",\"date\":\"");
-    draft.day(explanation.date);
-    draft.say("\"");
-    put_asked(draft, &explanation.transaction);
-    put_answer(draft, explanation, request);
+#[tactic(auto, using(std::proofs::Common::append_assoc), unfolding(crate::specs::Json::header_json))]
+fn put_header(page: &mut Page, explanation: &Explanation, request: &[u8]) -> Result<(), AllocError>
+    ensures { OnOk result (page.new.bytes.items ≡ page.old.bytes.items ++ header_json explanation.now request.now) }
+{
+    put_place(page, explanation.at.place)?;
+    put_number(page, "nth", explanation.at.nth)?;
+    put_text(page, "pharmacy", explanation.provider.bytes())?;
+    put_day(page, "date", explanation.date)?;
+    put_asked(page, &explanation.transaction)?;
+    put_answer(page, explanation, request)?;
+    put_said(page, "case", case_name(&explanation.case))
 }
 
-fn put_asked(draft: &mut Draft, transaction: &Transaction) {
+#[tactic(auto, using(std::proofs::Common::append_assoc))]
+fn put_asked(page: &mut Page, transaction: &Transaction) -> Result<(), AllocError>
+    ensures { OnOk result (page.new.bytes.items ≡ page.old.bytes.items ++ asked_json transaction.now) }
+{
     match transaction {
-        Transaction::Bill(bill) => put_bill(draft, bill),
+        Transaction::Bill(bill) => put_bill(page, bill.parts()),
         Transaction::Reverse(reversal) => {
-            put_number(draft, "rx", reversal.reference.get());
-            draft.say(",\"product\":");
-            put_text(draft, &reversal.product.digits());
+            put_number(page, "rx", reversal.reference.get())?;
+            put_text(page, "product", &reversal.product.digits())
         }
-        Transaction::Faulty(faulty) => match faulty.reference {
-            Some(reference) => put_number(draft, "rx", reference.get()),
-            None => {}
-        },
+        Transaction::Faulty(faulty) => put_reference(page, faulty.reference),
     }
 }
 
-fn put_bill(draft: &mut Draft, bill: &Bill) {
-    let parts = bill.parts();
-    put_number(draft, "rx", parts.reference.get());
-    draft.say(",\"family\":");
-    put_text(draft, parts.family.bytes());
-    draft.say(",\"person\":");
-    put_text(draft, parts.person.bytes());
-    draft.say(",\"product\":");
-    put_text(draft, &parts.product.digits());
-    put_number(draft, "quantity_thousandths", parts.quantity.get());
-    put_number(draft, "days", parts.days.get());
+fn put_reference(page: &mut Page, reference: Option<Reference>) -> Result<(), AllocError>
+    ensures { OnOk result (page.new.bytes.items ≡ page.old.bytes.items ++ reference_json reference) }
+{
+    match reference {
+        Some(reference) => put_number(page, "rx", reference.get()),
+        None => Ok(()),
+    }
 }
 
-fn put_answer(draft: &mut Draft, explanation: &Explanation, request: &[u8]) {
+#[tactic(auto, using(std::proofs::Common::append_assoc), unfolding(crate::specs::Json::bill_json))]
+fn put_bill(page: &mut Page, parts: &BillParts) -> Result<(), AllocError>
+    ensures { OnOk result (page.new.bytes.items ≡ page.old.bytes.items ++ bill_json parts.now) }
+{
+    put_number(page, "rx", parts.reference.get())?;
+    put_text(page, "family", parts.family.bytes())?;
+    put_text(page, "person", parts.person.bytes())?;
+    put_text(page, "product", &parts.product.digits())?;
+    put_number(page, "quantity_thousandths", parts.quantity.get())?;
+    put_number(page, "days", parts.days.get())
+}
+
+fn put_answer(page: &mut Page, explanation: &Explanation, request: &[u8]) -> Result<(), AllocError>
+    ensures { OnOk result (page.new.bytes.items ≡ page.old.bytes.items ++ answer_json explanation.now.answer explanation.now request.now) }
+{
     match &explanation.answer {
-        Answer::Paid(paid) => {
-            draft.say(",\"answer\":\"paid\",\"number\":\"");
-            draft.authorization(paid.number);
-            draft.say("\"");
-            put_pricing(draft, &paid.pricing);
-        }
-        Answer::Twice(paid) => {
-            draft.say(",\"answer\":\"duplicate\",\"number\":\"");
-            draft.authorization(paid.number);
-            draft.say("\"");
-            put_pricing(draft, &paid.pricing);
-        }
-        Answer::Approved(approved) => {
-            draft.say(",\"answer\":\"taken back\",\"number\":\"");
-            draft.authorization(approved.number);
-            draft.say("\"");
-            put_number(draft, "total_paid", approved.total_paid.get());
-        }
-        Answer::Refused(refused) => {
-            draft.say(",\"answer\":\"refused\"");
-            put_refused(draft, explanation, refused, request);
-        }
+        Answer::Paid(paid) => put_paid(page, "paid", paid),
+        Answer::Twice(paid) => put_paid(page, "duplicate", paid),
+        Answer::Approved(approved) => put_approved(page, approved),
+        Answer::Refused(refused) => put_refused(page, explanation, &refused.codes, request),
     }
 }
 
-fn put_pricing(draft: &mut Draft, pricing: &Pricing) {
+#[tactic(auto, using(std::proofs::Common::append_assoc), unfolding(crate::specs::Json::paid_json))]
+fn put_paid(page: &mut Page, answer: &str, paid: &Paid) -> Result<(), AllocError>
+    ensures { OnOk result (page.new.bytes.items ≡ page.old.bytes.items ++ paid_json answer.now paid.now) }
+{
+    put_numbered(page, answer, paid.number)?;
+    put_pricing(page, &paid.pricing)
+}
+
+#[tactic(auto, using(std::proofs::Common::append_assoc), unfolding(crate::specs::Json::approved_json))]
+fn put_approved(page: &mut Page, approved: &Approved) -> Result<(), AllocError>
+    ensures { OnOk result (page.new.bytes.items ≡ page.old.bytes.items ++ approved_json approved.now) }
+{
+    put_numbered(page, "taken back", approved.number)?;
+    put_number(page, "total_paid", approved.total_paid.get())
+}
+
+// An answer with its authorization number.
+#[tactic(auto, using(std::proofs::Common::append_assoc), unfolding(crate::specs::Json::numbered_json))]
+fn put_numbered(page: &mut Page, answer: &str, number: Authorization) -> Result<(), AllocError>
+    ensures { OnOk result (page.new.bytes.items ≡ page.old.bytes.items ++ numbered_json answer.now number) }
+{
+    put_said(page, "answer", answer)?;
+    put_name(page, "number")?;
+    page.say("\"")?;
+    page.authorization(number)?;
+    page.say("\"")
+}
+
+#[tactic(auto, using(std::proofs::Common::append_assoc), unfolding(crate::specs::Json::amounts_json))]
+fn put_pricing(page: &mut Page, pricing: &Pricing) -> Result<(), AllocError>
+    ensures { OnOk result (page.new.bytes.items ≡ page.old.bytes.items ++ amounts_json pricing.now) }
+{
     let Amounts {
         ingredient_cost,
         dispensing_fee,
@@ -142,235 +205,572 @@ fn put_pricing(draft: &mut Draft, pricing: &Pricing) {
         copay,
         coinsurance,
     } = pricing.amounts();
-    put_number(draft, "ingredient_cost", ingredient_cost);
-    put_number(draft, "dispensing_fee", dispensing_fee);
-    put_number(draft, "deductible", deductible);
-    put_number(draft, "copay", copay);
-    put_number(draft, "coinsurance", coinsurance);
-    put_number(draft, "patient_pay", pricing.patient_pay());
-    put_number(draft, "total_paid", pricing.total_paid());
+    put_number(page, "ingredient_cost", ingredient_cost)?;
+    put_number(page, "dispensing_fee", dispensing_fee)?;
+    put_number(page, "deductible", deductible)?;
+    put_number(page, "copay", copay)?;
+    put_number(page, "coinsurance", coinsurance)?;
+    put_number(page, "patient_pay", pricing.patient_pay())?;
+    put_number(page, "total_paid", pricing.total_paid())
+}
+
+#[tactic(auto, using(std::proofs::Common::append_assoc), unfolding(crate::specs::Json::refused_json))]
+fn put_refused(
+    page: &mut Page,
+    explanation: &Explanation,
+    codes: &Codes,
+    request: &[u8],
+) -> Result<(), AllocError>
+    ensures { OnOk result (page.new.bytes.items ≡ page.old.bytes.items ++ refused_json explanation.now request.now codes.now) }
+{
+    put_said(page, "answer", "refused")?;
+    put_refusal(page, explanation, codes, request)
 }
 
 // The code of a case, or each code of a transaction that can't be read.
-fn put_refused(draft: &mut Draft, explanation: &Explanation, refused: &Refused, request: &[u8]) {
+fn put_refusal(
+    page: &mut Page,
+    explanation: &Explanation,
+    codes: &Codes,
+    request: &[u8],
+) -> Result<(), AllocError>
+    ensures { OnOk result (page.new.bytes.items
+        ≡ page.old.bytes.items ++ refusal_json explanation.now.transaction explanation.now.at.nth request.now codes.now) }
+{
     match &explanation.transaction {
-        Transaction::Faulty(_) => put_codes(draft, &refused.codes, request, explanation.at.nth),
-        _ => put_decided(draft, &refused.codes),
+        Transaction::Faulty(_) => put_codes(page, codes.as_slice(), request, explanation.at.nth),
+        _ => put_decided(page, codes.as_slice()),
     }
 }
 
-fn put_decided(draft: &mut Draft, codes: &Codes) {
-    let mut before = ",\"codes\":[";
-    for code in codes.as_slice() {
-        draft.say(before);
-        before = ",";
-        draft.say("{\"code\":");
-        put_text(draft, &code.text());
-        draft.say(",\"name\":\"");
-        draft.say(name(*code));
-        draft.say("\"}");
+#[tactic(auto, using(std::proofs::Common::append_assoc), unfolding(crate::specs::Json::decided_json))]
+fn put_decided(page: &mut Page, codes: &[Code]) -> Result<(), AllocError>
+    ensures { OnOk result (page.new.bytes.items ≡ page.old.bytes.items ++ decided_json codes.now) }
+{
+    put_name(page, "codes")?;
+    page.say("[")?;
+    put_each_decided(page, codes)?;
+    page.say("]")
+}
+
+#[tactic(auto, using(std::proofs::Common::append_assoc))]
+fn put_each_decided(page: &mut Page, codes: &[Code]) -> Result<(), AllocError>
+    ensures { OnOk result (page.new.bytes.items ≡ page.old.bytes.items ++ between_commas decided_code codes.now) }
+{
+    let [first, others @ ..] = codes else {
+        return Ok(());
+    };
+    put_decided_code(page, *first)?;
+    put_others_decided(page, others)
+}
+
+fn put_others_decided(page: &mut Page, codes: &[Code]) -> Result<(), AllocError>
+    ensures { OnOk result (page.new.bytes.items ≡ page.old.bytes.items ++ flat_map (after_comma decided_code) codes.now) }
+{
+    for code in codes {
+        put_another_decided(page, *code)?;
     }
-    draft.say("]");
+    Ok(())
+}
+
+#[tactic(auto, using(std::proofs::Common::append_assoc))]
+fn put_another_decided(page: &mut Page, code: Code) -> Result<(), AllocError>
+    ensures { OnOk result (page.new.bytes.items ≡ page.old.bytes.items ++ after_comma decided_code code) }
+{
+    page.say(",")?;
+    put_decided_code(page, code)
+}
+
+#[tactic(auto, using(std::proofs::Common::append_assoc), unfolding(crate::specs::Json::decided_code))]
+fn put_decided_code(page: &mut Page, code: Code) -> Result<(), AllocError>
+    ensures { OnOk result (page.new.bytes.items ≡ page.old.bytes.items ++ decided_code code) }
+{
+    put_front(page, code)?;
+    page.say("}")
+}
+
+// A code with its name.
+#[tactic(auto, using(std::proofs::Common::append_assoc), unfolding(crate::specs::Json::front_json))]
+fn put_front(page: &mut Page, code: Code) -> Result<(), AllocError>
+    ensures { OnOk result (page.new.bytes.items ≡ page.old.bytes.items ++ front_json code) }
+{
+    page.say("{\"code\":")?;
+    put_string(page, &code.text())?;
+    put_said(page, "name", name(code))
 }
 
 // Each code with its name, the field that it speaks of, that field's bytes and what is wanted.
-fn put_codes(draft: &mut Draft, codes: &Codes, request: &[u8], nth: u64) {
-    let mut before = ",\"codes\":[";
-    for code in codes.as_slice() {
-        draft.say(before);
-        before = ",";
-        put_code(draft, *code, request, nth);
-    }
-    draft.say("]");
+#[tactic(auto, using(std::proofs::Common::append_assoc), unfolding(crate::specs::Json::codes_json))]
+fn put_codes(page: &mut Page, codes: &[Code], request: &[u8], nth: u64) -> Result<(), AllocError>
+    ensures { OnOk result (page.new.bytes.items ≡ page.old.bytes.items ++ codes_json request.now nth codes.now) }
+{
+    put_name(page, "codes")?;
+    page.say("[")?;
+    put_each_code(page, codes, request, nth)?;
+    page.say("]")
 }
 
-fn put_code(draft: &mut Draft, code: Code, request: &[u8], nth: u64) {
-    draft.say("{\"code\":");
-    put_text(draft, &code.text());
-    draft.say(",\"name\":\"");
-    draft.say(name(code));
-    draft.say("\",\"wanted\":\"");
-    draft.say(wanted(code));
-    draft.say("\"");
-    if let Some(field) = field_name(code) {
-        draft.say(",\"field\":\"");
-        draft.say(field);
-        draft.say("\",\"bytes\":");
-        put_bytes(draft, field_bytes(request, nth, code));
-    } else if matches!(code, Code::Syntax) {
-        draft.say(",\"bytes\":");
-        put_bytes(draft, field_bytes(request, nth, code));
+#[tactic(auto, using(std::proofs::Common::append_assoc))]
+fn put_each_code(
+    page: &mut Page,
+    codes: &[Code],
+    request: &[u8],
+    nth: u64,
+) -> Result<(), AllocError>
+    ensures { OnOk result (page.new.bytes.items ≡ page.old.bytes.items ++ between_commas (code_json request.now nth) codes.now) }
+{
+    let [first, others @ ..] = codes else {
+        return Ok(());
+    };
+    put_code(page, *first, request, nth)?;
+    put_other_codes(page, others, request, nth)
+}
+
+fn put_other_codes(
+    page: &mut Page,
+    codes: &[Code],
+    request: &[u8],
+    nth: u64,
+) -> Result<(), AllocError>
+    ensures { OnOk result (page.new.bytes.items
+        ≡ page.old.bytes.items ++ flat_map (after_comma (code_json request.now nth)) codes.now) }
+{
+    for code in codes {
+        put_another_code(page, *code, request, nth)?;
     }
-    draft.say("}");
+    Ok(())
+}
+
+#[tactic(auto, using(std::proofs::Common::append_assoc))]
+fn put_another_code(page: &mut Page, code: Code, request: &[u8], nth: u64) -> Result<(), AllocError>
+    ensures { OnOk result (page.new.bytes.items ≡ page.old.bytes.items ++ after_comma (code_json request.now nth) code) }
+{
+    page.say(",")?;
+    put_code(page, code, request, nth)
+}
+
+#[tactic(auto, using(std::proofs::Common::append_assoc), unfolding(crate::specs::Json::code_json))]
+fn put_code(page: &mut Page, code: Code, request: &[u8], nth: u64) -> Result<(), AllocError>
+    ensures { OnOk result (page.new.bytes.items ≡ page.old.bytes.items ++ code_json request.now nth code) }
+{
+    put_front(page, code)?;
+    put_said(page, "wanted", wanted(code))?;
+    put_field(page, code, request, nth)?;
+    page.say("}")
+}
+
+// The field that the code speaks of, and its bytes; of a syntax error those of the whole part.
+fn put_field(page: &mut Page, code: Code, request: &[u8], nth: u64) -> Result<(), AllocError>
+    ensures { OnOk result (page.new.bytes.items ≡ page.old.bytes.items ++ field_json request.now nth code (field_number code)) }
+{
+    match field_name(code) {
+        Some(field) => put_spoken_field(page, field, code, request, nth),
+        None => put_whole_part(page, code, request, nth),
+    }
+}
+
+#[tactic(auto, using(std::proofs::Common::append_assoc), unfolding(crate::specs::Json::spoken_field))]
+fn put_spoken_field(
+    page: &mut Page,
+    field: &str,
+    code: Code,
+    request: &[u8],
+    nth: u64,
+) -> Result<(), AllocError>
+    ensures { OnOk result (page.new.bytes.items ≡ page.old.bytes.items ++ spoken_field field.now request.now nth code) }
+{
+    put_said(page, "field", field)?;
+    put_spoken(page, "bytes", request, nth, code)
+}
+
+fn put_whole_part(page: &mut Page, code: Code, request: &[u8], nth: u64) -> Result<(), AllocError>
+    ensures { OnOk result (page.new.bytes.items ≡ page.old.bytes.items ++ whole_part request.now nth code) }
+{
+    match code {
+        Code::Syntax => put_spoken(page, "bytes", request, nth, code),
+        _ => Ok(()),
+    }
 }
 
 // Bytes of a request as a string, in which each byte is a character; `null` where a field is absent.
-fn put_bytes(draft: &mut Draft, bytes: Option<&[u8]>) {
+fn put_bytes(page: &mut Page, bytes: Option<&[u8]>) -> Result<(), AllocError>
+    ensures { OnOk result (page.new.bytes.items ≡ page.old.bytes.items ++ bytes_json (option_map (λ b. b.now) bytes.entry)) }
+{
     match bytes {
-        Some(bytes) => put_text(draft, bytes),
-        None => draft.say("null"),
+        Some(bytes) => put_string(page, bytes),
+        None => page.say("null"),
     }
 }
 
 // What decided a billing that isn't paid.
-fn put_case(draft: &mut Draft, lot: Lot, figures: &Figures, explanation: &Explanation) {
+fn put_case(
+    page: &mut Page,
+    lot: Lot,
+    figures: &Figures,
+    explanation: &Explanation,
+) -> Result<(), AllocError>
+    ensures { OnOk result (page.new.bytes.items ≡ page.old.bytes.items ++ case_json explanation.now.case lot figures.now explanation.now) }
+{
     match &explanation.case {
-        Case::BeforePeriod => put_day(draft, "period_first", figures.period.first()),
-        Case::AfterCreation => put_day(draft, "created", lot.created()),
-        Case::NotCovered(member) => {
-            put_day(draft, "covered_first", member.coverage.first());
-            put_day(draft, "covered_last", member.coverage.last());
-            put_day(draft, "period_last", figures.period.last());
-        }
-        Case::TooManyDays => put_number(draft, "most_days", figures.max_days),
-        Case::TooSoon(row) => {
-            let passed = i64::from(explanation.date.number()) - i64::from(row.key.date.number());
-            put_number(draft, "days_passed", passed.unsigned_abs());
-            put_number(draft, "refill_percent", figures.refill_percent);
-            match explanation.open_from {
-                Some(day) => put_day(draft, "first_date", day),
-                None => draft.say(",\"first_date\":null"),
-            }
-        }
-        _ => {}
+        Case::BeforePeriod => put_day(page, "period_first", figures.period.first()),
+        Case::AfterCreation => put_day(page, "created", lot.created()),
+        Case::NotCovered(member) => put_coverage(page, &figures.period, &member.coverage),
+        Case::TooManyDays => put_number(page, "most_days", figures.max_days),
+        Case::TooSoon(row) => put_soon(page, figures, explanation, row),
+        _ => Ok(()),
     }
 }
 
-fn put_day(draft: &mut Draft, name: &str, day: Day) {
-    draft.say(",\"");
-    draft.say(name);
-    draft.say("\":\"");
-    draft.day(day);
-    draft.say("\"");
+#[tactic(auto, using(std::proofs::Common::append_assoc), unfolding(crate::specs::Json::coverage_json))]
+fn put_coverage(page: &mut Page, period: &Period, coverage: &Period) -> Result<(), AllocError>
+    ensures { OnOk result (page.new.bytes.items ≡ page.old.bytes.items ++ coverage_json period.now coverage.now) }
+{
+    put_day(page, "covered_first", coverage.first())?;
+    put_day(page, "covered_last", coverage.last())?;
+    put_day(page, "period_last", period.last())
 }
 
-// The claim that decided. One that this transaction takes back is taken back by no later one.
-fn put_standing(draft: &mut Draft, explanation: &Explanation) {
-    let Some(traced) = &explanation.standing else {
-        return;
-    };
-    draft.say(",\"standing\":");
-    match explanation.case {
-        Case::TakenBack(_) => put_traced(draft, &without_end(traced)),
-        _ => put_traced(draft, traced),
+#[tactic(auto, using(std::proofs::Common::append_assoc), unfolding(crate::specs::Json::soon_json))]
+fn put_soon(
+    page: &mut Page,
+    figures: &Figures,
+    explanation: &Explanation,
+    row: &Row,
+) -> Result<(), AllocError>
+    ensures { OnOk result (page.new.bytes.items ≡ page.old.bytes.items ++ soon_json figures.now explanation.now row.now) }
+{
+    put_number(
+        page,
+        "days_passed",
+        days_between(explanation.date, row.key.date),
+    )?;
+    put_number(page, "refill_percent", figures.refill_percent)?;
+    put_open(page, explanation.open_from)
+}
+
+fn put_open(page: &mut Page, open_from: Option<Day>) -> Result<(), AllocError>
+    ensures { OnOk result (page.new.bytes.items ≡ page.old.bytes.items ++ open_json open_from) }
+{
+    match open_from {
+        Some(day) => put_day(page, "first_date", day),
+        None => page.say(",\"first_date\":null"),
     }
 }
 
-// The steps to the amounts of a claim that is paid, and the claims that count.
-fn put_figures(draft: &mut Draft, figures: &Figures, explanation: &Explanation) {
+// The claim that decided, where one did.
+fn put_standing(page: &mut Page, explanation: &Explanation) -> Result<(), AllocError>
+    ensures { OnOk result (page.new.bytes.items ≡ page.old.bytes.items ++ standing_json explanation.now.case explanation.now.standing) }
+{
+    match &explanation.standing {
+        Some(traced) => put_decider(page, &as_decided(&explanation.case, traced)),
+        None => Ok(()),
+    }
+}
+
+#[tactic(auto, using(std::proofs::Common::append_assoc), unfolding(crate::specs::Json::decider_json))]
+fn put_decider(page: &mut Page, traced: &Traced) -> Result<(), AllocError>
+    ensures { OnOk result (page.new.bytes.items ≡ page.old.bytes.items ++ decider_json traced.now) }
+{
+    put_name(page, "standing")?;
+    put_traced(page, traced)
+}
+
+// The steps to the amounts of a claim that is paid, and the claims that count; nothing of another.
+fn put_figures(
+    page: &mut Page,
+    figures: &Figures,
+    explanation: &Explanation,
+) -> Result<(), AllocError>
+    ensures { OnOk result (page.new.bytes.items
+        ≡ page.old.bytes.items ++ figures_json explanation.now.transaction figures.now explanation.now) }
+{
     match (&explanation.transaction, &explanation.case) {
         (Transaction::Bill(bill), Case::Payable(payment)) => {
-            put_price(draft, figures, bill, payment);
-            put_workings(draft, figures, payment);
-            put_counted(draft, &explanation.counted);
+            put_payable(page, figures, explanation, bill, payment)
         }
-        _ => {}
+        _ => Ok(()),
     }
+}
+
+#[tactic(auto, using(std::proofs::Common::append_assoc), unfolding(crate::specs::Json::payable_json))]
+fn put_payable(
+    page: &mut Page,
+    figures: &Figures,
+    explanation: &Explanation,
+    bill: &Bill,
+    payment: &Payment,
+) -> Result<(), AllocError>
+    ensures { OnOk result (page.new.bytes.items
+        ≡ page.old.bytes.items ++ payable_json figures.now explanation.now bill.now payment.now) }
+{
+    put_price(page, figures, bill, payment)?;
+    put_workings(page, figures, payment)?;
+    put_counted(page, &explanation.counted)
 }
 
 // What was submitted and what the plan has beside it; the price is in hundredths of a cent.
-fn put_price(draft: &mut Draft, figures: &Figures, bill: &Bill, payment: &Payment) {
+#[tactic(auto, using(std::proofs::Common::append_assoc), unfolding(crate::specs::Json::price_json))]
+fn put_price(
+    page: &mut Page,
+    figures: &Figures,
+    bill: &Bill,
+    payment: &Payment,
+) -> Result<(), AllocError>
+    ensures { OnOk result (page.new.bytes.items ≡ page.old.bytes.items ++ price_json figures.now bill.now payment.now) }
+{
     let parts = bill.parts();
-    put_number(draft, "submitted_cost", parts.ingredient_cost.get());
-    put_number(draft, "price_hundredths", payment.drug.price);
-    let submitted_fee = parts.dispensing_fee.map_or(0, |fee| fee.get());
-    put_number(draft, "submitted_fee", submitted_fee);
-    put_number(draft, "plan_fee", figures.fee);
-    draft.say(match parts.usual_charge {
-        Some(_) => ",\"charge_field\":\"DQ\"",
-        None => ",\"charge_field\":\"DU\"",
-    });
+    put_number(page, "submitted_cost", parts.ingredient_cost.get())?;
+    put_number(page, "price_hundredths", payment.drug.price)?;
+    put_number(
+        page,
+        "submitted_fee",
+        cents_or_nothing(parts.dispensing_fee),
+    )?;
+    put_number(page, "plan_fee", figures.fee)?;
+    put_charge(page, parts.usual_charge)
 }
 
-fn put_workings(draft: &mut Draft, figures: &Figures, payment: &Payment) {
+// Which field the charge is of.
+fn put_charge(page: &mut Page, usual: Option<Cents>) -> Result<(), AllocError>
+    ensures { OnOk result (page.new.bytes.items ≡ page.old.bytes.items ++ charge_json usual) }
+{
+    match usual {
+        Some(_) => put_said(page, "charge_field", "DQ"),
+        None => put_said(page, "charge_field", "DU"),
+    }
+}
+
+fn cents_or_nothing(cents: Option<Cents>) -> u64
+    ensures { result ≡ unwrap_or cents 0 }
+{
+    match cents {
+        Some(cents) => cents.get(),
+        None => 0,
+    }
+}
+
+#[tactic(auto, using(std::proofs::Common::append_assoc), unfolding(crate::specs::Json::workings_json))]
+fn put_workings(page: &mut Page, figures: &Figures, payment: &Payment) -> Result<(), AllocError>
+    ensures { OnOk result (page.new.bytes.items ≡ page.old.bytes.items ++ workings_json figures.now payment.now) }
+{
     let workings = &payment.workings;
-    put_number(draft, "cost", workings.cost);
-    put_number(draft, "cost_before_charge", workings.ingredient_cost);
-    put_number(draft, "fee_before_charge", workings.dispensing_fee);
-    put_number(draft, "charge", workings.cap);
-    put_number(draft, "member_deductible", figures.member_deductible);
-    put_total(draft, "member_deductible_used", payment.used.deductible);
-    put_number(draft, "deductible_left", workings.deductible_left);
-    if let (Some(figure), Some(left)) = (
-        figures.family_deductible,
-        workings.family_deductible_left,
-    ) {
-        put_number(draft, "family_deductible", figure);
-        put_total(
-            draft,
-            "family_deductible_used",
-            payment.used.family_deductible,
-        );
-        put_number(draft, "family_deductible_left", left);
-    }
-    put_number(draft, "family_maximum", figures.family_maximum);
-    put_total(draft, "family_maximum_used", payment.used.out_of_pocket);
-    put_number(draft, "family_maximum_left", workings.room);
-    put_number(draft, "deductible_due", workings.under);
-    put_number(draft, "share_due", workings.share);
-    match payment.drug.share {
-        Share::Copay(cents) => put_number(draft, "tier_copay", cents),
-        Share::Percent(percent) => put_number(draft, "tier_percent", u64::from(percent)),
+    put_number(page, "cost", workings.cost)?;
+    put_number(page, "cost_before_charge", workings.ingredient_cost)?;
+    put_number(page, "fee_before_charge", workings.dispensing_fee)?;
+    put_number(page, "charge", workings.cap)?;
+    put_accumulators(page, figures, payment)?;
+    put_due(page, payment)
+}
+
+// What was used of the plan's figures, and what is left of them.
+#[tactic(auto, using(std::proofs::Common::append_assoc), unfolding(crate::specs::Json::accumulators_json))]
+fn put_accumulators(page: &mut Page, figures: &Figures, payment: &Payment) -> Result<(), AllocError>
+    ensures { OnOk result (page.new.bytes.items ≡ page.old.bytes.items ++ accumulators_json figures.now payment.now) }
+{
+    let workings = &payment.workings;
+    put_number(page, "member_deductible", figures.member_deductible)?;
+    put_total(page, "member_deductible_used", payment.used.deductible)?;
+    put_number(page, "deductible_left", workings.deductible_left)?;
+    put_family(page, figures.family_deductible, payment)?;
+    put_number(page, "family_maximum", figures.family_maximum)?;
+    put_total(page, "family_maximum_used", payment.used.out_of_pocket)?;
+    put_number(page, "family_maximum_left", workings.room)
+}
+
+// The family's deductible, where the plan has one.
+#[tactic(auto, using(std::proofs::Common::append_assoc))]
+fn put_family(page: &mut Page, figure: Option<u64>, payment: &Payment) -> Result<(), AllocError>
+    ensures { OnOk result (page.new.bytes.items
+        ≡ page.old.bytes.items ++ family_json figure payment.now.workings.family_deductible_left payment.now) }
+{
+    match (figure, payment.workings.family_deductible_left) {
+        (Some(figure), Some(left)) => {
+            put_family_left(page, figure, payment.used.family_deductible, left)
+        }
+        _ => Ok(()),
     }
 }
 
-fn put_counted(draft: &mut Draft, counted: &[Traced]) {
-    draft.say(",\"counted\":[");
-    let mut before = "";
+#[tactic(auto, using(std::proofs::Common::append_assoc), unfolding(crate::specs::Json::family_left_json))]
+fn put_family_left(page: &mut Page, figure: u64, used: u128, left: u64) -> Result<(), AllocError>
+    ensures { OnOk result (page.new.bytes.items ≡ page.old.bytes.items ++ family_left_json figure used left) }
+{
+    put_number(page, "family_deductible", figure)?;
+    put_total(page, "family_deductible_used", used)?;
+    put_number(page, "family_deductible_left", left)
+}
+
+// What falls under the deductible and what is shared, before the family's maximum cuts them; and the tier's share.
+#[tactic(auto, using(std::proofs::Common::append_assoc), unfolding(crate::specs::Json::due_json))]
+fn put_due(page: &mut Page, payment: &Payment) -> Result<(), AllocError>
+    ensures { OnOk result (page.new.bytes.items ≡ page.old.bytes.items ++ due_json payment.now) }
+{
+    put_number(page, "deductible_due", payment.workings.under)?;
+    put_number(page, "share_due", payment.workings.share)?;
+    put_tier(page, payment.drug.share)
+}
+
+fn put_tier(page: &mut Page, share: Share) -> Result<(), AllocError>
+    ensures { OnOk result (page.new.bytes.items ≡ page.old.bytes.items ++ share_json share) }
+{
+    match share {
+        Share::Copay(cents) => put_number(page, "tier_copay", cents),
+        Share::Percent(percent) => put_number(page, "tier_percent", u64::from(percent)),
+    }
+}
+
+#[tactic(auto, using(std::proofs::Common::append_assoc), unfolding(crate::specs::Json::counted_json))]
+fn put_counted(page: &mut Page, counted: &[Traced]) -> Result<(), AllocError>
+    ensures { OnOk result (page.new.bytes.items ≡ page.old.bytes.items ++ counted_json counted.now) }
+{
+    put_name(page, "counted")?;
+    page.say("[")?;
+    put_each_traced(page, counted)?;
+    page.say("]")
+}
+
+#[tactic(auto, using(std::proofs::Common::append_assoc))]
+fn put_each_traced(page: &mut Page, counted: &[Traced]) -> Result<(), AllocError>
+    ensures { OnOk result (page.new.bytes.items ≡ page.old.bytes.items ++ between_commas traced_json counted.now) }
+{
+    let [first, others @ ..] = counted else {
+        return Ok(());
+    };
+    put_traced(page, first)?;
+    put_others_traced(page, others)
+}
+
+fn put_others_traced(page: &mut Page, counted: &[Traced]) -> Result<(), AllocError>
+    ensures { OnOk result (page.new.bytes.items ≡ page.old.bytes.items ++ flat_map (after_comma traced_json) counted.now) }
+{
     for traced in counted {
-        draft.say(before);
-        before = ",";
-        put_traced(draft, traced);
+        put_another_traced(page, traced)?;
     }
-    draft.say("]");
+    Ok(())
 }
 
-fn put_traced(draft: &mut Draft, traced: &Traced) {
-    let row = &traced.row;
-    draft.say("{\"pharmacy\":");
-    put_text(draft, row.key.provider.bytes());
-    put_number(draft, "rx", row.key.reference.get());
-    draft.say(",\"date\":\"");
-    draft.day(row.key.date);
-    draft.say("\",\"family\":");
-    put_text(draft, row.family.bytes());
-    draft.say(",\"person\":");
-    put_text(draft, row.person.bytes());
-    draft.say(",\"product\":");
-    put_text(draft, &row.product.digits());
-    put_number(draft, "days", row.days.get());
-    put_pricing(draft, &row.pricing);
-    if let Source::Record(at) = traced.source {
-        put_at(draft, ",\"paid_by\":", at);
+#[tactic(auto, using(std::proofs::Common::append_assoc))]
+fn put_another_traced(page: &mut Page, traced: &Traced) -> Result<(), AllocError>
+    ensures { OnOk result (page.new.bytes.items ≡ page.old.bytes.items ++ after_comma traced_json traced.now) }
+{
+    page.say(",")?;
+    put_traced(page, traced)
+}
+
+#[tactic(auto, using(std::proofs::Common::append_assoc), unfolding(crate::specs::Json::traced_json))]
+fn put_traced(page: &mut Page, traced: &Traced) -> Result<(), AllocError>
+    ensures { OnOk result (page.new.bytes.items ≡ page.old.bytes.items ++ traced_json traced.now) }
+{
+    put_row(page, &traced.row)?;
+    put_from(page, traced.source)?;
+    put_end(page, traced.taken_back)?;
+    page.say("}")
+}
+
+#[tactic(auto, using(std::proofs::Common::append_assoc), unfolding(crate::specs::Json::row_json))]
+fn put_row(page: &mut Page, row: &Row) -> Result<(), AllocError>
+    ensures { OnOk result (page.new.bytes.items ≡ page.old.bytes.items ++ row_json row.now) }
+{
+    page.say("{\"pharmacy\":")?;
+    put_string(page, row.key.provider.bytes())?;
+    put_number(page, "rx", row.key.reference.get())?;
+    put_day(page, "date", row.key.date)?;
+    put_text(page, "family", row.family.bytes())?;
+    put_text(page, "person", row.person.bytes())?;
+    put_text(page, "product", &row.product.digits())?;
+    put_number(page, "days", row.days.get())?;
+    put_pricing(page, &row.pricing)
+}
+
+// The transaction that was paid, where the claim is one of the batch.
+fn put_from(page: &mut Page, source: Source) -> Result<(), AllocError>
+    ensures { OnOk result (page.new.bytes.items ≡ page.old.bytes.items ++ from_json source) }
+{
+    match source {
+        Source::Opening => Ok(()),
+        Source::Record(at) => put_at(page, "paid_by", at),
     }
-    if let Some(at) = traced.taken_back {
-        put_at(draft, ",\"taken_back_by\":", at);
+}
+
+fn put_end(page: &mut Page, taken_back: Option<At>) -> Result<(), AllocError>
+    ensures { OnOk result (page.new.bytes.items ≡ page.old.bytes.items ++ end_json taken_back) }
+{
+    match taken_back {
+        Some(at) => put_at(page, "taken_back_by", at),
+        None => Ok(()),
     }
-    draft.say("}");
 }
 
-fn put_at(draft: &mut Draft, name: &str, at: At) {
-    draft.say(name);
-    draft.say("{\"place\":");
-    draft.number(u128::from(at.place));
-    put_number(draft, "nth", at.nth);
-    draft.say("}");
+#[tactic(auto, using(std::proofs::Common::append_assoc), unfolding(crate::specs::Json::at_member))]
+fn put_at(page: &mut Page, name: &str, at: At) -> Result<(), AllocError>
+    ensures { OnOk result (page.new.bytes.items ≡ page.old.bytes.items ++ at_member name.now at) }
+{
+    put_name(page, name)?;
+    put_place(page, at.place)?;
+    put_number(page, "nth", at.nth)?;
+    page.say("}")
 }
 
-fn put_number(draft: &mut Draft, name: &str, number: u64) {
-    put_total(draft, name, u128::from(number));
+#[tactic(auto, using(std::proofs::Common::append_assoc), unfolding(crate::specs::Json::number_member))]
+fn put_number(page: &mut Page, name: &str, number: u64) -> Result<(), AllocError>
+    ensures { OnOk result (page.new.bytes.items ≡ page.old.bytes.items ++ number_member name.now number) }
+{
+    put_total(page, name, u128::from(number))
 }
 
-fn put_total(draft: &mut Draft, name: &str, number: u128) {
-    draft.say(",\"");
-    draft.say(name);
-    draft.say("\":");
-    draft.number(number);
+#[tactic(auto, using(std::proofs::Common::append_assoc), unfolding(crate::specs::Json::number_member))]
+fn put_total(page: &mut Page, name: &str, number: u128) -> Result<(), AllocError>
+    ensures { OnOk result (page.new.bytes.items ≡ page.old.bytes.items ++ number_member name.now number) }
+{
+    put_name(page, name)?;
+    page.number(number)
+}
+
+#[tactic(auto, using(std::proofs::Common::append_assoc), unfolding(crate::specs::Json::day_member))]
+fn put_day(page: &mut Page, name: &str, day: Day) -> Result<(), AllocError>
+    ensures { OnOk result (page.new.bytes.items ≡ page.old.bytes.items ++ day_member name.now day) }
+{
+    put_name(page, name)?;
+    page.say("\"")?;
+    page.day(day)?;
+    page.say("\"")
+}
+
+// Words of this program, which need no escape.
+#[tactic(auto, using(std::proofs::Common::append_assoc), unfolding(crate::specs::Json::said_member))]
+fn put_said(page: &mut Page, name: &str, words: &str) -> Result<(), AllocError>
+    ensures { OnOk result (page.new.bytes.items ≡ page.old.bytes.items ++ said_member name.now words.now) }
+{
+    put_name(page, name)?;
+    page.say("\"")?;
+    page.say(words)?;
+    page.say("\"")
+}
+
+#[tactic(auto, using(std::proofs::Common::append_assoc), unfolding(crate::specs::Json::text_member))]
+fn put_text(page: &mut Page, name: &str, text: &[u8]) -> Result<(), AllocError>
+    ensures { OnOk result (page.new.bytes.items ≡ page.old.bytes.items ++ text_member name.now text.now) }
+{
+    put_name(page, name)?;
+    put_string(page, text)
+}
+
+// A name behind the comma that ends the member before.
+#[tactic(auto, using(std::proofs::Common::append_assoc), unfolding(crate::specs::Json::named))]
+fn put_name(page: &mut Page, name: &str) -> Result<(), AllocError>
+    ensures { OnOk result (page.new.bytes.items ≡ page.old.bytes.items ++ named name.now) }
+{
+    page.say(",\"")?;
+    page.say(name)?;
+    page.say("\":")
 }
 
 // Bytes in quotes.
-fn put_text(draft: &mut Draft, text: &[u8]) {
-    draft.say("\"");
-    draft.escaped(Style::Json, text);
-    draft.say("\"");
+#[tactic(auto, using(std::proofs::Common::append_assoc), unfolding(crate::specs::Json::quoted))]
+fn put_string(page: &mut Page, text: &[u8]) -> Result<(), AllocError>
+    ensures { OnOk result (page.new.bytes.items ≡ page.old.bytes.items ++ quoted text.now) }
+{
+    page.say("\"")?;
+    page.escaped(Style::Json, text)?;
+    page.say("\"")
 }

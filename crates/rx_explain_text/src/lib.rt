@@ -10,7 +10,6 @@
 mod code_words;
 mod codes;
 mod compared;
-mod draft;
 mod figures;
 mod header;
 mod json;

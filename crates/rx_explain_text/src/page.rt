@@ -4,6 +4,7 @@ ghost use Rattle.rx_escape.specs.Escape.{escaped};
 ghost use Rattle.rx_fields.specs.Digits.{digits_text};
 ghost use Rattle.rx_explain_text.specs.Dates.{dashed};
 ghost use Rattle.rx_explain_text.specs.Money.{cents_text, money_text, price_text, right_in, thousandths_text};
+ghost use Rattle.rx_explain_text.specs.Said.{said};
 
 use rx_escape::{Style, put_escaped};
 use rx_fields::{Authorization, Day, digits_write};
@@ -49,8 +50,9 @@ impl Page {
     }
 
     /// Writes words.
+    #[tactic(auto, unfolding(crate::specs::Said::said))]
     pub fn say(&mut self, words: &str) -> Result<(), AllocError>
-        ensures { OnOk result (self.new.bytes.items ≡ self.old.bytes.items ++ words.now) }
+        ensures { OnOk result (self.new.bytes.items ≡ self.old.bytes.items ++ said words.now) }
     {
         self.bytes.extend_from_slice(words.as_bytes())
     }
@@ -68,7 +70,7 @@ impl Page {
     pub fn money(&mut self, cents: u128) -> Result<(), AllocError>
         ensures { OnOk result (self.new.bytes.items ≡ self.old.bytes.items ++ money_text cents) }
     {
-        self.say("$")?;
+        self.put(b"$")?;
         self.number(cents / 100)?;
         self.put(&cents_text((cents % 100) as u8))
     }
@@ -105,7 +107,7 @@ impl Page {
             return Ok(());
         }
         let digits: [u8; 3] = digits_write(number % 1000);
-        self.say(".")?;
+        self.put(b".")?;
         self.put(&digits)
     }
 
@@ -139,9 +141,9 @@ impl Page {
         let month: [u8; 2] = digits_write(u64::from(day.month()));
         let date: [u8; 2] = digits_write(u64::from(day.day()));
         self.put(&year)?;
-        self.say("-")?;
+        self.put(b"-")?;
         self.put(&month)?;
-        self.say("-")?;
+        self.put(b"-")?;
         self.put(&date)
     }
 }

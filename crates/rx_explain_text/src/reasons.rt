@@ -1,251 +1,390 @@
+ghost use Rattle.std.specs.Prelude.{◌≡◌, ◌++◌, OnOk};
+ghost use Rattle.rx_explain_text.specs.Claims.{as_decided, end_text, for_text, from_text, source_text, standing_text};
+ghost use Rattle.rx_explain_text.specs.Claims.{traced_text};
+ghost use Rattle.rx_explain_text.specs.Reasons.{bill_reason, coverage_text, covered_text, dated_text, days_between};
+ghost use Rattle.rx_explain_text.specs.Reasons.{earlier_text, ended_text, family_text, open_text, other_text, paid_text};
+ghost use Rattle.rx_explain_text.specs.Reasons.{person_text, product_text, reason_text, reversal_reason, same_text, soon_text};
+ghost use Rattle.rx_explain_text.specs.Reasons.{sum_text, supply_text, taken_text, unlisted_text};
+
 use crate::codes::put_codes;
-use crate::draft::Draft;
 use crate::header::put_at;
-use rx_claim::{Bill, Pricing, Transaction};
+use crate::page::Page;
+use rx_claim::{Bill, BillParts, Pricing, Transaction};
 use rx_escape::Style;
-use rx_explain::{Case, Explanation, Source, Traced};
-use rx_fields::{Id, Lot, Person};
-use rx_ledger::{Figures, Member};
+use rx_explain::{At, Case, Explanation, Source, Traced};
+use rx_fields::{Day, Days, Id, Lot, Period, Person, Product};
+use rx_ledger::Figures;
+use std::alloc::AllocError;
 
 /// Why the case holds, on a line that is set in; nothing of a claim that is paid, whose figures say it.
 pub(crate) fn put_reason(
-    draft: &mut Draft,
+    page: &mut Page,
     lot: Lot,
     figures: &Figures,
     explanation: &Explanation,
     request: &[u8],
-) {
+) -> Result<(), AllocError>
+    ensures { OnOk result (page.new.bytes.items
+        ≡ page.old.bytes.items ++ reason_text explanation.now.transaction lot figures.now explanation.now request.now) }
+{
+    let nth = explanation.at.nth;
     match &explanation.transaction {
-        Transaction::Bill(bill) => put_bill_reason(draft, lot, figures, explanation, bill),
-        Transaction::Reverse(reversal) => {
-            put_reversal_reason(draft, explanation, reversal.product.digits());
-        }
-        Transaction::Faulty(faulty) => put_codes(
-            draft,
-            &figures.door,
-            &faulty.codes,
-            request,
-            explanation.at.nth,
-        ),
+        Transaction::Bill(bill) => put_bill_reason(page, lot, figures, explanation, bill),
+        Transaction::Reverse(reversal) => put_reversal_reason(page, explanation, reversal.product),
+        Transaction::Faulty(faulty) => put_codes(page, &figures.door, &faulty.codes, request, nth),
     }
 }
 
 fn put_bill_reason(
-    draft: &mut Draft,
+    page: &mut Page,
     lot: Lot,
     figures: &Figures,
     explanation: &Explanation,
     bill: &Bill,
-) {
+) -> Result<(), AllocError>
+    ensures { OnOk result (page.new.bytes.items
+        ≡ page.old.bytes.items ++ bill_reason explanation.now.case lot figures.now explanation.now bill.now) }
+{
     match &explanation.case {
-        Case::NoFamily | Case::NoPerson => put_unknown(draft, &explanation.case, bill),
-        Case::SameStands(row) => put_same(draft, explanation, &row.pricing),
-        Case::OtherStands(_) => put_other(draft, explanation),
+        Case::NoFamily => put_family(page, &bill.parts().family),
+        Case::NoPerson => put_person(page, bill.parts()),
+        Case::SameStands(row) => put_same(page, explanation, &row.pricing),
+        Case::OtherStands(_) => put_other(page, explanation),
         Case::BeforePeriod => {
-            draft.say("  the benefit period begins on ");
-            draft.day(figures.period.first());
-            draft.say("\n");
+            put_dated(
+                page,
+                "  the benefit period begins on ",
+                figures.period.first(),
+            )
         }
-        Case::AfterCreation => {
-            draft.say("  the batch was created on ");
-            draft.day(lot.created());
-            draft.say("\n");
+        Case::AfterCreation => put_dated(page, "  the batch was created on ", lot.created()),
+        Case::NotCovered(member) => {
+            put_coverage(page, &figures.period, &member.coverage, explanation.date)
         }
-        Case::NotCovered(member) => put_coverage(draft, figures, explanation, member),
-        Case::NotListed | Case::TooManyDays => {
-            put_unpaid(draft, figures, &explanation.case, bill);
-        }
-        Case::TooSoon(_) => put_too_soon(draft, figures, explanation),
-        _ => {}
+        Case::NotListed => put_unlisted(page, bill.parts().product),
+        Case::TooManyDays => put_supply(page, bill.parts().days, figures.max_days),
+        Case::TooSoon(_) => put_too_soon(page, figures, explanation),
+        _ => Ok(()),
     }
 }
 
-// The books don't know who is billed.
-fn put_unknown(draft: &mut Draft, case: &Case, bill: &Bill) {
-    let parts = bill.parts();
-    match case {
-        Case::NoFamily => {
-            draft.say("  the books list no member of family ");
-            draft.escaped(Style::Terminal, parts.family.bytes());
-            draft.say("\n");
-        }
-        _ => {
-            draft.say("  the books list family ");
-            draft.escaped(Style::Terminal, parts.family.bytes());
-            draft.say(", but no person ");
-            draft.escaped(Style::Terminal, parts.person.bytes());
-            draft.say(" of it\n");
-        }
-    }
+// The books don't know the family.
+#[tactic(auto, using(crate::proofs::Joined::joined_3), unfolding(crate::specs::Reasons::family_text))]
+fn put_family(page: &mut Page, family: &Id) -> Result<(), AllocError>
+    ensures { OnOk result (page.new.bytes.items ≡ page.old.bytes.items ++ family_text family.now) }
+{
+    page.say("  the books list no member of family ")?;
+    page.escaped(Style::Terminal, family.bytes())?;
+    page.say("\n")
 }
 
-// The plan doesn't pay for the product, or for so many days.
-fn put_unpaid(draft: &mut Draft, figures: &Figures, case: &Case, bill: &Bill) {
-    let parts = bill.parts();
-    match case {
-        Case::NotListed => {
-            draft.say("  the plan sheet doesn't list product ");
-            draft.put(&parts.product.digits());
-            draft.say("\n");
-        }
-        _ => {
-            draft.say("  a supply for ");
-            draft.number(u128::from(parts.days.get()));
-            draft.say(" days; the plan pays for at most ");
-            draft.number(u128::from(figures.max_days));
-            draft.say("\n");
-        }
-    }
+// The books don't know the person.
+#[tactic(auto, using(std::proofs::Common::append_assoc), unfolding(crate::specs::Reasons::person_text))]
+fn put_person(page: &mut Page, parts: &BillParts) -> Result<(), AllocError>
+    ensures { OnOk result (page.new.bytes.items ≡ page.old.bytes.items ++ person_text parts.now.family parts.now.person) }
+{
+    page.say("  the books list family ")?;
+    page.escaped(Style::Terminal, parts.family.bytes())?;
+    page.say(", but no person ")?;
+    page.escaped(Style::Terminal, parts.person.bytes())?;
+    page.say(" of it\n")
 }
 
-fn put_reversal_reason(draft: &mut Draft, explanation: &Explanation, product: [u8; 11]) {
+// Words and the day that they speak of.
+#[tactic(auto, using(std::proofs::Common::append_assoc), unfolding(crate::specs::Reasons::dated_text))]
+fn put_dated(page: &mut Page, words: &str, day: Day) -> Result<(), AllocError>
+    ensures { OnOk result (page.new.bytes.items ≡ page.old.bytes.items ++ dated_text words.now day) }
+{
+    page.say(words)?;
+    page.day(day)?;
+    page.say("\n")
+}
+
+// The plan doesn't pay for the product.
+#[tactic(auto, using(std::proofs::Common::append_assoc), unfolding(crate::specs::Reasons::unlisted_text))]
+fn put_unlisted(page: &mut Page, product: Product) -> Result<(), AllocError>
+    ensures { OnOk result (page.new.bytes.items ≡ page.old.bytes.items ++ unlisted_text product) }
+{
+    page.say("  the plan sheet doesn't list product ")?;
+    page.put(&product.digits())?;
+    page.say("\n")
+}
+
+// The plan doesn't pay for so many days.
+#[tactic(auto, using(std::proofs::Common::append_assoc), unfolding(crate::specs::Reasons::supply_text))]
+fn put_supply(page: &mut Page, days: Days, most: u64) -> Result<(), AllocError>
+    ensures { OnOk result (page.new.bytes.items ≡ page.old.bytes.items ++ supply_text days most) }
+{
+    page.say("  a supply for ")?;
+    page.number(u128::from(days.get()))?;
+    page.say(" days; the plan pays for at most ")?;
+    page.number(u128::from(most))?;
+    page.say("\n")
+}
+
+fn put_reversal_reason(
+    page: &mut Page,
+    explanation: &Explanation,
+    product: Product,
+) -> Result<(), AllocError>
+    ensures { OnOk result (page.new.bytes.items
+        ≡ page.old.bytes.items ++ reversal_reason explanation.now.case explanation.now product) }
+{
     match &explanation.case {
         Case::NoneStands => {
-            draft.say("  no claim stands under this pharmacy, prescription and date\n");
+            page.say("  no claim stands under this pharmacy, prescription and date\n")
         }
-        Case::OtherProduct(row) => {
-            draft.say("  the claim that stands is of product ");
-            draft.put(&row.product.digits());
-            draft.say(", not ");
-            draft.put(&product);
-            draft.say("; it is ");
-            put_standing(draft, explanation);
-            draft.say("\n");
-        }
-        Case::TakenBack(row) => {
-            draft.say("  the claim ");
-            put_standing(draft, explanation);
-            draft.say(" stands no longer; the plan gets back ");
-            draft.money(u128::from(row.pricing.total_paid()));
-            draft.say("\n");
-        }
-        _ => {}
+        Case::OtherProduct(row) => put_product(page, explanation, row.product, product),
+        Case::TakenBack(row) => put_taken(page, explanation, &row.pricing),
+        _ => Ok(()),
     }
 }
 
-fn put_same(draft: &mut Draft, explanation: &Explanation, pricing: &Pricing) {
-    draft.say("  this claim stands already: ");
-    put_standing(draft, explanation);
-    draft.say("; nothing is paid again (member ");
-    draft.money(u128::from(pricing.patient_pay()));
-    draft.say(", plan ");
-    draft.money(u128::from(pricing.total_paid()));
-    draft.say(")\n");
+// The claim that stands is of another product.
+#[tactic(auto, using(std::proofs::Common::append_assoc), unfolding(crate::specs::Reasons::product_text))]
+fn put_product(
+    page: &mut Page,
+    explanation: &Explanation,
+    stands: Product,
+    product: Product,
+) -> Result<(), AllocError>
+    ensures { OnOk result (page.new.bytes.items ≡ page.old.bytes.items ++ product_text explanation.now stands product) }
+{
+    page.say("  the claim that stands is of product ")?;
+    page.put(&stands.digits())?;
+    page.say(", not ")?;
+    page.put(&product.digits())?;
+    page.say("; it is ")?;
+    put_standing(page, explanation)?;
+    page.say("\n")
 }
 
-fn put_other(draft: &mut Draft, explanation: &Explanation) {
-    draft.say("  another claim stands under this pharmacy, prescription and date: ");
-    put_standing(draft, explanation);
-    draft.say("\n");
+// The claim is taken back.
+#[tactic(auto, using(std::proofs::Common::append_assoc), unfolding(crate::specs::Reasons::taken_text))]
+fn put_taken(
+    page: &mut Page,
+    explanation: &Explanation,
+    pricing: &Pricing,
+) -> Result<(), AllocError>
+    ensures { OnOk result (page.new.bytes.items ≡ page.old.bytes.items ++ taken_text explanation.now pricing.now) }
+{
+    page.say("  the claim ")?;
+    put_standing(page, explanation)?;
+    page.say(" stands no longer; the plan gets back ")?;
+    page.money(u128::from(pricing.total_paid()))?;
+    page.say("\n")
 }
 
-fn put_coverage(draft: &mut Draft, figures: &Figures, explanation: &Explanation, member: &Member) {
-    if !member.coverage.contains(explanation.date) {
-        draft.say("  the member is covered from ");
-        draft.day(member.coverage.first());
-        draft.say(" to ");
-        draft.day(member.coverage.last());
-        return draft.say("\n");
+#[tactic(auto, using(std::proofs::Common::append_assoc), unfolding(crate::specs::Reasons::same_text))]
+fn put_same(page: &mut Page, explanation: &Explanation, pricing: &Pricing) -> Result<(), AllocError>
+    ensures { OnOk result (page.new.bytes.items ≡ page.old.bytes.items ++ same_text explanation.now pricing.now) }
+{
+    page.say("  this claim stands already: ")?;
+    put_standing(page, explanation)?;
+    put_paid(page, pricing)
+}
+
+// What was paid before.
+#[tactic(auto, using(std::proofs::Common::append_assoc), unfolding(crate::specs::Reasons::paid_text))]
+fn put_paid(page: &mut Page, pricing: &Pricing) -> Result<(), AllocError>
+    ensures { OnOk result (page.new.bytes.items ≡ page.old.bytes.items ++ paid_text pricing.now) }
+{
+    page.say("; nothing is paid again (member ")?;
+    page.money(u128::from(pricing.patient_pay()))?;
+    page.say(", plan ")?;
+    page.money(u128::from(pricing.total_paid()))?;
+    page.say(")\n")
+}
+
+#[tactic(auto, using(std::proofs::Common::append_assoc), unfolding(crate::specs::Reasons::other_text))]
+fn put_other(page: &mut Page, explanation: &Explanation) -> Result<(), AllocError>
+    ensures { OnOk result (page.new.bytes.items ≡ page.old.bytes.items ++ other_text explanation.now) }
+{
+    page.say("  another claim stands under this pharmacy, prescription and date: ")?;
+    put_standing(page, explanation)?;
+    page.say("\n")
+}
+
+// What the date of service is outside of.
+fn put_coverage(
+    page: &mut Page,
+    period: &Period,
+    coverage: &Period,
+    date: Day,
+) -> Result<(), AllocError>
+    ensures { OnOk result (page.new.bytes.items ≡ page.old.bytes.items ++ coverage_text period.now coverage.now date) }
+{
+    if coverage.contains(date) {
+        put_ended(page, period)
+    } else {
+        put_covered(page, coverage)
     }
-    draft.say("  the benefit period ends on ");
-    draft.day(figures.period.last());
-    draft.say("\n");
+}
+
+#[tactic(auto, unfolding(crate::specs::Reasons::ended_text))]
+fn put_ended(page: &mut Page, period: &Period) -> Result<(), AllocError>
+    ensures { OnOk result (page.new.bytes.items ≡ page.old.bytes.items ++ ended_text period.now) }
+{
+    put_dated(page, "  the benefit period ends on ", period.last())
+}
+
+#[tactic(auto, using(std::proofs::Common::append_assoc), unfolding(crate::specs::Reasons::covered_text))]
+fn put_covered(page: &mut Page, coverage: &Period) -> Result<(), AllocError>
+    ensures { OnOk result (page.new.bytes.items ≡ page.old.bytes.items ++ covered_text coverage.now) }
+{
+    page.say("  the member is covered from ")?;
+    page.day(coverage.first())?;
+    put_dated(page, " to ", coverage.last())
 }
 
 // The earlier fill, and the sum that it fails.
-fn put_too_soon(draft: &mut Draft, figures: &Figures, explanation: &Explanation) {
-    let Some(traced) = &explanation.standing else {
-        return;
-    };
-    let row = &traced.row;
-    let passed = i64::from(explanation.date.number()) - i64::from(row.key.date.number());
-    draft.say("  earlier fill ");
-    put_traced(draft, traced);
-    draft.say(", ");
-    draft.number(u128::from(row.days.get()));
-    draft.say(" days: ");
-    put_sum(
-        draft,
-        passed.unsigned_abs(),
-        row.days.get(),
-        figures.refill_percent,
-    );
-    put_open_from(draft, explanation);
+fn put_too_soon(
+    page: &mut Page,
+    figures: &Figures,
+    explanation: &Explanation,
+) -> Result<(), AllocError>
+    ensures { OnOk result (page.new.bytes.items ≡ page.old.bytes.items ++ soon_text figures.now explanation.now explanation.now.standing) }
+{
+    match &explanation.standing {
+        Some(earlier) => put_earlier(page, figures, explanation, earlier),
+        None => Ok(()),
+    }
+}
+
+#[tactic(auto, using(std::proofs::Common::append_assoc), unfolding(crate::specs::Reasons::earlier_text))]
+fn put_earlier(
+    page: &mut Page,
+    figures: &Figures,
+    explanation: &Explanation,
+    earlier: &Traced,
+) -> Result<(), AllocError>
+    ensures { OnOk result (page.new.bytes.items ≡ page.old.bytes.items ++ earlier_text figures.now explanation.now earlier.now) }
+{
+    let days = earlier.row.days.get();
+    let passed = days_between(explanation.date, earlier.row.key.date);
+    page.say("  earlier fill ")?;
+    put_traced(page, earlier)?;
+    page.say(", ")?;
+    page.number(u128::from(days))?;
+    page.say(" days: ")?;
+    put_sum(page, passed, days, figures.refill_percent)?;
+    put_open_from(page, explanation.open_from)
+}
+
+/// Days from one date to another, whichever is earlier.
+pub(crate) fn days_between(date: Day, earlier: Day) -> u64
+    ensures { result ≡ days_between date earlier }
+{
+    let passed = i64::from(date.number()) - i64::from(earlier.number());
+    passed.unsigned_abs()
 }
 
 // From when on it isn't too soon, and the line's end.
-fn put_open_from(draft: &mut Draft, explanation: &Explanation) {
-    match explanation.open_from {
-        Some(day) => {
-            draft.say("; first date ");
-            draft.day(day);
-            draft.say("\n");
-        }
-        None => draft.say("; the calendar has no date that is late enough\n"),
+fn put_open_from(page: &mut Page, open_from: Option<Day>) -> Result<(), AllocError>
+    ensures { OnOk result (page.new.bytes.items ≡ page.old.bytes.items ++ open_text open_from) }
+{
+    match open_from {
+        Some(day) => put_dated(page, "; first date ", day),
+        None => page.say("; the calendar has no date that is late enough\n"),
     }
 }
 
 // Days passed times 100 against days times the percentage.
-fn put_sum(draft: &mut Draft, passed: u64, days: u64, percent: u64) {
-    draft.number(u128::from(passed));
-    draft.say(" x 100 = ");
-    draft.number(u128::from(passed) * 100);
-    draft.say(" < ");
-    draft.number(u128::from(days));
-    draft.say(" x ");
-    draft.number(u128::from(percent));
-    draft.say(" = ");
-    draft.number(u128::from(days) * u128::from(percent));
+#[tactic(auto, using(std::proofs::Common::append_assoc), unfolding(crate::specs::Reasons::sum_text))]
+fn put_sum(page: &mut Page, passed: u64, days: u64, percent: u64) -> Result<(), AllocError>
+    ensures { OnOk result (page.new.bytes.items ≡ page.old.bytes.items ++ sum_text passed days percent) }
+{
+    page.number(u128::from(passed))?;
+    page.say(" x 100 = ")?;
+    page.number(u128::from(passed) * 100)?;
+    page.say(" < ")?;
+    page.number(u128::from(days))?;
+    page.say(" x ")?;
+    page.number(u128::from(percent))?;
+    page.say(" = ")?;
+    page.number(u128::from(days) * u128::from(percent))
 }
 
-// The claim that decided. One that this transaction takes back is taken back by no later one.
-fn put_standing(draft: &mut Draft, explanation: &Explanation) {
-    match (&explanation.standing, &explanation.case) {
-        (Some(traced), Case::TakenBack(_)) => put_traced(draft, &without_end(traced)),
-        (Some(traced), _) => put_traced(draft, traced),
-        (None, _) => {}
+// The claim that decided, where one did.
+fn put_standing(page: &mut Page, explanation: &Explanation) -> Result<(), AllocError>
+    ensures { OnOk result (page.new.bytes.items ≡ page.old.bytes.items ++ standing_text explanation.now.case explanation.now.standing) }
+{
+    match &explanation.standing {
+        Some(traced) => put_traced(page, &as_decided(&explanation.case, traced)),
+        None => Ok(()),
     }
 }
 
-/// The same claim, with nothing of what takes it back.
-pub(crate) fn without_end(traced: &Traced) -> Traced {
-    Traced {
-        taken_back: None,
-        ..*traced
+/// The claim that decided a case. One that this transaction takes back is taken back by no later one.
+pub(crate) fn as_decided(case: &Case, traced: &Traced) -> Traced
+    ensures { result ≡ as_decided case.now traced.now }
+{
+    match case {
+        Case::TakenBack(_) => Traced {
+            taken_back: None,
+            ..*traced
+        },
+        _ => *traced,
     }
 }
 
 /// A claim by its prescription and date, with where it comes from and what becomes of it.
-pub(crate) fn put_traced(draft: &mut Draft, traced: &Traced) {
-    draft.say("rx ");
-    draft.number(u128::from(traced.row.key.reference.get()));
-    draft.say(" of ");
-    draft.day(traced.row.key.date);
-    draft.say(" at ");
-    draft.escaped(Style::Terminal, traced.row.key.provider.bytes());
-    put_for(draft, &traced.row.family, &traced.row.person);
-    put_source(draft, traced);
+#[tactic(auto, using(std::proofs::Common::append_assoc), unfolding(crate::specs::Claims::traced_text))]
+pub(crate) fn put_traced(page: &mut Page, traced: &Traced) -> Result<(), AllocError>
+    ensures { OnOk result (page.new.bytes.items ≡ page.old.bytes.items ++ traced_text traced.now) }
+{
+    page.say("rx ")?;
+    page.number(u128::from(traced.row.key.reference.get()))?;
+    page.say(" of ")?;
+    page.day(traced.row.key.date)?;
+    page.say(" at ")?;
+    page.escaped(Style::Terminal, traced.row.key.provider.bytes())?;
+    put_for(page, &traced.row.family, &traced.row.person)?;
+    put_source(page, traced)
 }
 
-fn put_for(draft: &mut Draft, family: &Id, person: &Person) {
-    draft.say(" for ");
-    draft.escaped(Style::Terminal, family.bytes());
-    draft.say("/");
-    draft.escaped(Style::Terminal, person.bytes());
+#[tactic(auto, using(std::proofs::Common::append_assoc), unfolding(crate::specs::Claims::for_text))]
+fn put_for(page: &mut Page, family: &Id, person: &Person) -> Result<(), AllocError>
+    ensures { OnOk result (page.new.bytes.items ≡ page.old.bytes.items ++ for_text family.now person.now) }
+{
+    page.say(" for ")?;
+    page.escaped(Style::Terminal, family.bytes())?;
+    page.say("/")?;
+    page.escaped(Style::Terminal, person.bytes())
 }
 
 // Where a claim comes from, and what takes it back later.
-fn put_source(draft: &mut Draft, traced: &Traced) {
-    match traced.source {
-        Source::Opening => draft.say(" (opening books"),
+#[tactic(auto, using(std::proofs::Common::append_assoc), unfolding(crate::specs::Claims::source_text))]
+fn put_source(page: &mut Page, traced: &Traced) -> Result<(), AllocError>
+    ensures { OnOk result (page.new.bytes.items ≡ page.old.bytes.items ++ source_text traced.now) }
+{
+    put_from(page, traced.source)?;
+    put_end(page, traced.taken_back)?;
+    page.say(")")
+}
+
+#[tactic(auto, using(std::proofs::Common::append_assoc))]
+fn put_from(page: &mut Page, source: Source) -> Result<(), AllocError>
+    ensures { OnOk result (page.new.bytes.items ≡ page.old.bytes.items ++ from_text source) }
+{
+    match source {
+        Source::Opening => page.say(" (opening books"),
         Source::Record(at) => {
-            draft.say(" (record ");
-            put_at(draft, at);
+            page.say(" (record ")?;
+            put_at(page, at)
         }
     }
-    if let Some(at) = traced.taken_back {
-        draft.say("; taken back by ");
-        put_at(draft, at);
+}
+
+#[tactic(auto, using(std::proofs::Common::append_assoc))]
+fn put_end(page: &mut Page, taken_back: Option<At>) -> Result<(), AllocError>
+    ensures { OnOk result (page.new.bytes.items ≡ page.old.bytes.items ++ end_text taken_back) }
+{
+    match taken_back {
+        Some(at) => {
+            page.say("; taken back by ")?;
+            put_at(page, at)
+        }
+        None => Ok(()),
     }
-    draft.say(")");
 }

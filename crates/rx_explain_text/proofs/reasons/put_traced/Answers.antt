@@ -1,0 +1,20 @@
+use Rattle.std.proofs.Common.{rules}
+use Rattle.rx_explain_text.specs.Claims.{for_text, source_text, traced_text}
+use Rattle.rx_explain_text.specs.Codes.{shown}
+use Rattle.rx_explain_text.specs.Dates.{dashed}
+use Rattle.rx_explain_text.specs.Said.{say}
+use Rattle.std.specs.Fmt.{decimal}
+use Rattle.rx_explain_text.proofs.Joined.{joined_8}
+use Rattle.rx_explain_text.proofs.reasons.put_traced.Goals as goal
+
+pub returns : goal.returns
+unfolding traced_text
+returns c =
+    joined_8 c.put_source.result _ c.say.new.self.bytes.items c.number.new.self.bytes.items c.say-2.new.self.bytes.items
+    c.day.new.self.bytes.items c.say-3.new.self.bytes.items c.escaped.new.self.bytes.items c.put_for.new.page.bytes.items _
+    (say "rx ") (decimal c.args.traced.now.row.key.reference) (say " of ") (dashed c.args.traced.now.row.key.date)
+    (say " at ") (shown c.args.traced.now.row.key.provider)
+    (for_text c.args.traced.now.row.family c.args.traced.now.row.person) (source_text c.args.traced.now)
+    (search (rules, c.in_ok-say.ensures)) (search (rules, c.in_ok-number.ensures)) (search (rules, c.in_ok-say-2.ensures))
+    (search (rules, c.in_ok-day.ensures)) (search (rules, c.in_ok-say-3.ensures)) (search (rules, c.in_ok-escaped.ensures))
+    (search (rules, c.in_ok-put_for.ensures)) (search rules)

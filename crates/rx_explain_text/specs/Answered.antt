@@ -1,0 +1,67 @@
+-- Meaning: the line that says what was answered to whom.
+use Rattle.std.specs.Prelude.{ℕ, List, [], ◌∷◌, ◌++◌, Option, Some, None, codes, length}
+use Rattle.std.specs.Fmt.{decimal}
+use Rattle.rx_claim.specs.declared.reply.Answer.{Answer}
+use Rattle.rx_claim.specs.declared.reply.Answer.TheVariants.{Paid, Twice, Approved, Refused}
+use Rattle.rx_claim.specs.declared.transaction.Transaction.{Transaction}
+use Rattle.rx_claim.specs.declared.transaction.Transaction.TheVariants.{Bill, Reverse, Faulty}
+use Rattle.rx_explain.specs.declared.case.Case.{Case}
+use Rattle.rx_explain.specs.declared.case.Case.TheVariants as case
+use Rattle.rx_explain.specs.declared.explanation.Explanation.{Explanation}
+use Rattle.rx_explain_text.specs.Claims.{at_text}
+use Rattle.rx_explain_text.specs.Codes.{named_code, shown}
+use Rattle.rx_explain_text.specs.Dates.{dashed}
+use Rattle.rx_explain_text.specs.Said.{said, say}
+use Rattle.rx_fields.specs.Digits.{digits_text}
+use Rattle.rx_fields.specs.declared.code.Code.{Code}
+
+-- the code of a refusal with its name, or how many codes a transaction has that can't be read
+unfoldable pub refused_for : Code → List ℕ
+refused_for c = say "REFUSED " ++ named_code c
+
+unfoldable pub refused_count : ℕ → List ℕ
+refused_count count = say "REFUSED " ++ (decimal count ++ say " codes")
+
+abbrev pub refused_text : List Code → List ℕ
+refused_text [] = refused_count 0
+refused_text (c ∷ []) = refused_for c
+refused_text (c ∷ d ∷ more) = refused_count (length (c ∷ d ∷ more))
+
+-- with the 15 digits of an authorization number
+unfoldable pub numbered_text : List ℕ → ℕ → List ℕ
+numbered_text words number = said words ++ digits_text 15 number
+
+abbrev pub answer_text : Answer → List ℕ
+answer_text (Paid p) = numbered_text (codes "PAID ") p.number
+answer_text (Twice p) = numbered_text (codes "DUPLICATE of ") p.number
+answer_text (Approved a) = numbered_text (codes "TAKEN BACK ") a.number
+answer_text (Refused r) = refused_text r.codes
+
+-- the prescription reference number, where it is known
+abbrev pub rx_text : Option ℕ → List ℕ
+rx_text None = []
+rx_text (Some reference) = say "  rx " ++ decimal reference
+
+abbrev pub reference_of : Transaction → Option ℕ
+reference_of (Bill b) = Some b.reference
+reference_of (Reverse v) = Some v.reference
+reference_of (Faulty f) = f.reference
+
+unfoldable pub member_text : List ℕ → List ℕ → List ℕ
+member_text family person = say "  family " ++ (shown family ++ (say ", person " ++ shown person))
+
+-- the family and the person of a billing, or of the claim that is taken back
+abbrev pub taken_from : Case → List ℕ
+taken_from (case.TakenBack r) = member_text r.family r.person
+taken_from other = []
+
+abbrev pub whose_text : Transaction → Case → List ℕ
+whose_text (Bill b) c = member_text b.family b.person
+whose_text (Reverse v) c = taken_from c
+whose_text (Faulty f) c = taken_from c
+
+unfoldable pub answered_line : Explanation → List ℕ
+answered_line e =
+    say "record " ++ (at_text e.at ++ (say "  " ++ (answer_text e.answer ++ (say "  pharmacy " ++ (shown e.provider
+    ++ (rx_text (reference_of e.transaction) ++ (say "  " ++ (dashed e.date ++ (whose_text e.transaction e.case
+    ++ say "\n")))))))))

@@ -1,0 +1,47 @@
+-- Meaning: how a standing claim is told.
+use Rattle.std.specs.Prelude.{ℕ, List, [], ◌++◌, Option, Some, None}
+use Rattle.std.specs.Fmt.{decimal}
+use Rattle.rx_explain.specs.declared.at.At.{At}
+use Rattle.rx_explain.specs.declared.case.Case.{Case}
+use Rattle.rx_explain.specs.declared.case.Case.TheVariants as case
+use Rattle.rx_explain.specs.declared.traced.Source.{Source}
+use Rattle.rx_explain.specs.declared.traced.Source.TheVariants.{Opening, Record}
+use Rattle.rx_explain.specs.declared.traced.Traced.{Traced}
+use Rattle.rx_explain_text.specs.Codes.{shown}
+use Rattle.rx_explain_text.specs.Dates.{dashed}
+use Rattle.rx_explain_text.specs.Said.{say}
+
+-- the place of a transaction, as 2.1
+unfoldable pub at_text : At → List ℕ
+at_text at = decimal at.place ++ (say "." ++ decimal at.nth)
+
+-- where a claim comes from
+abbrev pub from_text : Source → List ℕ
+from_text Opening = say " (opening books"
+from_text (Record at) = say " (record " ++ at_text at
+
+-- what takes it back later, if anything
+abbrev pub end_text : Option At → List ℕ
+end_text None = []
+end_text (Some at) = say "; taken back by " ++ at_text at
+
+unfoldable pub source_text : Traced → List ℕ
+source_text t = from_text t.source ++ (end_text t.taken_back ++ say ")")
+
+unfoldable pub for_text : List ℕ → List ℕ → List ℕ
+for_text family person = say " for " ++ (shown family ++ (say "/" ++ shown person))
+
+-- prescription, date, pharmacy, whose it is, and where it comes from
+unfoldable pub traced_text : Traced → List ℕ
+traced_text t =
+    say "rx " ++ (decimal t.row.key.reference ++ (say " of " ++ (dashed t.row.key.date
+    ++ (say " at " ++ (shown t.row.key.provider ++ (for_text t.row.family t.row.person ++ source_text t))))))
+
+-- the claim that decided a case; one that this transaction takes back is taken back by no later one
+abbrev pub as_decided : Case → Traced → Traced
+as_decided (case.TakenBack r) t = record { row = t.row; source = t.source; taken_back = None }
+as_decided other t = t
+
+abbrev pub standing_text : Case → Option Traced → List ℕ
+standing_text c None = []
+standing_text c (Some t) = traced_text (as_decided c t)

@@ -1,0 +1,168 @@
+-- Meaning: the figures of a claim that is paid, a line each, with where each comes from.
+use Rattle.std.specs.Prelude.{ℕ, ◌+◌, ◌-◌, ◌==◌, nat_lt, if◌then◌else◌, List, [], ◌++◌, Option, Some, None}
+use Rattle.std.specs.Prelude.{codes, length, replicate}
+use Rattle.std.specs.Fmt.{decimal}
+use Rattle.std.specs.List.{flat_map}
+use Rattle.std.specs.Option.{unwrap_or}
+use Rattle.rx_claim.specs.Priced.{patient_pay, total_paid}
+use Rattle.rx_claim.specs.declared.bill.BillParts.{BillParts}
+use Rattle.rx_claim.specs.declared.transaction.Transaction.{Transaction}
+use Rattle.rx_claim.specs.declared.transaction.Transaction.TheVariants.{Bill, Reverse, Faulty}
+use Rattle.rx_explain.specs.declared.case.Case.{Case}
+use Rattle.rx_explain.specs.declared.case.Case.TheVariants as case
+use Rattle.rx_explain.specs.declared.case.Payment.{Payment}
+use Rattle.rx_explain.specs.declared.explanation.Explanation.{Explanation}
+use Rattle.rx_explain.specs.declared.traced.Traced.{Traced}
+use Rattle.rx_explain_text.specs.Claims.{traced_text}
+use Rattle.rx_explain_text.specs.Money.{money_text, price_text, right_in, thousandths_text}
+use Rattle.rx_explain_text.specs.Said.{said, say}
+use Rattle.rx_explain_text.specs.declared.figures.Counts.{Counts}
+use Rattle.rx_explain_text.specs.declared.figures.Counts.TheVariants.{MemberDeductible, FamilyDeductible, OutOfPocket}
+use Rattle.rx_explain_text.specs.declared.figures.TheConstants.{AMOUNT, LABEL}
+use Rattle.rx_ledger.specs.Members.{is_same}
+use Rattle.rx_ledger.specs.declared.drug.Share.{Share}
+use Rattle.rx_ledger.specs.declared.drug.Share.TheVariants.{Copay, Percent}
+use Rattle.rx_ledger.specs.declared.figures.Figures.{Figures}
+
+-- ---- a line
+
+-- a label and an amount, each in its column
+unfoldable pub labelled : List ℕ → ℕ → List ℕ
+labelled label cents =
+    say "  " ++ (said label ++ (replicate (LABEL - length label) 32 ++ right_in AMOUNT (money_text cents)))
+
+-- whether a limit cut a figure
+unfoldable pub cut_text : List ℕ → ℕ → ℕ → List ℕ
+cut_text limit paid due =
+    if nat_lt paid due then say "  CUT by " ++ (said limit ++ (say " from " ++ money_text due)) else []
+
+-- ---- what is allowed
+
+-- what was submitted stands where the plan's figure isn't above it
+unfoldable pub submitted_text : ℕ → ℕ → List ℕ → List ℕ → List ℕ
+submitted_text submitted plan lower higher = if nat_lt submitted plan then said lower else money_text submitted ++ said higher
+
+-- the quantity at the plan's price
+unfoldable pub priced_text : BillParts → Payment → List ℕ
+priced_text b p =
+    thousandths_text b.quantity ++ (say " x " ++ (price_text p.drug.price ++ (say " = " ++ (money_text p.workings.cost
+    ++ say "\n"))))
+
+-- the ingredient cost: which of two is lower, and what the charge cuts off
+unfoldable pub cost_line : BillParts → Payment → List ℕ
+cost_line b p =
+    labelled (codes "ingredient cost F6") p.pricing.ingredient_cost
+    ++ (cut_text (codes "the charge") p.pricing.ingredient_cost p.workings.ingredient_cost ++ (say "  "
+    ++ (submitted_text b.ingredient_cost p.workings.cost (codes "as submitted; the plan's price is ")
+    (codes " submitted, paid by the plan's price: ") ++ priced_text b p)))
+
+-- the dispensing fee: which of two is lower, and what the charge cuts off
+unfoldable pub fee_line : Figures → BillParts → Payment → List ℕ
+fee_line figures b p =
+    labelled (codes "dispensing fee F7") p.pricing.dispensing_fee
+    ++ (cut_text (codes "the charge") p.pricing.dispensing_fee p.workings.dispensing_fee ++ (say "  "
+    ++ (submitted_text (unwrap_or b.dispensing_fee 0) figures.fee (codes "as submitted; the plan's fee is ")
+    (codes " submitted, paid by the plan's fee of ") ++ (money_text figures.fee ++ say "\n"))))
+
+-- the charge by its field
+abbrev pub charge_text : Option ℕ → List ℕ
+charge_text None = say "  the gross amount due DU, for want of a usual charge, is "
+charge_text (Some cents) = say "  the usual charge DQ is "
+
+-- what both come to, beside the charge
+unfoldable pub allowed_line : BillParts → Payment → List ℕ
+allowed_line b p =
+    labelled (codes "allowed") (p.pricing.ingredient_cost + p.pricing.dispensing_fee)
+    ++ (cut_text (codes "the charge") (p.pricing.ingredient_cost + p.pricing.dispensing_fee)
+    (p.workings.ingredient_cost + p.workings.dispensing_fee)
+    ++ (charge_text b.usual_charge ++ (money_text p.workings.cap ++ say "\n")))
+
+-- ---- what is left of the plan's figures, with the claims that used them
+
+unfoldable pub less_text : ℕ → ℕ → List ℕ
+less_text figure used = say "  " ++ (money_text figure ++ (say " less " ++ (money_text used ++ say "\n")))
+
+-- a claim with what it counts, in cents; nothing where it counts nothing
+unfoldable pub counted_line : ℕ → Traced → List ℕ
+counted_line cents t =
+    if cents == 0 then [] else replicate (4 + LABEL + AMOUNT) 32
+    ++ (right_in AMOUNT (money_text cents) ++ (say "  " ++ (traced_text t ++ say "\n")))
+
+-- what a claim counts: of a member's deductible where it is the member's
+abbrev pub counted_of : Counts → BillParts → Traced → ℕ
+counted_of MemberDeductible b t = if is_same t.row.person b.person then t.row.pricing.deductible else 0
+counted_of FamilyDeductible b t = t.row.pricing.deductible
+counted_of OutOfPocket b t = patient_pay t.row.pricing
+
+abbrev pub counted_lines : Counts → BillParts → List Traced → List ℕ
+counted_lines counts b ts = flat_map (λ t. counted_line (counted_of counts b t) t) ts
+
+unfoldable pub left_lines : ℕ → ℕ → Counts → BillParts → List Traced → List ℕ
+left_lines figure used counts b ts = less_text figure used ++ counted_lines counts b ts
+
+unfoldable pub family_left_lines : ℕ → ℕ → List Traced → BillParts → Payment → List ℕ
+family_left_lines figure left ts b p =
+    labelled (codes "family's deductible left") left ++ left_lines figure p.used.family_deductible FamilyDeductible b ts
+
+-- the family's deductible, where the plan has one
+abbrev pub family_lines : Option ℕ → Option ℕ → List Traced → BillParts → Payment → List ℕ
+family_lines (Some figure) (Some left) ts b p = family_left_lines figure left ts b p
+family_lines (Some figure) None ts b p = []
+family_lines None left ts b p = []
+
+unfoldable pub accumulator_lines : Figures → List Traced → BillParts → Payment → List ℕ
+accumulator_lines figures ts b p =
+    labelled (codes "member's deductible left") p.workings.deductible_left
+    ++ (left_lines figures.member_deductible p.used.deductible MemberDeductible b ts
+    ++ (family_lines figures.family_deductible p.workings.family_deductible_left ts b p
+    ++ (labelled (codes "family's maximum left") p.workings.room
+    ++ left_lines figures.family_maximum p.used.out_of_pocket OutOfPocket b ts)))
+
+-- ---- who pays what
+
+abbrev pub maximum_cut : ℕ → ℕ → List ℕ
+maximum_cut paid due = cut_text (codes "the family's maximum") paid due
+
+-- the copay or the coinsurance, and the tier's
+unfoldable pub copay_line : ℕ → Payment → List ℕ
+copay_line cents p =
+    labelled (codes "copay FI") p.pricing.copay ++ (maximum_cut p.pricing.copay p.workings.share
+    ++ (say "  tier of " ++ money_text cents))
+
+unfoldable pub coinsurance_line : ℕ → Payment → List ℕ
+coinsurance_line percent p =
+    labelled (codes "coinsurance 4U") p.pricing.coinsurance ++ (maximum_cut p.pricing.coinsurance p.workings.share
+    ++ (say "  tier of " ++ (decimal percent ++ say " percent")))
+
+abbrev pub share_line : Share → Payment → List ℕ
+share_line (Copay cents) p = copay_line cents p
+share_line (Percent percent) p = coinsurance_line percent p
+
+unfoldable pub pays_line : List ℕ → ℕ → List ℕ
+pays_line label cents = labelled label cents ++ say "\n"
+
+unfoldable pub payer_lines : Payment → List ℕ
+payer_lines p =
+    pays_line (codes "member pays F5") (patient_pay p.pricing) ++ pays_line (codes "plan pays F9") (total_paid p.pricing)
+
+unfoldable pub payment_lines : Payment → List ℕ
+payment_lines p =
+    labelled (codes "deductible FH") p.pricing.deductible ++ (maximum_cut p.pricing.deductible p.workings.under
+    ++ (say "\n" ++ (share_line p.drug.share p ++ (say "\n" ++ payer_lines p))))
+
+-- ---- all of them
+
+unfoldable pub paid_lines : Figures → Explanation → BillParts → Payment → List ℕ
+paid_lines figures e b p =
+    cost_line b p ++ (fee_line figures b p ++ (allowed_line b p ++ (accumulator_lines figures e.counted.items b p
+    ++ payment_lines p)))
+
+abbrev pub lines_of_case : Case → Figures → Explanation → BillParts → List ℕ
+lines_of_case (case.Payable p) figures e b = paid_lines figures e b p
+lines_of_case other figures e b = []
+
+-- of a claim that is paid; nothing of another
+abbrev pub figure_lines : Transaction → Figures → Explanation → List ℕ
+figure_lines (Bill b) figures e = lines_of_case e.case figures e b
+figure_lines (Reverse v) figures e = []
+figure_lines (Faulty f) figures e = []
