@@ -2,8 +2,9 @@
 //!
 //! In comes an account (`rx_account`); out comes the page: a table of providers with counts, net and a bar for each, and
 //! behind it each provider's claims, a line each that unfolds to its figures and to why they are so. A page is written in
-//! two ways alone: by markup that stands in this crate, and by bytes that `rx_escape` turns into text; `specs/Pages.antt`
-//! says what a byte of a file becomes, `specs/Whys.antt` what stands there for an explanation.
+//! two ways alone: by markup that stands in this crate, and by bytes that `rx_escape` turns into text. `specs/Whole.antt`
+//! has the whole page, of a table (`specs/Providers.antt`) and claims (`specs/Claims.antt`); `specs/Pages.antt` says what
+//! a byte of a file becomes, `specs/Whys.antt` what stands there for an explanation.
 //!
 //! ```rust
 //! let page = rx_report_page::explained_page(alloc, lot, portion, &account, &whys)?;

@@ -1,5 +1,13 @@
-ghost use Rattle.std.specs.Prelude.{◌≡◌, length, nat_le, sum_by};
+ghost use Rattle.std.specs.Prelude.{◌≡◌, ◌++◌, [], length, nat_le, sum_by, IfOk, OnOk};
+ghost use Rattle.std.specs.List.{enumerate_from};
+ghost use Rattle.rx_escape.specs.Escape.{escaped};
+ghost use Rattle.rx_escape.specs.declared.style.Style.TheVariants.{Html};
+ghost use Rattle.rx_fields.specs.Calendar.{date_text};
+ghost use Rattle.rx_report_page.specs.Claims.{sections_text};
 ghost use Rattle.rx_report_page.specs.Shown.{shows_claims};
+ghost use Rattle.rx_report_page.specs.Whole.{below_table, head_text, lot_text, page_text, parts_of_page};
+ghost use Rattle.rx_report_page.specs.Whole.{portion_text, title_text, too_many_text};
+ghost use Rattle.rx_report_text.specs.Shown.{dashed};
 
 use crate::claims::put_claims;
 use crate::page::Page;
@@ -7,7 +15,7 @@ use crate::providers::put_providers;
 use crate::style::STYLE;
 use crate::why::Whys;
 use rx_account::{Account, Portion, Section};
-use rx_fields::{Lot, Memory, date_write, digits_write};
+use rx_fields::{Day, Lot, Memory, date_write, digits_write};
 use rx_order::Ascending;
 use std::alloc::{AllocError, Global};
 
@@ -20,7 +28,9 @@ pub fn report_page(
     lot: Lot,
     portion: Portion<'_>,
     account: &Account<'_>,
-) -> Result<Vec<u8>, Memory> {
+) -> Result<Vec<u8>, Memory>
+    ensures { IfOk result (λ page. page.items ≡ page_text lot portion.entry account.now []) }
+{
     explained_page(alloc, lot, portion, account, &Ascending::new(alloc))
 }
 
@@ -31,19 +41,48 @@ pub fn explained_page(
     portion: Portion<'_>,
     account: &Account<'_>,
     whys: &Whys,
-) -> Result<Vec<u8>, Memory> {
+) -> Result<Vec<u8>, Memory>
+    ensures { IfOk result (λ page. page.items ≡ page_text lot portion.entry account.now whys.now) }
+{
     let mut page = Page::new(alloc);
-    put_head(&mut page, lot)?;
-    put_title(&mut page, lot, portion)?;
     let unfolds = shows_claims(portion, account);
-    put_providers(&mut page, portion, account, unfolds)?;
-    if unfolds {
-        put_sections(&mut page, account, whys)?;
-    } else {
-        put_command(&mut page)?;
-    }
-    page.markup("</main>\n</body>\n</html>\n")?;
+    put_page(&mut page, lot, portion, account, whys, unfolds)?;
     Ok(page.into_bytes())
+}
+
+// Head, title, the table of providers and what stands below it.
+fn put_page(
+    page: &mut Page,
+    lot: Lot,
+    portion: Portion<'_>,
+    account: &Account<'_>,
+    whys: &Whys,
+    unfolds: bool,
+) -> Result<(), AllocError>
+    ensures { OnOk result (page.new.bytes.items
+        ≡ page.old.bytes.items ++ parts_of_page unfolds lot portion.entry account.now whys.now) }
+{
+    put_head(page, lot)?;
+    put_title(page, lot, portion)?;
+    put_providers(page, portion, account, unfolds)?;
+    put_below(page, account, whys, unfolds)?;
+    page.markup("</main>\n</body>\n</html>\n")
+}
+
+// The claims of each provider, or how they are had.
+fn put_below(
+    page: &mut Page,
+    account: &Account<'_>,
+    whys: &Whys,
+    unfolds: bool,
+) -> Result<(), AllocError>
+    ensures { OnOk result (page.new.bytes.items ≡ page.old.bytes.items ++ below_table unfolds whys.now account.now) }
+{
+    if unfolds {
+        put_sections(page, &account.sections, whys)
+    } else {
+        put_command(page)
+    }
 }
 
 /// Whether the page of an account has its claims, and not the table of providers alone: those of a portion, and those of
@@ -71,7 +110,9 @@ fn are_few(sections: &[Section<'_>]) -> bool
     true
 }
 
-fn put_head(page: &mut Page, lot: Lot) -> Result<(), AllocError> {
+fn put_head(page: &mut Page, lot: Lot) -> Result<(), AllocError>
+    ensures { OnOk result (page.new.bytes.items ≡ page.old.bytes.items ++ head_text lot) }
+{
     page.markup("<!DOCTYPE html>\n<html lang=\"en\">\n<head>\n<meta charset=\"utf-8\">\n")?;
     page.markup(
         "<meta http-equiv=\"Content-Security-Policy\" content=\"default-src 'none'; style-src 'unsafe-inline'\">\n",
@@ -85,45 +126,86 @@ fn put_head(page: &mut Page, lot: Lot) -> Result<(), AllocError> {
     page.markup("</style>\n</head>\n<body>\n")
 }
 
-fn put_lot(page: &mut Page, lot: Lot) -> Result<(), AllocError> {
+#[tactic(auto, using(std::proofs::Common::append_assoc))]
+fn put_lot(page: &mut Page, lot: Lot) -> Result<(), AllocError>
+    ensures { OnOk result (page.new.bytes.items ≡ page.old.bytes.items ++ lot_text lot) }
+{
     let number: [u8; 7] = digits_write(u64::from(lot.number()));
     page.markup("Batch ")?;
     page.text(&number)
 }
 
 // The batch, its date, and whose lines the page has.
-fn put_title(page: &mut Page, lot: Lot, portion: Portion<'_>) -> Result<(), AllocError> {
-    let [y0, y1, y2, y3, m0, m1, d0, d1] = date_write(lot.created());
+fn put_title(page: &mut Page, lot: Lot, portion: Portion<'_>) -> Result<(), AllocError>
+    ensures { OnOk result (page.new.bytes.items ≡ page.old.bytes.items ++ title_text lot portion.entry) }
+{
     page.markup("<header>\n<h1>")?;
     put_lot(page, lot)?;
     page.markup("</h1>\n<p>created ")?;
-    page.text(&[y0, y1, y2, y3, b'-', m0, m1, b'-', d0, d1])?;
-    match portion {
-        Portion::Whole => page.markup(", all providers")?,
-        Portion::Provider(id) => {
-            page.markup(", provider ")?;
-            page.text(id)?;
-            page.markup(" alone")?;
-        }
-        Portion::Family(id) => {
-            page.markup(", the lines that name family ")?;
-            page.text(id)?;
-            page.markup("; counts and net are of these alone")?;
-        }
-    }
+    put_day(page, lot.created())?;
+    put_portion(page, portion)?;
     page.markup("; amounts in dollars</p>\n</header>\n<main>\n")
 }
 
+// A day as `2026-03-05`.
+fn put_day(page: &mut Page, day: Day) -> Result<(), AllocError>
+    ensures { OnOk result (page.new.bytes.items ≡ page.old.bytes.items ++ escaped Html (dashed (date_text day))) }
+{
+    page.text(&dashed(date_write(day)))
+}
+
+fn dashed(date: [u8; 8]) -> [u8; 10]
+    ensures { result ≡ dashed date }
+{
+    let [y0, y1, y2, y3, m0, m1, d0, d1] = date;
+    [y0, y1, y2, y3, b'-', m0, m1, b'-', d0, d1]
+}
+
+// Whose lines the page has.
+fn put_portion(page: &mut Page, portion: Portion<'_>) -> Result<(), AllocError>
+    ensures { OnOk result (page.new.bytes.items ≡ page.old.bytes.items ++ portion_text portion.entry) }
+{
+    match portion {
+        Portion::Whole => page.markup(", all providers"),
+        Portion::Provider(id) => put_within(page, ", provider ", id, " alone"),
+        Portion::Family(id) => put_within(
+            page,
+            ", the lines that name family ",
+            id,
+            "; counts and net are of these alone",
+        ),
+    }
+}
+
+// An id between markup.
+#[tactic(auto, using(std::proofs::Common::append_assoc))]
+fn put_within(
+    page: &mut Page,
+    front: &'static str,
+    id: &[u8],
+    back: &'static str,
+) -> Result<(), AllocError>
+    ensures { OnOk result (page.new.bytes.items ≡ page.old.bytes.items ++ (front.now ++ (escaped Html id.now ++ back.now))) }
+{
+    page.markup(front)?;
+    page.text(id)?;
+    page.markup(back)
+}
+
 // Each provider's claims.
-fn put_sections(page: &mut Page, account: &Account<'_>, whys: &Whys) -> Result<(), AllocError> {
-    for (before, section) in account.sections.iter().enumerate() {
+fn put_sections(page: &mut Page, sections: &[Section<'_>], whys: &Whys) -> Result<(), AllocError>
+    ensures { OnOk result (page.new.bytes.items ≡ page.old.bytes.items ++ sections_text whys.now (enumerate_from 0 sections.now)) }
+{
+    for (before, section) in sections.iter().enumerate() {
         put_claims(page, before, section, whys)?;
     }
     Ok(())
 }
 
 // How the claims of one provider are had.
-fn put_command(page: &mut Page) -> Result<(), AllocError> {
+fn put_command(page: &mut Page) -> Result<(), AllocError>
+    ensures { OnOk result (page.new.bytes.items ≡ page.old.bytes.items ++ too_many_text) }
+{
     page.markup(
         "<p>These are too many claims for one page. Those of one provider are on a page by</p>\n",
     )?;

@@ -1,5 +1,5 @@
 -- The words of the command stand before the place of the record.
-use Rattle.std.proofs.Common.{◌≡◌, ℕ, ◌++◌, List, append_assoc, codes, ap, ◌∙◌}
+use Rattle.std.proofs.Common.{ℕ, ◌++◌, List, append_assoc, codes, ap, ◌∙◌}
 use Rattle.rx_report_page.specs.Pages.{cell_text}
 use Rattle.rx_report_page.proofs.page.Page.command.Goals as goal
 use Rattle.rx_report_text.specs.declared.shown.Shown.TheVariants.{Record}
