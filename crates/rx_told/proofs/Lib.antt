@@ -1,1 +1,2 @@
 -- Plumbing: which files there are.
+pub mod Searches

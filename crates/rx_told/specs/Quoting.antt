@@ -20,6 +20,10 @@ bytes_text bytes = flat_map byte_text bytes
 abbrev pub cut_mark : List ℕ → List ℕ
 cut_mark bytes = if nat_lt LONGEST (length bytes) then codes ".." else []
 
--- in quotes the first 60 bytes, or all
+-- the first 60 bytes, or all
+abbrev pub shown_text : List ℕ → List ℕ
+shown_text bytes = bytes_text (take LONGEST bytes) ++ cut_mark bytes
+
+-- the same in quotes
 abbrev pub quoted_text : List ℕ → List ℕ
-quoted_text bytes = codes "\"" ++ bytes_text (take LONGEST bytes) ++ cut_mark bytes ++ codes "\""
+quoted_text bytes = codes "\"" ++ (shown_text bytes ++ codes "\"")

@@ -1,12 +1,14 @@
-ghost use Rattle.std.specs.Prelude.{◌≡◌, IfOk};
+ghost use Rattle.std.specs.Prelude.{◌≡◌, [], IfOk, option_copied, option_map, string_bytes};
+ghost use Rattle.rx_told.specs.BatchTexts.{after_text, batch_text, details_before, ends_before, kind_at, no_header_text};
+ghost use Rattle.rx_told.specs.BatchTexts.{no_trailer_text, outside_text, outside_with, seen_at, unread_batch_text};
 ghost use Rattle.rx_told.specs.Places.{batch_place, unread_batch_place};
 
 use crate::batch_record::{
-    count_words, detail_words, header_words, kind_words, number_words, trailer_words,
-    unclosed_words,
+    behind, body_at, count_words, detail_words, first_body, header_words, kind_words, number_words,
+    trailer_words, unclosed_words,
 };
 use crate::looks::{has_mark, looks_like};
-use crate::place::Place;
+use crate::place::{Place, front, starts_before};
 use crate::quoting::{from, part, quoted, said};
 use crate::words::{Said, Words};
 use rx_batch::BatchFault;
@@ -20,7 +22,9 @@ use std::alloc::{AllocError, Global};
 ///
 /// Memory alone.
 pub fn batch_words(alloc: Global, fault: BatchFault, text: &[u8]) -> Result<Words, Memory>
-    ensures { IfOk result (λ words. words.place ≡ batch_place text.now fault) }
+    ensures place { IfOk result (λ words. words.place ≡ batch_place text.now fault) }
+    ensures text { IfOk result (λ words. string_bytes words.text ≡ batch_text text.now fault) }
+    ensures mend { IfOk result (λ words. words.mend.now ≡ []) }
 {
     let said = said_of(alloc, fault, text)?;
     Ok(Words::of(Place::of_batch(fault, text), Said::plain(said)))
@@ -32,9 +36,19 @@ pub fn batch_words(alloc: Global, fault: BatchFault, text: &[u8]) -> Result<Word
 ///
 /// Memory alone.
 pub fn unread_batch_words(alloc: Global, fault: BatchFault) -> Result<Words, Memory>
-    ensures { IfOk result (λ words. words.place ≡ unread_batch_place fault) }
+    ensures place { IfOk result (λ words. words.place ≡ unread_batch_place fault) }
+    ensures text { IfOk result (λ words. string_bytes words.text ≡ unread_batch_text fault) }
+    ensures mend { IfOk result (λ words. words.mend.now ≡ []) }
 {
-    let text = match fault {
+    let said = Said::plain(said(alloc, unread_text(fault))?);
+    Ok(Words::of(Place::of_unread_batch(fault), said))
+}
+
+// What is said where the text isn't known.
+fn unread_text(fault: BatchFault) -> &'static str
+    ensures { result.now ≡ unread_batch_text fault }
+{
+    match fault {
         BatchFault::Outside { .. } =>
             "a byte stands where a record could begin: STX (X'02') is wanted",
         BatchFault::NoHeader { .. } => "a header is wanted, which begins STX 00",
@@ -51,93 +65,145 @@ pub fn unread_batch_words(alloc: Global, fault: BatchFault) -> Result<Words, Mem
         BatchFault::AfterTrailer { .. } => "bytes follow the trailer",
         BatchFault::TooMuch { .. } => "this is detail 100001: at most 100000 are read",
         BatchFault::Memory => "more memory was wanted than there is",
-    };
-    let said = Said::plain(said(alloc, text)?);
-    Ok(Words::of(Place::of_unread_batch(fault), said))
+    }
 }
 
-fn said_of(alloc: Global, fault: BatchFault, text: &[u8]) -> Result<String, AllocError> {
+fn said_of(alloc: Global, fault: BatchFault, text: &[u8]) -> Result<String, AllocError>
+    ensures { IfOk result (λ said. string_bytes said ≡ batch_text text.now fault) }
+{
     match fault {
-        BatchFault::Outside { at } => outside_words(alloc, text, at as usize),
-        BatchFault::NoHeader { at } => no_header_words(alloc, text, at as usize),
-        BatchFault::HeaderShape { at } => header_words(alloc, text, at as usize),
-        BatchFault::Unclosed { at } => unclosed_words(alloc, text, at as usize),
-        BatchFault::RecordKind { at } => kind_words(alloc, text, at as usize),
-        BatchFault::DetailShape { at } => detail_words(alloc, text, at as usize),
-        BatchFault::TrailerShape { at } => trailer_words(alloc, text, at as usize),
-        BatchFault::NoTrailer { at } => {
-            let details = details_before(text, at as usize);
-            format!(in alloc;
-                "the file ends without a trailer, after {details} details: it may have been cut"
-            )
+        BatchFault::Outside { at } => outside_words(alloc, text, at),
+        BatchFault::NoHeader { at } => no_header_words(alloc, text, at),
+        BatchFault::HeaderShape { at } => header_words(alloc, at, body_at(text, at)),
+        BatchFault::Unclosed { at } => unclosed_words(alloc, at, behind(text, at)),
+        BatchFault::RecordKind { at } => kind_words(alloc, body_at(text, at)),
+        BatchFault::DetailShape { at } => detail_words(alloc, body_at(text, at)),
+        BatchFault::TrailerShape { at } => trailer_words(alloc, at, body_at(text, at)),
+        BatchFault::NoTrailer { at } => no_trailer_words(alloc, details_before(text, at)),
+        BatchFault::NumberDiffers { at } => {
+            number_words(alloc, first_body(text), body_at(text, at))
         }
-        BatchFault::NumberDiffers { at } => number_words(alloc, text, at as usize),
         BatchFault::CountDiffers { at } => {
-            let details = details_before(text, at as usize);
-            count_words(alloc, text, at as usize, details)
+            count_words(alloc, body_at(text, at), details_before(text, at))
         }
-        BatchFault::AfterTrailer { at } => after_words(alloc, text, at as usize),
+        BatchFault::AfterTrailer { at } => after_words(alloc, text, at),
         BatchFault::TooMuch { .. } => said(alloc, "this is detail 100001: at most 100000 are read"),
         BatchFault::Memory => said(alloc, "more memory was wanted than there is"),
     }
 }
 
 // How many details begin before a byte behind the header.
-fn details_before(text: &[u8], at: usize) -> usize {
-    let records = part(text, 0, at).iter().filter(|b| **b == 2).count();
-    records.saturating_sub(1)
+fn details_before(text: &[u8], at: u64) -> u64
+    ensures { result ≡ details_before text.now at }
+{
+    starts_before(text, at).saturating_sub(1)
+}
+
+// What is said of a file that ends without a trailer.
+#[tactic(auto, using(std::proofs::Common::append_assoc), unfolding(crate::specs::BatchTexts::no_trailer_text))]
+fn no_trailer_words(alloc: Global, details: u64) -> Result<String, AllocError>
+    ensures { IfOk result (λ said. string_bytes said ≡ no_trailer_text details) }
+{
+    format!(in alloc;
+        "the file ends without a trailer, after {details} details: it may have been cut"
+    )
+}
+
+// What stands at a place, as far as it is shown.
+fn seen_at(alloc: Global, text: &[u8], at: u64) -> Result<String, AllocError>
+    ensures { IfOk result (λ seen. string_bytes seen ≡ seen_at text.now at) }
+{
+    quoted(alloc, front(from(text, at as usize), 16))
+}
+
+// What the text looks like, where its first byte is at fault.
+fn kind_at(text: &[u8], at: u64) -> Option<&'static str>
+    ensures { option_map (λ kind. kind.now) result ≡ kind_at text.now at }
+{
+    if at == 0 { looks_like(text) } else { None }
+}
+
+// Whether an ETX stands before a place.
+fn ends_before(text: &[u8], at: u64) -> bool
+    ensures { result ≡ ends_before text.now at }
+{
+    part(text, (at as usize).saturating_sub(1), at as usize) == b"\x03".as_slice()
 }
 
 // What is said of a byte where a record could begin.
-fn outside_words(alloc: Global, text: &[u8], at: usize) -> Result<String, AllocError> {
-    let there = quoted(alloc, part(text, at, at.saturating_add(16)))?;
+#[tactic(auto, using(std::proofs::Common::append_assoc), unfolding(crate::specs::BatchTexts::outside_text))]
+fn outside_words(alloc: Global, text: &[u8], at: u64) -> Result<String, AllocError>
+    ensures { IfOk result (λ said. string_bytes said ≡ outside_text text.now at) }
+{
     if at == 0 && has_mark(text) {
         return said(
             alloc,
             "the file begins with a byte order mark (EF BB BF): STX (X'02') is wanted",
         );
     }
-    if at == 0
-        && let Some(kind) = looks_like(text)
-    {
-        return format!(in alloc; "{there}: STX (X'02') is wanted; this looks like {kind}");
-    }
-    if at > 0 && part(text, at - 1, at) == b"\x03".as_slice() {
-        return format!(in alloc;
+    let there = seen_at(alloc, text, at)?;
+    outside_with(
+        alloc,
+        there.as_str(),
+        kind_at(text, at),
+        ends_before(text, at),
+    )
+}
+
+#[tactic(auto, using(std::proofs::Common::append_assoc))]
+fn outside_with(
+    alloc: Global,
+    there: &str,
+    kind: Option<&'static str>,
+    behind_end: bool,
+) -> Result<String, AllocError>
+    ensures { IfOk result (λ said. string_bytes said
+        ≡ outside_with there.now (option_map (λ k. k.now) kind.entry) behind_end) }
+{
+    match (kind, behind_end) {
+        (Some(kind), _) => format!(in alloc;
+            "{there}: STX (X'02') is wanted; this looks like {kind}"
+        ),
+        (None, true) => format!(in alloc;
             "{there} stands behind a record's ETX (X'03'): STX (X'02') is wanted, and no ETX within a record"
-        );
+        ),
+        (None, false) => format!(in alloc;
+            "{there} stands where a record could begin: STX (X'02') is wanted"
+        ),
     }
-    format!(in alloc; "{there} stands where a record could begin: STX (X'02') is wanted")
 }
 
 // What is said where the header is wanted.
-fn no_header_words(alloc: Global, text: &[u8], at: usize) -> Result<String, AllocError> {
+#[tactic(auto, using(std::proofs::Common::append_assoc), unfolding(crate::specs::BatchTexts::no_header_text))]
+fn no_header_words(alloc: Global, text: &[u8], at: u64) -> Result<String, AllocError>
+    ensures { IfOk result (λ said. string_bytes said ≡ no_header_text text.now at) }
+{
     if text.is_empty() {
         return said(
             alloc,
             "the file is empty: a header is wanted, which begins STX 00",
         );
     }
-    if at >= text.len() {
+    if at as usize >= text.len() {
         return said(alloc, "the file ends before a header, which begins STX 00");
     }
-    let there = quoted(
-        alloc,
-        part(text, at.saturating_add(1), at.saturating_add(3)),
-    )?;
+    let there = quoted(alloc, front(behind(text, at), 2))?;
     format!(in alloc; "the first record begins {there}: a header is wanted, which begins \"00\"")
 }
 
 // What is said of what follows the trailer.
-fn after_words(alloc: Global, text: &[u8], at: usize) -> Result<String, AllocError> {
-    let rest = from(text, at);
+#[tactic(auto, using(std::proofs::Common::append_assoc), unfolding(crate::specs::BatchTexts::after_text))]
+fn after_words(alloc: Global, text: &[u8], at: u64) -> Result<String, AllocError>
+    ensures { IfOk result (λ said. string_bytes said ≡ after_text text.now at) }
+{
+    let rest = from(text, at as usize);
     if rest.starts_with(b"\x0200") {
         return said(
             alloc,
             "a second batch begins behind the trailer: one batch a file is read",
         );
     }
-    let there = quoted(alloc, part(text, at, at.saturating_add(16)))?;
+    let there = seen_at(alloc, text, at)?;
     let count = rest.len();
     format!(in alloc; "{count} bytes follow the trailer, {there}: the file ends with the trailer")
 }

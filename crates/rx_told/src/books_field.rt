@@ -1,3 +1,6 @@
+ghost use Rattle.std.specs.Prelude.{◌≡◌, IfOk, option_map, string_bytes};
+ghost use Rattle.rx_told.specs.BooksTexts.{date_fault, id_fault};
+
 use rx_books_text::Version;
 use rx_fields::{date_read, number_read};
 use rx_text::{all_digits, all_printable};
@@ -93,7 +96,10 @@ pub(crate) fn fault_in(
     }
 }
 
-fn id_fault(alloc: Global, most: usize, field: &[u8]) -> Result<Option<String>, AllocError> {
+#[tactic(auto, using(std::proofs::Common::append_assoc))]
+fn id_fault(alloc: Global, most: usize, field: &[u8]) -> Result<Option<String>, AllocError>
+    ensures { IfOk result (λ fault. option_map string_bytes fault ≡ id_fault most field.now) }
+{
     if field.is_empty() {
         return some(alloc, "an id is wanted");
     }
@@ -110,7 +116,10 @@ fn id_fault(alloc: Global, most: usize, field: &[u8]) -> Result<Option<String>, 
     Ok(None)
 }
 
-fn date_fault(alloc: Global, field: &[u8]) -> Result<Option<String>, AllocError> {
+/// What is wrong with a date of eight digits; None where nothing is.
+pub(crate) fn date_fault(alloc: Global, field: &[u8]) -> Result<Option<String>, AllocError>
+    ensures { IfOk result (λ fault. option_map string_bytes fault ≡ date_fault field.now) }
+{
     if field.len() != 8 || !all_digits(field) {
         return some(alloc, "8 digits are wanted, as 20260101");
     }
@@ -151,6 +160,8 @@ fn figure_fault(alloc: Global, field: &[u8]) -> Result<Option<String>, AllocErro
     Ok(None)
 }
 
-fn some(alloc: Global, text: &str) -> Result<Option<String>, AllocError> {
+fn some(alloc: Global, text: &str) -> Result<Option<String>, AllocError>
+    ensures { IfOk result (λ said. option_map string_bytes said ≡ Some text.now) }
+{
     Ok(Some(String::from_str(alloc, text)?))
 }

@@ -1,4 +1,5 @@
 use crate::books_field::{Field, claim_field, fault_in, member_field, total_field};
+use crate::books_order::called;
 use crate::quoting::{field_of, line_feeds, line_of, quoted};
 use crate::words::Said;
 use rx_books_text::{Version, read_head};
@@ -51,15 +52,6 @@ fn digit_of(version: Version) -> u8 {
         Version::One => 1,
         Version::Two => 2,
         Version::Three => 3,
-    }
-}
-
-// What a line of this kind is called.
-fn called(line: &[u8]) -> &'static str {
-    match line {
-        [b'M', ..] => "member",
-        [b'C', ..] => "claim",
-        _ => "total",
     }
 }
 

@@ -1,10 +1,27 @@
-use crate::quoting::{field_of, line_of, quoted};
+ghost use Rattle.std.specs.Prelude.{◌≡◌, ◌-◌, IfOk, string_bytes};
+ghost use Rattle.rx_told.specs.BooksTexts.{after_text, called, key_of, keys_text, order_of, order_text, rank_of, twice_text};
+ghost use Rattle.rx_told.specs.Parts.{line_of};
+
+use crate::quoting::{field_of, line_of, shown};
 use std::alloc::{AllocError, Global};
 
 /// What is said of a line that stands out of order.
-pub(crate) fn order_words(alloc: Global, text: &[u8], number: u64) -> Result<String, AllocError> {
-    let line = line_of(text, number);
-    let above = line_of(text, number.saturating_sub(1));
+pub(crate) fn order_words(alloc: Global, text: &[u8], number: u64) -> Result<String, AllocError>
+    ensures { IfOk result (λ said. string_bytes said
+        ≡ order_text (line_of text.now number) (line_of text.now (number - 1))) }
+{
+    lines_words(
+        alloc,
+        line_of(text, number),
+        line_of(text, number.saturating_sub(1)),
+    )
+}
+
+// What is said of a line and the one above it.
+#[tactic(auto, using(std::proofs::Common::append_assoc), unfolding(crate::specs::BooksTexts::order_text))]
+fn lines_words(alloc: Global, line: &[u8], above: &[u8]) -> Result<String, AllocError>
+    ensures { IfOk result (λ said. string_bytes said ≡ order_text line.now above.now) }
+{
     if rank_of(line) != rank_of(above) {
         let one = called(line);
         let other = called(above);
@@ -14,67 +31,89 @@ pub(crate) fn order_words(alloc: Global, text: &[u8], number: u64) -> Result<Str
     }
     let key = key_of(alloc, line)?;
     let before = key_of(alloc, above)?;
-    let order = order_of(line);
-    if key.as_str().as_bytes() == before.as_str().as_bytes() {
-        return format!(in alloc; "{key} stands twice: {order}");
+    keys_words(alloc, key.as_str(), before.as_str(), order_of(line))
+}
+
+// What is said of a key and the one above it.
+#[tactic(auto, unfolding(crate::specs::BooksTexts::keys_text))]
+fn keys_words(alloc: Global, key: &str, before: &str, order: &str) -> Result<String, AllocError>
+    ensures { IfOk result (λ said. string_bytes said ≡ keys_text key.now before.now order.now) }
+{
+    if key == before {
+        twice_words(alloc, key, order)
+    } else {
+        after_words(alloc, key, before, order)
     }
+}
+
+#[tactic(auto, using(std::proofs::Common::append_assoc))]
+fn twice_words(alloc: Global, key: &str, order: &str) -> Result<String, AllocError>
+    ensures { IfOk result (λ said. string_bytes said ≡ twice_text key.now order.now) }
+{
+    format!(in alloc; "{key} stands twice: {order}")
+}
+
+#[tactic(auto, using(std::proofs::Common::append_assoc))]
+fn after_words(alloc: Global, key: &str, before: &str, order: &str) -> Result<String, AllocError>
+    ensures { IfOk result (λ said. string_bytes said ≡ after_text key.now before.now order.now) }
+{
     format!(in alloc; "{key} stands after {before}: {order}")
 }
 
 // The kinds of lines in their order.
-fn rank_of(line: &[u8]) -> u8 {
-    match line {
-        [b'M', ..] => 1,
-        [b'C', ..] => 2,
-        _ => 3,
+fn rank_of(line: &[u8]) -> u8
+    ensures { result ≡ rank_of line.now }
+{
+    if line.starts_with(b"M") {
+        1
+    } else if line.starts_with(b"C") {
+        2
+    } else {
+        3
     }
 }
 
-fn called(line: &[u8]) -> &'static str {
-    match line {
-        [b'M', ..] => "member",
-        [b'C', ..] => "claim",
-        _ => "total",
+/// What a line of this kind is called.
+pub(crate) fn called(line: &[u8]) -> &'static str
+    ensures { result.now ≡ called line.now }
+{
+    if line.starts_with(b"M") {
+        "member"
+    } else if line.starts_with(b"C") {
+        "claim"
+    } else {
+        "total"
     }
 }
 
 // In what order the lines of a kind stand, and the command that sorts these lines.
-fn order_of(line: &[u8]) -> &'static str {
-    match line {
-        [b'M', ..] => "members ascend by family, then person (sort -t'|' -k2,2 -k3,3)",
-        [b'C', ..] => {
-            "claims ascend by provider, reference and date (sort -t'|' -k2,2 -k3,3n -k4,4)"
-        }
-        _ => "totals ascend by family (sort -t'|' -k2,2)",
+fn order_of(line: &[u8]) -> &'static str
+    ensures { result.now ≡ order_of line.now }
+{
+    if line.starts_with(b"M") {
+        "members ascend by family, then person (sort -t'|' -k2,2 -k3,3)"
+    } else if line.starts_with(b"C") {
+        "claims ascend by provider, reference and date (sort -t'|' -k2,2 -k3,3n -k4,4)"
+    } else {
+        "totals ascend by family (sort -t'|' -k2,2)"
     }
 }
 
 // The key of a line, its parts joined by strokes.
-fn key_of(alloc: Global, line: &[u8]) -> Result<String, AllocError> {
-    let one = plain(alloc, field_of(line, 2))?;
-    match line {
-        [b'M', ..] => {
-            let two = plain(alloc, field_of(line, 3))?;
-            format!(in alloc; "{one}/{two}")
-        }
-        [b'C', ..] => {
-            let two = plain(alloc, field_of(line, 3))?;
-            let three = plain(alloc, field_of(line, 4))?;
-            format!(in alloc; "{one}/{two}/{three}")
-        }
-        _ => Ok(one),
-    }
-}
-
-// The field's bytes without quotes.
-fn plain(alloc: Global, field: &[u8]) -> Result<String, AllocError> {
-    let text = quoted(alloc, field)?;
-    match text.as_str().strip_prefix("\"") {
-        Some(rest) => match rest.strip_suffix("\"") {
-            Some(inner) => String::from_str(alloc, inner),
-            None => String::from_str(alloc, rest),
-        },
-        None => Ok(text),
+#[tactic(auto, using(std::proofs::Common::append_assoc))]
+fn key_of(alloc: Global, line: &[u8]) -> Result<String, AllocError>
+    ensures { IfOk result (λ key. string_bytes key ≡ key_of line.now) }
+{
+    let one = shown(alloc, field_of(line, 2))?;
+    if line.starts_with(b"M") {
+        let two = shown(alloc, field_of(line, 3))?;
+        format!(in alloc; "{one}/{two}")
+    } else if line.starts_with(b"C") {
+        let two = shown(alloc, field_of(line, 3))?;
+        let three = shown(alloc, field_of(line, 4))?;
+        format!(in alloc; "{one}/{two}/{three}")
+    } else {
+        Ok(one)
     }
 }
 
@@ -82,17 +121,17 @@ fn plain(alloc: Global, field: &[u8]) -> Result<String, AllocError> {
 pub(crate) fn unknown_words(alloc: Global, text: &[u8], number: u64) -> Result<String, AllocError> {
     let line = line_of(text, number);
     if line.starts_with(b"T") {
-        let family = plain(alloc, field_of(line, 2))?;
+        let family = shown(alloc, field_of(line, 2))?;
         return format!(in alloc;
             "family {family} has a total line and no member: no M line above has this family"
         );
     }
     let family = field_of(line, 5);
-    let person = plain(alloc, field_of(line, 6))?;
-    let name = plain(alloc, family)?;
+    let person = shown(alloc, field_of(line, 6))?;
+    let name = shown(alloc, family)?;
     match nearest(text, family, field_of(line, 6)) {
         Some(listed) => {
-            let listed = plain(alloc, listed)?;
+            let listed = shown(alloc, listed)?;
             format!(in alloc;
                 "member {name}/{person} isn't listed: the nearest person of the family is {name}/{listed}"
             )

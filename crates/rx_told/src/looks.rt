@@ -1,7 +1,16 @@
-use crate::quoting::line_of;
+ghost use Rattle.std.specs.Prelude.{◌≡◌, find, option_copied, option_map};
+ghost use Rattle.rx_text.specs.Bytes.{cut};
+ghost use Rattle.rx_told.specs.Looks.{has_mark, is_sheet, is_sheet_line, looks_like};
+
+use crate::place::front;
+
+// How many bytes are looked at for a line of a plan sheet.
+const LOOKED_AT: usize = 1000;
 
 /// What another kind of file looks like, from its first bytes; None where they don't tell.
-pub(crate) fn looks_like(text: &[u8]) -> Option<&'static str> {
+pub(crate) fn looks_like(text: &[u8]) -> Option<&'static str>
+    ensures { option_map (λ kind. kind.now) result ≡ looks_like text.now }
+{
     if text.starts_with(b"\x1F\x8B") {
         Some("gzip")
     } else if text.starts_with(b"PK\x03\x04") {
@@ -12,7 +21,7 @@ pub(crate) fn looks_like(text: &[u8]) -> Option<&'static str> {
         Some("a books file")
     } else if text.starts_with(b"SETTLE|") {
         Some("a settlement")
-    } else if text.starts_with(b"<02>") || text.starts_with(b"<02>00") {
+    } else if text.starts_with(b"<02>") {
         Some("a batch file whose control bytes are spelled out")
     } else if text.starts_with(b"\x02") {
         Some("a batch file")
@@ -23,21 +32,33 @@ pub(crate) fn looks_like(text: &[u8]) -> Option<&'static str> {
     }
 }
 
-// Whether one of the first lines begins as one of a plan sheet does.
-fn is_sheet(text: &[u8]) -> bool {
-    for number in 1..20 {
-        let line = line_of(text, number);
-        if line.starts_with(b"bin = ")
-            || line.starts_with(b"pcn = ")
-            || line.starts_with(b"[tiers]")
-        {
-            return true;
-        }
+// Whether one of the lines in front is one of a plan sheet.
+fn is_sheet(text: &[u8]) -> bool
+    ensures { result ≡ is_sheet text.now }
+{
+    match sheet_line(front(text, LOOKED_AT)) {
+        Some(_) => true,
+        None => false,
     }
-    false
+}
+
+// The first line that is one of a plan sheet.
+fn sheet_line(text: &[u8]) -> Option<&[u8]>
+    ensures { option_copied result ≡ find is_sheet_line (cut 10 text.now) }
+{
+    text.split(|b| *b == b'\n').find(|line| is_sheet_line(line))
+}
+
+// Whether a line begins as one of a plan sheet does.
+fn is_sheet_line(line: &[u8]) -> bool
+    ensures { result ≡ is_sheet_line line.now }
+{
+    line.starts_with(b"bin = ") || line.starts_with(b"pcn = ") || line.starts_with(b"[tiers]")
 }
 
 /// Whether the text begins with the byte order mark of UTF-8.
-pub(crate) fn has_mark(text: &[u8]) -> bool {
+pub(crate) fn has_mark(text: &[u8]) -> bool
+    ensures { result ≡ has_mark text.now }
+{
     text.starts_with(b"\xEF\xBB\xBF")
 }

@@ -58,8 +58,8 @@ impl Place {
     }
 }
 
-// How many records begin before a byte: the number of the record that begins there, the header's being 0.
-fn starts_before(text: &[u8], byte: u64) -> u64
+/// How many records begin before a byte: the number of the record that begins there, the header's being 0.
+pub(crate) fn starts_before(text: &[u8], byte: u64) -> u64
     ensures { result ≡ starts_before text.now byte }
 {
     let before = front(text, byte as usize);

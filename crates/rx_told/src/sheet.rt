@@ -1,5 +1,6 @@
-ghost use Rattle.std.specs.Prelude.{◌≡◌, IfOk};
+ghost use Rattle.std.specs.Prelude.{◌≡◌, ◌++◌, [], IfOk, string_bytes};
 ghost use Rattle.rx_told.specs.Places.{IsSheetPlace};
+ghost use Rattle.rx_told.specs.SheetTexts.{TellsMissing, TellsOfSheet, missing_text, unread_sheet_text, wrong_text};
 ghost use Rattle.rx_told.specs.declared.place.Place.{Place};
 
 use crate::looks::looks_like;
@@ -24,7 +25,8 @@ use toml::{Table, Value};
 ///
 /// Memory alone.
 pub fn sheet_words(alloc: Global, fault: SheetFault, text: &[u8]) -> Result<Words, Memory>
-    ensures { IfOk result (λ words. IsSheetPlace fault words.place) }
+    ensures place { IfOk result (λ words. IsSheetPlace fault words.place) }
+    ensures text { IfOk result (λ words. TellsOfSheet fault (string_bytes words.text)) }
 {
     match fault {
         SheetFault::NotToml => not_toml(alloc, text),
@@ -43,15 +45,24 @@ pub fn sheet_words(alloc: Global, fault: SheetFault, text: &[u8]) -> Result<Word
 ///
 /// Memory alone.
 pub fn unread_sheet_words(alloc: Global, fault: SheetFault) -> Result<Words, Memory>
-    ensures { IfOk result (λ words. words.place ≡ Place.Whole) }
+    ensures place { IfOk result (λ words. words.place ≡ Place.Whole) }
+    ensures text { IfOk result (λ words. string_bytes words.text ≡ unread_sheet_text fault) }
+    ensures mend { IfOk result (λ words. words.mend.now ≡ []) }
 {
-    let text = match fault {
-        SheetFault::NotToml => said(alloc, "not TOML")?,
-        SheetFault::Missing(key) => missing_key(alloc, key)?,
-        SheetFault::Wrong(key) => wrong_key(alloc, key)?,
-        SheetFault::Memory => said(alloc, "more memory was wanted than there is")?,
-    };
+    let text = unread_text(alloc, fault)?;
     Ok(Words::new(Place::Whole, text))
+}
+
+// What is said where the text isn't known.
+fn unread_text(alloc: Global, fault: SheetFault) -> Result<String, AllocError>
+    ensures { IfOk result (λ said. string_bytes said ≡ unread_sheet_text fault) }
+{
+    match fault {
+        SheetFault::NotToml => said(alloc, "not TOML"),
+        SheetFault::Missing(key) => missing_key(alloc, key),
+        SheetFault::Wrong(key) => wrong_key(alloc, key),
+        SheetFault::Memory => said(alloc, "more memory was wanted than there is"),
+    }
 }
 
 // The words of a text that is no TOML.
@@ -111,7 +122,9 @@ fn place_at(text: &[u8], bytes: usize) -> (Place, &[u8]) {
 }
 
 // What is said of a key that isn't there.
-fn missing(alloc: Global, key: SheetKey, text: &[u8]) -> Result<String, Memory> {
+fn missing(alloc: Global, key: SheetKey, text: &[u8]) -> Result<String, Memory>
+    ensures { IfOk result (λ said. TellsMissing key (string_bytes said)) }
+{
     let Some(sheet) = tree_of(alloc, text)? else {
         return Ok(missing_key(alloc, key)?);
     };
@@ -121,16 +134,24 @@ fn missing(alloc: Global, key: SheetKey, text: &[u8]) -> Result<String, Memory> 
     }
 }
 
-fn missing_key(alloc: Global, key: SheetKey) -> Result<String, AllocError> {
-    let name = name_of(key);
-    let wanted = wanted_at(key);
-    format!(in alloc; "{name} is missing: {wanted}")
+fn missing_key(alloc: Global, key: SheetKey) -> Result<String, AllocError>
+    ensures { IfOk result (λ said. string_bytes said ≡ missing_text key) }
+{
+    key_words(alloc, name_of(key), " is missing: ", wanted_at(key))
 }
 
-fn wrong_key(alloc: Global, key: SheetKey) -> Result<String, AllocError> {
-    let name = name_of(key);
-    let wanted = wanted_at(key);
-    format!(in alloc; "{name} is wrong: {wanted}")
+fn wrong_key(alloc: Global, key: SheetKey) -> Result<String, AllocError>
+    ensures { IfOk result (λ said. string_bytes said ≡ wrong_text key) }
+{
+    key_words(alloc, name_of(key), " is wrong: ", wanted_at(key))
+}
+
+// A key, what is wrong with it, and what is wanted.
+#[tactic(auto, using(std::proofs::Common::append_assoc))]
+fn key_words(alloc: Global, name: &str, wrong: &str, wanted: &str) -> Result<String, AllocError>
+    ensures { IfOk result (λ said. string_bytes said ≡ name.now ++ (wrong.now ++ wanted.now)) }
+{
+    format!(in alloc; "{name}{wrong}{wanted}")
 }
 
 // The table that the text stands for; None where it isn't TOML any more.

@@ -1,7 +1,14 @@
+ghost use Rattle.std.specs.Prelude.{◌≡◌};
+ghost use Rattle.rx_sheet.specs.Names.{name_of};
+ghost use Rattle.rx_told.specs.SheetTexts.{wanted_at};
+
 use rx_ledger::SheetKey;
 
 /// How a key is written.
-pub(crate) fn name_of(key: SheetKey) -> &'static str {
+#[tactic(auto, unfolding(rx_sheet::specs::Names::name_of))]
+pub(crate) fn name_of(key: SheetKey) -> &'static str
+    ensures { result.now ≡ name_of key }
+{
     match key {
         SheetKey::Bin => "bin",
         SheetKey::Pcn => "pcn",
@@ -21,7 +28,10 @@ pub(crate) fn name_of(key: SheetKey) -> &'static str {
 }
 
 /// What is wanted under a key.
-pub(crate) fn wanted_at(key: SheetKey) -> &'static str {
+#[tactic(auto, unfolding(crate::specs::SheetTexts::wanted_at))]
+pub(crate) fn wanted_at(key: SheetKey) -> &'static str
+    ensures { result.now ≡ wanted_at key }
+{
     match key {
         SheetKey::Bin => "6 digits in quotes are wanted, as \"900001\"",
         SheetKey::Pcn => "0 to 10 printable characters in quotes are wanted, as \"RXDEMO\"",

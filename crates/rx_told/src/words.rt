@@ -1,4 +1,4 @@
-ghost use Rattle.std.specs.Prelude.{◌≡◌, ◌++◌, IfOk, string_bytes};
+ghost use Rattle.std.specs.Prelude.{◌≡◌, ◌++◌, [], IfOk, string_bytes};
 ghost use Rattle.rx_told.specs.Lines.{BeginsAt, line_text, mend_text, place_text, record_name};
 
 use crate::place::Place;
@@ -19,7 +19,9 @@ pub struct Words {
 impl Words {
     /// The words of a fault that no one step mends.
     pub(crate) fn new(place: Place, text: String) -> Words
-        ensures { result.place ≡ place }
+        ensures place { result.place ≡ place }
+        ensures text { result.text ≡ text }
+        ensures mend { result.mend.now ≡ [] }
     {
         Words {
             place,
@@ -101,16 +103,18 @@ pub(crate) struct Said {
 
 impl Said {
     /// A text of a fault that no one step mends.
-    pub(crate) fn plain(text: String) -> Said {
+    pub(crate) fn plain(text: String) -> Said
+        ensures text { result.text ≡ text }
+        ensures mend { result.mend.now ≡ [] }
+    {
         Said { text, mend: "" }
     }
 
     /// A text with the command that mends the file.
-    pub(crate) fn mended(
-        alloc: Global,
-        text: &str,
-        mend: &'static str,
-    ) -> Result<Said, AllocError> {
+    pub(crate) fn mended(alloc: Global, text: &str, mend: &'static str) -> Result<Said, AllocError>
+        ensures text { IfOk result (λ said. string_bytes said.text ≡ text.now) }
+        ensures mend { IfOk result (λ said. said.mend.now ≡ mend.now) }
+    {
         let text = String::from_str(alloc, text)?;
         Ok(Said { text, mend })
     }
@@ -119,7 +123,9 @@ impl Said {
 impl Words {
     /// What is said, at its place.
     pub(crate) fn of(place: Place, said: Said) -> Words
-        ensures { result.place ≡ place }
+        ensures place { result.place ≡ place }
+        ensures text { result.text ≡ said.text }
+        ensures mend { result.mend.now ≡ said.mend.now }
     {
         let Said { text, mend } = said;
         Words { place, text, mend }

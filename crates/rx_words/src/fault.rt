@@ -1,7 +1,7 @@
 //! Why there is no command.
 ghost use Rattle.std.specs.Prelude.{◌≡◌, ◌≢◌};
 ghost use Rattle.clap.specs.Words.{kind_of};
-ghost use Rattle.rx_words.specs.Faults.{IsWords, asks_version, memory_fault, number_of, out_of_memory};
+ghost use Rattle.rx_words.specs.Faults.{IsWords, asks_version, memory_fault, number_of, out_of_memory, told_text};
 
 use clap::error::ErrorKind;
 use std::alloc::AllocError;
@@ -81,6 +81,8 @@ impl<W: fmt::Write> fmt::Write for Shown<'_, W> {
 }
 
 impl fmt::Display for WordsFault {
+    ghost output = { told_text };
+
     fn fmt<W: fmt::Write>(&self, f: &mut fmt::Formatter<W>) -> fmt::Result {
         match self {
             WordsFault::Words(Some(told)) => write!(Shown { to: f }, "{told}"),

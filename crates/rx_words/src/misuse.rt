@@ -1,4 +1,7 @@
 //! The faults that are found after `clap`'s, in its form: a text, and the usage of the subcommand.
+ghost use Rattle.std.specs.Prelude.{◌≡◌, IfOk};
+ghost use Rattle.clap.specs.Words.{kind_of};
+ghost use Rattle.rx_words.specs.Faults.{IsMisuse, misuse_of};
 
 use crate::fault::WordsFault;
 use crate::options::text;
@@ -8,17 +11,23 @@ use clap::{ArgMatches, Command as Line};
 use std::alloc::{AllocError, Global};
 
 /// The fault of `run` whose number of workers `clap` lets through though it has a sign.
-pub(crate) fn run_signed(alloc: Global, found: &ArgMatches<'_>) -> WordsFault {
+pub(crate) fn run_signed(alloc: Global, found: &ArgMatches<'_>) -> WordsFault
+    ensures { IsMisuse ErrorKind.ValueValidation result }
+{
     signed(alloc, run(alloc).line(), "rxbatch run", found)
 }
 
 /// The fault of `verify` with such a number.
-pub(crate) fn verify_signed(alloc: Global, found: &ArgMatches<'_>) -> WordsFault {
+pub(crate) fn verify_signed(alloc: Global, found: &ArgMatches<'_>) -> WordsFault
+    ensures { IsMisuse ErrorKind.ValueValidation result }
+{
     signed(alloc, verify(alloc).line(), "rxbatch verify", found)
 }
 
 /// The fault of `explain` that is asked after no thing or more than one.
-pub(crate) fn explain_conflict(alloc: Global) -> WordsFault {
+pub(crate) fn explain_conflict(alloc: Global) -> WordsFault
+    ensures { IsMisuse ErrorKind.ArgumentConflict result }
+{
     let text =
         "one of '--record <PLACE>', '--number <AUTHORIZATION>' and '--rx <REFERENCE>' is wanted, \
                 and '--provider <ID>' only with '--rx'";
@@ -26,7 +35,9 @@ pub(crate) fn explain_conflict(alloc: Global) -> WordsFault {
 }
 
 /// The fault of `report` of more than one portion, or in more than one form.
-pub(crate) fn report_conflict(alloc: Global) -> WordsFault {
+pub(crate) fn report_conflict(alloc: Global) -> WordsFault
+    ensures { IsMisuse ErrorKind.ArgumentConflict result }
+{
     let text =
         "at most one of '--provider <ID>' and '--family <ID>' is taken, and of '--tsv', '--json' and '--html'";
     conflict(report(alloc).line(), "rxbatch report", text)
@@ -37,17 +48,23 @@ fn signed(
     line: Result<Line<'_>, AllocError>,
     program: &str,
     found: &ArgMatches<'_>,
-) -> WordsFault {
+) -> WordsFault
+    ensures { IsMisuse ErrorKind.ValueValidation result }
+{
     let number = text(found, "workers").unwrap_or("");
     fault(told_signed(alloc, line, program, number))
 }
 
 // Of options that exclude or want each other.
-fn conflict(line: Result<Line<'_>, AllocError>, program: &str, text: &str) -> WordsFault {
+fn conflict(line: Result<Line<'_>, AllocError>, program: &str, text: &str) -> WordsFault
+    ensures { IsMisuse ErrorKind.ArgumentConflict result }
+{
     fault(told(line, program, ErrorKind::ArgumentConflict, text))
 }
 
-fn fault(told: Result<clap::Error, AllocError>) -> WordsFault {
+fn fault(told: Result<clap::Error, AllocError>) -> WordsFault
+    ensures { result ≡ misuse_of told }
+{
     match told {
         Ok(told) => WordsFault::Words(Some(told)),
         Err(_) => WordsFault::Memory,
@@ -59,7 +76,9 @@ fn told_signed(
     line: Result<Line<'_>, AllocError>,
     program: &str,
     number: &str,
-) -> Result<clap::Error, AllocError> {
+) -> Result<clap::Error, AllocError>
+    ensures { IfOk result (λ told. kind_of told ≡ ErrorKind.ValueValidation) }
+{
     let text = format!(in alloc;
         "invalid value '{number}' for '--workers <N>': a number is digits alone"
     )?;
@@ -71,7 +90,9 @@ fn told(
     program: &str,
     kind: ErrorKind,
     text: &str,
-) -> Result<clap::Error, AllocError> {
+) -> Result<clap::Error, AllocError>
+    ensures { IfOk result (λ told. kind_of told ≡ kind) }
+{
     let mut line = line?.bin_name(program)?;
     line.error(kind, text)
 }

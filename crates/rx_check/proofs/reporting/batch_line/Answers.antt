@@ -8,5 +8,5 @@ returns-in_ok-batch_words-in-Some-Some c =
     let given = c.in-Some-Some in
     let words = c.in_ok-batch_words-in-Some-Some in
     rw (given.is-0, given.is-1)
-    (tells (λ at. at ≡ batch_place given.text.now given.fault) c.args.name.now words.field-0 c.line_of.result words.ensures
+    (tells (λ at. at ≡ batch_place given.text.now given.fault) c.args.name.now words.field-0 c.line_of.result words.ensures.place
     c.line_of.ensures)

@@ -8,4 +8,4 @@ returns-in_ok-books_words-in-Some-Some c =
     let given = c.in-Some-Some in
     let words = c.in_ok-books_words-in-Some-Some in
     rw (given.is-0, given.is-1)
-    (tells (λ at. at ≡ books_place given.fault) c.args.name.now words.field-0 c.line_of.result words.ensures c.line_of.ensures)
+    (tells (λ at. at ≡ books_place given.fault) c.args.name.now words.field-0 c.line_of.result words.ensures.place c.line_of.ensures)

@@ -6,4 +6,4 @@ pub returns-in_ok-sheet_words-in-Some : goal.returns-in_ok-sheet_words-in-Some
 returns-in_ok-sheet_words-in-Some c =
     let words = c.in_ok-sheet_words-in-Some in
     rw c.in-Some.is
-    (tells (IsSheetPlace c.in-Some.fault) c.args.name.now words.field-0 c.line_of.result words.ensures c.line_of.ensures)
+    (tells (IsSheetPlace c.in-Some.fault) c.args.name.now words.field-0 c.line_of.result words.ensures.place c.line_of.ensures)

@@ -1,0 +1,54 @@
+-- Meaning: what is said of faults of a plan sheet: the key, and what is wanted under it.
+use Rattle.std.specs.Prelude.{◌≡◌, ℕ, List, ◌++◌, codes}
+use Rattle.rx_ledger.specs.declared.sheet_key.SheetKey.{SheetKey}
+use Rattle.rx_ledger.specs.declared.sheet_key.SheetKey.TheVariants as key
+use Rattle.rx_sheet.specs.Names.{name_of}
+use Rattle.rx_sheet.specs.declared.fault.SheetFault.{SheetFault}
+use Rattle.rx_sheet.specs.declared.fault.SheetFault.TheVariants as fault
+
+-- what is wanted under each key, in its order
+unfoldable pub wanted_at : SheetKey → List ℕ
+wanted_at key.Bin = codes "6 digits in quotes are wanted, as \"900001\""
+wanted_at key.Pcn = codes "0 to 10 printable characters in quotes are wanted, as \"RXDEMO\""
+wanted_at key.PeriodFirst = codes "8 digits in quotes are wanted, as \"20260101\""
+wanted_at key.PeriodLast = codes "8 digits in quotes are wanted, as \"20261231\""
+wanted_at key.MemberDeductible = codes "whole cents from 0 to 99999999999 are wanted, as 10000"
+wanted_at key.FamilyMaximum = codes "whole cents from 0 to 99999999999 are wanted, as 30000"
+wanted_at key.RefillPercent = codes "a whole number from 0 to 100 is wanted, as 75"
+wanted_at key.MaxDays = codes "a whole number from 1 to 999 is wanted, as 90"
+wanted_at key.Fee = codes "whole cents from 0 to 99999999 are wanted, as 150"
+wanted_at key.Tiers = codes "a table is wanted, as [tiers] with a line 1 = 1000"
+wanted_at key.Drugs = codes "tables are wanted, as [drugs.00001000101] with tier and price"
+wanted_at key.Tier = codes "the name of one of the tiers is wanted in quotes"
+wanted_at key.Price = codes "hundredths of a cent per unit are wanted, a whole number from 0 to 1000000000"
+wanted_at key.FamilyDeductible = codes "whole cents from 0 to 99999999999 are wanted, as 10000"
+
+-- a key that isn't there
+abbrev pub missing_text : SheetKey → List ℕ
+missing_text k = name_of k ++ (codes " is missing: " ++ wanted_at k)
+
+-- a key whose value isn't known
+abbrev pub wrong_text : SheetKey → List ℕ
+wrong_text k = name_of k ++ (codes " is wrong: " ++ wanted_at k)
+
+abbrev pub no_memory_text : List ℕ
+no_memory_text = codes "more memory was wanted than there is"
+
+-- a key of the sheet itself that isn't there; which drug lacks one of its keys, no definition fixes
+abbrev pub TellsMissing : SheetKey → List ℕ → Type 0
+TellsMissing key.Tier said = Unit {0}
+TellsMissing key.Price said = Unit {0}
+TellsMissing k said = said ≡ missing_text k
+
+-- no definition fixes what is said of a text that is no TOML, and of a value
+abbrev pub TellsOfSheet : SheetFault → List ℕ → Type 0
+TellsOfSheet (fault.Missing k) said = TellsMissing k said
+TellsOfSheet fault.Memory said = said ≡ no_memory_text
+TellsOfSheet other said = Unit {0}
+
+-- what is said where the text can't be read again
+abbrev pub unread_sheet_text : SheetFault → List ℕ
+unread_sheet_text fault.NotToml = codes "not TOML"
+unread_sheet_text (fault.Missing k) = missing_text k
+unread_sheet_text (fault.Wrong k) = wrong_text k
+unread_sheet_text fault.Memory = no_memory_text
