@@ -12,7 +12,7 @@
 pub use rx_claim::{
     Amounts, Answer, Answers, Approved, Bill, BillParts, Body, Codes, Echo, EchoParts, Faulty,
     Heard, Outcome, Paid, Pricing, Refused, Rejected, Reply, Reversal, Transaction, Transactions,
-    Transmission,
+    Transmission, TryCopy, copies,
 };
 pub use rx_reply::{ReplyFault, decode_reply, encode, put_reply, read_back};
 pub use rx_request::{HEADER_LENGTH, decode, written_is_heard};

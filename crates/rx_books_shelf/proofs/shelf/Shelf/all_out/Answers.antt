@@ -19,7 +19,8 @@ returns-in_err-key c =
 pub returns-in_err-family : goal.returns-in_err-family
 returns-in_err-family c =
     let s : ShelfParts = shelf_parts c.self.inside.books.books c.self.inside.keys c.self.inside.families in
-    rw (← c.self.view_is, c.from_residual-in_err-family.ensures) (named_out_first s c.args.parcel.now c.keys.result.now c.families.result.now true false
+    rw (← c.self.view_is, c.from_residual-in_err-family.ensures)
+    (named_out_first s c.args.parcel.now c.keys.result.now c.families.result.now true false
     c.keys.ensures.value c.families.ensures.value (c.in_ok-key.ensures ∙ keys_out s.keys c.keys.result.now)
     (c.in_err-family.ensures ∙ families_out s.families c.families.result.now))
 
