@@ -11,6 +11,8 @@ use Rattle.rx_text.specs.Bytes.{all_digits, all_printable}
 use Rattle.rx_told.specs.Looks.{begins, has_mark, looks_like}
 use Rattle.rx_told.specs.Parts.{field_of, line_feeds, line_of}
 use Rattle.rx_told.specs.Quoting.{quoted_text, shown_text}
+use Rattle.rx_told.specs.declared.books_order.LineKind.{LineKind}
+use Rattle.rx_told.specs.declared.books_order.LineKind.TheVariants as kind
 use Rattle.rx_told.specs.declared.words.Said.{Said}
 
 -- what is said of a fault, and the command that mends the file, empty where no one step does
@@ -98,20 +100,24 @@ head_telling text line =
 -- ---- the order of lines
 
 -- the kinds of lines in their order
-abbrev pub rank_of : List ℕ → ℕ
-rank_of line = if begins line (codes "M") then 1 else (if begins line (codes "C") then 2 else 3)
+abbrev pub kind_of : List ℕ → LineKind
+kind_of line = if begins line (codes "M") then kind.Member else (if begins line (codes "C") then kind.Claim else kind.Total)
 
-abbrev pub called : List ℕ → List ℕ
-called line =
-    if begins line (codes "M") then codes "member" else (if begins line (codes "C") then codes "claim" else codes "total")
+abbrev pub rank_of : LineKind → ℕ
+rank_of kind.Member = 1
+rank_of kind.Claim = 2
+rank_of kind.Total = 3
+
+abbrev pub called : LineKind → List ℕ
+called kind.Member = codes "member"
+called kind.Claim = codes "claim"
+called kind.Total = codes "total"
 
 -- in what order the lines of a kind stand, and the command that sorts these lines
-abbrev pub order_of : List ℕ → List ℕ
-order_of line =
-    if begins line (codes "M") then codes "members ascend by family, then person (sort -t'|' -k2,2 -k3,3)"
-    else (if begins line (codes "C")
-    then codes "claims ascend by provider, reference and date (sort -t'|' -k2,2 -k3,3n -k4,4)"
-    else codes "totals ascend by family (sort -t'|' -k2,2)")
+abbrev pub order_of : LineKind → List ℕ
+order_of kind.Member = codes "members ascend by family, then person (sort -t'|' -k2,2 -k3,3)"
+order_of kind.Claim = codes "claims ascend by provider, reference and date (sort -t'|' -k2,2 -k3,3n -k4,4)"
+order_of kind.Total = codes "totals ascend by family (sort -t'|' -k2,2)"
 
 -- the key of a line: family and person, or provider, reference and date, or family
 abbrev pub key_of : List ℕ → List ℕ
@@ -133,10 +139,10 @@ keys_text key before order = if bytes_eq key before then twice_text key order el
 -- a line that stands out of order, and the line above
 unfoldable pub order_text : List ℕ → List ℕ → List ℕ
 order_text line above =
-    if not (rank_of line == rank_of above)
-    then codes "a " ++ (called line ++ (codes " line stands after a " ++ (called above
+    if not (rank_of (kind_of line) == rank_of (kind_of above))
+    then codes "a " ++ (called (kind_of line) ++ (codes " line stands after a " ++ (called (kind_of above)
     ++ codes " line: first come all M, then all C, then all T")))
-    else keys_text (key_of line) (key_of above) (order_of line)
+    else keys_text (key_of line) (key_of above) (order_of (kind_of line))
 
 -- ---- each fault
 

@@ -31,20 +31,6 @@ pub fn books_words(alloc: Global, fault: BooksFault, text: &[u8]) -> Result<Word
     Ok(Words::of(Place::of_books(fault), said))
 }
 
-/// The words of a fault of a books file that can't be read again.
-///
-/// # Errors
-///
-/// Memory alone.
-pub fn unread_books_words(alloc: Global, fault: BooksFault) -> Result<Words, Memory>
-    ensures place { IfOk result (λ words. words.place ≡ books_place fault) }
-    ensures text { IfOk result (λ words. string_bytes words.text ≡ unread_books_text fault) }
-    ensures mend { IfOk result (λ words. words.mend.now ≡ []) }
-{
-    let said = Said::plain(said(alloc, unread_text(fault))?);
-    Ok(Words::of(Place::of_books(fault), said))
-}
-
 // What is said where the text isn't known.
 fn unread_text(fault: BooksFault) -> &'static str
     ensures { result.now ≡ unread_books_text fault }
@@ -60,6 +46,20 @@ fn unread_text(fault: BooksFault) -> &'static str
         BooksFault::TooMuch => "more than 1000000 lines",
         BooksFault::Memory => "more memory was wanted than there is",
     }
+}
+
+/// The words of a fault of a books file that can't be read again.
+///
+/// # Errors
+///
+/// Memory alone.
+pub fn unread_books_words(alloc: Global, fault: BooksFault) -> Result<Words, Memory>
+    ensures place { IfOk result (λ words. words.place ≡ books_place fault) }
+    ensures text { IfOk result (λ words. string_bytes words.text ≡ unread_books_text fault) }
+    ensures mend { IfOk result (λ words. words.mend.now ≡ []) }
+{
+    let said = said(alloc, unread_text(fault))?;
+    Ok(Words::of(Place::of_books(fault), Said::plain(said)))
 }
 
 fn said_of(alloc: Global, fault: BooksFault, text: &[u8]) -> Result<Said, Memory>

@@ -1,5 +1,5 @@
 use crate::books_field::{Field, claim_field, fault_in, member_field, total_field};
-use crate::books_order::called;
+use crate::books_order::LineKind;
 use crate::quoting::{field_of, line_feeds, line_of, quoted};
 use crate::words::Said;
 use rx_books_text::{Version, read_head};
@@ -80,7 +80,7 @@ fn fields_words(alloc: Global, line: &[u8], version: Version) -> Result<String, 
     let count = line.split(|b| *b == b'|').count();
     let wanted = fields_wanted(line, version);
     if count != wanted {
-        let kind = called(line);
+        let kind = LineKind::of(line).name();
         let digit = digit_of(version);
         return format!(in alloc; "{count} fields: a {kind} line of version {digit} has {wanted}");
     }

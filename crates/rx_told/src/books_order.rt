@@ -1,5 +1,5 @@
 ghost use Rattle.std.specs.Prelude.{◌≡◌, ◌-◌, IfOk, string_bytes};
-ghost use Rattle.rx_told.specs.BooksTexts.{after_text, called, key_of, keys_text, order_of, order_text, rank_of, twice_text};
+ghost use Rattle.rx_told.specs.BooksTexts.{after_text, called, key_of, keys_text, kind_of, order_of, order_text, rank_of, twice_text};
 ghost use Rattle.rx_told.specs.Parts.{line_of};
 
 use crate::quoting::{field_of, line_of, shown};
@@ -22,16 +22,17 @@ pub(crate) fn order_words(alloc: Global, text: &[u8], number: u64) -> Result<Str
 fn lines_words(alloc: Global, line: &[u8], above: &[u8]) -> Result<String, AllocError>
     ensures { IfOk result (λ said. string_bytes said ≡ order_text line.now above.now) }
 {
-    if rank_of(line) != rank_of(above) {
-        let one = called(line);
-        let other = called(above);
+    let (kind, kind_above) = (LineKind::of(line), LineKind::of(above));
+    if kind.rank() != kind_above.rank() {
+        let one = kind.name();
+        let other = kind_above.name();
         return format!(in alloc;
             "a {one} line stands after a {other} line: first come all M, then all C, then all T"
         );
     }
     let key = key_of(alloc, line)?;
     let before = key_of(alloc, above)?;
-    keys_words(alloc, key.as_str(), before.as_str(), order_of(line))
+    keys_words(alloc, key.as_str(), before.as_str(), kind.order())
 }
 
 // What is said of a key and the one above it.
@@ -60,42 +61,61 @@ fn after_words(alloc: Global, key: &str, before: &str, order: &str) -> Result<St
     format!(in alloc; "{key} stands after {before}: {order}")
 }
 
-// The kinds of lines in their order.
-fn rank_of(line: &[u8]) -> u8
-    ensures { result ≡ rank_of line.now }
-{
-    if line.starts_with(b"M") {
-        1
-    } else if line.starts_with(b"C") {
-        2
-    } else {
-        3
-    }
+/// What a line behind the head tells of.
+#[derive(Clone, Copy, Debug)]
+pub(crate) enum LineKind {
+    Member,
+    Claim,
+    Total,
 }
 
-/// What a line of this kind is called.
-pub(crate) fn called(line: &[u8]) -> &'static str
-    ensures { result.now ≡ called line.now }
-{
-    if line.starts_with(b"M") {
-        "member"
-    } else if line.starts_with(b"C") {
-        "claim"
-    } else {
-        "total"
+impl LineKind {
+    /// The kind of a line, by its first byte.
+    pub(crate) fn of(line: &[u8]) -> LineKind
+        ensures { result ≡ kind_of line.now }
+    {
+        if line.starts_with(b"M") {
+            LineKind::Member
+        } else if line.starts_with(b"C") {
+            LineKind::Claim
+        } else {
+            LineKind::Total
+        }
     }
-}
 
-// In what order the lines of a kind stand, and the command that sorts these lines.
-fn order_of(line: &[u8]) -> &'static str
-    ensures { result.now ≡ order_of line.now }
-{
-    if line.starts_with(b"M") {
-        "members ascend by family, then person (sort -t'|' -k2,2 -k3,3)"
-    } else if line.starts_with(b"C") {
-        "claims ascend by provider, reference and date (sort -t'|' -k2,2 -k3,3n -k4,4)"
-    } else {
-        "totals ascend by family (sort -t'|' -k2,2)"
+    // Where lines of the kind stand among the others.
+    fn rank(self) -> u8
+        ensures { result ≡ rank_of self }
+    {
+        match self {
+            LineKind::Member => 1,
+            LineKind::Claim => 2,
+            LineKind::Total => 3,
+        }
+    }
+
+    /// What a line of the kind is called.
+    pub(crate) fn name(self) -> &'static str
+        ensures { result.now ≡ called self }
+    {
+        match self {
+            LineKind::Member => "member",
+            LineKind::Claim => "claim",
+            LineKind::Total => "total",
+        }
+    }
+
+    // In what order the lines of the kind stand, and the command that sorts these lines.
+    fn order(self) -> &'static str
+        ensures { result.now ≡ order_of self }
+    {
+        match self {
+            LineKind::Member => "members ascend by family, then person (sort -t'|' -k2,2 -k3,3)",
+            LineKind::Claim => {
+                "claims ascend by provider, reference and date (sort -t'|' -k2,2 -k3,3n -k4,4)"
+            }
+            LineKind::Total => "totals ascend by family (sort -t'|' -k2,2)",
+        }
     }
 }
 
