@@ -4,4 +4,5 @@ pub mod EachExplained
 pub mod Folded
 pub mod Items
 pub mod Listed
+mod Places
 pub mod Replied

@@ -1,6 +1,7 @@
-ghost use Rattle.std.specs.Prelude.{◌≡◌, ◌≤◌, [], IfOk, OnOk, length};
+ghost use Rattle.std.specs.Prelude.{◌≡◌, ◌≤◌, ℕ, List, [], ◌++◌, ◌∷◌, IfOk, OnOk, length, map};
 ghost use Rattle.std.specs.List.{All};
 ghost use Rattle.rx_course.specs.Courses.{IsCourse};
+ghost use Rattle.rx_course.specs.Places.{places_ahead};
 ghost use Rattle.rx_course.specs.Records.{AreAmong};
 ghost use Rattle.rx_fields.specs.declared.limits.TheConstants.{MOST_DETAILS};
 ghost use Rattle.rx_ledger.specs.Fold.{fold_replies};
@@ -39,6 +40,8 @@ pub fn replay(alloc: Global, batch: &Batch<'_>, places: &[u64]) -> Result<Replay
     ensures replies { IfOk result (λ r.
         r.replies.items ≡ fold_replies batch.now.lot batch.now.sheet.now 1 batch.now.asked.now batch.now.opening.now.ledger) }
     ensures explained { IfOk result (λ r. All (λ k. AreAmong batch.now [] k.place k.explanations.items) r.explained.items) }
+    ensures places { IfOk result (λ r.
+        map (λ k. k.place) r.explained.items ≡ places_ahead 0 (length batch.now.asked.now) places.now) }
 {
     let none = Events::of(alloc, &[], &[])?;
     let mut course = begun(alloc, batch)?;
@@ -54,6 +57,7 @@ pub fn replay(alloc: Global, batch: &Batch<'_>, places: &[u64]) -> Result<Replay
 }
 
 // The record at a place that is ahead, explained among no events.
+#[tactic(auto, using(crate::proofs::Places::passed_by, crate::proofs::Places::past_the_last, crate::proofs::Places::explained_too))]
 fn explain_at(
     alloc: Global,
     batch: &Batch<'_>,
@@ -67,8 +71,15 @@ fn explain_at(
     requires explained { All (λ k. AreAmong batch.now [] k.place k.explanations.items) explained.old.items }
     ensures course { OnOk result (IsCourse batch.now course.new) }
     ensures explained { OnOk result (All (λ k. AreAmong batch.now [] k.place k.explanations.items) explained.new.items) }
+    ensures places { (more : List ℕ) → OnOk result (
+        map (λ k. k.place) explained.new.items ++ places_ahead course.new.done (length batch.now.asked.now) more
+        ≡ map (λ k. k.place) explained.old.items
+        ++ places_ahead course.old.done (length batch.now.asked.now) (place ∷ more)) }
 {
-    if place <= course.done as u64 || place > batch.asked.len() as u64 {
+    if place <= course.done as u64 {
+        return Ok(());
+    }
+    if place > batch.asked.len() as u64 {
         return Ok(());
     }
     go_to(alloc, batch, course, (place - 1) as usize)?;
