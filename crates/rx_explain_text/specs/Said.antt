@@ -2,7 +2,7 @@
 use Rattle.std.specs.Prelude.{ℕ, List, codes}
 use Prim.Native.String.{String}
 
--- words as they stand
+-- words as they stand; a proof needn't look at their letters
 unfoldable pub said : List ℕ → List ℕ
 said words = words
 

@@ -4,7 +4,8 @@
 //! let text = rx_explain_text::explanation_text(alloc, lot, sheet.figures(), &explanation, request, None)?;
 //! ```
 //!
-//! What is explained is decided by `rx_explain`; nothing is adjudicated here.
+//! What is explained is decided by `rx_explain`; nothing is adjudicated here. Each text is the one of `specs/Texts.antt`,
+//! `specs/Rejections.antt` or `specs/Json.antt`, byte for byte.
 #![tactic(auto)]
 
 mod code_words;
