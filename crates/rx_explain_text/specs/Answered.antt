@@ -8,7 +8,7 @@ use Rattle.rx_claim.specs.declared.transaction.Transaction.TheVariants.{Bill, Re
 use Rattle.rx_explain.specs.declared.case.Case.{Case}
 use Rattle.rx_explain.specs.declared.case.Case.TheVariants as case
 use Rattle.rx_explain.specs.declared.explanation.Explanation.{Explanation}
-use Rattle.rx_explain_text.specs.Claims.{at_text}
+use Rattle.rx_explain_text.specs.Claims.{at_text, whose_member}
 use Rattle.rx_explain_text.specs.Codes.{named_code, shown}
 use Rattle.rx_explain_text.specs.Dates.{dashed}
 use Rattle.rx_explain_text.specs.Said.{said, say}
@@ -47,8 +47,8 @@ reference_of (Bill b) = Some b.reference
 reference_of (Reverse v) = Some v.reference
 reference_of (Faulty f) = f.reference
 
-unfoldable pub member_text : List ℕ → List ℕ → List ℕ
-member_text family person = say "  family " ++ (shown family ++ (say ", person " ++ shown person))
+abbrev pub member_text : List ℕ → List ℕ → List ℕ
+member_text family person = whose_member (codes "  family ") (codes ", person ") family person
 
 -- the family and the person of a billing, or of the claim that is taken back
 abbrev pub taken_from : Case → List ℕ

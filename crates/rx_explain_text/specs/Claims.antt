@@ -1,5 +1,5 @@
 -- Meaning: how a standing claim is told.
-use Rattle.std.specs.Prelude.{ℕ, List, [], ◌++◌, Option, Some, None}
+use Rattle.std.specs.Prelude.{ℕ, List, [], ◌++◌, Option, Some, None, codes}
 use Rattle.std.specs.Fmt.{decimal}
 use Rattle.rx_explain.specs.declared.at.At.{At}
 use Rattle.rx_explain.specs.declared.case.Case.{Case}
@@ -9,7 +9,7 @@ use Rattle.rx_explain.specs.declared.traced.Source.TheVariants.{Opening, Record}
 use Rattle.rx_explain.specs.declared.traced.Traced.{Traced}
 use Rattle.rx_explain_text.specs.Codes.{shown}
 use Rattle.rx_explain_text.specs.Dates.{dashed}
-use Rattle.rx_explain_text.specs.Said.{say}
+use Rattle.rx_explain_text.specs.Said.{said, say}
 
 -- the place of a transaction, as 2.1
 unfoldable pub at_text : At → List ℕ
@@ -28,14 +28,15 @@ end_text (Some at) = say "; taken back by " ++ at_text at
 unfoldable pub source_text : Traced → List ℕ
 source_text t = from_text t.source ++ (end_text t.taken_back ++ say ")")
 
-unfoldable pub for_text : List ℕ → List ℕ → List ℕ
-for_text family person = say " for " ++ (shown family ++ (say "/" ++ shown person))
+-- a person of a family, with the words before and between
+unfoldable pub whose_member : List ℕ → List ℕ → List ℕ → List ℕ → List ℕ
+whose_member before between family person = said before ++ (shown family ++ (said between ++ shown person))
 
 -- prescription, date, pharmacy, whose it is, and where it comes from
 unfoldable pub traced_text : Traced → List ℕ
 traced_text t =
     say "rx " ++ (decimal t.row.key.reference ++ (say " of " ++ (dashed t.row.key.date
-    ++ (say " at " ++ (shown t.row.key.provider ++ (for_text t.row.family t.row.person ++ source_text t))))))
+    ++ (say " at " ++ (shown t.row.key.provider ++ (whose_member (codes " for ") (codes "/") t.row.family t.row.person ++ source_text t))))))
 
 -- the claim that decided a case; one that this transaction takes back is taken back by no later one
 abbrev pub as_decided : Case → Traced → Traced

@@ -157,12 +157,20 @@ paid_lines figures e b p =
     cost_line b p ++ (fee_line figures b p ++ (allowed_line b p ++ (accumulator_lines figures e.counted.items b p
     ++ payment_lines p)))
 
-abbrev pub lines_of_case : Case → Figures → Explanation → BillParts → List ℕ
-lines_of_case (case.Payable p) figures e b = paid_lines figures e b p
-lines_of_case other figures e b = []
+-- the billing that is paid, and its payment
+abbrev pub payment_in : BillParts → Case → Option (BillParts × Payment)
+payment_in b (case.Payable p) = Some (b, p)
+payment_in b other = None
 
--- of a claim that is paid; nothing of another
+abbrev pub payment_of : Transaction → Case → Option (BillParts × Payment)
+payment_of (Bill b) c = payment_in b c
+payment_of (Reverse v) c = None
+payment_of (Faulty f) c = None
+
+-- what is told of a claim that is paid; nothing of another
+abbrev pub if_paid : (BillParts → Payment → List ℕ) → Option (BillParts × Payment) → List ℕ
+if_paid told None = []
+if_paid told (Some p) = told p.0 p.1
+
 abbrev pub figure_lines : Transaction → Figures → Explanation → List ℕ
-figure_lines (Bill b) figures e = lines_of_case e.case figures e b
-figure_lines (Reverse v) figures e = []
-figure_lines (Faulty f) figures e = []
+figure_lines t figures e = if_paid (paid_lines figures e) (payment_of t e.case)

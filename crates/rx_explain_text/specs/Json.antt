@@ -25,6 +25,7 @@ use Rattle.rx_explain.specs.declared.traced.Source.TheVariants.{Opening, Record}
 use Rattle.rx_explain.specs.declared.traced.Traced.{Traced}
 use Rattle.rx_explain_text.specs.Claims.{as_decided}
 use Rattle.rx_explain_text.specs.Dates.{dashed}
+use Rattle.rx_explain_text.specs.Figures.{if_paid, payment_of}
 use Rattle.rx_explain_text.specs.Reasons.{days_between}
 use Rattle.rx_explain_text.specs.RequestField.{field_bytes, field_number}
 use Rattle.rx_explain_text.specs.Said.{said, say}
@@ -295,15 +296,9 @@ counted_json ts = list_member (codes "counted") traced_json ts
 unfoldable pub payable_json : Figures → Explanation → BillParts → Payment → List ℕ
 payable_json figures e b p = price_json figures b p ++ (workings_json figures p ++ counted_json e.counted.items)
 
-abbrev pub figures_of_case : Case → Figures → Explanation → BillParts → List ℕ
-figures_of_case (case.Payable p) figures e b = payable_json figures e b p
-figures_of_case other figures e b = []
-
 -- of a claim that is paid; nothing of another
 abbrev pub figures_json : Transaction → Figures → Explanation → List ℕ
-figures_json (Bill b) figures e = figures_of_case e.case figures e b
-figures_json (Reverse v) figures e = []
-figures_json (Faulty f) figures e = []
+figures_json t figures e = if_paid (payable_json figures e) (payment_of t e.case)
 
 -- ---- the object
 

@@ -1,9 +1,9 @@
 ghost use Rattle.std.specs.Prelude.{◌≡◌, ◌+◌, ◌++◌, OnOk};
-ghost use Rattle.std.specs.Option.{unwrap_or};
+ghost use Rattle.std.specs.Option.{option_map, unwrap_or};
 ghost use Rattle.rx_explain_text.specs.Figures.{accumulator_lines, allowed_line, charge_text, coinsurance_line, copay_line};
 ghost use Rattle.rx_explain_text.specs.Figures.{cost_line, counted_line, counted_lines, counted_of, cut_text};
 ghost use Rattle.rx_explain_text.specs.Figures.{family_left_lines, family_lines, fee_line, figure_lines, labelled, left_lines};
-ghost use Rattle.rx_explain_text.specs.Figures.{less_text, paid_lines, payer_lines, payment_lines, pays_line, priced_text};
+ghost use Rattle.rx_explain_text.specs.Figures.{less_text, paid_lines, payer_lines, payment_lines, payment_of, pays_line, priced_text};
 ghost use Rattle.rx_explain_text.specs.Figures.{share_line, submitted_text};
 
 use crate::page::Page;
@@ -18,6 +18,16 @@ const LABEL: usize = 26;
 
 const AMOUNT: usize = 14;
 
+/// The billing that is paid, and its payment; None of another transaction.
+pub(crate) fn paid(explanation: &Explanation) -> Option<(&Bill, &Payment)>
+    ensures { option_map (λ p. (p.0.now, p.1.now)) result ≡ payment_of explanation.now.transaction explanation.now.case }
+{
+    match (&explanation.transaction, &explanation.case) {
+        (Transaction::Bill(bill), Case::Payable(payment)) => Some((bill, payment)),
+        _ => None,
+    }
+}
+
 /// The figures of a claim that is paid, a line each, with where each comes from; nothing of another.
 pub(crate) fn put_figures(
     page: &mut Page,
@@ -27,11 +37,9 @@ pub(crate) fn put_figures(
     ensures { OnOk result (page.new.bytes.items
         ≡ page.old.bytes.items ++ figure_lines explanation.now.transaction figures.now explanation.now) }
 {
-    match (&explanation.transaction, &explanation.case) {
-        (Transaction::Bill(bill), Case::Payable(payment)) => {
-            put_paid(page, figures, explanation, bill, payment)
-        }
-        _ => Ok(()),
+    match paid(explanation) {
+        Some((bill, payment)) => put_paid(page, figures, explanation, bill, payment),
+        None => Ok(()),
     }
 }
 

@@ -10,7 +10,7 @@ use crate::codes::{put_codes, put_named};
 use crate::compared::Compared;
 use crate::figures::put_figures;
 use crate::page::Page;
-use crate::reasons::put_reason;
+use crate::reasons::{put_member, put_reason};
 use crate::request_field::field_bytes;
 use rx_claim::{Answer, Bill, Rejected, Transaction};
 use rx_escape::Style;
@@ -199,26 +199,18 @@ fn put_whose(page: &mut Page, transaction: &Transaction, case: &Case) -> Result<
 {
     match (transaction, case) {
         (Transaction::Bill(bill), _) => put_billed(page, bill),
-        (_, Case::TakenBack(row)) => put_member(page, &row.family, &row.person),
+        (_, Case::TakenBack(row)) => {
+            put_member(page, "  family ", ", person ", &row.family, &row.person)
+        }
         _ => Ok(()),
     }
 }
 
-#[tactic(auto, using(std::proofs::Common::append_assoc), unfolding(crate::specs::Answered::member_text))]
 fn put_billed(page: &mut Page, bill: &Bill) -> Result<(), AllocError>
     ensures { OnOk result (page.new.bytes.items ≡ page.old.bytes.items ++ member_text bill.now.family bill.now.person) }
 {
-    put_member(page, &bill.parts().family, &bill.parts().person)
-}
-
-#[tactic(auto, using(std::proofs::Common::append_assoc), unfolding(crate::specs::Answered::member_text))]
-fn put_member(page: &mut Page, family: &Id, person: &Person) -> Result<(), AllocError>
-    ensures { OnOk result (page.new.bytes.items ≡ page.old.bytes.items ++ member_text family.now person.now) }
-{
-    page.say("  family ")?;
-    page.escaped(Style::Terminal, family.bytes())?;
-    page.say(", person ")?;
-    page.escaped(Style::Terminal, person.bytes())
+    let parts = bill.parts();
+    put_member(page, "  family ", ", person ", &parts.family, &parts.person)
 }
 
 // What a response file has at the place of the record, where one was looked at.

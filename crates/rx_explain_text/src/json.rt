@@ -1,8 +1,7 @@
 ghost use Rattle.std.specs.Prelude.{◌≡◌, ◌++◌, IfOk, OnOk, option_map};
-ghost use Rattle.std.specs.List.{flat_map};
 ghost use Rattle.std.specs.Option.{unwrap_or};
-ghost use Rattle.rx_explain_text.specs.Json.{accumulators_json, after_comma, amounts_json, answer_json, approved_json};
-ghost use Rattle.rx_explain_text.specs.Json.{asked_json, at_member, between_commas, bill_json, bytes_json, bytes_member};
+ghost use Rattle.rx_explain_text.specs.Json.{accumulators_json, amounts_json, answer_json, approved_json};
+ghost use Rattle.rx_explain_text.specs.Json.{asked_json, at_member, bill_json, bytes_json, bytes_member};
 ghost use Rattle.rx_explain_text.specs.Json.{case_json, charge_json, code_json, codes_json, compared_json, counted_json};
 ghost use Rattle.rx_explain_text.specs.Json.{coverage_json, day_member, decided_code, decided_json, decider_json, due_json};
 ghost use Rattle.rx_explain_text.specs.Json.{end_json, explanation_object, family_json, family_left_json, field_json};
@@ -15,6 +14,8 @@ ghost use Rattle.rx_explain_text.specs.RequestField.{field_number};
 
 use crate::code_words::{case_name, name, wanted};
 use crate::compared::Compared;
+use crate::figures::paid;
+use crate::json_list::{Decided, Spoken, Standing, put_list};
 use crate::page::Page;
 use crate::reasons::{as_decided, days_between};
 use crate::request_field::{field_bytes, field_name};
@@ -247,42 +248,11 @@ fn put_refusal(
 fn put_decided(page: &mut Page, codes: &[Code]) -> Result<(), AllocError>
     ensures { OnOk result (page.new.bytes.items ≡ page.old.bytes.items ++ decided_json codes.now) }
 {
-    put_name(page, "codes")?;
-    page.say("[")?;
-    put_each_decided(page, codes)?;
-    page.say("]")
-}
-
-#[tactic(auto, using(std::proofs::Common::append_assoc))]
-fn put_each_decided(page: &mut Page, codes: &[Code]) -> Result<(), AllocError>
-    ensures { OnOk result (page.new.bytes.items ≡ page.old.bytes.items ++ between_commas decided_code codes.now) }
-{
-    let [first, others @ ..] = codes else {
-        return Ok(());
-    };
-    put_decided_code(page, *first)?;
-    put_others_decided(page, others)
-}
-
-fn put_others_decided(page: &mut Page, codes: &[Code]) -> Result<(), AllocError>
-    ensures { OnOk result (page.new.bytes.items ≡ page.old.bytes.items ++ flat_map (after_comma decided_code) codes.now) }
-{
-    for code in codes {
-        put_another_decided(page, *code)?;
-    }
-    Ok(())
-}
-
-#[tactic(auto, using(std::proofs::Common::append_assoc))]
-fn put_another_decided(page: &mut Page, code: Code) -> Result<(), AllocError>
-    ensures { OnOk result (page.new.bytes.items ≡ page.old.bytes.items ++ after_comma decided_code code) }
-{
-    page.say(",")?;
-    put_decided_code(page, code)
+    put_list(page, "codes", &Decided, codes)
 }
 
 #[tactic(auto, using(std::proofs::Common::append_assoc), unfolding(crate::specs::Json::decided_code))]
-fn put_decided_code(page: &mut Page, code: Code) -> Result<(), AllocError>
+pub(crate) fn put_decided_code(page: &mut Page, code: Code) -> Result<(), AllocError>
     ensures { OnOk result (page.new.bytes.items ≡ page.old.bytes.items ++ decided_code code) }
 {
     put_front(page, code)?;
@@ -304,53 +274,16 @@ fn put_front(page: &mut Page, code: Code) -> Result<(), AllocError>
 fn put_codes(page: &mut Page, codes: &[Code], request: &[u8], nth: u64) -> Result<(), AllocError>
     ensures { OnOk result (page.new.bytes.items ≡ page.old.bytes.items ++ codes_json request.now nth codes.now) }
 {
-    put_name(page, "codes")?;
-    page.say("[")?;
-    put_each_code(page, codes, request, nth)?;
-    page.say("]")
-}
-
-#[tactic(auto, using(std::proofs::Common::append_assoc))]
-fn put_each_code(
-    page: &mut Page,
-    codes: &[Code],
-    request: &[u8],
-    nth: u64,
-) -> Result<(), AllocError>
-    ensures { OnOk result (page.new.bytes.items ≡ page.old.bytes.items ++ between_commas (code_json request.now nth) codes.now) }
-{
-    let [first, others @ ..] = codes else {
-        return Ok(());
-    };
-    put_code(page, *first, request, nth)?;
-    put_other_codes(page, others, request, nth)
-}
-
-fn put_other_codes(
-    page: &mut Page,
-    codes: &[Code],
-    request: &[u8],
-    nth: u64,
-) -> Result<(), AllocError>
-    ensures { OnOk result (page.new.bytes.items
-        ≡ page.old.bytes.items ++ flat_map (after_comma (code_json request.now nth)) codes.now) }
-{
-    for code in codes {
-        put_another_code(page, *code, request, nth)?;
-    }
-    Ok(())
-}
-
-#[tactic(auto, using(std::proofs::Common::append_assoc))]
-fn put_another_code(page: &mut Page, code: Code, request: &[u8], nth: u64) -> Result<(), AllocError>
-    ensures { OnOk result (page.new.bytes.items ≡ page.old.bytes.items ++ after_comma (code_json request.now nth) code) }
-{
-    page.say(",")?;
-    put_code(page, code, request, nth)
+    put_list(page, "codes", &Spoken { request, nth }, codes)
 }
 
 #[tactic(auto, using(std::proofs::Common::append_assoc), unfolding(crate::specs::Json::code_json))]
-fn put_code(page: &mut Page, code: Code, request: &[u8], nth: u64) -> Result<(), AllocError>
+pub(crate) fn put_code(
+    page: &mut Page,
+    code: Code,
+    request: &[u8],
+    nth: u64,
+) -> Result<(), AllocError>
     ensures { OnOk result (page.new.bytes.items ≡ page.old.bytes.items ++ code_json request.now nth code) }
 {
     put_front(page, code)?;
@@ -475,23 +408,6 @@ fn put_decider(page: &mut Page, traced: &Traced) -> Result<(), AllocError>
     put_traced(page, traced)
 }
 
-// The steps to the amounts of a claim that is paid, and the claims that count; nothing of another.
-fn put_figures(
-    page: &mut Page,
-    figures: &Figures,
-    explanation: &Explanation,
-) -> Result<(), AllocError>
-    ensures { OnOk result (page.new.bytes.items
-        ≡ page.old.bytes.items ++ figures_json explanation.now.transaction figures.now explanation.now) }
-{
-    match (&explanation.transaction, &explanation.case) {
-        (Transaction::Bill(bill), Case::Payable(payment)) => {
-            put_payable(page, figures, explanation, bill, payment)
-        }
-        _ => Ok(()),
-    }
-}
-
 #[tactic(auto, using(std::proofs::Common::append_assoc), unfolding(crate::specs::Json::payable_json))]
 fn put_payable(
     page: &mut Page,
@@ -506,6 +422,21 @@ fn put_payable(
     put_price(page, figures, bill, payment)?;
     put_workings(page, figures, payment)?;
     put_counted(page, &explanation.counted)
+}
+
+// The steps to the amounts of a claim that is paid, and the claims that count; nothing of another.
+fn put_figures(
+    page: &mut Page,
+    figures: &Figures,
+    explanation: &Explanation,
+) -> Result<(), AllocError>
+    ensures { OnOk result (page.new.bytes.items
+        ≡ page.old.bytes.items ++ figures_json explanation.now.transaction figures.now explanation.now) }
+{
+    match paid(explanation) {
+        Some((bill, payment)) => put_payable(page, figures, explanation, bill, payment),
+        None => Ok(()),
+    }
 }
 
 // What was submitted and what the plan has beside it; the price is in hundredths of a cent.
@@ -623,42 +554,11 @@ fn put_tier(page: &mut Page, share: Share) -> Result<(), AllocError>
 fn put_counted(page: &mut Page, counted: &[Traced]) -> Result<(), AllocError>
     ensures { OnOk result (page.new.bytes.items ≡ page.old.bytes.items ++ counted_json counted.now) }
 {
-    put_name(page, "counted")?;
-    page.say("[")?;
-    put_each_traced(page, counted)?;
-    page.say("]")
-}
-
-#[tactic(auto, using(std::proofs::Common::append_assoc))]
-fn put_each_traced(page: &mut Page, counted: &[Traced]) -> Result<(), AllocError>
-    ensures { OnOk result (page.new.bytes.items ≡ page.old.bytes.items ++ between_commas traced_json counted.now) }
-{
-    let [first, others @ ..] = counted else {
-        return Ok(());
-    };
-    put_traced(page, first)?;
-    put_others_traced(page, others)
-}
-
-fn put_others_traced(page: &mut Page, counted: &[Traced]) -> Result<(), AllocError>
-    ensures { OnOk result (page.new.bytes.items ≡ page.old.bytes.items ++ flat_map (after_comma traced_json) counted.now) }
-{
-    for traced in counted {
-        put_another_traced(page, traced)?;
-    }
-    Ok(())
-}
-
-#[tactic(auto, using(std::proofs::Common::append_assoc))]
-fn put_another_traced(page: &mut Page, traced: &Traced) -> Result<(), AllocError>
-    ensures { OnOk result (page.new.bytes.items ≡ page.old.bytes.items ++ after_comma traced_json traced.now) }
-{
-    page.say(",")?;
-    put_traced(page, traced)
+    put_list(page, "counted", &Standing, counted)
 }
 
 #[tactic(auto, using(std::proofs::Common::append_assoc), unfolding(crate::specs::Json::traced_json))]
-fn put_traced(page: &mut Page, traced: &Traced) -> Result<(), AllocError>
+pub(crate) fn put_traced(page: &mut Page, traced: &Traced) -> Result<(), AllocError>
     ensures { OnOk result (page.new.bytes.items ≡ page.old.bytes.items ++ traced_json traced.now) }
 {
     put_row(page, &traced.row)?;
@@ -757,7 +657,7 @@ fn put_text(page: &mut Page, name: &str, text: &[u8]) -> Result<(), AllocError>
 
 // A name behind the comma that ends the member before.
 #[tactic(auto, using(std::proofs::Common::append_assoc), unfolding(crate::specs::Json::named))]
-fn put_name(page: &mut Page, name: &str) -> Result<(), AllocError>
+pub(crate) fn put_name(page: &mut Page, name: &str) -> Result<(), AllocError>
     ensures { OnOk result (page.new.bytes.items ≡ page.old.bytes.items ++ named name.now) }
 {
     page.say(",\"")?;

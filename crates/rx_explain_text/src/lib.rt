@@ -14,6 +14,7 @@ mod compared;
 mod figures;
 mod header;
 mod json;
+mod json_list;
 mod page;
 mod reasons;
 mod request_field;

@@ -1,5 +1,5 @@
 ghost use Rattle.std.specs.Prelude.{◌≡◌, ◌++◌, OnOk};
-ghost use Rattle.rx_explain_text.specs.Claims.{as_decided, end_text, for_text, from_text, source_text, standing_text};
+ghost use Rattle.rx_explain_text.specs.Claims.{as_decided, end_text, from_text, source_text, standing_text, whose_member};
 ghost use Rattle.rx_explain_text.specs.Claims.{traced_text};
 ghost use Rattle.rx_explain_text.specs.Reasons.{bill_reason, coverage_text, covered_text, dated_text, days_between};
 ghost use Rattle.rx_explain_text.specs.Reasons.{earlier_text, ended_text, family_text, open_text, other_text, paid_text};
@@ -339,17 +339,25 @@ pub(crate) fn put_traced(page: &mut Page, traced: &Traced) -> Result<(), AllocEr
     page.day(traced.row.key.date)?;
     page.say(" at ")?;
     page.escaped(Style::Terminal, traced.row.key.provider.bytes())?;
-    put_for(page, &traced.row.family, &traced.row.person)?;
+    put_member(page, " for ", "/", &traced.row.family, &traced.row.person)?;
     put_source(page, traced)
 }
 
-#[tactic(auto, using(std::proofs::Common::append_assoc), unfolding(crate::specs::Claims::for_text))]
-fn put_for(page: &mut Page, family: &Id, person: &Person) -> Result<(), AllocError>
-    ensures { OnOk result (page.new.bytes.items ≡ page.old.bytes.items ++ for_text family.now person.now) }
+/// A person of a family, with the words before and between.
+#[tactic(auto, using(std::proofs::Common::append_assoc), unfolding(crate::specs::Claims::whose_member))]
+pub(crate) fn put_member(
+    page: &mut Page,
+    before: &str,
+    between: &str,
+    family: &Id,
+    person: &Person,
+) -> Result<(), AllocError>
+    ensures { OnOk result (page.new.bytes.items
+        ≡ page.old.bytes.items ++ whose_member before.now between.now family.now person.now) }
 {
-    page.say(" for ")?;
+    page.say(before)?;
     page.escaped(Style::Terminal, family.bytes())?;
-    page.say("/")?;
+    page.say(between)?;
     page.escaped(Style::Terminal, person.bytes())
 }
 
