@@ -36,7 +36,8 @@ whose_member before between family person = said before ++ (shown family ++ (sai
 unfoldable pub traced_text : Traced → List ℕ
 traced_text t =
     say "rx " ++ (decimal t.row.key.reference ++ (say " of " ++ (dashed t.row.key.date
-    ++ (say " at " ++ (shown t.row.key.provider ++ (whose_member (codes " for ") (codes "/") t.row.family t.row.person ++ source_text t))))))
+    ++ (say " at " ++ (shown t.row.key.provider
+    ++ (whose_member (codes " for ") (codes "/") t.row.family t.row.person ++ source_text t))))))
 
 -- the claim that decided a case; one that this transaction takes back is taken back by no later one
 abbrev pub as_decided : Case → Traced → Traced
