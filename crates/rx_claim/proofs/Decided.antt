@@ -64,12 +64,12 @@ pub pricing_decides : (a b : Amounts) → Decides (pricing.eq a b) (a ≡ b)
 pricing_decides a b =
     Decides-like
     (pricing.eq a b)
-    (λ h i. record {
-      ingredient_cost = h.0 i;
-      dispensing_fee = h.1.0 i;
-      deductible = h.1.1.0 i;
-      copay = h.1.1.1.0 i;
-      coinsurance = h.1.1.1.1 i;
+    (λ (ingredient_cost, (dispensing_fee, (deductible, (copay, coinsurance)))) i. record {
+      ingredient_cost = ingredient_cost i;
+      dispensing_fee = dispensing_fee i;
+      deductible = deductible i;
+      copay = copay i;
+      coinsurance = coinsurance i;
     })
     (λ e. (cc, (cc, (cc, (cc, cc)))))
     (Decides-and _ _ (Decides-eqb a.ingredient_cost b.ingredient_cost)
@@ -81,17 +81,38 @@ pub bill_decides : (a b : BillParts) → Decides (bill.eq a b) (a ≡ b)
 bill_decides a b =
     Decides-like
     (bill.eq a b)
-    (λ h i. record {
-      reference = h.0 i;
-      family = h.1.0 i;
-      person = h.1.1.0 i;
-      product = h.1.1.1.0 i;
-      quantity = h.1.1.1.1.0 i;
-      days = h.1.1.1.1.1.0 i;
-      ingredient_cost = h.1.1.1.1.1.1.0 i;
-      dispensing_fee = h.1.1.1.1.1.1.1.0 i;
-      usual_charge = h.1.1.1.1.1.1.1.1.0 i;
-      gross_amount = h.1.1.1.1.1.1.1.1.1 i;
+    (λ (
+      reference,
+      (
+        family,
+        (
+          person,
+          (
+            product,
+            (
+              quantity,
+              (
+                days,
+                (
+                  ingredient_cost,
+                  (dispensing_fee, (usual_charge, gross_amount)),
+                ),
+              ),
+            ),
+          ),
+        ),
+      ),
+    ) i. record {
+      reference = reference i;
+      family = family i;
+      person = person i;
+      product = product i;
+      quantity = quantity i;
+      days = days i;
+      ingredient_cost = ingredient_cost i;
+      dispensing_fee = dispensing_fee i;
+      usual_charge = usual_charge i;
+      gross_amount = gross_amount i;
     })
     (λ e. (cc, (cc, (cc, (cc, (cc, (cc, (cc, (cc, (cc, cc))))))))))
     (Decides-and _ _ (Decides-eqb a.reference b.reference)

@@ -87,15 +87,15 @@ pub figures_decides : (a b : Figures) → Decides (figures.eq a b) (a ≡ b)
 figures_decides a b =
     Decides-like
     (figures.eq a b)
-    (λ h i. record {
-      door = h.0 i;
-      period = h.1.0 i;
-      member_deductible = h.1.1.0 i;
-      family_maximum = h.1.1.1.0 i;
-      refill_percent = h.1.1.1.1.0 i;
-      max_days = h.1.1.1.1.1.0 i;
-      fee = h.1.1.1.1.1.1.0 i;
-      family_deductible = h.1.1.1.1.1.1.1 i;
+    (λ (door, (period, (member_deductible, (family_maximum, (refill_percent, (max_days, (fee, family_deductible))))))) i. record {
+      door = door i;
+      period = period i;
+      member_deductible = member_deductible i;
+      family_maximum = family_maximum i;
+      refill_percent = refill_percent i;
+      max_days = max_days i;
+      fee = fee i;
+      family_deductible = family_deductible i;
     })
     (λ e. (cc, (cc, (cc, (cc, (cc, (cc, (cc, cc))))))))
     (Decides-and _ _ (door_decides a.door b.door)
@@ -168,15 +168,15 @@ pub row_decides : (a b : Row) → Decides (row.eq a b) (a ≡ b)
 row_decides a b =
     Decides-like
     (row.eq a b)
-    (λ h i. record {
-      key = h.0 i;
-      family = h.1.0 i;
-      person = h.1.1.0 i;
-      days = h.1.1.1.0 i;
-      pricing = h.1.1.1.1.0 i;
-      product = h.1.1.1.1.1.0 i;
-      quantity = h.1.1.1.1.1.1.0 i;
-      number = h.1.1.1.1.1.1.1 i;
+    (λ (key, (family, (person, (days, (pricing, (product, (quantity, number))))))) i. record {
+      key = key i;
+      family = family i;
+      person = person i;
+      days = days i;
+      pricing = pricing i;
+      product = product i;
+      quantity = quantity i;
+      number = number i;
     })
     (λ e. (cc, (cc, (cc, (cc, (cc, (cc, (cc, cc))))))))
     (Decides-and _ _ (key_decides a.key b.key)
