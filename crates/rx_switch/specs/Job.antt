@@ -3,15 +3,9 @@ use Rattle.std.specs.Prelude.{◌≡◌, ℕ, List}
 use Rattle.std.specs.List.{flat_map}
 use Rattle.std.specs.Vec.{vec_items}
 use Rattle.rx_batch.specs.Pieces.{StandsFor}
-use Rattle.rx_books_kept.specs.LedgerBooks.{LedgerBooks}
-use Rattle.rx_claim.specs.declared.reply.Reply.{Reply}
-use Rattle.rx_ledger.specs.Fold.{fold_ledger, fold_replies}
-use Rattle.rx_ledger.specs.Ledger.{Ledger}
 use Rattle.rx_switch.specs.declared.accepting.Accepted.{Accepted as AcceptedInputs}
 use Rattle.rx_switch.specs.declared.accepting.BatchFile.{BatchFile}
 use Rattle.rx_switch.specs.declared.accepting.BatchFile.TheVariants as file
-use Rattle.rx_switch.specs.declared.accepting.Given.{Given as GivenInputs}
-use Rattle.rx_switch.specs.declared.adjudicating.Records.{Records}
 use Rattle.rx_switch.specs.declared.job.Job.{Job}
 use Rattle.rx_switch.specs.declared.job.Output.{Output}
 use Rattle.rx_switch.specs.declared.job.OutputPieces.{OutputPieces}
@@ -31,10 +25,6 @@ given_by job =
 abbrev pub given_read : List ℕ → ℕ → List ℕ → List ℕ → List ℕ → Given
 given_read stamp workers sheet books batch =
     record { sheet = sheet; books = books; batch = batch; stamp = stamp; workers = workers }
-
--- the same of inputs that weren't looked at yet, and the batch file's bytes
-abbrev pub given_with : GivenInputs → List ℕ → Given
-given_with given batch = given_read given.stamp.now given.workers given.sheet.now given.books.now batch
 
 abbrev pub texts_in : Output → Texts
 texts_in output =
@@ -69,14 +59,3 @@ accepted_of accepted =
       head = accepted.batch.head;
       details = accepted.batch.details;
     }
-
--- the books after the records, with the totals of the sheet's period, and the replies to them
-abbrev pub books_after : Records → Ledger → LedgerBooks
-books_after records L =
-    record {
-      period = records.sheet.now.figures.period;
-      ledger = fold_ledger records.lot records.sheet.now 1 records.asked.now L;
-    }
-
-abbrev pub replies_to : Records → Ledger → List Reply
-replies_to records L = fold_replies records.lot records.sheet.now 1 records.asked.now L

@@ -2,7 +2,7 @@ ghost use Rattle.std.specs.Prelude.{◌≡◌, ℕ, List, Err, IfErr, IfOk};
 ghost use Rattle.rx_batch.specs.Fault.{UnlessMemory};
 ghost use Rattle.rx_batch.specs.Grammar.{IsFile};
 ghost use Rattle.rx_batch.specs.Reading.{HasFault};
-ghost use Rattle.rx_switch.specs.Job.{HasBytes, accepted_of, given_with};
+ghost use Rattle.rx_switch.specs.Job.{HasBytes, accepted_of, given_read};
 ghost use Rattle.rx_switch.specs.Output.{IsRefused, StandFor, stamp_for};
 
 use crate::adjudicating::parts_of;
@@ -36,16 +36,6 @@ impl BatchFile<'_> {
     }
 }
 
-// What a run is given, before it is looked at.
-#[derive(Drop)]
-pub(crate) struct Given<'a> {
-    pub(crate) workers: u16,
-    pub(crate) stamp: &'a [u8],
-    pub(crate) sheet: &'a [u8],
-    pub(crate) books: &'a [u8],
-    pub(crate) batch: BatchFile<'a>,
-}
-
 // What a run is given, once it is accepted.
 #[derive(Drop)]
 pub(crate) struct Accepted {
@@ -59,23 +49,19 @@ pub(crate) struct Accepted {
 pub(crate) fn accept<R: Threads + Sync>(
     rt: &R,
     alloc: Global,
-    given: Given<'_>,
+    workers: u16,
+    stamp: &[u8],
+    sheet: &[u8],
+    books: &[u8],
+    batch: BatchFile<'_>,
 ) -> Result<Accepted, SwitchFault>
-    ensures accepted { (bytes : List ℕ) → HasBytes given.entry.batch bytes
-        → IfOk result (λ accepted. StandFor (given_with given.entry bytes) (accepted_of accepted)) }
-    ensures refused { (bytes : List ℕ) → HasBytes given.entry.batch bytes
-        → IfErr result (λ fault. IsRefused (given_with given.entry bytes) fault) }
-    ensures words { (fault : SwitchFault) → stamp_for given.entry.workers given.entry.stamp.now ≡ Err fault
-        → result ≡ Err fault }
+    ensures accepted { (bytes : List ℕ) → HasBytes batch.entry bytes → IfOk result (λ accepted.
+        StandFor (given_read stamp.now workers sheet.now books.now bytes) (accepted_of accepted)) }
+    ensures refused { (bytes : List ℕ) → HasBytes batch.entry bytes
+        → IfErr result (λ fault. IsRefused (given_read stamp.now workers sheet.now books.now bytes) fault) }
+    ensures words { (fault : SwitchFault) → stamp_for workers stamp.now ≡ Err fault → result ≡ Err fault }
     ensures no_thread { result ≡ Err SwitchFault.Thread → ⊥ }
 {
-    let Given {
-        workers,
-        stamp,
-        sheet,
-        books,
-        batch,
-    } = given;
     let stamp = stamp_for(workers, stamp)?;
     let sheet = read_sheet(alloc, sheet)?;
     let books = Books::read_in_parts(rt, alloc, parts_of(workers, books.len()), books)?;

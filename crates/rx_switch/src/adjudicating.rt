@@ -1,6 +1,7 @@
 ghost use Rattle.std.specs.Prelude.{◌≡◌, ◌≤◌, IfErr, IfOk, length, true};
 ghost use Rattle.rx_fields.specs.declared.limits.TheConstants.{MOST_DETAILS};
-ghost use Rattle.rx_switch.specs.Job.{accepted_of, books_after, replies_to, texts_in_pieces};
+ghost use Rattle.rx_ledger.specs.Fold.{fold_ledger, fold_replies};
+ghost use Rattle.rx_switch.specs.Job.{accepted_of, texts_in_pieces};
 ghost use Rattle.rx_switch.specs.Output.{IsStopped, texts_of};
 ghost use Rattle.rx_wave.specs.Workers.{are_workers};
 
@@ -40,31 +41,16 @@ pub(crate) struct Manner<'a, G> {
     pub(crate) plain: bool,
 }
 
-/// What the steps beside the adjudication may use.
-#[derive(Drop)]
-pub(crate) struct Means {
-    /// In so many parts decoding, rendering and writing go, beside one another; one part starts no thread.
-    pub(crate) parts: usize,
-    /// A text that isn't needed any more, whose memory is used again.
-    pub(crate) spent: Vec<u8>,
-}
-
-// The records of a batch: what they ask, and the sheet under which they are adjudicated.
-#[derive(Drop)]
-pub(crate) struct Records<'a> {
-    pub(crate) lot: Lot,
-    pub(crate) sheet: &'a Sheet,
-    pub(crate) asked: &'a [Transmission],
-}
-
-/// The texts of adjudicating the details, as if one after another in file order.
+/// The texts of adjudicating the details, as if one after another in file order. Decoding, rendering and writing go in so
+/// many parts beside one another; one part starts no thread. The memory of the spent text is used again.
 #[tactic(auto, using(crate::proofs::Replied::replied))]
 pub(crate) fn adjudicate<R: Threads + Wait + Sync, G: Gate + Sync>(
     rt: &R,
     alloc: Global,
     manner: &Manner<'_, G>,
-    means: Means,
+    parts: usize,
     accepted: Accepted,
+    spent: Vec<u8>,
 ) -> Result<OutputPieces, SwitchFault>
     requires few { length accepted.batch.details ≤ MOST_DETAILS }
     requires workers { are_workers manner.now.workers ≡ true }
@@ -72,7 +58,6 @@ pub(crate) fn adjudicate<R: Threads + Wait + Sync, G: Gate + Sync>(
     ensures stopped { IfErr result (λ fault.
         IsStopped manner.now.plain (G.starts manner.now.gate.now) manner.now.workers fault) }
 {
-    let Means { parts, spent } = means;
     let Accepted {
         stamp,
         sheet,
@@ -83,12 +68,7 @@ pub(crate) fn adjudicate<R: Threads + Wait + Sync, G: Gate + Sync>(
     let details = batch.details.as_slice();
     let asked = decode_in_parts(rt, alloc, parts, sheet.door(), details)?;
     let lot = batch.head.lot();
-    let records = Records {
-        lot,
-        sheet: &sheet,
-        asked: &asked,
-    };
-    let (books, replies) = finish(rt, alloc, manner, &records, books)?;
+    let (books, replies) = finish(rt, alloc, manner, lot, &sheet, books, &asked)?;
     drop(asked);
     let response = response_pieces(rt, alloc, parts, &batch.head, *stamp, details, &replies)?;
     let books = books.write_pieces(rt, alloc, parts, spent)?;
@@ -105,29 +85,35 @@ fn finish<R: Threads + Wait + Sync, G: Gate + Sync>(
     rt: &R,
     alloc: Global,
     manner: &Manner<'_, G>,
-    records: &Records<'_>,
+    lot: Lot,
+    sheet: &Sheet,
     books: Books,
+    asked: &[Transmission],
 ) -> Result<(Books, Vec<Reply>), SwitchFault>
-    requires few { length records.now.asked.now ≤ MOST_DETAILS }
+    requires few { length asked.now ≤ MOST_DETAILS }
     requires workers { are_workers manner.now.workers ≡ true }
-    ensures books { IfOk result (λ finished. finished.0 ≡ books_after records.now books.ledger) }
-    ensures replies { IfOk result (λ finished. finished.1.items ≡ replies_to records.now books.ledger) }
+    ensures books { IfOk result (λ finished. finished.0 ≡ record {
+      period = sheet.now.figures.period;
+      ledger = fold_ledger lot sheet.now 1 asked.now books.ledger;
+    }) }
+    ensures replies { IfOk result (λ finished.
+        finished.1.items ≡ fold_replies lot sheet.now 1 asked.now books.ledger) }
     ensures stopped { IfErr result (λ fault.
         IsStopped manner.now.plain (G.starts manner.now.gate.now) manner.now.workers fault) }
 {
     if manner.plain {
-        return Ok(finish_plainly(alloc, records, &books)?);
+        return Ok(finish_plainly(alloc, lot, sheet, &books, asked)?);
     }
-    let books = books.with_period(alloc, records.sheet.period())?;
+    let books = books.with_period(alloc, sheet.period())?;
     let Finished { books, replies } = run_waves(
         rt,
         alloc,
         manner.gate,
         manner.workers,
-        records.lot,
-        records.sheet,
+        lot,
+        sheet,
         &books,
-        records.asked,
+        asked,
     )?;
     Ok((books, replies))
 }
@@ -135,16 +121,21 @@ fn finish<R: Threads + Wait + Sync, G: Gate + Sync>(
 // The same over plain lists.
 fn finish_plainly(
     alloc: Global,
-    records: &Records<'_>,
+    lot: Lot,
+    sheet: &Sheet,
     books: &Books,
+    asked: &[Transmission],
 ) -> Result<(Books, Vec<Reply>), Memory>
-    requires { length records.now.asked.now ≤ MOST_DETAILS }
-    ensures books { IfOk result (λ finished. finished.0 ≡ books_after records.now books.now.ledger) }
-    ensures replies { IfOk result (λ finished. finished.1.items ≡ replies_to records.now books.now.ledger) }
+    requires { length asked.now ≤ MOST_DETAILS }
+    ensures books { IfOk result (λ finished. finished.0 ≡ record {
+      period = sheet.now.figures.period;
+      ledger = fold_ledger lot sheet.now 1 asked.now books.now.ledger;
+    }) }
+    ensures replies { IfOk result (λ finished.
+        finished.1.items ≡ fold_replies lot sheet.now 1 asked.now books.now.ledger) }
 {
-    let sheet = records.sheet;
     let opening = books.ledger(alloc)?;
-    let (after, replies) = plain_run(alloc, records.lot, sheet, &opening, records.asked)?;
+    let (after, replies) = plain_run(alloc, lot, sheet, &opening, asked)?;
     let books = Books::from_ledger(alloc, &after, sheet.period())?;
     Ok((books, replies))
 }

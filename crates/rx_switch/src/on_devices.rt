@@ -7,8 +7,8 @@ ghost use Rattle.rx_switch.specs.Output.{IsOutput, IsRefused, RefusesOne};
 ghost use Rattle.rx_switch.specs.declared.fault.Device.TheVariants as device;
 ghost use Rattle.rx_switch.specs.declared.fault.IoFault.TheVariants as io;
 
-use crate::accepting::{BatchFile, Given, accept};
-use crate::adjudicating::{Manner, Means, adjudicate, parts_of};
+use crate::accepting::{BatchFile, accept};
+use crate::adjudicating::{Manner, adjudicate, parts_of};
 use crate::devices::{Inputs, Outputs};
 use crate::fault::{IoFault, SwitchFault};
 use crate::inputs::{ReadInputs, read_inputs};
@@ -106,18 +106,12 @@ fn output_of<R: Threads + Wait + Sync, G: Gate + Sync>(
         books,
         batch,
     } = read;
-    let given = Given {
-        workers: manner.workers,
-        stamp,
-        sheet: &sheet,
-        books: &books,
-        batch: BatchFile::Fed(batch),
-    };
-    let accepted = accept(rt, alloc, given)?;
+    let batch = BatchFile::Fed(batch);
+    let accepted = accept(rt, alloc, manner.workers, stamp, &sheet, &books, batch)?;
     let bytes = accepted.batch.details.len().saturating_mul(DETAIL_BYTES);
     let parts = parts_of(manner.workers, books.len().max(bytes));
     let spent = spent_for(alloc, parts, books);
-    adjudicate(rt, alloc, manner, Means { parts, spent }, accepted)
+    adjudicate(rt, alloc, manner, parts, accepted, spent)
 }
 
 // The text whose memory the end books are written over: the opening books' for one part. Several parts are written at

@@ -2,8 +2,8 @@ ghost use Rattle.std.specs.Prelude.{◌≡◌, IfErr, IfOk, Err};
 ghost use Rattle.rx_switch.specs.Job.{given_by, texts_in};
 ghost use Rattle.rx_switch.specs.Output.{IsOutput, IsRefused, RefusesOne, stamp_for};
 
-use crate::accepting::{BatchFile, Given, accept};
-use crate::adjudicating::{Manner, Means, adjudicate, parts_of};
+use crate::accepting::{BatchFile, accept};
+use crate::adjudicating::{Manner, adjudicate, parts_of};
 use crate::fault::SwitchFault;
 use crate::job::{Job, Output};
 use rx_wave::Gate;
@@ -34,23 +34,14 @@ pub fn run<R: Threads + Wait + Sync, G: Gate + Sync>(
     ensures words { (fault : SwitchFault) → stamp_for job.now.workers job.now.stamp.now ≡ Err fault → result ≡ Err fault }
     ensures thread { result ≡ Err SwitchFault.Thread → RefusesOne job.now.plain (G.starts gate.now) job.now.workers }
 {
-    let given = Given {
-        workers: job.workers,
-        stamp: job.stamp,
-        sheet: job.sheet,
-        books: job.books,
-        batch: BatchFile::Bytes(job.batch),
-    };
-    let accepted = accept(rt, alloc, given)?;
+    let (stamp, batch) = (job.stamp, BatchFile::Bytes(job.batch));
+    let accepted = accept(rt, alloc, job.workers, stamp, job.sheet, job.books, batch)?;
     let manner = Manner {
         gate,
         workers: job.workers,
         plain: job.plain,
     };
-    let means = Means {
-        parts: parts_of(job.workers, job.books.len().max(job.batch.len())),
-        spent: Vec::new(alloc),
-    };
-    let pieces = adjudicate(rt, alloc, &manner, means, accepted)?;
+    let parts = parts_of(job.workers, job.books.len().max(job.batch.len()));
+    let pieces = adjudicate(rt, alloc, &manner, parts, accepted, Vec::new(alloc))?;
     Ok(pieces.joined(alloc)?)
 }
