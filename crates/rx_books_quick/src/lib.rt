@@ -23,7 +23,4 @@ mod run;
 mod whole;
 
 pub use lists::Lists;
-pub use reader::{read_lists, read_lists_in_parts};
-
-#[cfg(test)]
-mod tests;
+pub use reader::{read_lists, read_lists_cut, read_lists_in_parts};

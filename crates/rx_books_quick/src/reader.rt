@@ -47,7 +47,7 @@ pub fn read_lists_in_parts<R: Threads + Sync>(
 }
 
 /// The same, where the lines are cut behind the first line feed at or behind each of these places.
-pub(crate) fn read_lists_cut<R: Threads + Sync>(
+pub fn read_lists_cut<R: Threads + Sync>(
     rt: &R,
     alloc: Global,
     places: &[usize],

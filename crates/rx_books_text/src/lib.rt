@@ -34,6 +34,3 @@ pub use printed::Printed;
 pub use reader::read_printed;
 pub use version::Version;
 pub use writing::{put_claim, put_head, put_member, put_total};
-
-#[cfg(test)]
-mod tests;

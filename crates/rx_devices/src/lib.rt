@@ -18,8 +18,6 @@ mod memory;
 mod reading;
 mod sink;
 mod source;
-#[cfg(test)]
-mod tests;
 mod wrapped;
 
 pub use consumer::Consumer;

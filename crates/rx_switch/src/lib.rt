@@ -25,8 +25,6 @@ mod plan;
 mod running;
 mod show;
 mod telling;
-#[cfg(test)]
-mod tests;
 
 pub use devices::{Inputs, Outputs};
 pub use fault::{Device, IoFault, SwitchFault, Told};

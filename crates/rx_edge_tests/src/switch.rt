@@ -1,10 +1,8 @@
 // What no clause says: which refusal a run on devices answers.
 ghost use Rattle.std.specs.Prelude.{◌≡◌, false};
 
-use crate::job::OutputPieces;
-use crate::outputs::write_outputs;
-use crate::{Device, Inputs, IoFault, Outputs, SwitchFault, read_all, run_io};
 use rx_devices::{SliceSource, Source, VecSink};
+use rx_switch::{Device, Inputs, IoFault, Outputs, SwitchFault, read_all, run_io};
 use rx_wave::NoGate;
 use std::alloc::Global;
 use std::sync::Wait;
@@ -84,24 +82,4 @@ fn reads_on_after_a_fault_of_the_batch(rt: HostRuntime) {
     let batch = SliceSource::new(b"X\x02", 1).failing_after(2);
     let (answer, _) = run_on(&rt, rt.alloc(), STAMP, 1, SliceSource::new(b"", 1), batch);
     assert_eq!(rt; answer, Err(IoFault::Read(Device::Batch)));
-}
-
-#[test]
-fn tells_which_output_broke_off(rt: HostRuntime) -> Result<(), Fail> {
-    let output = OutputPieces {
-        response: vec![in rt.alloc(); b"RS".to_vec(rt.alloc())?]?,
-        books: vec![in rt.alloc(); b"B".to_vec(rt.alloc())?, b"K".to_vec(rt.alloc())?]?,
-        settlement: b"ST".to_vec(rt.alloc())?,
-    };
-    let mut sinks = Outputs {
-        response: VecSink::new(rt.alloc(), 1),
-        end_books: VecSink::new(rt.alloc(), 1).failing_after(1),
-        settlement: VecSink::new(rt.alloc(), 1),
-    };
-    let written = write_outputs(&output, &mut sinks);
-    assert_eq!(rt; written, Err(IoFault::Write(Device::EndBooks)));
-    assert_eq!(rt; sinks.response.bytes(), b"RS".as_slice());
-    assert_eq!(rt; sinks.end_books.bytes(), b"B".as_slice());
-    assert!(rt; sinks.settlement.bytes().is_empty());
-    Ok(())
 }

@@ -1,5 +1,5 @@
 // What no clause says: that a reading succeeds, which call of a device fails, and devices that don't tell their bytes.
-use crate::{
+use rx_devices::{
     Consumer, Failed, ReadFault, ReaderSource, SliceSource, Source, VecSink, WriterSink, read_all,
     read_each, write_all, write_pieces,
 };

@@ -1,4 +1,4 @@
-use crate::{
+use rx_books_text::{
     BooksFault, Line, Version, one_reading, put_claim, put_head, put_member, put_total, read_head,
     read_line, read_printed,
 };
