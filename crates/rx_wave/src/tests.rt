@@ -4,7 +4,7 @@ use rx_batch::{Detail, Text};
 use rx_claim::{Body, Transmission};
 use rx_fields::{Code, Door};
 use std::alloc::Global;
-use std::test::Fail;
+use std::process::Abort;
 
 const DOOR: Door = Door {
     bin: *b"900001",
@@ -14,11 +14,16 @@ const DOOR: Door = Door {
 // The base claim, cut behind its header's 55th byte.
 const CUT: &[u8] = b"900001D0B1RXDEMO    1011234567893     20260228         ";
 
-fn detail(alloc: Global, text: &[u8]) -> Result<Detail, Fail> {
-    Ok(Detail {
+// The base claim, cut, behind an empty detail.
+fn details(rt: &impl Abort, alloc: Global) -> [Detail; 2] {
+    [detail(rt, alloc, b""), detail(rt, alloc, CUT)]
+}
+
+fn detail(rt: &impl Abort, alloc: Global, text: &[u8]) -> Detail {
+    Detail {
         reference: *b"0000000001",
-        text: Text::new(text.to_vec(alloc)?),
-    })
+        text: Text::new(text.to_vec(alloc).expect(rt, "memory")),
+    }
 }
 
 // The codes of a header that was rejected; none of one that was heard.
@@ -29,43 +34,39 @@ fn codes(transmission: &Transmission) -> &[Code] {
     }
 }
 
-#[test]
-fn decodes_in_order(rt: HostRuntime) -> Result<(), Fail> {
-    let alloc = rt.alloc();
-    let details = [detail(alloc, b"")?, detail(alloc, CUT)?];
-    let all = decode_all(&rt, alloc, &DOOR, &details)?;
-    assert_eq!(rt; all.len(), 2);
+// They are the transmissions of the two details, in their order.
+fn are_theirs(rt: &impl Abort, all: &[Transmission]) {
+    let [first, second] = all else {
+        panic!(rt; "two transmissions");
+    };
+    let wrong = [
+        Code::Bin,
+        Code::Version,
+        Code::TransactionCode,
+        Code::ProcessorControlNumber,
+        Code::TransactionCount,
+    ];
+    assert_eq!(rt; codes(first), wrong.as_slice());
     assert_eq!(rt;
-        codes(&all[0]),
-        [
-            Code::Bin,
-            Code::Version,
-            Code::TransactionCode,
-            Code::ProcessorControlNumber,
-            Code::TransactionCount,
-        ]
-        .as_slice()
-    );
-    assert_eq!(rt;
-        codes(&all[1]),
+        codes(second),
         [Code::TransactionCount, Code::Syntax].as_slice()
     );
-    Ok(())
 }
 
 #[test]
-fn decodes_in_parts(rt: HostRuntime) -> Result<(), Fail> {
-    let alloc = rt.alloc();
-    let details = [detail(alloc, b"")?, detail(alloc, CUT)?];
+fn decodes_in_order(rt: HostRuntime) {
+    let details = details(&rt, rt.alloc());
+    let all = decode_all(&rt, rt.alloc(), &DOOR, &details).expect(&rt, "memory");
+    are_theirs(&rt, &all);
+}
+
+#[test]
+fn decodes_in_parts(rt: HostRuntime) {
+    let details = details(&rt, rt.alloc());
     for parts in [1, 2] {
-        let all = decode_in_parts(&rt, alloc, parts, &DOOR, &details)?;
-        assert_eq!(rt; all.len(), 2);
-        assert_eq!(rt;
-            codes(&all[1]),
-            [Code::TransactionCount, Code::Syntax].as_slice()
-        );
+        let all = decode_in_parts(&rt, rt.alloc(), parts, &DOOR, &details).expect(&rt, "memory");
+        are_theirs(&rt, &all);
     }
-    Ok(())
 }
 
 #[test]

@@ -6,19 +6,19 @@ use super::{desk_of, run_waves, worked_off};
 use crate::craft::{Adjudicates, Craft};
 use crate::gain::{MOST_FOR_A_RECORD, may_gain};
 use crate::in_order::tests::{
-    billing_of, last_years_claim_under, lot, member_of, plain_sheet, status,
+    add_last_years_claim, billing_of, books_of, enroll, id, lot, plain_sheet, same, status,
 };
 use crate::{Finished, Gate, NoGate, RunFault};
 use rx_adjudicate::{Done, Order};
 use rx_books_kept::Books;
 use rx_claim::Transmission;
 use rx_desk::Desk;
-use rx_fields::{Id, Lot, Memory};
+use rx_fields::Memory;
 use rx_ledger::{Ledger, Sheet};
 use std::alloc::Global;
+use std::process::Abort;
 use std::sync::Wait;
 use std::sync::atomic::{AtomicU64, Ordering};
-use std::test::Fail;
 use std::thread;
 use std::thread::Threads;
 
@@ -26,99 +26,107 @@ use std::thread::Threads;
 const TURNS: u64 = 20_000_000;
 
 // One member in each of two families.
-fn families(alloc: Global) -> Result<Ledger, Fail> {
+fn families(rt: &impl Abort, alloc: Global) -> Ledger {
     let mut ledger = Ledger::new(alloc);
-    ledger.add_member(member_of(b"C100", b"01")?)?;
-    ledger.add_member(member_of(b"C200", b"01")?)?;
-    Ok(ledger)
+    enroll(rt, &mut ledger, b"C100", b"01");
+    enroll(rt, &mut ledger, b"C200", b"01");
+    ledger
 }
 
 // The base claim for a family.
-fn claim(alloc: Global, reference: &[u8], family: &[u8]) -> Result<Transmission, Fail> {
-    billing_of(alloc, b"20260228", reference, family, b"01")
+fn claim(rt: &impl Abort, alloc: Global, reference: &[u8], family: &[u8]) -> Transmission {
+    billing_of(rt, alloc, b"20260228", reference, family, b"01")
 }
 
 // The records of the case blocking-gates, which share nothing.
-fn two_records(alloc: Global) -> Result<[Transmission; 2], Fail> {
-    Ok([
-        claim(alloc, b"123", b"C100")?,
-        claim(alloc, b"124", b"C200")?,
-    ])
+fn two_records(rt: &impl Abort, alloc: Global) -> [Transmission; 2] {
+    [
+        claim(rt, alloc, b"123", b"C100"),
+        claim(rt, alloc, b"124", b"C200"),
+    ]
 }
 
 // A fill for each family, and a refill of each on the same day, which is too soon.
-fn four_records(alloc: Global) -> Result<[Transmission; 4], Fail> {
-    Ok([
-        claim(alloc, b"123", b"C100")?,
-        claim(alloc, b"124", b"C200")?,
-        claim(alloc, b"125", b"C200")?,
-        claim(alloc, b"126", b"C100")?,
-    ])
+fn four_records(rt: &impl Abort, alloc: Global) -> [Transmission; 4] {
+    [
+        claim(rt, alloc, b"123", b"C100"),
+        claim(rt, alloc, b"124", b"C200"),
+        claim(rt, alloc, b"125", b"C200"),
+        claim(rt, alloc, b"126", b"C100"),
+    ]
 }
 
-fn run<R: Threads + Wait + Sync, G: Gate + Sync>(
+// What is answered on books of two families.
+fn run<R: Threads + Wait + Sync + Abort, G: Gate + Sync>(
     rt: &R,
     alloc: Global,
     gate: &G,
     workers: u16,
     asked: &[Transmission],
-) -> Result<Result<Finished, RunFault>, Fail> {
-    run_on(rt, alloc, gate, workers, &families(alloc)?, asked)
+) -> Result<Finished, RunFault> {
+    run_on(rt, alloc, gate, workers, &families(rt, alloc), asked)
 }
 
-fn run_on<R: Threads + Wait + Sync, G: Gate + Sync>(
+// What is answered on books of a ledger.
+fn run_on<R: Threads + Wait + Sync + Abort, G: Gate + Sync>(
     rt: &R,
     alloc: Global,
     gate: &G,
     workers: u16,
     ledger: &Ledger,
     asked: &[Transmission],
-) -> Result<Result<Finished, RunFault>, Fail> {
-    if asked.len() > 100 {
-        return Err(Fail::from("too many records"));
-    }
-    let lot = lot()?;
-    let sheet = plain_sheet(alloc)?;
-    match Books::from_ledger(alloc, ledger, sheet.period()) {
-        Ok(books) => Ok(run_waves(rt, alloc, gate, workers, lot, &sheet, &books, asked)),
-        Err(_) => Err(Fail::from("no memory")),
-    }
+) -> Result<Finished, RunFault> {
+    let sheet = plain_sheet(rt, alloc);
+    let books = books_of(rt, alloc, ledger);
+    is_a_job(rt, &sheet, &books, asked);
+    run_waves(rt, alloc, gate, workers, lot(rt), &sheet, &books, asked)
 }
 
-// Whether the records are answered, and each billed once.
-fn is_right<R: Threads + Wait + Sync, G: Gate + Sync>(
+// Books and sheet have one period, and the records are no more than a batch has.
+fn is_a_job(rt: &impl Abort, sheet: &Sheet, books: &Books, asked: &[Transmission])
+    ensures period { books.now.period ≡ sheet.now.figures.period }
+    ensures few { length asked.now ≤ 100_000 }
+{
+    assert!(rt; books.period() == sheet.period(), "one period");
+    assert!(rt; asked.len() <= 100_000, "a batch");
+}
+
+// The records are answered, and each billed once.
+fn is_right<R: Threads + Wait + Sync + Abort, G: Gate + Sync>(
     rt: &R,
     alloc: Global,
     gate: &G,
     workers: u16,
     asked: &[Transmission],
-) -> Result<bool, Fail> {
-    match run(rt, alloc, gate, workers, asked)? {
-        Ok(finished) => is_billed_once(&finished),
-        Err(_) => Err(Fail::from("an answer")),
-    }
+) {
+    let finished = run(rt, alloc, gate, workers, asked).expect(rt, "an answer");
+    is_billed_once(rt, &finished);
 }
 
 // The fault that the records are answered, if it is one.
-fn fault<R: Threads + Wait + Sync, G: Gate + Sync>(
+fn fault<R: Threads + Wait + Sync + Abort, G: Gate + Sync>(
     rt: &R,
     alloc: Global,
     gate: &G,
     workers: u16,
     asked: &[Transmission],
-) -> Result<Option<RunFault>, Fail> {
-    let answer = run(rt, alloc, gate, workers, asked)?;
-    Ok(answer.err())
+) -> Option<RunFault> {
+    run(rt, alloc, gate, workers, asked).err()
 }
 
-// Whether the first two records are paid, each family has one-billing's share of 13000, and any further one is refused.
-fn is_billed_once(finished: &Finished) -> Result<bool, Fail> {
-    let first = finished.books.out_of_pocket(&Id::new(b"C100", 20)?);
-    let second = finished.books.out_of_pocket(&Id::new(b"C200", 20)?);
-    let are_paid = status(finished, 0) == b'P' && status(finished, 1) == b'P';
-    let is_refused = finished.replies.len() == 2
-        || (status(finished, 2) == b'R' && status(finished, 3) == b'R');
-    Ok(are_paid && is_refused && first == Some(13_000) && second == Some(13_000))
+// The first two records are paid, each family has one-billing's share of 13000, and any further one is refused.
+fn is_billed_once(rt: &impl Abort, finished: &Finished) {
+    same(rt, (status(finished, 0), status(finished, 1)), (b'P', b'P'));
+    if finished.replies.len() != 2 {
+        same(rt, (status(finished, 2), status(finished, 3)), (b'R', b'R'));
+    }
+    for family in [b"C100", b"C200"] {
+        same(
+            rt,
+            finished.books.out_of_pocket(&id(rt, family)),
+            Some(13_000),
+        );
+    }
 }
 
 // Which records a gate holds back on entering.
@@ -211,43 +219,40 @@ impl Gate for Passed {
     }
 }
 
-// Whether the records are answered where the gate holds them back so, and each of these places is passed once.
-fn goes_well<R: Threads + Wait + Sync>(
+// The records are answered where the gate holds them back so, and each of these places is passed once.
+fn goes_well<R: Threads + Wait + Sync + Abort>(
     rt: &R,
     alloc: Global,
     workers: u16,
     holds: Holds,
     asked: &[Transmission],
     places: u64,
-) -> Result<bool, Fail> {
+) {
     let gate = Passed::new(holds);
-    let answered = is_right(rt, alloc, &gate, workers, asked)?;
-    Ok(answered && gate.is_once(places))
+    is_right(rt, alloc, &gate, workers, asked);
+    same(rt, gate.is_once(places), true);
 }
 
 #[test]
-fn a_record_goes_beside_one_that_is_held(rt: HostRuntime) -> Result<(), Fail> {
-    let asked = two_records(rt.alloc())?;
-    assert!(rt; goes_well(&rt, rt.alloc(), 2, Holds::First, &asked, 11)?);
-    Ok(())
+fn a_record_goes_beside_one_that_is_held(rt: HostRuntime) {
+    let asked = two_records(&rt, rt.alloc());
+    goes_well(&rt, rt.alloc(), 2, Holds::First, &asked, 11);
 }
 
 #[test]
-fn two_records_are_out_at_once(rt: HostRuntime) -> Result<(), Fail> {
-    let asked = two_records(rt.alloc())?;
+fn two_records_are_out_at_once(rt: HostRuntime) {
+    let asked = two_records(&rt, rt.alloc());
     for workers in [2, 3, 64] {
-        assert!(rt; goes_well(&rt, rt.alloc(), workers, Holds::Both, &asked, 11)?);
+        goes_well(&rt, rt.alloc(), workers, Holds::Both, &asked, 11);
     }
-    Ok(())
 }
 
 #[test]
-fn each_place_is_passed_once(rt: HostRuntime) -> Result<(), Fail> {
-    let asked = four_records(rt.alloc())?;
+fn each_place_is_passed_once(rt: HostRuntime) {
+    let asked = four_records(&rt, rt.alloc());
     for workers in [1, 2, 3, 64] {
-        assert!(rt; goes_well(&rt, rt.alloc(), workers, Holds::Nobody, &asked, 1_111)?);
+        goes_well(&rt, rt.alloc(), workers, Holds::Nobody, &asked, 1_111);
     }
-    Ok(())
 }
 
 // It refuses to start one worker.
@@ -270,133 +275,101 @@ impl Gate for Without {
 
 // The case refused-thread: each of four workers refused in turn, the second of two, and the one that is no thread.
 #[test]
-fn a_refused_start_is_thread(rt: HostRuntime) -> Result<(), Fail> {
-    let asked = four_records(rt.alloc())?;
-    for worker in 1..5 {
-        assert_eq!(rt;
-            fault(&rt, rt.alloc(), &Without(worker), 4, &asked)?,
-            Some(RunFault::Thread)
-        );
+fn a_refused_start_is_thread(rt: HostRuntime) {
+    let alloc = rt.alloc();
+    let asked = four_records(&rt, alloc);
+    for (worker, workers) in [(1, 4), (2, 4), (3, 4), (4, 4), (2, 2)] {
+        let fault = fault(&rt, alloc, &Without(worker), workers, &asked);
+        same(&rt, fault, Some(RunFault::Thread));
     }
-    assert_eq!(rt;
-        fault(&rt, rt.alloc(), &Without(2), 2, &asked)?,
-        Some(RunFault::Thread)
-    );
-    for worker in 1..3 {
-        assert!(rt; is_right(&rt, rt.alloc(), &Without(worker), 1, &asked)?);
+    for (worker, workers) in [(1, 1), (2, 1), (5, 4)] {
+        is_right(&rt, alloc, &Without(worker), workers, &asked);
     }
-    assert!(rt; is_right(&rt, rt.alloc(), &Without(5), 4, &asked)?);
     // A batch without records, too.
-    assert_eq!(rt;
-        fault(&rt, rt.alloc(), &Without(2), 2, &[])?,
-        Some(RunFault::Thread)
-    );
-    Ok(())
+    let fault = fault(&rt, alloc, &Without(2), 2, &[]);
+    same(&rt, fault, Some(RunFault::Thread));
 }
 
 #[test]
-fn a_gate_that_does_nothing_starts_every_worker(rt: HostRuntime) -> Result<(), Fail> {
-    let asked = two_records(rt.alloc())?;
+fn a_gate_that_does_nothing_starts_every_worker(rt: HostRuntime) {
+    let asked = two_records(&rt, rt.alloc());
     for workers in [2, 4, 64] {
-        assert!(rt; is_right(&rt, rt.alloc(), &NoGate, workers, &asked)?);
+        is_right(&rt, rt.alloc(), &NoGate, workers, &asked);
     }
-    Ok(())
 }
 
 #[test]
-fn workers_are_1_to_64(rt: HostRuntime) -> Result<(), Fail> {
-    let asked = two_records(rt.alloc())?;
+fn workers_are_1_to_64(rt: HostRuntime) {
+    let asked = two_records(&rt, rt.alloc());
     for workers in [0, 65, 65_535] {
-        assert_eq!(rt;
-            fault(&rt, rt.alloc(), &NoGate, workers, &asked)?,
-            Some(RunFault::Workers)
-        );
+        let fault = fault(&rt, rt.alloc(), &NoGate, workers, &asked);
+        same(&rt, fault, Some(RunFault::Workers));
     }
-    Ok(())
 }
 
 // One member with so many claims.
-fn large_family(alloc: Global, claims: u64) -> Result<Ledger, Fail> {
+fn large_family(rt: &impl Abort, alloc: Global, claims: u64) -> Ledger {
     let mut ledger = Ledger::new(alloc);
-    ledger.add_member(member_of(b"C100", b"01")?)?;
+    enroll(rt, &mut ledger, b"C100", b"01");
     for claim in 0..claims {
-        ledger.add_row(last_years_claim_under(claim + 1)?)?;
+        add_last_years_claim(rt, &mut ledger, claim + 1);
     }
-    Ok(ledger)
+    ledger
 }
 
 // A fill and its refill on the same day.
-fn fill_and_refill(alloc: Global) -> Result<[Transmission; 2], Fail> {
-    Ok([
-        claim(alloc, b"123", b"C100")?,
-        claim(alloc, b"124", b"C100")?,
-    ])
+fn fill_and_refill(rt: &impl Abort, alloc: Global) -> [Transmission; 2] {
+    [
+        claim(rt, alloc, b"123", b"C100"),
+        claim(rt, alloc, b"124", b"C100"),
+    ]
 }
 
-fn gains(alloc: Global, ledger: &Ledger, asked: &[Transmission]) -> Result<bool, Fail> {
-    if asked.len() > 100 {
-        return Err(Fail::from("too many records"));
-    }
-    let period = plain_sheet(alloc)?.period();
-    match Books::from_ledger(alloc, ledger, period) {
-        Ok(books) => gains_on(alloc, &books, asked),
-        Err(_) => Err(Fail::from("no memory")),
-    }
+// Whether several workers can gain on the ledger's books.
+fn gains(rt: &impl Abort, alloc: Global, ledger: &Ledger, asked: &[Transmission]) -> bool {
+    let books = books_of(rt, alloc, ledger);
+    is_a_job(rt, &plain_sheet(rt, alloc), &books, asked);
+    may_gain(alloc, &books, asked).expect(rt, "memory")
 }
 
-fn gains_on(alloc: Global, books: &Books, asked: &[Transmission]) -> Result<bool, Fail>
-    requires { length asked.now ≤ 100_000 }
-{
-    Ok(may_gain(alloc, books, asked)?)
-}
-
-// What four workers are answered where one isn't started.
-fn fault_without<R: Threads + Wait + Sync>(
+// The answers to the fill and the refill, and the starts that so many workers' gate was asked for.
+fn starts_asked<R: Threads + Wait + Sync + Abort>(
     rt: &R,
     alloc: Global,
-    worker: usize,
-    ledger: &Ledger,
-    asked: &[Transmission],
-) -> Result<Option<RunFault>, Fail> {
-    let answer = run_on(rt, alloc, &Without(worker), 4, ledger, asked)?;
-    Ok(answer.err())
-}
-
-// How so many workers answer the fill and the refill.
-fn statuses<R: Threads + Wait + Sync>(
-    rt: &R,
-    alloc: Global,
-    gate: &Passed,
     workers: u16,
     ledger: &Ledger,
     asked: &[Transmission],
-) -> Result<(u8, u8), Fail> {
-    match run_on(rt, alloc, gate, workers, ledger, asked)? {
-        Ok(finished) => Ok((status(&finished, 0), status(&finished, 1))),
-        Err(_) => Err(Fail::from("an answer")),
-    }
+) -> u64 {
+    let gate = Passed::new(Holds::Nobody);
+    let finished = run_on(rt, alloc, &gate, workers, ledger, asked).expect(rt, "an answer");
+    same(
+        rt,
+        (status(&finished, 0), status(&finished, 1)),
+        (b'P', b'R'),
+    );
+    same(rt, gate.is_once(11), true);
+    gate.asked.load(Ordering::SeqCst)
 }
 
 // In a family so large that sharing can't gain each start is asked for, and a refused one is Thread, as where the desk
 // answers.
 #[test]
-fn a_job_that_cannot_gain_asks_for_each_start(rt: HostRuntime) -> Result<(), Fail> {
+fn a_job_that_cannot_gain_asks_for_each_start(rt: HostRuntime) {
     let alloc = rt.alloc();
-    let ledger = large_family(alloc, MOST_FOR_A_RECORD)?;
-    let asked = fill_and_refill(alloc)?;
-    assert!(rt; !gains(alloc, &ledger, &asked)?);
+    let ledger = large_family(&rt, alloc, MOST_FOR_A_RECORD);
+    let asked = fill_and_refill(&rt, alloc);
+    same(&rt, gains(&rt, alloc, &ledger, &asked), false);
     for worker in 1..5 {
-        let fault = fault_without(&rt, alloc, worker, &ledger, &asked)?;
-        assert_eq!(rt; fault, Some(RunFault::Thread));
+        let refused = run_on(&rt, alloc, &Without(worker), 4, &ledger, &asked);
+        same(&rt, refused.err(), Some(RunFault::Thread));
     }
     for (workers, starts) in [(1, 0), (2, 12), (4, 1_234)] {
-        let gate = Passed::new(Holds::Nobody);
-        let statuses = statuses(&rt, alloc, &gate, workers, &ledger, &asked)?;
-        assert_eq!(rt; statuses, (b'P', b'R'));
-        assert_eq!(rt; gate.asked.load(Ordering::SeqCst), starts);
-        assert!(rt; gate.is_once(11));
+        same(
+            &rt,
+            starts_asked(&rt, alloc, workers, &ledger, &asked),
+            starts,
+        );
     }
-    Ok(())
 }
 
 // It lacks memory at one place.
@@ -413,83 +386,57 @@ impl Craft for LacksAt {
 }
 
 // The desk of the four records.
-fn desk_of_four(alloc: Global) -> Result<Desk, Fail> {
-    let lot = lot()?;
-    let asked = four_records(alloc)?;
-    let ledger = families(alloc)?;
-    let sheet = plain_sheet(alloc)?;
-    match Books::from_ledger(alloc, &ledger, sheet.period()) {
-        Ok(books) => desk_on(alloc, lot, &sheet, &books, &asked),
-        Err(_) => Err(Fail::from("no memory")),
-    }
+fn desk_of_four(rt: &impl Abort, alloc: Global) -> Desk {
+    let asked = four_records(rt, alloc);
+    let sheet = plain_sheet(rt, alloc);
+    let books = books_of(rt, alloc, &families(rt, alloc));
+    is_a_job(rt, &sheet, &books, &asked);
+    desk_of(alloc, lot(rt), &sheet, &books, &asked).expect(rt, "memory")
 }
 
-fn desk_on(
-    alloc: Global,
-    lot: Lot,
-    sheet: &Sheet,
-    books: &Books,
-    asked: &[Transmission],
-) -> Result<Desk, Fail>
-    requires period { books.now.period ≡ sheet.now.figures.period }
-    requires few { length asked.now ≤ 100_000 }
-{
-    Ok(desk_of(alloc, lot, sheet, books, asked)?)
-}
-
-// Whether the desk answers each family's fill once.
-fn is_closed_right(desk: Desk) -> Result<bool, Fail> {
-    match desk.close() {
-        Ok(finished) => is_billed_once(&finished),
-        Err(_) => Err(Fail::from("the desk's answer")),
-    }
-}
-
-// What workers of this craft meet on the four records; where they meet nothing the desk answers.
-fn met<R: Threads + Wait + Sync>(
+// What workers of this craft meet on the four records; where they meet nothing the desk answers, each family's fill once.
+fn met<R: Threads + Wait + Sync + Abort>(
     rt: &R,
     alloc: Global,
     craft: LacksAt,
     workers: u16,
-) -> Result<Option<RunFault>, Fail>
+) -> Option<RunFault>
     requires { 2 ≤ workers }
 {
-    match worked_off(rt, alloc, &NoGate, &craft, workers, desk_of_four(alloc)?) {
+    match worked_off(rt, alloc, &NoGate, &craft, workers, desk_of_four(rt, alloc)) {
         Ok(desk) => {
-            if !is_closed_right(desk)? {
-                return Err(Fail::from("another answer"));
-            }
-            Ok(None)
+            let finished = desk.close().ok().expect(rt, "the desk's answer");
+            is_billed_once(rt, &finished);
+            None
         }
-        Err(fault) => Ok(Some(fault)),
+        Err(fault) => Some(fault),
     }
 }
 
 #[test]
-fn a_worker_that_lacks_memory_ends_all(rt: HostRuntime) -> Result<(), Fail> {
+fn a_worker_that_lacks_memory_ends_all(rt: HostRuntime) {
     for place in 1..5 {
-        assert_eq!(rt;
-            met(&rt, rt.alloc(), LacksAt(place), 2)?,
-            Some(RunFault::Memory)
-        );
-        assert_eq!(rt;
-            met(&rt, rt.alloc(), LacksAt(place), 4)?,
-            Some(RunFault::Memory)
-        );
+        for workers in [2, 4] {
+            let fault = met(&rt, rt.alloc(), LacksAt(place), workers);
+            same(&rt, fault, Some(RunFault::Memory));
+        }
     }
-    Ok(())
 }
 
 #[test]
-fn the_desk_answers(rt: HostRuntime) -> Result<(), Fail> {
-    assert_eq!(rt; met(&rt, rt.alloc(), LacksAt(0), 2)?, None);
-    assert_eq!(rt; met(&rt, rt.alloc(), LacksAt(0), 64)?, None);
-    Ok(())
+fn the_desk_answers(rt: HostRuntime) {
+    for workers in [2, 64] {
+        same(&rt, met(&rt, rt.alloc(), LacksAt(0), workers), None);
+    }
 }
 
 #[test]
 fn faults_are_numbered(rt: HostRuntime) {
-    assert_eq!(rt; RunFault::Workers.code(), 1);
-    assert_eq!(rt; RunFault::Memory.code(), 2);
-    assert_eq!(rt; RunFault::Thread.code(), 3);
+    for (fault, number) in [
+        (RunFault::Workers, 1),
+        (RunFault::Memory, 2),
+        (RunFault::Thread, 3),
+    ] {
+        same(&rt, fault.code(), number);
+    }
 }
