@@ -7,7 +7,7 @@ use crate::miss::Miss;
 use crate::plan::{drawn_sheet, lot, period};
 use crate::profile::Profile;
 use rx_books_kept::Books;
-use rx_claim::{Reply, Transmission};
+use rx_claim::{Reply, Transmission, copies};
 use rx_desk::{Desk, Finished};
 use rx_fields::MOST_DETAILS;
 use rx_ledger::{Ledger, Sheet, plain_run};
@@ -17,11 +17,7 @@ use std::alloc::Global;
 pub fn compared(alloc: Global, profile: Profile, nth: u64) -> Result<Went, Miss> {
     let mut draw = Draw::new(nth, profile.stream());
     let job = Job::drawn(alloc, &mut draw, profile)?;
-    let desk = job.desk_at_last(alloc)?;
-    let (went, finished) = job.worked_off(alloc, &mut draw, desk)?;
-    let (ledger, replies) = job.in_file_order(alloc)?;
-    compare(alloc, &finished, &ledger, &replies)?;
-    Ok(went)
+    job.compared(alloc, &mut draw)
 }
 
 #[derive(Drop)]
@@ -40,64 +36,82 @@ impl Job {
         })
     }
 
+    // How a desk of the job went, where it ended as in file order.
+    fn compared(&self, alloc: Global, draw: &mut Draw) -> Result<Went, Miss> {
+        let mut desk = self.desk_at_last(alloc)?;
+        let went = self.worked_off(alloc, draw, &mut desk)?;
+        self.is_right(alloc, desk)?;
+        Ok(went)
+    }
+
     // A desk of the job; where it is refused memory it is made once more.
     fn desk_at_last(&self, alloc: Global) -> Result<Desk, Miss> {
         match self.desk(alloc) {
-            Ok(desk) => Ok(desk),
             Err(Miss::Memory) => self.desk(alloc),
-            Err(miss) => Err(miss),
+            made => made,
         }
     }
 
     fn desk(&self, alloc: Global) -> Result<Desk, Miss> {
-        let copies = self.copies(alloc)?;
+        let copies = copies(alloc, &self.records)?;
         let books = opening(alloc, &self.ledger)?;
+        self.desk_of(alloc, books, copies)
+    }
+
+    // A desk of these books and copies of the records.
+    fn desk_of(
+        &self,
+        alloc: Global,
+        books: Books,
+        copies: Vec<Transmission>,
+    ) -> Result<Desk, Miss> {
+        let lot = lot()?;
         if copies.len() > MOST_DETAILS || books.period() != self.sheet.period() {
             return Err(Miss::Value);
         }
-        Ok(Desk::new(alloc, lot()?, &self.sheet, books, copies)?)
+        Ok(Desk::new(alloc, lot, &self.sheet, books, copies)?)
     }
 
-    fn copies(&self, alloc: Global) -> Result<Vec<Transmission>, Miss> {
-        let mut copies: Vec<Transmission> = Vec::new(alloc);
-        for record in &self.records {
-            let copy = record.copy(alloc)?;
-            copies.push(copy)?;
-        }
-        Ok(copies)
-    }
-
-    // How the desk went until all were given, and what it has at its end.
-    fn worked_off(
-        &self,
-        alloc: Global,
-        draw: &mut Draw,
-        desk: Desk,
-    ) -> Result<(Went, Finished), Miss> {
-        let mut desk = desk;
-        let went = driven(alloc, draw, &mut desk, self.records.len())?;
+    // How the desk went until all were given.
+    fn worked_off(&self, alloc: Global, draw: &mut Draw, desk: &mut Desk) -> Result<Went, Miss> {
+        let went = driven(alloc, draw, desk, self.records.len())?;
         if desk.history().len() != self.records.len().saturating_mul(2) {
             return Err(Miss::History);
         }
-        if !self.is_of(alloc, &desk)? {
+        if !self.is_of(alloc, desk)? {
             return Err(Miss::Job);
         }
+        Ok(went)
+    }
+
+    fn is_of(&self, alloc: Global, desk: &Desk) -> Result<bool, Miss> {
+        let lot = lot()?;
+        let books = opening(alloc, &self.ledger)?;
+        Ok(desk.job_is(lot, &self.sheet, &books, &self.records))
+    }
+
+    // The desk ended as in file order.
+    fn is_right(&self, alloc: Global, desk: Desk) -> Result<(), Miss> {
         match desk.close() {
-            Ok(finished) => Ok((went, finished)),
+            Ok(finished) => self.compare(alloc, &finished),
             Err(_) => Err(Miss::Closed),
         }
     }
 
-    fn is_of(&self, alloc: Global, desk: &Desk) -> Result<bool, Miss> {
-        let books = opening(alloc, &self.ledger)?;
-        Ok(desk.job_is(lot()?, &self.sheet, &books, &self.records))
+    fn compare(&self, alloc: Global, finished: &Finished) -> Result<(), Miss> {
+        let (ledger, replies) = self.in_file_order(alloc)?;
+        if finished.replies != replies {
+            return Err(Miss::Replies);
+        }
+        compare_books(alloc, &finished.books, &ledger)
     }
 
     fn in_file_order(&self, alloc: Global) -> Result<(Ledger, Vec<Reply>), Miss> {
+        let lot = lot()?;
         if self.records.len() > MOST_DETAILS {
             return Err(Miss::Value);
         }
-        Ok(plain_run(alloc, lot()?, &self.sheet, &self.ledger, &self.records)?)
+        Ok(plain_run(alloc, lot, &self.sheet, &self.ledger, &self.records)?)
     }
 }
 
@@ -105,20 +119,17 @@ fn opening(alloc: Global, ledger: &Ledger) -> Result<Books, Miss> {
     Ok(Books::from_ledger(alloc, ledger, period()?)?)
 }
 
-// Whether the replies are the same, and the books have the same text, which tells members, claims and all totals.
-fn compare(
-    alloc: Global,
-    finished: &Finished,
-    ledger: &Ledger,
-    replies: &[Reply],
-) -> Result<(), Miss> {
-    if finished.replies.as_slice() != replies {
-        return Err(Miss::Replies);
-    }
-    let wanted = opening(alloc, ledger)?.write(alloc)?;
-    let text = finished.books.write(alloc)?;
-    if text.as_slice() != wanted.as_slice() {
+// Whether the books have the same text, which tells members, claims and all totals.
+fn compare_books(alloc: Global, books: &Books, ledger: &Ledger) -> Result<(), Miss> {
+    let text = books.write(alloc)?;
+    let wanted = written(alloc, ledger)?;
+    if text != wanted {
         return Err(Miss::Books);
     }
     Ok(())
+}
+
+fn written(alloc: Global, ledger: &Ledger) -> Result<Vec<u8>, Miss> {
+    let books = opening(alloc, ledger)?;
+    Ok(books.write(alloc)?)
 }
