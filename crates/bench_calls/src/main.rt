@@ -25,7 +25,7 @@ use std::thread::Threads;
 use std::{env, fs, io};
 use timing::{ROUNDS, Watch};
 
-const NAMES: [&str; 10] = [
+const NAMES: &[&str] = &[
     "adjudicate",
     "batch",
     "books",
@@ -55,7 +55,7 @@ fn main(rt: HostRuntime) -> io::Result<()> {
 
 fn short_rounds<R: Print + Clock + Threads + Wait + Sync>(rt: &R, alloc: Global) -> io::Result<()> {
     let inputs = Inputs::of_one_billing(alloc)?;
-    for name in NAMES {
+    for &name in NAMES {
         short_round(rt, alloc, name, &inputs)?;
     }
     Ok(())

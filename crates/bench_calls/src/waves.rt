@@ -15,7 +15,7 @@ use std::sync::Wait;
 use std::thread::Threads;
 use std::time::Instant;
 
-const WORKERS: [(u16, &str, &str); 3] = [
+const WORKERS: &[(u16, &str, &str)] = &[
     (1, "replies of 1 worker", "replies of 1 worker, held up"),
     (2, "replies of 2 workers", "replies of 2 workers, held up"),
     (4, "replies of 4 workers", "replies of 4 workers, held up"),
@@ -58,7 +58,7 @@ pub fn round<R: Clock + Threads + Wait + Sync>(
 ) -> Option<()> {
     let rt = watch.rt;
     let job = Job::of(rt, watch.alloc, inputs)?;
-    for (workers, name, held_up) in WORKERS {
+    for &(workers, name, held_up) in WORKERS {
         run(watch, &job, &NoGate, workers, name);
         run(watch, &job, &Slow { rt, micros }, workers, held_up);
     }

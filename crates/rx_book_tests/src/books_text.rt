@@ -46,7 +46,7 @@ fn reads_the_opening_books(rt: HostRuntime) {
 }
 
 // Lines, and the number and the line of their fault.
-const FAULTS: [(&[&[u8]], (u32, u64)); 9] = [
+const FAULTS: &[(&[&[u8]], (u32, u64))] = &[
     (&[HEAD, SECOND, MEMBER], (3, 3)),
     (&[HEAD, MEMBER, CLAIM, CLAIM], (3, 4)),
     (&[HEAD, SECOND, CLAIM], (4, 3)),
@@ -60,7 +60,7 @@ const FAULTS: [(&[&[u8]], (u32, u64)); 9] = [
 
 #[test]
 fn tells_order_unknown_members_and_malformed_lines(rt: HostRuntime) {
-    for (lines, fault) in FAULTS {
+    for &(lines, fault) in FAULTS {
         same(&rt, told(&rt, rt.alloc(), lines), fault);
     }
 }
@@ -94,7 +94,7 @@ fn again(rt: &impl Abort, alloc: Global, line: &[u8]) -> Vec<u8> {
 }
 
 // A line of each kind.
-const LINES: [&[u8]; 3] = [
+const LINES: &[&[u8]] = &[
     b"M|C100|01|20260101|20261231|10000",
     b"C|1234567893|123|20260228|C100|01|00002000202|30000|30|30000|175|10000|3000|0|000004200000011",
     b"T|C100|13000|10000",
@@ -102,7 +102,7 @@ const LINES: [&[u8]; 3] = [
 
 #[test]
 fn writes_each_kind_of_line(rt: HostRuntime) {
-    for line in LINES {
+    for &line in LINES {
         let mut written = again(&rt, rt.alloc(), line);
         same(&rt, written.pop(), Some(b'\n'));
         same(&rt, written.as_slice(), line);

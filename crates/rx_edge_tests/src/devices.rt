@@ -1,12 +1,13 @@
 // What no clause says: that a reading succeeds, which call of a device fails, and devices that don't tell their bytes.
+use crate::same::same;
 use rx_devices::{
     Consumer, Failed, ReadFault, ReaderSource, SliceSource, Source, VecSink, WriterSink, read_all,
     read_each, write_all, write_pieces,
 };
 use rx_fields::Memory;
+use std::alloc::{AllocError, Global};
 use std::io;
 use std::io::{ErrorKind, Read, Write};
-use std::test::Fail;
 
 const TEXT: &[u8] = b"SETTLE|1|";
 
@@ -99,27 +100,27 @@ impl Read for Signalled {
 }
 
 #[test]
-fn reads_pieces_of_any_size(rt: HostRuntime) -> Result<(), Fail> {
-    for most in [1usize, 7, 4096] {
-        let text = read_all(rt.alloc(), &mut SliceSource::new(TEXT, most))?;
-        assert_eq!(rt; text.as_slice(), TEXT, "{most} bytes a call");
+fn reads_pieces_of_any_size(rt: HostRuntime) {
+    for most in &[1usize, 7, 4096] {
+        let text = read_all(rt.alloc(), &mut SliceSource::new(TEXT, *most));
+        same(&rt, text.expect(&rt, "a text").as_slice(), TEXT);
     }
-    Ok(())
 }
 
-// Nine bytes by seven a call take three reads, the last of which finds the end.
+// Whether nine bytes are read by seven a call, of which so many succeed.
+fn are_read(alloc: Global, calls: usize) -> Result<bool, ReadFault> {
+    let mut source = SliceSource::new(TEXT, 7).failing_after(calls);
+    let text = read_all(alloc, &mut source)?;
+    Ok(text.as_slice() == TEXT)
+}
+
+// They take three reads, the last of which finds the end.
 #[test]
 fn takes_no_failure_for_the_end(rt: HostRuntime) {
     for calls in 0..3usize {
-        let mut source = SliceSource::new(TEXT, 7).failing_after(calls);
-        let read = read_all(rt.alloc(), &mut source);
-        assert!(rt;
-            matches!(read, Err(ReadFault::Failed)),
-            "after {calls} reads"
-        );
+        same(&rt, are_read(rt.alloc(), calls), Err(ReadFault::Failed));
     }
-    let read = read_all(rt.alloc(), &mut SliceSource::new(TEXT, 7).failing_after(3));
-    assert!(rt; read.is_ok());
+    same(&rt, are_read(rt.alloc(), 3), Ok(true));
 }
 
 #[test]
@@ -127,26 +128,26 @@ fn refuses_too_many_reads(rt: HostRuntime) {
     let mut source = Endless::new(1);
     let mut taken = Counted(0);
     let read = read_each(rt.alloc(), &mut source, &mut taken);
-    assert_eq!(rt; read, Err(ReadFault::Long));
-    assert_eq!(rt; taken.0, 4_194_304);
-    assert_eq!(rt; source.reads, 4_194_304);
-    assert!(rt; !source.cramped);
+    same(&rt, read, Err(ReadFault::Long));
+    same(&rt, taken.0, 4_194_304);
+    same(&rt, source.reads, 4_194_304);
+    same(&rt, source.cramped, false);
 }
 
 #[test]
 fn refuses_too_many_bytes(rt: HostRuntime) {
     let mut taken = Counted(0);
     let read = read_each(rt.alloc(), &mut Endless::new(usize::MAX), &mut taken);
-    assert_eq!(rt; read, Err(ReadFault::Long));
-    assert_eq!(rt; taken.0, 268_435_456);
+    same(&rt, read, Err(ReadFault::Long));
+    same(&rt, taken.0, 268_435_456);
 }
 
 #[test]
 fn writes_pieces_of_any_size(rt: HostRuntime) {
-    for most in [1usize, 7, 4096] {
-        let mut sink = VecSink::new(rt.alloc(), most);
-        assert_eq!(rt; write_all(&mut sink, TEXT), Ok(()), "{most} bytes a call");
-        assert_eq!(rt; sink.bytes(), TEXT);
+    for most in &[1usize, 7, 4096] {
+        let mut sink = VecSink::new(rt.alloc(), *most);
+        same(&rt, write_all(&mut sink, TEXT), Ok(()));
+        same(&rt, sink.bytes(), TEXT);
     }
 }
 
@@ -154,57 +155,60 @@ fn writes_pieces_of_any_size(rt: HostRuntime) {
 fn leaves_a_front_after_a_failure(rt: HostRuntime) {
     for calls in 0..3usize {
         let mut sink = VecSink::new(rt.alloc(), 4).failing_after(calls);
-        assert_eq!(rt;
-            write_all(&mut sink, TEXT),
-            Err(Failed),
-            "after {calls} writes"
-        );
-        assert_eq!(rt; sink.bytes(), &TEXT[..4 * calls]);
+        same(&rt, write_all(&mut sink, TEXT), Err(Failed));
+        same(&rt, sink.bytes(), &TEXT[..4 * calls]);
     }
 }
 
-// Four bytes a call: the third call is for the last byte.
-#[test]
-fn writes_pieces_of_a_text_in_order(rt: HostRuntime) -> Result<(), Fail> {
-    let alloc = rt.alloc();
+fn pieces(alloc: Global) -> Result<Vec<Vec<u8>>, AllocError> {
     let mut pieces = Vec::new(alloc);
     pieces.push(b"SETT".to_vec(alloc)?)?;
     pieces.push(Vec::new(alloc))?;
     pieces.push(b"LE|1|".to_vec(alloc)?)?;
-    let mut sink = VecSink::new(alloc, 4);
-    assert_eq!(rt; write_pieces(&mut sink, &pieces), Ok(()));
-    assert_eq!(rt; sink.bytes(), TEXT);
-    let mut sink = VecSink::new(alloc, 4).failing_after(2);
-    assert_eq!(rt; write_pieces(&mut sink, &pieces), Err(Failed));
-    assert_eq!(rt; sink.bytes(), b"SETTLE|1".as_slice());
-    Ok(())
+    Ok(pieces)
+}
+
+// Four bytes a call: the third call is for the last byte.
+#[test]
+fn writes_pieces_of_a_text_in_order(rt: HostRuntime) {
+    let pieces = pieces(rt.alloc()).expect(&rt, "memory");
+    let mut sink = VecSink::new(rt.alloc(), 4);
+    same(&rt, write_pieces(&mut sink, &pieces), Ok(()));
+    same(&rt, sink.bytes(), TEXT);
+    let mut sink = VecSink::new(rt.alloc(), 4).failing_after(2);
+    same(&rt, write_pieces(&mut sink, &pieces), Err(Failed));
+    same(&rt, sink.bytes(), b"SETTLE|1".as_slice());
 }
 
 #[test]
 fn takes_a_sink_that_takes_nothing_for_failed(rt: HostRuntime) {
-    let mut sink = VecSink::new(rt.alloc(), 0);
-    assert_eq!(rt; write_all(&mut sink, TEXT), Err(Failed));
-    assert_eq!(rt; write_all(&mut VecSink::new(rt.alloc(), 0), b""), Ok(()));
+    let written = write_all(&mut VecSink::new(rt.alloc(), 0), TEXT);
+    same(&rt, written, Err(Failed));
+    let written = write_all(&mut VecSink::new(rt.alloc(), 0), b"");
+    same(&rt, written, Ok(()));
 }
 
 #[test]
-fn reads_and_writes_what_std_does(rt: HostRuntime) -> Result<(), Fail> {
-    let text = read_all(rt.alloc(), &mut ReaderSource::new(TEXT))?;
+fn reads_what_std_does(rt: HostRuntime) {
+    let text = read_all(rt.alloc(), &mut ReaderSource::new(TEXT));
+    same(&rt, text.expect(&rt, "a text").as_slice(), TEXT);
+}
+
+#[test]
+fn writes_what_std_does(rt: HostRuntime) {
     let mut copy = WriterSink::new(Vec::new(rt.alloc()));
-    assert_eq!(rt; write_all(&mut copy, text.as_slice()), Ok(()));
-    assert_eq!(rt; copy.into_inner().as_slice(), TEXT);
-    Ok(())
+    same(&rt, write_all(&mut copy, TEXT), Ok(()));
+    same(&rt, copy.into_inner().as_slice(), TEXT);
 }
 
 #[test]
-fn reads_again_where_a_signal_interrupts(rt: HostRuntime) -> Result<(), Fail> {
+fn reads_again_where_a_signal_interrupts(rt: HostRuntime) {
     let signalled = Signalled {
         is_over: false,
         text: TEXT,
     };
-    let text = read_all(rt.alloc(), &mut ReaderSource::new(signalled))?;
-    assert_eq!(rt; text.as_slice(), TEXT);
-    Ok(())
+    let text = read_all(rt.alloc(), &mut ReaderSource::new(signalled));
+    same(&rt, text.expect(&rt, "a text").as_slice(), TEXT);
 }
 
 // It has room for four of nine bytes.
@@ -212,13 +216,14 @@ fn reads_again_where_a_signal_interrupts(rt: HostRuntime) -> Result<(), Fail> {
 fn takes_a_full_buffer_for_failed(rt: HostRuntime) {
     let mut room = [0u8; 4];
     let written = write_all(&mut WriterSink::new(room.as_mut_slice()), TEXT);
-    assert_eq!(rt; written, Err(Failed));
-    assert_eq!(rt; room, *b"SETT");
+    same(&rt, written, Err(Failed));
+    same(&rt, room, *b"SETT");
 }
 
 #[test]
 fn tells_that_a_file_failed(rt: HostRuntime) {
     let read = read_all(rt.alloc(), &mut ReaderSource::new(Broken));
-    assert!(rt; matches!(read, Err(ReadFault::Failed)));
-    assert_eq!(rt; write_all(&mut WriterSink::new(Broken), TEXT), Err(Failed));
+    same(&rt, read.err(), Some(ReadFault::Failed));
+    let written = write_all(&mut WriterSink::new(Broken), TEXT);
+    same(&rt, written, Err(Failed));
 }

@@ -9,6 +9,8 @@ mod devices;
 #[cfg(test)]
 mod log;
 #[cfg(test)]
+mod same;
+#[cfg(test)]
 mod switch;
 #[cfg(test)]
 mod watch;

@@ -1,22 +1,21 @@
 // What no clause says: which refusal a run on devices answers.
 ghost use Rattle.std.specs.Prelude.{◌≡◌, false};
 
+use crate::same::same;
 use rx_devices::{SliceSource, Source, VecSink};
 use rx_switch::{Device, Inputs, IoFault, Outputs, SwitchFault, read_all, run_io};
 use rx_wave::NoGate;
 use std::alloc::Global;
 use std::sync::Wait;
-use std::test::Fail;
 use std::thread::Threads;
 
 const STAMP: &[u8] = b"202603010930";
 
 #[test]
-fn reads_an_input_to_its_end(rt: HostRuntime) -> Result<(), Fail> {
+fn reads_an_input_to_its_end(rt: HostRuntime) {
     let mut source = SliceSource::new(b"RXBOOKS|1|", 7);
-    let text = read_all(rt.alloc(), &mut source, Device::Books)?;
-    assert_eq!(rt; text.as_slice(), b"RXBOOKS|1|".as_slice());
-    Ok(())
+    let text = read_all(rt.alloc(), &mut source, Device::Books).expect(&rt, "a text");
+    same(&rt, text.as_slice(), b"RXBOOKS|1|".as_slice());
 }
 
 // What a run with empty books answers, and its response.
@@ -58,22 +57,22 @@ fn run_on<'a, R: Threads + Wait + Sync>(
 fn refuses_a_bad_stamp_before_it_writes(rt: HostRuntime) {
     let (sheet, batch) = (SliceSource::new(b"", 1), SliceSource::new(b"", 1));
     let (answer, response) = run_on(&rt, rt.alloc(), b"202603019930", 1, sheet, batch);
-    assert_eq!(rt; answer, Err(IoFault::Switch(SwitchFault::Stamp)));
-    assert!(rt; response.bytes().is_empty());
+    same(&rt, answer, Err(IoFault::Switch(SwitchFault::Stamp)));
+    same(&rt, response.bytes().len(), 0);
 }
 
 #[test]
 fn tells_a_failed_sheet_before_the_workers(rt: HostRuntime) {
     let sheet = SliceSource::new(b"bin", 1).failing_after(2);
     let (answer, _) = run_on(&rt, rt.alloc(), STAMP, 65, sheet, SliceSource::new(b"", 1));
-    assert_eq!(rt; answer, Err(IoFault::Read(Device::Sheet)));
+    same(&rt, answer, Err(IoFault::Read(Device::Sheet)));
 }
 
 #[test]
 fn refuses_sixty_five_workers(rt: HostRuntime) {
     let (sheet, batch) = (SliceSource::new(b"", 1), SliceSource::new(b"", 1));
     let (answer, _) = run_on(&rt, rt.alloc(), STAMP, 65, sheet, batch);
-    assert_eq!(rt; answer, Err(IoFault::Switch(SwitchFault::Workers)));
+    same(&rt, answer, Err(IoFault::Switch(SwitchFault::Workers)));
 }
 
 // One byte a read: the first is no batch's, the third read fails.
@@ -81,5 +80,5 @@ fn refuses_sixty_five_workers(rt: HostRuntime) {
 fn reads_on_after_a_fault_of_the_batch(rt: HostRuntime) {
     let batch = SliceSource::new(b"X\x02", 1).failing_after(2);
     let (answer, _) = run_on(&rt, rt.alloc(), STAMP, 1, SliceSource::new(b"", 1), batch);
-    assert_eq!(rt; answer, Err(IoFault::Read(Device::Batch)));
+    same(&rt, answer, Err(IoFault::Read(Device::Batch)));
 }

@@ -145,7 +145,7 @@ fn writes_what_it_reads_and_counts_its_records(rt: HostRuntime) {
 }
 
 // The count of an empty batch, and what is told of it.
-const COUNTS: [(u8, (u32, u64)); 4] = [
+const COUNTS: &[(u8, (u32, u64))] = &[
     (b'0', (0, 0)),
     (b'2', (0, 0)),
     (b'1', (10, 75)),
@@ -155,7 +155,7 @@ const COUNTS: [(u8, (u32, u64)); 4] = [
 #[test]
 fn counts_an_empty_batch(rt: HostRuntime) {
     let file = joined(&rt, rt.alloc(), &[HEADER, TRAILER]);
-    for (count, wanted) in COUNTS {
+    for &(count, wanted) in COUNTS {
         let file = changed(&rt, rt.alloc(), &file, 94, count);
         same!(rt; (count, told(rt.alloc(), &file)), (count, wanted));
     }
@@ -179,7 +179,7 @@ fn names_the_fault_of_a_cut_file(rt: HostRuntime) {
 }
 
 // The place of a byte in one-billing's file, another byte there, and what is told of the file then.
-const CHANGES: [(usize, u8, (u32, u64)); 12] = [
+const CHANGES: &[(usize, u8, (u32, u64))] = &[
     (100, 2, (4, 75)),
     (80, 3, (6, 75)),
     (100, 3, (1, 101)),
@@ -197,7 +197,7 @@ const CHANGES: [(usize, u8, (u32, u64)); 12] = [
 #[test]
 fn names_the_fault_of_a_damaged_file(rt: HostRuntime) {
     let file = one_billing(&rt, rt.alloc());
-    for (at, byte, wanted) in CHANGES {
+    for &(at, byte, wanted) in CHANGES {
         let damaged = changed(&rt, rt.alloc(), &file, at, byte);
         same!(rt; (at, byte, told(rt.alloc(), &damaged)), (at, byte, wanted));
     }
@@ -216,7 +216,7 @@ fn told_between(
 }
 
 // What stands before one-billing's file and behind it, and what is told of the whole.
-const BESIDE: [(&str, &[u8], &[u8], (u32, u64)); 5] = [
+const BESIDE: &[(&str, &[u8], &[u8], (u32, u64))] = &[
     ("a byte behind", b"", b"X", (11, 326)),
     ("a second trailer", b"", TRAILER, (11, 326)),
     ("a byte before", b"X", b"", (1, 0)),
@@ -227,7 +227,7 @@ const BESIDE: [(&str, &[u8], &[u8], (u32, u64)); 5] = [
 #[test]
 fn names_the_fault_of_a_file_with_more_or_less(rt: HostRuntime) {
     let file = one_billing(&rt, rt.alloc());
-    for (name, before, behind, wanted) in BESIDE {
+    for &(name, before, behind, wanted) in BESIDE {
         let told = told_between(&rt, rt.alloc(), before, &file, behind);
         same_at(&rt, name, &told, &wanted);
     }

@@ -21,7 +21,7 @@ const BASE: EchoParts = EchoParts {
 };
 
 // Ingredient cost, dispensing fee, deductible, copay, coinsurance; then what the patient pays, and what is paid.
-const PAID: [([u64; 5], u64, u64); 8] = [
+const PAID: &[([u64; 5], u64, u64)] = &[
     ([30000, 175, 10000, 3000, 0], 13000, 17175),
     ([30000, 175, 4000, 0, 0], 4000, 26175),
     ([30000, 175, 10000, 0, 4035], 14035, 16140),
@@ -32,7 +32,7 @@ const PAID: [([u64; 5], u64, u64); 8] = [
     ([99_999_999, 0, 0, 0, 0], 0, 99_999_999),
 ];
 
-const NOT_PAID: [[u64; 5]; 5] = [
+const NOT_PAID: &[[u64; 5]] = &[
     [99_999_999, 1, 0, 0, 0],
     [30000, 175, 40000, 3000, 0],
     [30000, 175, 30000, 175, 1],
@@ -59,12 +59,12 @@ fn amounts(all: [u64; 5]) -> Amounts {
 
 #[test]
 fn patient_and_plan_share_what_is_allowed(rt: HostRuntime) {
-    for (all, patient_pay, total_paid) in PAID {
+    for &(all, patient_pay, total_paid) in PAID {
         let pricing = Pricing::new(amounts(all)).expect(&rt, "within the limits");
         let shares = (pricing.patient_pay(), pricing.total_paid());
         same!(rt; (pricing.amounts(), shares), (amounts(all), (patient_pay, total_paid)));
     }
-    for all in NOT_PAID {
+    for &all in NOT_PAID {
         same!(rt; (all, Pricing::new(amounts(all))), (all, None));
     }
 }
@@ -94,7 +94,7 @@ fn parts(rt: &impl Abort, usual_charge: Option<u64>, gross_amount: Option<u64>) 
 }
 
 // The usual charge, the gross amount, and what caps the payment.
-const CAPS: [(Option<u64>, Option<u64>, u64); 5] = [
+const CAPS: &[(Option<u64>, Option<u64>, u64)] = &[
     (Some(40000), None, 40000),
     (Some(100), Some(50), 100),
     (Some(100), Some(200), 100),
@@ -104,7 +104,7 @@ const CAPS: [(Option<u64>, Option<u64>, u64); 5] = [
 
 #[test]
 fn the_usual_charge_caps_before_the_gross_amount(rt: HostRuntime) {
-    for (usual, gross, cap) in CAPS {
+    for &(usual, gross, cap) in CAPS {
         let parts = parts(&rt, usual, gross);
         let bill = Bill::new(parts).expect(&rt, "a charge");
         same!(rt; *bill.parts(), parts);
@@ -209,7 +209,7 @@ fn of_kinds(rt: &impl Abort, alloc: Global, kinds: &str) -> Vec<Transaction> {
 }
 
 // Transactions of these kinds, and how a list of them is taken.
-const LISTS: [(&str, Taken); 9] = [
+const LISTS: &[(&str, Taken)] = &[
     ("", Taken::Back),
     ("b", Taken::Listed),
     ("bbfb", Taken::Listed),
@@ -223,7 +223,7 @@ const LISTS: [(&str, Taken); 9] = [
 
 #[test]
 fn no_billing_stands_beside_a_reversal(rt: HostRuntime) {
-    for (kinds, wanted) in LISTS {
+    for &(kinds, wanted) in LISTS {
         let items = of_kinds(&rt, rt.alloc(), kinds);
         same_at(&rt, kinds, &how_taken(&rt, rt.alloc(), &items), &wanted);
     }

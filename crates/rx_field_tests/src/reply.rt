@@ -163,7 +163,7 @@ fn answers(rt: &impl Abort, alloc: Global, text: &[u8], answer: Answer) {
 }
 
 // The amounts of a claim that is paid, under its authorization number and reference, and the reply.
-const PAID: [(u64, u64, Amounts, &[u8]); 4] = [
+const PAID: &[(u64, u64, Amounts, &[u8])] = &[
     (4_200_000_011, 123, ONE_BILLING_AMOUNTS, ONE_BILLING),
     (4_200_000_011, 123, PERCENT_TIER_AMOUNTS, PERCENT_TIER),
     (
@@ -177,7 +177,7 @@ const PAID: [(u64, u64, Amounts, &[u8]); 4] = [
 
 #[test]
 fn paid_claims_are_written_and_read_back(rt: HostRuntime) {
-    for (number, reference, amounts, text) in PAID {
+    for &(number, reference, amounts, text) in PAID {
         let paid = paid(&rt, number, reference, amounts);
         answers(&rt, rt.alloc(), text, Answer::Paid(paid));
     }
@@ -259,7 +259,7 @@ fn four_answers_are_read_in_their_order(rt: HostRuntime) {
 }
 
 // One byte of the reply of one-billing is another.
-const CHANGES: [(usize, u8, ReplyFault); 12] = [
+const CHANGES: &[(usize, u8, ReplyFault)] = &[
     (4, b'0', ReplyFault::Head),
     (4, b'5', ReplyFault::Head),
     (4, b'2', ReplyFault::Segment),
@@ -276,7 +276,7 @@ const CHANGES: [(usize, u8, ReplyFault); 12] = [
 
 #[test]
 fn a_changed_byte_is_a_fault(rt: HostRuntime) {
-    for (place, byte, fault) in CHANGES {
+    for &(place, byte, fault) in CHANGES {
         let mut text = *ONE_BILLING;
         if let Some(at) = text.get_mut(place) {
             *at = byte;
@@ -287,7 +287,7 @@ fn a_changed_byte_is_a_fault(rt: HostRuntime) {
 }
 
 // Texts that are no replies, and what makes them none.
-const DAMAGED: [(&str, &[u8], ReplyFault); 8] = [
+const DAMAGED: &[(&str, &[u8], ReplyFault)] = &[
     ("no byte", b"", ReplyFault::Head),
     (
         "a cut head",
@@ -328,7 +328,7 @@ const DAMAGED: [(&str, &[u8], ReplyFault); 8] = [
 
 #[test]
 fn damaged_texts_are_refused(rt: HostRuntime) {
-    for (name, text, fault) in DAMAGED {
+    for &(name, text, fault) in DAMAGED {
         same_at(
             &rt,
             name,

@@ -8,4 +8,6 @@ mod ledger;
 #[cfg(test)]
 mod plan;
 #[cfg(test)]
+mod same;
+#[cfg(test)]
 mod sheet;

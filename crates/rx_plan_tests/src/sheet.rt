@@ -1,8 +1,9 @@
-use rx_fields::{Door, Period, Product, date_read};
-use rx_ledger::{Drug, Figures, Listed, Share, SheetKey};
+use crate::plan::{figures, product};
+use crate::same::same;
+use rx_ledger::{Drug, Listed, Share, Sheet, SheetKey};
 use rx_sheet::{SheetFault, one_reading, read_sheet};
 use std::alloc::{AllocError, Global};
-use std::test::Fail;
+use std::process::Abort;
 
 // The plain sheet of docs/FORMATS.md, with the lines that its cases change.
 #[derive(Clone, Copy)]
@@ -35,7 +36,7 @@ const SECOND: &str = "[drugs.00002000202]\nprice = 100000\n";
 
 const THIRD: &str = "[drugs.00003000303]\ntier = '1'\nprice = 5000\n";
 
-fn text(alloc: Global, lines: &Lines) -> Result<String, AllocError> {
+fn written(alloc: Global, lines: &Lines) -> Result<String, AllocError> {
     let mut text = String::from_str(alloc, HEAD)?;
     text.push_str(lines.refill_percent)?;
     text.push_str(lines.fee)?;
@@ -50,120 +51,110 @@ fn text(alloc: Global, lines: &Lines) -> Result<String, AllocError> {
     Ok(text)
 }
 
-fn fault(alloc: Global, lines: &Lines) -> Result<Option<SheetFault>, AllocError> {
-    let text = text(alloc, lines)?;
-    Ok(read_sheet(alloc, text.as_bytes()).err())
+fn text(rt: &impl Abort, alloc: Global, lines: &Lines) -> String {
+    written(alloc, lines).expect(rt, "memory")
 }
 
-fn listed(digits: &[u8], share: Share, price: u64) -> Result<Listed, Fail> {
-    Ok(Listed {
-        product: Product::new(digits).ok_or("a product")?,
+fn sheet(rt: &impl Abort, alloc: Global, lines: &Lines) -> Sheet {
+    let text = text(rt, alloc, lines);
+    read_sheet(alloc, text.as_bytes()).expect(rt, "a plan sheet")
+}
+
+fn fault(rt: &impl Abort, alloc: Global, lines: &Lines) -> Option<SheetFault> {
+    let text = text(rt, alloc, lines);
+    read_sheet(alloc, text.as_bytes()).err()
+}
+
+fn listed(rt: &impl Abort, digits: &[u8], share: Share, price: u64) -> Listed {
+    Listed {
+        product: product(rt, digits),
         drug: Drug { share, price },
-    })
-}
-
-fn figures(family_deductible: Option<u64>) -> Result<Figures, Fail> {
-    Ok(Figures {
-        door: Door {
-            bin: *b"900001",
-            pcn: *b"RXDEMO    ",
-        },
-        period: Period::new(date_read(b"20260101")?, date_read(b"20261231")?).ok_or("a period")?,
-        member_deductible: 10_000,
-        family_maximum: 30_000,
-        refill_percent: 75,
-        max_days: 90,
-        fee: 175,
-        family_deductible,
-    })
+    }
 }
 
 #[test]
-fn the_plain_sheet(rt: HostRuntime) -> Result<(), Fail> {
+fn the_plain_sheet(rt: HostRuntime) {
     one_reading();
-    let text = text(rt.alloc(), &PLAIN)?;
-    let sheet = read_sheet(rt.alloc(), text.as_bytes())?;
-    assert_eq!(rt; *sheet.figures(), figures(None)?);
+    let sheet = sheet(&rt, rt.alloc(), &PLAIN);
+    same(&rt, *sheet.figures(), figures(&rt));
     let drugs = [
-        listed(b"00001000101", Share::Copay(1000), 2500)?,
-        listed(b"00002000202", Share::Copay(3000), 100_000)?,
-        listed(b"00003000303", Share::Copay(1000), 5000)?,
+        listed(&rt, b"00001000101", Share::Copay(1000), 2500),
+        listed(&rt, b"00002000202", Share::Copay(3000), 100_000),
+        listed(&rt, b"00003000303", Share::Copay(1000), 5000),
     ];
-    assert_eq!(rt; sheet.drugs(), drugs.as_slice());
-    Ok(())
+    same(&rt, sheet.drugs(), drugs.as_slice());
 }
 
 #[test]
-fn a_percentage_and_a_family_deductible(rt: HostRuntime) -> Result<(), Fail> {
+fn a_percentage_and_a_family_deductible(rt: HostRuntime) {
     let lines = Lines {
         family_deductible: "family_deductible = 15000\n",
         more_tiers: "4 = { percent = 20, name = 'brand' }\n",
         more_drugs: "[drugs.00004000404]\ntier = '4'\nprice = 100000\n",
         ..PLAIN
     };
-    let text = text(rt.alloc(), &lines)?;
-    let sheet = read_sheet(rt.alloc(), text.as_bytes())?;
-    assert_eq!(rt; sheet.figures().family_deductible, Some(15_000));
-    let fourth = listed(b"00004000404", Share::Percent(20), 100_000)?;
-    assert_eq!(rt; sheet.drug(fourth.product), Some(fourth.drug));
-    assert_eq!(rt; sheet.drugs().len(), 4);
-    Ok(())
+    let sheet = sheet(&rt, rt.alloc(), &lines);
+    same(&rt, sheet.figures().family_deductible, Some(15_000));
+    let fourth = listed(&rt, b"00004000404", Share::Percent(20), 100_000);
+    same(&rt, sheet.drug(fourth.product), Some(fourth.drug));
+    same(&rt, sheet.drugs().len(), 4);
 }
 
+// Sheets with a fault, and the fault.
+const DAMAGED: &[(Lines, SheetFault)] = &[
+    (
+        Lines { fee: "", ..PLAIN },
+        SheetFault::Missing(SheetKey::Fee),
+    ),
+    (
+        Lines {
+            refill_percent: "refill_percent = 101\n",
+            ..PLAIN
+        },
+        SheetFault::Wrong(SheetKey::RefillPercent),
+    ),
+    (
+        Lines {
+            tier: "tier = '9'\n",
+            ..PLAIN
+        },
+        SheetFault::Wrong(SheetKey::Tier),
+    ),
+    (
+        Lines {
+            more_tiers: "4 = { percent = 101 }\n",
+            ..PLAIN
+        },
+        SheetFault::Wrong(SheetKey::Tiers),
+    ),
+    (
+        Lines {
+            family_deductible: "family_deductible = -1\n",
+            ..PLAIN
+        },
+        SheetFault::Wrong(SheetKey::FamilyDeductible),
+    ),
+    (
+        Lines {
+            fee: "fee = 1.5\n",
+            ..PLAIN
+        },
+        SheetFault::Wrong(SheetKey::Fee),
+    ),
+    (
+        Lines {
+            fee: "fee = 9223372036854775808\n",
+            ..PLAIN
+        },
+        SheetFault::NotToml,
+    ),
+];
+
 #[test]
-fn damaged_sheets(rt: HostRuntime) -> Result<(), Fail> {
-    let cases = [
-        (
-            Lines { fee: "", ..PLAIN },
-            SheetFault::Missing(SheetKey::Fee),
-        ),
-        (
-            Lines {
-                refill_percent: "refill_percent = 101\n",
-                ..PLAIN
-            },
-            SheetFault::Wrong(SheetKey::RefillPercent),
-        ),
-        (
-            Lines {
-                tier: "tier = '9'\n",
-                ..PLAIN
-            },
-            SheetFault::Wrong(SheetKey::Tier),
-        ),
-        (
-            Lines {
-                more_tiers: "4 = { percent = 101 }\n",
-                ..PLAIN
-            },
-            SheetFault::Wrong(SheetKey::Tiers),
-        ),
-        (
-            Lines {
-                family_deductible: "family_deductible = -1\n",
-                ..PLAIN
-            },
-            SheetFault::Wrong(SheetKey::FamilyDeductible),
-        ),
-        (
-            Lines {
-                fee: "fee = 1.5\n",
-                ..PLAIN
-            },
-            SheetFault::Wrong(SheetKey::Fee),
-        ),
-        (
-            Lines {
-                fee: "fee = 9223372036854775808\n",
-                ..PLAIN
-            },
-            SheetFault::NotToml,
-        ),
-    ];
-    for (lines, wanted) in cases {
-        assert_eq!(rt; fault(rt.alloc(), &lines)?, Some(wanted));
+fn damaged_sheets(rt: HostRuntime) {
+    for &(lines, wanted) in DAMAGED {
+        same(&rt, fault(&rt, rt.alloc(), &lines), Some(wanted));
     }
-    Ok(())
 }
 
 #[test]
@@ -182,7 +173,8 @@ fn short_texts(rt: HostRuntime) {
     ];
     for (text, code, key) in cases {
         let fault = read_sheet(rt.alloc(), text).err();
-        assert_eq!(rt; fault.map(SheetFault::code), Some(code));
-        assert_eq!(rt; fault.and_then(SheetFault::key).map(SheetKey::code), key);
+        same(&rt, fault.map(SheetFault::code), Some(code));
+        let told = fault.and_then(SheetFault::key);
+        same(&rt, told.map(SheetKey::code), key);
     }
 }

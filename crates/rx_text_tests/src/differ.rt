@@ -1,8 +1,8 @@
+use crate::same::same;
 use rx_differ::{first_difference, pieces_before, rest_of_piece};
-use std::test::Fail;
 
 #[test]
-fn first_differences(rt: HostRuntime) -> Result<(), Fail> {
+fn first_differences(rt: HostRuntime) {
     let cases: [(&[u8], &[u8], Option<usize>); 6] = [
         (b"", b"", None),
         (b"P|1|17175\n", b"P|1|17175\n", None),
@@ -12,23 +12,24 @@ fn first_differences(rt: HostRuntime) -> Result<(), Fail> {
         (b"", b"P", Some(0)),
     ];
     for (ours, theirs, wanted) in cases {
-        assert!(rt; first_difference(ours, theirs) == wanted);
+        same(&rt, first_difference(ours, theirs), wanted);
     }
-    Ok(())
+}
+
+const TEXT: &[u8] = b"SETTLE\nP|1\nTOTAL\n";
+
+#[test]
+fn pieces_are_counted_from_none(rt: HostRuntime) {
+    for (at, wanted) in [(0, 0), (6, 0), (7, 1), (17, 3)] {
+        same(&rt, pieces_before(TEXT, at, b'\n'), wanted);
+    }
 }
 
 #[test]
-fn pieces_are_counted_from_none(rt: HostRuntime) -> Result<(), Fail> {
-    let text = b"SETTLE\nP|1\nTOTAL\n";
-    assert_eq!(rt; pieces_before(text, 0, b'\n'), 0);
-    assert_eq!(rt; pieces_before(text, 6, b'\n'), 0);
-    assert_eq!(rt; pieces_before(text, 7, b'\n'), 1);
-    assert_eq!(rt; pieces_before(text, 17, b'\n'), 3);
-    assert_eq!(rt; rest_of_piece(text, 0, b'\n'), b"SETTLE".as_slice());
-    assert_eq!(rt; rest_of_piece(text, 9, b'\n'), b"1".as_slice());
-    assert_eq!(rt; rest_of_piece(text, 10, b'\n'), b"".as_slice());
-    assert_eq!(rt; rest_of_piece(b"TOTAL", 3, b'\n'), b"AL".as_slice());
-    assert_eq!(rt; rest_of_piece(text, 17, b'\n'), b"".as_slice());
-    assert_eq!(rt; rest_of_piece(text, 18, b'\n'), b"".as_slice());
-    Ok(())
+fn the_rest_of_a_piece_ends_before_its_end(rt: HostRuntime) {
+    let cases: [(usize, &[u8]); 5] = [(0, b"SETTLE"), (9, b"1"), (10, b""), (17, b""), (18, b"")];
+    for (at, wanted) in cases {
+        same(&rt, rest_of_piece(TEXT, at, b'\n'), wanted);
+    }
+    same(&rt, rest_of_piece(b"TOTAL", 3, b'\n'), b"AL".as_slice());
 }

@@ -1,9 +1,9 @@
+use crate::same::same;
 use rx_escape::{Style, put_escaped};
-use std::test::Fail;
 
 // The wanted texts are what Python's html, json and repr read as these bytes.
 #[test]
-fn bytes_in_each_style(rt: HostRuntime) -> Result<(), Fail> {
+fn bytes_in_each_style(rt: HostRuntime) {
     let bytes = b"A\\B<i>\"C'&\x1b\x00\xff;";
     let cases = [
         (
@@ -15,8 +15,7 @@ fn bytes_in_each_style(rt: HostRuntime) -> Result<(), Fail> {
     ];
     for (style, wanted) in cases {
         let mut text = Vec::new(rt.alloc());
-        put_escaped(&mut text, style, bytes)?;
-        assert_eq!(rt; text.as_slice(), wanted.as_bytes());
+        put_escaped(&mut text, style, bytes).expect(&rt, "memory");
+        same(&rt, text.as_slice(), wanted.as_bytes());
     }
-    Ok(())
 }

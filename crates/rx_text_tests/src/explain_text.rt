@@ -1,11 +1,11 @@
+use crate::same::same;
 use rx_escape::Style;
 use rx_explain_text::{Page, field_bytes};
 use rx_fields::Code;
-use std::test::Fail;
+use std::alloc::{AllocError, Global};
 
-#[test]
-fn amounts_have_two_digits_of_cents(rt: HostRuntime) -> Result<(), Fail> {
-    let mut page = Page::new(rt.alloc());
+fn figures(alloc: Global) -> Result<Vec<u8>, AllocError> {
+    let mut page = Page::new(alloc);
     page.money(12705)?;
     page.say(" ")?;
     page.money(5)?;
@@ -18,16 +18,21 @@ fn amounts_have_two_digits_of_cents(rt: HostRuntime) -> Result<(), Fail> {
     page.thousandths(30_500)?;
     page.say(" ")?;
     page.escaped(Style::Json, b"a\"\x1b")?;
+    Ok(page.into_bytes())
+}
+
+#[test]
+fn amounts_have_two_digits_of_cents(rt: HostRuntime) {
+    let text = figures(rt.alloc()).expect(&rt, "memory");
     let wanted = b"$127.05 $0.05   $1.95 $9.50 $0.0375 30.500 a\\u0022\\u001B";
-    assert_eq!(rt; page.into_bytes().as_slice(), wanted.as_slice());
-    Ok(())
+    same(&rt, text.as_slice(), wanted.as_slice());
 }
 
 const REQUEST: &[u8] =
     b"900001D0B1RXDEMO    2011234567893     20260228          \x1e\x1cAM04\x1cC2C100 \x1cC3\x1d\x1e\x1cAM99\x1cD21\x1e\x1cAM07\x1cEM1\x1cD2x7 \x1d\x1e\x1cAM11\x1cD9\x02";
 
 #[test]
-fn the_bytes_of_a_field_are_found(_rt: HostRuntime) -> Result<(), Fail> {
+fn the_bytes_of_a_field_are_found(rt: HostRuntime) {
     let cases: [(u64, Code, Option<&[u8]>); 9] = [
         (0, Code::Bin, Some(b"900001")),
         (0, Code::Provider, Some(b"1234567893     ")),
@@ -40,12 +45,8 @@ fn the_bytes_of_a_field_are_found(_rt: HostRuntime) -> Result<(), Fail> {
         (2, Code::Syntax, Some(b"\x1e\x1cAM11\x1cD9\x02")),
     ];
     for (nth, code, wanted) in cases {
-        if field_bytes(REQUEST, nth, code) != wanted {
-            return Err("the bytes of a field".into());
-        }
+        same(&rt, field_bytes(REQUEST, nth, code), wanted);
     }
-    if field_bytes(b"9000", 0, Code::Bin) != Some(b"9000".as_slice()) {
-        return Err("a cut header".into());
-    }
-    Ok(())
+    let cut: &[u8] = b"9000";
+    same(&rt, field_bytes(cut, 0, Code::Bin), Some(cut));
 }

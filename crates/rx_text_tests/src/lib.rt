@@ -1,13 +1,9 @@
-//! The tests of the crates that write texts: lines of `show`, settlements, responses, reports, explanations, and what is
-//! told of faults. A module has the tests of the crate of that name.
+//! The tests of the crates that write texts. A module has the tests of the crate of that name.
 //!
-//! They stand apart from those crates, since a crate that has tests is proved twice.
+//! What these crates write whole, a command of the program prints: the scripts in `tests/` compare it there. So here are
+//! the parts of texts, and texts that no command shows as they are wanted here.
 #![tactic(auto)]
 
-#[cfg(test)]
-mod account;
-#[cfg(test)]
-mod check;
 #[cfg(test)]
 mod differ;
 #[cfg(test)]
@@ -15,30 +11,12 @@ mod escape;
 #[cfg(test)]
 mod explain_text;
 #[cfg(test)]
-mod replies;
-#[cfg(test)]
-mod report;
-#[cfg(test)]
-mod report_page;
-#[cfg(test)]
 mod report_text;
 #[cfg(test)]
 mod response;
 #[cfg(test)]
-mod sample;
+mod same;
 #[cfg(test)]
 mod settle;
 #[cfg(test)]
-mod show;
-#[cfg(test)]
-mod shown;
-#[cfg(test)]
 mod steps;
-#[cfg(test)]
-mod tabs;
-#[cfg(test)]
-mod told;
-#[cfg(test)]
-mod told_run;
-#[cfg(test)]
-mod verify;

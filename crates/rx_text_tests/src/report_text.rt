@@ -1,8 +1,8 @@
+use crate::same::same;
 use rx_report_text::put_dollars;
-use std::test::Fail;
 
 #[test]
-fn cents_as_dollars(rt: HostRuntime) -> Result<(), Fail> {
+fn cents_as_dollars(rt: HostRuntime) {
     let cases: [(&[u8], &[u8]); 8] = [
         (b"", b""),
         (b"0", b"0.00"),
@@ -15,8 +15,7 @@ fn cents_as_dollars(rt: HostRuntime) -> Result<(), Fail> {
     ];
     for (cents, wanted) in cases {
         let mut text = Vec::new(rt.alloc());
-        put_dollars(&mut text, cents)?;
-        assert_eq!(rt; text.as_slice(), wanted);
+        put_dollars(&mut text, cents).expect(&rt, "memory");
+        same(&rt, text.as_slice(), wanted);
     }
-    Ok(())
 }

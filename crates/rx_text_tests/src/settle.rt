@@ -1,3 +1,4 @@
+use crate::same::same;
 use rx_claim::{
     Amounts, Answer, Answers, Approved, Codes, Echo, EchoParts, Outcome, Paid, Pricing, Refused,
     Rejected, Reply,
@@ -6,7 +7,6 @@ use rx_fields::{Authorization, Cents, Code, Count, Lot, Reference, Stamp, date_r
 use rx_settle::settle;
 use std::alloc::Global;
 use std::process::Abort;
-use std::test::Fail;
 
 // What one transmission is answered: to each transaction, or to a rejected header with so many groups.
 #[derive(Clone, Copy)]
@@ -15,7 +15,12 @@ enum Told<'a> {
     Header(u64),
 }
 
-fn reply(alloc: Global, provider: &[u8; 15], told: &Told) -> Result<Reply, Fail> {
+fn heard(rt: &impl Abort, alloc: Global, answers: &[Answer]) -> Outcome {
+    let answers = answers.to_vec(alloc).expect(rt, "memory");
+    Outcome::Heard(Answers::new(answers).ok().expect(rt, "1 to 4"))
+}
+
+fn reply(rt: &impl Abort, alloc: Global, provider: &[u8; 15], told: Told) -> Reply {
     let echo = Echo::blanked(EchoParts {
         version: *b"D0",
         code: *b"B1",
@@ -24,19 +29,17 @@ fn reply(alloc: Global, provider: &[u8; 15], told: &Told) -> Result<Reply, Fail>
         date: *b"20260228",
     });
     let outcome = match told {
-        Told::Answers(items) => {
-            Outcome::Heard(Answers::new(items.to_vec(alloc)?).ok().ok_or("1 to 4")?)
-        }
+        Told::Answers(answers) => heard(rt, alloc, answers),
         Told::Header(groups) => Outcome::Rejected(Rejected {
             codes: Codes::one(Code::Provider),
-            groups: Count::new(*groups).ok_or("1 to 4")?,
+            groups: Count::new(groups).expect(rt, "1 to 4"),
         }),
     };
-    Ok(Reply { echo, outcome })
+    Reply { echo, outcome }
 }
 
 // A claim that is paid so much, all of it ingredient cost.
-fn paid(total_paid: u64) -> Result<Paid, Fail> {
+fn paid(rt: &impl Abort, total_paid: u64) -> Paid {
     let amounts = Amounts {
         ingredient_cost: total_paid,
         dispensing_fee: 0,
@@ -44,19 +47,19 @@ fn paid(total_paid: u64) -> Result<Paid, Fail> {
         copay: 0,
         coinsurance: 0,
     };
-    Ok(Paid {
-        number: Authorization::new(4_200_000_011).ok_or("a number")?,
-        reference: Reference::new(123).ok_or("a reference")?,
-        pricing: Pricing::new(amounts).ok_or("within the limits")?,
-    })
+    Paid {
+        number: Authorization::new(4_200_000_011).expect(rt, "a number"),
+        reference: Reference::new(123).expect(rt, "a reference"),
+        pricing: Pricing::new(amounts).expect(rt, "within the limits"),
+    }
 }
 
-fn taken_back(total_paid: u64) -> Result<Answer, Fail> {
-    Ok(Answer::Approved(Approved {
-        number: Authorization::new(4_400_000_011).ok_or("a number")?,
-        reference: Reference::new(123).ok_or("a reference")?,
-        total_paid: Cents::new(total_paid).ok_or("an amount")?,
-    }))
+fn taken_back(rt: &impl Abort, total_paid: u64) -> Answer {
+    Answer::Approved(Approved {
+        number: Authorization::new(4_400_000_011).expect(rt, "a number"),
+        reference: Reference::new(123).expect(rt, "a reference"),
+        total_paid: Cents::new(total_paid).expect(rt, "an amount"),
+    })
 }
 
 fn refused() -> Answer {
@@ -66,82 +69,40 @@ fn refused() -> Answer {
     })
 }
 
-fn settled(alloc: Global, number: u32, told: &[(&[u8; 15], Told)]) -> Result<Vec<u8>, Fail> {
-    let lot = Lot::new(number, date_read(b"20260301")?).ok_or("a lot")?;
-    let stamp = Stamp::new(b"202603020600").ok_or("a stamp")?;
+fn settled(rt: &impl Abort, alloc: Global, told: &[(&[u8; 15], Told)]) -> Vec<u8> {
+    let day = date_read(b"20260301").expect(rt, "a date");
+    let lot = Lot::new(42, day).expect(rt, "a lot");
+    let stamp = Stamp::new(b"202603020600").expect(rt, "a stamp");
     let mut replies = Vec::new(alloc);
     for (provider, told) in told {
-        replies.push(reply(alloc, provider, told)?)?;
+        let reply = reply(rt, alloc, provider, *told);
+        replies.push(reply).expect(rt, "memory");
     }
-    Ok(settle(alloc, lot, stamp, replies.as_slice())?)
-}
-
-// What is told in the batch of this number is settled by this text.
-fn settles(
-    rt: &impl Abort,
-    alloc: Global,
-    number: u32,
-    told: &[(&[u8; 15], Told)],
-    text: &str,
-) -> Result<(), Fail> {
-    let settlement = settled(alloc, number, told)?;
-    assert_eq!(rt; settlement.as_slice(), text.as_bytes());
-    Ok(())
+    settle(alloc, lot, stamp, replies.as_slice()).expect(rt, "memory")
 }
 
 const PHARMACY: &[u8; 15] = b"1234567893     ";
 
-#[test]
-fn settlements_of_the_worked_cases(rt: HostRuntime) -> Result<(), Fail> {
-    let one_billing = [(PHARMACY, Told::Answers(&[Answer::Paid(paid(17175)?)]))];
-    let text = "SETTLE|1|0000042|202603020600\nP|1234567893|1|0|0|0|17175\nTOTAL|1|0|0|0|17175\n";
-    settles(&rt, rt.alloc(), 42, &one_billing, text)?;
-    let text = "SETTLE|1|0000042|202603020600\nTOTAL|0|0|0|0|0\n";
-    settles(&rt, rt.alloc(), 42, &[], text)?;
-    let empty_transmission = [(b"               ", Told::Header(1))];
-    let text = "SETTLE|1|0000042|202603020600\nP||0|0|0|1|0\nTOTAL|0|0|0|1|0\n";
-    settles(&rt, rt.alloc(), 42, &empty_transmission, text)
-}
-
-#[test]
-fn settlements_of_the_worked_reversals(rt: HostRuntime) -> Result<(), Fail> {
-    let last_years = [(PHARMACY, Told::Answers(&[taken_back(17175)?]))];
-    let text = "SETTLE|1|0000042|202603020600\nP|1234567893|0|0|1|0|-17175\nTOTAL|0|0|1|0|-17175\n";
-    settles(&rt, rt.alloc(), 42, &last_years, text)?;
-    let twice_and_again = [
-        (PHARMACY, Told::Answers(&[taken_back(17175)?])),
-        (PHARMACY, Told::Answers(&[refused()])),
-        (PHARMACY, Told::Answers(&[Answer::Paid(paid(17175)?)])),
-    ];
-    let text = "SETTLE|1|0000044|202603020600\nP|1234567893|1|0|1|1|0\nTOTAL|1|0|1|1|0\n";
-    settles(&rt, rt.alloc(), 44, &twice_and_again, text)?;
-    let family_deductible = [
-        (PHARMACY, Told::Answers(&[taken_back(17175)?])),
-        (PHARMACY, Told::Answers(&[Answer::Paid(paid(0)?)])),
-    ];
-    let text = "SETTLE|1|0000047|202603020600\nP|1234567893|1|0|1|0|-17175\nTOTAL|1|0|1|0|-17175\n";
-    settles(&rt, rt.alloc(), 47, &family_deductible, text)
-}
-
 // The text is what an independent program makes of these replies.
 #[test]
-fn pharmacies_stand_in_order_of_first_appearance(rt: HostRuntime) -> Result<(), Fail> {
-    let most = Answer::Paid(paid(99_999_999)?);
+fn pharmacies_stand_in_order_of_first_appearance(rt: HostRuntime) {
+    let (some, most) = (paid(&rt, 17175), Answer::Paid(paid(&rt, 99_999_999)));
     let zulu: &[u8; 15] = b"ZULU PHARMACY  ";
+    let back = taken_back(&rt, 17175);
     let told = [
         (
             zulu,
-            Told::Answers(&[Answer::Paid(paid(17175)?), Answer::Twice(paid(17175)?)]),
+            Told::Answers(&[Answer::Paid(some), Answer::Twice(some)]),
         ),
         (b"               ", Told::Header(3)),
         (
             PHARMACY,
-            Told::Answers(&[Answer::Paid(paid(141)?), taken_back(17175)?, refused()]),
+            Told::Answers(&[Answer::Paid(paid(&rt, 141)), back, refused()]),
         ),
         (b"AB|C           ", Told::Header(1)),
-        (zulu, Told::Answers(&[taken_back(17175)?, taken_back(1)?])),
+        (zulu, Told::Answers(&[back, taken_back(&rt, 1)])),
         (b"ABCDEFGHIJKLMNO", Told::Answers(&[most, most, most, most])),
-        (PHARMACY, Told::Answers(&[Answer::Paid(paid(17175)?)])),
+        (PHARMACY, Told::Answers(&[Answer::Paid(some)])),
     ];
     let text = "SETTLE|1|0000042|202603020600\n\
         P|ZULU PHARMACY|1|1|2|0|-1\n\
@@ -149,5 +110,6 @@ fn pharmacies_stand_in_order_of_first_appearance(rt: HostRuntime) -> Result<(), 
         P|1234567893|2|0|1|1|141\n\
         P|ABCDEFGHIJKLMNO|4|0|0|0|399999996\n\
         TOTAL|7|1|3|5|400000136\n";
-    settles(&rt, rt.alloc(), 42, &told, text)
+    let settlement = settled(&rt, rt.alloc(), &told);
+    same(&rt, settlement.as_slice(), text.as_bytes());
 }

@@ -1,59 +1,41 @@
+use crate::same::same;
 use rx_steps::{Answers, Counted, Done, Name, Step, done_line, progress_line, step_line};
-use std::alloc::Global;
-use std::process::Abort;
-use std::test::*;
-
-// The line of this step.
-fn tells(rt: &impl Abort, alloc: Global, step: &Step, wanted: &str) -> Result<(), Fail> {
-    let line = step_line(alloc, step)?;
-    assert_eq!(rt; line.as_slice(), wanted.as_bytes());
-    Ok(())
-}
 
 #[test]
-fn books_of_a_million_lines(rt: HostRuntime) -> Result<(), Fail> {
+fn books_of_a_million_lines(rt: HostRuntime) {
     let step = Step {
         name: Name::Books,
         counted: Some(Counted::Lines(990_001)),
         bytes: Some(78_041_222),
         micros: Some(214_999),
     };
-    tells(
-        &rt,
-        rt.alloc(),
-        &step,
-        "books        990,001 lines  78.0 MB  0.21 s\n",
-    )
+    let line = step_line(rt.alloc(), &step).expect(&rt, "memory");
+    let wanted = b"books        990,001 lines  78.0 MB  0.21 s\n";
+    same(&rt, line.as_slice(), wanted.as_slice());
 }
 
 #[test]
-fn a_step_of_which_little_is_known(rt: HostRuntime) -> Result<(), Fail> {
+fn a_step_of_which_little_is_known(rt: HostRuntime) {
     let step = Step {
         name: Name::Batch,
         counted: Some(Counted::Records(1)),
         bytes: Some(999_999),
         micros: None,
     };
-    tells(
-        &rt,
-        rt.alloc(),
-        &step,
-        "batch        1 record  999,999 bytes\n",
-    )
+    let line = step_line(rt.alloc(), &step).expect(&rt, "memory");
+    let wanted = b"batch        1 record  999,999 bytes\n";
+    same(&rt, line.as_slice(), wanted.as_slice());
 }
 
 #[test]
-fn a_run_that_goes_on(rt: HostRuntime) -> Result<(), Fail> {
-    let line = progress_line(rt.alloc(), 45_120, 100_000)?;
-    assert_eq!(rt;
-        line.as_slice(),
-        b"adjudicated  45,120 of 100,000 records\n".as_slice()
-    );
-    Ok(())
+fn a_run_that_goes_on(rt: HostRuntime) {
+    let line = progress_line(rt.alloc(), 45_120, 100_000).expect(&rt, "memory");
+    let wanted = b"adjudicated  45,120 of 100,000 records\n";
+    same(&rt, line.as_slice(), wanted.as_slice());
 }
 
 #[test]
-fn a_run_that_is_done(rt: HostRuntime) -> Result<(), Fail> {
+fn a_run_that_is_done(rt: HostRuntime) {
     let done = Done {
         answers: Some(Answers {
             paid: 12,
@@ -65,9 +47,8 @@ fn a_run_that_is_done(rt: HostRuntime) -> Result<(), Fail> {
         peak: Some(512_300_000),
         micros: Some(1_420_000),
     };
-    let line = done_line(rt.alloc(), &done)?;
+    let line = done_line(rt.alloc(), &done).expect(&rt, "memory");
     let wanted =
         b"done         12 paid, 1 duplicate, 2 approved, 8,000 rejected, net -79.80  peak 512.3 MB  1.42 s\n";
-    assert_eq!(rt; line.as_slice(), wanted.as_slice());
-    Ok(())
+    same(&rt, line.as_slice(), wanted.as_slice());
 }

@@ -36,6 +36,14 @@ pub(crate) struct DeskCounter {
 }
 
 impl DeskCounter {
+    /// The desk at the end of the work; Memory where that stopped for want of it.
+    pub(crate) fn into_desk(self) -> Result<Desk, Memory> {
+        if self.lacks_memory {
+            return Err(Memory);
+        }
+        Ok(self.desk)
+    }
+
     fn stop_for_memory(&mut self) {
         self.stopped = true;
         self.lacks_memory = true;
@@ -62,14 +70,13 @@ impl Counter for DeskCounter {
     }
 
     fn take_back(&mut self, made: Result<Done, (Order, Memory)>) -> Option<Remains> {
-        match made {
-            Ok(done) => match self.desk.give_apart(done) {
-                Ok(remains) => return Some(remains),
-                Err(_) => self.stopped = true,
-            },
-            Err(_) => self.stop_for_memory(),
-        }
-        None
+        let Ok(done) = made else {
+            self.stop_for_memory();
+            return None;
+        };
+        let remains = self.desk.give_apart(done).ok();
+        self.stopped |= remains.is_none();
+        remains
     }
 
     fn stop(&mut self) {

@@ -1,10 +1,12 @@
-ghost use Rattle.std.specs.Prelude.{◌≡◌, ◌≤◌, IfOk, length};
+ghost use Rattle.std.specs.Prelude.{◌≡◌, ◌≤◌, IfOk, OnOk, length};
+ghost use Rattle.std.specs.List.{All};
 ghost use Rattle.rx_fields.specs.declared.limits.TheConstants.{MOST_DETAILS};
 ghost use Rattle.rx_ledger.specs.Fold.{fold_ledger, fold_replies};
+ghost use Rattle.rx_in_order.specs.Underway.{IsAwaited};
 
 use crate::gate::Gate;
 use rx_books_kept::Books;
-use rx_claim::Transmission;
+use rx_claim::{Reply, Transmission};
 use rx_fields::{Lot, Memory};
 use rx_in_order::{Finished, InOrder};
 use rx_ledger::Sheet;
@@ -52,6 +54,31 @@ pub fn run_one_on<G: Gate>(
         finished.replies.items ≡ fold_replies lot sheet.now 1 transmissions.now books.ledger) }
 {
     let mut order = InOrder::new(alloc, books, transmissions)?;
+    let replies = replies_of(gate, alloc, lot, sheet, &mut order, transmissions)?;
+    Ok(Finished {
+        books: order.close(),
+        replies,
+    })
+}
+
+// The replies to the records, each on what the earlier ones left.
+fn replies_of<G: Gate>(
+    gate: &G,
+    alloc: Global,
+    lot: Lot,
+    sheet: &Sheet,
+    order: &mut InOrder,
+    transmissions: &[Transmission],
+) -> Result<Vec<Reply>, Memory>
+    requires period { order.old.books.period ≡ sheet.now.figures.period }
+    requires few { length transmissions.now ≤ MOST_DETAILS }
+    requires awaited { All (IsAwaited order.old) transmissions.now }
+    ensures period { OnOk result (order.new.books.period ≡ sheet.now.figures.period) }
+    ensures ledger { OnOk result (order.new.books.ledger
+        ≡ fold_ledger lot sheet.now 1 transmissions.now order.old.books.ledger) }
+    ensures value { IfOk result (λ replies.
+        replies.items ≡ fold_replies lot sheet.now 1 transmissions.now order.old.books.ledger) }
+{
     let mut replies = Vec::with_capacity(alloc, transmissions.len())?;
     for (at, transmission) in transmissions.iter().enumerate() {
         let place = at + 1;
@@ -61,11 +88,5 @@ pub fn run_one_on<G: Gate>(
         gate.leave(place);
         replies.push(reply)?;
     }
-    Ok(Finished {
-        books: order.close(),
-        replies,
-    })
+    Ok(replies)
 }
-
-#[cfg(test)]
-pub(crate) mod tests;

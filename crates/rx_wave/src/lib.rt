@@ -14,15 +14,12 @@
 #![tactic(auto)]
 
 mod counter;
-mod craft;
 mod decoding;
 mod gain;
 mod gate;
 mod in_order;
 mod rough;
 mod run_fault;
-#[cfg(test)]
-mod tests;
 mod workers;
 
 pub use decoding::{decode_all, decode_in_parts};

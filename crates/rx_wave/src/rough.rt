@@ -40,17 +40,23 @@ struct Rough {
 impl Rough {
     // Before the first record.
     fn of(alloc: Global, books: &Books) -> Result<Rough, Memory> {
-        let opened = books.copy(alloc, books.period())?.open(alloc, &[])?;
-        let claims = claims_of(alloc, &opened)?;
         let mut rough = Rough {
             families: vec![in alloc; 0u64; BUCKETS]?,
             largest: 0,
             references: vec![in alloc; 0u64; BUCKETS]?,
         };
-        for (member, count) in opened.members().iter().zip(claims.iter()) {
-            rough.count(&member.key.family, count.saturating_add(1));
-        }
+        rough.count_standing(alloc, books)?;
         Ok(rough)
+    }
+
+    // Counts each member, and its claims, for its family.
+    fn count_standing(&mut self, alloc: Global, books: &Books) -> Result<(), Memory> {
+        let opened = books.copy(alloc, books.period())?.open(alloc, &[])?;
+        let claims = claims_of(alloc, &opened)?;
+        for (member, count) in opened.members().iter().zip(claims.iter()) {
+            self.count(&member.key.family, count.saturating_add(1));
+        }
+        Ok(())
     }
 
     // Counts so many more for a family: what it had before.

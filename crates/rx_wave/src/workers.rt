@@ -4,12 +4,11 @@ ghost use Rattle.rx_ledger.specs.Fold.{fold_ledger, fold_replies};
 ghost use Rattle.rx_wave.specs.Workers.{RefusesOne, are_workers};
 
 use crate::counter::{Counter, DeskCounter, Turn};
-use crate::craft::{Adjudicates, Craft};
 use crate::gain::may_gain;
 use crate::gate::Gate;
 use crate::in_order::run_one;
 use crate::run_fault::RunFault;
-use rx_adjudicate::{Done, Order};
+use rx_adjudicate::{Done, Order, adjudicate};
 use rx_books_kept::Books;
 use rx_claim::{Transmission, copies};
 use rx_desk::Desk;
@@ -104,7 +103,7 @@ fn run_shared<R: Threads + Wait + Sync, G: Gate + Sync>(
         return Ok(None);
     }
     let desk = desk_of(alloc, lot, sheet, books, transmissions)?;
-    let desk = worked_off(rt, alloc, gate, &Adjudicates, workers, desk)?;
+    let desk = worked_off(rt, alloc, gate, workers, desk)?;
     Ok(closed_for(desk, lot, sheet, books, transmissions))
 }
 
@@ -161,12 +160,11 @@ fn desk_of(
     Desk::new(alloc, lot, sheet, books, transmissions)
 }
 
-/// The desk, after so many workers took what it handed out and gave it back.
-pub(crate) fn worked_off<R: Threads + Wait + Sync, G: Gate + Sync, W: Craft + Sync>(
+// The desk, after so many workers took what it handed out and gave it back.
+fn worked_off<R: Threads + Wait + Sync, G: Gate + Sync>(
     rt: &R,
     alloc: Global,
     gate: &G,
-    craft: &W,
     workers: u16,
     desk: Desk,
 ) -> Result<Desk, RunFault>
@@ -180,15 +178,8 @@ pub(crate) fn worked_off<R: Threads + Wait + Sync, G: Gate + Sync, W: Craft + Sy
         lacks_memory: false,
     });
     let changed = Condvar::new();
-    let refused = start_all(rt, alloc, gate, craft, workers as usize, &shared, &changed);
-    let DeskCounter {
-        desk,
-        lacks_memory,
-        ..
-    } = shared.into_inner();
-    if lacks_memory {
-        return Err(RunFault::Memory);
-    }
+    let refused = start_all(rt, alloc, gate, workers as usize, &shared, &changed);
+    let desk = shared.into_inner().into_desk()?;
     if refused {
         return Err(RunFault::Thread);
     }
@@ -196,11 +187,10 @@ pub(crate) fn worked_off<R: Threads + Wait + Sync, G: Gate + Sync, W: Craft + Sy
 }
 
 // Starts the workers and waits until all have ended; true where the gate refused one.
-fn start_all<R: Threads + Wait + Sync, G: Gate + Sync, W: Craft + Sync, C: Counter + Send>(
+fn start_all<R: Threads + Wait + Sync, G: Gate + Sync, C: Counter + Send>(
     rt: &R,
     alloc: Global,
     gate: &G,
-    craft: &W,
     workers: usize,
     shared: &Mutex<C>,
     changed: &Condvar,
@@ -223,7 +213,7 @@ fn start_all<R: Threads + Wait + Sync, G: Gate + Sync, W: Craft + Sync, C: Count
                     return true;
                 }
                 if scope
-                    .spawn(move || work(rt, alloc, gate, craft, shared, changed))
+                    .spawn(move || work(rt, alloc, gate, shared, changed))
                     .is_err()
                 {
                     stop(rt, shared, changed);
@@ -243,11 +233,10 @@ fn stop<R: Wait, C: Counter>(rt: &R, shared: &Mutex<C>, changed: &Condvar) {
 
 // The work of one thread. Where a record is left that can go, it wakes one of those that wait, which does the same; where
 // it ends, it wakes all. Where it waits itself, another has a record out, and goes on after that.
-fn work<R: Wait, G: Gate, W: Craft, C: Counter>(
+fn work<R: Wait, G: Gate, C: Counter>(
     rt: &R,
     alloc: Global,
     gate: &G,
-    craft: &W,
     shared: &Mutex<C>,
     changed: &Condvar,
 ) {
@@ -261,7 +250,7 @@ fn work<R: Wait, G: Gate, W: Craft, C: Counter>(
                     changed.notify_one();
                 }
                 drop(remains);
-                let made = made_of(alloc, gate, craft, order);
+                let made = made_of(alloc, gate, order);
                 guard = locked(rt, shared);
                 remains = guard.take_back(made);
             }
@@ -289,18 +278,10 @@ fn locked<'a, R: Wait, C>(rt: &R, shared: &'a Mutex<C>) -> MutexGuard<'a, C> {
 }
 
 // What is made of an order, between the two calls of the gate.
-fn made_of<G: Gate, W: Craft>(
-    alloc: Global,
-    gate: &G,
-    craft: &W,
-    order: Order,
-) -> Result<Done, (Order, Memory)> {
+fn made_of<G: Gate>(alloc: Global, gate: &G, order: Order) -> Result<Done, (Order, Memory)> {
     let place = order.place() as usize;
     gate.enter(place);
-    let made = craft.make(alloc, order);
+    let made = adjudicate(alloc, order);
     gate.leave(place);
     made
 }
-
-#[cfg(test)]
-mod tests;

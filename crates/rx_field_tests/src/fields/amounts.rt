@@ -1,7 +1,7 @@
 use crate::table::same_at;
 use rx_fields::{FieldFault, signed_read, signed_write};
 
-const AMOUNTS_READ: [(&str, Result<i64, FieldFault>); 41] = [
+const AMOUNTS_READ: &[(&str, Result<i64, FieldFault>)] = &[
     ("0001717N", Ok(-17175)),
     ("0001717E", Ok(17175)),
     ("0003000}", Ok(-30000)),
@@ -47,12 +47,12 @@ const AMOUNTS_READ: [(&str, Result<i64, FieldFault>); 41] = [
 
 #[test]
 fn amounts_are_read_with_their_sign(rt: HostRuntime) {
-    for (text, cents) in AMOUNTS_READ {
+    for &(text, cents) in AMOUNTS_READ {
         same_at(&rt, text, &signed_read(text.as_bytes()), &cents);
     }
 }
 
-const AMOUNTS_WRITTEN: [(&str, i64); 8] = [
+const AMOUNTS_WRITTEN: &[(&str, i64)] = &[
     ("0001717E", 17175),
     ("0001717N", -17175),
     ("0000000{", 0),
@@ -65,7 +65,7 @@ const AMOUNTS_WRITTEN: [(&str, i64); 8] = [
 
 #[test]
 fn amounts_have_one_spelling(rt: HostRuntime) {
-    for (text, cents) in AMOUNTS_WRITTEN {
+    for &(text, cents) in AMOUNTS_WRITTEN {
         assert!(rt; cents.unsigned_abs() <= 99_999_999);
         same_at(&rt, text, &signed_write(cents).as_slice(), &text.as_bytes());
         same_at(&rt, text, &signed_read(text.as_bytes()), &Ok(cents));

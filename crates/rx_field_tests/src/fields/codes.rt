@@ -2,7 +2,7 @@ use crate::table::{same, same_at};
 use rx_fields::{Code, FieldFault, IdFault, Memory};
 use std::alloc::{AllocError, AllocFailed};
 
-const CODES: [(&str, Code); 31] = [
+const CODES: &[(&str, Code)] = &[
     ("01", Code::Bin),
     ("02", Code::Version),
     ("03", Code::TransactionCode),
@@ -36,15 +36,15 @@ const CODES: [(&str, Code); 31] = [
     ("R8", Code::Syntax),
 ];
 
-const NO_CODES: [&str; 8] = ["", "0", "00", "06", "010", "R9", "a9", "AM"];
+const NO_CODES: &[&str] = &["", "0", "00", "06", "010", "R9", "a9", "AM"];
 
 #[test]
 fn reject_codes_are_read_as_written(rt: HostRuntime) {
-    for (text, code) in CODES {
+    for &(text, code) in CODES {
         same_at(&rt, text, &code.text().as_slice(), &text.as_bytes());
         same_at(&rt, text, &Code::new(text.as_bytes()), &Some(code));
     }
-    for text in NO_CODES {
+    for &text in NO_CODES {
         same_at(&rt, text, &Code::new(text.as_bytes()), &None);
     }
 }

@@ -8,7 +8,7 @@ fn day(rt: &impl Abort, text: &str) -> Day {
 
 // The numbers are those of Python's `(date - date(1970, 1, 1)).days`. Python has no year 0000: its 366 days are counted
 // back from 0001-01-01.
-const DAYS_READ: [(&str, (u16, u8, u8), i32); 16] = [
+const DAYS_READ: &[(&str, (u16, u8, u8), i32)] = &[
     ("00000101", (0, 1, 1), -719_528),
     ("00000229", (0, 2, 29), -719_469),
     ("00000301", (0, 3, 1), -719_468),
@@ -27,7 +27,7 @@ const DAYS_READ: [(&str, (u16, u8, u8), i32); 16] = [
     ("99991231", (9999, 12, 31), 2_932_896),
 ];
 
-const DAYS_REFUSED: [(&str, FieldFault); 10] = [
+const DAYS_REFUSED: &[(&str, FieldFault)] = &[
     ("", FieldFault::Empty),
     ("202602280", FieldFault::TooLong),
     ("2026022A", FieldFault::NotDigit),
@@ -42,19 +42,19 @@ const DAYS_REFUSED: [(&str, FieldFault); 10] = [
 
 #[test]
 fn days_are_numbered_from_1970(rt: HostRuntime) {
-    for (text, date, number) in DAYS_READ {
+    for &(text, date, number) in DAYS_READ {
         let day = day(&rt, text);
         same_at(&rt, text, &(day.year(), day.month(), day.day()), &date);
         same_at(&rt, text, &day.number(), &number);
         same_at(&rt, text, &date_write(day).as_slice(), &text.as_bytes());
     }
-    for (text, fault) in DAYS_REFUSED {
+    for &(text, fault) in DAYS_REFUSED {
         same_at(&rt, text, &date_read(text.as_bytes()), &Err(fault));
     }
 }
 
 // The last day of each month but February, and the day after it.
-const ENDS: [(&str, &str); 11] = [
+const ENDS: &[(&str, &str)] = &[
     ("0131", "0132"),
     ("0331", "0332"),
     ("0430", "0431"),
@@ -72,7 +72,7 @@ const FEBRUARY: (&str, &str) = ("0228", "0229");
 
 const FEBRUARY_OF_A_LEAP_YEAR: (&str, &str) = ("0229", "0230");
 
-const YEARS: [(&str, (&str, &str)); 8] = [
+const YEARS: &[(&str, (&str, &str))] = &[
     ("0000", FEBRUARY_OF_A_LEAP_YEAR),
     ("1900", FEBRUARY),
     ("2000", FEBRUARY_OF_A_LEAP_YEAR),
@@ -101,15 +101,15 @@ fn ends(rt: &impl Abort, year: &str, (last, after): (&str, &str)) {
 
 #[test]
 fn months_end_on_their_last_day(rt: HostRuntime) {
-    for (year, february) in YEARS {
-        for end in ENDS {
+    for &(year, february) in YEARS {
+        for &end in ENDS {
             ends(&rt, year, end);
         }
         ends(&rt, year, february);
     }
 }
 
-const DAYS_OF_2026: [(&str, bool); 5] = [
+const DAYS_OF_2026: &[(&str, bool)] = &[
     ("20251231", false),
     ("20260101", true),
     ("20260228", true),
@@ -122,7 +122,7 @@ fn periods_hold_both_their_ends(rt: HostRuntime) {
     let (first, last) = (day(&rt, "20260101"), day(&rt, "20261231"));
     let year = Period::new(first, last).expect(&rt, "a period");
     same!(rt; (year.first(), year.last()), (first, last));
-    for (text, is_within) in DAYS_OF_2026 {
+    for &(text, is_within) in DAYS_OF_2026 {
         same_at(&rt, text, &year.contains(day(&rt, text)), &is_within);
     }
     same!(rt; Period::new(first, first).is_some(), true);
@@ -130,13 +130,13 @@ fn periods_hold_both_their_ends(rt: HostRuntime) {
 }
 
 // A stamp, its day, its time, and the time's hour and minute.
-const STAMPS_READ: [(&str, &str, &str, (u8, u8)); 3] = [
+const STAMPS_READ: &[(&str, &str, &str, (u8, u8))] = &[
     ("202603020600", "20260302", "0600", (6, 0)),
     ("000002290000", "00000229", "0000", (0, 0)),
     ("999912312359", "99991231", "2359", (23, 59)),
 ];
 
-const STAMPS_REFUSED: [&str; 8] = [
+const STAMPS_REFUSED: &[&str] = &[
     "202602300600",
     "202603022400",
     "202603020660",
@@ -147,7 +147,7 @@ const STAMPS_REFUSED: [&str; 8] = [
     "",
 ];
 
-const TIMES_REFUSED: [&str; 6] = ["2400", "0060", "9999", "600", "06000", "06:0"];
+const TIMES_REFUSED: &[&str] = &["2400", "0060", "9999", "600", "06000", "06:0"];
 
 // The stamp of a text has this day and time, and this hour and minute.
 fn is_stamp(rt: &impl Abort, text: &str, date: &str, time: &str, clock: (u8, u8)) {
@@ -165,13 +165,13 @@ fn is_stamp(rt: &impl Abort, text: &str, date: &str, time: &str, clock: (u8, u8)
 
 #[test]
 fn stamps_are_a_day_and_a_time(rt: HostRuntime) {
-    for (text, date, time, clock) in STAMPS_READ {
+    for &(text, date, time, clock) in STAMPS_READ {
         is_stamp(&rt, text, date, time, clock);
     }
-    for text in STAMPS_REFUSED {
+    for &text in STAMPS_REFUSED {
         same_at(&rt, text, &Stamp::new(text.as_bytes()), &None);
     }
-    for text in TIMES_REFUSED {
+    for &text in TIMES_REFUSED {
         same_at(&rt, text, &Time::new(text.as_bytes()), &None);
     }
 }

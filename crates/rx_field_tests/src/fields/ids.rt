@@ -4,7 +4,7 @@ use std::cmp::Ordering;
 use std::process::Abort;
 
 // A text, the most bytes that its id may have, and the id.
-const IDS_READ: [(&str, usize, &str); 9] = [
+const IDS_READ: &[(&str, usize, &str)] = &[
     ("C100", 20, "C100"),
     ("C100   ", 20, "C100"),
     ("1234567893     ", 15, "1234567893"),
@@ -16,7 +16,7 @@ const IDS_READ: [(&str, usize, &str); 9] = [
     ("ABCDEFGHIJKLMNOPQRST  ", 20, "ABCDEFGHIJKLMNOPQRST"),
 ];
 
-const IDS_REFUSED: [(&str, usize, IdFault); 11] = [
+const IDS_REFUSED: &[(&str, usize, IdFault)] = &[
     ("", 20, IdFault::Blank),
     ("    ", 20, IdFault::Blank),
     ("ABCDEFGHIJKLMNOPQRSTU", 20, IdFault::TooLong),
@@ -32,12 +32,12 @@ const IDS_REFUSED: [(&str, usize, IdFault); 11] = [
 
 #[test]
 fn ids_are_trimmed_texts(rt: HostRuntime) {
-    for (text, max, id) in IDS_READ {
+    for &(text, max, id) in IDS_READ {
         assert!(rt; max <= 20);
         let read = Id::new(text.as_bytes(), max).expect(&rt, "an id");
         same_at(&rt, text, &read.bytes(), &id.as_bytes());
     }
-    for (text, max, fault) in IDS_REFUSED {
+    for &(text, max, fault) in IDS_REFUSED {
         assert!(rt; max <= 20);
         same_at(&rt, text, &Id::new(text.as_bytes(), max), &Err(fault));
     }
@@ -64,7 +64,7 @@ fn short_ids_have_at_most_their_length(rt: HostRuntime) {
 }
 
 // Ascending: by bytes, a prefix first.
-const IDS_IN_ORDER: [&str; 10] = [
+const IDS_IN_ORDER: &[&str] = &[
     " A",
     "01",
     "1",
@@ -87,20 +87,25 @@ fn order(rt: &impl Abort, low: &str, high: &str) -> (Ordering, Option<Ordering>,
     (low.cmp(&high), high.partial_cmp(&low), low == high)
 }
 
+// The id of this text is equal to itself, and below those of the others.
+fn is_below(rt: &impl Abort, low: &str, others: &[&str]) {
+    let equal = (Ordering::Equal, Some(Ordering::Equal), true);
+    same_at(rt, low, &order(rt, low, low), &equal);
+    let below = (Ordering::Less, Some(Ordering::Greater), false);
+    for high in others {
+        same_at(rt, high, &order(rt, low, high), &below);
+    }
+}
+
 #[test]
 fn ids_are_ordered_a_prefix_first(rt: HostRuntime) {
-    let below = (Ordering::Less, Some(Ordering::Greater), false);
-    let equal = (Ordering::Equal, Some(Ordering::Equal), true);
-    for (i, low) in IDS_IN_ORDER.into_iter().enumerate() {
-        same_at(&rt, low, &order(&rt, low, low), &equal);
-        for high in &IDS_IN_ORDER[i + 1..] {
-            same_at(&rt, low, &(*high, order(&rt, low, high)), &(*high, below));
-        }
+    for (i, low) in IDS_IN_ORDER.iter().enumerate() {
+        is_below(&rt, low, &IDS_IN_ORDER[i + 1..]);
     }
     same!(rt; Id::new(b"A ", 20), Id::new(b"A", 3));
 }
 
-const KEYS_IN_ORDER: [(&str, u64, &str); 5] = [
+const KEYS_IN_ORDER: &[(&str, u64, &str)] = &[
     ("A", 9, "20261231"),
     ("AA", 1, "20260201"),
     ("AA", 1, "20260202"),
@@ -116,11 +121,16 @@ fn key(rt: &impl Abort, (provider, reference, date): (&str, u64, &str)) -> Key {
     }
 }
 
+// The first key is below the others.
+fn is_key_below(rt: &impl Abort, low: Key, others: &[(&str, u64, &str)]) {
+    for high in others {
+        same_at(rt, high.2, &(low < key(rt, *high)), &true);
+    }
+}
+
 #[test]
 fn fill_keys_are_ordered_by_provider_then_reference_then_date(rt: HostRuntime) {
-    for (i, low) in KEYS_IN_ORDER.into_iter().enumerate() {
-        for high in &KEYS_IN_ORDER[i + 1..] {
-            same_at(&rt, high.2, &(key(&rt, low) < key(&rt, *high)), &true);
-        }
+    for (i, low) in KEYS_IN_ORDER.iter().enumerate() {
+        is_key_below(&rt, key(&rt, *low), &KEYS_IN_ORDER[i + 1..]);
     }
 }

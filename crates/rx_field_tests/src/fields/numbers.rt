@@ -4,7 +4,7 @@ use rx_fields::{
 };
 
 // A text, the most digits that it may have, and its number.
-const NUMBERS_READ: [(&str, usize, Result<u64, FieldFault>); 11] = [
+const NUMBERS_READ: &[(&str, usize, Result<u64, FieldFault>)] = &[
     ("0", 1, Ok(0)),
     ("0000000042", 10, Ok(42)),
     ("091", 3, Ok(91)),
@@ -20,7 +20,7 @@ const NUMBERS_READ: [(&str, usize, Result<u64, FieldFault>); 11] = [
 
 #[test]
 fn numbers_are_digits_alone(rt: HostRuntime) {
-    for (text, max, number) in NUMBERS_READ {
+    for &(text, max, number) in NUMBERS_READ {
         assert!(rt; max <= 19);
         same_at(&rt, text, &number_read(text.as_bytes(), max), &number);
     }
@@ -49,14 +49,14 @@ fn lots_have_seven_digits(rt: HostRuntime) {
     same!(rt; Lot::new(10_000_000, created), None);
 }
 
-const PRODUCTS_REFUSED: [&str; 4] = ["0000200020", "000020002020", "0000200020A", ""];
+const PRODUCTS_REFUSED: &[&str] = &["0000200020", "000020002020", "0000200020A", ""];
 
 #[test]
 fn products_have_eleven_digits(rt: HostRuntime) {
     let product = Product::new(b"00002000202").expect(&rt, "a product");
     same!(rt; product.number(), 2_000_202);
     same!(rt; product.digits(), *b"00002000202");
-    for text in PRODUCTS_REFUSED {
+    for &text in PRODUCTS_REFUSED {
         same_at(&rt, text, &Product::new(text.as_bytes()), &None);
     }
 }

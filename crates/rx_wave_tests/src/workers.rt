@@ -1,20 +1,14 @@
-// What no clause says: that records go beside one another, each once; that the desk answers; and that a run ends where a
-// worker lacks memory or a thread is refused. Cases are those of docs/CASES.md.
+// What no clause says: that records go beside one another, each once, and that a run ends where a thread is refused. Cases are
+// those of docs/CASES.md.
 ghost use Rattle.std.specs.Prelude.{◌≡◌, ◌≤◌, length, true};
 
-use super::{desk_of, run_waves, worked_off};
-use crate::craft::{Adjudicates, Craft};
-use crate::gain::{MOST_FOR_A_RECORD, may_gain};
-use crate::in_order::tests::{
+use crate::in_order::{
     add_last_years_claim, billing_of, books_of, enroll, id, lot, plain_sheet, same, status,
 };
-use crate::{Finished, Gate, NoGate, RunFault};
-use rx_adjudicate::{Done, Order};
 use rx_books_kept::Books;
 use rx_claim::Transmission;
-use rx_desk::Desk;
-use rx_fields::Memory;
 use rx_ledger::{Ledger, Sheet};
+use rx_wave::{Finished, Gate, NoGate, RunFault, run_waves};
 use std::alloc::Global;
 use std::process::Abort;
 use std::sync::Wait;
@@ -120,10 +114,10 @@ fn is_billed_once(rt: &impl Abort, finished: &Finished) {
     if finished.replies.len() != 2 {
         same(rt, (status(finished, 2), status(finished, 3)), (b'R', b'R'));
     }
-    for family in [b"C100", b"C200"] {
+    for family in &[b"C100", b"C200"] {
         same(
             rt,
-            finished.books.out_of_pocket(&id(rt, family)),
+            finished.books.out_of_pocket(&id(rt, *family)),
             Some(13_000),
         );
     }
@@ -242,7 +236,7 @@ fn a_record_goes_beside_one_that_is_held(rt: HostRuntime) {
 #[test]
 fn two_records_are_out_at_once(rt: HostRuntime) {
     let asked = two_records(&rt, rt.alloc());
-    for workers in [2, 3, 64] {
+    for &workers in &[2, 3, 64] {
         goes_well(&rt, rt.alloc(), workers, Holds::Both, &asked, 11);
     }
 }
@@ -250,7 +244,7 @@ fn two_records_are_out_at_once(rt: HostRuntime) {
 #[test]
 fn each_place_is_passed_once(rt: HostRuntime) {
     let asked = four_records(&rt, rt.alloc());
-    for workers in [1, 2, 3, 64] {
+    for &workers in &[1, 2, 3, 64] {
         goes_well(&rt, rt.alloc(), workers, Holds::Nobody, &asked, 1_111);
     }
 }
@@ -278,11 +272,11 @@ impl Gate for Without {
 fn a_refused_start_is_thread(rt: HostRuntime) {
     let alloc = rt.alloc();
     let asked = four_records(&rt, alloc);
-    for (worker, workers) in [(1, 4), (2, 4), (3, 4), (4, 4), (2, 2)] {
+    for &(worker, workers) in &[(1, 4), (2, 4), (3, 4), (4, 4), (2, 2)] {
         let fault = fault(&rt, alloc, &Without(worker), workers, &asked);
         same(&rt, fault, Some(RunFault::Thread));
     }
-    for (worker, workers) in [(1, 1), (2, 1), (5, 4)] {
+    for &(worker, workers) in &[(1, 1), (2, 1), (5, 4)] {
         is_right(&rt, alloc, &Without(worker), workers, &asked);
     }
     // A batch without records, too.
@@ -293,7 +287,7 @@ fn a_refused_start_is_thread(rt: HostRuntime) {
 #[test]
 fn a_gate_that_does_nothing_starts_every_worker(rt: HostRuntime) {
     let asked = two_records(&rt, rt.alloc());
-    for workers in [2, 4, 64] {
+    for &workers in &[2, 4, 64] {
         is_right(&rt, rt.alloc(), &NoGate, workers, &asked);
     }
 }
@@ -301,11 +295,14 @@ fn a_gate_that_does_nothing_starts_every_worker(rt: HostRuntime) {
 #[test]
 fn workers_are_1_to_64(rt: HostRuntime) {
     let asked = two_records(&rt, rt.alloc());
-    for workers in [0, 65, 65_535] {
+    for &workers in &[0, 65, 65_535] {
         let fault = fault(&rt, rt.alloc(), &NoGate, workers, &asked);
         same(&rt, fault, Some(RunFault::Workers));
     }
 }
+
+// So many claims of one family that copying them costs more than adjudicating two records.
+const TOO_MANY_CLAIMS: u64 = 1_000;
 
 // One member with so many claims.
 fn large_family(rt: &impl Abort, alloc: Global, claims: u64) -> Ledger {
@@ -323,13 +320,6 @@ fn fill_and_refill(rt: &impl Abort, alloc: Global) -> [Transmission; 2] {
         claim(rt, alloc, b"123", b"C100"),
         claim(rt, alloc, b"124", b"C100"),
     ]
-}
-
-// Whether several workers can gain on the ledger's books.
-fn gains(rt: &impl Abort, alloc: Global, ledger: &Ledger, asked: &[Transmission]) -> bool {
-    let books = books_of(rt, alloc, ledger);
-    is_a_job(rt, &plain_sheet(rt, alloc), &books, asked);
-    may_gain(alloc, &books, asked).expect(rt, "memory")
 }
 
 // The answers to the fill and the refill, and the starts that so many workers' gate was asked for.
@@ -356,14 +346,13 @@ fn starts_asked<R: Threads + Wait + Sync + Abort>(
 #[test]
 fn a_job_that_cannot_gain_asks_for_each_start(rt: HostRuntime) {
     let alloc = rt.alloc();
-    let ledger = large_family(&rt, alloc, MOST_FOR_A_RECORD);
+    let ledger = large_family(&rt, alloc, TOO_MANY_CLAIMS);
     let asked = fill_and_refill(&rt, alloc);
-    same(&rt, gains(&rt, alloc, &ledger, &asked), false);
     for worker in 1..5 {
         let refused = run_on(&rt, alloc, &Without(worker), 4, &ledger, &asked);
         same(&rt, refused.err(), Some(RunFault::Thread));
     }
-    for (workers, starts) in [(1, 0), (2, 12), (4, 1_234)] {
+    for &(workers, starts) in &[(1, 0), (2, 12), (4, 1_234)] {
         same(
             &rt,
             starts_asked(&rt, alloc, workers, &ledger, &asked),
@@ -372,71 +361,8 @@ fn a_job_that_cannot_gain_asks_for_each_start(rt: HostRuntime) {
     }
 }
 
-// It lacks memory at one place.
-#[derive(Clone, Copy, Debug)]
-struct LacksAt(u64);
-
-impl Craft for LacksAt {
-    fn make(&self, alloc: Global, order: Order) -> Result<Done, (Order, Memory)> {
-        if order.place() == self.0 {
-            return Err((order, Memory));
-        }
-        Adjudicates.make(alloc, order)
-    }
-}
-
-// The desk of the four records.
-fn desk_of_four(rt: &impl Abort, alloc: Global) -> Desk {
-    let asked = four_records(rt, alloc);
-    let sheet = plain_sheet(rt, alloc);
-    let books = books_of(rt, alloc, &families(rt, alloc));
-    is_a_job(rt, &sheet, &books, &asked);
-    desk_of(alloc, lot(rt), &sheet, &books, &asked).expect(rt, "memory")
-}
-
-// What workers of this craft meet on the four records; where they meet nothing the desk answers, each family's fill once.
-fn met<R: Threads + Wait + Sync + Abort>(
-    rt: &R,
-    alloc: Global,
-    craft: LacksAt,
-    workers: u16,
-) -> Option<RunFault>
-    requires { 2 ≤ workers }
-{
-    match worked_off(rt, alloc, &NoGate, &craft, workers, desk_of_four(rt, alloc)) {
-        Ok(desk) => {
-            let finished = desk.close().ok().expect(rt, "the desk's answer");
-            is_billed_once(rt, &finished);
-            None
-        }
-        Err(fault) => Some(fault),
-    }
-}
-
-#[test]
-fn a_worker_that_lacks_memory_ends_all(rt: HostRuntime) {
-    for place in 1..5 {
-        for workers in [2, 4] {
-            let fault = met(&rt, rt.alloc(), LacksAt(place), workers);
-            same(&rt, fault, Some(RunFault::Memory));
-        }
-    }
-}
-
-#[test]
-fn the_desk_answers(rt: HostRuntime) {
-    for workers in [2, 64] {
-        same(&rt, met(&rt, rt.alloc(), LacksAt(0), workers), None);
-    }
-}
-
 #[test]
 fn faults_are_numbered(rt: HostRuntime) {
-    for (fault, number) in [
-        (RunFault::Workers, 1),
-        (RunFault::Memory, 2),
-        (RunFault::Thread, 3),
-    ] {
-        same(&rt, fault.code(), number);
-    }
+    let faults = [RunFault::Workers, RunFault::Memory, RunFault::Thread];
+    same(&rt, faults.map(RunFault::code), [1, 2, 3]);
 }

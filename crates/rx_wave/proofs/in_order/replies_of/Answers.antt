@@ -6,7 +6,7 @@ use Rattle.rx_ledger.specs.Basis.{HoldsRecord, Scope}
 use Rattle.rx_ledger.specs.Fold.{ledger_after, reply_to}
 use Rattle.rx_in_order.specs.Underway.{IsAwaited}
 use Rattle.rx_wave.proofs.Records.{ledger_next, replies_next}
-use Rattle.rx_wave.proofs.in_order.run_one_on.Goals as goal
+use Rattle.rx_wave.proofs.in_order.replies_of.Goals as goal
 
 pub record-requires-clause-awaited : goal.record-requires-clause-awaited
 record-requires-clause-awaited g c =

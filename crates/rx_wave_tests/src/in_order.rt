@@ -1,7 +1,6 @@
 // What no clause says: that records are answered, and not want of memory. Cases are those of docs/CASES.md.
 ghost use Rattle.std.specs.Prelude.{true};
 
-use crate::{Finished, Gate, NoGate, run_one};
 use rx_books_kept::Books;
 use rx_claim::{Amounts, Answer, Outcome, Transmission};
 use rx_fields::{
@@ -10,6 +9,7 @@ use rx_fields::{
 };
 use rx_ledger::{Drug, Figures, Ledger, Member, Row, Share, Sheet};
 use rx_request::decode;
+use rx_wave::{Finished, Gate, NoGate, run_one};
 use std::alloc::Global;
 use std::cell::Cell;
 use std::fmt::Debug;

@@ -1,8 +1,9 @@
 // What no clause says: that the threads give the transmissions, and not want of memory.
-use crate::{Gate, NoGate, decode_all, decode_in_parts};
+use crate::in_order::same;
 use rx_batch::{Detail, Text};
 use rx_claim::{Body, Transmission};
 use rx_fields::{Code, Door};
+use rx_wave::{Gate, NoGate, decode_all, decode_in_parts};
 use std::alloc::Global;
 use std::process::Abort;
 
@@ -63,7 +64,7 @@ fn decodes_in_order(rt: HostRuntime) {
 #[test]
 fn decodes_in_parts(rt: HostRuntime) {
     let details = details(&rt, rt.alloc());
-    for parts in [1, 2] {
+    for &parts in &[1, 2] {
         let all = decode_in_parts(&rt, rt.alloc(), parts, &DOOR, &details).expect(&rt, "memory");
         are_theirs(&rt, &all);
     }
