@@ -34,6 +34,7 @@ cases: kit
 	python3 tests/check_docs.py
 	test -x $(PROGRAM) || (cd crates/rxbatch && rt run -- sample)
 	python3 packaging/make_pages.py $(PROGRAM) --check
+	python3 tests/run_words.py $(PROGRAM)
 	python3 tests/run_paths.py $(PROGRAM)
 	python3 tests/run_safe.py $(PROGRAM)
 	python3 tests/run_log.py $(PROGRAM)

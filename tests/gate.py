@@ -16,7 +16,7 @@ comments and tests, however their lines are laid out.
     gate.py --note     writes down all crates' edits, after a gate that passed on these very texts and tried them all
 
 The proofs, tests and programs come first. Edits are tried then, of a few crates at a time and the lowest first, for as long as
-GATE_MINUTES (135) since the start aren't over.
+GATE_MINUTES (90) since the start aren't over.
 """
 
 import argparse
@@ -36,7 +36,7 @@ ASIDE = f"{TOP}/out/edits-aside"
 OWN = ("src", "specs", "proofs", "must-fail")
 STATED = ("src", "specs")
 # how long the gate may take before it begins no further edit
-MINUTES = 135
+MINUTES = 90
 # how many crates' edits are tried at once: those of one crate go one after another
 AT_ONCE = 8
 

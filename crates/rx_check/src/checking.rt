@@ -1,10 +1,17 @@
-ghost use Rattle.std.specs.Prelude.{IfOk};
+ghost use Rattle.std.specs.Prelude.{◌≡◌, IfOk};
+ghost use Rattle.std.specs.Option.{option_copied};
 ghost use Rattle.rx_check.specs.Found.{IsFound};
+ghost use Rattle.rx_check.specs.Inputs.{books_fault, books_taken, sheet_fault, sheet_taken};
 
 use crate::found::Found;
 use crate::reading;
+use crate::reading::Read;
 use crate::warnings::Warnings;
+use rx_books_kept::Books;
+use rx_books_text::BooksFault;
 use rx_fields::Memory;
+use rx_ledger::Sheet;
+use rx_sheet::SheetFault;
 use std::alloc::Global;
 
 /// The inputs of a run that are looked at.
@@ -28,6 +35,22 @@ pub fn check(alloc: Global, files: &Files<'_>) -> Result<Found, Memory>
 {
     let sheet = reading::sheet(alloc, files.sheet)?;
     let books = reading::books(alloc, files.books)?;
+    found(alloc, files, &sheet, &books)
+}
+
+// What is found of the inputs, the plan and the books being read.
+fn found(
+    alloc: Global,
+    files: &Files<'_>,
+    sheet: &Read<Sheet, SheetFault>,
+    books: &Read<Books, BooksFault>,
+) -> Result<Found, Memory>
+    requires sheet { sheet.now.taken ≡ sheet_taken files.now.sheet.now }
+    requires sheet_fault { sheet.now.fault ≡ sheet_fault files.now.sheet.now }
+    requires books { books.now.taken ≡ books_taken (option_copied files.now.books) }
+    requires books_fault { books.now.fault ≡ books_fault (option_copied files.now.books) }
+    ensures { IfOk result (IsFound files.now) }
+{
     let batch = reading::batch(alloc, files.batch)?;
     let warnings = Warnings::of(alloc, files, &sheet.taken, &books.taken, &batch.taken)?;
     Ok(Found {

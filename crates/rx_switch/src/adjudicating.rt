@@ -1,16 +1,22 @@
 ghost use Rattle.std.specs.Prelude.{◌≡◌, ◌≤◌, IfErr, IfOk, length, true};
+ghost use Rattle.rx_books_kept.specs.BooksText.{books_text};
+ghost use Rattle.rx_books_text.specs.declared.version.Version.TheVariants.{Three};
 ghost use Rattle.rx_fields.specs.declared.limits.TheConstants.{MOST_DETAILS};
 ghost use Rattle.rx_ledger.specs.Fold.{fold_ledger, fold_replies};
+ghost use Rattle.rx_response.specs.Response.{response_text};
+ghost use Rattle.rx_settle.specs.Settlement.{settlement_text};
 ghost use Rattle.rx_switch.specs.Job.{accepted_of, texts_in_pieces};
 ghost use Rattle.rx_switch.specs.Output.{IsStopped, texts_of};
+ghost use Rattle.rx_wave.specs.Decoding.{transmissions_of};
 ghost use Rattle.rx_wave.specs.Workers.{are_workers};
 
 use crate::accepting::Accepted;
 use crate::fault::SwitchFault;
 use crate::job::OutputPieces;
+use rx_batch::Batch;
 use rx_books_kept::Books;
-use rx_claim::{Reply, Transmission};
-use rx_fields::{Lot, Memory};
+use rx_claim::Transmission;
+use rx_fields::{Lot, Memory, Stamp};
 use rx_in_order::Finished;
 use rx_ledger::{Sheet, plain_run};
 use rx_response::response_pieces;
@@ -43,7 +49,6 @@ pub(crate) struct Manner<'a, G> {
 
 /// The texts of adjudicating the details, as if one after another in file order. Decoding, rendering and writing go in so
 /// many parts beside one another; one part starts no thread. The memory of the spent text is used again.
-#[tactic(auto, using(crate::proofs::Replied::replied))]
 pub(crate) fn adjudicate<R: Threads + Wait + Sync, G: Gate + Sync>(
     rt: &R,
     alloc: Global,
@@ -64,15 +69,32 @@ pub(crate) fn adjudicate<R: Threads + Wait + Sync, G: Gate + Sync>(
         books,
         batch,
     } = accepted;
-    let stamp = &stamp;
-    let details = batch.details.as_slice();
-    let asked = decode_in_parts(rt, alloc, parts, sheet.door(), details)?;
-    let lot = batch.head.lot();
-    let (books, replies) = finish(rt, alloc, manner, lot, &sheet, books, &asked)?;
-    drop(asked);
-    let response = response_pieces(rt, alloc, parts, &batch.head, *stamp, details, &replies)?;
-    let books = books.write_pieces(rt, alloc, parts, spent)?;
-    let settlement = settle(alloc, lot, *stamp, &replies)?;
+    let finished = finish_batch(rt, alloc, manner, parts, &sheet, books, &batch)?;
+    Ok(render(rt, alloc, parts, &batch, &stamp, &finished, spent)?)
+}
+
+// The texts of the replies to a batch's details, and of the books after them.
+fn render<R: Threads + Sync>(
+    rt: &R,
+    alloc: Global,
+    parts: usize,
+    batch: &Batch,
+    stamp: &Stamp,
+    finished: &Finished,
+    spent: Vec<u8>,
+) -> Result<OutputPieces, Memory>
+    requires equally_many { length batch.now.details ≡ length finished.now.replies.items }
+    requires few { length batch.now.details ≤ MOST_DETAILS }
+    ensures { IfOk result (λ output. texts_in_pieces output ≡ record {
+      response = response_text batch.now.head stamp.now batch.now.details finished.now.replies.items;
+      books = books_text Three finished.now.books.period finished.now.books.ledger;
+      settlement = settlement_text batch.now.head.lot stamp.now finished.now.replies.items;
+    }) }
+{
+    let (details, replies) = (batch.details.as_slice(), finished.replies.as_slice());
+    let response = response_pieces(rt, alloc, parts, &batch.head, *stamp, details, replies)?;
+    let books = finished.books.write_pieces(rt, alloc, parts, spent)?;
+    let settlement = settle(alloc, batch.head.lot(), *stamp, replies)?;
     Ok(OutputPieces {
         response,
         books,
@@ -80,7 +102,33 @@ pub(crate) fn adjudicate<R: Threads + Wait + Sync, G: Gate + Sync>(
     })
 }
 
-// The books after the records, with the totals of the sheet's period, and the replies to them.
+// The books after a batch's records, with the totals of the sheet's period, and the replies to them.
+fn finish_batch<R: Threads + Wait + Sync, G: Gate + Sync>(
+    rt: &R,
+    alloc: Global,
+    manner: &Manner<'_, G>,
+    parts: usize,
+    sheet: &Sheet,
+    books: Books,
+    batch: &Batch,
+) -> Result<Finished, SwitchFault>
+    requires few { length batch.now.details ≤ MOST_DETAILS }
+    requires workers { are_workers manner.now.workers ≡ true }
+    ensures books { IfOk result (λ finished. finished.books ≡ record {
+      period = sheet.now.figures.period;
+      ledger = fold_ledger batch.now.head.lot sheet.now 1
+          (transmissions_of sheet.now.figures.door batch.now.details) books.ledger;
+    }) }
+    ensures replies { IfOk result (λ finished. finished.replies.items ≡ fold_replies batch.now.head.lot sheet.now 1
+        (transmissions_of sheet.now.figures.door batch.now.details) books.ledger) }
+    ensures stopped { IfErr result (λ fault.
+        IsStopped manner.now.plain (G.starts manner.now.gate.now) manner.now.workers fault) }
+{
+    let asked = decode_in_parts(rt, alloc, parts, sheet.door(), batch.details.as_slice())?;
+    finish(rt, alloc, manner, batch.head.lot(), sheet, books, &asked)
+}
+
+// The same of records that are decoded.
 fn finish<R: Threads + Wait + Sync, G: Gate + Sync>(
     rt: &R,
     alloc: Global,
@@ -89,15 +137,15 @@ fn finish<R: Threads + Wait + Sync, G: Gate + Sync>(
     sheet: &Sheet,
     books: Books,
     asked: &[Transmission],
-) -> Result<(Books, Vec<Reply>), SwitchFault>
+) -> Result<Finished, SwitchFault>
     requires few { length asked.now ≤ MOST_DETAILS }
     requires workers { are_workers manner.now.workers ≡ true }
-    ensures books { IfOk result (λ finished. finished.0 ≡ record {
+    ensures books { IfOk result (λ finished. finished.books ≡ record {
       period = sheet.now.figures.period;
       ledger = fold_ledger lot sheet.now 1 asked.now books.ledger;
     }) }
     ensures replies { IfOk result (λ finished.
-        finished.1.items ≡ fold_replies lot sheet.now 1 asked.now books.ledger) }
+        finished.replies.items ≡ fold_replies lot sheet.now 1 asked.now books.ledger) }
     ensures stopped { IfErr result (λ fault.
         IsStopped manner.now.plain (G.starts manner.now.gate.now) manner.now.workers fault) }
 {
@@ -105,17 +153,8 @@ fn finish<R: Threads + Wait + Sync, G: Gate + Sync>(
         return Ok(finish_plainly(alloc, lot, sheet, &books, asked)?);
     }
     let books = books.with_period(alloc, sheet.period())?;
-    let Finished { books, replies } = run_waves(
-        rt,
-        alloc,
-        manner.gate,
-        manner.workers,
-        lot,
-        sheet,
-        &books,
-        asked,
-    )?;
-    Ok((books, replies))
+    let (gate, workers) = (manner.gate, manner.workers);
+    Ok(run_waves(rt, alloc, gate, workers, lot, sheet, &books, asked)?)
 }
 
 // The same over plain lists.
@@ -125,17 +164,17 @@ fn finish_plainly(
     sheet: &Sheet,
     books: &Books,
     asked: &[Transmission],
-) -> Result<(Books, Vec<Reply>), Memory>
+) -> Result<Finished, Memory>
     requires { length asked.now ≤ MOST_DETAILS }
-    ensures books { IfOk result (λ finished. finished.0 ≡ record {
+    ensures replies { IfOk result (λ finished.
+        finished.replies.items ≡ fold_replies lot sheet.now 1 asked.now books.now.ledger) }
+    ensures books { IfOk result (λ finished. finished.books ≡ record {
       period = sheet.now.figures.period;
       ledger = fold_ledger lot sheet.now 1 asked.now books.now.ledger;
     }) }
-    ensures replies { IfOk result (λ finished.
-        finished.1.items ≡ fold_replies lot sheet.now 1 asked.now books.now.ledger) }
 {
     let opening = books.ledger(alloc)?;
     let (after, replies) = plain_run(alloc, lot, sheet, &opening, asked)?;
     let books = Books::from_ledger(alloc, &after, sheet.period())?;
-    Ok((books, replies))
+    Ok(Finished { books, replies })
 }
