@@ -1,3 +1,4 @@
+use crate::same::{differ, same};
 use rx_books_kept::{Books, one_reading};
 use rx_books_text::BooksFault;
 use rx_claim::Amounts;
@@ -6,160 +7,222 @@ use rx_fields::{
 };
 use rx_ledger::{Ledger, Member, Row};
 use std::alloc::Global;
-use std::test::Fail;
+use std::process::Abort;
 
-fn period(first: &[u8], last: &[u8]) -> Result<Period, Fail> {
-    Ok(Period::new(date_read(first)?, date_read(last)?).ok_or("a period")?)
+fn period(rt: &impl Abort, first: &[u8], last: &[u8]) -> Period {
+    let (first, last) = (date_read(first), date_read(last));
+    let (first, last) = (first.expect(rt, "a date"), last.expect(rt, "a date"));
+    Period::new(first, last).expect(rt, "a period")
 }
 
-fn this_year() -> Result<Period, Fail> {
-    period(b"20260101", b"20261231")
+fn this_year(rt: &impl Abort) -> Period {
+    period(rt, b"20260101", b"20261231")
 }
 
-fn member(family: &[u8], person: &[u8]) -> Result<Member, Fail> {
-    let (first, last) = (date_read(b"20260101")?, date_read(b"20261231")?);
-    Ok(Member::new(Id::new(family, 20)?, Person::new(person)?, first, last).ok_or("a member")?)
+fn id(rt: &impl Abort, text: &[u8]) -> Id {
+    Id::new(text, 20).expect(rt, "an id")
 }
 
-fn key(date: &[u8]) -> Result<Key, Fail> {
-    Ok(Key {
-        provider: Provider::new(b"1234567893")?,
-        reference: Reference::new(123).ok_or("a reference")?,
-        date: date_read(date)?,
-    })
+fn person(rt: &impl Abort, text: &[u8]) -> Person {
+    Person::new(text).expect(rt, "a person")
 }
 
-// The row of case one-billing, dated so.
-fn billed(date: &[u8]) -> Result<Row, Fail> {
-    let amounts = Amounts {
-        ingredient_cost: 30_000,
-        dispensing_fee: 175,
-        deductible: 10_000,
-        copay: 3000,
-        coinsurance: 0,
-    };
-    Ok(Row::new(
-        key(date)?,
-        Id::new(b"C100", 20)?,
-        Person::new(b"01")?,
-        Product::new(b"00002000202").ok_or("a product")?,
-        Quantity::new(30_000).ok_or("a quantity")?,
-        Days::new(30).ok_or("days")?,
-        amounts,
-        Authorization::new(4_200_000_011).ok_or("a number")?,
-    )
-    .ok_or("within the limits")?)
+fn member(rt: &impl Abort, family: &[u8], code: &[u8]) -> Member {
+    let first = date_read(b"20260101").expect(rt, "a date");
+    let last = date_read(b"20261231").expect(rt, "a date");
+    Member::new(id(rt, family), person(rt, code), first, last).expect(rt, "a member")
+}
+
+fn key(rt: &impl Abort, date: &[u8]) -> Key {
+    let provider = Provider::new(b"1234567893").expect(rt, "a provider");
+    let reference = Reference::new(123).expect(rt, "a reference");
+    let date = date_read(date).expect(rt, "a date");
+    Key {
+        provider,
+        reference,
+        date,
+    }
+}
+
+const AMOUNTS: Amounts = Amounts {
+    ingredient_cost: 30_000,
+    dispensing_fee: 175,
+    deductible: 10_000,
+    copay: 3000,
+    coinsurance: 0,
+};
+
+// The row of case one-billing.
+fn billed(rt: &impl Abort) -> Row {
+    let product = Product::new(b"00002000202").expect(rt, "a product");
+    let quantity = Quantity::new(30_000).expect(rt, "a quantity");
+    let days = Days::new(30).expect(rt, "days");
+    let number = Authorization::new(4_200_000_011).expect(rt, "a number");
+    let (key, family, person) = (key(rt, b"20260228"), id(rt, b"C100"), person(rt, b"01"));
+    let row = Row::new(
+        key, family, person, product, quantity, days, AMOUNTS, number,
+    );
+    row.expect(rt, "within the limits")
+}
+
+fn enroll(rt: &impl Abort, ledger: &mut Ledger, member: Member) {
+    ledger.add_member(member).expect(rt, "a new member");
 }
 
 // The opening members, and the row of one-billing.
-fn after_one_billing(alloc: Global) -> Result<Ledger, Fail> {
+fn after_one_billing(rt: &impl Abort, alloc: Global) -> Ledger {
     let mut ledger = Ledger::new(alloc);
-    ledger.add_member(member(b"C100", b"01")?)?;
-    ledger.add_member(member(b"C100", b"02")?)?;
-    ledger.add_member(member(b"C100", b"03")?)?;
-    ledger.add_member(member(b"C200", b"01")?)?;
-    ledger.add_row(billed(b"20260228")?)?;
-    Ok(ledger)
+    enroll(rt, &mut ledger, member(rt, b"C100", b"01"));
+    enroll(rt, &mut ledger, member(rt, b"C100", b"02"));
+    enroll(rt, &mut ledger, member(rt, b"C100", b"03"));
+    enroll(rt, &mut ledger, member(rt, b"C200", b"01"));
+    ledger.add_row(billed(rt)).expect(rt, "a new row");
+    ledger
 }
 
-fn after(alloc: Global, year: Period) -> Result<Books, Fail> {
-    Ok(Books::from_ledger(alloc, &after_one_billing(alloc)?, year)?)
+// The books of this year after one-billing.
+fn after(rt: &impl Abort, alloc: Global) -> Books {
+    let (period, ledger) = (this_year(rt), after_one_billing(rt, alloc));
+    Books::from_ledger(alloc, &ledger, period).expect(rt, "memory")
+}
+
+fn copied(rt: &impl Abort, alloc: Global, books: &Books, period: Period) -> Books {
+    books.copy(alloc, period).expect(rt, "memory")
+}
+
+// Their copy of next year.
+fn next_year(rt: &impl Abort, alloc: Global) -> Books {
+    let period = period(rt, b"20270101", b"20271231");
+    copied(rt, alloc, &after(rt, alloc), period)
 }
 
 // The person's deductible, and the family's out of pocket and deductible.
-fn totals(books: &Books, family: &[u8], person: &[u8]) -> Result<[Option<u128>; 3], Fail> {
-    let family = Id::new(family, 20)?;
-    Ok([
-        books.deductible(&family, &Person::new(person)?),
+fn totals(rt: &impl Abort, books: &Books, family: &[u8], code: &[u8]) -> [Option<u128>; 3] {
+    let (family, person) = (id(rt, family), person(rt, code));
+    [
+        books.deductible(&family, &person),
         books.out_of_pocket(&family),
         books.family_deductible(&family),
-    ])
+    ]
+}
+
+// A family and a person, and their totals after one-billing.
+const COUNTED: &[(&[u8], &[u8], [Option<u128>; 3])] = &[
+    (b"C100", b"01", [Some(10_000), Some(13_000), Some(10_000)]),
+    (b"C100", b"04", [None, Some(13_000), Some(10_000)]),
+    (b"C300", b"01", [None, None, None]),
+];
+
+#[test]
+fn one_billing_is_counted(rt: HostRuntime) {
+    for &(family, code, wanted) in COUNTED {
+        let books = after(&rt, rt.alloc());
+        same(&rt, totals(&rt, &books, family, code), wanted);
+    }
+}
+
+// The row that stands under the key of this date after one-billing.
+fn row_of(rt: &impl Abort, alloc: Global, date: &[u8]) -> Option<Row> {
+    let (key, books) = (key(rt, date), after(rt, alloc));
+    books.row(&key).copied()
 }
 
 #[test]
-fn one_billing_is_counted(rt: HostRuntime) -> Result<(), Fail> {
-    let books = after(rt.alloc(), this_year()?)?;
-    assert_eq!(rt;
-        totals(&books, b"C100", b"01")?,
-        [Some(10_000), Some(13_000), Some(10_000)]
-    );
-    assert_eq!(rt;
-        totals(&books, b"C100", b"04")?,
-        [None, Some(13_000), Some(10_000)]
-    );
-    assert_eq!(rt; totals(&books, b"C300", b"01")?, [None; 3]);
-    Ok(())
-}
-
-#[test]
-fn a_row_is_found(rt: HostRuntime) -> Result<(), Fail> {
-    let books = after(rt.alloc(), this_year()?)?;
-    assert_eq!(rt;
-        books.row(&key(b"20260228")?).copied(),
-        Some(billed(b"20260228")?)
-    );
-    assert!(rt; books.row(&key(b"20260227")?).is_none());
-    Ok(())
+fn a_row_is_found(rt: HostRuntime) {
+    let row = row_of(&rt, rt.alloc(), b"20260228");
+    same(&rt, row, Some(billed(&rt)));
+    same(&rt, row_of(&rt, rt.alloc(), b"20260227"), None);
 }
 
 // Case next-year: all totals are 0.
 #[test]
-fn next_year_counts_nothing(rt: HostRuntime) -> Result<(), Fail> {
-    let books = after(rt.alloc(), this_year()?)?;
-    let next = books.copy(rt.alloc(), period(b"20270101", b"20271231")?)?;
-    assert_eq!(rt; totals(&next, b"C100", b"01")?, [Some(0); 3]);
-    assert!(rt; books.period() != next.period());
-    assert!(rt; books != next);
-    Ok(())
+fn next_year_counts_nothing(rt: HostRuntime) {
+    let next = next_year(&rt, rt.alloc());
+    same(&rt, totals(&rt, &next, b"C100", b"01"), [Some(0); 3]);
+}
+
+// The period of books.
+fn period_of(books: Books) -> Period {
+    books.period()
 }
 
 #[test]
-fn the_ledger_comes_back(rt: HostRuntime) -> Result<(), Fail> {
-    let ledger = after_one_billing(rt.alloc())?;
-    let back = after(rt.alloc(), this_year()?)?.ledger(rt.alloc())?;
-    assert_eq!(rt; back.members(), ledger.members());
-    assert_eq!(rt; back.rows(), ledger.rows());
-    Ok(())
+fn books_of_next_year_are_others(rt: HostRuntime) {
+    let (this, next) = (after(&rt, rt.alloc()), next_year(&rt, rt.alloc()));
+    differ(&rt, period_of(this), period_of(next));
+    differ(&rt, after(&rt, rt.alloc()), next_year(&rt, rt.alloc()));
 }
+
+fn ledger_of(rt: &impl Abort, alloc: Global, books: &Books) -> Ledger {
+    books.ledger(alloc).expect(rt, "memory")
+}
+
+// The ledger has the members and the rows of one-billing.
+fn is_after_one_billing(rt: &impl Abort, alloc: Global, ledger: &Ledger) {
+    let wanted = after_one_billing(rt, alloc);
+    same(rt, ledger.members(), wanted.members());
+    same(rt, ledger.rows(), wanted.rows());
+}
+
+#[test]
+fn the_ledger_comes_back(rt: HostRuntime) {
+    let back = ledger_of(&rt, rt.alloc(), &after(&rt, rt.alloc()));
+    is_after_one_billing(&rt, rt.alloc(), &back);
+}
+
+fn written(rt: &impl Abort, alloc: Global, books: &Books) -> Vec<u8> {
+    books.write(alloc).expect(rt, "memory")
+}
+
+// The text of the books after one-billing.
+fn written_after(rt: &impl Abort, alloc: Global) -> Vec<u8> {
+    written(rt, alloc, &after(rt, alloc))
+}
+
+const TOP: &[u8] = b"BOOKS|3|20260101|20261231\nM|C100|01|20260101|20261231|10000\n";
+
+const END: &[u8] = b"|10000|3000|0|000004200000011\nT|C100|13000|10000\nT|C200|0|0\n";
 
 // The end books of case one-billing.
 #[test]
-fn the_text_is_that_of_one_billing(rt: HostRuntime) -> Result<(), Fail> {
-    let text = after(rt.alloc(), this_year()?)?.write(rt.alloc())?;
-    assert_eq!(rt; text.len(), 274);
-    assert!(rt;
-        text.starts_with(b"BOOKS|3|20260101|20261231\nM|C100|01|20260101|20261231|10000\n")
-    );
-    assert!(rt; text.ends_with(b"|10000|3000|0|000004200000011\nT|C100|13000|10000\nT|C200|0|0\n"));
-    Ok(())
+fn the_text_is_that_of_one_billing(rt: HostRuntime) {
+    let text = written_after(&rt, rt.alloc());
+    same(&rt, text.len(), 274);
+    same(&rt, text.starts_with(TOP), true);
+    same(&rt, text.ends_with(END), true);
+}
+
+fn read(rt: &impl Abort, alloc: Global, text: &[u8]) -> Books {
+    Books::read(alloc, text).expect(rt, "books")
 }
 
 #[test]
-fn what_is_written_is_read(rt: HostRuntime) -> Result<(), Fail> {
-    let books = after(rt.alloc(), this_year()?)?;
-    let text = books.write(rt.alloc())?;
-    assert!(rt; Books::read(rt.alloc(), &text)? == books);
-    Ok(())
+fn what_is_written_is_read(rt: HostRuntime) {
+    let text = written_after(&rt, rt.alloc());
+    let read = read(&rt, rt.alloc(), &text);
+    same(&rt, read, after(&rt, rt.alloc()));
 }
 
 // Case damaged-books, with one member: a total that differs, a deductible that differs, no total line.
+const FAULTS: &[(&[u8], BooksFault)] = &[
+    (
+        b"BOOKS|1|20260101|20261231\nM|C100|01|20260101|20261231|0\nT|C100|5\n",
+        BooksFault::Totals(3),
+    ),
+    (
+        b"BOOKS|1|20260101|20261231\nM|C100|01|20260101|20261231|1\nT|C100|0\n",
+        BooksFault::Totals(2),
+    ),
+    (
+        b"BOOKS|1|20260101|20261231\nM|C100|01|20260101|20261231|0\n",
+        BooksFault::Totals(3),
+    ),
+];
+
 #[test]
-fn a_figure_that_is_no_sum_is_told(rt: HostRuntime) -> Result<(), Fail> {
+fn a_figure_that_is_no_sum_is_told(rt: HostRuntime) {
     one_reading();
-    let total = b"BOOKS|1|20260101|20261231\nM|C100|01|20260101|20261231|0\nT|C100|5\n";
-    assert_eq!(rt;
-        Books::read(rt.alloc(), total).err(),
-        Some(BooksFault::Totals(3))
-    );
-    let deductible = b"BOOKS|1|20260101|20261231\nM|C100|01|20260101|20261231|1\nT|C100|0\n";
-    assert_eq!(rt;
-        Books::read(rt.alloc(), deductible).err(),
-        Some(BooksFault::Totals(2))
-    );
-    let missing = b"BOOKS|1|20260101|20261231\nM|C100|01|20260101|20261231|0\n";
-    assert_eq!(rt;
-        Books::read(rt.alloc(), missing).err(),
-        Some(BooksFault::Totals(3))
-    );
-    Ok(())
+    for &(text, fault) in FAULTS {
+        same(&rt, Books::read(rt.alloc(), text).err(), Some(fault));
+    }
 }

@@ -1,9 +1,10 @@
+use crate::lines::text;
+use crate::same::same;
 use rx_books_text::{
     BooksFault, Line, Version, one_reading, put_claim, put_head, put_member, put_total, read_head,
     read_line, read_printed,
 };
 use std::alloc::Global;
-use std::fmt::Debug;
 use std::process::Abort;
 
 const HEAD: &[u8] = b"BOOKS|1|20260101|20261231\n";
@@ -15,20 +16,6 @@ const SECOND: &[u8] = b"M|C100|02|20260101|20261231|0\n";
 // The claim line of last year, version 1.
 const CLAIM: &[u8] =
     b"C|1234567893|90|20251230|C100|01|00002000202|30000|30|30000|175|10000|3000|000003100000051\n";
-
-// Values are compared here, since each place that compares by itself is dear to prove.
-fn same<T: PartialEq + Debug + Drop>(rt: &impl Abort, given: T, wanted: T) {
-    assert_eq!(rt; given, wanted);
-}
-
-// The text of some lines.
-fn text(rt: &impl Abort, alloc: Global, lines: &[&[u8]]) -> Vec<u8> {
-    let mut text = Vec::new(alloc);
-    for line in lines {
-        text.extend_from_slice(line).expect(rt, "memory");
-    }
-    text
-}
 
 // The fault's number and line, or 0 and the number of members.
 fn told(rt: &impl Abort, alloc: Global, lines: &[&[u8]]) -> (u32, u64) {

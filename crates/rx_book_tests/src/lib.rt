@@ -11,3 +11,7 @@ mod books_kept;
 mod books_quick;
 #[cfg(test)]
 mod books_text;
+#[cfg(test)]
+mod lines;
+#[cfg(test)]
+mod same;

@@ -78,7 +78,6 @@ struct Answered {
 }
 
 // The replies to the records, one after another, and the explanations that are wanted.
-#[tactic(auto, using(rx_course::proofs::Replied::one_each))]
 fn answer(
     alloc: Global,
     lot: Lot,
@@ -99,15 +98,43 @@ fn answer(
         opening: &opening,
         asked,
     };
-    let likely = likely_places(alloc, lot, wanted, asked)?;
-    let Replayed { replies, explained } = replay(alloc, &batch, &likely)?;
-    let found = find(alloc, wanted, asked, &replies)?;
-    let events = Events::of(alloc, asked, &replies)?;
-    let explanations = explain_found(alloc, &batch, &events, &explained, &found)?;
+    let replayed = replay_likely(alloc, &batch, wanted)?;
+    let explanations = explain_wanted(alloc, &batch, wanted, &replayed)?;
     Ok(Answered {
-        replies,
+        replies: replayed.replies,
         explanations,
     })
+}
+
+// The replies to the records, and explanations of those that are likely to be wanted.
+fn replay_likely(alloc: Global, batch: &Batch<'_>, wanted: &Wanted) -> Result<Replayed, Memory>
+    requires { length batch.now.asked.now ≤ MOST_DETAILS }
+    ensures replies { IfOk result (λ r.
+        r.replies.items ≡ fold_replies batch.now.lot batch.now.sheet.now 1 batch.now.asked.now batch.now.opening.now.ledger) }
+    ensures explained { IfOk result (λ r. All (λ k. AreAmong batch.now [] k.place k.explanations.items) r.explained.items) }
+{
+    let likely = likely_places(alloc, batch.lot, wanted, batch.asked)?;
+    replay(alloc, batch, &likely)
+}
+
+// The explanations that are wanted, of a batch that was gone through.
+#[tactic(auto, using(rx_course::proofs::Replied::one_each))]
+fn explain_wanted(
+    alloc: Global,
+    batch: &Batch<'_>,
+    wanted: &Wanted,
+    replayed: &Replayed,
+) -> Result<Vec<Option<Explanation>>, Memory>
+    requires few { length batch.now.asked.now ≤ MOST_DETAILS }
+    requires replies { replayed.now.replies.items
+        ≡ fold_replies batch.now.lot batch.now.sheet.now 1 batch.now.asked.now batch.now.opening.now.ledger }
+    requires explained { All (λ k. AreAmong batch.now [] k.place k.explanations.items) replayed.now.explained.items }
+    ensures { IfOk result (λ all. AreExplained batch.now.lot batch.now.sheet.now batch.now.asked.now
+        batch.now.opening.now.ledger wanted.now replayed.now.replies.items all.items) }
+{
+    let found = find(alloc, wanted, batch.asked, &replayed.replies)?;
+    let events = Events::of(alloc, batch.asked, &replayed.replies)?;
+    explain_found(alloc, batch, &events, &replayed.explained, &found)
 }
 
 // An explanation of each of these transactions among what the batch changed: of those that were explained on the way, or

@@ -3,7 +3,7 @@ use crate::worked::{
     TODAY, asking, authorization, base, day, differ, four, id, lot, period, person, plain_sheet,
     product, provider, quantity, reference, reversal, same, thirty_days, this_year, today,
 };
-use rx_adjudicate::{Order, adjudicate, fits};
+use rx_adjudicate::{Done, Order, adjudicate, fits};
 use rx_claim::{
     Amounts, Answer, Approved, Body, Codes, Outcome, Paid, Pricing, Refused, Rejected, Reply,
     Transaction, Transmission,
@@ -145,9 +145,20 @@ fn ordered(
     Order::new(place, asked, terms, parcel)
 }
 
+// The order, adjudicated.
+fn done(rt: &impl Abort, alloc: Global, order: Order) -> Done {
+    adjudicate(alloc, order).expect(rt, "memory")
+}
+
+// The parcel after an order, and the reply to it.
+fn settled(rt: &impl Abort, alloc: Global, order: Order) -> (Parcel, Reply) {
+    let (_, after, reply) = done(rt, alloc, order).part();
+    (after, reply)
+}
+
 // The parcel after an order, to which these are the answers.
 fn answered(rt: &impl Abort, alloc: Global, order: Order, wanted: &[Answer]) -> Parcel {
-    let (_, after, reply) = adjudicate(alloc, order).expect(rt, "memory").part();
+    let (after, reply) = settled(rt, alloc, order);
     same(rt, answers(&reply), wanted);
     after
 }
@@ -162,7 +173,7 @@ fn answers(reply: &Reply) -> &[Answer] {
 // The keys 301, 302 and 303 without rows, and C100.
 fn free_keys(rt: &impl Abort, alloc: Global) -> Parcel {
     let mut keys = Vec::new(alloc);
-    for reference in [301, 302, 303] {
+    for &reference in &[301, 302, 303] {
         let (key, row) = (key(rt, reference), None);
         keys.push(KeyBook { key, row }).expect(rt, "memory");
     }
@@ -174,19 +185,27 @@ fn four_transactions(rt: &impl Abort, alloc: Global) -> Order {
     ordered(rt, alloc, 42, 1, asked, free_keys(rt, alloc))
 }
 
+// What they are answered.
+fn four_answers(rt: &impl Abort) -> [Answer; 4] {
+    let third = pricing(rt, 750, 175, 0, 925);
+    let fourth = pricing(rt, 1_500, 175, 0, 1_000);
+    [
+        Answer::Paid(base_paid(rt, 4_200_000_011, 301)),
+        Answer::Twice(base_paid(rt, 4_200_000_011, 301)),
+        Answer::Paid(paid(rt, 4_200_000_013, 302, third)),
+        Answer::Paid(paid(rt, 4_200_000_014, 303, fourth)),
+    ]
+}
+
+// The parcel after them.
+fn after_four(rt: &impl Abort, alloc: Global) -> Parcel {
+    let order = four_transactions(rt, alloc);
+    answered(rt, alloc, order, &four_answers(rt))
+}
+
 #[test]
 fn four_transactions_in_one_record(rt: HostRuntime) {
-    let third = pricing(&rt, 750, 175, 0, 925);
-    let fourth = pricing(&rt, 1_500, 175, 0, 1_000);
-    let wanted = [
-        Answer::Paid(base_paid(&rt, 4_200_000_011, 301)),
-        Answer::Twice(base_paid(&rt, 4_200_000_011, 301)),
-        Answer::Paid(paid(&rt, 4_200_000_013, 302, third)),
-        Answer::Paid(paid(&rt, 4_200_000_014, 303, fourth)),
-    ];
-    let order = four_transactions(&rt, rt.alloc());
-    let after = answered(&rt, rt.alloc(), order, &wanted);
-    let family = id(&rt, b"C100");
+    let (family, after) = (id(&rt, b"C100"), after_four(&rt, rt.alloc()));
     same(&rt, after.out_of_pocket(&family), Some(14_925));
     same(&rt, after.family_deductible(&family), Some(10_000));
     same(&rt, after.rows(&family).len(), 3);
@@ -350,13 +369,34 @@ fn orders_are_copied_and_compared(rt: HostRuntime) {
     differ(&rt, again, reversing(&rt, alloc, 8));
 }
 
+// The order at place 7, adjudicated.
+fn reversing_done(rt: &impl Abort, alloc: Global) -> Done {
+    done(rt, alloc, reversing(rt, alloc, 7))
+}
+
+// The order that the parts of a done have.
+fn order_of_done(done: Done) -> Order {
+    let (order, _after, _reply) = done.part();
+    order
+}
+
 #[test]
 fn a_done_holds_its_order(rt: HostRuntime) {
-    let alloc = rt.alloc();
-    let (order, copy) = (reversing(&rt, alloc, 7), reversing(&rt, alloc, 7));
-    let done = adjudicate(alloc, order).expect(&rt, "memory");
-    same(&rt, done.order(), &copy);
-    let (order, after, _reply) = done.part();
-    differ(&rt, &after, copy.parcel());
-    same(&rt, order, copy);
+    let order = reversing(&rt, rt.alloc(), 7);
+    let done = reversing_done(&rt, rt.alloc());
+    same(&rt, done.order(), &order);
+    same(&rt, order_of_done(done), order);
+}
+
+// The parcel after an order.
+fn parcel_after(rt: &impl Abort, alloc: Global, order: Order) -> Parcel {
+    let (after, _reply) = settled(rt, alloc, order);
+    after
+}
+
+#[test]
+fn a_done_has_another_parcel_than_its_order(rt: HostRuntime) {
+    let order = reversing(&rt, rt.alloc(), 7);
+    let after = parcel_after(&rt, rt.alloc(), order);
+    differ(&rt, after, after_one_billing(&rt, rt.alloc()));
 }

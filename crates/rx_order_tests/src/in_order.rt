@@ -54,17 +54,16 @@ fn run(
     rt: &impl Abort,
     alloc: Global,
     batch: u32,
-    sheet: Sheet,
+    sheet: &Sheet,
     books: Books,
-    asked: Vec<Transmission>,
+    asked: &[Transmission],
 ) -> Finished {
-    let asked = asked.as_slice();
     assert!(rt; asked.len() <= 100, "few records");
-    let books = books
-        .with_period(alloc, sheet.period())
-        .expect(rt, "memory");
-    let mut order = InOrder::new(alloc, books, asked).expect(rt, "memory");
-    let replies = answer_all(rt, alloc, lot(rt, batch), &sheet, &mut order, asked);
+    let lot = lot(rt, batch);
+    let books = books.with_period(alloc, sheet.period());
+    let order = InOrder::new(alloc, books.expect(rt, "memory"), asked);
+    let mut order = order.expect(rt, "memory");
+    let replies = answer_all(rt, alloc, lot, sheet, &mut order, asked);
     Finished {
         books: order.close(),
         replies,
@@ -101,10 +100,10 @@ fn run_on(
     alloc: Global,
     batch: u32,
     text: &[u8],
-    asked: Vec<Transmission>,
+    asked: &[Transmission],
 ) -> Finished {
-    let books = books(rt, alloc, text);
-    run(rt, alloc, batch, plain_sheet(rt, alloc), books, asked)
+    let (sheet, books) = (plain_sheet(rt, alloc), books(rt, alloc, text));
+    run(rt, alloc, batch, &sheet, books, asked)
 }
 
 // A record of each of these transactions, on its date.
@@ -186,44 +185,53 @@ fn first_figures(
 
 // A refill on a date has this status on the fill's books, where so many percent of the fill have to be over.
 fn refill(rt: &impl Abort, alloc: Global, percent: u64, date: &[u8], wanted: &[u8]) {
+    let finished = refilled(rt, alloc, percent, date);
+    replied(rt, alloc, &finished, wanted);
+}
+
+fn refilled(rt: &impl Abort, alloc: Global, percent: u64, date: &[u8]) -> Finished {
     let asked = each(rt, alloc, &[(date, base(rt, 124, b"C100"))]);
-    let (sheet, filled) = (
-        sheet_with(rt, alloc, percent, 3_000),
-        books(rt, alloc, FILLED),
-    );
-    replied(rt, alloc, &run(rt, alloc, 42, sheet, filled, asked), wanted);
+    let sheet = sheet_with(rt, alloc, percent, 3_000);
+    run(rt, alloc, 42, &sheet, books(rt, alloc, FILLED), &asked)
 }
 
 // Thirty days were filled on 1 February. So many percent of them have to be over, whole days counted in hundredths.
+const REFILLS: &[(u64, &[u8], &[u8])] = &[
+    (75, b"20260223", b"R79"),
+    (75, b"20260224", b"P"),
+    (50, b"20260215", b"R79"),
+    (50, b"20260216", b"P"),
+    (100, b"20260301", b"R79"),
+    (1, b"20260201", b"R79"),
+    (1, b"20260202", b"P"),
+    (0, b"20260201", b"P"),
+    (100, b"20260131", b"P"),
+];
+
 #[test]
 fn a_refill_is_too_soon_up_to_its_boundary(rt: HostRuntime) {
-    let cases: [(u64, &[u8], &[u8]); 9] = [
-        (75, b"20260223", b"R79"),
-        (75, b"20260224", b"P"),
-        (50, b"20260215", b"R79"),
-        (50, b"20260216", b"P"),
-        (100, b"20260301", b"R79"),
-        (1, b"20260201", b"R79"),
-        (1, b"20260202", b"P"),
-        (0, b"20260201", b"P"),
-        (100, b"20260131", b"P"),
-    ];
-    for (percent, date, status) in cases {
+    for &(percent, date, status) in REFILLS {
         refill(&rt, rt.alloc(), percent, date, status);
     }
 }
 
-// The fill that was too early is taken back, and one of 31 January stands: 23 days are over on 23 February, 1 on the 24th.
+// The fill that was too early is taken back, and one of 31 January stands.
+fn taken_back_between(rt: &impl Abort, alloc: Global) -> Vec<Transmission> {
+    let asked: [(&[u8], Transaction); 5] = [
+        (b"20260223", base(rt, 124, b"C100")),
+        (b"20260131", base(rt, 126, b"C100")),
+        (b"20260201", reversal(rt, 123)),
+        (b"20260223", base(rt, 127, b"C100")),
+        (b"20260224", base(rt, 125, b"C100")),
+    ];
+    each(rt, alloc, &asked)
+}
+
+// 23 days are over on 23 February, 1 on the 24th.
 #[test]
 fn a_fill_taken_back_makes_none_too_soon(rt: HostRuntime) {
-    let asked: [(&[u8], Transaction); 5] = [
-        (b"20260223", base(&rt, 124, b"C100")),
-        (b"20260131", base(&rt, 126, b"C100")),
-        (b"20260201", reversal(&rt, 123)),
-        (b"20260223", base(&rt, 127, b"C100")),
-        (b"20260224", base(&rt, 125, b"C100")),
-    ];
-    let finished = run_on(&rt, rt.alloc(), 42, FILLED, each(&rt, rt.alloc(), &asked));
+    let asked = taken_back_between(&rt, rt.alloc());
+    let finished = run_on(&rt, rt.alloc(), 42, FILLED, &asked);
     replied(&rt, rt.alloc(), &finished, b"R79PAPR79");
 }
 
@@ -238,7 +246,7 @@ fn four_in_one(rt: &impl Abort, alloc: Global) -> Vec<Transmission> {
 #[test]
 fn a_transaction_is_on_the_books_after_the_one_before(rt: HostRuntime) {
     let asked = four_in_one(&rt, rt.alloc());
-    let finished = run_on(&rt, rt.alloc(), 42, OPENING, asked);
+    let finished = run_on(&rt, rt.alloc(), 42, OPENING, &asked);
     ended(&rt, rt.alloc(), &finished, b"PDPP", FOUR);
 }
 
@@ -260,58 +268,79 @@ fn enroll(rt: &impl Abort, ledger: &mut Ledger, digits: &[u8]) {
         .expect(rt, "a member that isn't listed");
 }
 
-// The last of 1,000 is billed, then the first: the family's figures are of both, the deductible of each alone.
-#[test]
-fn a_family_has_a_thousand_members(rt: HostRuntime) {
-    let (alloc, family) = (rt.alloc(), id(&rt, b"C100"));
-    let last = bill(&rt, 123, b"C100", b"999", b"00002000202");
-    let first = bill(&rt, 124, b"C100", b"000", b"00002000202");
-    let asked = each(&rt, alloc, &[(TODAY, last), (TODAY, first)]);
-    let (sheet, books) = (plain_sheet(&rt, alloc), books_of_a_thousand(&rt, alloc));
-    let finished = run(&rt, alloc, 42, sheet, books, asked);
-    replied(&rt, alloc, &finished, b"PP");
-    let books = &finished.books;
-    same(&rt, books.out_of_pocket(&family), Some(26_000));
-    same(&rt, books.family_deductible(&family), Some(20_000));
-    same(
-        &rt,
-        books.deductible(&family, &person(&rt, b"999")),
-        Some(10_000),
-    );
-    same(
-        &rt,
-        books.deductible(&family, &person(&rt, b"500")),
-        Some(0),
-    );
+// The last of 1,000 is billed, then the first.
+fn last_and_first(rt: &impl Abort, alloc: Global) -> Vec<Transmission> {
+    let last = bill(rt, 123, b"C100", b"999", b"00002000202");
+    let first = bill(rt, 124, b"C100", b"000", b"00002000202");
+    each(rt, alloc, &[(TODAY, last), (TODAY, first)])
 }
 
-// Case reverse-twice-and-bill-again.
+// What that gives under the plain sheet.
+fn run_on_a_thousand(rt: &impl Abort, alloc: Global) -> Finished {
+    let (sheet, asked) = (plain_sheet(rt, alloc), last_and_first(rt, alloc));
+    let books = books_of_a_thousand(rt, alloc);
+    run(rt, alloc, 42, &sheet, books, &asked)
+}
+
+// The out of pocket of C100, its deductible, and that of this person of it.
+fn totals(rt: &impl Abort, books: &Books, code: &[u8]) -> [Option<u128>; 3] {
+    let (family, person) = (id(rt, b"C100"), person(rt, code));
+    [
+        books.out_of_pocket(&family),
+        books.family_deductible(&family),
+        books.deductible(&family, &person),
+    ]
+}
+
+// The family's figures are of both, the deductible of each alone.
+#[test]
+fn a_family_has_a_thousand_members(rt: HostRuntime) {
+    let finished = run_on_a_thousand(&rt, rt.alloc());
+    replied(&rt, rt.alloc(), &finished, b"PP");
+    let billed = [Some(26_000), Some(20_000), Some(10_000)];
+    same(&rt, totals(&rt, &finished.books, b"999"), billed);
+    let other = [Some(26_000), Some(20_000), Some(0)];
+    same(&rt, totals(&rt, &finished.books, b"500"), other);
+}
+
+// The records of case reverse-twice-and-bill-again.
+fn twice_and_again(rt: &impl Abort, alloc: Global) -> Vec<Transmission> {
+    let asked = [
+        (TODAY, reversal(rt, 123)),
+        (TODAY, reversal(rt, 123)),
+        (TODAY, base(rt, 123, b"C100")),
+    ];
+    each(rt, alloc, &asked)
+}
+
 #[test]
 fn a_claim_is_taken_back_once_and_billed_again(rt: HostRuntime) {
-    let asked = [
-        (TODAY, reversal(&rt, 123)),
-        (TODAY, reversal(&rt, 123)),
-        (TODAY, base(&rt, 123, b"C100")),
-    ];
-    let finished = run_on(&rt, rt.alloc(), 44, BILLED, each(&rt, rt.alloc(), &asked));
+    let asked = twice_and_again(&rt, rt.alloc());
+    let finished = run_on(&rt, rt.alloc(), 44, BILLED, &asked);
     ended(&rt, rt.alloc(), &finished, b"AR87P", BILLED_AGAIN);
+}
+
+// What a second billing of one-billing's claim gives, under a copay of 5,000.
+fn billed_twice(rt: &impl Abort, alloc: Global) -> Finished {
+    let asked = each(rt, alloc, &[(TODAY, base(rt, 123, b"C100"))]);
+    let sheet = sheet_with(rt, alloc, 75, 5_000);
+    run(rt, alloc, 43, &sheet, books(rt, alloc, BILLED), &asked)
+}
+
+#[test]
+fn a_claim_billed_twice_changes_nothing(rt: HostRuntime) {
+    let finished = billed_twice(&rt, rt.alloc());
+    ended(&rt, rt.alloc(), &finished, b"D", BILLED);
 }
 
 // What was paid is told again, whatever the sheet says by now: 13,000 of 30,175 cents are the patient's, as under a copay of
 // 3,000.
 #[test]
 fn a_claim_billed_twice_is_not_priced_again(rt: HostRuntime) {
-    let alloc = rt.alloc();
-    let asked = each(&rt, alloc, &[(TODAY, base(&rt, 123, b"C100"))]);
-    let (sheet, billed) = (sheet_with(&rt, alloc, 75, 5_000), books(&rt, alloc, BILLED));
-    let finished = run(&rt, alloc, 43, sheet, billed, asked);
-    ended(&rt, alloc, &finished, b"D", BILLED);
+    let finished = billed_twice(&rt, rt.alloc());
+    let figures = first_figures(&rt, rt.alloc(), &finished.replies);
     let wanted = (authorization(&rt, 4_200_000_011), 13_000, 17_175);
-    same(
-        &rt,
-        first_figures(&rt, alloc, &finished.replies),
-        Some(wanted),
-    );
+    same(&rt, figures, Some(wanted));
 }
 
 #[test]
@@ -320,7 +349,7 @@ fn books_stay_where_no_record_comes(rt: HostRuntime) {
     let Finished {
         books: after,
         replies,
-    } = run_on(&rt, alloc, 42, BILLED, Vec::new(alloc));
+    } = run_on(&rt, alloc, 42, BILLED, &[]);
     same(&rt, replies.len(), 0);
     same(&rt, after, books(&rt, alloc, BILLED));
 }

@@ -102,7 +102,7 @@ fn books(rt: &impl Abort, alloc: Global, text: &[u8]) -> Books {
 // Three claims of one family.
 fn three_fills(rt: &impl Abort, alloc: Global) -> Vec<Transmission> {
     let mut records = Vec::new(alloc);
-    for reference in [201, 202, 203] {
+    for &reference in &[201, 202, 203] {
         put(rt, &mut records, bill(rt, reference, family(rt, b"C100")));
     }
     records
@@ -140,11 +140,16 @@ fn waves_are(
     same(rt, waves.chain.as_slice(), chain);
 }
 
+// The footprints of the three fills.
+fn of_three_fills(rt: &impl Abort, alloc: Global) -> Vec<Footprint> {
+    let fills = three_fills(rt, alloc);
+    footprints_on(rt, alloc, OPENING, &fills)
+}
+
 #[test]
 fn three_fills_reach_the_family_maximum(rt: HostRuntime) {
     let c100 = [family(&rt, b"C100")];
-    let fills = three_fills(&rt, rt.alloc());
-    let list = footprints_on(&rt, rt.alloc(), OPENING, &fills);
+    let list = of_three_fills(&rt, rt.alloc());
     same(&rt, list.len(), 3);
     names(&rt, &list, 0, &[key(&rt, 201)], &c100);
     names(&rt, &list, 1, &[key(&rt, 202)], &c100);
@@ -172,12 +177,17 @@ fn billed_for_another_family(rt: &impl Abort, alloc: Global) -> Vec<Transmission
     records
 }
 
+// The footprints of these, and of another claim of C100.
+fn of_a_freed_key(rt: &impl Abort, alloc: Global) -> Vec<Footprint> {
+    let mut records = billed_for_another_family(rt, alloc);
+    put(rt, &mut records, bill(rt, 125, family(rt, b"C100")));
+    footprints_on(rt, alloc, BILLED, &records)
+}
+
 #[test]
 fn reversal_frees_a_key(rt: HostRuntime) {
     let (c100, c200) = (family(&rt, b"C100"), family(&rt, b"C200"));
-    let mut records = billed_for_another_family(&rt, rt.alloc());
-    put(&rt, &mut records, bill(&rt, 125, c100));
-    let list = footprints_on(&rt, rt.alloc(), BILLED, &records);
+    let list = of_a_freed_key(&rt, rt.alloc());
     same(&rt, list.len(), 4);
     names(&rt, &list, 0, &[key(&rt, 123)], &[c100]);
     names(&rt, &list, 1, &[key(&rt, 123)], &[c200]);
@@ -355,10 +365,9 @@ fn go_together(rt: &impl Abort, queues: &mut Queues, count: usize) {
 
 #[test]
 fn sharers_wait_for_each_other(rt: HostRuntime) {
-    let fills = three_fills(&rt, rt.alloc());
-    let list = footprints_on(&rt, rt.alloc(), OPENING, &fills);
+    let list = of_three_fills(&rt, rt.alloc());
     let mut queues = queues_of(&rt, rt.alloc(), &list);
-    for place in [1, 2, 3] {
+    for &place in &[1, 2, 3] {
         same(&rt, queues.ready(), Some(place));
         go_together(&rt, &mut queues, 1);
     }

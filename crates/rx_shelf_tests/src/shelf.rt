@@ -1,5 +1,5 @@
 // The shelf: what is taken from it and given back, by hand.
-use crate::same::same;
+use crate::same::{differ, same};
 use rx_books_kept::Books;
 use rx_books_shelf::{Shelf, TakeFault};
 use rx_claim::Amounts;
@@ -82,7 +82,7 @@ fn footprint(rt: &impl Abort, alloc: Global, reference: u64) -> Footprint {
 // The footprints of case three-fills-reach-the-family-maximum.
 fn three_fills(rt: &impl Abort, alloc: Global) -> Vec<Footprint> {
     let mut footprints = Vec::new(alloc);
-    for reference in [201, 202, 203] {
+    for &reference in &[201, 202, 203] {
         let footprint = footprint(rt, alloc, reference);
         footprints.push(footprint).expect(rt, "memory");
     }
@@ -110,6 +110,14 @@ fn give(rt: &impl Abort, shelf: &mut Shelf, parcel: Parcel) {
     shelf.give(parcel).expect(rt, "given back");
 }
 
+// The number of the fault with which a parcel comes back; None where it is accepted.
+fn fault_of(shelf: &mut Shelf, parcel: Parcel) -> Option<u32> {
+    match shelf.give(parcel) {
+        Ok(()) => None,
+        Err(fault) => Some(fault.code()),
+    }
+}
+
 // The parcel of the first fill, from a shelf of these books.
 fn first_of(rt: &impl Abort, alloc: Global, books: Books) -> Parcel {
     let mut other = shelf_of(rt, alloc, books);
@@ -121,11 +129,19 @@ fn twin(rt: &impl Abort, alloc: Global) -> Parcel {
     first_of(rt, alloc, opening(rt, alloc))
 }
 
-// The same, where the books were copied to the next year.
+fn copied(rt: &impl Abort, alloc: Global, books: &Books, period: Period) -> Books {
+    books.copy(alloc, period).expect(rt, "memory")
+}
+
+// The opening books, copied to the next year.
+fn later(rt: &impl Abort, alloc: Global) -> Books {
+    let period = year(rt, b"20270101", b"20271231");
+    copied(rt, alloc, &opening(rt, alloc), period)
+}
+
+// The parcel of the first fill, from a shelf of those.
 fn next_years(rt: &impl Abort, alloc: Global) -> Parcel {
-    let books = opening(rt, alloc);
-    let later = books.copy(alloc, year(rt, b"20270101", b"20271231"));
-    first_of(rt, alloc, later.expect(rt, "memory"))
+    first_of(rt, alloc, later(rt, alloc))
 }
 
 // The books that the shelf closes to: its books agree, and it doesn't come back.
@@ -175,11 +191,16 @@ fn put(rt: &impl Abort, parcel: &mut Parcel, row: Row) {
     parcel.add(row).expect(rt, "memory");
 }
 
+// Why the parcel of a fill isn't taken; None where it is.
+fn refused(rt: &impl Abort, alloc: Global, shelf: &mut Shelf, reference: u64) -> Option<TakeFault> {
+    let footprint = footprint(rt, alloc, reference);
+    shelf.take(alloc, &footprint).err()
+}
+
 #[test]
 fn a_book_that_is_out_is_absent(rt: HostRuntime) {
     let mut shelf = lent(&rt, rt.alloc());
-    let second = footprint(&rt, rt.alloc(), 202);
-    let fault = shelf.take(rt.alloc(), &second).err();
+    let fault = refused(&rt, rt.alloc(), &mut shelf, 202);
     same(&rt, fault, Some(TakeFault::Absent));
     same(&rt, shelf.agrees(), false);
 }
@@ -187,7 +208,7 @@ fn a_book_that_is_out_is_absent(rt: HostRuntime) {
 #[test]
 fn what_was_given_back_can_be_taken(rt: HostRuntime) {
     let mut shelf = shelf(&rt, rt.alloc());
-    for reference in [201, 202] {
+    for &reference in &[201, 202] {
         let parcel = taken(&rt, rt.alloc(), &mut shelf, reference);
         give(&rt, &mut shelf, parcel);
     }
@@ -196,26 +217,30 @@ fn what_was_given_back_can_be_taken(rt: HostRuntime) {
 
 #[test]
 fn a_stranger_comes_back_while_nothing_is_out(rt: HostRuntime) {
-    let stranger = twin(&rt, rt.alloc());
     let mut shelf = shelf(&rt, rt.alloc());
-    let fault = shelf.give(stranger).expect_err(&rt, "a stranger");
-    same(&rt, fault.code(), 1);
+    let stranger = twin(&rt, rt.alloc());
+    same(&rt, fault_of(&mut shelf, stranger), Some(1));
+}
+
+// Whether the shelf's parcel of the first fill, taken from it, equals this one.
+fn has_equal(rt: &impl Abort, alloc: Global, shelf: &mut Shelf, parcel: &Parcel) -> bool {
+    taken(rt, alloc, shelf, 201) == *parcel
 }
 
 #[test]
 fn a_parcel_of_another_shelf_is_accepted_for_an_equal_one(rt: HostRuntime) {
     let mut shelf = shelf(&rt, rt.alloc());
-    let first = taken(&rt, rt.alloc(), &mut shelf, 201);
     let twin = twin(&rt, rt.alloc());
-    same(&rt, first == twin, true);
+    let equal = has_equal(&rt, rt.alloc(), &mut shelf, &twin);
+    same(&rt, equal, true);
     give(&rt, &mut shelf, twin);
 }
 
 #[test]
 fn a_parcel_of_another_period_comes_back(rt: HostRuntime) {
-    let later = next_years(&rt, rt.alloc());
     let mut shelf = lent(&rt, rt.alloc());
-    same(&rt, shelf.give(later).is_err(), true);
+    let later = next_years(&rt, rt.alloc());
+    same(&rt, fault_of(&mut shelf, later).is_some(), true);
 }
 
 // The books of a shelf that was given this parcel in the place of its own of the first fill.
@@ -225,24 +250,44 @@ fn after(rt: &impl Abort, alloc: Global, parcel: Parcel) -> Books {
     closed(rt, shelf)
 }
 
-// The parcel of the first fill with that fill, of the person 01.
-fn filled(rt: &impl Abort, shelf: &mut Shelf, alloc: Global) {
+// Gives the parcel of the first fill back with that fill, of the person 01.
+fn fill(rt: &impl Abort, alloc: Global, shelf: &mut Shelf) {
     let row = fill_of(rt, b"01");
     let mut parcel = taken(rt, alloc, shelf, 201);
     put(rt, &mut parcel, row);
     give(rt, shelf, parcel);
 }
 
+// The books of a shelf where that was done.
+fn filled(rt: &impl Abort, alloc: Global) -> Books {
+    let mut shelf = shelf(rt, alloc);
+    fill(rt, alloc, &mut shelf);
+    closed(rt, shelf)
+}
+
+// The row under the key of the first fill.
+fn first_row(rt: &impl Abort, books: &Books) -> Option<Row> {
+    books.row(&key(rt, 201)).copied()
+}
+
+// The out of pocket of C100, its deductible, and that of this person of it.
+fn totals(rt: &impl Abort, books: &Books, code: &[u8]) -> [Option<u128>; 3] {
+    let (family, person) = (c100(rt), person(rt, code));
+    [
+        books.out_of_pocket(&family),
+        books.family_deductible(&family),
+        books.deductible(&family, &person),
+    ]
+}
+
 // The first record of case three-fills-reach-the-family-maximum: F5 13000, FH 10000.
+const FIRST_FILL: [Option<u128>; 3] = [Some(13_000), Some(10_000), Some(10_000)];
+
 #[test]
 fn what_is_added_to_a_parcel_is_in_the_books(rt: HostRuntime) {
-    let (fill, family, person) = (fill_of(&rt, b"01"), c100(&rt), person(&rt, b"01"));
-    let mut shelf = shelf(&rt, rt.alloc());
-    filled(&rt, &mut shelf, rt.alloc());
-    let books = closed(&rt, shelf);
-    same(&rt, books.row(&fill.key).copied(), Some(fill));
-    same(&rt, books.out_of_pocket(&family), Some(13_000));
-    same(&rt, books.deductible(&family, &person), Some(10_000));
+    let (books, fill) = (filled(&rt, rt.alloc()), fill_of(&rt, b"01"));
+    same(&rt, first_row(&rt, &books), Some(fill));
+    same(&rt, totals(&rt, &books, b"01"), FIRST_FILL);
 }
 
 // The text of the books where C100 has the persons 01, 02 and 04, and the fill is of the last of these.
@@ -269,15 +314,17 @@ fn with_other_members(rt: &impl Abort, alloc: Global) -> Books {
 }
 
 #[test]
-fn other_members_are_in_the_books(rt: HostRuntime) {
-    let fill = fill_of(&rt, b"04");
-    let (family, person, third) = (c100(&rt), person(&rt, b"04"), person(&rt, b"03"));
+fn a_fill_of_another_member_is_in_the_books(rt: HostRuntime) {
     let books = with_other_members(&rt, rt.alloc());
-    same(&rt, books.row(&fill.key).copied(), Some(fill));
-    same(&rt, books.out_of_pocket(&family), Some(13_000));
-    same(&rt, books.family_deductible(&family), Some(10_000));
-    same(&rt, books.deductible(&family, &person), Some(10_000));
-    same(&rt, books.deductible(&family, &third), None);
+    same(&rt, first_row(&rt, &books), Some(fill_of(&rt, b"04")));
+}
+
+#[test]
+fn other_members_are_in_the_books(rt: HostRuntime) {
+    let books = with_other_members(&rt, rt.alloc());
+    same(&rt, totals(&rt, &books, b"04"), FIRST_FILL);
+    let unlisted = [Some(13_000), Some(10_000), None];
+    same(&rt, totals(&rt, &books, b"03"), unlisted);
 }
 
 #[test]
@@ -292,23 +339,39 @@ fn read(rt: &impl Abort, alloc: Global) -> Books {
     Books::read(alloc, OTHER_MEMBERS).expect(rt, "books")
 }
 
-// A copy of the books, of their period.
-fn copied(rt: &impl Abort, alloc: Global, books: &Books) -> Books {
-    books.copy(alloc, books.period()).expect(rt, "memory")
+#[test]
+fn books_with_other_members_are_those_of_their_text(rt: HostRuntime) {
+    let alloc = rt.alloc();
+    same(&rt, with_other_members(&rt, alloc), read(&rt, alloc));
+    same(&rt, read(&rt, alloc), with_other_members(&rt, alloc));
 }
 
-// The books, opened and closed again.
-fn reopened(rt: &impl Abort, alloc: Global, books: Books) -> Books {
+#[test]
+fn books_with_other_members_are_not_the_opening_ones(rt: HostRuntime) {
+    let alloc = rt.alloc();
+    differ(&rt, with_other_members(&rt, alloc), opening(&rt, alloc));
+}
+
+// A copy of the books with other members, of their period.
+fn copy(rt: &impl Abort, alloc: Global) -> Books {
+    let books = with_other_members(rt, alloc);
+    copied(rt, alloc, &books, books.period())
+}
+
+#[test]
+fn books_with_other_members_are_copied(rt: HostRuntime) {
+    same(&rt, copy(&rt, rt.alloc()), read(&rt, rt.alloc()));
+}
+
+// The books with other members, opened and closed again.
+fn reopened(rt: &impl Abort, alloc: Global) -> Books {
+    let books = with_other_members(rt, alloc);
     books.open(alloc, &[]).expect(rt, "memory").close()
 }
 
 #[test]
-fn books_with_other_members_are_those_of_their_text(rt: HostRuntime) {
-    let (books, read) = (with_other_members(&rt, rt.alloc()), read(&rt, rt.alloc()));
-    same(&rt, books == read && read == books, true);
-    same(&rt, books != opening(&rt, rt.alloc()), true);
-    same(&rt, copied(&rt, rt.alloc(), &books) == read, true);
-    same(&rt, reopened(&rt, rt.alloc(), books), read);
+fn books_with_other_members_are_opened(rt: HostRuntime) {
+    same(&rt, reopened(&rt, rt.alloc()), read(&rt, rt.alloc()));
 }
 
 #[test]
