@@ -1,6 +1,7 @@
 -- The shelf of books: what each is worth there, which have a place, and that all are in.
-use Rattle.std.proofs.Common.{◌≡◌, ℕ, List, [], ◌∷◌, map, Bool, true, false, Option, Some, None, refl, sym, ap, subst, ◌∙◌, inl, inr}
-use Rattle.std.specs.Prelude.{IfSome}
+use Rattle.std.proofs.Common.{◌≡◌, ℕ, List, [], ◌∷◌, map, Bool, true, false, Option, Some, None, refl, sym, ap, ◌∙◌, inl, inr}
+use Rattle.std.proofs.Common.{Result, Ok, Err}
+use Rattle.std.specs.Prelude.{IfOk, IfSome}
 use Rattle.std.specs.List.{All, Contains, filter, list_any}
 use Rattle.std.specs.Option.{is_some, option_map, option_to_list}
 use Rattle.std.specs.Ordering.{is_eq}
@@ -26,7 +27,7 @@ use Rattle.rx_parcels.proofs.Parts.{ledger_path}
 use Rattle.rx_books_kept.specs.LedgerBooks.{LedgerBooks}
 use Rattle.rx_places.specs.declared.place.FamilyPlace.{FamilyPlace}
 use Rattle.rx_places.specs.declared.place.KeyPlace.{KeyPlace}
-use Rattle.rx_places.specs.Shelves.{HoldsOwnBook, HoldsOwnRow, IsShelf, family_place, family_value_or}
+use Rattle.rx_places.specs.Shelves.{HoldsOwnBook, HoldsOwnRow, IsShelf, ShelfParts, family_place, family_value_or}
 use Rattle.rx_places.specs.Shelves.{has_slot, is_family_out, is_key_out, is_out}
 use Rattle.rx_places.specs.Shelves.{key_place, key_value_or, place_family, place_key, row_held, value_of}
 use Rattle.rx_books_shelf.specs.Closed.{HasSlot}
@@ -166,12 +167,13 @@ opened_parts b c footprints ks fs books places others same ek ef pk bf pf =
     λ i. record { period = c.period; rest = c.ledger; keys = k i; families = f i } in
     whole ∙ ap (λ d. shelf_of d footprints) same
 
-pub shelf_opened_from : (b c : LedgerBooks) (footprints : List FootprintParts) (fs : List (List ℕ)) (books : List FamilyBook) → c ≡ b
-    → fs ≡ all_families footprints → books ≡ map (family_book c) fs → IsLedger c.ledger → All IsOwn books
-    → IsShelf (shelf_of b footprints)
-shelf_opened_from b c footprints fs books same ef bf is own = shelf_opened b footprints
-    (subst (λ (d : LedgerBooks). IsLedger d.ledger) same is)
-    (subst (All IsOwn) (bf ∙ ap (map (family_book c)) ef ∙ ap (λ d. map (family_book d) (all_families footprints)) same) own)
+-- what each book is worth on the shelf of books that were opened
+pub opened_from : {E : Type 0} (b c : LedgerBooks) (footprints : List FootprintParts) (r : Result ShelfParts E) → c ≡ b
+    → IfOk r (λ s. s ≡ shelf_of c footprints) → IfOk r (λ s. IsLedger c.ledger)
+    → IfOk r (λ s. (x : Book) → value_of s x ≡ book x b.ledger)
+opened_from b c footprints (Ok s) same is within = λ x.
+    ap (λ t. value_of t x) is ∙ values_opened c footprints within x ∙ ap (λ d. book x d.ledger) same
+opened_from b c footprints (Err e) same is within = tt
 
 pub slots_there : (slots : List Key) (b : LedgerBooks) (ks : List Key) → All (Contains slots) ks
     → All (HasSlot slots) (map (full_key_place b) ks)

@@ -56,12 +56,27 @@ fn empty_books(
     ensures { IfOk result (λ books. books.items ≡ map (empty_book period) families.now) }
 {
     let mut books = Vec::with_capacity(alloc, families.len())?;
+    put_books(alloc, &mut books, families, period, rooms)?;
+    Ok(books)
+}
+
+// Puts the books of these families, of which none is there yet.
+fn put_books(
+    alloc: Global,
+    books: &mut Vec<Unsummed>,
+    families: &[Id],
+    period: Period,
+    rooms: &[Room],
+) -> Result<(), Memory>
+    requires { books.old.items ≡ [] }
+    ensures { OnOk result (books.new.items ≡ map (empty_book period) families.now) }
+{
     for family in families {
         let room = rooms.get(books.len()).copied().unwrap_or(Room::NONE);
         let book = Unsummed::new(alloc, *family, period, room)?;
         books.push(book)?;
     }
-    Ok(books)
+    Ok(())
 }
 
 // Puts each member into the book of its family, if it is there. The homes tell where to look for it.

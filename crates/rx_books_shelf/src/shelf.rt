@@ -1,11 +1,15 @@
 ghost use Rattle.std.specs.Prelude.{◌≡◌, ◌≢◌, ◌≤◌, ◌↔◌, ◌||◌, if◌then◌else◌, Bool, false, true, is_ok, is_some, length, vec_capacity};
-ghost use Rattle.std.specs.Prelude.{IfErr, IfOk, IsErrOf, IsOk, OnErr, OnOk};
-ghost use Rattle.rx_ledger.specs.Ledger.{empty};
+ghost use Rattle.std.specs.Prelude.{IfErr, IfOk, IsErrOf, IsOk, OnErr, OnOk, map};
+ghost use Rattle.std.specs.List.{All, Contains};
+ghost use Rattle.rx_fields.specs.Order.{key_cmp};
+ghost use Rattle.rx_order.specs.Ascending.{IsAscending};
+ghost use Rattle.rx_ledger.specs.Ledger.{IsLedger, empty};
 ghost use Rattle.rx_parcels.specs.Books.{Book, book};
-ghost use Rattle.rx_parcels.specs.Footprints.{names};
+ghost use Rattle.rx_parcels.specs.FamilyBook.{IsOwn};
+ghost use Rattle.rx_parcels.specs.Footprints.{itself, names};
 ghost use Rattle.rx_parcels.specs.Parcels.{named_in, values_of};
 ghost use Rattle.rx_places.specs.Shelves.{AreAllAgreed, IsShelf, are_all_in, has_slot, is_out, value_of};
-ghost use Rattle.rx_books_shelf.specs.Opened.{is_named, shelf_of};
+ghost use Rattle.rx_books_shelf.specs.Opened.{all_families, all_keys, family_book, filled_place, full_key_place, is_named, shelf_of};
 ghost use Rattle.rx_books_shelf.specs.Taken.{are_out, has_all, parcel_of, put_back, taken_out};
 
 use crate::fault::{GiveFault, TakeFault};
@@ -13,7 +17,7 @@ use crate::gathering::gathered;
 use crate::naming::{families_named, keys_named};
 use crate::placing::{family_places, key_places};
 use rx_books_kept::{Books, OpenBooks};
-use rx_fields::{Memory, Period};
+use rx_fields::{Key, Memory, Period};
 use rx_parcels::{Footprint, Parcel};
 use rx_places::{FamilyPlace, Hinted, KeyPlace};
 use std::alloc::Global;
@@ -58,11 +62,26 @@ impl Shelf {
         ensures inside { IfOk result (λ shelf. (b : Book) → is_out shelf b ≡ false) }
     {
         let keys = keys_named(alloc, footprints)?;
-        let families = families_named(alloc, footprints)?;
         let books = books.open(alloc, &keys)?;
-        let keys = Hinted::of(alloc, key_places(alloc, &books, &keys)?)?;
-        let gathered = gathered(alloc, &books, &families)?;
-        let families = Hinted::of(alloc, family_places(alloc, &books, gathered)?)?;
+        Shelf::over(alloc, books, &keys, footprints)
+    }
+
+    // The shelf over opened books, with a place for each of these keys, which are those that the footprints name, and for
+    // each family that they do.
+    fn over(
+        alloc: Global,
+        books: OpenBooks,
+        keys: &[Key],
+        footprints: &[Footprint],
+    ) -> Result<Shelf, Memory>
+        requires keys { keys.now ≡ all_keys footprints.now }
+        requires rise { IsAscending key_cmp itself keys.now }
+        requires slots { All (Contains books.slots) keys.now }
+        ensures value { IfOk result (λ shelf. shelf ≡ shelf_of books.books footprints.now) }
+        ensures within { IfOk result (λ _. IsLedger books.books.ledger) }
+    {
+        let keys = placed_keys(alloc, &books, keys)?;
+        let families = placed_families(alloc, &books, footprints)?;
         let _standing = books.standing();
         Ok(Shelf {
             books,
@@ -146,6 +165,29 @@ impl Shelf {
         let family = self.families.all_out(parcel.families())?;
         Some(Near { key, family })
     }
+}
+
+// The places of these keys, each with what it holds in the books.
+fn placed_keys(alloc: Global, books: &OpenBooks, keys: &[Key]) -> Result<Hinted<KeyPlace>, Memory>
+    requires { IsAscending key_cmp itself keys.now }
+    ensures { IfOk result (λ places. places ≡ map (full_key_place books.now.books) keys.now) }
+{
+    Hinted::of(alloc, key_places(alloc, books, keys)?)
+}
+
+// The places of the families that footprints name, each with its book.
+fn placed_families(
+    alloc: Global,
+    books: &OpenBooks,
+    footprints: &[Footprint],
+) -> Result<Hinted<FamilyPlace>, Memory>
+    ensures value { IfOk result (λ places.
+        places ≡ map filled_place (map (family_book books.now.books) (all_families footprints.now))) }
+    ensures own { IfOk result (λ _. All IsOwn (map (family_book books.now.books) (all_families footprints.now))) }
+{
+    let families = families_named(alloc, footprints)?;
+    let gathered = gathered(alloc, books, &families)?;
+    Hinted::of(alloc, family_places(alloc, books, gathered)?)
 }
 
 // Where a place of a parcel's keys and one of its families is, or may be.

@@ -5,7 +5,7 @@ ghost use Rattle.rx_schedule.specs.Jobs.{reply_at};
 ghost use Rattle.rx_schedule.specs.Machine.{IsComplete, IsLegal, Was};
 ghost use Rattle.rx_desk.specs.Desks.{AreTerms, IsJob, IsNext, IsOut, MayBeTaken, after_event, final_books, led_to, machine_of, past_of};
 
-use crate::making::{Room, Shared, in_order, room_for, shared_by, terms_of};
+use crate::making::{Made, Room, Shared, in_order, made_of};
 use crate::moves::{Taken, closed, mark_given, mark_out, note, put_in, take_books};
 use crate::next::Next;
 use crate::remains::Remains;
@@ -82,21 +82,24 @@ impl Desk {
         ensures history { IfOk result (λ desk. desk.history ≡ []) }
     {
         let books = in_order(alloc, books)?;
-        let drugs = Vec::from_slice(alloc, sheet.drugs())?;
-        let terms = terms_of(alloc, lot, sheet, &transmissions)?;
-        let shared = shared_by(alloc, &books, &transmissions)?;
-        let room = room_for(alloc, &transmissions)?;
+        let made = made_of(alloc, lot, sheet, &books, &transmissions)?;
         let waiting = transmissions.len();
-        let Shared {
-            footprints,
-            queues,
-            shelf,
-        } = shared;
+        let Made {
+            drugs,
+            terms,
+            room,
+            shared,
+        } = made;
         let Room {
             states,
             replies,
             history,
         } = room;
+        let Shared {
+            footprints,
+            queues,
+            shelf,
+        } = shared;
         Ok(Desk {
             lot,
             figures: *sheet.figures(),
@@ -186,19 +189,26 @@ impl Desk {
         ensures err { OnErr result (self.new ≡ self.old) }
         ensures back { IfErr result (λ back. back ≡ done) }
     {
-        let order = done.order();
-        let place = order.place() as usize;
-        if !self.has_out(order) {
+        if !self.has_out(done.order()) {
             return Err(done);
         }
-        let at = place - 1;
+        Ok(self.put_back(done))
+    }
+
+    // Takes back a finished order that is out.
+    fn put_back(&mut self, done: Done) -> Remains
+        requires { IsOut self.old done.order }
+        ensures { self.new ≡ after_event self.old (Event.Give done.order.place) }
+    {
         let (order, after, reply) = done.part();
+        let place = order.place() as usize;
+        let at = place - 1;
         put_in(&mut self.shelf, after);
         note(&mut self.history, Event::Give(place));
         self.queues.pass(place);
         let state = mark_given(&mut self.states, at);
         self.replies[at] = reply;
-        Ok(Remains { order, state })
+        Remains { order, state }
     }
 
     // Whether the order is equal to one that is out.
@@ -256,8 +266,17 @@ impl Desk {
         if self.history.len() < 2 * self.states.len() {
             return Err(self);
         }
+        Ok(self.finished())
+    }
+
+    // The books after all records, and the reply to each, where each record was given.
+    fn finished(self) -> Finished
+        requires { IsComplete (machine_of self.job) (past_of self) }
+        ensures books { result.books ≡ final_books self.job }
+        ensures replies { result.replies.items ≡ fold_replies self.job.lot self.job.plan 1 self.job.records self.job.books.ledger }
+    {
         let Desk { shelf, replies, .. } = self;
         let books = closed(shelf);
-        Ok(Finished { books, replies })
+        Finished { books, replies }
     }
 }

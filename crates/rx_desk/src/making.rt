@@ -1,4 +1,4 @@
-ghost use Rattle.std.specs.Prelude.{◌≡◌, ◌≤◌, ◌*◌, Bool, false, [], IfOk, length, replicate, vec_capacity};
+ghost use Rattle.std.specs.Prelude.{◌≡◌, ◌≤◌, ◌*◌, Bool, false, [], IfOk, OnOk, length, replicate, vec_capacity};
 ghost use Rattle.rx_fields.specs.declared.limits.TheConstants.{MOST_DETAILS};
 ghost use Rattle.rx_ledger.specs.Ledger.{IsLedger};
 ghost use Rattle.rx_parcels.specs.Books.{Book, book};
@@ -12,7 +12,7 @@ use rx_books_kept::Books;
 use rx_books_shelf::Shelf;
 use rx_claim::{Codes, Outcome, Rejected, Reply, Transmission};
 use rx_fields::{Code, Count, Lot, Memory};
-use rx_ledger::{Sheet, Terms};
+use rx_ledger::{Listed, Sheet, Terms};
 use rx_parcels::Footprint;
 use rx_schedule::{Event, Queues, footprints};
 use std::alloc::Global;
@@ -33,6 +33,53 @@ pub(crate) struct Room {
     pub history: Vec<Event>,
 }
 
+/// All that a desk makes of its job.
+#[derive(Drop)]
+pub(crate) struct Made {
+    pub drugs: Vec<Listed>,
+    pub terms: Vec<Terms>,
+    pub room: Room,
+    pub shared: Shared,
+}
+
+/// What a desk makes of its job: copies of the sheet's drugs, the terms of each record, room for what it notes, and the
+/// books that its records name.
+pub(crate) fn made_of(
+    alloc: Global,
+    lot: Lot,
+    sheet: &Sheet,
+    books: &Books,
+    transmissions: &[Transmission],
+) -> Result<Made, Memory>
+    requires few { length transmissions.now ≤ MOST_DETAILS }
+    ensures drugs { IfOk result (λ made. made.drugs.items ≡ sheet.now.drugs) }
+    ensures terms { IfOk result (λ made. AreTermsOf lot sheet.now transmissions.now made.terms.items) }
+    ensures states { IfOk result (λ made. made.room.states.items ≡ replicate (length transmissions.now) State.Waiting) }
+    ensures replies { IfOk result (λ made. length made.room.replies.items ≡ length transmissions.now) }
+    ensures history { IfOk result (λ made. made.room.history.items ≡ []) }
+    ensures capacity { IfOk result (λ made. 2 * length transmissions.now ≤ vec_capacity made.room.history) }
+    ensures footprints { IfOk result (λ made. made.shared.footprints.items ≡ footprints_of books.now.ledger transmissions.now) }
+    ensures queues { IfOk result (λ made. made.shared.queues.footprints ≡ made.shared.footprints.items) }
+    ensures handed { IfOk result (λ made. made.shared.queues.handed ≡ []) }
+    ensures passed { IfOk result (λ made. made.shared.queues.passed ≡ []) }
+    ensures period { IfOk result (λ made. made.shared.shelf.period ≡ books.now.period) }
+    ensures rest { IfOk result (λ made. made.shared.shelf.rest ≡ books.now.ledger) }
+    ensures values { IfOk result (λ made. (b : Book) → value_of made.shared.shelf b ≡ book b books.now.ledger) }
+    ensures slots { IfOk result (λ made. (b : Book) → has_slot made.shared.shelf b ≡ is_named made.shared.footprints.items b) }
+    ensures inside { IfOk result (λ made. (b : Book) → is_out made.shared.shelf b ≡ false) }
+{
+    let drugs = Vec::from_slice(alloc, sheet.drugs())?;
+    let terms = terms_of(alloc, lot, sheet, transmissions)?;
+    let room = room_for(alloc, transmissions)?;
+    let shared = shared_by(alloc, books, transmissions)?;
+    Ok(Made {
+        drugs,
+        terms,
+        room,
+        shared,
+    })
+}
+
 /// The same books, of which is told that their ledger is in order.
 pub(crate) fn in_order(alloc: Global, books: Books) -> Result<Books, Memory>
     ensures same { IfOk result (λ same. same ≡ books) }
@@ -43,8 +90,8 @@ pub(crate) fn in_order(alloc: Global, books: Books) -> Result<Books, Memory>
     Ok(opened.close())
 }
 
-/// The terms of each record.
-pub(crate) fn terms_of(
+// The terms of each record.
+fn terms_of(
     alloc: Global,
     lot: Lot,
     sheet: &Sheet,
@@ -59,13 +106,9 @@ pub(crate) fn terms_of(
     Ok(terms)
 }
 
-/// The footprints of the records, their queues, and a shelf over a copy of the books with a place for each book that
-/// they name.
-pub(crate) fn shared_by(
-    alloc: Global,
-    books: &Books,
-    transmissions: &[Transmission],
-) -> Result<Shared, Memory>
+// The footprints of the records, their queues, and a shelf over a copy of the books with a place for each book that they
+// name.
+fn shared_by(alloc: Global, books: &Books, transmissions: &[Transmission]) -> Result<Shared, Memory>
     ensures footprints { IfOk result (λ shared. shared.footprints.items ≡ footprints_of books.now.ledger transmissions.now) }
     ensures queues { IfOk result (λ shared. shared.queues.footprints ≡ shared.footprints.items) }
     ensures handed { IfOk result (λ shared. shared.queues.handed ≡ []) }
@@ -78,7 +121,7 @@ pub(crate) fn shared_by(
 {
     let footprints = footprints(alloc, books, transmissions)?;
     let queues = Queues::of(alloc, &footprints)?;
-    let shelf = Shelf::of(alloc, books.copy(alloc, books.period())?, &footprints)?;
+    let shelf = shelf_over(alloc, books, &footprints)?;
     Ok(Shared {
         footprints,
         queues,
@@ -86,8 +129,20 @@ pub(crate) fn shared_by(
     })
 }
 
-/// A state and a reply for each record, none of which was taken, and room for two events of each.
-pub(crate) fn room_for(alloc: Global, transmissions: &[Transmission]) -> Result<Room, Memory>
+// A shelf over a copy of the books, with a place for each book that these footprints name.
+fn shelf_over(alloc: Global, books: &Books, footprints: &[Footprint]) -> Result<Shelf, Memory>
+    ensures period { IfOk result (λ shelf. shelf.period ≡ books.now.period) }
+    ensures rest { IfOk result (λ shelf. shelf.rest ≡ books.now.ledger) }
+    ensures values { IfOk result (λ shelf. (b : Book) → value_of shelf b ≡ book b books.now.ledger) }
+    ensures slots { IfOk result (λ shelf. (b : Book) → has_slot shelf b ≡ is_named footprints.now b) }
+    ensures inside { IfOk result (λ shelf. (b : Book) → is_out shelf b ≡ false) }
+{
+    let copy = books.copy(alloc, books.period())?;
+    Shelf::of(alloc, copy, footprints)
+}
+
+// A state and a reply for each record, none of which was taken, and room for two events of each.
+fn room_for(alloc: Global, transmissions: &[Transmission]) -> Result<Room, Memory>
     requires few { length transmissions.now ≤ MOST_DETAILS }
     ensures states { IfOk result (λ room. room.states.items ≡ replicate (length transmissions.now) State.Waiting) }
     ensures replies { IfOk result (λ room. length room.replies.items ≡ length transmissions.now) }
@@ -109,11 +164,20 @@ fn all_waiting(alloc: Global, count: usize) -> Result<Vec<State>, Memory>
     ensures { IfOk result (λ states. states.items ≡ replicate count State.Waiting) }
 {
     let mut states = Vec::with_capacity(alloc, count)?;
+    put_waiting(&mut states, count)?;
+    Ok(states)
+}
+
+// Puts so many records that weren't taken.
+fn put_waiting(states: &mut Vec<State>, count: usize) -> Result<(), Memory>
+    requires { states.old.items ≡ [] }
+    ensures { OnOk result (states.new.items ≡ replicate count State.Waiting) }
+{
     'records: for at in 0..count {
         prove!(at < count);
         states.push(State::Waiting)?;
     }
-    Ok(states)
+    Ok(())
 }
 
 // A reply for each record, in whose place its own comes.

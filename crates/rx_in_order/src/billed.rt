@@ -1,4 +1,4 @@
-ghost use Rattle.std.specs.Prelude.{◌≡◌, ◌<◌, ◌≤◌, IfOk, IfSome, OnOk, length};
+ghost use Rattle.std.specs.Prelude.{◌≡◌, ◌<◌, ◌≤◌, [], IfOk, IfSome, OnOk, length};
 ghost use Rattle.std.specs.List.{All};
 ghost use Rattle.rx_in_order.specs.Underway.{IsHolder};
 
@@ -26,18 +26,44 @@ pub(crate) fn billed_by(
     ensures holders { IfOk result (λ found. All (IsHolder books.now.books.ledger.members) found.holders.items) }
     ensures own { IfOk result (λ found. All (λ e. e.fill.count ≡ 0) found.own.items) }
 {
-    let mut found = Billed {
-        holders: Vec::with_capacity(alloc, transmissions.len())?,
-        firsts: Vec::with_capacity(alloc, transmissions.len())?,
-        own: Vec::with_capacity(alloc, transmissions.len())?,
-    };
+    let mut found = none_billed(alloc, transmissions.len())?;
     for transmission in transmissions {
-        found.firsts.push(found.holders.len())?;
-        if let Body::Heard(heard) = &transmission.body {
-            put_holders(&mut found, books, heard)?;
-        }
+        put_record(&mut found, books, transmission)?;
     }
     Ok(found)
+}
+
+// Nothing yet, with room for so many records.
+fn none_billed(alloc: Global, count: usize) -> Result<Billed, Memory>
+    ensures holders { IfOk result (λ found. found.holders.items ≡ []) }
+    ensures own { IfOk result (λ found. found.own.items ≡ []) }
+{
+    let holders = Vec::with_capacity(alloc, count)?;
+    let firsts = Vec::with_capacity(alloc, count)?;
+    let own = Vec::with_capacity(alloc, count)?;
+    Ok(Billed {
+        holders,
+        firsts,
+        own,
+    })
+}
+
+// Puts what a record bills behind the others.
+fn put_record(
+    found: &mut Billed,
+    books: &OpenBooks,
+    transmission: &Transmission,
+) -> Result<(), Memory>
+    requires holders { All (IsHolder books.now.books.ledger.members) found.old.holders.items }
+    requires own { All (λ e. e.fill.count ≡ 0) found.old.own.items }
+    ensures holders { OnOk result (All (IsHolder books.now.books.ledger.members) found.new.holders.items) }
+    ensures own { OnOk result (All (λ e. e.fill.count ≡ 0) found.new.own.items) }
+{
+    found.firsts.push(found.holders.len())?;
+    match &transmission.body {
+        Body::Heard(heard) => put_holders(found, books, heard),
+        Body::Rejected(_) => Ok(()),
+    }
 }
 
 // Puts the members and fills of a record behind the others.

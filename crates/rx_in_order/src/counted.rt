@@ -3,11 +3,12 @@ ghost use Rattle.std.specs.List.{All};
 ghost use Rattle.rx_in_order.specs.declared.fill.FillKey.{FillKey};
 ghost use Rattle.rx_in_order.specs.Fills.{AreCounted, concerns, count_among, count_at, fills_in, is_counted};
 
+use crate::billed::longest_of;
 use crate::fill::{Entry, Fill, FillKey, FirstDay, fill_at, tally_near};
-use crate::marks::has_mark;
+use crate::marks::{has_mark, marks_of};
 use crate::refill::{Refill, are_left};
 use rx_books_kept::OpenBooks;
-use rx_fields::Memory;
+use rx_fields::{Days, Memory};
 use rx_order::Ascending;
 use std::alloc::Global;
 
@@ -19,9 +20,44 @@ pub(crate) struct Counts {
     pub(crate) places: Vec<usize>,
 }
 
-/// The counts for so many transactions, of the fills of courses that have a mark, as far as days of them are left on the
-/// first day. There is an entry for each of the batch's own fills, so that counting these asks for no memory later on.
-pub(crate) fn counted(
+/// The counts; the marks and the first day by which they were made; and the longest days supply of all that is counted.
+#[derive(Drop)]
+pub(crate) struct Tally {
+    pub(crate) marks: Vec<bool>,
+    pub(crate) first_day: FirstDay,
+    pub(crate) fills: Ascending<Fill>,
+    pub(crate) places: Vec<usize>,
+    pub(crate) longest: Days,
+}
+
+/// The counts for so many transactions, with marks for the courses of these entries.
+pub(crate) fn tally_of(
+    alloc: Global,
+    books: &OpenBooks,
+    own: Vec<Entry>,
+    transactions: usize,
+) -> Result<Tally, Memory>
+    requires { All (λ e. e.fill.count ≡ 0) own.items }
+    ensures counted { let L = books.now.books.ledger in
+        IfOk result (λ t. AreCounted (is_counted t.marks.items t.first_day) L.members L.rows t.fills) }
+    ensures longest { IfOk result (λ t. All (λ f. f.key.when.days ≤ t.longest) t.fills) }
+{
+    let marks = marks_of(alloc, &own)?;
+    let first_day = first_day_of(&own);
+    let Counts { fills, places } = counted(alloc, books, &marks, first_day, own, transactions)?;
+    let longest = longest_of(fills.as_slice());
+    Ok(Tally {
+        marks,
+        first_day,
+        fills,
+        places,
+        longest,
+    })
+}
+
+// The counts for so many transactions, of the fills of courses that have a mark, as far as days of them are left on the
+// first day. There is an entry for each of the batch's own fills, so that counting these asks for no memory later on.
+fn counted(
     alloc: Global,
     books: &OpenBooks,
     marks: &[bool],
@@ -46,8 +82,8 @@ fn packed(key: &FillKey) -> u128 {
     (course << 42) | (day << 10) | u128::from(key.when.days.get())
 }
 
-/// The first day of these entries' fills; the last day of all where there is none.
-pub(crate) fn first_day_of(entries: &[Entry]) -> FirstDay {
+// The first day of these entries' fills; the last day of all where there is none.
+fn first_day_of(entries: &[Entry]) -> FirstDay {
     let mut number = i32::MAX;
     for entry in entries {
         number = number.min(entry.fill.key.when.number);

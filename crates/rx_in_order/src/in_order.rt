@@ -6,13 +6,13 @@ ghost use Rattle.rx_ledger.specs.Fold.{ledger_after, reply_to};
 ghost use Rattle.rx_ledger.specs.Ledger.{rows_of};
 ghost use Rattle.rx_ledger.specs.Members.{is_same};
 ghost use Rattle.rx_ledger.specs.TermList.{plan_of};
-ghost use Rattle.rx_in_order.specs.Underway.{IsAwaited, scope_of};
+ghost use Rattle.rx_in_order.specs.Underway.{IsAwaited, IsHolder, scope_of};
+ghost use Rattle.rx_in_order.specs.Fills.{AreCounted, is_counted};
 
-use crate::billed::{Billed, billed_by, longer, longest_of};
-use crate::counted::{Counts, are_counted_for, counted, first_day_of};
+use crate::billed::{Billed, billed_by, longer};
+use crate::counted::{Tally, are_counted_for, tally_of};
 use crate::fill::{Fill, FirstDay, fill_at, lower, tally_near};
-use crate::marks::marks_of;
-use crate::names::{keys_named, slots_of, unique_keys};
+use crate::names::{Names, names_of, slots_of};
 use crate::near::near_of;
 use crate::refill::Refill;
 use crate::used::used_at;
@@ -67,27 +67,36 @@ impl InOrder {
         ensures same { IfOk result (λ order. order.books ≡ books) }
         ensures awaited { IfOk result (λ order. All (IsAwaited order) transmissions.now) }
     {
-        let mut named = keys_named(alloc, transmissions)?;
-        let keys = unique_keys(alloc, &mut named)?;
-        let books = books.open(alloc, &keys)?;
-        let Billed {
+        let names = names_of(alloc, transmissions)?;
+        let books = books.open(alloc, &names.keys)?;
+        InOrder::over(alloc, books, &names, transmissions)
+    }
+
+    // The same over opened books, which have a slot for each of the batch's fill keys.
+    fn over(
+        alloc: Global,
+        books: OpenBooks,
+        names: &Names,
+        transmissions: &[Transmission],
+    ) -> Result<InOrder, Memory>
+        ensures same { IfOk result (λ order. order.books ≡ books.books) }
+        ensures slots { IfOk result (λ order. order.slots ≡ books.slots) }
+    {
+        let found = found_in(alloc, &books, names, transmissions)?;
+        let _in_order = books.standing();
+        let Found {
             holders,
             firsts,
-            own,
-        } = billed_by(alloc, &books, transmissions)?;
-        let slots = slots_of(alloc, &named, &keys, holders.len())?;
-        let marks = marks_of(alloc, &own)?;
-        let first_day = first_day_of(&own);
-        let Counts { fills, places } = counted(
-            alloc,
-            &books,
-            &marks,
+            slots,
+            tally,
+        } = found;
+        let Tally {
+            marks,
             first_day,
-            own,
-            holders.len(),
-        )?;
-        let longest = longest_of(fills.as_slice());
-        let _in_order = books.standing();
+            fills,
+            places,
+            longest,
+        } = tally;
         Ok(InOrder {
             books,
             holders,
@@ -226,6 +235,42 @@ impl Basis for InOrder {
         lower(&mut self.fills, fill_at(holder, &row));
         Ok(())
     }
+}
+
+// What is looked up of a batch in its books.
+#[derive(Drop)]
+struct Found {
+    holders: Vec<Option<usize>>,
+    firsts: Vec<usize>,
+    slots: Vec<usize>,
+    tally: Tally,
+}
+
+// Looks up what a batch names and bills.
+fn found_in(
+    alloc: Global,
+    books: &OpenBooks,
+    names: &Names,
+    transmissions: &[Transmission],
+) -> Result<Found, Memory>
+    ensures holders { IfOk result (λ found. All (IsHolder books.now.books.ledger.members) found.holders.items) }
+    ensures counted { let L = books.now.books.ledger in
+        IfOk result (λ found. let t = found.tally in AreCounted (is_counted t.marks.items t.first_day) L.members L.rows t.fills) }
+    ensures longest { IfOk result (λ found. All (λ f. f.key.when.days ≤ found.tally.longest) found.tally.fills) }
+{
+    let Billed {
+        holders,
+        firsts,
+        own,
+    } = billed_by(alloc, books, transmissions)?;
+    let tally = tally_of(alloc, books, own, holders.len())?;
+    let slots = slots_of(alloc, &names.named, &names.keys, holders.len())?;
+    Ok(Found {
+        holders,
+        firsts,
+        slots,
+        tally,
+    })
 }
 
 // Whether some row that stands makes a billing too soon. All rows are gone over: no record of the batch asks for it.

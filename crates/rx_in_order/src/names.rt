@@ -18,11 +18,25 @@ pub(crate) struct Named {
     pub(crate) transaction: usize,
 }
 
-/// The fill keys that a batch names, in the order in which it does.
-pub(crate) fn keys_named(
-    alloc: Global,
-    transmissions: &[Transmission],
-) -> Result<Vec<Named>, Memory>
+/// The fill keys that a batch names: as its transactions do, and each once, in order.
+#[derive(Debug, Drop)]
+pub(crate) struct Names {
+    pub(crate) named: Vec<Named>,
+    pub(crate) keys: Vec<Key>,
+}
+
+/// The fill keys that a batch names.
+pub(crate) fn names_of(alloc: Global, transmissions: &[Transmission]) -> Result<Names, Memory>
+    ensures rise { IfOk result (λ names. IsAscending key_cmp (λ key. key) names.keys.items) }
+    ensures keeps { IfOk result (λ names. (key : Key) → Contains (keys_named transmissions.now) key → Contains names.keys.items key) }
+{
+    let mut named = keys_named(alloc, transmissions)?;
+    let keys = unique_keys(alloc, &mut named)?;
+    Ok(Names { named, keys })
+}
+
+// The fill keys that a batch names, in the order in which it does.
+fn keys_named(alloc: Global, transmissions: &[Transmission]) -> Result<Vec<Named>, Memory>
     ensures { IfOk result (λ named. map named_key named.items ≡ keys_named transmissions.now) }
 {
     let mut named = Vec::with_capacity(alloc, transmissions.len())?;
@@ -88,8 +102,8 @@ fn rank_of(key: &Key) -> u128 {
     ((u128::from_be_bytes(first) >> 40) << 40) | u128::from(key.reference.get())
 }
 
-/// The fill keys in order, each once. From then on most of those that are named are in this order too.
-pub(crate) fn unique_keys(alloc: Global, named: &mut Vec<Named>) -> Result<Vec<Key>, Memory>
+// The fill keys in order, each once. From then on most of those that are named are in this order too.
+fn unique_keys(alloc: Global, named: &mut Vec<Named>) -> Result<Vec<Key>, Memory>
     ensures rise { IfOk result (λ unique. IsAscending key_cmp (λ key. key) unique.items) }
     ensures keeps { IfOk result (λ unique. (key : Key) → Contains (map named_key named.old.items) key → Contains unique.items key) }
 {

@@ -64,16 +64,49 @@ fn adjudicated<R: Threads + Sync>(
     ensures asked { IfOk result (λ b. b.asked.items ≡ transmissions_of sheet.figures.door batch.details) }
     ensures ready { IfOk result IsAdjudicated }
 {
-    let asked = decode_in_parts(rt, alloc, 1, sheet.door(), batch.details.as_slice())?;
-    let lot = batch.head.lot();
-    let opening = books.with_period(alloc, sheet.period())?;
-    let replies = replies_to(alloc, lot, &sheet, &opening, &asked)?;
+    let Answered {
+        asked,
+        opening,
+        replies,
+    } = answer_batch(rt, alloc, &sheet, books, &batch)?;
     Ok(Adjudicated {
-        lot,
+        lot: batch.head.lot(),
         sheet,
         opening,
         details: batch.details,
         asked,
+        replies,
+    })
+}
+
+// What a batch asks, the books before its records, and the replies to them.
+#[derive(Drop)]
+struct Answered {
+    asked: Vec<Transmission>,
+    opening: Books,
+    replies: Vec<Reply>,
+}
+
+// The batch's records answered at this plan.
+fn answer_batch<R: Threads + Sync>(
+    rt: &R,
+    alloc: Global,
+    sheet: &Sheet,
+    books: Books,
+    batch: &Batch,
+) -> Result<Answered, Memory>
+    requires { length batch.now.details ≤ MOST_DETAILS }
+    ensures opening { IfOk result (λ a. a.opening.ledger ≡ books.ledger) }
+    ensures asked { IfOk result (λ a. a.asked.items ≡ transmissions_of sheet.now.figures.door batch.now.details) }
+    ensures replies { IfOk result (λ a.
+        a.replies.items ≡ fold_replies batch.now.head.lot sheet.now 1 a.asked.items books.ledger) }
+{
+    let opening = books.with_period(alloc, sheet.period())?;
+    let asked = decode_in_parts(rt, alloc, 1, sheet.door(), batch.details.as_slice())?;
+    let replies = replies_to(alloc, batch.head.lot(), sheet, &opening, &asked)?;
+    Ok(Answered {
+        asked,
+        opening,
         replies,
     })
 }

@@ -1,5 +1,6 @@
-ghost use Rattle.std.specs.Prelude.{◌≡◌, IfOk, min};
-ghost use Rattle.rx_schedule.specs.Weight.{batch_weight};
+ghost use Rattle.std.specs.Prelude.{◌≡◌, [], IfOk, min};
+ghost use Rattle.rx_schedule.specs.Billed.{HasBilled};
+ghost use Rattle.rx_schedule.specs.Weight.{HasWeights, batch_weight, family_weight};
 
 use crate::billers::Billers;
 use crate::family_weights::Weights;
@@ -22,9 +23,32 @@ pub fn weight(
 {
     let mut weights = Weights::of(alloc, books, limit)?;
     let mut billers = Billers::new(alloc);
+    total_of(
+        alloc,
+        books,
+        transmissions,
+        limit,
+        &mut weights,
+        &mut billers,
+    )
+}
+
+// The same with the weights of the opening books, and before the first biller.
+fn total_of(
+    alloc: Global,
+    books: &Books,
+    transmissions: &[Transmission],
+    limit: u64,
+    weights: &mut Weights,
+    billers: &mut Billers,
+) -> Result<u64, Memory>
+    requires weights { HasWeights limit weights.old.counts (family_weight books.now.ledger []) }
+    requires billers { HasBilled billers.old.families [] }
+    ensures { IfOk result (λ found. found ≡ min limit (batch_weight books.now.ledger transmissions.now)) }
+{
     let mut total = 0;
     'records: for transmission in transmissions {
-        let footprint = footprint(alloc, books, &billers, transmission)?;
+        let footprint = footprint(alloc, books, billers, transmission)?;
         total = weights.weigh(footprint.families(), total, limit);
         if total == limit {
             return Ok(limit);

@@ -1,5 +1,6 @@
 ghost use Rattle.std.specs.Prelude.{◌≡◌, ◌≤◌, ◌+◌, ℕ, List, [], IfOk, OnOk, length, min, cond};
 ghost use Rattle.std.specs.List.{filter, sum_by};
+ghost use Rattle.rx_ledger.specs.Ledger.{members_of, rows_of};
 ghost use Rattle.rx_schedule.specs.Shares.{share_in};
 ghost use Rattle.rx_schedule.specs.Weight.{HasWeights, billings_in, count_kept, family_weight, is_billing_of, share_of};
 
@@ -21,8 +22,7 @@ impl Weights {
     pub(crate) fn of(alloc: Global, books: &Books, limit: u64) -> Result<Weights, Memory>
         ensures { IfOk result (λ made. HasWeights limit made.counts (family_weight books.now.ledger [])) }
     {
-        let opened = books.copy(alloc, books.period())?.open(alloc, &[])?;
-        let shares = shares_of(alloc, &opened, limit)?;
+        let shares = opening_shares(alloc, books, limit)?;
         let mut weights = Weights::none(alloc);
         weights.count_all(&shares, limit)?;
         Ok(weights)
@@ -119,6 +119,15 @@ impl Weights {
             None => 0,
         }
     }
+}
+
+// The share of each member of the opening books, up to a limit.
+fn opening_shares(alloc: Global, books: &Books, limit: u64) -> Result<Vec<Share>, Memory>
+    ensures { let L = books.now.ledger in IfOk result (λ shares. (f : List ℕ)
+        → min limit (sum_by (share_in f) shares.items) ≡ min limit (length (members_of L f) + length (rows_of L f))) }
+{
+    let opened = books.copy(alloc, books.period())?.open(alloc, &[])?;
+    shares_of(alloc, &opened, limit)
 }
 
 /// The sum, up to the limit.

@@ -1,9 +1,11 @@
-ghost use Rattle.std.specs.Prelude.{◌≤◌, ℕ, IfOk, length};
+ghost use Rattle.std.specs.Prelude.{◌≤◌, ◌<◌, ◌+◌, ℕ, List, IfOk, OnOk, length};
+ghost use Rattle.rx_parcels.specs.Footprints.{FootprintParts};
+ghost use Rattle.rx_schedule.specs.Marked.{IsScan};
 ghost use Rattle.rx_schedule.specs.Waves.{AreLongest, AreWaves, IsChain, IsSharingChain, IsValidNumbering, number_in};
 
 use crate::marks::{Mark, Marks};
 use crate::wave_numbers::Waves;
-use rx_fields::Memory;
+use rx_fields::{Id, Key, Memory};
 use rx_parcels::Footprint;
 use std::alloc::Global;
 
@@ -19,34 +21,81 @@ pub fn waves(alloc: Global, footprints: &[Footprint]) -> Result<Waves, Memory>
     ensures fewest { IfOk result (λ found. (number : ℕ → ℕ) → IsValidNumbering footprints.now number
         → (place : ℕ) → 1 ≤ place → place ≤ length footprints.now → number_in found.numbers.items place ≤ number place) }
 {
-    let mut keys = Marks::new(alloc);
-    let mut families = Marks::new(alloc);
-    let mut numbers = Vec::with_capacity(alloc, footprints.len())?;
-    let mut before = Vec::with_capacity(alloc, footprints.len())?;
-    let mut top = NONE;
-    'records: for (at, footprint) in footprints.iter().enumerate() {
-        let best = families.best(footprint.families(), keys.best(footprint.keys(), NONE));
+    let scan = scanned(alloc, footprints)?;
+    let mut chain = vec![in alloc; 0; scan.top.wave]?;
+    let mut place = scan.top.place;
+    let mut left = scan.top.wave;
+    'members: while left > 0 {
+        left -= 1;
+        chain[left] = place;
+        place = scan.before[place - 1];
+    }
+    Ok(Waves {
+        numbers: scan.numbers,
+        count: scan.top.wave,
+        chain,
+    })
+}
+
+// What is known of the records so far: the last that had each name, the wave of each, and of each the place of the first
+// sharer in the wave below; and the first record of the highest wave.
+#[derive(Drop)]
+struct Scan {
+    keys: Marks<Key>,
+    families: Marks<Id>,
+    numbers: Vec<usize>,
+    before: Vec<usize>,
+    top: Mark,
+}
+
+// All records, scanned.
+fn scanned(alloc: Global, footprints: &[Footprint]) -> Result<Scan, Memory>
+    ensures { IfOk result (λ s. IsScan footprints.now (length footprints.now) s.keys.last s.families.last s.numbers.items
+        s.before.items s.top) }
+{
+    let mut scan = Scan::new(alloc, footprints.len())?;
+    'records: for at in 0..footprints.len() {
+        scan.pass(footprints, at)?;
+    }
+    Ok(scan)
+}
+
+impl Scan {
+    // Before the first record, with room for so many.
+    fn new(alloc: Global, count: usize) -> Result<Scan, Memory>
+        ensures { (footprints : List FootprintParts) → IfOk result (λ s. IsScan footprints 0 s.keys.last s.families.last
+            s.numbers.items s.before.items s.top) }
+    {
+        let numbers = Vec::with_capacity(alloc, count)?;
+        let before = Vec::with_capacity(alloc, count)?;
+        Ok(Scan {
+            keys: Marks::new(alloc),
+            families: Marks::new(alloc),
+            numbers,
+            before,
+            top: NONE,
+        })
+    }
+
+    // Scans the record after so many.
+    fn pass(&mut self, footprints: &[Footprint], at: usize) -> Result<(), Memory>
+        requires some { at < length footprints.now }
+        requires before { IsScan footprints.now at self.old.keys.last self.old.families.last self.old.numbers.items
+            self.old.before.items self.old.top }
+        ensures { OnOk result (IsScan footprints.now (at + 1) self.new.keys.last self.new.families.last self.new.numbers.items
+            self.new.before.items self.new.top) }
+    {
+        let footprint = &footprints[at];
+        let best = self.families.best(footprint.families(), self.keys.best(footprint.keys(), NONE));
         let mark = Mark {
             place: at + 1,
             wave: best.wave + 1,
         };
-        keys.note(footprint.keys(), mark)?;
-        families.note(footprint.families(), mark)?;
-        numbers.push(mark.wave)?;
-        before.push(best.place)?;
-        top = top.or_higher(mark);
+        self.keys.note(footprint.keys(), mark)?;
+        self.families.note(footprint.families(), mark)?;
+        self.numbers.push(mark.wave)?;
+        self.before.push(best.place)?;
+        self.top = self.top.or_higher(mark);
+        Ok(())
     }
-    let mut chain = vec![in alloc; 0; top.wave]?;
-    let mut place = top.place;
-    let mut left = top.wave;
-    'members: while left > 0 {
-        left -= 1;
-        chain[left] = place;
-        place = before[place - 1];
-    }
-    Ok(Waves {
-        numbers,
-        count: top.wave,
-        chain,
-    })
 }

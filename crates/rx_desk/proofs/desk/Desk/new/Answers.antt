@@ -1,6 +1,4 @@
-use Rattle.std.proofs.Common.{◌≡◌, ◌*◌, ◌≤◌, length, replicate, vec_capacity, rules, refl, sym, ap, subst, ◌∙◌, arith}
-use Rattle.rx_parcels.specs.Books.{book}
-use Rattle.rx_books_shelf.specs.Opened.{is_named}
+use Rattle.std.proofs.Common.{◌≡◌, ◌*◌, ◌≤◌, length, replicate, vec_capacity, rules, sym, ap, subst, ◌∙◌}
 use Rattle.rx_schedule.specs.Footprints.{footprints_of}
 use Rattle.rx_desk.specs.declared.state.State.TheVariants.{Waiting}
 use Rattle.rx_desk.specs.Kept.{job_with}
@@ -10,42 +8,43 @@ use Rattle.rx_desk.proofs.desk.Desk.new.Goals as goal
 pub invariant_of-result : goal.invariant_of-result
 invariant_of-result c =
     let records = c.args.transmissions.items in
-    let j = job_with c.args.lot c.figures.result.now c.in_ok-drugs.drugs.items c.in_ok-terms.terms.items c.in_ok-books.books
-    records in
-    let terms = terms_fit c.args.lot c.args.sheet.now (record { figures = c.figures.result.now; drugs = c.in_ok-drugs.drugs.items })
-    c.deref.result.now c.args.transmissions.items c.in_ok-terms.terms.items
-    (λ i. record { figures = sym c.figures.ensures.value i; drugs = sym (c.in_ok-drugs.ensures.items ∙ c.drugs.ensures.value) i })
-    c.deref.ensures.value c.in_ok-terms.ensures in
+    let made = c.in_ok-made.made in
+    let is = c.in_ok-made.ensures in
+    let j = job_with c.args.lot c.figures.result.now made.drugs.items made.terms.items c.in_ok-books.books records in
+    let terms = terms_fit c.args.lot c.args.sheet.now (record { figures = c.figures.result.now; drugs = made.drugs.items })
+    c.deref.result.now records made.terms.items
+    (λ i. record { figures = sym c.figures.ensures.value i; drugs = sym is.drugs i })
+    c.deref.ensures.value is.terms in
     let few : length records ≤ 100_000 = search rules in
     let left : c.len-waiting.result ≡ length records = search rules in
-    kept_start j _ c.in_ok-room.room.history.items c.in_ok-shared.shared.footprints.items c.in_ok-shared.shared.queues
-    c.in_ok-shared.shared.shelf c.in_ok-room.room.states.items c.len-waiting.result c.in_ok-room.room.replies.items
+    kept_start j _ made.room.history.items made.shared.footprints.items made.shared.queues
+    made.shared.shelf made.room.states.items c.len-waiting.result made.room.replies.items
     (record {
       in_order = ledger_in_order c.in_ok-books.books.ledger c.in_ok-books.ensures.within;
       period = ap (λ b. b.period) c.in_ok-books.ensures.same ∙ c.requires.period ∙ ap (λ f. f.period) (sym c.figures.ensures.value);
       few = few;
       terms = terms;
     })
-    c.in_ok-room.ensures.history
-    (c.in_ok-shared.ensures.footprints ∙ ap (footprints_of c.in_ok-books.books.ledger) c.deref-2.ensures.value)
-    c.in_ok-shared.ensures.queues
-    c.in_ok-shared.ensures.handed
-    c.in_ok-shared.ensures.passed
-    c.in_ok-shared.ensures.period
-    c.in_ok-shared.ensures.rest
-    c.in_ok-shared.ensures.values
-    c.in_ok-shared.ensures.slots
-    c.in_ok-shared.ensures.inside
-    (c.in_ok-room.ensures.states ∙ ap (λ rs. replicate (length rs) Waiting) c.deref-3.ensures.value)
-    (c.in_ok-room.ensures.replies ∙ ap length c.deref-3.ensures.value)
+    is.history
+    (is.footprints ∙ ap (footprints_of c.in_ok-books.books.ledger) c.deref.ensures.value)
+    is.queues
+    is.handed
+    is.passed
+    is.period
+    is.rest
+    is.values
+    is.slots
+    is.inside
+    (is.states ∙ ap (λ rs. replicate (length rs) Waiting) c.deref.ensures.value)
+    (is.replies ∙ ap length c.deref.ensures.value)
     left
-    (subst (λ rs. 2 * length rs ≤ vec_capacity c.in_ok-room.room.history) c.deref-3.ensures.value c.in_ok-room.ensures.capacity)
+    (subst (λ rs. 2 * length rs ≤ vec_capacity made.room.history) c.deref.ensures.value is.capacity)
 
 pub returns-clause-terms : goal.returns-clause-terms
-returns-clause-terms c = terms_fit c.args.lot c.args.sheet.now (record {
-  figures = c.figures.result.now;
-  drugs = c.in_ok-drugs.drugs.items;
-})
-    c.deref.result.now c.args.transmissions.items c.in_ok-terms.terms.items
-    (λ i. record { figures = sym c.figures.ensures.value i; drugs = sym (c.in_ok-drugs.ensures.items ∙ c.drugs.ensures.value) i })
-    c.deref.ensures.value c.in_ok-terms.ensures
+returns-clause-terms c =
+    let made = c.in_ok-made.made in
+    let is = c.in_ok-made.ensures in
+    terms_fit c.args.lot c.args.sheet.now (record { figures = c.figures.result.now; drugs = made.drugs.items })
+    c.deref.result.now c.args.transmissions.items made.terms.items
+    (λ i. record { figures = sym c.figures.ensures.value i; drugs = sym is.drugs i })
+    c.deref.ensures.value is.terms

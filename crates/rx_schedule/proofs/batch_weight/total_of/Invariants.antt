@@ -4,7 +4,7 @@ use Rattle.std.specs.Prelude.{min}
 use Rattle.std.specs.List.{range_with_len, sum}
 use Rattle.rx_schedule.specs.Billed.{HasBilled}
 use Rattle.rx_schedule.specs.Weight.{HasWeights, family_weight, record_weight}
-use Rattle.rx_schedule.proofs.batch_weight.weight.Given as goal
+use Rattle.rx_schedule.proofs.batch_weight.total_of.Given as goal
 
 abbrev pub invariant-records : goal.invariant-records
 invariant-records l =

@@ -5,7 +5,7 @@ use Rattle.rx_parcels.specs.Footprints.{FootprintParts}
 use Rattle.rx_schedule.specs.Billed.{HasBilled}
 use Rattle.rx_schedule.specs.Weight.{family_weight}
 use Rattle.rx_schedule.proofs.Weighed.{family_weight-more, total_more, total_reached, weights_are}
-use Rattle.rx_schedule.proofs.batch_weight.weight.Goals as goal
+use Rattle.rx_schedule.proofs.batch_weight.total_of.Goals as goal
 
 pub records-preserved : goal.records-preserved
 records-preserved c =
