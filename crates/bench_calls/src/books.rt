@@ -2,7 +2,7 @@
 //! and written on one thread and in parts; and beside them a plain count of the lines.
 
 use crate::inputs::Inputs;
-use crate::timing::{Watch, length};
+use crate::timing::{Watch, length, one_if};
 use memchr::memchr_iter;
 use rx_books_kept::Books;
 use rx_books_quick::{read_lists, read_lists_in_parts};
@@ -24,22 +24,23 @@ pub fn round<R: Clock + Threads + Sync>(watch: &mut Watch<R>, inputs: &Inputs) -
     watch.lap("bytes read", text.len());
     copies(watch, &books);
     written(watch, &books);
+    drop(books);
     Some(())
 }
 
 fn lists<R: Clock>(watch: &mut Watch<R>, text: &[u8]) {
-    let lists = read_lists(watch.alloc, text).is_some();
-    watch.lap("lists read", usize::from(lists));
+    let lists = one_if(read_lists(watch.alloc, text));
+    watch.lap("lists read", lists);
 }
 
 fn lists_in_parts<R: Clock + Threads + Sync>(watch: &mut Watch<R>, text: &[u8]) {
-    let lists = read_lists_in_parts(watch.rt, watch.alloc, PARTS, text).is_some();
-    watch.lap("lists read in 4 parts", usize::from(lists));
+    let lists = one_if(read_lists_in_parts(watch.rt, watch.alloc, PARTS, text));
+    watch.lap("lists read in 4 parts", lists);
 }
 
 fn read_in_parts<R: Clock + Threads + Sync>(watch: &mut Watch<R>, text: &[u8]) {
-    let read = Books::read_in_parts(watch.rt, watch.alloc, PARTS, text).is_ok();
-    watch.lap("books read in 4 parts", usize::from(read));
+    let read = one_if(Books::read_in_parts(watch.rt, watch.alloc, PARTS, text).ok());
+    watch.lap("books read in 4 parts", read);
 }
 
 // Copies the books, to their own period and to its first day alone.
@@ -53,8 +54,8 @@ fn copies<R: Clock>(watch: &mut Watch<R>, books: &Books) {
 
 fn copied<R: Clock>(watch: &mut Watch<R>, name: &'static str, books: &Books, period: Period) {
     watch.begin();
-    let copied = books.copy(watch.alloc, period).is_ok();
-    watch.lap(name, usize::from(copied));
+    let copied = one_if(books.copy(watch.alloc, period).ok());
+    watch.lap(name, copied);
 }
 
 fn written<R: Clock + Threads + Sync>(watch: &mut Watch<R>, books: &Books) {

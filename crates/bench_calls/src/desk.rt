@@ -4,7 +4,7 @@ use crate::inputs::Inputs;
 use crate::job::Job;
 use crate::timing::Watch;
 use rx_adjudicate::{Done, Order, adjudicate};
-use rx_desk::{Desk, Next};
+use rx_desk::{Desk, Finished, Next};
 use rx_fields::MOST_DETAILS;
 use std::alloc::Global;
 use std::rt::Clock;
@@ -23,19 +23,25 @@ struct Hands {
 /// Works the desk of the job off.
 pub fn round<R: Clock + Threads + Sync>(watch: &mut Watch<R>, inputs: &Inputs) -> Option<()> {
     let mut desk = Job::of(watch.rt, watch.alloc, inputs)?.into_desk(watch.alloc)?;
+    watch.begin();
+    work_off(watch, &mut desk);
+    watch.lap("replies", replies(desk));
+    Some(())
+}
+
+// Hands out records and takes them back until none is left.
+fn work_off<R: Clock>(watch: &mut Watch<R>, desk: &mut Desk) {
     let mut hands = Hands {
         out: Vec::new(watch.alloc),
         done: Vec::new(watch.alloc),
     };
-    watch.begin();
     // Each turn but the last takes one record at least.
     for _ in 0..=MOST_DETAILS {
-        if turn(watch, &mut desk, &mut hands) == 0 {
+        if turn(watch, desk, &mut hands) == 0 {
             break;
         }
     }
-    watch.lap("replies", replies(desk));
-    Some(())
+    drop(hands);
 }
 
 // Hands out some records, adjudicates them, and takes them back: how many there were.
@@ -54,7 +60,7 @@ fn take(desk: &mut Desk, out: &mut Vec<Order>) {
     for _ in 0..OUT {
         match desk.next() {
             Next::Order(order) => {
-                let _pushed = out.push(order);
+                drop(out.push(order));
             }
             Next::Later | Next::Over | Next::Memory => return,
         }
@@ -63,26 +69,34 @@ fn take(desk: &mut Desk, out: &mut Vec<Order>) {
 
 fn adjudicate_all(alloc: Global, hands: &mut Hands) {
     for _ in 0..OUT {
-        if let Some(order) = hands.out.pop()
-            && let Ok(made) = adjudicate(alloc, order)
-        {
-            let _pushed = hands.done.push(made);
+        if let Some(order) = hands.out.pop() {
+            adjudicate_one(alloc, order, &mut hands.done);
         }
+    }
+}
+
+fn adjudicate_one(alloc: Global, order: Order, done: &mut Vec<Done>) {
+    if let Some(made) = adjudicate(alloc, order).ok() {
+        drop(done.push(made));
     }
 }
 
 fn give(desk: &mut Desk, done: &mut Vec<Done>) {
     for _ in 0..OUT {
         if let Some(one) = done.pop() {
-            let _given = desk.give(one);
+            drop(desk.give(one));
         }
     }
 }
 
 // How many replies there are at the end.
 fn replies(desk: Desk) -> usize {
-    match desk.close() {
-        Ok(finished) => finished.replies.len(),
-        Err(_) => 0,
-    }
+    let finished = desk.close().ok();
+    let count = counted(finished.as_ref());
+    drop(finished);
+    count
+}
+
+fn counted(finished: Option<&Finished>) -> usize {
+    finished.map_or(0, |finished| finished.replies.len())
 }

@@ -19,7 +19,9 @@ use std::thread::Threads;
 pub fn round<R: Clock + Threads + Sync>(watch: &mut Watch<R>, inputs: &Inputs) -> Option<()> {
     let job = Job::of(watch.rt, watch.alloc, inputs)?;
     opened(watch, &job);
-    adjudicated(watch, &job)
+    let adjudicated = adjudicated(watch, &job);
+    drop(job);
+    adjudicated
 }
 
 // Opens a copy of the books for the batch.
@@ -28,6 +30,7 @@ fn opened<R: Clock>(watch: &mut Watch<R>, job: &Job) {
         watch.begin();
         let order = InOrder::new(watch.alloc, books, &job.asked);
         watch.lap("books opened", usize::from(order.is_ok()));
+        drop(order);
     }
 }
 
@@ -35,7 +38,9 @@ fn adjudicated<R: Clock + Threads + Sync>(watch: &mut Watch<R>, job: &Job) -> Op
     watch.begin();
     let finished = finished(watch.alloc, job)?;
     watch.lap("records adjudicated", finished.replies.len());
-    rendered(watch, &job.batch, finished.replies.as_slice())
+    let rendered = rendered(watch, &job.batch, finished.replies.as_slice());
+    drop(finished);
+    rendered
 }
 
 fn finished(alloc: Global, job: &Job) -> Option<Finished> {

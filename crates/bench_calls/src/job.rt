@@ -54,7 +54,9 @@ impl Job {
             batch,
             asked,
         } = self;
-        desk_of(alloc, batch.head.lot(), &sheet, books, asked)
+        let desk = desk_of(alloc, batch.head.lot(), &sheet, books, asked);
+        drop((sheet, batch));
+        desk
     }
 }
 
@@ -66,10 +68,16 @@ fn desk_of(
     asked: Vec<Transmission>,
 ) -> Option<Desk> {
     if asked.len() > MOST_DETAILS {
+        drop((books, asked));
         return None;
     }
-    let books = books.with_period(alloc, sheet.period()).ok()?;
-    Desk::new(alloc, lot, sheet, books, asked).ok()
+    match books.with_period(alloc, sheet.period()).ok() {
+        Some(books) => Desk::new(alloc, lot, sheet, books, asked).ok(),
+        None => {
+            drop(asked);
+            None
+        }
+    }
 }
 
 fn requests<R: Threads + Sync>(

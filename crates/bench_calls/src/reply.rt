@@ -1,7 +1,7 @@
 //! The writing and the reading of one-billing's reply (docs/CASES.md), over and over on one thread.
 
 use crate::inputs::REPLY;
-use crate::timing::{Watch, found_in, length};
+use crate::timing::{Watch, found_in, length, one_if};
 use rx_reply::{decode_reply, encode};
 use std::rt::Clock;
 
@@ -12,7 +12,8 @@ pub fn round<R: Clock>(watch: &mut Watch<R>) -> Option<()> {
     watch.begin();
     let bytes = found_in(turns, || length(&encode(alloc, &reply)));
     watch.lap("bytes written", bytes);
-    let replies = found_in(turns, || usize::from(decode_reply(alloc, REPLY).is_ok()));
+    let replies = found_in(turns, || one_if(decode_reply(alloc, REPLY).ok()));
     watch.lap("replies read", replies);
+    drop(reply);
     Some(())
 }

@@ -14,12 +14,18 @@ use std::rt::Clock;
 /// Counts the separators, and decodes.
 pub fn round<R: Clock>(watch: &mut Watch<R>, inputs: &Inputs) -> Option<()> {
     let sheet = read_sheet(watch.alloc, &inputs.sheet).ok()?;
+    let door = *sheet.door();
+    drop(sheet);
     let batch = read_batch(watch.alloc, &inputs.batch).ok()?;
-    let details = batch.details.as_slice();
+    counted(watch, &door, batch.details.as_slice());
+    drop(batch);
+    Some(())
+}
+
+fn counted<R: Clock>(watch: &mut Watch<R>, door: &Door, details: &[Detail]) {
     watch.begin();
     watch.lap("separators counted", separators(details));
-    watch.lap("requests heard", heard(watch.alloc, sheet.door(), details));
-    Some(())
+    watch.lap("requests heard", heard(watch.alloc, door, details));
 }
 
 fn separators(details: &[Detail]) -> usize {

@@ -12,18 +12,35 @@ use std::thread::Threads;
 /// Makes the schedule, and drives it.
 pub fn round<R: Clock + Threads + Sync>(watch: &mut Watch<R>, inputs: &Inputs) -> Option<()> {
     let job = Job::of(watch.rt, watch.alloc, inputs)?;
+    let made = made(watch, &job);
+    drop(job);
+    made
+}
+
+// The footprints, and what is scheduled by them.
+fn made<R: Clock>(watch: &mut Watch<R>, job: &Job) -> Option<()> {
     watch.begin();
     let named = footprints(watch.alloc, &job.books, &job.asked).ok()?;
     watch.lap("footprints", named.len());
-    scheduled(watch, &named)
+    let scheduled = scheduled(watch, &named);
+    drop(named);
+    scheduled
 }
 
 fn scheduled<R: Clock>(watch: &mut Watch<R>, named: &[Footprint]) -> Option<()> {
     let waves = waves(watch.alloc, named).ok()?;
     watch.lap("waves", waves.count);
+    let queued = queued(watch, named);
+    drop(waves);
+    queued
+}
+
+// The queues, driven to their end.
+fn queued<R: Clock>(watch: &mut Watch<R>, named: &[Footprint]) -> Option<()> {
     let mut queues = Queues::of(watch.alloc, named).ok()?;
     watch.lap("records in queues", named.len());
     watch.lap("records driven", drive(&mut queues, named.len()));
+    drop(queues);
     Some(())
 }
 

@@ -17,8 +17,17 @@ const STEP: usize = 7919;
 /// Makes the shelf, and uses it.
 pub fn round<R: Clock + Threads + Sync>(watch: &mut Watch<R>, inputs: &Inputs) -> Option<()> {
     let job = Job::of(watch.rt, watch.alloc, inputs)?;
+    let made = made(watch, &job);
+    drop(job);
+    made
+}
+
+// A shelf for the footprints of the records.
+fn made<R: Clock>(watch: &mut Watch<R>, job: &Job) -> Option<()> {
     let named = footprints(watch.alloc, &job.books, &job.asked).ok()?;
-    used(watch, &job, &named)
+    let used = used(watch, job, &named);
+    drop(named);
+    used
 }
 
 fn used<R: Clock>(watch: &mut Watch<R>, job: &Job, named: &[Footprint]) -> Option<()> {
@@ -32,6 +41,7 @@ fn used<R: Clock>(watch: &mut Watch<R>, job: &Job, named: &[Footprint]) -> Optio
         turned(watch.alloc, &mut shelf, named, turns),
     );
     watch.lap("shelf compared", usize::from(shelf.agrees()));
+    drop(shelf);
     Some(())
 }
 

@@ -118,6 +118,11 @@ pub fn length<E>(text: &Result<Vec<u8>, E>) -> usize {
     }
 }
 
+/// 1 of what was made; 0 where it wasn't.
+pub fn one_if<T: Drop>(made: Option<T>) -> usize {
+    usize::from(made.is_some())
+}
+
 /// What so many calls found in all.
 pub fn found_in<F: Fn() -> usize>(turns: u32, call: F) -> usize
     requires { F.IsAlwaysCallable call }

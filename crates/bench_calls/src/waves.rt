@@ -56,13 +56,19 @@ pub fn round<R: Clock + Threads + Wait + Sync>(
     inputs: &Inputs,
     micros: u64,
 ) -> Option<()> {
-    let rt = watch.rt;
-    let job = Job::of(rt, watch.alloc, inputs)?;
-    for &(workers, name, held_up) in WORKERS {
-        run(watch, &job, &NoGate, workers, name);
-        run(watch, &job, &Slow { rt, micros }, workers, held_up);
-    }
+    let job = Job::of(watch.rt, watch.alloc, inputs)?;
+    at_both_gates(watch, &job, micros);
+    drop(job);
     Some(())
+}
+
+// Lets one, two and four workers do it at either gate.
+fn at_both_gates<R: Clock + Threads + Wait + Sync>(watch: &mut Watch<R>, job: &Job, micros: u64) {
+    let rt = watch.rt;
+    for &(workers, name, held_up) in WORKERS {
+        run(watch, job, &NoGate, workers, name);
+        run(watch, job, &Slow { rt, micros }, workers, held_up);
+    }
 }
 
 fn run<R: Clock + Threads + Wait + Sync, G: Gate + Sync>(
@@ -96,8 +102,11 @@ fn finished<R: Threads + Wait + Sync, G: Gate + Sync>(
 }
 
 fn replies(finished: Option<Finished>) -> usize {
-    match finished {
-        Some(finished) => finished.replies.len(),
-        None => 0,
-    }
+    let count = counted(finished.as_ref());
+    drop(finished);
+    count
+}
+
+fn counted(finished: Option<&Finished>) -> usize {
+    finished.map_or(0, |finished| finished.replies.len())
 }

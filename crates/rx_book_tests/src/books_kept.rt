@@ -15,10 +15,6 @@ fn period(rt: &impl Abort, first: &[u8], last: &[u8]) -> Period {
     Period::new(first, last).expect(rt, "a period")
 }
 
-fn this_year(rt: &impl Abort) -> Period {
-    period(rt, b"20260101", b"20261231")
-}
-
 fn id(rt: &impl Abort, text: &[u8]) -> Id {
     Id::new(text, 20).expect(rt, "an id")
 }
@@ -31,6 +27,10 @@ fn member(rt: &impl Abort, family: &[u8], code: &[u8]) -> Member {
     let first = date_read(b"20260101").expect(rt, "a date");
     let last = date_read(b"20261231").expect(rt, "a date");
     Member::new(id(rt, family), person(rt, code), first, last).expect(rt, "a member")
+}
+
+fn this_year(rt: &impl Abort) -> Period {
+    period(rt, b"20260101", b"20261231")
 }
 
 fn key(rt: &impl Abort, date: &[u8]) -> Key {

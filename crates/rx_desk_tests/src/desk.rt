@@ -209,17 +209,42 @@ fn only_order(rt: &impl Abort, desk: &mut Desk, place: u64) -> Order {
     order
 }
 
-// Whether records are left, and none may go now.
-fn is_later(desk: &mut Desk) -> bool {
-    matches!(desk.next(), Next::Later)
+// What the desk hands out, in a word.
+fn next_word(desk: &mut Desk) -> &'static str {
+    word(&desk.next())
 }
 
-// The record at the place goes out, and no other beside it; it comes in again.
-fn goes_alone(rt: &impl Abort, desk: &mut Desk, alloc: Global, place: u64) {
+fn word(next: &Next) -> &'static str {
+    match next {
+        Next::Order(_) => "order",
+        Next::Later => "later",
+        Next::Over => "over",
+        Next::Memory => "memory",
+    }
+}
+
+// The record at the place goes out, and no other beside it, of which the desk tells this; it comes in again.
+fn goes_alone(rt: &impl Abort, desk: &mut Desk, alloc: Global, place: u64, beside: &'static str) {
     let order = only_order(rt, desk, place);
-    same(rt, is_later(desk), place < 3);
+    same(rt, next_word(desk), beside);
     give(rt, desk, done(rt, alloc, order));
 }
+
+// The records of the case go one after another, each alone.
+fn go_alone(rt: &impl Abort, alloc: Global, desk: &mut Desk) {
+    for &(place, beside) in &[(1, "later"), (2, "later"), (3, "over")] {
+        goes_alone(rt, desk, alloc, place, beside);
+    }
+}
+
+const ONE_AFTER_ANOTHER: &[Event] = &[
+    Event::Take(1),
+    Event::Give(1),
+    Event::Take(2),
+    Event::Give(2),
+    Event::Take(3),
+    Event::Give(3),
+];
 
 // These events were.
 fn went(rt: &impl Abort, desk: &Desk, history: &[Event]) {
@@ -230,6 +255,12 @@ fn went(rt: &impl Abort, desk: &Desk, history: &[Event]) {
 fn goes(rt: &impl Abort, alloc: Global, desk: &mut Desk) {
     let order = order(rt, desk);
     give(rt, desk, done(rt, alloc, order));
+}
+
+// Whether the desk is at its end.
+fn is_closed(desk: Desk) -> bool {
+    let finished = desk.close().ok();
+    finished.is_some()
 }
 
 fn closed(rt: &impl Abort, desk: Desk) -> Finished {
@@ -248,36 +279,35 @@ fn finished(rt: &impl Abort, alloc: Global) -> Finished {
 #[test]
 fn sharers_go_one_after_another(rt: HostRuntime) {
     let mut desk = desk(&rt, rt.alloc(), b"20261231");
-    for place in [1, 2, 3] {
-        goes_alone(&rt, &mut desk, rt.alloc(), place);
-    }
-    let history = [
-        Event::Take(1),
-        Event::Give(1),
-        Event::Take(2),
-        Event::Give(2),
-        Event::Take(3),
-        Event::Give(3),
-    ];
-    went(&rt, &desk, &history);
-    same(&rt, matches!(desk.next(), Next::Over), true);
+    go_alone(&rt, rt.alloc(), &mut desk);
+    went(&rt, &desk, ONE_AFTER_ANOTHER);
+    same(&rt, next_word(&mut desk), "over");
+    drop(desk);
 }
 
 #[test]
 fn ends_with_the_books_of_the_case(rt: HostRuntime) {
     let (family, third) = (id(&rt, b"C100"), person(&rt, b"03"));
-    let books = finished(&rt, rt.alloc()).books;
+    let finished = finished(&rt, rt.alloc());
+    let books = &finished.books;
     same(&rt, books.out_of_pocket(&family), Some(30_000));
     same(&rt, books.family_deductible(&family), Some(24_000));
     same(&rt, books.deductible(&family, &third), Some(4000));
+    drop(finished);
 }
 
 #[test]
 fn ends_with_the_replies_of_the_case(rt: HostRuntime) {
-    let replies = finished(&rt, rt.alloc()).replies;
-    same(&rt, replies.len(), 3);
-    for (reply, paid) in replies.iter().zip([13_000, 13_000, 4000]) {
-        same(&rt, patient_pay(reply), Some(paid));
+    let finished = finished(&rt, rt.alloc());
+    are_paid(&rt, &finished.replies, &[13_000, 13_000, 4000]);
+    drop(finished);
+}
+
+// The replies tell these patient pay amounts.
+fn are_paid(rt: &impl Abort, replies: &[Reply], amounts: &[u64]) {
+    same(rt, replies.len(), amounts.len());
+    for (reply, &paid) in replies.iter().zip(amounts) {
+        same(rt, patient_pay(reply), Some(paid));
     }
 }
 
@@ -285,6 +315,7 @@ fn ends_with_the_replies_of_the_case(rt: HostRuntime) {
 fn first_done(rt: &impl Abort, alloc: Global, last: &[u8]) -> Done {
     let mut desk = desk(rt, alloc, last);
     let order = order(rt, &mut desk);
+    drop(desk);
     done(rt, alloc, order)
 }
 
@@ -304,7 +335,8 @@ fn with_one_given(rt: &impl Abort, alloc: Global) -> Desk {
 
 // Whether what is done comes back.
 fn turns_away(desk: &mut Desk, done: Done) -> bool {
-    desk.give(done).is_err()
+    let taken = desk.give(done).ok();
+    taken.is_none()
 }
 
 #[test]
@@ -313,6 +345,7 @@ fn turns_away_a_done_over_other_books(rt: HostRuntime) {
     let mut desk = with_one_out(&rt, rt.alloc());
     same(&rt, turns_away(&mut desk, stranger), true);
     went(&rt, &desk, &[Event::Take(1)]);
+    drop(desk);
 }
 
 #[test]
@@ -321,12 +354,13 @@ fn turns_away_an_order_given_twice(rt: HostRuntime) {
     let mut desk = with_one_given(&rt, rt.alloc());
     same(&rt, turns_away(&mut desk, again), true);
     same(&rt, desk.history().len(), 2);
+    drop(desk);
 }
 
 #[test]
 fn comes_back_while_a_record_is_left(rt: HostRuntime) {
     let desk = with_one_out(&rt, rt.alloc());
-    same(&rt, desk.close().is_err(), true);
+    same(&rt, is_closed(desk), false);
 }
 
 // Two families.
@@ -452,22 +486,50 @@ fn asked_sheet(rt: &impl Abort, alloc: Global, drugs: usize) -> Sheet {
     }
 }
 
-fn is_job(rt: &impl Abort, alloc: Global, asked: Asked) -> bool {
-    let lot = lot_of(rt, asked.batch);
+fn asked_records(rt: &impl Abort, alloc: Global, count: usize) -> Vec<Transmission> {
     let mut records = fills(rt, alloc);
-    records.truncate(asked.records);
-    let sheet = asked_sheet(rt, alloc, asked.drugs);
-    let books = books(rt, alloc, asked.last);
-    desk(rt, alloc, b"20261231").job_is(lot, &sheet, &books, &records)
+    records.truncate(count);
+    records
+}
+
+// What a desk is asked for.
+#[derive(Drop)]
+struct Job {
+    lot: Lot,
+    sheet: Sheet,
+    books: Books,
+    records: Vec<Transmission>,
+}
+
+fn asked_job(rt: &impl Abort, alloc: Global, asked: Asked) -> Job {
+    Job {
+        lot: lot_of(rt, asked.batch),
+        sheet: asked_sheet(rt, alloc, asked.drugs),
+        books: books(rt, alloc, asked.last),
+        records: asked_records(rt, alloc, asked.records),
+    }
+}
+
+// Whether the desk of the case is for this job.
+fn is_job(rt: &impl Abort, alloc: Global, job: &Job) -> bool {
+    let desk = desk(rt, alloc, b"20261231");
+    let is_job = desk.job_is(job.lot, &job.sheet, &job.books, &job.records);
+    drop(desk);
+    is_job
+}
+
+fn is_for(rt: &impl Abort, alloc: Global, asked: Asked) -> bool {
+    let job = asked_job(rt, alloc, asked);
+    is_job(rt, alloc, &job)
 }
 
 #[test]
 fn knows_its_job(rt: HostRuntime) {
     let alloc = rt.alloc();
     let last = b"20261130";
-    same(&rt, is_job(&rt, alloc, OWN), true);
-    same(&rt, is_job(&rt, alloc, Asked { batch: 43, ..OWN }), false);
-    same(&rt, is_job(&rt, alloc, Asked { drugs: 0, ..OWN }), false);
-    same(&rt, is_job(&rt, alloc, Asked { last, ..OWN }), false);
-    same(&rt, is_job(&rt, alloc, Asked { records: 2, ..OWN }), false);
+    same(&rt, is_for(&rt, alloc, OWN), true);
+    same(&rt, is_for(&rt, alloc, Asked { batch: 43, ..OWN }), false);
+    same(&rt, is_for(&rt, alloc, Asked { drugs: 0, ..OWN }), false);
+    same(&rt, is_for(&rt, alloc, Asked { last, ..OWN }), false);
+    same(&rt, is_for(&rt, alloc, Asked { records: 2, ..OWN }), false);
 }

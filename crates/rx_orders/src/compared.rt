@@ -3,13 +3,13 @@
 use crate::draw::Draw;
 use crate::drawn::{drawn_ledger, drawn_records};
 use crate::driven::{Went, driven};
-use crate::miss::Miss;
+use crate::miss::{Miss, both};
 use crate::plan::{drawn_sheet, lot, period};
 use crate::profile::Profile;
 use rx_books_kept::Books;
 use rx_claim::{Reply, Transmission, copies};
 use rx_desk::{Desk, Finished};
-use rx_fields::MOST_DETAILS;
+use rx_fields::{Lot, MOST_DETAILS};
 use rx_ledger::{Ledger, Sheet, plain_run};
 use std::alloc::Global;
 
@@ -17,11 +17,14 @@ use std::alloc::Global;
 pub fn compared(alloc: Global, profile: Profile, nth: u64) -> Result<Went, Miss> {
     let mut draw = Draw::new(nth, profile.stream());
     let job = Job::drawn(alloc, &mut draw, profile)?;
-    job.compared(alloc, &mut draw)
+    let went = job.compared(alloc, &mut draw);
+    drop(job);
+    went
 }
 
 #[derive(Drop)]
 struct Job {
+    lot: Lot,
     sheet: Sheet,
     ledger: Ledger,
     records: Vec<Transmission>,
@@ -29,18 +32,24 @@ struct Job {
 
 impl Job {
     fn drawn(alloc: Global, draw: &mut Draw, profile: Profile) -> Result<Job, Miss> {
+        let lot = lot()?;
+        let sheet = drawn_sheet(alloc, draw);
+        let ledger = drawn_ledger(alloc, draw, profile);
+        let records = drawn_records(alloc, draw, profile);
+        let ((sheet, ledger), records) = both(both(sheet, ledger), records)?;
         Ok(Job {
-            sheet: drawn_sheet(alloc, draw)?,
-            ledger: drawn_ledger(alloc, draw, profile)?,
-            records: drawn_records(alloc, draw, profile)?,
+            lot,
+            sheet,
+            ledger,
+            records,
         })
     }
 
     // How a desk of the job went, where it ended as in file order.
     fn compared(&self, alloc: Global, draw: &mut Draw) -> Result<Went, Miss> {
         let mut desk = self.desk_at_last(alloc)?;
-        let went = self.worked_off(alloc, draw, &mut desk)?;
-        self.is_right(alloc, desk)?;
+        let went = self.worked_off(alloc, draw, &mut desk);
+        let (went, ()) = both(went, self.is_right(alloc, desk))?;
         Ok(went)
     }
 
@@ -53,8 +62,8 @@ impl Job {
     }
 
     fn desk(&self, alloc: Global) -> Result<Desk, Miss> {
-        let copies = copies(alloc, &self.records)?;
-        let books = opening(alloc, &self.ledger)?;
+        let copies = copies(alloc, &self.records).map_err(Miss::from);
+        let (copies, books) = both(copies, opening(alloc, &self.ledger))?;
         self.desk_of(alloc, books, copies)
     }
 
@@ -65,11 +74,11 @@ impl Job {
         books: Books,
         copies: Vec<Transmission>,
     ) -> Result<Desk, Miss> {
-        let lot = lot()?;
         if copies.len() > MOST_DETAILS || books.period() != self.sheet.period() {
+            drop((books, copies));
             return Err(Miss::Value);
         }
-        Ok(Desk::new(alloc, lot, &self.sheet, books, copies)?)
+        Desk::new(alloc, self.lot, &self.sheet, books, copies).map_err(Miss::from)
     }
 
     // How the desk went until all were given.
@@ -85,38 +94,56 @@ impl Job {
     }
 
     fn is_of(&self, alloc: Global, desk: &Desk) -> Result<bool, Miss> {
-        let lot = lot()?;
         let books = opening(alloc, &self.ledger)?;
-        Ok(desk.job_is(lot, &self.sheet, &books, &self.records))
+        let is_of = desk.job_is(self.lot, &self.sheet, &books, &self.records);
+        drop(books);
+        Ok(is_of)
     }
 
     // The desk ended as in file order.
     fn is_right(&self, alloc: Global, desk: Desk) -> Result<(), Miss> {
-        match desk.close() {
-            Ok(finished) => self.compare(alloc, &finished),
-            Err(_) => Err(Miss::Closed),
-        }
+        let finished = closed(desk)?;
+        let compared = self.compare(alloc, &finished);
+        drop(finished);
+        compared
     }
 
     fn compare(&self, alloc: Global, finished: &Finished) -> Result<(), Miss> {
         let (ledger, replies) = self.in_file_order(alloc)?;
-        if finished.replies != replies {
-            return Err(Miss::Replies);
-        }
-        compare_books(alloc, &finished.books, &ledger)
+        let compared = compare_with(alloc, finished, &ledger, &replies);
+        drop((ledger, replies));
+        compared
     }
 
     fn in_file_order(&self, alloc: Global) -> Result<(Ledger, Vec<Reply>), Miss> {
-        let lot = lot()?;
         if self.records.len() > MOST_DETAILS {
             return Err(Miss::Value);
         }
-        Ok(plain_run(alloc, lot, &self.sheet, &self.ledger, &self.records)?)
+        let run = plain_run(alloc, self.lot, &self.sheet, &self.ledger, &self.records);
+        run.map_err(Miss::from)
     }
 }
 
+// The desk ended with these replies, and with the books of this ledger.
+fn compare_with(
+    alloc: Global,
+    finished: &Finished,
+    ledger: &Ledger,
+    replies: &[Reply],
+) -> Result<(), Miss> {
+    if finished.replies.as_slice() != replies {
+        return Err(Miss::Replies);
+    }
+    compare_books(alloc, &finished.books, ledger)
+}
+
+// What the desk ends with.
+fn closed(desk: Desk) -> Result<Finished, Miss> {
+    desk.close().ok().ok_or(Miss::Closed)
+}
+
 fn opening(alloc: Global, ledger: &Ledger) -> Result<Books, Miss> {
-    Ok(Books::from_ledger(alloc, ledger, period()?)?)
+    Books::from_ledger(alloc, ledger, period()?).map_err(Miss::from)
 }
 
 // Whether the books have the same text, which tells members, claims and all totals.
@@ -131,5 +158,7 @@ fn compare_books(alloc: Global, books: &Books, ledger: &Ledger) -> Result<(), Mi
 
 fn written(alloc: Global, ledger: &Ledger) -> Result<Vec<u8>, Miss> {
     let books = opening(alloc, ledger)?;
-    Ok(books.write(alloc)?)
+    let text = books.write(alloc).map_err(Miss::from);
+    drop(books);
+    text
 }

@@ -1,7 +1,7 @@
 //! Small ledgers and batches, drawn so that keys and families meet as their profile says.
 
 use crate::draw::Draw;
-use crate::miss::Miss;
+use crate::miss::{Miss, unless_missed};
 use crate::plan::{day, period, product};
 use crate::profile::Profile;
 use rx_claim::{
@@ -31,19 +31,29 @@ const CLAIMS: u32 = 12;
 /// Families of two members each, with a few opening claims.
 pub fn drawn_ledger(alloc: Global, draw: &mut Draw, profile: Profile) -> Result<Ledger, Miss> {
     let mut ledger = Ledger::new(alloc);
+    unless_missed(fill(&mut ledger, draw, profile), ledger)
+}
+
+// The families, and up to so many claims of theirs.
+fn fill(ledger: &mut Ledger, draw: &mut Draw, profile: Profile) -> Result<(), Miss> {
     for nth in 0..profile.families() {
-        enroll(&mut ledger, nth, 0)?;
-        enroll(&mut ledger, nth, 1)?;
+        enroll(ledger, nth, 0)?;
+        enroll(ledger, nth, 1)?;
     }
     let claims = draw.up_to(CLAIMS);
     for _ in 0..claims {
-        match ledger.add_row(drawn_row(draw, profile)?) {
-            Ok(()) | Err(AddError::There) => {}
-            Err(AddError::Unknown) => return Err(Miss::Value),
-            Err(AddError::Memory) => return Err(Miss::Memory),
-        }
+        claim(ledger, drawn_row(draw, profile)?)?;
     }
-    Ok(ledger)
+    Ok(())
+}
+
+// Adds a claim; one whose key has a claim is left out.
+fn claim(ledger: &mut Ledger, row: Row) -> Result<(), Miss> {
+    match ledger.add_row(row) {
+        Ok(()) | Err(AddError::There) => Ok(()),
+        Err(AddError::Unknown) => Err(Miss::Value),
+        Err(AddError::Memory) => Err(Miss::Memory),
+    }
 }
 
 fn enroll(ledger: &mut Ledger, nth: u32, of_person: u32) -> Result<(), Miss> {

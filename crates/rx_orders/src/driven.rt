@@ -1,7 +1,7 @@
 //! A desk driven to its end, in an order drawn at random.
 
 use crate::draw::Draw;
-use crate::miss::Miss;
+use crate::miss::{Miss, unless_missed};
 use rx_adjudicate::{Done, Order, adjudicate};
 use rx_desk::{Desk, Next};
 use rx_fields::Memory;
@@ -43,10 +43,24 @@ pub fn driven(
         refused: 0,
     };
     let mut out = Vec::new(alloc);
+    let driven = drive(alloc, draw, desk, &mut out, &mut went);
+    drop(out);
+    driven?;
+    Ok(went)
+}
+
+// Takes turns until all were given, and notes how they went.
+fn drive(
+    alloc: Global,
+    draw: &mut Draw,
+    desk: &mut Desk,
+    out: &mut Vec<Order>,
+    went: &mut Went,
+) -> Result<(), Miss> {
     // Each turn but those that find none ready, or are refused, is an event, of which a record has two.
-    for _ in 0..records.saturating_mul(4).saturating_add(4) {
-        if !turn(alloc, draw, desk, &mut out, &mut went)? {
-            return Ok(went);
+    for _ in 0..went.records.saturating_mul(4).saturating_add(4) {
+        if !turn(alloc, draw, desk, out, went)? {
+            return Ok(());
         }
         went.most_out = went.most_out.max(out.len());
     }
@@ -89,17 +103,23 @@ fn turn(
 fn taken(desk: &mut Desk) -> Result<Next, Miss> {
     let (ready, events) = (desk.is_ready(), desk.history().len());
     let next = desk.next();
+    unless_missed(fits(desk, &next, ready, events), next)
+}
+
+// What `next` handed out fits to what the desk said before: whether a record is ready, and how many events were.
+fn fits(desk: &Desk, next: &Next, ready: bool, events: usize) -> Result<(), Miss> {
     if matches!(next, Next::Memory) {
         return if desk.is_ready() && desk.history().len() == events {
-            Ok(next)
+            Ok(())
         } else {
             Err(Miss::Refused)
         };
     }
-    if ready != matches!(next, Next::Order(_)) {
-        return Err(Miss::Ready);
+    if ready == matches!(next, Next::Order(_)) {
+        Ok(())
+    } else {
+        Err(Miss::Ready)
     }
-    Ok(next)
 }
 
 // Adjudicates one of the orders that are out, and gives it back.
@@ -114,10 +134,22 @@ fn give_back(
         return Ok(());
     }
     let order = out.swap_remove(place % out.len());
-    let again = order.copy(alloc)?;
-    give(desk, done(alloc, order)?, true)?;
-    // The same order isn't out any more.
-    give(desk, done(alloc, again)?, false)
+    give_twice(alloc, desk, order)
+}
+
+// Gives an order that is out, and then a copy of it.
+fn give_twice(alloc: Global, desk: &mut Desk, order: Order) -> Result<(), Miss> {
+    match order.copy(alloc) {
+        Ok(again) => {
+            let given = give(alloc, desk, order, true);
+            // The same order isn't out any more.
+            given.and(give(alloc, desk, again, false))
+        }
+        Err(Memory) => {
+            drop(order);
+            Err(Miss::Memory)
+        }
+    }
 }
 
 fn done(alloc: Global, order: Order) -> Result<Done, Miss> {
@@ -125,11 +157,13 @@ fn done(alloc: Global, order: Order) -> Result<Done, Miss> {
         Ok(done) => return Ok(done),
         Err(refused) => refused,
     };
-    adjudicate(alloc, order).map_err(|_refused| Miss::Memory)
+    adjudicate(alloc, order).ok().ok_or(Miss::Memory)
 }
 
-fn give(desk: &mut Desk, done: Done, is_out: bool) -> Result<(), Miss> {
-    if desk.give(done).is_ok() == is_out {
+// Adjudicates the order; it is taken back just where it is out.
+fn give(alloc: Global, desk: &mut Desk, order: Order, is_out: bool) -> Result<(), Miss> {
+    let done = done(alloc, order)?;
+    if desk.give(done).ok().is_some() == is_out {
         Ok(())
     } else {
         Err(Miss::Given)

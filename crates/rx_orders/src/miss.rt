@@ -28,6 +28,22 @@ pub enum Miss {
     Books,
 }
 
+/// The value, unless there was a miss.
+pub fn unless_missed<T: Drop>(done: Result<(), Miss>, value: T) -> Result<T, Miss> {
+    done?;
+    Ok(value)
+}
+
+/// Both, or the first miss.
+pub fn both<A: Drop, B: Drop>(
+    one: Result<A, Miss>,
+    other: Result<B, Miss>,
+) -> Result<(A, B), Miss> {
+    let one = one?;
+    let other = other?;
+    Ok((one, other))
+}
+
 impl From<Memory> for Miss {
     fn from(_refused: Memory) -> Miss {
         Miss::Memory

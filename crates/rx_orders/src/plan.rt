@@ -1,7 +1,7 @@
 //! The plain sheet (docs/FORMATS.md, "Fixed inputs"), with a percentage for one drug and figures that are drawn.
 
 use crate::draw::Draw;
-use crate::miss::Miss;
+use crate::miss::{Miss, unless_missed};
 use rx_fields::{Day, Door, Lot, Period, Product, date_read};
 use rx_ledger::{AddFault, Drug, Figures, Share, Sheet};
 use std::alloc::Global;
@@ -38,10 +38,14 @@ fn sheet(
         family_deductible: Some(most),
     };
     let mut sheet = Sheet::new(alloc, figures).map_err(|_wrong| Miss::Value)?;
-    list(&mut sheet, b"00001000101", Share::Copay(1_000), 2_500)?;
-    list(&mut sheet, b"00002000202", Share::Copay(3_000), 100_000)?;
-    list(&mut sheet, b"00004000404", Share::Percent(20), 100_000)?;
-    Ok(sheet)
+    unless_missed(list_drugs(&mut sheet), sheet)
+}
+
+// Two drugs with a copay, and one with a percentage.
+fn list_drugs(sheet: &mut Sheet) -> Result<(), Miss> {
+    list(sheet, b"00001000101", Share::Copay(1_000), 2_500)?;
+    list(sheet, b"00002000202", Share::Copay(3_000), 100_000)?;
+    list(sheet, b"00004000404", Share::Percent(20), 100_000)
 }
 
 fn list(sheet: &mut Sheet, digits: &[u8], share: Share, price: u64) -> Result<(), Miss> {

@@ -21,6 +21,11 @@ fn are_same<T: PartialEq + Debug>(rt: &impl Abort, given: &T, wanted: &T) {
     assert_eq!(rt; *given, *wanted);
 }
 
+// The value is equal to this one, which is made to be compared with it.
+fn is_equal<T: PartialEq + Debug + Drop>(rt: &impl Abort, given: &T, wanted: T) {
+    are_same(rt, given, &wanted);
+}
+
 fn differ<T: PartialEq + Debug>(rt: &impl Abort, one: &T, other: &T) {
     assert_ne!(rt; *one, *other);
 }
@@ -161,18 +166,27 @@ fn a_row_stands_in_both_books(rt: HostRuntime) {
     same!(rt; parcel.row(&row.key), Some(row));
     same!(rt; parcel.rows(&row.family), [row].as_slice());
     same!(rt; parcel.rows(&id(&rt, b"C200")).len(), 0);
+    drop(parcel);
 }
 
 #[test]
-fn a_row_counts_for_its_person_and_family(rt: HostRuntime) {
+fn a_row_counts_for_its_person(rt: HostRuntime) {
     let c100 = id(&rt, b"C100");
     let parcel = after_one_billing(&rt, rt.alloc());
     same!(rt; parcel.deductible(&c100, &person(&rt, b"01")), Some(10_000));
     same!(rt; parcel.deductible(&c100, &person(&rt, b"02")), Some(0));
     same!(rt; parcel.deductible(&c100, &person(&rt, b"09")), None);
+    drop(parcel);
+}
+
+#[test]
+fn a_row_counts_for_its_family(rt: HostRuntime) {
+    let c100 = id(&rt, b"C100");
+    let parcel = after_one_billing(&rt, rt.alloc());
     same!(rt; parcel.out_of_pocket(&c100), Some(13_000));
     same!(rt; parcel.family_deductible(&c100), Some(10_000));
     same!(rt; parcel.out_of_pocket(&id(&rt, b"C200")), None);
+    drop(parcel);
 }
 
 #[test]
@@ -183,7 +197,8 @@ fn a_row_goes_out_of_both_books(rt: HostRuntime) {
     same!(rt; parcel.row(&key), None);
     same!(rt; parcel.rows(&c100).len(), 0);
     same!(rt; parcel.out_of_pocket(&c100), Some(0));
-    same!(rt; parcel, opening(&rt, rt.alloc()));
+    is_equal(&rt, &parcel, opening(&rt, rt.alloc()));
+    drop(parcel);
 }
 
 #[test]
@@ -194,6 +209,7 @@ fn a_parcel_tells_what_it_holds(rt: HostRuntime) {
     same!(rt; parcel.has_key(&key(&rt, 124)), false);
     same!(rt; parcel.has_family(&id(&rt, b"C100")), true);
     same!(rt; parcel.has_family(&id(&rt, b"C200")), false);
+    drop(parcel);
 }
 
 #[test]
@@ -203,9 +219,15 @@ fn a_parcel_tells_its_members(rt: HostRuntime) {
     let member = parcel.member(&family, &person).expect(&rt, "a member");
     same!(rt; member.key, MemberKey { family, person });
     same!(rt; parcel.member(&id(&rt, b"C200"), &person), None);
-    let (keys, families) = parcel.into_books();
+    drop(parcel);
+}
+
+#[test]
+fn a_parcel_gives_its_books_back(rt: HostRuntime) {
+    let (keys, families) = opening(&rt, rt.alloc()).into_books();
     same!(rt; keys.as_slice().len(), 1);
     same!(rt; families.as_slice().len(), 1);
+    drop((keys, families));
 }
 
 #[test]
@@ -215,6 +237,7 @@ fn copies_are_equal_until_one_changes(rt: HostRuntime) {
     same!(rt; copy, parcel);
     take_out(&rt, &mut copy, &key(&rt, 123));
     differ(&rt, &copy, &parcel);
+    drop((copy, parcel));
 }
 
 // The book of C100 without members, with totals of this period.
@@ -228,11 +251,18 @@ fn families_of_two_periods_differ(rt: HostRuntime) {
     let later = without_members(&rt, rt.alloc(), next_year(&rt));
     same!(rt; empty, empty);
     differ(&rt, &empty, &later);
+    drop((empty, later));
+}
+
+fn agrees(parcel: Parcel) -> bool {
+    let agrees = parcel.agrees();
+    drop(parcel);
+    agrees
 }
 
 // Whether the books of a parcel agree: of the key 123 with this row or none, and of one family.
 fn agree(rt: &impl Abort, row: Option<Row>, family: Family) -> bool {
-    parcel_of(rt, key_book(key(rt, 123), row), Few::One(family)).agrees()
+    agrees(parcel_of(rt, key_book(key(rt, 123), row), Few::One(family)))
 }
 
 #[test]
@@ -252,6 +282,7 @@ fn a_family_without_members_counts_nothing(rt: HostRuntime) {
     same!(rt; parcel.out_of_pocket(&c300), Some(0));
     same!(rt; parcel.family_deductible(&c300), Some(0));
     same!(rt; parcel.deductible(&c300, &person(&rt, b"01")), None);
+    drop(parcel);
 }
 
 // The parcel of two families, each with a row under its key.
@@ -268,8 +299,8 @@ fn two_families(rt: &impl Abort, alloc: Global, of_c100: u64, of_c200: u64) -> P
 
 #[test]
 fn two_families_with_one_key_disagree(rt: HostRuntime) {
-    same!(rt; two_families(&rt, rt.alloc(), 123, 123).agrees(), false);
-    same!(rt; two_families(&rt, rt.alloc(), 123, 124).agrees(), true);
+    same!(rt; agrees(two_families(&rt, rt.alloc(), 123, 123)), false);
+    same!(rt; agrees(two_families(&rt, rt.alloc(), 123, 124)), true);
 }
 
 // Whether the key of this reference with one-billing's row, and these families, are books of a parcel of the period.
@@ -292,6 +323,7 @@ fn books_of_no_parcel_are_told(rt: HostRuntime) {
         .push(book(&rt, alloc, b"C100"))
         .expect(&rt, "memory");
     same!(rt; are_books(&rt, this_year(&rt), 123, &families), false);
+    drop(families);
 }
 
 fn free(rt: &impl Abort, reference: u64) -> KeyBook {
@@ -324,13 +356,21 @@ fn listed_opening(rt: &impl Abort, alloc: Global) -> Parcel {
 
 #[test]
 fn a_list_of_one_is_like_one_in_place(rt: HostRuntime) {
-    let (opening, mut listed) = (opening(&rt, rt.alloc()), listed_opening(&rt, rt.alloc()));
-    same!(rt; listed, opening);
-    same!(rt; listed.copy(rt.alloc()).expect(&rt, "memory"), opening);
+    let listed = listed_opening(&rt, rt.alloc());
+    is_equal(&rt, &listed, opening(&rt, rt.alloc()));
+    let copy = listed.copy(rt.alloc()).expect(&rt, "memory");
+    is_equal(&rt, &copy, opening(&rt, rt.alloc()));
+    drop((copy, listed));
+}
+
+#[test]
+fn a_list_of_one_changes_like_one_in_place(rt: HostRuntime) {
+    let mut listed = listed_opening(&rt, rt.alloc());
     put(&rt, &mut listed, one_billing(&rt));
-    same!(rt; listed, after_one_billing(&rt, rt.alloc()));
+    is_equal(&rt, &listed, after_one_billing(&rt, rt.alloc()));
     take_out(&rt, &mut listed, &key(&rt, 123));
-    same!(rt; listed, opening);
+    is_equal(&rt, &listed, opening(&rt, rt.alloc()));
+    drop(listed);
 }
 
 #[test]
@@ -343,6 +383,7 @@ fn a_claim_of_last_year_counts_nothing(rt: HostRuntime) {
     same!(rt; book.remove(&earlier.key), Some(earlier));
     same!(rt; book.family_deductible(), 10_000);
     same!(rt; book.remove(&earlier.key), None);
+    drop(book);
 }
 
 #[test]
@@ -353,6 +394,7 @@ fn a_book_tells_whom_and_what_it_takes(rt: HostRuntime) {
     same!(rt; book.can_add(&claim(&rt, key(&rt, 124), b"C100")), true);
     same!(rt; book.is_past(&person(&rt, b"03")), true);
     same!(rt; book.is_past(&person(&rt, b"02")), false);
+    drop(book);
 }
 
 // The persons of the family of four, and of the same with one more.
@@ -387,6 +429,7 @@ fn a_fifth_member_follows_the_four(rt: HostRuntime) {
     same!(rt; book.member(&person(&rt, b"05")).is_some(), true);
     same!(rt; book.is_past(&person(&rt, b"06")), true);
     same!(rt; book.is_past(&person(&rt, b"05")), false);
+    drop(book);
 }
 
 // The deductibles of the persons 01, 04 and 05.
@@ -404,6 +447,7 @@ fn a_fifth_member_leaves_the_deductibles(rt: HostRuntime) {
     same!(rt; deductibles(&rt, &book), [Some(10_000), Some(0), None]);
     enroll(&rt, &mut book, b"05");
     same!(rt; deductibles(&rt, &book), [Some(10_000), Some(0), Some(0)]);
+    drop(book);
 }
 
 // The copy of a book, which is equal to it and has these persons.
@@ -421,7 +465,8 @@ fn families_of_four_and_five_are_copied(rt: HostRuntime) {
     enroll(&rt, &mut book, b"05");
     differ(&rt, &four, &book);
     has_members(&rt, &four, FOUR);
-    copied(&rt, rt.alloc(), &book, FIVE);
+    let five = copied(&rt, rt.alloc(), &book, FIVE);
+    drop((four, five, book));
 }
 
 // The footprint of the keys of two references and of one family.
@@ -433,11 +478,18 @@ fn footprint(rt: &impl Abort, alloc: Global, first: u64, second: u64) -> Option<
     Footprint::new(keys, families)
 }
 
+fn is_footprint(rt: &impl Abort, alloc: Global, first: u64, second: u64) -> bool {
+    let footprint = footprint(rt, alloc, first, second);
+    let is_footprint = footprint.is_some();
+    drop(footprint);
+    is_footprint
+}
+
 #[test]
 fn footprints_ascend(rt: HostRuntime) {
-    same!(rt; footprint(&rt, rt.alloc(), 123, 124).is_some(), true);
-    same!(rt; footprint(&rt, rt.alloc(), 124, 123).is_some(), false);
-    same!(rt; footprint(&rt, rt.alloc(), 123, 123).is_some(), false);
+    same!(rt; is_footprint(&rt, rt.alloc(), 123, 124), true);
+    same!(rt; is_footprint(&rt, rt.alloc(), 124, 123), false);
+    same!(rt; is_footprint(&rt, rt.alloc(), 123, 123), false);
 }
 
 #[test]
@@ -447,8 +499,14 @@ fn footprints_tell_what_they_name(rt: HostRuntime) {
     same!(rt; names.has_key(&key(&rt, 125)), false);
     same!(rt; names.has_family(&id(&rt, b"C100")), true);
     same!(rt; names.has_family(&id(&rt, b"C200")), false);
-    let copy = names.copy(rt.alloc()).expect(&rt, "memory");
-    same!(rt; copy, names);
+    drop(names);
+}
+
+#[test]
+fn footprints_are_equal_by_what_they_name(rt: HostRuntime) {
+    let names = footprint(&rt, rt.alloc(), 123, 124).expect(&rt, "in order");
+    is_equal(&rt, &names, names.copy(rt.alloc()).expect(&rt, "memory"));
     let other = footprint(&rt, rt.alloc(), 123, 125).expect(&rt, "in order");
     differ(&rt, &names, &other);
+    drop((names, other));
 }
