@@ -81,28 +81,40 @@ fn settled(rt: &impl Abort, alloc: Global, told: &[(&[u8; 15], Told)]) -> Vec<u8
     settle(alloc, lot, stamp, replies.as_slice()).expect(rt, "memory")
 }
 
+const ZULU: &[u8; 15] = b"ZULU PHARMACY  ";
+
 const PHARMACY: &[u8; 15] = b"1234567893     ";
+
+const LONGEST: &[u8; 15] = b"ABCDEFGHIJKLMNO";
+
+// No id: blanks, and one with a bar.
+const NOBODY: &[u8; 15] = b"               ";
+
+const BARRED: &[u8; 15] = b"AB|C           ";
 
 // The text is what an independent program makes of these replies.
 #[test]
 fn pharmacies_stand_in_order_of_first_appearance(rt: HostRuntime) {
-    let (some, most) = (paid(&rt, 17175), Answer::Paid(paid(&rt, 99_999_999)));
-    let zulu: &[u8; 15] = b"ZULU PHARMACY  ";
-    let back = taken_back(&rt, 17175);
+    let first = [
+        Answer::Paid(paid(&rt, 17175)),
+        Answer::Twice(paid(&rt, 17175)),
+    ];
+    let mixed = [
+        Answer::Paid(paid(&rt, 141)),
+        taken_back(&rt, 17175),
+        refused(),
+    ];
+    let back = [taken_back(&rt, 17175), taken_back(&rt, 1)];
+    let most = [Answer::Paid(paid(&rt, 99_999_999)); 4];
+    let last = [Answer::Paid(paid(&rt, 17175))];
     let told = [
-        (
-            zulu,
-            Told::Answers(&[Answer::Paid(some), Answer::Twice(some)]),
-        ),
-        (b"               ", Told::Header(3)),
-        (
-            PHARMACY,
-            Told::Answers(&[Answer::Paid(paid(&rt, 141)), back, refused()]),
-        ),
-        (b"AB|C           ", Told::Header(1)),
-        (zulu, Told::Answers(&[back, taken_back(&rt, 1)])),
-        (b"ABCDEFGHIJKLMNO", Told::Answers(&[most, most, most, most])),
-        (PHARMACY, Told::Answers(&[Answer::Paid(some)])),
+        (ZULU, Told::Answers(&first)),
+        (NOBODY, Told::Header(3)),
+        (PHARMACY, Told::Answers(&mixed)),
+        (BARRED, Told::Header(1)),
+        (ZULU, Told::Answers(&back)),
+        (LONGEST, Told::Answers(&most)),
+        (PHARMACY, Told::Answers(&last)),
     ];
     let text = "SETTLE|1|0000042|202603020600\n\
         P|ZULU PHARMACY|1|1|2|0|-1\n\
