@@ -180,18 +180,20 @@ pub(crate) fn books_of(rt: &impl Abort, alloc: Global, ledger: &Ledger) -> Books
     Books::from_ledger(alloc, ledger, period(rt)).expect(rt, "memory")
 }
 
-// What comes of the records, past the gate.
+// What comes of the records on books of the ledger, past the gate.
 fn run(
     rt: &impl Abort,
     gate: &impl Gate,
     alloc: Global,
-    ledger: &Ledger,
-    asked: &[Transmission],
+    ledger: Ledger,
+    asked: Vec<Transmission>,
 ) -> Finished {
     let sheet = plain_sheet(rt, alloc);
-    let books = books_of(rt, alloc, ledger);
+    let books = books_of(rt, alloc, &ledger);
     assert!(rt; asked.len() <= 100_000, "a batch");
-    run_one(gate, alloc, lot(rt), &sheet, &books, asked).expect(rt, "memory")
+    let finished = run_one(gate, alloc, lot(rt), &sheet, &books, &asked);
+    drop((ledger, sheet, books, asked));
+    finished.expect(rt, "memory")
 }
 
 // The status of the record's first answer, as a reply writes it; a blank where there is none.
@@ -240,20 +242,26 @@ impl Gate for Noting {
     }
 }
 
+// A record that can't be read, a billing and a reversal.
+fn three_records(rt: &impl Abort, alloc: Global) -> Vec<Transmission> {
+    let mut asked = Vec::new(alloc);
+    asked.push(decoded(rt, alloc, &[])).expect(rt, "memory");
+    let billing = billing(rt, alloc, b"20260228", b"123", b"01");
+    asked.push(billing).expect(rt, "memory");
+    asked.push(reversal(rt, alloc)).expect(rt, "memory");
+    asked
+}
+
 #[test]
 fn passes_the_gate_once_a_place_in_file_order(rt: HostRuntime) {
-    let alloc = rt.alloc();
     let gate = Noting {
         passed: Cell::new(0),
     };
-    let asked = [
-        decoded(&rt, alloc, &[]),
-        billing(&rt, alloc, b"20260228", b"123", b"01"),
-        reversal(&rt, alloc),
-    ];
-    let finished = run(&rt, &gate, alloc, &family(&rt, alloc), &asked);
+    let asked = three_records(&rt, rt.alloc());
+    let finished = run(&rt, &gate, rt.alloc(), family(&rt, rt.alloc()), asked);
     same(&rt, finished.replies.len(), 3);
     same(&rt, gate.passed.get(), 152_637);
+    drop(finished);
 }
 
 // The statuses of the first six records.
@@ -268,20 +276,34 @@ fn statuses(finished: &Finished) -> [u8; 6] {
     ]
 }
 
+// A billing of the base claim's drug for a person of C100: its date, its reference number and the person.
+type Billed<'a> = (&'a [u8], &'a [u8], &'a [u8]);
+
+fn billings(rt: &impl Abort, alloc: Global, billed: &[Billed<'_>]) -> Vec<Transmission> {
+    let mut asked = Vec::new(alloc);
+    for &(date, reference, person) in billed {
+        let billing = billing(rt, alloc, date, reference, person);
+        asked.push(billing).expect(rt, "memory");
+    }
+    asked
+}
+
 // 75 of 100 of 30 days are 22 and a half; what is dated later doesn't count.
+const REFILLS: &[Billed<'static>] = &[
+    (b"20260201", b"123", b"01"),
+    (b"20260201", b"124", b"01"),
+    (b"20260223", b"125", b"01"),
+    (b"20260224", b"126", b"01"),
+    (b"20260223", b"127", b"01"),
+    (b"20260131", b"128", b"01"),
+];
+
 #[test]
 fn a_refill_is_too_soon_up_to_its_boundary(rt: HostRuntime) {
-    let alloc = rt.alloc();
-    let asked = [
-        billing(&rt, alloc, b"20260201", b"123", b"01"),
-        billing(&rt, alloc, b"20260201", b"124", b"01"),
-        billing(&rt, alloc, b"20260223", b"125", b"01"),
-        billing(&rt, alloc, b"20260224", b"126", b"01"),
-        billing(&rt, alloc, b"20260223", b"127", b"01"),
-        billing(&rt, alloc, b"20260131", b"128", b"01"),
-    ];
-    let finished = run(&rt, &NoGate, alloc, &family(&rt, alloc), &asked);
+    let asked = billings(&rt, rt.alloc(), REFILLS);
+    let finished = run(&rt, &NoGate, rt.alloc(), family(&rt, rt.alloc()), asked);
     same(&rt, statuses(&finished), *b"PRRPRP");
+    drop(finished);
 }
 
 // A family of 1,000 members.
@@ -294,45 +316,45 @@ fn large_family(rt: &impl Abort, alloc: Global) -> Ledger {
     ledger
 }
 
-// The last of 1,000 is billed, then the first: the family's figures are of both, the deductible of each alone.
+// The last of 1,000, and the first.
+const LAST_AND_FIRST: &[Billed<'static>] = &[
+    (b"20260228", b"123", b"999"),
+    (b"20260228", b"124", b"000"),
+];
+
+// The family's figures are of both, the deductible of each alone.
 #[test]
 fn a_family_has_a_thousand_members(rt: HostRuntime) {
-    let alloc = rt.alloc();
-    let asked = [
-        billing(&rt, alloc, b"20260228", b"123", b"999"),
-        billing(&rt, alloc, b"20260228", b"124", b"000"),
-    ];
-    let finished = run(&rt, &NoGate, alloc, &large_family(&rt, alloc), &asked);
+    let asked = billings(&rt, rt.alloc(), LAST_AND_FIRST);
+    let ledger = large_family(&rt, rt.alloc());
+    let finished = run(&rt, &NoGate, rt.alloc(), ledger, asked);
     same(&rt, statuses(&finished), *b"PP    ");
-    let (family, last) = (
-        id(&rt, b"C100"),
-        Person::new(b"999").expect(&rt, "a person"),
-    );
+    let family = id(&rt, b"C100");
+    let last = Person::new(b"999").expect(&rt, "a person");
     same(&rt, finished.books.out_of_pocket(&family), Some(26_000));
     same(&rt, finished.books.family_deductible(&family), Some(20_000));
     same(&rt, finished.books.deductible(&family, &last), Some(10_000));
+    drop(finished);
+}
+
+// A billing, and last year's claim taken back twice.
+fn billed_and_taken_back(rt: &impl Abort, alloc: Global) -> Vec<Transmission> {
+    let mut asked = billings(rt, alloc, &[(b"20260228", b"123", b"01")]);
+    asked.push(reversal(rt, alloc)).expect(rt, "memory");
+    asked.push(reversal(rt, alloc)).expect(rt, "memory");
+    asked
 }
 
 #[test]
 fn last_years_claim_leaves_this_years_totals(rt: HostRuntime) {
-    let alloc = rt.alloc();
-    let mut ledger = family(&rt, alloc);
+    let mut ledger = family(&rt, rt.alloc());
     add_last_years_claim(&rt, &mut ledger, 90);
-    let asked = [
-        billing(&rt, alloc, b"20260228", b"123", b"01"),
-        reversal(&rt, alloc),
-        reversal(&rt, alloc),
-    ];
-    let finished = run(&rt, &NoGate, alloc, &ledger, &asked);
+    let asked = billed_and_taken_back(&rt, rt.alloc());
+    let finished = run(&rt, &NoGate, rt.alloc(), ledger, asked);
     same(&rt, statuses(&finished), *b"PAR   ");
-    same(
-        &rt,
-        finished.books.out_of_pocket(&id(&rt, b"C100")),
-        Some(13_000),
-    );
-    same(
-        &rt,
-        finished.books.row(&last_years_key(&rt, 90)).is_none(),
-        true,
-    );
+    let family = id(&rt, b"C100");
+    same(&rt, finished.books.out_of_pocket(&family), Some(13_000));
+    let row = finished.books.row(&last_years_key(&rt, 90));
+    same(&rt, row.is_none(), true);
+    drop(finished);
 }
