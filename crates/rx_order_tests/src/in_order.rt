@@ -103,7 +103,9 @@ fn run_on(
     asked: &[Transmission],
 ) -> Finished {
     let (sheet, books) = (plain_sheet(rt, alloc), books(rt, alloc, text));
-    run(rt, alloc, batch, &sheet, books, asked)
+    let finished = run(rt, alloc, batch, &sheet, books, asked);
+    drop(sheet);
+    finished
 }
 
 // A record of each of these transactions, on its date.
@@ -187,12 +189,15 @@ fn first_figures(
 fn refill(rt: &impl Abort, alloc: Global, percent: u64, date: &[u8], wanted: &[u8]) {
     let finished = refilled(rt, alloc, percent, date);
     replied(rt, alloc, &finished, wanted);
+    drop(finished);
 }
 
 fn refilled(rt: &impl Abort, alloc: Global, percent: u64, date: &[u8]) -> Finished {
     let asked = each(rt, alloc, &[(date, base(rt, 124, b"C100"))]);
     let sheet = sheet_with(rt, alloc, percent, 3_000);
-    run(rt, alloc, 42, &sheet, books(rt, alloc, FILLED), &asked)
+    let finished = run(rt, alloc, 42, &sheet, books(rt, alloc, FILLED), &asked);
+    drop((asked, sheet));
+    finished
 }
 
 // Thirty days were filled on 1 February. So many percent of them have to be over, whole days counted in hundredths.
@@ -233,6 +238,7 @@ fn a_fill_taken_back_makes_none_too_soon(rt: HostRuntime) {
     let asked = taken_back_between(&rt, rt.alloc());
     let finished = run_on(&rt, rt.alloc(), 42, FILLED, &asked);
     replied(&rt, rt.alloc(), &finished, b"R79PAPR79");
+    drop((asked, finished));
 }
 
 // The one record of case four-transactions-in-one-record.
@@ -248,6 +254,7 @@ fn a_transaction_is_on_the_books_after_the_one_before(rt: HostRuntime) {
     let asked = four_in_one(&rt, rt.alloc());
     let finished = run_on(&rt, rt.alloc(), 42, OPENING, &asked);
     ended(&rt, rt.alloc(), &finished, b"PDPP", FOUR);
+    drop((asked, finished));
 }
 
 // The books of a family of 1,000 members, of whom none has a claim.
@@ -257,7 +264,9 @@ fn books_of_a_thousand(rt: &impl Abort, alloc: Global) -> Books {
         let digits: [u8; 3] = digits_write(number);
         enroll(rt, &mut ledger, &digits);
     }
-    Books::from_ledger(alloc, &ledger, this_year(rt)).expect(rt, "memory")
+    let books = Books::from_ledger(alloc, &ledger, this_year(rt));
+    drop(ledger);
+    books.expect(rt, "memory")
 }
 
 fn enroll(rt: &impl Abort, ledger: &mut Ledger, digits: &[u8]) {
@@ -279,7 +288,9 @@ fn last_and_first(rt: &impl Abort, alloc: Global) -> Vec<Transmission> {
 fn run_on_a_thousand(rt: &impl Abort, alloc: Global) -> Finished {
     let (sheet, asked) = (plain_sheet(rt, alloc), last_and_first(rt, alloc));
     let books = books_of_a_thousand(rt, alloc);
-    run(rt, alloc, 42, &sheet, books, &asked)
+    let finished = run(rt, alloc, 42, &sheet, books, &asked);
+    drop((sheet, asked));
+    finished
 }
 
 // The out of pocket of C100, its deductible, and that of this person of it.
@@ -301,6 +312,7 @@ fn a_family_has_a_thousand_members(rt: HostRuntime) {
     same(&rt, totals(&rt, &finished.books, b"999"), billed);
     let other = [Some(26_000), Some(20_000), Some(0)];
     same(&rt, totals(&rt, &finished.books, b"500"), other);
+    drop(finished);
 }
 
 // The records of case reverse-twice-and-bill-again.
@@ -318,19 +330,23 @@ fn a_claim_is_taken_back_once_and_billed_again(rt: HostRuntime) {
     let asked = twice_and_again(&rt, rt.alloc());
     let finished = run_on(&rt, rt.alloc(), 44, BILLED, &asked);
     ended(&rt, rt.alloc(), &finished, b"AR87P", BILLED_AGAIN);
+    drop((asked, finished));
 }
 
 // What a second billing of one-billing's claim gives, under a copay of 5,000.
 fn billed_twice(rt: &impl Abort, alloc: Global) -> Finished {
     let asked = each(rt, alloc, &[(TODAY, base(rt, 123, b"C100"))]);
     let sheet = sheet_with(rt, alloc, 75, 5_000);
-    run(rt, alloc, 43, &sheet, books(rt, alloc, BILLED), &asked)
+    let finished = run(rt, alloc, 43, &sheet, books(rt, alloc, BILLED), &asked);
+    drop((asked, sheet));
+    finished
 }
 
 #[test]
 fn a_claim_billed_twice_changes_nothing(rt: HostRuntime) {
     let finished = billed_twice(&rt, rt.alloc());
     ended(&rt, rt.alloc(), &finished, b"D", BILLED);
+    drop(finished);
 }
 
 // What was paid is told again, whatever the sheet says by now: 13,000 of 30,175 cents are the patient's, as under a copay of
@@ -341,6 +357,7 @@ fn a_claim_billed_twice_is_not_priced_again(rt: HostRuntime) {
     let figures = first_figures(&rt, rt.alloc(), &finished.replies);
     let wanted = (authorization(&rt, 4_200_000_011), 13_000, 17_175);
     same(&rt, figures, Some(wanted));
+    drop(finished);
 }
 
 #[test]
@@ -359,6 +376,7 @@ fn has_references(rt: &impl Abort, alloc: Global, text: &[u8], family: &[u8], wa
     let order = InOrder::new(alloc, books(rt, alloc, text), &[]).expect(rt, "memory");
     let rows = order.rows_of(alloc, &id(rt, family)).expect(rt, "memory");
     same(rt, references(rt, alloc, &rows).as_slice(), wanted);
+    drop((order, rows));
 }
 
 fn references(rt: &impl Abort, alloc: Global, rows: &[Row]) -> Vec<u64> {

@@ -205,7 +205,9 @@ fn weight_on(
     most: u64,
 ) -> u64 {
     let opening = books(rt, alloc, text);
-    weight(alloc, &opening, records, most).expect(rt, "memory")
+    let weight = weight(alloc, &opening, records, most);
+    drop(opening);
+    weight.expect(rt, "memory")
 }
 
 // C100 has three members and a claim, C200 one member: each earlier billing of the family adds one.

@@ -136,7 +136,10 @@ fn copied(rt: &impl Abort, alloc: Global, books: &Books, period: Period) -> Book
 // The opening books, copied to the next year.
 fn later(rt: &impl Abort, alloc: Global) -> Books {
     let period = year(rt, b"20270101", b"20271231");
-    copied(rt, alloc, &opening(rt, alloc), period)
+    let opening = opening(rt, alloc);
+    let later = copied(rt, alloc, &opening, period);
+    drop(opening);
+    later
 }
 
 // The parcel of the first fill, from a shelf of those.
@@ -288,6 +291,7 @@ fn what_is_added_to_a_parcel_is_in_the_books(rt: HostRuntime) {
     let (books, fill) = (filled(&rt, rt.alloc()), fill_of(&rt, b"01"));
     same(&rt, first_row(&rt, &books), Some(fill));
     same(&rt, totals(&rt, &books, b"01"), FIRST_FILL);
+    drop(books);
 }
 
 // The text of the books where C100 has the persons 01, 02 and 04, and the fill is of the last of these.
@@ -317,6 +321,7 @@ fn with_other_members(rt: &impl Abort, alloc: Global) -> Books {
 fn a_fill_of_another_member_is_in_the_books(rt: HostRuntime) {
     let books = with_other_members(&rt, rt.alloc());
     same(&rt, first_row(&rt, &books), Some(fill_of(&rt, b"04")));
+    drop(books);
 }
 
 #[test]
@@ -325,6 +330,7 @@ fn other_members_are_in_the_books(rt: HostRuntime) {
     same(&rt, totals(&rt, &books, b"04"), FIRST_FILL);
     let unlisted = [Some(13_000), Some(10_000), None];
     same(&rt, totals(&rt, &books, b"03"), unlisted);
+    drop(books);
 }
 
 #[test]
@@ -332,6 +338,7 @@ fn other_members_are_in_the_text(rt: HostRuntime) {
     let books = with_other_members(&rt, rt.alloc());
     let text = books.write(rt.alloc()).expect(&rt, "memory");
     same(&rt, text.as_slice(), OTHER_MEMBERS);
+    drop(books);
 }
 
 // The books of that text.
