@@ -4,6 +4,7 @@ what is wrong on standard error, as `clap` words it (docs/PRODUCT.md, "Words").
 
     run_words.py PROGRAM
 """
+import os
 import subprocess
 import sys
 import tempfile
@@ -57,10 +58,10 @@ UNDERSTOOD = (
 def main():
     if len(sys.argv) != 2:
         sys.exit(__doc__)
-    failures = []
+    program, failures = os.path.abspath(sys.argv[1]), []
     with tempfile.TemporaryDirectory() as folder:
         def run(words):
-            return subprocess.run([sys.argv[1], *words], cwd=folder, stdin=subprocess.DEVNULL, capture_output=True, timeout=60)
+            return subprocess.run([program, *words], cwd=folder, stdin=subprocess.DEVNULL, capture_output=True, timeout=60)
 
         for words, front, more in REFUSED:
             done = run(words)
