@@ -21,7 +21,7 @@ pub struct Watch<'a, R> {
     parts: Vec<Part>,
 }
 
-#[derive(Clone, Copy, Debug)]
+#[derive(Clone, Copy)]
 struct Part {
     name: &'static str,
     found: [usize; ROUNDS],

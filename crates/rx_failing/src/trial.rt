@@ -13,7 +13,7 @@ use std::thread::Threads;
 pub const STAMP: &[u8] = b"202603020600";
 
 /// What is wrong with the devices of a run.
-#[derive(Clone, Copy, Debug)]
+#[derive(Clone, Copy)]
 pub enum Flaw {
     /// Nothing.
     None,
@@ -24,7 +24,7 @@ pub enum Flaw {
 }
 
 /// A run to be tried.
-#[derive(Clone, Copy, Debug)]
+#[derive(Clone, Copy)]
 pub struct Trial {
     /// The most bytes that its devices pass a call.
     pub most: usize,

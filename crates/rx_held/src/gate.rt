@@ -8,7 +8,7 @@ use std::thread;
 const TURNS: u32 = 100_000_000;
 
 /// A gate that starts every worker, counts the records that pass, and lets the first and another wait for one another.
-#[derive(Debug, Drop)]
+#[derive(Drop)]
 pub struct Meeting {
     place: usize,
     count: AtomicU64,

@@ -1,10 +1,14 @@
-ghost use Rattle.std.specs.Prelude.{◌≡◌, IfOk};
-ghost use Rattle.rx_show.specs.Sample.{base_claim, sample_text};
+ghost use Rattle.std.specs.Prelude.{◌≡◌, ◌≤◌, IfOk, length};
+ghost use Rattle.rx_fields.specs.declared.limits.TheConstants.{MOST_DETAILS};
+ghost use Rattle.rx_ledger.specs.Fold.{fold_replies};
+ghost use Rattle.rx_reply.specs.Text.{reply_text};
+ghost use Rattle.rx_show.specs.Sample.{base_claim, opening, sample_lot, sample_reply, sample_text};
 
 use crate::bytes::shown;
 use crate::sample_inputs::{lot, opening_books, plain_sheet};
+use rx_claim::{Reply, Transmission};
 use rx_fields::Memory;
-use rx_ledger::plain_run;
+use rx_ledger::{Sheet, plain_run};
 use rx_reply::encode;
 use rx_request::decode;
 use std::alloc::Global;
@@ -20,12 +24,28 @@ const BASE_CLAIM: &[u8] =
 pub fn sample_line(alloc: Global) -> Result<Vec<u8>, Memory>
     ensures { IfOk result (λ line. line.items ≡ sample_text) }
 {
-    let sheet = plain_sheet(alloc)?;
-    let before = opening_books(alloc)?;
-    let asked = [decode(alloc, sheet.door(), base_claim())?];
-    let (_after, replies) = plain_run(alloc, lot(), &sheet, &before, &asked)?;
-    let text = encode(alloc, &replies[0])?;
+    let text = reply_text(alloc)?;
     shown(alloc, text.as_slice())
+}
+
+// The text of the reply to the base claim, the one record of its batch.
+fn reply_text(alloc: Global) -> Result<Vec<u8>, Memory>
+    ensures { IfOk result (λ text. text.items ≡ reply_text sample_reply) }
+{
+    let sheet = plain_sheet(alloc)?;
+    let asked = [decode(alloc, sheet.door(), base_claim())?];
+    let replies = replies_to(alloc, &sheet, &asked)?;
+    encode(alloc, &replies[0])
+}
+
+// The replies to a batch under the opening books.
+fn replies_to(alloc: Global, sheet: &Sheet, asked: &[Transmission]) -> Result<Vec<Reply>, Memory>
+    requires { length asked.now ≤ MOST_DETAILS }
+    ensures { IfOk result (λ replies. replies.items ≡ fold_replies sample_lot sheet.now 1 asked.now opening) }
+{
+    let before = opening_books(alloc)?;
+    let (_after, replies) = plain_run(alloc, lot(), sheet, &before, asked)?;
+    Ok(replies)
 }
 
 // The bytes of the base claim.

@@ -150,11 +150,15 @@ fn finish<R: Threads + Wait + Sync, G: Gate + Sync>(
         IsStopped manner.now.plain (G.starts manner.now.gate.now) manner.now.workers fault) }
 {
     if manner.plain {
-        return Ok(finish_plainly(alloc, lot, sheet, &books, asked)?);
+        let finished = finish_plainly(alloc, lot, sheet, &books, asked);
+        drop(books);
+        return Ok(finished?);
     }
     let books = books.with_period(alloc, sheet.period())?;
     let (gate, workers) = (manner.gate, manner.workers);
-    Ok(run_waves(rt, alloc, gate, workers, lot, sheet, &books, asked)?)
+    let finished = run_waves(rt, alloc, gate, workers, lot, sheet, &books, asked);
+    drop(books);
+    Ok(finished?)
 }
 
 // The same over plain lists.

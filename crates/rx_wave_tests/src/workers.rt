@@ -124,7 +124,7 @@ fn is_billed_once(rt: &impl Abort, finished: &Finished) {
 }
 
 // Which records a gate holds back on entering.
-#[derive(Clone, Copy, Debug)]
+#[derive(Clone, Copy)]
 enum Holds {
     Nobody,
     // The first, until the second was left.
@@ -250,7 +250,7 @@ fn each_place_is_passed_once(rt: HostRuntime) {
 }
 
 // It refuses to start one worker.
-#[derive(Clone, Copy, Debug)]
+#[derive(Clone, Copy)]
 struct Without(usize);
 
 impl Gate for Without {

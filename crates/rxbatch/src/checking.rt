@@ -4,12 +4,12 @@ use crate::texts::text_of;
 use crate::verbose::{long_words, read_words};
 use rx_check::{Files, Found, Names, check as look_at, report};
 use rx_fields::Memory;
-use rx_switch::{Device, IoFault, SwitchFault};
+use rx_switch::{Device, IoFault};
 use rx_told_run::refusal;
 use rx_words::CheckWords;
 
 // The bytes of the files that are given.
-#[derive(Debug, Drop)]
+#[derive(Drop)]
 struct Texts {
     sheet: Vec<u8>,
     books: Option<Vec<u8>>,
@@ -89,12 +89,10 @@ pub fn check(rt: &HostRuntime, words: &CheckWords<'_>) -> Result<(), Ending> {
 
 // The same of files that were read.
 fn check_files(rt: &HostRuntime, words: &CheckWords<'_>, files: &Files<'_>) -> Result<(), Ending> {
-    let Ok(found) = look_at(rt.alloc(), files) else {
-        return Err(Ending::Io(IoFault::Switch(SwitchFault::Memory)));
-    };
+    let found = look_at(rt.alloc(), files)?;
     print_report(rt, words, files, &found)?;
     match refusal(&found) {
-        Some(fault) => Err(Ending::Io(IoFault::Switch(fault))),
+        Some(fault) => Err(Ending::from(fault)),
         None if found.warnings.is_empty() => Ok(()),
         None => Err(Ending::Warned),
     }
@@ -112,8 +110,6 @@ fn print_report(
         books: words.books.unwrap_or(""),
         batch: words.batch.unwrap_or(""),
     };
-    match report(rt.alloc(), files, &names, found) {
-        Ok(lines) => print(rt, lines.as_str().as_bytes()),
-        Err(_) => Err(Ending::Io(IoFault::Switch(SwitchFault::Memory))),
-    }
+    let lines = report(rt.alloc(), files, &names, found)?;
+    print(rt, lines.as_str().as_bytes())
 }

@@ -1,10 +1,11 @@
 use rx_batch::BatchFault;
-use rx_switch::{IoFault, told};
+use rx_fields::Memory;
+use rx_switch::{IoFault, SwitchFault, told};
 use rx_words::WordsFault;
 use std::io;
 
 /// How the program ends where its work isn't done (docs/PRODUCT.md, "The program").
-#[derive(Debug, Drop)]
+#[derive(Drop)]
 pub enum Ending {
     /// A word of the command line is no text.
     NoText,
@@ -32,7 +33,27 @@ pub enum Ending {
     Log,
 }
 
+impl From<SwitchFault> for Ending {
+    fn from(fault: SwitchFault) -> Ending {
+        Ending::Io(IoFault::Switch(fault))
+    }
+}
+
+impl From<Memory> for Ending {
+    fn from(_refused: Memory) -> Ending {
+        Ending::Io(IoFault::Switch(SwitchFault::Memory))
+    }
+}
+
 impl Ending {
+    /// The ending where a text can't be read as a response file.
+    pub fn of_response(fault: BatchFault) -> Ending {
+        match fault {
+            BatchFault::Memory => Ending::from(Memory),
+            fault => Ending::Response(fault),
+        }
+    }
+
     /// The exit status: 1 for a refused input, 2 for words, 3 for a file, 4 for warnings alone and for a claim that isn't
     /// there, 5 where a file differs.
     pub fn status(&self) -> u8 {

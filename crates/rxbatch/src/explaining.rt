@@ -1,12 +1,12 @@
 use crate::ending::Ending;
 use crate::printing::print;
 use crate::texts::{InputTexts, text_of};
-use rx_batch::{BatchFault, Details};
+use rx_batch::Details;
 use rx_explain::{At, Wanted};
 use rx_explain_run::{Retraced, Told, retrace, tell};
 use rx_fields::{Authorization, Provider, Reference};
 use rx_replies::read_response;
-use rx_switch::{Device, IoFault, SwitchFault};
+use rx_switch::Device;
 use rx_words::{Asked, ExplainWords};
 use std::thread::Threads;
 
@@ -53,9 +53,7 @@ fn retraced<R: Threads + Sync>(
     wanted: &Wanted,
 ) -> Result<Retraced, Ending> {
     let (sheet, books, batch) = (&texts.sheet, &texts.books, &texts.batch);
-    retrace(threads, rt.alloc(), sheet, books, batch, wanted).map_err(|fault| Ending::Io(
-        IoFault::Switch(fault),
-    ))
+    Ok(retrace(threads, rt.alloc(), sheet, books, batch, wanted)?)
 }
 
 // Prints the explanations; the program then ends with status 4 where there is none, and with 5 where the response file has
@@ -68,9 +66,7 @@ fn tell_all(
     json: bool,
 ) -> Result<(), Ending> {
     let details = details.map(|details| details.as_slice());
-    let Ok(Told { text, differs }) = tell(rt.alloc(), retraced, wanted, details, json) else {
-        return Err(Ending::Io(IoFault::Switch(SwitchFault::Memory)));
-    };
+    let Told { text, differs } = tell(rt.alloc(), retraced, wanted, details, json)?;
     if text.is_empty() {
         return Err(Ending::NotFound);
     }
@@ -83,11 +79,8 @@ fn tell_all(
 
 // The details of a response file.
 fn details_of(rt: &HostRuntime, bytes: &[u8]) -> Result<Details, Ending> {
-    match read_response(rt.alloc(), bytes) {
-        Ok(batch) => Ok(batch.details),
-        Err(BatchFault::Memory) => Err(Ending::Io(IoFault::Switch(SwitchFault::Memory))),
-        Err(fault) => Err(Ending::Response(fault)),
-    }
+    let response = read_response(rt.alloc(), bytes).map_err(Ending::of_response)?;
+    Ok(response.details)
 }
 
 // What the words ask for: place 0, where no record is, where they are no place, number, reference or id.

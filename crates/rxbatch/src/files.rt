@@ -21,7 +21,7 @@ pub fn open_input(rt: &HostRuntime, path: &str, device: Device) -> Result<File, 
 }
 
 /// The inputs of a run, opened.
-#[derive(Debug, Drop)]
+#[derive(Drop)]
 pub struct InputFiles {
     pub sheet: File,
     pub books: File,
@@ -52,7 +52,7 @@ impl InputFiles {
 }
 
 /// An output, opened for writing and not emptied yet.
-#[derive(Debug, Drop)]
+#[derive(Drop)]
 pub struct OutputFile {
     pub file: File,
     // Whether this run made it.
@@ -115,7 +115,7 @@ impl OutputFile {
 }
 
 /// The outputs of a run, opened.
-#[derive(Debug, Drop)]
+#[derive(Drop)]
 pub struct OutputFiles {
     pub response: OutputFile,
     pub books: OutputFile,

@@ -8,7 +8,7 @@ use std::fs;
 use std::io::Write;
 
 /// The file of a log, empty so far.
-#[derive(Debug, Drop)]
+#[derive(Drop)]
 pub struct LogFile {
     output: OutputFile,
 }

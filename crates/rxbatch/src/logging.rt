@@ -37,7 +37,7 @@ pub fn run<R: Threads + Wait + Sync>(
 }
 
 /// A run that was watched.
-#[derive(Debug, Drop)]
+#[derive(Drop)]
 pub struct WatchedRun {
     pub done: Result<(), Ending>,
     pub heard: RunHeard,
@@ -66,14 +66,14 @@ pub fn watched<R: Threads + Wait + Sync>(
 }
 
 /// When a run began and ended.
-#[derive(Clone, Copy, Debug)]
+#[derive(Clone, Copy)]
 pub struct Times {
     pub begin: Option<Duration>,
     pub end: Option<Duration>,
 }
 
 /// What was heard of the six files.
-#[derive(Debug, Drop)]
+#[derive(Drop)]
 pub struct RunHeard {
     pub sheet: Heard,
     pub books: Heard,
@@ -162,7 +162,7 @@ fn on_files<R: Threads + Wait + Sync>(
 }
 
 // The size and the sum of what went through a file, where it was read or written.
-#[derive(Debug, Drop)]
+#[derive(Drop)]
 struct Summed {
     bytes: Option<u64>,
     sha256: Option<String>,

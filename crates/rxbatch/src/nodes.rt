@@ -3,7 +3,7 @@ use std::fs::{File, Metadata};
 use std::os::unix::fs::MetadataExt;
 
 /// What the system tells of a file: its device and its number there, where it is a plain one.
-#[derive(Clone, Copy, Debug, PartialEq, Eq)]
+#[derive(Clone, Copy, PartialEq, Eq)]
 pub enum Node {
     Plain(u64, u64),
     /// A terminal, a pipe or another device, or no file.

@@ -7,7 +7,7 @@ use rx_words::{Outputs, RunWords};
 use std::fs::File;
 
 /// The files that a run writes.
-#[derive(Debug, Drop)]
+#[derive(Drop)]
 pub enum RunOutputs {
     /// The outputs themselves, emptied before the run.
     InPlace(OutputFiles),

@@ -1,8 +1,9 @@
 use crate::ending::Ending;
 use crate::files::open_input;
 use crate::texts::{InputTexts, text_in};
+use rx_fields::Memory;
 use rx_retrace::show_table;
-use rx_switch::{Device, IoFault, SwitchFault, plan_text, sample_line, show_text};
+use rx_switch::{Device, plan_text, sample_line, show_text};
 use rx_words::{Inputs, ShowWords, WordsFault};
 use std::fs::File;
 use std::io;
@@ -21,10 +22,8 @@ pub fn show<R: Threads + Sync>(
     } else {
         show_text(rt.alloc(), &texts.sheet, &texts.batch)
     };
-    match shown {
-        Ok(text) => print(rt, &text),
-        Err(fault) => Err(Ending::Io(IoFault::Switch(fault))),
-    }
+    drop(texts);
+    print(rt, &shown?)
 }
 
 // The texts of the files that are shown.
@@ -53,20 +52,16 @@ impl ShowTexts {
 /// Prints the waves of a batch file's records, and the chain.
 pub fn plan(rt: &HostRuntime, words: &Inputs<'_>) -> Result<(), Ending> {
     let texts = InputTexts::open_and_read(rt, words)?;
-    match plan_text(rt.alloc(), &texts.sheet, &texts.books, &texts.batch) {
-        Ok(text) => print(rt, &text),
-        Err(fault) => Err(Ending::Io(IoFault::Switch(fault))),
-    }
+    let planned = plan_text(rt.alloc(), &texts.sheet, &texts.books, &texts.batch);
+    drop(texts);
+    print(rt, &planned?)
 }
 
 /// Prints the reply to the base claim, on one line.
 pub fn sample(rt: &HostRuntime) -> Result<(), Ending> {
-    let wanting = Ending::Io(IoFault::Switch(SwitchFault::Memory));
-    let Ok(mut line) = sample_line(rt.alloc()) else {
-        return Err(wanting);
-    };
+    let mut line = sample_line(rt.alloc())?;
     if line.push(b'\n').is_err() {
-        return Err(wanting);
+        return Err(Ending::from(Memory));
     }
     print(rt, &line)
 }

@@ -1,16 +1,16 @@
+ghost use Rattle.std.specs.Prelude.{IfOk};
 ghost use Rattle.rx_course.specs.Adjudicated.{IsAdjudicated};
 
 use crate::ending::Ending;
 use crate::printing::print;
 use crate::texts::InputTexts;
-use rx_account::{Groups, Portion, account_of, kept_lines};
+use rx_account::{Account, Groups, Portion, account_of, kept_lines};
 use rx_fields::Memory;
-use rx_report::tsv_text;
+use rx_report::{Line, tsv_text};
 use rx_report_page::{Whys, explained_page, shows_claims};
 use rx_report_text::{columns_text, json_text};
 use rx_retrace::{Report, job_report, whys_of};
-use rx_switch::{IoFault, SwitchFault};
-use rx_words::{Form, Portion as PortionWords, ReportWords};
+use rx_words::{Form, Inputs, Portion as PortionWords, ReportWords};
 use std::alloc::Global;
 use std::thread::Threads;
 
@@ -20,16 +20,30 @@ pub fn report<R: Threads + Sync>(
     threads: &R,
     words: &ReportWords<'_>,
 ) -> Result<(), Ending> {
-    let texts = InputTexts::open_and_read(rt, &words.inputs)?;
-    let (sheet, books, batch) = (&texts.sheet, &texts.books, &texts.batch);
-    let report = match job_report(threads, rt.alloc(), sheet, books, batch) {
-        Ok(report) => report,
-        Err(fault) => return Err(Ending::Io(IoFault::Switch(fault))),
-    };
-    match report_text(rt.alloc(), portion_of(words), words.form, &report) {
-        Ok(text) => print(rt, &text),
-        Err(Memory) => Err(Ending::Io(IoFault::Switch(SwitchFault::Memory))),
-    }
+    let report = report_on(rt, threads, &words.inputs)?;
+    let text = report_text(rt.alloc(), portion_of(words), words.form, &report);
+    drop(report);
+    print(rt, &text?)
+}
+
+// The answers of a job, whose inputs are read.
+fn report_on<R: Threads + Sync>(
+    rt: &HostRuntime,
+    threads: &R,
+    inputs: &Inputs<'_>,
+) -> Result<Report, Ending>
+    ensures { IfOk result (λ report. IsAdjudicated report.batch) }
+{
+    let texts = InputTexts::open_and_read(rt, inputs)?;
+    let report = job_report(
+        threads,
+        rt.alloc(),
+        &texts.sheet,
+        &texts.books,
+        &texts.batch,
+    );
+    drop(texts);
+    Ok(report?)
 }
 
 fn portion_of<'a>(words: &ReportWords<'a>) -> Portion<'a> {
@@ -56,13 +70,24 @@ fn report_text(
         Form::Tsv => tsv_text(alloc, &kept),
         Form::Columns => columns_text(alloc, portion, &account),
         Form::Json => json_text(alloc, portion, &account),
-        Form::Html => {
-            let whys = if shows_claims(portion, &account) {
-                whys_of(alloc, &report.batch, &kept)?
-            } else {
-                Whys::new(alloc)
-            };
-            explained_page(alloc, report.batch.lot, portion, &account, &whys)
-        }
+        Form::Html => page_text(alloc, portion, report, &kept, &account),
     }
+}
+
+// The page of an account, with the explanation of each claim that it shows.
+fn page_text(
+    alloc: Global,
+    portion: Portion<'_>,
+    report: &Report,
+    kept: &[Line],
+    account: &Account<'_>,
+) -> Result<Vec<u8>, Memory>
+    requires { IsAdjudicated report.now.batch }
+{
+    let whys = if shows_claims(portion, account) {
+        whys_of(alloc, &report.batch, kept)?
+    } else {
+        Whys::new(alloc)
+    };
+    explained_page(alloc, report.batch.lot, portion, account, &whys)
 }

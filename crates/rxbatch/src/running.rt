@@ -28,7 +28,7 @@ pub fn run<R: Threads + Wait + Sync>(
 }
 
 /// The files of a run, opened.
-#[derive(Debug, Drop)]
+#[derive(Drop)]
 pub struct RunFiles {
     pub inputs: InputFiles,
     pub outputs: RunOutputs,

@@ -19,7 +19,7 @@ const BESIDE: &str = ".rxbatch-";
 const NEW_RIGHTS: u32 = 0o600;
 
 /// An output that is written beside its path, under a name of its own.
-#[derive(Debug, Drop)]
+#[derive(Drop)]
 pub struct SafeFile {
     pub file: File,
     device: Device,
@@ -131,7 +131,7 @@ impl SafeFile {
 }
 
 /// The outputs of a run, each beside its path.
-#[derive(Debug, Drop)]
+#[derive(Drop)]
 pub struct SafeFiles {
     pub response: SafeFile,
     pub books: SafeFile,

@@ -18,7 +18,7 @@ const BETWEEN: u64 = 200;
 const NO_DETAILS: u64 = 2;
 
 /// What tells of a run, where that is asked for: its steps, and how many of its records are adjudicated.
-#[derive(Debug, Drop)]
+#[derive(Drop)]
 pub struct Teller<'a> {
     rt: &'a HostRuntime,
     is_asked: bool,

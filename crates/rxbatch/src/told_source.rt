@@ -8,7 +8,7 @@ use rx_watch::{Heard, Watched};
 use std::fs::File;
 
 /// An input of a run, whose step is told when its end is read.
-#[derive(Debug, Drop)]
+#[derive(Drop)]
 pub struct ToldSource<'a> {
     source: Watched<'a, ReaderSource<&'a File>, HostRuntime>,
     name: Name,

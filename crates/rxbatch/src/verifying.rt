@@ -1,7 +1,7 @@
 use crate::ending::Ending;
 use crate::printing::print;
 use crate::texts::{InputTexts, text_of};
-use rx_switch::{Device, IoFault, Job, SwitchFault};
+use rx_switch::{Device, Job};
 use rx_verify::{Files, verdict_text, verify as verify_files};
 use rx_wave::NoGate;
 use rx_words::{Outputs, VerifyWords};
@@ -61,13 +61,8 @@ fn compare<R: Threads + Wait + Sync>(
     job: &Job<'_>,
     files: &Files<'_>,
 ) -> Result<(), Ending> {
-    let verified = match verify_files(threads, rt.alloc(), &NoGate, job, files) {
-        Ok(verified) => verified,
-        Err(fault) => return Err(Ending::Io(IoFault::Switch(fault))),
-    };
-    let Ok(text) = verdict_text(rt.alloc(), &verified, files) else {
-        return Err(Ending::Io(IoFault::Switch(SwitchFault::Memory)));
-    };
+    let verified = verify_files(threads, rt.alloc(), &NoGate, job, files)?;
+    let text = verdict_text(rt.alloc(), &verified, files)?;
     print(rt, &text)?;
     if verified.differences.are_none() {
         Ok(())
