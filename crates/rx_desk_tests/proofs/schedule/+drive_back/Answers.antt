@@ -1,7 +1,7 @@
 use Rattle.std.proofs.Common.{◌≡◌, ◌∷◌, refl, sym, subst, inl, inr}
 use Rattle.std.specs.Prelude.{IfSome}
 use Rattle.rx_schedule.specs.Machine.{Was}
-use Rattle.rx_shelf_tests.proofs.schedule.+drive_back.Goals as goal
+use Rattle.rx_desk_tests.proofs.schedule.+drive_back.Goals as goal
 
 pub pass-requires-clause-handed : goal.pass-requires-clause-handed
 pass-requires-clause-handed t c =

@@ -1,9 +1,0 @@
-//! The comparison of values. It stands in one function, since each place that compares by itself is dear to prove.
-
-use std::fmt::Debug;
-use std::process::Abort;
-
-/// What is given is what is wanted.
-pub(crate) fn same<T: PartialEq + Debug + Drop>(rt: &impl Abort, given: T, wanted: T) {
-    assert_eq!(rt; given, wanted);
-}
