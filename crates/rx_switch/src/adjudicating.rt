@@ -70,7 +70,9 @@ pub(crate) fn adjudicate<R: Threads + Wait + Sync, G: Gate + Sync>(
         batch,
     } = accepted;
     let finished = finish_batch(rt, alloc, manner, parts, &sheet, books, &batch)?;
-    Ok(render(rt, alloc, parts, &batch, &stamp, &finished, spent)?)
+    let pieces = render(rt, alloc, parts, &batch, &stamp, &finished, spent);
+    drop((sheet, batch, finished));
+    Ok(pieces?)
 }
 
 // The texts of the replies to a batch's details, and of the books after them.

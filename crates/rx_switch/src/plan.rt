@@ -32,7 +32,9 @@ pub fn plan_text(
     let sheet = read_sheet(alloc, sheet)?;
     let books = Books::read(alloc, books)?;
     let batch = read_batch(alloc, batch)?;
-    Ok(lines_of(alloc, sheet.door(), &books, &batch)?)
+    let lines = lines_of(alloc, sheet.door(), &books, &batch);
+    drop((sheet, books, batch));
+    Ok(lines?)
 }
 
 // The lines of a batch's records over the opening books.

@@ -22,7 +22,7 @@ returns-in_err-batch-clause-refused c =
     c.in_ok-sheet.ensures c.in_ok-books.books.period c.in_ok-books.books.ledger c.in_ok-books.ensures.ok
     c.in_err-batch.field-0.0 c.in_err-batch.ensures.refuses)
 
-pub returns-in_err-lines_of-clause-refused : goal.returns-in_err-lines_of-clause-refused
-returns-in_err-lines_of-clause-refused c =
-    let p = err_from_is_err_and c.from_residual-in_err-lines_of.result c.from_residual-in_err-lines_of.ensures.1 in
+pub returns-in_err-lines-clause-refused : goal.returns-in_err-lines-clause-refused
+returns-in_err-lines-clause-refused c =
+    let p = err_from_is_err_and c.from_residual-in_err-lines.result c.from_residual-in_err-lines.ensures.1 in
     rw (p.1, p.2) memory
