@@ -59,14 +59,20 @@ pub fn retrace<R: Threads + Sync>(
     let batch = read_batch(alloc, batch)?;
     let asked = decode_in_parts(rt, alloc, 1, sheet.door(), batch.details.as_slice())?;
     let lot = batch.head.lot();
-    let answered = answer(alloc, lot, &sheet, books, &asked, wanted)?;
+    let answered = answer(alloc, lot, &sheet, books, &asked, wanted);
+    let figures = *sheet.figures();
+    drop(sheet);
+    let Answered {
+        replies,
+        explanations,
+    } = answered?;
     Ok(Retraced {
         lot,
-        figures: *sheet.figures(),
+        figures,
         details: batch.details,
         asked,
-        replies: answered.replies,
-        explanations: answered.explanations,
+        replies,
+        explanations,
     })
 }
 
@@ -99,10 +105,13 @@ fn answer(
         asked,
     };
     let replayed = replay_likely(alloc, &batch, wanted)?;
-    let explanations = explain_wanted(alloc, &batch, wanted, &replayed)?;
+    let explanations = explain_wanted(alloc, &batch, wanted, &replayed);
+    drop(opening);
+    let Replayed { replies, explained } = replayed;
+    drop(explained);
     Ok(Answered {
-        replies: replayed.replies,
-        explanations,
+        replies,
+        explanations: explanations?,
     })
 }
 

@@ -27,7 +27,7 @@ returns-in_err-asked-clause-refused g c =
     let p = err_from_is_err_and c.from_residual-in_err-asked.result c.from_residual-in_err-asked.ensures.1 in
     rw (p.1, p.2) memory
 
-pub returns-in_err-answered-clause-refused : goal.returns-in_err-answered-clause-refused
-returns-in_err-answered-clause-refused g c =
-    let p = err_from_is_err_and c.from_residual-in_err-answered.result c.from_residual-in_err-answered.ensures.1 in
+pub returns-in_err-replies-clause-refused : goal.returns-in_err-replies-clause-refused
+returns-in_err-replies-clause-refused g c =
+    let p = err_from_is_err_and c.from_residual-in_err-replies.result c.from_residual-in_err-replies.ensures.1 in
     rw (p.1, p.2) memory
