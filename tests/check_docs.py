@@ -278,7 +278,7 @@ def check_wrong_bodies(root, checks):
             elif "/" not in name:
                 there = crate and (root / f"crates/{crate}/must-fail/{name}.edit").exists()
                 checks.expect(there, f"docs/CARRIED.md: {line}: {crate} has no edit {name}")
-    tests = (root / "crates/rx_wave_tests/src/workers.rt").read_text()
+    tests = (root / "crates/rx_edge_tests/src/workers.rt").read_text()
     for line, refused_by in rows_under((root / "tests/README.md").read_text(), "What only the tests of the workers refuse"):
         for name in re.findall(r"`([^`]+)`", refused_by):
             checks.expect(f"#[test]\nfn {name}(" in tests, f"tests/README.md: {line}: rx_wave has no test {name}")

@@ -1,5 +1,6 @@
-//! The tests of the crates at the program's edge: its words, its log, devices, devices that are watched, runs on devices, and the
-//! texts that are written. A module has the tests of the crate of that name.
+//! The tests of the workers of a run (requests decoded side by side, records answered in file order, and workers at a gate), and
+//! of the crates at the program's edge: its words, its log, devices, devices that are watched, runs on devices, and the texts that
+//! are written. `decoding`, `in_order` and `workers` have those of `rx_wave`, each other module those of the crate of its name.
 //!
 //! What these crates write whole, a command of the program prints: the scripts in `tests/` compare it there. So of texts here are
 //! parts, and texts that no command shows as they are wanted here.
@@ -8,6 +9,8 @@
 #![tactic(auto)]
 
 #[cfg(test)]
+mod decoding;
+#[cfg(test)]
 mod devices;
 #[cfg(test)]
 mod differ;
@@ -15,6 +18,8 @@ mod differ;
 mod escape;
 #[cfg(test)]
 mod explain_text;
+#[cfg(test)]
+mod in_order;
 #[cfg(test)]
 mod log;
 #[cfg(test)]
@@ -33,3 +38,5 @@ mod switch;
 mod watch;
 #[cfg(test)]
 mod words;
+#[cfg(test)]
+mod workers;

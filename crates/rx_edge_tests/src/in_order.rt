@@ -1,6 +1,7 @@
 // What no clause says: that records are answered, and not want of memory. Cases are those of docs/CASES.md.
 ghost use Rattle.std.specs.Prelude.{true};
 
+use crate::same::same;
 use rx_books_kept::Books;
 use rx_claim::{Amounts, Answer, Outcome, Transmission};
 use rx_fields::{
@@ -12,18 +13,12 @@ use rx_request::decode;
 use rx_wave::{Finished, Gate, NoGate, run_one};
 use std::alloc::Global;
 use std::cell::Cell;
-use std::fmt::Debug;
 use std::process::Abort;
 
 const DOOR: Door = Door {
     bin: *b"900001",
     pcn: *b"RXDEMO    ",
 };
-
-// What is given is what is wanted. Values are compared here, since each place that compares by itself is dear to prove.
-pub(crate) fn same<T: PartialEq + Debug + Drop>(rt: &impl Abort, given: T, wanted: T) {
-    assert_eq!(rt; given, wanted);
-}
 
 fn day(rt: &impl Abort, digits: &[u8]) -> Day {
     date_read(digits).expect(rt, "a date")

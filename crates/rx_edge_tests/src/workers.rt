@@ -3,8 +3,9 @@
 ghost use Rattle.std.specs.Prelude.{◌≡◌, ◌≤◌, length, true};
 
 use crate::in_order::{
-    add_last_years_claim, billing_of, books_of, enroll, id, lot, plain_sheet, same, status,
+    add_last_years_claim, billing_of, books_of, enroll, id, lot, plain_sheet, status,
 };
+use crate::same::same;
 use rx_books_kept::Books;
 use rx_claim::Transmission;
 use rx_ledger::{Ledger, Sheet};

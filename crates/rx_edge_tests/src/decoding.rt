@@ -1,5 +1,5 @@
 // What no clause says: that the threads give the transmissions, and not want of memory.
-use crate::in_order::same;
+use crate::same::same;
 use rx_batch::{Detail, Text};
 use rx_claim::{Body, Transmission};
 use rx_fields::{Code, Door};
