@@ -2,7 +2,7 @@
 # cases on the built program. make install PREFIX=..: the built program with its manual page and completions.
 .PHONY: test all-edits cases demo look install kit
 PROGRAM = crates/rxbatch/out/rxbatch
-HELD = crates/rx_held/out/rx_held
+TRIALS = crates/bench_calls/out/bench_calls
 JOB = examples/first_job
 PREFIX = /usr/local
 DESTDIR =
@@ -44,10 +44,10 @@ cases: kit
 	python3 tests/run_verify.py $(PROGRAM)
 	python3 tests/run_replies.py $(PROGRAM)
 	python3 tests/run_report.py $(PROGRAM)
-	test -x $(HELD) || (cd crates/rx_held && rt run > /dev/null || true)
-	python3 tests/run_held.py $(HELD)
+	test -x $(TRIALS) || (cd crates/bench_calls && rt run -- orders 1 > /dev/null)
+	python3 tests/run_held.py $(TRIALS)
 	if command -v cc > /dev/null; then python3 tests/refused_memory.py $(PROGRAM) && \
-	  python3 tests/refused_memory.py "$(HELD) 0" --workers 2; fi
+	  python3 tests/refused_memory.py "$(TRIALS) held 0" --workers 2; fi
 
 demo: kit
 	cd crates/rxbatch && rt run -- sample

@@ -3,7 +3,7 @@
 
     tests/run_held.py PROGRAM
 
-PROGRAM is the built rx_held, or a command line. For 2, 3 and 64 workers the outputs have to be those of the case, every
+PROGRAM is the built bench_calls, or a command line. For 2, 3 and 64 workers the outputs have to be those of the case, every
 record has to pass the gate once, and the two have to meet. The last line is `N passed, M failed`.
 """
 
@@ -16,7 +16,7 @@ import tempfile
 CASE = os.path.join(os.path.dirname(os.path.abspath(__file__)), "cases", "five-hundred-families", "1-first-run")
 INPUTS = {"--sheet": "sheet.toml", "--books": "books.txt", "--batch": "batch.bin"}
 OUTPUTS = {"--response": "response.bin", "--books-out": "books-out.txt", "--settlement": "settlement.txt"}
-HELD = "500"
+HELD = ["held", "500"]
 SAYS = b"1000 records passed the gate; met: true\n"
 
 
@@ -28,7 +28,7 @@ def bytes_of(folder, name):
 def fault(program, workers):
     """What is wrong with a run, or nothing."""
     with tempfile.TemporaryDirectory(prefix="rx-held-") as into:
-        words = [HELD, "run", "--stamp", bytes_of(CASE, "stamp").decode("ascii").strip(), "--workers", str(workers)]
+        words = [*HELD, "run", "--stamp", bytes_of(CASE, "stamp").decode("ascii").strip(), "--workers", str(workers)]
         for files, place in ((INPUTS, CASE), (OUTPUTS, into)):
             for option, name in files.items():
                 words += [option, os.path.join(place, name)]

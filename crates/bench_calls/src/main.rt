@@ -1,6 +1,8 @@
 //! Times single calls, a module for each: `bench_calls NAME [FOLDER [MICROS]]`, on the inputs of a folder as
-//! `bench/make_job.py` writes them, or on one-billing (docs/CASES.md); `bench/README.md` has the figures. Without a word
-//! each makes a short round on one-billing, and says what it found.
+//! `bench/make_job.py` writes them, or on one-billing (docs/CASES.md); `bench/README.md` has the figures. Two further names are
+//! trials, which tests start and `tests/README.md` tells of: `bench_calls orders [COUNT]` drives desks in orders drawn at random,
+//! and `bench_calls held PLACE run ..` is `rxbatch run` at a gate that holds records up. Without a word each call is timed in a
+//! short round on one-billing, which says what it found, and the orders are driven.
 #![tactic(auto)]
 
 mod adjudicate;
@@ -15,10 +17,12 @@ mod requests;
 mod schedule;
 mod shelf;
 mod timing;
+mod trials;
 mod waves;
 
 use inputs::Inputs;
 use std::alloc::Global;
+use std::process::ExitCode;
 use std::rt::{Clock, Files};
 use std::sync::Wait;
 use std::thread::Threads;
@@ -44,12 +48,55 @@ const TURNS: u32 = 200_000;
 // How long the gate of `waves` holds a record up where no word says it.
 const MICROS: u64 = 10;
 
-fn main(rt: HostRuntime) -> io::Result<()> {
-    let mut words = env::args(&rt)?;
-    let _program = words.next();
-    match words.next() {
-        Some(name) => timed(&rt, rt.alloc(), name.as_str(), words.next(), words.next()),
-        None => short_rounds(&rt, rt.alloc()),
+fn main(rt: HostRuntime) -> ExitCode {
+    let given = match env::args(&rt) {
+        Ok(given) => given,
+        Err(error) => return status_of_words(error.kind() == io::ErrorKind::OutOfMemory),
+    };
+    let mut words = Vec::new(rt.alloc());
+    for word in given {
+        if words.push(word).is_err() {
+            return status_of_words(true);
+        }
+    }
+    done(&rt, &rt, words.as_slice())
+}
+
+// The exit status where the words can't be had, or aren't understood.
+fn status_of_words(lacks_memory: bool) -> ExitCode {
+    ExitCode::from(if lacks_memory { 1 } else { 2 })
+}
+
+// Does what the words ask for, the program's name being the first; threads are started with the second handle.
+fn done<R: Print + Clock + Files + Threads + Wait + Sync>(
+    rt: &HostRuntime,
+    threads: &R,
+    words: &[String],
+) -> ExitCode {
+    let Some(name) = words.get(1) else {
+        return match short_rounds(threads, rt.alloc()) {
+            Ok(()) => trials::orders(rt, None),
+            failed => told(rt, failed),
+        };
+    };
+    match (name.as_str(), words.get(2..)) {
+        ("held", Some(held)) => trials::held(rt, threads, held),
+        ("orders", _) => trials::orders(rt, words.get(2)),
+        (name, _) => told(
+            rt,
+            timed(threads, rt.alloc(), name, words.get(2), words.get(3)),
+        ),
+    }
+}
+
+// The exit status; an error is told.
+fn told(rt: &HostRuntime, done: io::Result<()>) -> ExitCode {
+    match done {
+        Ok(()) => ExitCode::SUCCESS,
+        Err(error) => {
+            let _ = eprintln!(rt; "{error}");
+            ExitCode::FAILURE
+        }
     }
 }
 
@@ -76,8 +123,8 @@ fn timed<R: Print + Clock + Files + Threads + Wait + Sync>(
     rt: &R,
     alloc: Global,
     name: &str,
-    folder: Option<String>,
-    micros: Option<String>,
+    folder: Option<&String>,
+    micros: Option<&String>,
 ) -> io::Result<()> {
     let micros = micros.and_then(|word| word.parse().ok()).unwrap_or(MICROS);
     let inputs = match folder {

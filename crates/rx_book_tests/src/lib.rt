@@ -1,9 +1,13 @@
-//! The tests of what is adjudicated on: the ledger, plan sheets and their text, parcels, the books of families and footprints,
-//! and books, their lines read and written, exactly and quickly, whole and in parts. `plan` has those of a sheet in `rx_ledger`.
+//! The tests of what a batch and its books are made of: lists in order, values of fields, batch files, the standard's
+//! transmissions and replies; the ledger, plan sheets and their text, parcels, the books of families and footprints; and books,
+//! their lines read and written, exactly and quickly, whole and in parts. `plan` has those of a sheet in `rx_ledger`, each other
+//! module those of the crate of its name.
 //!
 //! They stand apart from those crates, since a crate that has tests is proved twice.
 #![tactic(auto)]
 
+#[cfg(test)]
+mod batch;
 #[cfg(test)]
 mod books_in_parts;
 #[cfg(test)]
@@ -13,14 +17,26 @@ mod books_quick;
 #[cfg(test)]
 mod books_text;
 #[cfg(test)]
+mod claim;
+#[cfg(test)]
+mod fields;
+#[cfg(test)]
 mod ledger;
 #[cfg(test)]
 mod lines;
+#[cfg(test)]
+mod order;
 #[cfg(test)]
 mod parcels;
 #[cfg(test)]
 mod plan;
 #[cfg(test)]
+mod reply;
+#[cfg(test)]
+mod request;
+#[cfg(test)]
 mod same;
 #[cfg(test)]
 mod sheet;
+#[cfg(test)]
+mod table;

@@ -1,15 +1,21 @@
-//! The tests of the workers of a run (requests decoded side by side, records answered in file order, and workers at a gate), and
-//! of the crates at the program's edge: its words, its log, devices, devices that are watched, runs on devices, and the texts that
-//! are written. `decoding`, `in_order` and `workers` have those of `rx_wave`, each other module those of the crate of its name.
+//! The tests of what answers a batch, and of the crates at the program's edge: records answered on a parcel and on the books
+//! underway, the shelf, queues and the desk; the workers of a run (requests decoded side by side, records answered in file order,
+//! and workers at a gate); words, log, devices, devices that are watched, runs on devices, and the texts that are written.
+//! `decoding`, `run_one` and `workers` have those of `rx_wave`, `failing` those of a run on devices that fail, and each other
+//! module those of the crate of its name; `worked` and `one_billing` have what the worked cases are made of.
 //!
-//! What these crates write whole, a command of the program prints: the scripts in `tests/` compare it there. So of texts here are
-//! parts, and texts that no command shows as they are wanted here.
+//! What the crates at the edge write whole, a command of the program prints: the scripts in `tests/` compare it there. So of texts
+//! here are parts, and texts that no command shows as they are wanted here.
 //!
 //! They stand apart from those crates, since a crate that has tests is proved twice.
 #![tactic(auto)]
 
 #[cfg(test)]
+mod adjudicate;
+#[cfg(test)]
 mod decoding;
+#[cfg(test)]
+mod desk;
 #[cfg(test)]
 mod devices;
 #[cfg(test)]
@@ -19,17 +25,27 @@ mod escape;
 #[cfg(test)]
 mod explain_text;
 #[cfg(test)]
+mod failing;
+#[cfg(test)]
 mod in_order;
 #[cfg(test)]
 mod log;
+#[cfg(test)]
+mod one_billing;
 #[cfg(test)]
 mod report_text;
 #[cfg(test)]
 mod response;
 #[cfg(test)]
+mod run_one;
+#[cfg(test)]
 mod same;
 #[cfg(test)]
+mod schedule;
+#[cfg(test)]
 mod settle;
+#[cfg(test)]
+mod shelf;
 #[cfg(test)]
 mod steps;
 #[cfg(test)]
@@ -38,5 +54,7 @@ mod switch;
 mod watch;
 #[cfg(test)]
 mod words;
+#[cfg(test)]
+mod worked;
 #[cfg(test)]
 mod workers;

@@ -2,10 +2,9 @@
 // those of docs/CASES.md.
 ghost use Rattle.std.specs.Prelude.{◌≡◌, ◌≤◌, length, true};
 
-use crate::in_order::{
-    add_last_years_claim, billing_of, books_of, enroll, id, lot, plain_sheet, status,
-};
+use crate::run_one::{add_last_years_claim, books_of, claim, enroll, status};
 use crate::same::same;
+use crate::worked::{id, lot, plain_sheet};
 use rx_books_kept::Books;
 use rx_claim::Transmission;
 use rx_ledger::{Ledger, Sheet};
@@ -28,26 +27,21 @@ fn families(rt: &impl Abort, alloc: Global) -> Ledger {
     ledger
 }
 
-// The base claim for a family.
-fn claim(rt: &impl Abort, alloc: Global, reference: &[u8], family: &[u8]) -> Transmission {
-    billing_of(rt, alloc, b"20260228", reference, family, b"01")
-}
-
 // The records of the case blocking-gates, which share nothing.
 fn two_records(rt: &impl Abort, alloc: Global) -> [Transmission; 2] {
     [
-        claim(rt, alloc, b"123", b"C100"),
-        claim(rt, alloc, b"124", b"C200"),
+        claim(rt, alloc, 123, b"C100"),
+        claim(rt, alloc, 124, b"C200"),
     ]
 }
 
 // A fill for each family, and a refill of each on the same day, which is too soon.
 fn four_records(rt: &impl Abort, alloc: Global) -> [Transmission; 4] {
     [
-        claim(rt, alloc, b"123", b"C100"),
-        claim(rt, alloc, b"124", b"C200"),
-        claim(rt, alloc, b"125", b"C200"),
-        claim(rt, alloc, b"126", b"C100"),
+        claim(rt, alloc, 123, b"C100"),
+        claim(rt, alloc, 124, b"C200"),
+        claim(rt, alloc, 125, b"C200"),
+        claim(rt, alloc, 126, b"C100"),
     ]
 }
 
@@ -74,7 +68,7 @@ fn run_on<R: Threads + Wait + Sync + Abort, G: Gate + Sync>(
     let sheet = plain_sheet(rt, alloc);
     let books = books_of(rt, alloc, ledger);
     is_a_job(rt, &sheet, &books, asked);
-    run_waves(rt, alloc, gate, workers, lot(rt), &sheet, &books, asked)
+    run_waves(rt, alloc, gate, workers, lot(rt, 42), &sheet, &books, asked)
 }
 
 // Books and sheet have one period, and the records are no more than a batch has.
@@ -318,8 +312,8 @@ fn large_family(rt: &impl Abort, alloc: Global, claims: u64) -> Ledger {
 // A fill and its refill on the same day.
 fn fill_and_refill(rt: &impl Abort, alloc: Global) -> [Transmission; 2] {
     [
-        claim(rt, alloc, b"123", b"C100"),
-        claim(rt, alloc, b"124", b"C100"),
+        claim(rt, alloc, 123, b"C100"),
+        claim(rt, alloc, 124, b"C100"),
     ]
 }
 

@@ -57,22 +57,25 @@ pub fn retrace<R: Threads + Sync>(
     let sheet = read_sheet(alloc, sheet)?;
     let books = Books::read(alloc, books)?;
     let batch = read_batch(alloc, batch)?;
-    let asked = decode_in_parts(rt, alloc, 1, sheet.door(), batch.details.as_slice())?;
+    let Ok(asked) = decode_in_parts(rt, alloc, 1, sheet.door(), batch.details.as_slice()) else {
+        drop((sheet, books, batch));
+        return Err(SwitchFault::Memory);
+    };
     let lot = batch.head.lot();
     let answered = answer(alloc, lot, &sheet, books, &asked, wanted);
     let figures = *sheet.figures();
     drop(sheet);
-    let Answered {
-        replies,
-        explanations,
-    } = answered?;
+    let Ok(answered) = answered else {
+        drop((batch, asked));
+        return Err(SwitchFault::Memory);
+    };
     Ok(Retraced {
         lot,
         figures,
         details: batch.details,
         asked,
-        replies,
-        explanations,
+        replies: answered.replies,
+        explanations: answered.explanations,
     })
 }
 

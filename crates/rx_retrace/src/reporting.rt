@@ -102,8 +102,14 @@ fn answer_batch<R: Threads + Sync>(
         a.replies.items ≡ fold_replies batch.now.head.lot sheet.now 1 a.asked.items books.ledger) }
 {
     let opening = books.with_period(alloc, sheet.period())?;
-    let asked = decode_in_parts(rt, alloc, 1, sheet.door(), batch.details.as_slice())?;
-    let replies = replies_to(alloc, batch.head.lot(), sheet, &opening, &asked)?;
+    let Ok(asked) = decode_in_parts(rt, alloc, 1, sheet.door(), batch.details.as_slice()) else {
+        drop(opening);
+        return Err(Memory);
+    };
+    let Ok(replies) = replies_to(alloc, batch.head.lot(), sheet, &opening, &asked) else {
+        drop((opening, asked));
+        return Err(Memory);
+    };
     Ok(Answered {
         asked,
         opening,
@@ -133,8 +139,14 @@ fn told(alloc: Global, batch: Adjudicated) -> Result<Report, Memory>
     ensures same { IfOk result (λ report. report.batch ≡ batch) }
     ensures told { IfOk result (λ report. IsTold batch.asked.items batch.replies.items report) }
 {
-    let lines = report_lines(alloc, &batch.asked, &batch.replies)?;
-    let settled = tally_replies(alloc, &batch.replies)?;
+    let Ok(lines) = report_lines(alloc, &batch.asked, &batch.replies) else {
+        drop(batch);
+        return Err(Memory);
+    };
+    let Ok(settled) = tally_replies(alloc, &batch.replies) else {
+        drop((batch, lines));
+        return Err(Memory);
+    };
     Ok(Report {
         batch,
         lines,

@@ -180,7 +180,11 @@ fn finish_plainly(
     }) }
 {
     let opening = books.ledger(alloc)?;
-    let (after, replies) = plain_run(alloc, lot, sheet, &opening, asked)?;
-    let books = Books::from_ledger(alloc, &after, sheet.period())?;
+    let ran = plain_run(alloc, lot, sheet, &opening, asked);
+    drop(opening);
+    let (after, replies) = ran?;
+    let books = Books::from_ledger(alloc, &after, sheet.period());
+    drop(after);
+    let books = books?;
     Ok(Finished { books, replies })
 }

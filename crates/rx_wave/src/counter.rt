@@ -38,10 +38,16 @@ pub(crate) struct DeskCounter {
 impl DeskCounter {
     /// The desk at the end of the work; Memory where that stopped for want of it.
     pub(crate) fn into_desk(self) -> Result<Desk, Memory> {
-        if self.lacks_memory {
+        let DeskCounter {
+            desk,
+            stopped: _,
+            lacks_memory,
+        } = self;
+        if lacks_memory {
+            drop(desk);
             return Err(Memory);
         }
-        Ok(self.desk)
+        Ok(desk)
     }
 
     fn stop_for_memory(&mut self) {

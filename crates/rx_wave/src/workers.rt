@@ -124,6 +124,7 @@ fn closed_for(
         finished.replies.items ≡ fold_replies lot sheet.now 1 transmissions.now books.now.ledger) }
 {
     if !desk.job_is(lot, sheet, books, transmissions) {
+        drop(desk);
         return None;
     }
     desk.close().ok()
@@ -179,8 +180,11 @@ fn worked_off<R: Threads + Wait + Sync, G: Gate + Sync>(
     });
     let changed = Condvar::new();
     let refused = start_all(rt, alloc, gate, workers as usize, &shared, &changed);
-    let desk = shared.into_inner().into_desk()?;
+    let desk = shared.into_inner().into_desk();
+    drop(changed);
+    let desk = desk?;
     if refused {
+        drop(desk);
         return Err(RunFault::Thread);
     }
     Ok(desk)

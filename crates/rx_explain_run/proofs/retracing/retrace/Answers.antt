@@ -22,12 +22,8 @@ returns-in_err-batch-clause-refused g c =
     c.in_ok-sheet.ensures c.in_ok-books.books.period c.in_ok-books.books.ledger c.in_ok-books.ensures.ok
     c.in_err-batch.field-0.0 c.in_err-batch.ensures.refuses)
 
-pub returns-in_err-asked-clause-refused : goal.returns-in_err-asked-clause-refused
-returns-in_err-asked-clause-refused g c =
-    let p = err_from_is_err_and c.from_residual-in_err-asked.result c.from_residual-in_err-asked.ensures.1 in
-    rw (p.1, p.2) memory
+pub returns-in_default-clause-refused : goal.returns-in_default-clause-refused
+returns-in_default-clause-refused g c = memory
 
-pub returns-in_err-replies-clause-refused : goal.returns-in_err-replies-clause-refused
-returns-in_err-replies-clause-refused g c =
-    let p = err_from_is_err_and c.from_residual-in_err-replies.result c.from_residual-in_err-replies.ensures.1 in
-    rw (p.1, p.2) memory
+pub returns-in_default-answered-clause-refused : goal.returns-in_default-answered-clause-refused
+returns-in_default-answered-clause-refused g c = memory
