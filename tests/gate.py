@@ -28,6 +28,7 @@ import signal
 import subprocess
 import sys
 import tempfile
+import threading
 import time
 
 TOP = os.path.dirname(os.path.dirname(os.path.abspath(__file__)))
@@ -37,6 +38,8 @@ OWN = ("src", "specs", "proofs", "must-fail")
 STATED = ("src", "specs")
 # how long the gate may take before it begins no further edit
 MINUTES = 90
+# what `rt` says of an edit that can't be applied
+BAD = "BAD EDIT"
 # how many crates' edits are tried at once: those of one crate go one after another
 AT_ONCE = 8
 
@@ -156,12 +159,29 @@ def put_back():
     shutil.rmtree(ASIDE, ignore_errors=True)
 
 
+def passed_on(run, bad):
+    """Passes on what the run says, and notes each edit that can't be applied, which `rt` tells and takes for no fault."""
+    for line in run.stdout:
+        print(line, end="", flush=True)
+        if BAD in line:
+            bad.append(line)
+
+
 def rt_ci(at, seconds=None):
-    """`rt ci` over the repository that stands there, with a check on each processor: its status, or None where it took longer."""
-    jobs = os.environ.get("RT_JOBS") or str(len(os.sched_getaffinity(0)))
-    run = subprocess.Popen(["rt", "ci"], cwd=at, env={**os.environ, "RT_JOBS": jobs}, start_new_session=True)
+    """`rt ci` over the repository that stands there, with a check on each processor: its status, 1 where an edit can't be applied,
+    or None where it took longer."""
+    jobs, bad = os.environ.get("RT_JOBS") or str(len(os.sched_getaffinity(0))), []
+    run = subprocess.Popen(
+        ["rt", "ci"], cwd=at, env={**os.environ, "RT_JOBS": jobs}, start_new_session=True, stdout=subprocess.PIPE, stderr=subprocess.STDOUT, text=True
+    )
+    listener = threading.Thread(target=passed_on, args=(run, bad))
+    listener.start()
     try:
-        return run.wait(seconds)
+        status = run.wait(seconds)
+        listener.join()
+        if bad:
+            print(f"gate: {len(bad)} edits can't be applied", flush=True)
+        return status or (1 if bad else 0)
     except BaseException as stopped:
         os.killpg(run.pid, signal.SIGKILL)
         run.wait()
@@ -215,9 +235,16 @@ def gate(now, changed):
     return status or try_edits(changed, end)
 
 
+def are_refused(crate):
+    """Whether each edit of the crate can be applied, and is refused then."""
+    run = subprocess.run(["rt", "must-fail", crate], cwd=TOP, stdout=subprocess.PIPE, stderr=subprocess.STDOUT, text=True)
+    print(run.stdout, end="", flush=True)
+    return run.returncode == 0 and BAD not in run.stdout
+
+
 def see(now, names):
     """Tries the edits of these crates, and notes those of which each was refused."""
-    failed = [it for it in names if subprocess.run(["rt", "must-fail", it], cwd=TOP).returncode]
+    failed = [it for it in names if not are_refused(it)]
     seen = {it: number for it, number in read_seen().items() if it in now}
     write_seen({**seen, **{it: now[it] for it in names if it not in failed}})
     print(f"{len(names) - len(failed)} passed, {len(failed)} failed")
