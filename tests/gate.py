@@ -174,7 +174,7 @@ def rt_ci(at, seconds=None):
     run = subprocess.Popen(
         ["rt", "ci"], cwd=at, env={**os.environ, "RT_JOBS": jobs}, start_new_session=True, stdout=subprocess.PIPE, stderr=subprocess.STDOUT, text=True
     )
-    listener = threading.Thread(target=passed_on, args=(run, bad))
+    listener = threading.Thread(target=passed_on, args=(run, bad), daemon=True)
     listener.start()
     try:
         status = run.wait(seconds)
