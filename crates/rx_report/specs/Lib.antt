@@ -1,4 +1,7 @@
 -- Plumbing: which files there are.
+pub mod Accounts
+pub mod Adding
 pub mod Cells
+pub mod Groups
 pub mod Lines
 pub mod Texts

@@ -1,26 +1,45 @@
-//! A line for each answer of a batch, behind the counts and the net of its settlement.
+//! A line for each answer of a batch, which lines a report has, and what they come to.
 //!
-//! In come a batch's transmissions and the replies to them, in file order; out come lines, which are kept to one
-//! provider or one family where that is wanted, and written as a table of tabs or as JSON. `specs/Lines.antt` says which
-//! lines there are, `specs/Cells.antt` what stands in each column.
+//! In come a batch's transmissions and the replies to them, in file order; out come lines, written as a table of tabs or
+//! as JSON. `specs/Lines.antt` says which lines there are, `specs/Cells.antt` what stands in each column.
 //!
 //! ```rust
 //! let lines = rx_report::report_lines(alloc, &transmissions, &replies)?;
 //! let text = rx_report::tsv_text(alloc, &lines)?;
 //! ```
 //!
+//! Of these lines and the tallies of the batch's settlement an account is made: sections, each a provider with its tally
+//! and its lines, and the tally of all. Of a whole batch and of one provider the tallies are the settlement's; of a
+//! family they are those of the lines that name it. `specs/Accounts.antt` says both.
+//!
+//! ```rust
+//! let kept = rx_report::kept_lines(alloc, portion, &lines)?;
+//! let groups = Groups::new(alloc, &kept)?;
+//! let account = rx_report::account_of(alloc, portion, &settled, &kept, &groups)?;
+//! ```
+//!
 //! Whoever is told of a line's amounts has the settlement's: the answers of the lines are those that it counts. The
-//! adjudication is left to the crates below.
+//! adjudication is left to the crates below; how an account looks, to those that write it.
 #![tactic(auto)]
 
+mod accounting;
 mod cells;
 mod column;
+mod groups;
 mod line;
 mod lines;
+mod portion;
+mod section;
+mod tallying;
 mod texts;
 
+pub use accounting::account_of;
 pub use cells::cell_of;
 pub use column::Column;
+pub use groups::Groups;
 pub use line::Line;
 pub use lines::report_lines;
+pub use portion::{Portion, kept_lines};
+pub use section::{Account, Section};
+pub use tallying::tally_lines;
 pub use texts::{json_text, tsv_text};

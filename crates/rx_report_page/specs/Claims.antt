@@ -2,13 +2,13 @@
 use Rattle.std.specs.Prelude.{ℕ, List, ◌++◌, codes}
 use Rattle.std.specs.Fmt.{decimal}
 use Rattle.std.specs.List.{flat_map}
-use Rattle.rx_account.specs.declared.section.Section.{Section}
 use Rattle.rx_claim.specs.declared.reply.Answer.{Answer}
 use Rattle.rx_claim.specs.declared.reply.Answer.TheVariants.{Paid, Twice, Approved, Refused}
 use Rattle.rx_report.specs.declared.line.Line.{Line}
+use Rattle.rx_report.specs.declared.section.Section.{Section}
+use Rattle.rx_report_page.specs.declared.why.Why.{Why}
 use Rattle.rx_report_page.specs.Pages.{cell_text, provider_text}
 use Rattle.rx_report_page.specs.Whys.{reason_text}
-use Rattle.rx_report_page.specs.declared.why.Why.{Why}
 use Rattle.rx_report_text.specs.declared.shown.Shown.{Shown}
 use Rattle.rx_report_text.specs.declared.shown.Shown.TheVariants as shown
 

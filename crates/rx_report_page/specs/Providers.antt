@@ -4,10 +4,10 @@ use Rattle.std.specs.Prelude.{List, [], ◌++◌, codes, max}
 use Rattle.std.specs.Fmt.{decimal, signed_decimal}
 use Rattle.std.specs.Int.{abs_diff}
 use Rattle.std.specs.List.{enumerate_from, flat_map, fold}
-use Rattle.rx_account.specs.declared.portion.Portion.{Portion}
-use Rattle.rx_account.specs.declared.portion.Portion.TheVariants as portion
-use Rattle.rx_account.specs.declared.section.Account.{Account}
-use Rattle.rx_account.specs.declared.section.Section.{Section}
+use Rattle.rx_report.specs.declared.portion.Portion.{Portion}
+use Rattle.rx_report.specs.declared.portion.Portion.TheVariants as portion
+use Rattle.rx_report.specs.declared.section.Account.{Account}
+use Rattle.rx_report.specs.declared.section.Section.{Section}
 use Rattle.rx_report_page.specs.Pages.{provider_text}
 use Rattle.rx_report_text.specs.Money.{dollars}
 use Rattle.rx_settle.specs.Settlement.{net}

@@ -1,8 +1,8 @@
 -- Meaning: whether a page has an account's claims.
 use Rattle.std.specs.Prelude.{Bool, true, nat_le, List, length, sum_by}
-use Rattle.rx_account.specs.declared.portion.Portion.{Portion}
-use Rattle.rx_account.specs.declared.portion.Portion.TheVariants.{Whole, Provider, Family}
-use Rattle.rx_account.specs.declared.section.Section.{Section}
+use Rattle.rx_report.specs.declared.portion.Portion.{Portion}
+use Rattle.rx_report.specs.declared.portion.Portion.TheVariants.{Whole, Provider, Family}
+use Rattle.rx_report.specs.declared.section.Section.{Section}
 use Rattle.rx_report_page.specs.declared.whole.TheConstants.{MOST_LINES}
 
 -- a provider's or a family's claims always, those of a whole batch where they are few

@@ -1,19 +1,19 @@
 -- Meaning: the whole page of an account.
 use Rattle.std.specs.Prelude.{ℕ, Bool, true, false, List, ◌++◌, codes}
 use Rattle.std.specs.List.{enumerate_from}
-use Rattle.rx_account.specs.declared.portion.Portion.{Portion}
-use Rattle.rx_account.specs.declared.portion.Portion.TheVariants as portion
-use Rattle.rx_account.specs.declared.section.Account.{Account}
 use Rattle.rx_escape.specs.Escape.{escaped}
 use Rattle.rx_escape.specs.declared.style.Style.TheVariants.{Html}
 use Rattle.rx_fields.specs.Calendar.{date_text}
 use Rattle.rx_fields.specs.Digits.{digits_text}
 use Rattle.rx_fields.specs.Numbered.{LotParts}
+use Rattle.rx_report.specs.declared.portion.Portion.{Portion}
+use Rattle.rx_report.specs.declared.portion.Portion.TheVariants as portion
+use Rattle.rx_report.specs.declared.section.Account.{Account}
+use Rattle.rx_report_page.specs.declared.style.TheConstants.{STYLE}
+use Rattle.rx_report_page.specs.declared.why.Why.{Why}
 use Rattle.rx_report_page.specs.Claims.{sections_text}
 use Rattle.rx_report_page.specs.Providers.{table_text}
 use Rattle.rx_report_page.specs.Shown.{shows_claims}
-use Rattle.rx_report_page.specs.declared.style.TheConstants.{STYLE}
-use Rattle.rx_report_page.specs.declared.why.Why.{Why}
 use Rattle.rx_report_text.specs.Shown.{dashed}
 
 -- the batch number, as text

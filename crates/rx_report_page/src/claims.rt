@@ -6,9 +6,8 @@ ghost use Rattle.rx_report_text.specs.declared.shown.Shown.TheVariants.{Codes};
 
 use crate::page::Page;
 use crate::why::Whys;
-use rx_account::Section;
 use rx_claim::Answer;
-use rx_report::Line;
+use rx_report::{Line, Section};
 use rx_report_text::Shown;
 use std::alloc::AllocError;
 

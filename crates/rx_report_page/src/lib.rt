@@ -1,6 +1,6 @@
 //! A report as one HTML page that takes nothing from outside: no script, no font, no picture.
 //!
-//! In comes an account (`rx_account`); out comes the page: a table of providers with counts, net and a bar for each, and
+//! In comes an account (`rx_report`); out comes the page: a table of providers with counts, net and a bar for each, and
 //! behind it each provider's claims, a line each that unfolds to its figures and to why they are so. A page is written in
 //! two ways alone: by markup that stands in this crate, and by bytes that `rx_escape` turns into text. `specs/Whole.antt`
 //! has the whole page, of a table (`specs/Providers.antt`) and claims (`specs/Claims.antt`); `specs/Pages.antt` says what

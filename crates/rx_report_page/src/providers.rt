@@ -4,7 +4,7 @@ ghost use Rattle.rx_report_page.specs.Providers.{bar_text, count_text, length_te
 ghost use Rattle.rx_report_page.specs.Providers.{row_text, rows_text, scope_text, sign_text, size, table_text, tally_text, total_text};
 
 use crate::page::Page;
-use rx_account::{Account, Portion, Section};
+use rx_report::{Account, Portion, Section};
 use rx_settle::{Field, Tally};
 use std::alloc::AllocError;
 

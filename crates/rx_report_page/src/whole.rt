@@ -14,9 +14,9 @@ use crate::page::Page;
 use crate::providers::put_providers;
 use crate::style::STYLE;
 use crate::why::Whys;
-use rx_account::{Account, Portion, Section};
 use rx_fields::{Day, Lot, Memory, date_write, digits_write};
 use rx_order::Ascending;
+use rx_report::{Account, Portion, Section};
 use std::alloc::{AllocError, Global};
 
 /// How many lines of a whole batch a page shows at most; of more it has the table of providers alone.

@@ -3,18 +3,18 @@ use Rattle.std.specs.Prelude.{ℕ, ◌-◌, Bool, true, if◌then◌else◌, Lis
 use Rattle.std.specs.Char.{is_ascii_whitespace}
 use Rattle.std.specs.Fmt.{decimal, signed_decimal}
 use Rattle.std.specs.List.{flat_map, fold, suffix_len}
-use Rattle.rx_account.specs.declared.portion.Portion.{Portion}
-use Rattle.rx_account.specs.declared.portion.Portion.TheVariants as portion
-use Rattle.rx_account.specs.declared.section.Account.{Account}
-use Rattle.rx_account.specs.declared.section.Section.{Section}
 use Rattle.rx_escape.specs.Escape.{escaped}
 use Rattle.rx_escape.specs.declared.style.Style.TheVariants.{Terminal}
 use Rattle.rx_report.specs.declared.line.Line.{Line}
-use Rattle.rx_report_text.specs.Money.{dollars}
-use Rattle.rx_report_text.specs.Shown.{columns, heading_of, is_amount, shown_cell}
+use Rattle.rx_report.specs.declared.portion.Portion.{Portion}
+use Rattle.rx_report.specs.declared.portion.Portion.TheVariants as portion
+use Rattle.rx_report.specs.declared.section.Account.{Account}
+use Rattle.rx_report.specs.declared.section.Section.{Section}
 use Rattle.rx_report_text.specs.declared.shown.Shown.{Shown}
 use Rattle.rx_report_text.specs.declared.shown.Shown.TheVariants as shown
 use Rattle.rx_report_text.specs.declared.wide.Wide.{Wide}
+use Rattle.rx_report_text.specs.Money.{dollars}
+use Rattle.rx_report_text.specs.Shown.{columns, heading_of, is_amount, shown_cell}
 use Rattle.rx_settle.specs.Providers.{named}
 use Rattle.rx_settle.specs.Settlement.{net}
 use Rattle.rx_settle.specs.declared.tally.Tally.{Tally}

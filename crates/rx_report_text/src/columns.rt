@@ -10,10 +10,9 @@ ghost use Rattle.rx_settle.specs.Providers.{named};
 use crate::money::put_net;
 use crate::shown::Shown;
 use crate::wide::{Wide, printed, wide_columns};
-use rx_account::{Account, Portion, Section};
 use rx_escape::{Style, put_escaped};
 use rx_fields::{Memory, Provider};
-use rx_report::Line;
+use rx_report::{Account, Line, Portion, Section};
 use rx_settle::{Field, Tally};
 use std::alloc::{AllocError, Global};
 

@@ -1,6 +1,6 @@
 //! A report for people in aligned columns, and as JSON for programs.
 //!
-//! In comes an account (`rx_account`); out comes its text. For people amounts are in dollars and cents, and no byte is
+//! In comes an account (`rx_report`); out comes its text. For people amounts are in dollars and cents, and no byte is
 //! written that a terminal takes for more than text; in JSON they are in cents. What stands for an answer in each column
 //! is in `specs/Shown.antt`.
 //!

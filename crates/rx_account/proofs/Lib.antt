@@ -1,3 +1,0 @@
--- Laws of the definitions in `specs/`.
-pub mod Grouping
-pub mod Putting

@@ -1,8 +1,0 @@
-use Rattle.std.proofs.Common.{◌≡◌, ◌++◌, map}
-use Rattle.rx_account.specs.Accounts.{parts_of, with_lines}
-use Rattle.rx_account.proofs.accounting.each_settled.Given as goal
-
--- the sections so far, and those of the tallies that are left
-abbrev pub invariant-loop-provider : goal.invariant-loop-provider
-invariant-loop-provider l =
-    map parts_of l.sections.items ++ map (with_lines l.groups) l.provider-iterator ≡ map (with_lines l.groups) l.tallies.entries

@@ -1,4 +1,0 @@
--- Plumbing: which files there are.
-pub mod Accounts
-pub mod Adding
-pub mod Groups

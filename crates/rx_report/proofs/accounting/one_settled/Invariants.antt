@@ -1,0 +1,10 @@
+use Rattle.std.proofs.Common.{◌≡◌, ◌++◌, map}
+use Rattle.std.specs.List.{filter}
+use Rattle.rx_report.specs.Accounts.{is_of, parts_of, with_lines}
+use Rattle.rx_report.proofs.accounting.one_settled.Given as goal
+
+-- the sections so far, and those of the tallies that are left
+abbrev pub invariant-loop-provider : goal.invariant-loop-provider
+invariant-loop-provider l =
+    map parts_of l.sections.items ++ map (with_lines l.groups) (filter (is_of l.id) l.provider-iterator)
+    ≡ map (with_lines l.groups) (filter (is_of l.id) l.tallies.entries)
