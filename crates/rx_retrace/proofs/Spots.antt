@@ -5,8 +5,8 @@ use Rattle.std.specs.Ordering.{is_lt}
 use Rattle.std.specs.declared.cmp.Ordering.{Ordering}
 use Rattle.rx_order.specs.Ascending.{is_ascending}
 use Rattle.rx_report.specs.declared.line.Line.{Line}
-use Rattle.rx_report_page.specs.Whys.{spot_cmp, spot_of}
-use Rattle.rx_report_page.specs.declared.why.Why.{Why}
+use Rattle.rx_report_text.specs.Whys.{spot_cmp, spot_of}
+use Rattle.rx_report_text.specs.declared.why.Why.{Why}
 
 module _ {X K : Type 0} (cmp : K → K → Ordering) (key : X → K) where
   by_keys : (xs : List X) → is_ascending cmp key xs ≡ is_ascending cmp (λ k. k) (map key xs)

@@ -1,7 +1,7 @@
 ghost use Rattle.std.specs.Prelude.{◌≡◌, IfOk, map, true};
 ghost use Rattle.rx_course.specs.Adjudicated.{IsAdjudicated};
 ghost use Rattle.rx_order.specs.Ascending.{is_ascending};
-ghost use Rattle.rx_report_page.specs.Whys.{spot_cmp, spot_of};
+ghost use Rattle.rx_report_text.specs.Whys.{spot_cmp, spot_of};
 ghost use Rattle.rx_retrace.specs.Lines.{at_of};
 
 use crate::telling::words_of;
@@ -10,7 +10,7 @@ use rx_explain::{At, Explanation};
 use rx_fields::Memory;
 use rx_order::Ascending;
 use rx_report::Line;
-use rx_report_page::{AnswerSpot, Why, Whys};
+use rx_report_text::{AnswerSpot, Why, Whys};
 use std::alloc::Global;
 
 /// Why the answers of these lines of a batch were given, in the words of `explain`. Lines that aren't in the order of the

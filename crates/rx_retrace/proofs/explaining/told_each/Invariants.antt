@@ -1,6 +1,6 @@
 -- The lines so far, each with its text.
 use Rattle.std.proofs.Common.{◌≡◌, map, take}
-use Rattle.rx_report_page.specs.Whys.{spot_of}
+use Rattle.rx_report_text.specs.Whys.{spot_of}
 use Rattle.rx_retrace.proofs.explaining.told_each.Given as goal
 
 abbrev pub invariant-loop-nth : goal.invariant-loop-nth

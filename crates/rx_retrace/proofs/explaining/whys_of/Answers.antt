@@ -1,6 +1,6 @@
 -- Where the lines are in order, so are the texts that tell of them.
 use Rattle.std.proofs.Common.{◌≡◌, ◌∙◌, ap, map}
-use Rattle.rx_report_page.specs.declared.why.Why.{Why}
+use Rattle.rx_report_text.specs.declared.why.Why.{Why}
 use Rattle.rx_retrace.proofs.Spots.{same_order}
 use Rattle.rx_retrace.proofs.explaining.whys_of.Goals as goal
 

@@ -1,0 +1,100 @@
+-- Meaning: how a page has the table of providers.
+use Rattle.std.specs.Prelude.{ℕ, ◌*◌, ◌/◌, ◌^◌, ◌==◌, nat_lt, if◌then◌else◌, Bool, true, false}
+use Rattle.std.specs.Prelude.{List, [], ◌++◌, codes, max}
+use Rattle.std.specs.Fmt.{decimal, signed_decimal}
+use Rattle.std.specs.Int.{abs_diff}
+use Rattle.std.specs.List.{enumerate_from, flat_map, fold}
+use Rattle.rx_report.specs.declared.portion.Portion.{Portion}
+use Rattle.rx_report.specs.declared.portion.Portion.TheVariants as portion
+use Rattle.rx_report.specs.declared.section.Account.{Account}
+use Rattle.rx_report.specs.declared.section.Section.{Section}
+use Rattle.rx_report_text.specs.Money.{dollars}
+use Rattle.rx_report_text.specs.Pages.{provider_text}
+use Rattle.rx_settle.specs.Settlement.{net}
+use Rattle.rx_settle.specs.declared.tally.Tally.{Tally}
+
+-- ---- counts and net
+
+abbrev pub count_text : List ℕ → ℕ → List ℕ
+count_text front count = front ++ (decimal count ++ codes "</td>")
+
+unfoldable pub tally_text : Tally → List ℕ
+tally_text t =
+    count_text (codes "<td><i>Paid</i>") t.paid ++ (count_text (codes "<td><i>Duplicate</i>") t.duplicate
+    ++ (count_text (codes "<td><i>Reversed</i>") t.approved ++ (count_text (codes "<td><i>Rejected</i>") t.rejected
+    ++ (codes "<td class=\"net\">" ++ (dollars (signed_decimal (net t)) ++ codes "</td>")))))
+
+-- ---- the bar of a net
+
+-- the net without its sign, in cents
+abbrev pub size : Tally → ℕ
+size t = abs_diff t.paid_out t.taken_back
+
+-- the greatest of these
+abbrev pub longest : List Section → ℕ
+longest sections = fold (λ most s. max (size s.tally) most) 0 sections
+
+-- a part in percent of the whole, rounded down; 100 where a hundredfold is wider than 128 bits
+abbrev pub percent : ℕ → ℕ → ℕ
+percent part whole =
+    if whole == 0 then 0 else (if nat_lt (part * 100) (2 ^ 128) then part * 100 / whole else 100)
+
+-- where more is taken back than paid out
+abbrev pub sign_text : Tally → List ℕ
+sign_text t = if nat_lt t.paid_out t.taken_back then codes " class=\"minus\"" else []
+
+-- as long as the net is in percent of the longest
+unfoldable pub length_text : ℕ → Tally → List ℕ
+length_text most t =
+    codes "<td class=\"bar\"><span" ++ (sign_text t ++ (codes " style=\"width:" ++ (decimal (percent (size t) most)
+    ++ codes "%\"></span></td>")))
+
+-- none for no net
+abbrev pub bar_text : ℕ → Tally → List ℕ
+bar_text most t = if t.taken_back == t.paid_out then codes "<td class=\"bar\"></td>" else length_text most t
+
+-- ---- a provider
+
+-- its name, which leads to its claims
+unfoldable pub link_text : ℕ → List ℕ → List ℕ
+link_text number field =
+    codes "<a href=\"#p" ++ (decimal number ++ (codes "\">" ++ (provider_text field ++ codes "</a>")))
+
+-- the name alone where the page has no claims
+abbrev pub name_text : Bool → ℕ → List ℕ → List ℕ
+name_text true number field = link_text number field
+name_text false number field = provider_text field
+
+unfoldable pub row_text : Bool → ℕ → ℕ → Section → List ℕ
+row_text unfolds most number s =
+    codes "<tr><th scope=\"row\">" ++ (name_text unfolds number s.provider ++ (codes "</th>" ++ (tally_text s.tally
+    ++ (bar_text most s.tally ++ codes "</tr>\n"))))
+
+-- each provider behind its number, from 0
+abbrev pub rows_text : Bool → ℕ → List (ℕ × Section) → List ℕ
+rows_text unfolds most numbered = flat_map (λ s. row_text unfolds most s.0 s.1) numbered
+
+-- ---- the table
+
+abbrev pub headings_text : List ℕ
+headings_text =
+    codes "<table>\n<thead><tr><th scope=\"col\">Provider</th><th scope=\"col\">Paid</th>"
+    ++ (codes "<th scope=\"col\">Duplicate</th><th scope=\"col\">Reversed</th><th scope=\"col\">Rejected</th>"
+    ++ codes "<th scope=\"col\">Net</th><th scope=\"col\"></th></tr></thead>\n<tbody>\n")
+
+-- of whom the last row tells
+abbrev pub scope_text : Portion → List ℕ
+scope_text portion.Whole = codes "All"
+scope_text (portion.Provider id) = codes "This provider"
+scope_text (portion.Family id) = codes "These lines"
+
+unfoldable pub total_text : Portion → Tally → List ℕ
+total_text p total =
+    codes "</tbody>\n<tfoot><tr><th scope=\"row\">" ++ (scope_text p ++ (codes "</th>" ++ (tally_text total
+    ++ codes "<td class=\"bar\"></td></tr></tfoot>\n</table>\n")))
+
+-- the headings, a row for each provider, and what all come to
+unfoldable pub table_text : Bool → Portion → Account → List ℕ
+table_text unfolds p account =
+    headings_text ++ (rows_text unfolds (longest account.sections.items) (enumerate_from 0 account.sections.items)
+    ++ total_text p account.total)

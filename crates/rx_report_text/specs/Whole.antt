@@ -1,0 +1,66 @@
+-- Meaning: the whole page of an account.
+use Rattle.std.specs.Prelude.{ℕ, Bool, true, false, List, ◌++◌, codes}
+use Rattle.std.specs.List.{enumerate_from}
+use Rattle.rx_escape.specs.Escape.{escaped}
+use Rattle.rx_escape.specs.declared.style.Style.TheVariants.{Html}
+use Rattle.rx_fields.specs.Calendar.{date_text}
+use Rattle.rx_fields.specs.Digits.{digits_text}
+use Rattle.rx_fields.specs.Numbered.{LotParts}
+use Rattle.rx_report.specs.declared.portion.Portion.{Portion}
+use Rattle.rx_report.specs.declared.portion.Portion.TheVariants as portion
+use Rattle.rx_report.specs.declared.section.Account.{Account}
+use Rattle.rx_report_text.specs.declared.style.TheConstants.{STYLE}
+use Rattle.rx_report_text.specs.declared.why.Why.{Why}
+use Rattle.rx_report_text.specs.Claims.{sections_text}
+use Rattle.rx_report_text.specs.ClaimsShown.{shows_claims}
+use Rattle.rx_report_text.specs.Providers.{table_text}
+use Rattle.rx_report_text.specs.Shown.{dashed}
+
+-- the batch number, as text
+abbrev pub lot_text : LotParts → List ℕ
+lot_text lot = codes "Batch " ++ escaped Html (digits_text 7 lot.number)
+
+-- nothing from outside is let in: no script, no font, no picture
+abbrev pub policy_text : List ℕ
+policy_text =
+    codes "<!DOCTYPE html>\n<html lang=\"en\">\n<head>\n<meta charset=\"utf-8\">\n"
+    ++ (codes "<meta http-equiv=\"Content-Security-Policy\" content=\"default-src 'none'; style-src 'unsafe-inline'\">\n"
+    ++ codes "<meta name=\"viewport\" content=\"width=device-width, initial-scale=1\">\n<title>")
+
+-- the batch as the page's title, and how the page looks
+unfoldable pub head_text : LotParts → List ℕ
+head_text lot =
+    policy_text ++ (lot_text lot ++ (codes "</title>\n<style>\n" ++ (STYLE.now ++ codes "</style>\n</head>\n<body>\n")))
+
+-- whose lines the page has
+abbrev pub portion_text : Portion → List ℕ
+portion_text portion.Whole = codes ", all providers"
+portion_text (portion.Provider id) = codes ", provider " ++ (escaped Html id.now ++ codes " alone")
+portion_text (portion.Family id) =
+    codes ", the lines that name family " ++ (escaped Html id.now ++ codes "; counts and net are of these alone")
+
+-- the batch, its date, and whose lines the page has
+unfoldable pub title_text : LotParts → Portion → List ℕ
+title_text lot p =
+    codes "<header>\n<h1>" ++ (lot_text lot ++ (codes "</h1>\n<p>created " ++ (escaped Html (dashed (date_text lot.created))
+    ++ (portion_text p ++ codes "; amounts in dollars</p>\n</header>\n<main>\n"))))
+
+-- in place of so many claims, the command for those of one provider
+abbrev pub too_many_text : List ℕ
+too_many_text =
+    codes "<p>These are too many claims for one page. Those of one provider are on a page by</p>\n"
+    ++ codes "<pre>rxbatch report --sheet F --books F --batch F --provider ID --html</pre>\n"
+
+-- the claims of each provider, or how those of one are had
+abbrev pub below_table : Bool → List Why → Account → List ℕ
+below_table true whys account = sections_text whys (enumerate_from 0 account.sections.items)
+below_table false whys account = too_many_text
+
+-- head, title, the table of providers and what stands below it
+abbrev pub parts_of_page : Bool → LotParts → Portion → Account → List Why → List ℕ
+parts_of_page unfolds lot p account whys =
+    head_text lot ++ (title_text lot p ++ (table_text unfolds p account ++ (below_table unfolds whys account
+    ++ codes "</main>\n</body>\n</html>\n")))
+
+abbrev pub page_text : LotParts → Portion → Account → List Why → List ℕ
+page_text lot p account whys = parts_of_page (shows_claims p account.sections.items) lot p account whys

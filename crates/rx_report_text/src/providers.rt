@@ -1,0 +1,190 @@
+ghost use Rattle.std.specs.Prelude.{◌≡◌, ◌++◌, OnOk};
+ghost use Rattle.std.specs.List.{enumerate_from};
+ghost use Rattle.rx_report_text.specs.Providers.{bar_text, count_text, length_text, link_text, longest, name_text, percent};
+ghost use Rattle.rx_report_text.specs.Providers.{row_text, rows_text, scope_text, sign_text, size, table_text, tally_text, total_text};
+
+use crate::page::Page;
+use rx_report::{Account, Portion, Section};
+use rx_settle::{Field, Tally};
+use std::alloc::AllocError;
+
+/// The table of providers, with counts, net and a bar for each.
+pub(crate) fn put_providers(
+    page: &mut Page,
+    portion: Portion<'_>,
+    account: &Account<'_>,
+    unfolds: bool,
+) -> Result<(), AllocError>
+    ensures { OnOk result (page.new.bytes.items ≡ page.old.bytes.items ++ table_text unfolds portion.entry account.now) }
+{
+    page.markup("<table>\n<thead><tr><th scope=\"col\">Provider</th><th scope=\"col\">Paid</th>")?;
+    page.markup(
+        "<th scope=\"col\">Duplicate</th><th scope=\"col\">Reversed</th><th scope=\"col\">Rejected</th>",
+    )?;
+    page.markup("<th scope=\"col\">Net</th><th scope=\"col\"></th></tr></thead>\n<tbody>\n")?;
+    put_rows(page, &account.sections, unfolds)?;
+    put_total(page, portion, &account.total)
+}
+
+// A row for each provider.
+fn put_rows(page: &mut Page, sections: &[Section<'_>], unfolds: bool) -> Result<(), AllocError>
+    ensures { OnOk result (page.new.bytes.items
+        ≡ page.old.bytes.items ++ rows_text unfolds (longest sections.now) (enumerate_from 0 sections.now)) }
+{
+    let longest = longest(sections);
+    for (before, section) in sections.iter().enumerate() {
+        put_provider(page, before, section, longest, unfolds)?;
+    }
+    Ok(())
+}
+
+// What all of them come to.
+fn put_total(page: &mut Page, portion: Portion<'_>, total: &Tally) -> Result<(), AllocError>
+    ensures { OnOk result (page.new.bytes.items ≡ page.old.bytes.items ++ total_text portion.entry total.now) }
+{
+    page.markup("</tbody>\n<tfoot><tr><th scope=\"row\">")?;
+    put_scope(page, portion)?;
+    page.markup("</th>")?;
+    put_tally(page, total)?;
+    page.markup("<td class=\"bar\"></td></tr></tfoot>\n</table>\n")
+}
+
+// Of whom the last row tells.
+fn put_scope(page: &mut Page, portion: Portion<'_>) -> Result<(), AllocError>
+    ensures { OnOk result (page.new.bytes.items ≡ page.old.bytes.items ++ scope_text portion.entry) }
+{
+    match portion {
+        Portion::Whole => page.markup("All"),
+        Portion::Provider(_) => page.markup("This provider"),
+        Portion::Family(_) => page.markup("These lines"),
+    }
+}
+
+// The net that has the longest bar, without its sign.
+fn longest(sections: &[Section<'_>]) -> u128
+    ensures { result ≡ longest sections.now }
+{
+    let mut longest = 0;
+    for section in sections {
+        longest = size(&section.tally).max(longest);
+    }
+    longest
+}
+
+// The net without its sign, in cents.
+fn size(tally: &Tally) -> u128
+    ensures { result ≡ size tally.now }
+{
+    tally.paid_out.abs_diff(tally.taken_back)
+}
+
+fn put_provider(
+    page: &mut Page,
+    before: usize,
+    section: &Section<'_>,
+    longest: u128,
+    unfolds: bool,
+) -> Result<(), AllocError>
+    ensures { OnOk result (page.new.bytes.items ≡ page.old.bytes.items ++ row_text unfolds longest before section.now) }
+{
+    page.markup("<tr><th scope=\"row\">")?;
+    put_name(page, before, &section.provider, unfolds)?;
+    page.markup("</th>")?;
+    put_tally(page, &section.tally)?;
+    put_bar(page, &section.tally, longest)?;
+    page.markup("</tr>\n")
+}
+
+// The provider's name, which leads to its claims where the page has them.
+fn put_name(
+    page: &mut Page,
+    before: usize,
+    provider: &Field,
+    unfolds: bool,
+) -> Result<(), AllocError>
+    ensures { OnOk result (page.new.bytes.items ≡ page.old.bytes.items ++ name_text unfolds before provider.now) }
+{
+    if unfolds {
+        put_link(page, before, provider)
+    } else {
+        page.provider(provider)
+    }
+}
+
+fn put_link(page: &mut Page, before: usize, provider: &Field) -> Result<(), AllocError>
+    ensures { OnOk result (page.new.bytes.items ≡ page.old.bytes.items ++ link_text before provider.now) }
+{
+    page.markup("<a href=\"#p")?;
+    page.number(before as u128)?;
+    page.markup("\">")?;
+    page.provider(provider)?;
+    page.markup("</a>")
+}
+
+// The counts and the net, a cell each.
+fn put_tally(page: &mut Page, tally: &Tally) -> Result<(), AllocError>
+    ensures { OnOk result (page.new.bytes.items ≡ page.old.bytes.items ++ tally_text tally.now) }
+{
+    put_count(page, "<td><i>Paid</i>", tally.paid)?;
+    put_count(page, "<td><i>Duplicate</i>", tally.duplicate)?;
+    put_count(page, "<td><i>Reversed</i>", tally.approved)?;
+    put_count(page, "<td><i>Rejected</i>", tally.rejected)?;
+    page.markup("<td class=\"net\">")?;
+    page.net(tally)?;
+    page.markup("</td>")
+}
+
+#[tactic(auto, using(std::proofs::Common::append_assoc))]
+fn put_count(page: &mut Page, front: &'static str, count: u128) -> Result<(), AllocError>
+    ensures { OnOk result (page.new.bytes.items ≡ page.old.bytes.items ++ count_text front.now count) }
+{
+    page.markup(front)?;
+    page.number(count)?;
+    page.markup("</td>")
+}
+
+// The bar of a net, where there is one.
+fn put_bar(page: &mut Page, tally: &Tally, longest: u128) -> Result<(), AllocError>
+    ensures { OnOk result (page.new.bytes.items ≡ page.old.bytes.items ++ bar_text longest tally.now) }
+{
+    if tally.taken_back == tally.paid_out {
+        page.markup("<td class=\"bar\"></td>")
+    } else {
+        put_length(page, tally, longest)
+    }
+}
+
+// As long as the net is in percent of the longest.
+fn put_length(page: &mut Page, tally: &Tally, longest: u128) -> Result<(), AllocError>
+    ensures { OnOk result (page.new.bytes.items ≡ page.old.bytes.items ++ length_text longest tally.now) }
+{
+    page.markup("<td class=\"bar\"><span")?;
+    put_sign(page, tally)?;
+    page.markup(" style=\"width:")?;
+    page.number(percent(size(tally), longest))?;
+    page.markup("%\"></span></td>")
+}
+
+// Where more is taken back than paid out.
+fn put_sign(page: &mut Page, tally: &Tally) -> Result<(), AllocError>
+    ensures { OnOk result (page.new.bytes.items ≡ page.old.bytes.items ++ sign_text tally.now) }
+{
+    if tally.taken_back > tally.paid_out {
+        page.markup(" class=\"minus\"")
+    } else {
+        Ok(())
+    }
+}
+
+// A part in percent of the whole, rounded down; 100 where that can't be counted.
+fn percent(part: u128, whole: u128) -> u128
+    ensures { result ≡ percent part whole }
+{
+    if whole == 0 {
+        return 0;
+    }
+    match part.checked_mul(100) {
+        Some(hundredfold) => hundredfold / whole,
+        None => 100,
+    }
+}
