@@ -1,6 +1,7 @@
 ghost use Rattle.std.specs.Prelude.{◌≡◌, ◌++◌, IfOk, OnOk};
 ghost use Rattle.rx_steps.specs.Lines.{answers_part, answers_text, counted_part, counted_text, done_text, ending, named};
 ghost use Rattle.rx_steps.specs.Lines.{peak_part, progress_text, size_part, step_text, time_part};
+ghost use Rattle.rx_steps.specs.Numbers.{grouped};
 
 use crate::numbers::{put_grouped, put_net, put_size, put_time};
 use crate::step::{Answers, Counted, Done, Step};
@@ -75,22 +76,23 @@ fn put_counted(
     put_count(alloc, line, counted)
 }
 
-#[tactic(auto, using(std::proofs::Common::append_assoc))]
 fn put_count(alloc: Global, line: &mut Vec<u8>, counted: Counted) -> Result<(), AllocError>
     ensures { OnOk result (line.new.items ≡ line.old.items ++ counted_text counted) }
 {
     match counted {
-        Counted::Lines(count) => {
-            put_grouped(alloc, line, count)?;
-            line.extend_from_slice(b" line")?;
-            put_ending(line, count)
-        }
-        Counted::Records(count) => {
-            put_grouped(alloc, line, count)?;
-            line.extend_from_slice(b" record")?;
-            put_ending(line, count)
-        }
+        Counted::Lines(count) => put_numbered(alloc, line, count, " line"),
+        Counted::Records(count) => put_numbered(alloc, line, count, " record"),
     }
+}
+
+// A count, and what is counted, with the ending of the plural.
+#[tactic(auto, using(std::proofs::Common::append_assoc))]
+fn put_numbered(alloc: Global, line: &mut Vec<u8>, count: u64, name: &str) -> Result<(), AllocError>
+    ensures { OnOk result (line.new.items ≡ line.old.items ++ (grouped count ++ (name.now ++ ending count))) }
+{
+    put_grouped(alloc, line, count)?;
+    line.extend_from_slice(name.as_bytes())?;
+    put_ending(line, count)
 }
 
 // The ending of the plural.
