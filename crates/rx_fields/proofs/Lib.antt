@@ -1,6 +1,7 @@
 -- Laws of the definitions in `specs/`.
 pub mod AmountLaws
 pub mod DateFaults
+pub mod DateLaws
 pub mod DigitLaws
 pub mod IdLaws
 pub mod OrderLaws

@@ -64,7 +64,6 @@ impl Day {
 }
 
 /// The day of the eight digits CCYYMMDD; fewer digits are no date (docs/FORMATS.md, "Dates").
-#[tactic(auto, using(crate::proofs::DateFaults::date_fault))]
 pub fn date_read(bytes: &[u8]) -> Result<Day, FieldFault>
     ensures { result ≡ date_of bytes.now }
 {
