@@ -82,11 +82,22 @@ fn done<R: Print + Clock + Files + Threads + Wait + Sync>(
     match (name.as_str(), words.get(2..)) {
         ("held", Some(held)) => trials::held(rt, threads, held),
         ("orders", _) => trials::orders(rt, words.get(2)),
-        (name, _) => told(
+        (name, _) if NAMES.contains(&name) => told(
             rt,
             timed(threads, rt.alloc(), name, words.get(2), words.get(3)),
         ),
+        (name, _) => unknown(rt, name),
     }
+}
+
+// The exit status where nothing has this name; what has one is told.
+fn unknown(rt: &HostRuntime, name: &str) -> ExitCode {
+    let _ = eprint!(rt; "bench_calls: nothing is named '{name}'; there are");
+    for known in NAMES {
+        let _ = eprint!(rt; " {known},");
+    }
+    let _ = eprintln!(rt; " orders and held");
+    status_of_words(false)
 }
 
 // The exit status; an error is told.

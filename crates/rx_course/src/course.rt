@@ -9,11 +9,22 @@ use rx_in_order::InOrder;
 use std::alloc::Global;
 
 /// A batch of which the first records are done, with the replies to them.
-#[derive(Debug, Drop)]
+#[derive(Drop)]
 pub(crate) struct Course {
     pub(crate) order: InOrder,
     pub(crate) done: usize,
     pub(crate) replies: Vec<Reply>,
+}
+
+impl Course {
+    /// The replies, where no record is done any more.
+    pub(crate) fn into_replies(self) -> Vec<Reply>
+        ensures { result ≡ self.replies }
+    {
+        let Course { order, replies, .. } = self;
+        drop(order);
+        replies
+    }
 }
 
 /// A batch of which no record is done.

@@ -1,4 +1,4 @@
-ghost use Rattle.std.specs.Prelude.{◌≡◌, ◌≤◌, IfOk, List, Option, length};
+ghost use Rattle.std.specs.Prelude.{◌≡◌, ◌≤◌, IfOk, List, OnOk, Option, length};
 ghost use Rattle.std.specs.List.{AllZip};
 ghost use Rattle.std.specs.Option.{option_copied};
 ghost use Rattle.rx_course.specs.Adjudicated.{AreExplained, IsAdjudicated};
@@ -46,11 +46,28 @@ pub fn explain_each(
     requires { length batch.now.asked.now ≤ MOST_DETAILS }
     ensures { IfOk result (λ all. AllZip (IsAt batch.now events.now) places.now all.items) }
 {
-    let mut explanations = Vec::with_capacity(alloc, places.len())?;
     let mut pass = pass_begun(alloc, batch)?;
+    let explanations = explain_on(alloc, batch, events, &mut pass, places);
+    drop(pass);
+    explanations
+}
+
+// The transactions at these places, explained as the pass comes to them.
+fn explain_on(
+    alloc: Global,
+    batch: &Batch<'_>,
+    events: &Events,
+    pass: &mut Pass,
+    places: &[At],
+) -> Result<Vec<Option<Explanation>>, Memory>
+    requires course { IsCourse batch.now pass.old.course }
+    requires latest { AreAmong batch.now events.now pass.old.place pass.old.latest.items }
+    ensures { IfOk result (λ all. AllZip (IsAt batch.now events.now) places.now all.items) }
+{
+    let mut explanations = Vec::with_capacity(alloc, places.len())?;
     for nth in 0..places.len() {
         let at = place_at(places, nth);
-        pass = explained_at(alloc, batch, events, pass, at.place)?;
+        pass_to(alloc, batch, events, pass, at.place)?;
         explanations.push(among(alloc, events, item(&pass.latest, at.nth))?)?;
     }
     Ok(explanations)
@@ -72,7 +89,7 @@ pub fn among(
 }
 
 // A batch gone through, and the explanations of the transactions of the record at a place of it.
-#[derive(Debug, Drop)]
+#[derive(Drop)]
 struct Pass {
     course: Course,
     place: u64,
@@ -92,54 +109,48 @@ fn pass_begun(alloc: Global, batch: &Batch<'_>) -> Result<Pass, Memory>
     })
 }
 
-// The record at a place, explained: the batch goes on to it; where it is past it, from its first record on.
-fn explained_at(
+// The pass goes on to the record at a place, and explains it; where it is past it, it begins again.
+fn pass_to(
     alloc: Global,
     batch: &Batch<'_>,
     events: &Events,
-    pass: Pass,
+    pass: &mut Pass,
     place: u64,
-) -> Result<Pass, Memory>
-    requires course { IsCourse batch.now pass.course }
-    requires latest { AreAmong batch.now events.now pass.place pass.latest.items }
-    ensures course { IfOk result (λ pass. IsCourse batch.now pass.course) }
-    ensures latest { IfOk result (λ pass. AreAmong batch.now events.now pass.place pass.latest.items) }
-    ensures place { IfOk result (λ pass. pass.place ≡ place) }
+) -> Result<(), Memory>
+    requires course { IsCourse batch.now pass.old.course }
+    requires latest { AreAmong batch.now events.now pass.old.place pass.old.latest.items }
+    ensures course { OnOk result (IsCourse batch.now pass.new.course) }
+    ensures latest { OnOk result (AreAmong batch.now events.now pass.new.place pass.new.latest.items) }
+    ensures place { OnOk result (pass.new.place ≡ place) }
 {
     if place == pass.place {
-        return Ok(pass);
+        return Ok(());
     }
+    pass.latest.clear();
+    pass.place = place;
     if place == 0 || place > batch.asked.len() as u64 {
-        return Ok(Pass {
-            course: pass.course,
-            place,
-            latest: Vec::new(alloc),
-        });
+        return Ok(());
     }
     let before = (place - 1) as usize;
-    let mut course = not_past(alloc, batch, pass.course, before)?;
-    go_to(alloc, batch, &mut course, before)?;
-    let latest = explain_record(alloc, batch, events, &mut course)?;
-    Ok(Pass {
-        course,
-        place,
-        latest,
-    })
+    go_back(alloc, batch, &mut pass.course, before)?;
+    go_to(alloc, batch, &mut pass.course, before)?;
+    pass.latest = explain_record(alloc, batch, events, &mut pass.course)?;
+    Ok(())
 }
 
-// The batch, of which no more records than these are done: begun again where it is past them.
-fn not_past(
+// The batch begun again, where more of its records are done than these.
+fn go_back(
     alloc: Global,
     batch: &Batch<'_>,
-    course: Course,
+    course: &mut Course,
     before: usize,
-) -> Result<Course, Memory>
-    requires { IsCourse batch.now course }
-    ensures course { IfOk result (IsCourse batch.now) }
-    ensures done { IfOk result (λ c. c.done ≤ before) }
+) -> Result<(), Memory>
+    requires { IsCourse batch.now course.old }
+    ensures course { OnOk result (IsCourse batch.now course.new) }
+    ensures done { OnOk result (course.new.done ≤ before) }
 {
-    if course.done <= before {
-        return Ok(course);
+    if course.done > before {
+        *course = begun(alloc, batch)?;
     }
-    begun(alloc, batch)
+    Ok(())
 }

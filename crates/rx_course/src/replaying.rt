@@ -43,17 +43,37 @@ pub fn replay(alloc: Global, batch: &Batch<'_>, places: &[u64]) -> Result<Replay
     ensures places { IfOk result (λ r.
         map (λ k. k.place) r.explained.items ≡ places_ahead 0 (length batch.now.asked.now) places.now) }
 {
-    let none = Events::of(alloc, &[], &[])?;
     let mut course = begun(alloc, batch)?;
+    let explained = explain_ahead(alloc, batch, &mut course, places);
+    let replies = course.into_replies();
+    Ok(Replayed {
+        replies,
+        explained: explained?,
+    })
+}
+
+// The records at the places that are ahead, explained on the way to the batch's end.
+fn explain_ahead(
+    alloc: Global,
+    batch: &Batch<'_>,
+    course: &mut Course,
+    places: &[u64],
+) -> Result<Vec<Explained>, Memory>
+    requires begun { course.old.done ≡ 0 }
+    requires course { IsCourse batch.now course.old }
+    ensures course { OnOk result (IsCourse batch.now course.new) }
+    ensures done { OnOk result (course.new.done ≡ length batch.now.asked.now) }
+    ensures explained { IfOk result (λ ks. All (λ k. AreAmong batch.now [] k.place k.explanations.items) ks.items) }
+    ensures places { IfOk result (λ ks.
+        map (λ k. k.place) ks.items ≡ places_ahead 0 (length batch.now.asked.now) places.now) }
+{
+    let none = Events::of(alloc, &[], &[])?;
     let mut explained = Vec::new(alloc);
     for place in places {
-        explain_at(alloc, batch, &none, &mut course, &mut explained, *place)?;
+        explain_at(alloc, batch, &none, course, &mut explained, *place)?;
     }
-    go_to(alloc, batch, &mut course, batch.asked.len())?;
-    Ok(Replayed {
-        replies: course.replies,
-        explained,
-    })
+    go_to(alloc, batch, course, batch.asked.len())?;
+    Ok(explained)
 }
 
 // The record at a place that is ahead, explained among no events.

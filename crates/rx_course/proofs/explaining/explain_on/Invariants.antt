@@ -3,7 +3,7 @@ use Rattle.std.proofs.Common.{take}
 use Rattle.std.specs.List.{AllZip}
 use Rattle.rx_course.specs.Courses.{IsCourse}
 use Rattle.rx_course.specs.Records.{AreAmong, IsAt}
-use Rattle.rx_course.proofs.explaining.explain_each.Given as goal
+use Rattle.rx_course.proofs.explaining.explain_on.Given as goal
 
 abbrev pub invariant-loop-nth : goal.invariant-loop-nth
 invariant-loop-nth l = record {

@@ -2,7 +2,7 @@
 use Rattle.std.proofs.Common.{◌≡◌, ◌+◌, ◌++◌, ◌∷◌, ◌∙◌, ℕ, List, ap, drop, drop-cons, get_or, length, map, suc, sym, arith}
 use Rattle.rx_course.specs.Places.{places_ahead}
 use Rattle.rx_course.specs.declared.replaying.Explained.{Explained}
-use Rattle.rx_course.proofs.replaying.replay.Goals as goal
+use Rattle.rx_course.proofs.replaying.explain_ahead.Goals as goal
 
 pub loop-place-preserved : goal.loop-place-preserved
 loop-place-preserved c =

@@ -4,7 +4,7 @@ use Rattle.rx_explain.specs.Spots.{item}
 use Rattle.rx_explain.specs.declared.explanation.Explanation.{Explanation}
 use Rattle.rx_course.specs.Records.{IsAt}
 use Rattle.rx_course.proofs.Listed.{zipped_more}
-use Rattle.rx_course.proofs.explaining.explain_each.Goals as goal
+use Rattle.rx_course.proofs.explaining.explain_on.Goals as goal
 
 pub loop-nth-preserved : goal.loop-nth-preserved
 loop-nth-preserved c =
@@ -12,14 +12,14 @@ loop-nth-preserved c =
     let events = c.args.events.now in
     let places = c.args.places.now in
     let at = c.place_at-at.result in
-    let latest = c.in_ok-pass-2.pass.latest.items in
+    let latest = c.pass_to.new.pass.latest.items in
     let within : c.loop-nth.nth < length places = omega arith in
     let there : IsAt b events at (item latest at.nth) =
-    subst (λ (n : ℕ). IsAt b events (record { place = n; nth = at.nth }) (item latest at.nth)) c.in_ok-pass-2.ensures.place
-    (c.in_ok-pass-2.ensures.latest at.nth) in
+    subst (λ (n : ℕ). IsAt b events (record { place = n; nth = at.nth }) (item latest at.nth)) c.in_ok-pass_to.ensures.place
+    (c.in_ok-pass_to.ensures.latest at.nth) in
     record {
-      course = c.in_ok-pass-2.ensures.course;
-      latest = c.in_ok-pass-2.ensures.latest;
+      course = c.in_ok-pass_to.ensures.course;
+      latest = c.in_ok-pass_to.ensures.latest;
       explained = rw c.in_ok-push.ensures.items
           (zipped_more (IsAt b events) places c.loop-nth.explanations.items c.loop-nth.nth at c.in_ok-among.field-0 within
           c.place_at-at.ensures c.loop-nth.invariant.explained

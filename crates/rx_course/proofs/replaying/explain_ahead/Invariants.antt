@@ -4,7 +4,7 @@ use Rattle.std.specs.List.{All}
 use Rattle.rx_course.specs.Courses.{IsCourse}
 use Rattle.rx_course.specs.Places.{places_ahead}
 use Rattle.rx_course.specs.Records.{AreAmong}
-use Rattle.rx_course.proofs.replaying.replay.Given as goal
+use Rattle.rx_course.proofs.replaying.explain_ahead.Given as goal
 
 abbrev pub invariant-loop-place : goal.invariant-loop-place
 invariant-loop-place l = record {
