@@ -6,8 +6,9 @@ ghost use Rattle.rx_retrace.specs.Reported.{IsReported, IsTold};
 ghost use Rattle.rx_switch.specs.Planned.{IsNotPlanned};
 ghost use Rattle.rx_wave.specs.Decoding.{transmissions_of};
 
+use crate::inputs::{Inputs, read_inputs};
 use crate::report::Report;
-use rx_batch::{Batch, read_batch};
+use rx_batch::Batch;
 use rx_books_kept::Books;
 use rx_claim::{Reply, Transmission};
 use rx_course::Adjudicated;
@@ -16,7 +17,6 @@ use rx_in_order::Finished;
 use rx_ledger::Sheet;
 use rx_report::report_lines;
 use rx_settle::tally_replies;
-use rx_sheet::read_sheet;
 use rx_switch::SwitchFault;
 use rx_wave::{NoGate, decode_in_parts, run_one};
 use std::alloc::Global;
@@ -40,9 +40,11 @@ pub fn job_report<R: Threads + Sync>(
     ensures ready { IfOk result (λ report. IsAdjudicated report.batch) }
     ensures refused { IfErr result (λ fault. IsNotPlanned sheet.now books.now batch.now fault) }
 {
-    let sheet = read_sheet(alloc, sheet)?;
-    let books = Books::read(alloc, books)?;
-    let batch = read_batch(alloc, batch)?;
+    let Inputs {
+        sheet,
+        books,
+        batch,
+    } = read_inputs(alloc, sheet, books, batch)?;
     let answered = adjudicated(rt, alloc, sheet, books, batch)?;
     let report = told(alloc, answered)?;
     Ok(report)

@@ -1,4 +1,5 @@
-use rx_claim::{Body, Rejected};
+use rx_batch::Details;
+use rx_claim::{Body, Rejected, Transmission};
 use rx_course::Adjudicated;
 use rx_explain::{At, Explanation, item};
 use rx_explain_text::{explanation_text, rejection_text};
@@ -14,19 +15,19 @@ pub(crate) fn words_of(
     explanation: Option<&Explanation>,
 ) -> Result<Vec<u8>, Memory> {
     let figures = batch.sheet.figures();
-    let request = request_at(batch, at.place);
+    let request = request_at(&batch.details, at.place);
     if let Some(explanation) = explanation {
         return explanation_text(alloc, batch.lot, figures, explanation, request, None);
     }
-    match rejected_at(batch, at) {
+    match rejected_at(&batch.asked, at) {
         Some(rejected) => rejection_text(alloc, figures, at.place, rejected, request, None),
         None => Ok(Vec::new(alloc)),
     }
 }
 
-// The record at a place whose header is rejected, where it has an answer there.
-fn rejected_at(batch: &Adjudicated, at: At) -> Option<&Rejected> {
-    let transmission = item(&batch.asked, at.place)?;
+/// The record at a place whose header is rejected, where it has an answer there.
+pub(crate) fn rejected_at(asked: &[Transmission], at: At) -> Option<&Rejected> {
+    let transmission = item(asked, at.place)?;
     match &transmission.body {
         Body::Rejected(rejected) if at.nth >= 1 && at.nth <= rejected.groups.get() => {
             Some(rejected)
@@ -35,9 +36,9 @@ fn rejected_at(batch: &Adjudicated, at: At) -> Option<&Rejected> {
     }
 }
 
-// The text of the transmission at a place.
-fn request_at(batch: &Adjudicated, place: u64) -> &[u8] {
-    match item(batch.details.as_slice(), place) {
+/// The text of the transmission at a place.
+pub(crate) fn request_at(details: &Details, place: u64) -> &[u8] {
+    match item(details.as_slice(), place) {
         Some(detail) => detail.text.bytes(),
         None => &[],
     }

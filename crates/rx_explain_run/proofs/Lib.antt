@@ -1,2 +1,0 @@
--- Lemmas of what is found in a list.
-pub mod Found
