@@ -82,13 +82,15 @@ def words_of(lines):
 
 
 def stated(lines):
-    """The lines of a source file without the bodies of its functions, by the layout of `rt fmt`: a body ends at the first `}`
-    that stands where its `fn` does."""
+    """The lines of a source file without the bodies of its functions, and without what only guides their proofs, by the layout of
+    `rt fmt`: a body ends at the first `}` that stands where its `fn` does."""
     within, body_begins, body_ends = False, None, None
     for line in lines:
         indent = line[: len(line) - len(line.lstrip())]
         if body_ends is not None:
             body_ends = None if line == body_ends else body_ends
+            continue
+        if line.startswith("#[tactic(", len(indent)):
             continue
         if re.match(r"\s*(pub(\([a-z]+\))? )?(const )?(unsafe )?fn ", line):
             within, body_begins = True, indent
