@@ -2,7 +2,7 @@
 # cases on the built program. make install PREFIX=..: the built program with its manual page and completions.
 .PHONY: test all-edits cases demo look install kit
 PROGRAM = crates/rxbatch/out/rxbatch
-TRIALS = crates/bench_calls/out/bench_calls
+TRIALS = crates/rx_bench/out/rx_bench
 JOB = examples/first_job
 PREFIX = /usr/local
 DESTDIR =
@@ -44,7 +44,7 @@ cases: kit
 	python3 tests/run_verify.py $(PROGRAM)
 	python3 tests/run_replies.py $(PROGRAM)
 	python3 tests/run_report.py $(PROGRAM)
-	test -x $(TRIALS) || (cd crates/bench_calls && rt run -- orders 1 > /dev/null)
+	test -x $(TRIALS) || (cd crates/rx_bench && rt run -- orders 1 > /dev/null)
 	python3 tests/run_held.py $(TRIALS)
 	if command -v cc > /dev/null; then python3 tests/refused_memory.py $(PROGRAM) && \
 	  python3 tests/refused_memory.py "$(TRIALS) held 0" --workers 2; fi

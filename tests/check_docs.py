@@ -133,7 +133,7 @@ def meets(told_parameters, told_answer, functions):
 def passed_on(crate, crates):
     """The functions of the crate and those that it passes on; the program's calls are those of its words."""
     found = functions_of(crates / crate)
-    others = [("rx_words", None)] * (crate == "rxbatch")
+    others = [("rx_cli", None)] * (crate == "rxbatch")
     for path in (crates / crate / "src").glob("*.rt"):
         others += re.findall(r"pub use (rx_\w+)::([^;]+);", path.read_text())
     for other, names in others:
@@ -278,7 +278,7 @@ def check_wrong_bodies(root, checks):
             elif "/" not in name:
                 there = crate and (root / f"crates/{crate}/must-fail/{name}.edit").exists()
                 checks.expect(there, f"docs/CARRIED.md: {line}: {crate} has no edit {name}")
-    tests = (root / "crates/rx_edge_tests/src/workers.rt").read_text()
+    tests = (root / "crates/tests_run/src/workers.rt").read_text()
     for line, refused_by in rows_under((root / "tests/README.md").read_text(), "What only the tests of the workers refuse"):
         for name in re.findall(r"`([^`]+)`", refused_by):
             checks.expect(f"#[test]\nfn {name}(" in tests, f"tests/README.md: {line}: rx_wave has no test {name}")

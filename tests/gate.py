@@ -6,7 +6,8 @@ crates below it state: their definitions (`specs/`), their types, and the signat
 functions do it, and how that was proved, decides nothing. So where all of this and the kit's logic are as they were when each
 edit of the crate was last seen refused, trying them again can show nothing new: these crates' edits are set aside while `rt ci`
 runs, and all others are tried. `edits_seen.txt` has a line for each crate: its name, and the digest of these texts, without
-comments and tests, however their lines are laid out.
+comments and tests, however their lines are laid out and in whichever order they import. `renames.txt` has the crates' earlier
+names, by which the digests are made: what was seen refused under an old name stays seen.
 
     gate.py            the gate
     gate.py --all      the gate with the edits of all crates
@@ -33,6 +34,7 @@ import time
 
 TOP = os.path.dirname(os.path.dirname(os.path.abspath(__file__)))
 SEEN = f"{TOP}/tests/edits_seen.txt"
+RENAMES = f"{TOP}/tests/renames.txt"
 ASIDE = f"{TOP}/out/edits-aside"
 OWN = ("src", "specs", "proofs", "must-fail")
 STATED = ("src", "specs")
@@ -62,6 +64,12 @@ def crates_below(top):
     return {crate: of(crate) for crate in direct}
 
 
+def earlier_names():
+    """Each renamed crate's earlier name."""
+    lines = [line.split() for line in open(RENAMES, encoding="utf-8") if line.strip() and not line.startswith("#")]
+    return {now: earlier for earlier, now in lines}
+
+
 def is_test(path):
     """Whether a file of a crate has tests alone."""
     return "tests" in path.removesuffix(".rt").split("/")
@@ -77,8 +85,10 @@ def words_of(lines):
     """The words of a text, however it is laid out: in lines or in one, a list's last comma, names taken in one `use` or in several."""
     text = " ".join(" ".join(lines).split())
     text = re.sub(r"(?<=[(\[{]) | (?=[)\]}])", "", re.sub(r"[,;] ?(?=[)\]}])", "", text))
-    names = r"((?:ghost |pub )?use [^{};\s]*)\.\{([^{}]*)\};?"
-    return re.sub(names, lambda it: " ".join(f"{it[1]}.{name}" for name in it[2].split(", ")), text)
+    names = r"((?:ghost |pub )?use [^{};\s]*(?:\.|::))\{([^{}]*)\};?"
+    text = re.sub(names, lambda it: " ".join(f"{it[1]}{name}" for name in it[2].split(", ")), text)
+    imports = r"(?:ghost |pub )?use [^{};\s]+;?"
+    return " ".join([re.sub(f"{imports} ?", "", text), *sorted(re.findall(imports, text))])
 
 
 def stated(lines):
@@ -112,16 +122,23 @@ def texts_of(top, crate, parts):
                     yield path, said(open(f"{at}/{name}", encoding="utf-8").read())
 
 
-def digest(top, crate, below, logic):
-    """A number of all that decides whether the crate's edits are refused."""
+def digest(top, crate, below, logic, earlier):
+    """A number of all that decides whether the crate's edits are refused; crates stand by their earlier names."""
+    crate_name = re.compile(r"\b(" + "|".join(earlier) + r")\b") if earlier else re.compile(r"(?!)")
+
+    def by_earlier_names(lines):
+        return [crate_name.sub(lambda it: earlier[it[0]], line) for line in lines]
+
     found = hashlib.sha256(logic.encode())
     for path, lines in texts_of(top, crate, OWN):
+        lines = by_earlier_names(lines)
         words = "\n".join(lines) if path.endswith(".edit") else words_of(lines)
         found.update(f"\0{path}\n{words}".encode())
-    for name in sorted(below):
+    for name in sorted(below, key=lambda it: earlier.get(it, it)):
         for path, lines in texts_of(top, name, STATED):
+            lines = by_earlier_names(lines)
             words = words_of(stated(lines) if path.endswith(".rt") else lines)
-            found.update(f"\0{name}/{path}\n{words}".encode())
+            found.update(f"\0{earlier.get(name, name)}/{path}\n{words}".encode())
     return found.hexdigest()[:32]
 
 
@@ -135,8 +152,8 @@ def digests(top):
     """The digest of each crate that has edits."""
     version = subprocess.run(["rt", "version"], capture_output=True, text=True, check=True).stdout
     logic = version.split()[-1]
-    below = crates_below(top)
-    return {it: digest(top, it, below[it], logic) for it in edited(top)}
+    below, earlier = crates_below(top), earlier_names()
+    return {it: digest(top, it, below[it], logic, earlier) for it in edited(top)}
 
 
 def read_seen():

@@ -3,7 +3,7 @@
 
     tests/refused_desk.py PROGRAM [--jobs N] [--step N] [--seconds S]
 
-PROGRAM is `crates/bench_calls/out/bench_calls orders`, a command line. A library is compiled with `cc` from refused_memory.c
+PROGRAM is `crates/rx_bench/out/rx_bench orders`, a command line. A library is compiled with `cc` from refused_memory.c
 beside this file and preloaded into it; without `cc` nothing can be tried. The program makes a refused desk again, and asks a
 refused `next` and a refused adjudication once more; each job then ends as in file order, and it counts the refusals that
 `next` met. Where the refusal meets its own lists it says that memory was wanting. Any other end fails. The sweep goes on

@@ -3,7 +3,7 @@
 
     tests/run_held.py PROGRAM
 
-PROGRAM is the built bench_calls, or a command line. For 2, 3 and 64 workers the outputs have to be those of the case, every
+PROGRAM is the built rx_bench, or a command line. For 2, 3 and 64 workers the outputs have to be those of the case, every
 record has to pass the gate once, and the two have to meet. The last line is `N passed, M failed`.
 """
 

@@ -12,25 +12,25 @@ use Rattle.std.proofs.lemmas.Bool.Decides.{nat_tests}
 use Rattle.std.proofs.lemmas.List.Elements.{All-weaker}
 use Rattle.std.proofs.lemmas.List.Sums.{AllPass-from_list_all}
 use Rattle.rx_fields.specs.Order.{id_cmp}
-use Rattle.rx_order.specs.Ascending.{has_key}
-use Rattle.rx_claim.specs.declared.transaction.Transaction.{Transaction}
-use Rattle.rx_claim.specs.declared.transaction.Transaction.TheVariants.{Bill, Reverse, Faulty}
-use Rattle.rx_claim.specs.declared.transmission.Body.{Body}
-use Rattle.rx_claim.specs.declared.transmission.Body.TheVariants.{Rejected, Heard}
-use Rattle.rx_claim.specs.declared.transmission.Heard.{Heard as HeardRecord}
+use Rattle.rx_sorted.specs.Ascending.{has_key}
+use Rattle.rx_d0_values.specs.declared.transaction.Transaction.{Transaction}
+use Rattle.rx_d0_values.specs.declared.transaction.Transaction.TheVariants.{Bill, Reverse, Faulty}
+use Rattle.rx_d0_values.specs.declared.transmission.Body.{Body}
+use Rattle.rx_d0_values.specs.declared.transmission.Body.TheVariants.{Rejected, Heard}
+use Rattle.rx_d0_values.specs.declared.transmission.Heard.{Heard as HeardRecord}
 use Rattle.rx_ledger.specs.declared.member.MemberKey.{MemberKey}
 use Rattle.rx_ledger.specs.declared.row.Row.{Row}
 use Rattle.rx_ledger.specs.Basis.{Holds, HoldsRecord}
 use Rattle.rx_ledger.specs.Ledger.{Ledger, is_listed, members_of, row_under, rows_of}
 use Rattle.rx_ledger.specs.Members.{member_cmp, member_key, of_family, person_in}
 use Rattle.rx_ledger.specs.Named.{key_in}
-use Rattle.rx_parcels.specs.Books.{OfFamily, OfKey}
-use Rattle.rx_parcels.specs.FamilyBook.{FamilyBook, has_person, own_ledger}
-use Rattle.rx_parcels.specs.Footprints.{fits_body, fits_one, names, names_holder}
-use Rattle.rx_parcels.specs.Parcels.{ParcelParts, family_at, ledger_in, ledger_of_family, member_at, named_in, rows_at}
-use Rattle.rx_parcels.proofs.Held.{family_found, members_read, period_found, rows_read}
-use Rattle.rx_parcels.proofs.Families.{persons_found}
-use Rattle.rx_parcels.proofs.Parts.{find_filter}
+use Rattle.rx_books_parcel.specs.Books.{OfFamily, OfKey}
+use Rattle.rx_books_parcel.specs.FamilyBook.{FamilyBook, has_person, own_ledger}
+use Rattle.rx_books_parcel.specs.Footprints.{fits_body, fits_one, names, names_holder}
+use Rattle.rx_books_parcel.specs.Parcels.{ParcelParts, family_at, ledger_in, ledger_of_family, member_at, named_in, rows_at}
+use Rattle.rx_books_parcel.proofs.Held.{family_found, members_read, period_found, rows_read}
+use Rattle.rx_books_parcel.proofs.Families.{persons_found}
+use Rattle.rx_books_parcel.proofs.Parts.{find_filter}
 use Rattle.rx_adjudicate.specs.Scopes.{IsAgreed, scope_in, used_over}
 
 -- ---- what a record asks

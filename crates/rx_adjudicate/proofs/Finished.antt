@@ -1,11 +1,11 @@
 -- What an order has come to, where the ledger of its parcel is the record's.
 use Rattle.std.proofs.Common.{◌≡◌, Some, sym, ap, ◌∙◌}
-use Rattle.rx_claim.specs.declared.reply.Reply.{Reply}
+use Rattle.rx_d0_values.specs.declared.reply.Reply.{Reply}
 use Rattle.rx_ledger.specs.Basis.{Scope}
-use Rattle.rx_parcels.specs.Books.{Book, OfFamily, OfKey, book}
-use Rattle.rx_parcels.specs.Footprints.{names}
-use Rattle.rx_parcels.specs.Parcels.{IsParcel, ParcelParts, ledger_in, named_in}
-use Rattle.rx_parcels.proofs.Held.{books_are}
+use Rattle.rx_books_parcel.specs.Books.{Book, OfFamily, OfKey, book}
+use Rattle.rx_books_parcel.specs.Footprints.{names}
+use Rattle.rx_books_parcel.specs.Parcels.{IsParcel, ParcelParts, ledger_in, named_in}
+use Rattle.rx_books_parcel.proofs.Held.{books_are}
 use Rattle.rx_adjudicate.specs.Orders.{IsDone, OrderParts, ledger_of, reply_of}
 use Rattle.rx_adjudicate.specs.Scopes.{IsAgreed, scope_in}
 use Rattle.rx_adjudicate.proofs.Names.{footprint_of, same_names}

@@ -1,14 +1,14 @@
 -- Meaning: a record with the parcel that it is adjudicated on, and what comes of it.
 use Rattle.std.specs.Prelude.{◌≡◌, ℕ, ◌≤◌, true}
 use Rattle.rx_fields.specs.declared.limits.TheConstants.{MOST_DETAILS}
-use Rattle.rx_claim.specs.declared.reply.Reply.{Reply}
-use Rattle.rx_claim.specs.declared.transmission.Transmission.{Transmission}
+use Rattle.rx_d0_values.specs.declared.reply.Reply.{Reply}
+use Rattle.rx_d0_values.specs.declared.transmission.Transmission.{Transmission}
 use Rattle.rx_ledger.specs.Fold.{ledger_after, reply_to}
 use Rattle.rx_ledger.specs.Ledger.{Ledger}
 use Rattle.rx_ledger.specs.TermList.{TermParts, plan_of}
-use Rattle.rx_parcels.specs.Books.{Book, book}
-use Rattle.rx_parcels.specs.Footprints.{fits, names}
-use Rattle.rx_parcels.specs.Parcels.{Agrees, ParcelParts, ledger_in, named_in, values_of}
+use Rattle.rx_books_parcel.specs.Books.{Book, book}
+use Rattle.rx_books_parcel.specs.Footprints.{fits, names}
+use Rattle.rx_books_parcel.specs.Parcels.{Agrees, ParcelParts, ledger_in, named_in, values_of}
 
 -- the parcel has the books of the record on its own ledger, they agree, and their totals are of the terms' period
 pub record Fits (t : Transmission) (terms : TermParts) (p : ParcelParts) : Type 0 where

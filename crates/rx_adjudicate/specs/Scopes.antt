@@ -5,9 +5,9 @@ use Rattle.rx_ledger.specs.declared.row.Row.{Row}
 use Rattle.rx_ledger.specs.declared.share.Used.{Used}
 use Rattle.rx_ledger.specs.Basis.{Scope}
 use Rattle.rx_ledger.specs.Sums.{deductible_in, family_deductible_in, out_of_pocket_in}
-use Rattle.rx_parcels.specs.Books.{OfFamily, OfKey}
-use Rattle.rx_parcels.specs.Footprints.{names}
-use Rattle.rx_parcels.specs.Parcels.{Agrees, IsParcel, ParcelParts, named_in}
+use Rattle.rx_books_parcel.specs.Books.{OfFamily, OfKey}
+use Rattle.rx_books_parcel.specs.Footprints.{names}
+use Rattle.rx_books_parcel.specs.Parcels.{Agrees, IsParcel, ParcelParts, named_in}
 
 -- its fill keys, its families with their members, and the sums of its period
 abbrev pub scope_in : ParcelParts → Scope

@@ -1,14 +1,14 @@
 ghost use Rattle.std.specs.Prelude.{◌≡◌, ◌≤◌, true};
 ghost use Rattle.std.specs.List.{list_any};
 ghost use Rattle.rx_ledger.specs.Answers.{is_too_soon};
-ghost use Rattle.rx_parcels.specs.FamilyBook.{has_person};
-ghost use Rattle.rx_parcels.specs.Parcels.{Agrees, IsParcel};
+ghost use Rattle.rx_books_parcel.specs.FamilyBook.{has_person};
+ghost use Rattle.rx_books_parcel.specs.Parcels.{Agrees, IsParcel};
 ghost use Rattle.rx_adjudicate.specs.Scopes.{IsAgreed, used_over};
 
-use rx_claim::Bill;
+use rx_books_parcel::{Family, Parcel};
+use rx_d0_values::Bill;
 use rx_fields::{Day, Id, Key, Memory, Person};
 use rx_ledger::{Basis, Figures, Member, MemberKey, Row, Used, is_too_soon};
-use rx_parcels::{Family, Parcel};
 use std::marker::Model;
 
 /// A parcel whose books agree: it answers as the ledger of its books alone.
@@ -18,7 +18,7 @@ pub(crate) struct Agreed {
 }
 
 impl Model for Agreed {
-    ghost use Rattle.rx_parcels.specs.Parcels.{ParcelParts};
+    ghost use Rattle.rx_books_parcel.specs.Parcels.{ParcelParts};
     ghost use Rattle.rx_adjudicate.specs.Scopes.{IsAgreed};
 
     ghost Value = { ParcelParts };
@@ -50,7 +50,7 @@ impl Agreed {
 }
 
 impl Basis for Agreed {
-    ghost use Rattle.rx_parcels.specs.Parcels.{ledger_in};
+    ghost use Rattle.rx_books_parcel.specs.Parcels.{ledger_in};
     ghost use Rattle.rx_adjudicate.specs.Scopes.{scope_in};
 
     ghost ledger = { ledger_in };

@@ -3,10 +3,10 @@ ghost use Rattle.rx_adjudicate.specs.Orders.{IsDone, IsOrder};
 
 use crate::agreed::Agreed;
 use crate::order::Order;
-use rx_claim::Reply;
+use rx_books_parcel::Parcel;
+use rx_d0_values::Reply;
 use rx_fields::Memory;
 use rx_ledger::answer_record;
-use rx_parcels::Parcel;
 use std::alloc::Global;
 use std::marker::Model;
 

@@ -2,15 +2,15 @@ ghost use Rattle.std.specs.Prelude.{◌≡◌, ◌↔◌, ◌&&◌, IsTrue};
 ghost use Rattle.std.specs.List.{list_all};
 ghost use Rattle.rx_ledger.specs.Ledger.{row_under};
 ghost use Rattle.rx_ledger.specs.Named.{key_in};
-ghost use Rattle.rx_parcels.specs.Books.{OfKey};
-ghost use Rattle.rx_parcels.specs.Footprints.{fits, fits_one, names, names_holder};
-ghost use Rattle.rx_parcels.specs.Parcels.{Agrees, IsParcel, ledger_in, named_in};
+ghost use Rattle.rx_books_parcel.specs.Books.{OfKey};
+ghost use Rattle.rx_books_parcel.specs.Footprints.{fits, fits_one, names, names_holder};
+ghost use Rattle.rx_books_parcel.specs.Parcels.{Agrees, IsParcel, ledger_in, named_in};
 ghost use Rattle.rx_adjudicate.specs.Orders.{Fits};
 
-use rx_claim::{Body, Heard, Transaction, Transmission};
+use rx_books_parcel::Parcel;
+use rx_d0_values::{Body, Heard, Transaction, Transmission};
 use rx_fields::{Key, Reference};
 use rx_ledger::{Row, Terms};
-use rx_parcels::Parcel;
 
 /// Whether a parcel is enough for a record: it holds the books of each fill key and family that the record names, and
 /// of the family of the row under each reversed key that has one; its books agree; its period is that of the terms.

@@ -2,7 +2,7 @@
 //!
 //! In comes an `Order`, a record with its place, its terms and the parcel of its books; out comes a `Done`, the order
 //! with the reply to it and the parcel after it. What they keep stands in `specs/Orders.antt`; that this is what the
-//! record makes of the whole ledger is `rx_parcels`'s law of locality.
+//! record makes of the whole ledger is `rx_books_parcel`'s law of locality.
 //!
 //! ```rust
 //! let done = adjudicate(alloc, order)?;

@@ -2,10 +2,10 @@ ghost use Rattle.std.specs.Prelude.{◌≡◌, ◌≤◌, ◌↔◌, IfOk, IsTru
 ghost use Rattle.rx_fields.specs.declared.limits.TheConstants.{MOST_DETAILS};
 ghost use Rattle.rx_adjudicate.specs.Orders.{Fits, IsOrder};
 
-use rx_claim::Transmission;
+use rx_books_parcel::Parcel;
+use rx_d0_values::Transmission;
 use rx_fields::Memory;
 use rx_ledger::Terms;
-use rx_parcels::Parcel;
 use std::alloc::Global;
 use std::marker::Model;
 
@@ -89,7 +89,7 @@ impl Order {
     }
 }
 
-ghost use Rattle.rx_claim.specs.Same.{same, same_laws, same_equivalence};
+ghost use Rattle.rx_d0_values.specs.Same.{same, same_laws, same_equivalence};
 ghost use Rattle.rx_adjudicate.specs.contracts.order.Order.{the_row as order_row};
 
 impl PartialEq for Order {

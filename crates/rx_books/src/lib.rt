@@ -1,7 +1,7 @@
 //! The books: members and standing claims with their totals, read, kept and written, opened for a batch, and split into
 //! parcels.
 //!
-//! `Books` and `OpenBooks` are those of `rx_books_kept`; `Footprint`, `Family` and `Parcel` those of `rx_parcels`; `Shelf`
+//! `Books` and `OpenBooks` are those of `rx_books_store`; `Footprint`, `Family` and `Parcel` those of `rx_books_parcel`; `Shelf`
 //! is that of `rx_books_shelf`.
 //!
 //! ```rust
@@ -10,6 +10,6 @@
 //! ```
 #![tactic(auto)]
 
-pub use rx_books_kept::{Books, OpenBooks, Standing};
+pub use rx_books_parcel::{Family, Footprint, KeyBook, Parcel};
 pub use rx_books_shelf::{GiveFault, Shelf, TakeFault};
-pub use rx_parcels::{Family, Footprint, KeyBook, Parcel};
+pub use rx_books_store::{Books, OpenBooks, Standing};

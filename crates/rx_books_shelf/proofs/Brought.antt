@@ -4,15 +4,15 @@ use Rattle.std.specs.Prelude.{IfSome}
 use Rattle.std.specs.Option.{is_some, option_copied}
 use Rattle.rx_fields.specs.Order.{key_cmp}
 use Rattle.rx_fields.specs.declared.key.Key.{Key}
-use Rattle.rx_order.specs.Ascending.{IsAscending, put, without}
-use Rattle.rx_order.specs.Overlaid.{written}
-use Rattle.rx_order.proofs.Edits.{put-without, without_absent}
-use Rattle.rx_order.proofs.LookUps.{item_at-without_same}
+use Rattle.rx_sorted.specs.Ascending.{IsAscending, put, without}
+use Rattle.rx_sorted.specs.Overlaid.{written}
+use Rattle.rx_sorted.proofs.Edits.{put-without, without_absent}
+use Rattle.rx_sorted.proofs.LookUps.{item_at-without_same}
 use Rattle.rx_ledger.specs.declared.row.Row.{Row}
 use Rattle.rx_ledger.specs.Ledger.{is_taken, row_under}
 use Rattle.rx_ledger.specs.Rows.{row_key}
 use Rattle.rx_ledger.proofs.Orders.{key_total}
-use Rattle.rx_books_kept.specs.OpenBooks.{OpenParts, open_with, open_without}
+use Rattle.rx_books_store.specs.OpenBooks.{OpenParts, open_with, open_without}
 use Rattle.rx_places.specs.declared.place.KeyPlace.{KeyPlace}
 use Rattle.rx_places.specs.Shelves.{HoldsOwnRow, place_key, row_held}
 use Rattle.rx_books_shelf.specs.Closed.{with_place}

@@ -10,13 +10,13 @@ use Rattle.std.proofs.lemmas.Cmp.{tied_itself}
 use Rattle.std.proofs.lemmas.List.Elements.{All-contains, All-contains_itself, All-weaker}
 use Rattle.rx_fields.specs.Order.{id_cmp, key_cmp}
 use Rattle.rx_fields.specs.declared.key.Key.{Key}
-use Rattle.rx_order.specs.Ascending.{contains_key, item_at}
-use Rattle.rx_order.specs.Overlaid.{overlaid}
-use Rattle.rx_order.proofs.Edits.{same_members}
-use Rattle.rx_order.proofs.Filters.{Contains-filter, Contains-filter_kept}
-use Rattle.rx_order.proofs.Keys.{Equal-from_is_eq}
-use Rattle.rx_order.proofs.Kept.{IsAscending-filter}
-use Rattle.rx_order.proofs.LookUps.{item_at-found, item_at-from_contains, item_at-tied}
+use Rattle.rx_sorted.specs.Ascending.{contains_key, item_at}
+use Rattle.rx_sorted.specs.Overlaid.{overlaid}
+use Rattle.rx_sorted.proofs.Edits.{same_members}
+use Rattle.rx_sorted.proofs.Filters.{Contains-filter, Contains-filter_kept}
+use Rattle.rx_sorted.proofs.Keys.{Equal-from_is_eq}
+use Rattle.rx_sorted.proofs.Kept.{IsAscending-filter}
+use Rattle.rx_sorted.proofs.LookUps.{item_at-found, item_at-from_contains, item_at-tied}
 use Rattle.rx_ledger.specs.declared.member.Member.{Member}
 use Rattle.rx_ledger.specs.declared.member.MemberKey.{MemberKey}
 use Rattle.rx_ledger.specs.declared.row.Row.{Row}
@@ -24,11 +24,11 @@ use Rattle.rx_ledger.specs.Ledger.{Ledger, is_listed, members_of}
 use Rattle.rx_ledger.specs.Members.{member_cmp, member_key, of_family}
 use Rattle.rx_ledger.specs.Rows.{claimed_by, member_of_row, row_key}
 use Rattle.rx_ledger.proofs.Orders.{id_exact, id_total, key_total, member_total}
-use Rattle.rx_parcels.specs.Books.{Book, OfFamily, OfKey, book, has_member}
-use Rattle.rx_parcels.specs.FamilyBook.{FamilyBook}
-use Rattle.rx_parcels.specs.Parcels.{ledger_of_family}
-use Rattle.rx_parcels.proofs.Agreed.{IsValue}
-use Rattle.rx_parcels.proofs.Parts.{ledger_path}
+use Rattle.rx_books_parcel.specs.Books.{Book, OfFamily, OfKey, book, has_member}
+use Rattle.rx_books_parcel.specs.FamilyBook.{FamilyBook}
+use Rattle.rx_books_parcel.specs.Parcels.{ledger_of_family}
+use Rattle.rx_books_parcel.proofs.Agreed.{IsValue}
+use Rattle.rx_books_parcel.proofs.Parts.{ledger_path}
 use Rattle.rx_places.specs.declared.place.FamilyPlace.{FamilyPlace}
 use Rattle.rx_places.specs.declared.place.KeyPlace.{KeyPlace}
 use Rattle.rx_places.specs.Amended.{is_among}

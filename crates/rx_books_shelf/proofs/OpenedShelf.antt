@@ -9,22 +9,22 @@ use Rattle.std.proofs.lemmas.Bool.{cases_Bool}
 use Rattle.std.proofs.lemmas.List.Elements.{All-cons, All-head, All-nil, All-tail, All-weaker}
 use Rattle.rx_fields.specs.Order.{id_cmp, key_cmp}
 use Rattle.rx_fields.specs.declared.key.Key.{Key}
-use Rattle.rx_order.specs.Ascending.{IsAscending, contains_key, has_key, item_at}
-use Rattle.rx_order.proofs.Edits.{same_members}
-use Rattle.rx_order.proofs.Filters.{filter_none}
-use Rattle.rx_order.proofs.Joined.{IsAscending-joined}
-use Rattle.rx_order.proofs.Keys.{Equal-from_is_eq, item_at-below}
-use Rattle.rx_order.proofs.LookUps.{item_at-found, item_at-map, item_at-tied}
+use Rattle.rx_sorted.specs.Ascending.{IsAscending, contains_key, has_key, item_at}
+use Rattle.rx_sorted.proofs.Edits.{same_members}
+use Rattle.rx_sorted.proofs.Filters.{filter_none}
+use Rattle.rx_sorted.proofs.Joined.{IsAscending-joined}
+use Rattle.rx_sorted.proofs.Keys.{Equal-from_is_eq, item_at-below}
+use Rattle.rx_sorted.proofs.LookUps.{item_at-found, item_at-map, item_at-tied}
 use Rattle.rx_ledger.specs.declared.member.Member.{Member}
 use Rattle.rx_ledger.specs.declared.row.Row.{Row}
 use Rattle.rx_ledger.specs.Ledger.{IsLedger, Ledger, row_under}
 use Rattle.rx_ledger.specs.Rows.{row_key}
 use Rattle.rx_ledger.proofs.Orders.{id_exact, id_total, key_exact, key_total}
-use Rattle.rx_parcels.specs.Books.{Book, OfFamily, OfKey, book, has_member, has_row}
-use Rattle.rx_parcels.specs.FamilyBook.{FamilyBook, IsOwn}
-use Rattle.rx_parcels.specs.Footprints.{FootprintParts, IsFootprint, itself, names}
-use Rattle.rx_parcels.proofs.Parts.{ledger_path}
-use Rattle.rx_books_kept.specs.LedgerBooks.{LedgerBooks}
+use Rattle.rx_books_parcel.specs.Books.{Book, OfFamily, OfKey, book, has_member, has_row}
+use Rattle.rx_books_parcel.specs.FamilyBook.{FamilyBook, IsOwn}
+use Rattle.rx_books_parcel.specs.Footprints.{FootprintParts, IsFootprint, itself, names}
+use Rattle.rx_books_parcel.proofs.Parts.{ledger_path}
+use Rattle.rx_books_store.specs.LedgerBooks.{LedgerBooks}
 use Rattle.rx_places.specs.declared.place.FamilyPlace.{FamilyPlace}
 use Rattle.rx_places.specs.declared.place.KeyPlace.{KeyPlace}
 use Rattle.rx_places.specs.Shelves.{HoldsOwnBook, HoldsOwnRow, IsShelf, ShelfParts, family_place, family_value_or}

@@ -12,10 +12,10 @@ use Rattle.std.proofs.lemmas.Bool.{and_from, and_parts, cases_Bool}
 use Rattle.std.proofs.lemmas.Cmp.{tied_itself}
 use Rattle.std.proofs.lemmas.List.Elements.{All-cons, All-head, All-nil, All-tail, All-weaker}
 use Rattle.rx_fields.specs.Order.{id_cmp, key_cmp}
-use Rattle.rx_order.specs.Ascending.{IsAscending, IsAt, IsBelow, contains_key, is_past, item_at, put, put_all}
-use Rattle.rx_order.proofs.Edits.{put-past, put_all-nil}
-use Rattle.rx_order.proofs.Kept.{IsAscending-filter}
-use Rattle.rx_order.proofs.LookUps.{item_at-filter_kept, item_at-found}
+use Rattle.rx_sorted.specs.Ascending.{IsAscending, IsAt, IsBelow, contains_key, is_past, item_at, put, put_all}
+use Rattle.rx_sorted.proofs.Edits.{put-past, put_all-nil}
+use Rattle.rx_sorted.proofs.Kept.{IsAscending-filter}
+use Rattle.rx_sorted.proofs.LookUps.{item_at-filter_kept, item_at-found}
 use Rattle.rx_ledger.specs.declared.member.Member.{Member}
 use Rattle.rx_ledger.specs.declared.member.MemberKey.{MemberKey}
 use Rattle.rx_ledger.specs.declared.row.Row.{Row}
@@ -23,7 +23,7 @@ use Rattle.rx_ledger.specs.Ledger.{Ledger, is_listed, members_of, rows_of}
 use Rattle.rx_ledger.specs.Members.{is_same, member_cmp, member_key, of_family}
 use Rattle.rx_ledger.specs.Rows.{claimed_by, member_of_row, row_key}
 use Rattle.rx_ledger.proofs.Orders.{id_exact, id_total, key_total, member_exact, member_total}
-use Rattle.rx_parcels.specs.FamilyBook.{FamilyBook, book_with_member, book_with_row, family_of, own_ledger}
+use Rattle.rx_books_parcel.specs.FamilyBook.{FamilyBook, book_with_member, book_with_row, family_of, own_ledger}
 use Rattle.rx_books_shelf.specs.Gathered.{with_members, with_own_member, with_own_row, with_rows}
 use Rattle.rx_places.specs.Moving.{one_at}
 use Rattle.rx_places.proofs.Moving.{over_absent, over_at}

@@ -11,21 +11,21 @@ use Rattle.std.proofs.lemmas.List.Elements.{All-contains, All-contains_itself, A
 use Rattle.std.proofs.lemmas.List.Sums.{AllPass-from_list_all, list_all-from_AllPass}
 use Rattle.rx_fields.specs.Order.{id_cmp, key_cmp}
 use Rattle.rx_fields.specs.declared.key.Key.{Key}
-use Rattle.rx_order.specs.Ascending.{item_at}
-use Rattle.rx_order.proofs.Edits.{same_item}
-use Rattle.rx_order.proofs.Filters.{Contains-filter, Contains-filter_kept}
-use Rattle.rx_order.proofs.Keys.{Equal-from_is_eq}
-use Rattle.rx_order.proofs.LookUps.{item_at-found, item_at-from_contains}
+use Rattle.rx_sorted.specs.Ascending.{item_at}
+use Rattle.rx_sorted.proofs.Edits.{same_item}
+use Rattle.rx_sorted.proofs.Filters.{Contains-filter, Contains-filter_kept}
+use Rattle.rx_sorted.proofs.Keys.{Equal-from_is_eq}
+use Rattle.rx_sorted.proofs.LookUps.{item_at-found, item_at-from_contains}
 use Rattle.rx_ledger.specs.declared.row.Row.{Row}
 use Rattle.rx_ledger.specs.Ledger.{Ledger, row_under}
 use Rattle.rx_ledger.specs.Rows.{row_key}
 use Rattle.rx_ledger.proofs.Decided.{row_decides}
 use Rattle.rx_ledger.proofs.Orders.{id_exact, id_total, key_exact, key_total}
-use Rattle.rx_parcels.specs.Agreement.{is_found}
-use Rattle.rx_parcels.specs.Books.{Book, OfFamily, OfKey, book, has_row}
-use Rattle.rx_parcels.specs.FamilyBook.{FamilyBook}
-use Rattle.rx_parcels.specs.Parcels.{ledger_of_family}
-use Rattle.rx_parcels.proofs.Agreed.{IsValue}
+use Rattle.rx_books_parcel.specs.Agreement.{is_found}
+use Rattle.rx_books_parcel.specs.Books.{Book, OfFamily, OfKey, book, has_row}
+use Rattle.rx_books_parcel.specs.FamilyBook.{FamilyBook}
+use Rattle.rx_books_parcel.specs.Parcels.{ledger_of_family}
+use Rattle.rx_books_parcel.proofs.Agreed.{IsValue}
 use Rattle.rx_places.specs.declared.place.FamilyPlace.{FamilyPlace}
 use Rattle.rx_places.specs.declared.place.KeyPlace.{KeyPlace}
 use Rattle.rx_places.specs.Shelves.{AreAllAgreed, IsShelf, ShelfParts, are_all_in, family_place, family_value_or, has_slot, key_place}

@@ -13,18 +13,18 @@ use Rattle.rx_fields.specs.Numbered.{Span}
 use Rattle.rx_fields.specs.Order.{id_cmp, key_cmp}
 use Rattle.rx_fields.specs.declared.key.Key.{Key}
 use Rattle.rx_fields.specs.contracts.period.PeriodPartialEq.TheImpl.{ghosts as period}
-use Rattle.rx_order.specs.Ascending.{IsAscending, IsBelow, contains_key, item_at}
-use Rattle.rx_order.proofs.Keys.{IsBelow-append}
-use Rattle.rx_order.proofs.LookUps.{item_at-found}
+use Rattle.rx_sorted.specs.Ascending.{IsAscending, IsBelow, contains_key, item_at}
+use Rattle.rx_sorted.proofs.Keys.{IsBelow-append}
+use Rattle.rx_sorted.proofs.LookUps.{item_at-found}
 use Rattle.rx_ledger.specs.declared.row.Row.{Row}
 use Rattle.rx_ledger.proofs.Decided.{period_decides}
 use Rattle.rx_ledger.proofs.Orders.{id_exact, id_total, key_exact, key_total}
-use Rattle.rx_parcels.specs.declared.key_book.KeyBook.{KeyBook}
-use Rattle.rx_parcels.specs.Books.{OfFamily, OfKey}
-use Rattle.rx_parcels.specs.FamilyBook.{FamilyBook, IsOwn, family_of}
-use Rattle.rx_parcels.specs.Footprints.{FootprintParts, itself}
-use Rattle.rx_parcels.specs.Parcels.{HasOwnRow, IsParcel, ParcelParts, key_of, named_in}
-use Rattle.rx_books_kept.specs.LedgerBooks.{LedgerBooks}
+use Rattle.rx_books_parcel.specs.declared.key_book.KeyBook.{KeyBook}
+use Rattle.rx_books_parcel.specs.Books.{OfFamily, OfKey}
+use Rattle.rx_books_parcel.specs.FamilyBook.{FamilyBook, IsOwn, family_of}
+use Rattle.rx_books_parcel.specs.Footprints.{FootprintParts, itself}
+use Rattle.rx_books_parcel.specs.Parcels.{HasOwnRow, IsParcel, ParcelParts, key_of, named_in}
+use Rattle.rx_books_store.specs.LedgerBooks.{LedgerBooks}
 use Rattle.rx_places.specs.declared.place.FamilyPlace.{FamilyPlace}
 use Rattle.rx_places.specs.declared.place.KeyPlace.{KeyPlace}
 use Rattle.rx_places.specs.Shelves.{HoldsOwnBook, HoldsOwnRow, IsOwnBook, IsShelf, ShelfParts, is_family_out, is_key_out}

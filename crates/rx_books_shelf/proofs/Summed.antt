@@ -7,8 +7,8 @@ use Rattle.std.specs.Ordering.{is_eq}
 use Rattle.std.proofs.lemmas.Bool.{cases_Bool}
 use Rattle.std.proofs.lemmas.List.Elements.{All-cons, All-contains_itself, All-head, All-tail, All-weaker, filter_passes}
 use Rattle.rx_fields.specs.Order.{id_cmp}
-use Rattle.rx_order.proofs.Filters.{Contains-filter}
-use Rattle.rx_order.proofs.Keys.{Equal-from_is_eq}
+use Rattle.rx_sorted.proofs.Filters.{Contains-filter}
+use Rattle.rx_sorted.proofs.Keys.{Equal-from_is_eq}
 use Rattle.rx_ledger.specs.declared.member.Member.{Member}
 use Rattle.rx_ledger.specs.declared.row.Row.{Row}
 use Rattle.rx_ledger.specs.Ledger.{Ledger, is_listed, members_of, rows_of}
@@ -16,8 +16,8 @@ use Rattle.rx_ledger.specs.Members.{of_family}
 use Rattle.rx_ledger.specs.Rows.{member_of_row}
 use Rattle.rx_ledger.specs.Sums.{deductible, deductible_in, family_deductible, family_deductible_in, out_of_pocket, out_of_pocket_in}
 use Rattle.rx_ledger.proofs.Orders.{id_exact}
-use Rattle.rx_parcels.specs.FamilyBook.{AreTotals, FamilyBook, IsOwn, deductibles_over, own_ledger}
-use Rattle.rx_books_kept.specs.LedgerBooks.{LedgerBooks, has_members}
+use Rattle.rx_books_parcel.specs.FamilyBook.{AreTotals, FamilyBook, IsOwn, deductibles_over, own_ledger}
+use Rattle.rx_books_store.specs.LedgerBooks.{LedgerBooks, has_members}
 use Rattle.rx_books_shelf.specs.Gathered.{own_deductible}
 use Rattle.rx_books_shelf.specs.Opened.{family_book}
 

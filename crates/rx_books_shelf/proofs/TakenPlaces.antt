@@ -6,15 +6,15 @@ use Rattle.std.specs.Option.{is_some, option_and_then, option_map, option_to_lis
 use Rattle.std.proofs.lemmas.Bool.{and_parts}
 use Rattle.rx_fields.specs.Order.{id_cmp, key_cmp}
 use Rattle.rx_fields.specs.declared.key.Key.{Key}
-use Rattle.rx_order.specs.Ascending.{item_at}
-use Rattle.rx_order.proofs.LookUps.{item_at-found}
+use Rattle.rx_sorted.specs.Ascending.{item_at}
+use Rattle.rx_sorted.proofs.LookUps.{item_at-found}
 use Rattle.rx_ledger.specs.declared.row.Row.{Row}
 use Rattle.rx_ledger.proofs.Orders.{key_exact, key_total}
-use Rattle.rx_parcels.specs.declared.key_book.KeyBook.{KeyBook}
-use Rattle.rx_parcels.specs.Books.{OfFamily, OfKey}
-use Rattle.rx_parcels.specs.FamilyBook.{FamilyBook, family_of}
-use Rattle.rx_parcels.specs.Footprints.{FootprintParts}
-use Rattle.rx_parcels.specs.Parcels.{key_of}
+use Rattle.rx_books_parcel.specs.declared.key_book.KeyBook.{KeyBook}
+use Rattle.rx_books_parcel.specs.Books.{OfFamily, OfKey}
+use Rattle.rx_books_parcel.specs.FamilyBook.{FamilyBook, family_of}
+use Rattle.rx_books_parcel.specs.Footprints.{FootprintParts}
+use Rattle.rx_books_parcel.specs.Parcels.{key_of}
 use Rattle.rx_places.specs.declared.place.FamilyPlace.{FamilyPlace}
 use Rattle.rx_places.specs.declared.place.KeyPlace.{KeyPlace}
 use Rattle.rx_places.specs.Moving.{book_at, filled_of, is_in, is_out, with_book as filled_with}

@@ -15,18 +15,18 @@ use Rattle.std.proofs.lemmas.List.Sums.{AllPass-from_list_all}
 use Rattle.std.proofs.lemmas.Map.Lookups.{CmpEqualImpliesEq}
 use Rattle.rx_fields.specs.Order.{id_cmp, key_cmp}
 use Rattle.rx_fields.specs.declared.key.Key.{Key}
-use Rattle.rx_order.specs.Ascending.{IsAscending, contains_key, has_key, item_at}
-use Rattle.rx_order.proofs.Keys.{Equal-from_is_eq}
-use Rattle.rx_order.proofs.LookUps.{item_at-found, item_at-map}
+use Rattle.rx_sorted.specs.Ascending.{IsAscending, contains_key, has_key, item_at}
+use Rattle.rx_sorted.proofs.Keys.{Equal-from_is_eq}
+use Rattle.rx_sorted.proofs.LookUps.{item_at-found, item_at-map}
 use Rattle.rx_ledger.specs.declared.row.Row.{Row}
 use Rattle.rx_ledger.specs.Ledger.{Ledger, empty}
 use Rattle.rx_ledger.proofs.Orders.{id_exact, id_total, key_exact, key_total}
-use Rattle.rx_parcels.specs.declared.key_book.KeyBook.{KeyBook}
-use Rattle.rx_parcels.specs.Books.{Book, OfFamily, OfKey, book}
-use Rattle.rx_parcels.specs.FamilyBook.{FamilyBook, family_of}
-use Rattle.rx_parcels.specs.Footprints.{FootprintParts, itself, names}
-use Rattle.rx_parcels.specs.Parcels.{ParcelParts, family_at, key_of, ledger_of_family, named_in, row_at, values_of}
-use Rattle.rx_parcels.proofs.Held.{family_held, key_held}
+use Rattle.rx_books_parcel.specs.declared.key_book.KeyBook.{KeyBook}
+use Rattle.rx_books_parcel.specs.Books.{Book, OfFamily, OfKey, book}
+use Rattle.rx_books_parcel.specs.FamilyBook.{FamilyBook, family_of}
+use Rattle.rx_books_parcel.specs.Footprints.{FootprintParts, itself, names}
+use Rattle.rx_books_parcel.specs.Parcels.{ParcelParts, family_at, key_of, ledger_of_family, named_in, row_at, values_of}
+use Rattle.rx_books_parcel.proofs.Held.{family_held, key_held}
 use Rattle.rx_places.specs.declared.place.FamilyPlace.{FamilyPlace}
 use Rattle.rx_places.specs.declared.place.KeyPlace.{KeyPlace}
 use Rattle.rx_places.specs.Shelves.{HoldsOwnBook, IsOwnBook, IsShelf, ShelfParts, family_place}

@@ -3,11 +3,11 @@ use Rattle.std.specs.Prelude.{Bool, true, ◌&&◌, List, Option, Some, None}
 use Rattle.std.specs.List.{Contains, list_all}
 use Rattle.rx_fields.specs.Order.{key_cmp}
 use Rattle.rx_fields.specs.declared.key.Key.{Key}
-use Rattle.rx_order.specs.Overlaid.{overlaid, with_slot}
+use Rattle.rx_sorted.specs.Overlaid.{overlaid, with_slot}
 use Rattle.rx_ledger.specs.declared.member.Member.{Member}
 use Rattle.rx_ledger.specs.declared.row.Row.{Row}
 use Rattle.rx_ledger.specs.Rows.{row_key}
-use Rattle.rx_books_kept.specs.OpenBooks.{OpenParts}
+use Rattle.rx_books_store.specs.OpenBooks.{OpenParts}
 use Rattle.rx_places.specs.declared.place.FamilyPlace.{FamilyPlace}
 use Rattle.rx_places.specs.declared.place.KeyPlace.{KeyPlace}
 use Rattle.rx_places.specs.Amended.{is_among, members_held}

@@ -4,12 +4,12 @@ use Rattle.std.specs.List.{list_any}
 use Rattle.rx_fields.specs.Numbered.{Span}
 use Rattle.rx_fields.specs.Order.{id_cmp, key_cmp}
 use Rattle.rx_fields.specs.declared.key.Key.{Key}
-use Rattle.rx_order.specs.Joined.{joined}
+use Rattle.rx_sorted.specs.Joined.{joined}
 use Rattle.rx_ledger.specs.Ledger.{Ledger, members_of, row_under, rows_of}
-use Rattle.rx_parcels.specs.Books.{Book}
-use Rattle.rx_parcels.specs.FamilyBook.{FamilyBook}
-use Rattle.rx_parcels.specs.Footprints.{FootprintParts, itself, names}
-use Rattle.rx_books_kept.specs.LedgerBooks.{LedgerBooks}
+use Rattle.rx_books_parcel.specs.Books.{Book}
+use Rattle.rx_books_parcel.specs.FamilyBook.{FamilyBook}
+use Rattle.rx_books_parcel.specs.Footprints.{FootprintParts, itself, names}
+use Rattle.rx_books_store.specs.LedgerBooks.{LedgerBooks}
 use Rattle.rx_places.specs.declared.place.KeyPlace.{KeyPlace}
 use Rattle.rx_places.specs.declared.place.FamilyPlace.{FamilyPlace}
 use Rattle.rx_places.specs.Shelves.{ShelfParts}

@@ -2,14 +2,14 @@ ghost use Rattle.std.specs.Prelude.{◌≡◌, ◌↔◌, IfErr, IfOk, IfSome, I
 ghost use Rattle.std.specs.List.{All, list_all};
 ghost use Rattle.rx_ledger.specs.Ledger.{IsLedger, is_listed, is_taken};
 ghost use Rattle.rx_ledger.specs.Rows.{member_of_row};
-ghost use Rattle.rx_parcels.specs.Books.{Book, book};
-ghost use Rattle.rx_books_kept.specs.OpenBooks.{open_with, open_without};
+ghost use Rattle.rx_books_parcel.specs.Books.{Book, book};
+ghost use Rattle.rx_books_store.specs.OpenBooks.{open_with, open_without};
 ghost use Rattle.rx_places.specs.Shelves.{AreAllAgreed, HoldsOwnRow, IsShelf, are_all_in, row_held, value_of};
 ghost use Rattle.rx_books_shelf.specs.Closed.{HasSlot, are_members_kept, does_book_keep, is_member_held, open_over, with_place};
 
 use crate::held::row_held;
 use crate::shelf::Shelf;
-use rx_books_kept::{Books, OpenBooks};
+use rx_books_store::{Books, OpenBooks};
 use rx_fields::Key;
 use rx_ledger::{Member, Row};
 use rx_places::{FamilyPlace, KeyPlace, is_among};

@@ -1,8 +1,8 @@
 ghost use Rattle.std.specs.Prelude.{◌≡◌};
 ghost use Rattle.rx_books_shelf.specs.Faults.{give_number, take_number};
 
+use rx_books_parcel::Parcel;
 use rx_fields::Memory;
-use rx_parcels::Parcel;
 
 /// Why no parcel was taken: the first that holds.
 #[derive(Clone, Copy, Debug, PartialEq, Eq)]

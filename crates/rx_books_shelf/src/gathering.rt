@@ -1,18 +1,18 @@
 ghost use Rattle.std.specs.Prelude.{◌≡◌, [], IfOk, OnOk, map, true};
 ghost use Rattle.std.specs.List.{All};
 ghost use Rattle.rx_fields.specs.Order.{id_cmp, key_cmp};
-ghost use Rattle.rx_order.specs.Ascending.{IsAscending, is_past};
+ghost use Rattle.rx_sorted.specs.Ascending.{IsAscending, is_past};
 ghost use Rattle.rx_ledger.specs.Ledger.{is_listed, members_of};
 ghost use Rattle.rx_ledger.specs.Members.{member_cmp, member_key};
 ghost use Rattle.rx_ledger.specs.Rows.{member_of_row, row_key};
-ghost use Rattle.rx_parcels.specs.FamilyBook.{IsOwn, empty_book, family_of, own_ledger};
-ghost use Rattle.rx_parcels.specs.Footprints.{itself};
+ghost use Rattle.rx_books_parcel.specs.FamilyBook.{IsOwn, empty_book, family_of, own_ledger};
+ghost use Rattle.rx_books_parcel.specs.Footprints.{itself};
 ghost use Rattle.rx_books_shelf.specs.Gathered.{with_members, with_own_member, with_own_row, with_rows};
 ghost use Rattle.rx_books_shelf.specs.Opened.{family_book};
 
 use crate::rooms::{home_at, homes_of, rooms_of};
 use crate::unsummed::{Room, Unsummed};
-use rx_books_kept::OpenBooks;
+use rx_books_store::OpenBooks;
 use rx_fields::{Id, Memory, Period};
 use rx_ledger::{Member, Row};
 use rx_places::place_near;

@@ -1,13 +1,13 @@
 ghost use Rattle.std.specs.Prelude.{◌≡◌, IfOk};
 ghost use Rattle.std.specs.List.{All};
 ghost use Rattle.rx_fields.specs.Order.{id_cmp, key_cmp};
-ghost use Rattle.rx_order.specs.Ascending.{IsAscending};
-ghost use Rattle.rx_parcels.specs.Footprints.{IsFootprint, itself};
+ghost use Rattle.rx_sorted.specs.Ascending.{IsAscending};
+ghost use Rattle.rx_books_parcel.specs.Footprints.{IsFootprint, itself};
 ghost use Rattle.rx_books_shelf.specs.Opened.{all_families, all_keys};
 
 use crate::unique::put_in_order;
+use rx_books_parcel::Footprint;
 use rx_fields::{Id, Key, Memory};
-use rx_parcels::Footprint;
 use std::alloc::Global;
 
 /// The fill keys that footprints name, each once, ascending.

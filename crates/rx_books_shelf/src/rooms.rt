@@ -1,5 +1,5 @@
 use crate::unsummed::Room;
-use rx_books_kept::OpenBooks;
+use rx_books_store::OpenBooks;
 use rx_fields::{Id, Memory};
 use rx_ledger::Member;
 use std::alloc::Global;

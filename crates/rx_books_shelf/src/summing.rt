@@ -1,14 +1,14 @@
 ghost use Rattle.std.specs.Prelude.{◌≡◌, IfOk, map};
 ghost use Rattle.std.specs.List.{All, Contains};
-ghost use Rattle.rx_parcels.specs.FamilyBook.{AreTotals};
+ghost use Rattle.rx_books_parcel.specs.FamilyBook.{AreTotals};
 ghost use Rattle.rx_books_shelf.specs.Gathered.{own_deductible};
 ghost use Rattle.rx_books_shelf.specs.Opened.{family_book};
 
 use crate::unsummed::Unsummed;
-use rx_books_kept::OpenBooks;
+use rx_books_parcel::{Family, FamilyTotals};
+use rx_books_store::OpenBooks;
 use rx_fields::Memory;
 use rx_ledger::Member;
-use rx_parcels::{Family, FamilyTotals};
 use rx_places::place_near;
 use std::alloc::Global;
 

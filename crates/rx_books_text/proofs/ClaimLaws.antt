@@ -2,8 +2,8 @@
 use Rattle.std.proofs.Common.{◌≡◌, ℕ, Bool, true, false, cond, List, Some, None, refl, ap, subst, ◌∙◌}
 use Rattle.std.specs.Option.{option_map}
 use Rattle.rx_fields.specs.Digits.{digits_text}
-use Rattle.rx_claim.specs.declared.pricing.Amounts.{Amounts}
-use Rattle.rx_claim.specs.Priced.{is_priced}
+use Rattle.rx_d0_values.specs.declared.pricing.Amounts.{Amounts}
+use Rattle.rx_d0_values.specs.Priced.{is_priced}
 use Rattle.rx_ledger.specs.declared.member.MemberKey.{MemberKey}
 use Rattle.rx_ledger.specs.declared.row.Row.{Row}
 use Rattle.rx_ledger.specs.Rows.{row_of}

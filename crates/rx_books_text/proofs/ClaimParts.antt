@@ -7,8 +7,8 @@ use Rattle.rx_fields.specs.Calendar.{IsCivil, date_text}
 use Rattle.rx_fields.specs.Digits.{digits_text}
 use Rattle.rx_fields.specs.Numbered.{product_of}
 use Rattle.rx_fields.specs.Text.{IsId}
-use Rattle.rx_claim.specs.declared.pricing.Amounts.{Amounts}
-use Rattle.rx_claim.specs.Priced.{IsPriced, allowed, patient_pay}
+use Rattle.rx_d0_values.specs.declared.pricing.Amounts.{Amounts}
+use Rattle.rx_d0_values.specs.Priced.{IsPriced, allowed, patient_pay}
 use Rattle.rx_books_text.specs.declared.claim_line.Dispensed.{Dispensed}
 use Rattle.rx_books_text.specs.declared.version.Version.{Version}
 use Rattle.rx_books_text.specs.declared.version.Version.TheVariants.{One, Two, Three}

@@ -9,9 +9,9 @@ use Rattle.std.proofs.lemmas.Bool.{cases_Bool, cases_lt}
 use Rattle.std.proofs.lemmas.Cmp.{alike_right}
 use Rattle.std.proofs.lemmas.List.Elements.{All-from_get_or}
 use Rattle.std.proofs.lemmas.List.Folds.{list_any_at, list_any_none}
-use Rattle.rx_order.specs.Ascending.{IsAscending}
-use Rattle.rx_order.proofs.Keys.{cases_Ordering, Less-from_is_lt, Greater-from_Less, Less-from_Greater}
-use Rattle.rx_order.proofs.Kept.{IsAscending-at}
+use Rattle.rx_sorted.specs.Ascending.{IsAscending}
+use Rattle.rx_sorted.proofs.Keys.{cases_Ordering, Less-from_is_lt, Greater-from_Less, Less-from_Greater}
+use Rattle.rx_sorted.proofs.Kept.{IsAscending-at}
 use Rattle.rx_fields.specs.Order.{id_cmp}
 use Rattle.rx_ledger.specs.declared.member.Member.{Member}
 use Rattle.rx_ledger.specs.Members.{member_cmp, member_key, of_family}

@@ -8,8 +8,8 @@ use Rattle.std.proofs.lemmas.List.Folds.{list_all-append}
 use Rattle.std.proofs.lemmas.List.Elements.{All-nil, All-cons}
 use Rattle.rx_fields.specs.Calendar.{Civil, date_text}
 use Rattle.rx_fields.specs.Digits.{digits_text}
-use Rattle.rx_claim.specs.declared.pricing.Amounts.{Amounts}
-use Rattle.rx_claim.specs.Priced.{IsPriced, allowed, patient_pay}
+use Rattle.rx_d0_values.specs.declared.pricing.Amounts.{Amounts}
+use Rattle.rx_d0_values.specs.Priced.{IsPriced, allowed, patient_pay}
 use Rattle.rx_ledger.specs.declared.row.Row.{Row}
 use Rattle.rx_books_text.specs.declared.line.Line.{Line}
 use Rattle.rx_books_text.specs.declared.line.Line.TheVariants as line

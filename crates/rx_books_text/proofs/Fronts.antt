@@ -8,9 +8,9 @@ use Rattle.std.proofs.lemmas.List.{nil_from_length, map-append}
 use Rattle.std.proofs.lemmas.List.Elements.{All-nil, All-push}
 use Rattle.std.proofs.lemmas.List.Folds.{list_all-append}
 use Rattle.std.proofs.lemmas.Grind.{flat_map-append}
-use Rattle.rx_order.specs.Ascending.{IsAscending, is_past, put}
-use Rattle.rx_order.proofs.Edits.{put-past}
-use Rattle.rx_order.proofs.Kept.{IsAscending-push}
+use Rattle.rx_sorted.specs.Ascending.{IsAscending, is_past, put}
+use Rattle.rx_sorted.proofs.Edits.{put-past}
+use Rattle.rx_sorted.proofs.Kept.{IsAscending-push}
 use Rattle.rx_fields.specs.Order.{id_cmp, key_cmp}
 use Rattle.rx_ledger.specs.declared.member.Member.{Member}
 use Rattle.rx_ledger.specs.declared.row.Row.{Row}

@@ -4,8 +4,8 @@ use Rattle.std.specs.Ordering.{is_eq}
 use Rattle.std.specs.declared.cmp.Ordering.{Ordering}
 use Rattle.std.specs.Prelude.{is_some}
 use Rattle.std.proofs.lemmas.Bool.{and_parts}
-use Rattle.rx_order.specs.Ascending.{contains_key, is_past, item_at}
-use Rattle.rx_order.proofs.Keys.{Less-from_is_lt}
+use Rattle.rx_sorted.specs.Ascending.{contains_key, is_past, item_at}
+use Rattle.rx_sorted.proofs.Keys.{Less-from_is_lt}
 
 none_past : {X K : Type 0} (cmp : K → K → Ordering) (key : X → K) (xs : List X) (k : K) → is_past cmp key xs k ≡ true
     → item_at cmp key xs k ≡ None

@@ -8,8 +8,8 @@ use Rattle.std.specs.declared.cmp.Ordering.TheVariants.{Less}
 use Rattle.std.proofs.lemmas.Bool.{and_parts}
 use Rattle.std.proofs.lemmas.List.Elements.{All-nil, All-cons, All-head, All-tail}
 use Rattle.std.proofs.lemmas.Grind.{flat_map-append}
-use Rattle.rx_order.specs.Ascending.{IsAscending, IsBelow, is_past}
-use Rattle.rx_order.proofs.Edits.{put-past}
+use Rattle.rx_sorted.specs.Ascending.{IsAscending, IsBelow, is_past}
+use Rattle.rx_sorted.proofs.Edits.{put-past}
 use Rattle.rx_fields.specs.Order.{id_cmp, key_cmp}
 use Rattle.rx_ledger.specs.declared.member.Member.{Member}
 use Rattle.rx_ledger.specs.declared.row.Row.{Row}

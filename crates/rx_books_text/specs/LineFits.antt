@@ -4,7 +4,7 @@ use Rattle.rx_fields.specs.declared.limits.TheConstants.{MOST_AUTHORIZATION, MOS
 use Rattle.rx_fields.specs.Calendar.{IsCivil}
 use Rattle.rx_fields.specs.Numbered.{Span, is_span}
 use Rattle.rx_fields.specs.Text.{IsId}
-use Rattle.rx_claim.specs.Priced.{IsPriced}
+use Rattle.rx_d0_values.specs.Priced.{IsPriced}
 use Rattle.rx_ledger.specs.declared.row.Row.{Row}
 use Rattle.rx_books_text.specs.declared.line.Line.{Line}
 use Rattle.rx_books_text.specs.declared.line.Line.TheVariants as line

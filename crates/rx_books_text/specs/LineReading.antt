@@ -14,7 +14,7 @@ use Rattle.rx_fields.specs.Calendar.{Civil, date_of}
 use Rattle.rx_fields.specs.Digits.{number_of}
 use Rattle.rx_fields.specs.Numbered.{Span, period_of, product_of}
 use Rattle.rx_fields.specs.Text.{id_of}
-use Rattle.rx_claim.specs.declared.pricing.Amounts.{Amounts}
+use Rattle.rx_d0_values.specs.declared.pricing.Amounts.{Amounts}
 use Rattle.rx_ledger.specs.declared.member.MemberKey.{MemberKey}
 use Rattle.rx_ledger.specs.declared.row.Row.{Row}
 use Rattle.rx_ledger.specs.Rows.{row_of}

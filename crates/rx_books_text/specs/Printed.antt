@@ -1,7 +1,7 @@
 -- Meaning: a books file as it is printed: its lines and its text (docs/FORMATS.md, "Books file").
 use Rattle.std.specs.Prelude.{◌≡◌, ℕ, ◌≤◌, Bool, true, ◌==◌, List, [], ◌∷◌, ◌++◌, length, map, count_by, All}
 use Rattle.std.specs.List.{flat_map, list_all, list_any}
-use Rattle.rx_order.specs.Ascending.{IsAscending}
+use Rattle.rx_sorted.specs.Ascending.{IsAscending}
 use Rattle.rx_fields.specs.Order.{id_cmp}
 use Rattle.rx_ledger.specs.declared.member.Member.{Member}
 use Rattle.rx_ledger.specs.Ledger.{Ledger, IsLedger}

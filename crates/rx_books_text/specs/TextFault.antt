@@ -1,6 +1,6 @@
 -- Meaning: the first fault of a text that is no books file (docs/FORMATS.md, "Books file").
 use Rattle.std.specs.Prelude.{◌≡◌, ℕ, ◌+◌, ◌<◌, ◌≤◌, Bool, true, false, ◌&&◌, ◌==◌, List, [], ◌∷◌, ◌++◌, length}
-use Rattle.rx_order.specs.Ascending.{is_past}
+use Rattle.rx_sorted.specs.Ascending.{is_past}
 use Rattle.rx_fields.specs.Order.{id_cmp, key_cmp}
 use Rattle.rx_ledger.specs.Ledger.{empty, is_listed, with_member, with_row}
 use Rattle.rx_ledger.specs.Members.{member_cmp, member_key}

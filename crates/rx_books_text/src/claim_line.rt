@@ -6,7 +6,7 @@ use crate::cut::split;
 use crate::field::{authorization_in, count_in, day_in, days_in, id_in, number_in};
 use crate::member_line::member_key_at;
 use crate::version::Version;
-use rx_claim::Amounts;
+use rx_d0_values::Amounts;
 use rx_fields::{Days, Key, Product, Quantity};
 use rx_ledger::Row;
 

@@ -5,7 +5,7 @@ use crate::head::Head;
 use crate::line::TotalLine;
 use rx_fields::Id;
 use rx_ledger::Ledger;
-use rx_order::{Ascending, Keyed};
+use rx_sorted::{Ascending, Keyed};
 use std::alloc::Global;
 use std::marker::Model;
 
@@ -37,7 +37,7 @@ impl Model for Printed {
 }
 
 ghost use Rattle.std.specs.Prelude.{length};
-ghost use Rattle.rx_order.specs.Ascending.{IsAscending};
+ghost use Rattle.rx_sorted.specs.Ascending.{IsAscending};
 ghost use Rattle.rx_fields.specs.Order.{id_cmp};
 ghost use Rattle.rx_ledger.specs.Ledger.{IsLedger};
 ghost use Rattle.rx_books_text.specs.TextFault.{no_lines};

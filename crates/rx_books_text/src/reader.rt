@@ -1,6 +1,6 @@
 ghost use Rattle.std.specs.Prelude.{◌≡◌, IfOk, IfErr, Ok};
 ghost use Rattle.std.specs.List.{list_any};
-ghost use Rattle.rx_order.specs.Ascending.{IsAscending, is_past};
+ghost use Rattle.rx_sorted.specs.Ascending.{IsAscending, is_past};
 ghost use Rattle.rx_ledger.specs.Members.{member_cmp, member_key, of_family};
 ghost use Rattle.rx_books_text.specs.Fault.{Gives, Takes, UnlessMemory, refused};
 ghost use Rattle.rx_books_text.specs.Printed.{IsPrinted, PrintedParts, line_feeds, printed_text};
@@ -15,7 +15,7 @@ use crate::printed::Printed;
 use memchr::memchr;
 use rx_fields::Id;
 use rx_ledger::{AddError, Member, Row};
-use rx_order::Keyed;
+use rx_sorted::Keyed;
 use std::alloc::Global;
 
 const LINE_FEED: u8 = b'\n';

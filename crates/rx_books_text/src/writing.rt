@@ -8,7 +8,7 @@ ghost use Rattle.rx_books_text.specs.LineText.{barred, ended, head_text, joined,
 
 use crate::line::{MemberLine, TotalLine};
 use itoa::{Buffer, Integer};
-use rx_claim::Amounts;
+use rx_d0_values::Amounts;
 use rx_fields::{
     Authorization, Day, Days, Key, Memory, Period, Product, Quantity, date_write, digits_write,
 };

@@ -2,9 +2,9 @@
 use Rattle.std.proofs.Common.{◌≡◌, ◌+◌, ◌<◌, ◌++◌, ◌∷◌, [], ℕ, List, String, Result, Ok, Err, IfOk, append_assoc, get_or, length}
 use Rattle.std.proofs.Common.{map, string_bytes, take, ap, sym, ◌∙◌}
 use Rattle.std.proofs.lemmas.List.{flat_map_more}
-use Rattle.rx_told.specs.Lines.{line_text}
-use Rattle.rx_told.specs.declared.place.Place.{Place}
-use Rattle.rx_told.specs.declared.words.Words.{Words}
+use Rattle.rx_diagnostics.specs.Lines.{line_text}
+use Rattle.rx_diagnostics.specs.declared.place.Place.{Place}
+use Rattle.rx_diagnostics.specs.declared.words.Words.{Words}
 use Rattle.rx_check.specs.Report.{TellsAt, ignored_text, warning_line}
 use Rattle.rx_check.proofs.LeastApart.{names_more}
 

@@ -4,8 +4,8 @@ use Rattle.std.specs.Result.{result_err, result_ok}
 use Rattle.rx_batch.specs.Reading.{batch_of}
 use Rattle.rx_batch.specs.declared.batch.Batch.{Batch}
 use Rattle.rx_batch.specs.declared.fault.BatchFault.{BatchFault}
-use Rattle.rx_books_kept.specs.Figures.{books_of}
-use Rattle.rx_books_kept.specs.LedgerBooks.{LedgerBooks}
+use Rattle.rx_books_store.specs.Figures.{books_of}
+use Rattle.rx_books_store.specs.LedgerBooks.{LedgerBooks}
 use Rattle.rx_books_text.specs.declared.fault.BooksFault.{BooksFault}
 use Rattle.rx_ledger.specs.Plan.{Plan}
 use Rattle.rx_sheet.specs.SheetText.{sheet_of_text}

@@ -8,10 +8,10 @@ use Rattle.rx_books_text.specs.declared.fault.BooksFault.{BooksFault}
 use Rattle.rx_fields.specs.Calendar.{date_text}
 use Rattle.rx_fields.specs.Numbered.{Span}
 use Rattle.rx_sheet.specs.declared.fault.SheetFault.{SheetFault}
-use Rattle.rx_told.specs.Lines.{line_text}
-use Rattle.rx_told.specs.Places.{IsSheetPlace, batch_place, books_place}
-use Rattle.rx_told.specs.declared.place.Place.{Place}
-use Rattle.rx_told.specs.declared.words.Words.{Words}
+use Rattle.rx_diagnostics.specs.Lines.{line_text}
+use Rattle.rx_diagnostics.specs.Places.{IsSheetPlace, batch_place, books_place}
+use Rattle.rx_diagnostics.specs.declared.place.Place.{Place}
+use Rattle.rx_diagnostics.specs.declared.words.Words.{Words}
 use Rattle.rx_check.specs.Warned.{has_many_lines}
 use Rattle.rx_check.specs.declared.checking.Files.{Files}
 use Rattle.rx_check.specs.declared.found.Found.{Found}

@@ -6,7 +6,7 @@ use Rattle.std.specs.Cmp.Lexicographic.{pointwise}
 use Rattle.std.specs.List.{list_any}
 use Rattle.rx_batch.specs.declared.batch.Batch.{Batch}
 use Rattle.rx_batch.specs.declared.detail.Detail.{Detail}
-use Rattle.rx_books_kept.specs.LedgerBooks.{LedgerBooks}
+use Rattle.rx_books_store.specs.LedgerBooks.{LedgerBooks}
 use Rattle.rx_fields.specs.Numbered.{Span}
 use Rattle.rx_fields.specs.declared.door.Door.{Door}
 use Rattle.rx_fields.specs.declared.limits.TheConstants.{NUMBERS_OF_A_BATCH}

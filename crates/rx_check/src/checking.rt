@@ -7,7 +7,7 @@ use crate::found::Found;
 use crate::reading;
 use crate::reading::Read;
 use crate::warnings::Warnings;
-use rx_books_kept::Books;
+use rx_books_store::Books;
 use rx_books_text::BooksFault;
 use rx_fields::Memory;
 use rx_ledger::Sheet;

@@ -4,7 +4,7 @@ ghost use Rattle.std.specs.Result.{result_err, result_ok};
 ghost use Rattle.rx_check.specs.Inputs.{batch_fault, batch_taken, books_fault, books_taken, sheet_fault, sheet_taken};
 
 use rx_batch::{Batch, BatchFault, read_batch};
-use rx_books_kept::Books;
+use rx_books_store::Books;
 use rx_books_text::BooksFault;
 use rx_fields::Memory;
 use rx_ledger::Sheet;

@@ -1,6 +1,6 @@
 ghost use Rattle.std.specs.Prelude.{◌≡◌, [], ◌∷◌, ◌++◌, IfOk, OnOk, map, option_copied, string_bytes};
 ghost use Rattle.rx_fields.specs.Calendar.{date_text};
-ghost use Rattle.rx_told.specs.Lines.{line_text};
+ghost use Rattle.rx_diagnostics.specs.Lines.{line_text};
 ghost use Rattle.rx_check.specs.Report.{IsReport, TellsBatch, TellsBooks, TellsSheet, adjudicated_text, ignored_text};
 ghost use Rattle.rx_check.specs.Report.{lines_text, may_pass_text, none_under_text, period_text, period_words, warning_line, warnings_text};
 
@@ -9,9 +9,9 @@ use crate::found::Found;
 use crate::warnings::Warnings;
 use rx_batch::BatchFault;
 use rx_books_text::BooksFault;
+use rx_diagnostics::{Words, batch_words, books_words, sheet_words};
 use rx_fields::{Day, Memory, Period, date_write};
 use rx_sheet::SheetFault;
-use rx_told::{Words, batch_words, books_words, sheet_words};
 use std::alloc::{AllocError, Global};
 
 /// The names of the files of a run.

@@ -7,7 +7,7 @@ use crate::checking::Files;
 use crate::ignored::ignored_keys;
 use crate::warned::{adjudicated, feeds, has_none_under, may_pass, period_apart};
 use rx_batch::Batch;
-use rx_books_kept::Books;
+use rx_books_store::Books;
 use rx_fields::{Memory, Period};
 use rx_ledger::Sheet;
 use std::alloc::Global;

@@ -1,7 +1,7 @@
 //! The Telecommunication Standard D.0 as this product's profile has it: requests in, replies out.
 //!
 //! `decode` reads any byte string as a request; `encode` writes a reply and `decode_reply` reads it back. What they
-//! speak of are the values of `rx_claim`.
+//! speak of are the values of `rx_d0_values`.
 //!
 //! ```rust
 //! let transmission = rx_d0::decode(alloc, &door, detail)?;
@@ -9,10 +9,10 @@
 //! ```
 #![tactic(auto)]
 
-pub use rx_claim::{
+pub use rx_d0_reply::{ReplyFault, decode_reply, encode, put_reply, read_back};
+pub use rx_d0_request::{HEADER_LENGTH, decode, written_is_heard};
+pub use rx_d0_values::{
     Amounts, Answer, Answers, Approved, Bill, BillParts, Body, Codes, Echo, EchoParts, Faulty,
     Heard, Outcome, Paid, Pricing, Refused, Rejected, Reply, Reversal, Transaction, Transactions,
     Transmission, TryCopy, copies,
 };
-pub use rx_reply::{ReplyFault, decode_reply, encode, put_reply, read_back};
-pub use rx_request::{HEADER_LENGTH, decode, written_is_heard};

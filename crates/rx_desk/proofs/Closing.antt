@@ -2,19 +2,19 @@
 use Rattle.std.proofs.Common.{◌≡◌, ℕ, List, true, false, Bool, length, reverse, refl, sym, ap, subst, ◌∙◌, inl, inr}
 use Rattle.std.specs.List.{Contains}
 use Rattle.std.proofs.lemmas.Bool.{cases_Bool}
-use Rattle.rx_claim.specs.declared.reply.Reply.{Reply}
-use Rattle.rx_order.proofs.Edits.{same_item}
-use Rattle.rx_order.proofs.Filters.{Contains-filter, Contains-filter_kept}
-use Rattle.rx_order.proofs.Keys.{Equal-from_is_eq}
+use Rattle.rx_d0_values.specs.declared.reply.Reply.{Reply}
+use Rattle.rx_sorted.proofs.Edits.{same_item}
+use Rattle.rx_sorted.proofs.Filters.{Contains-filter, Contains-filter_kept}
+use Rattle.rx_sorted.proofs.Keys.{Equal-from_is_eq}
 use Rattle.rx_fields.specs.Order.{key_cmp}
 use Rattle.rx_ledger.specs.declared.row.Row.{Row}
 use Rattle.rx_ledger.specs.Fold.{fold_ledger, fold_replies}
 use Rattle.rx_ledger.specs.Ledger.{IsLedger, Ledger}
 use Rattle.rx_ledger.specs.Rows.{row_key}
 use Rattle.rx_ledger.proofs.Orders.{key_total}
-use Rattle.rx_parcels.specs.Books.{Book, IsInOrder, book, has_row}
-use Rattle.rx_parcels.specs.Footprints.{FootprintParts}
-use Rattle.rx_books_kept.specs.LedgerBooks.{LedgerBooks}
+use Rattle.rx_books_parcel.specs.Books.{Book, IsInOrder, book, has_row}
+use Rattle.rx_books_parcel.specs.Footprints.{FootprintParts}
+use Rattle.rx_books_store.specs.LedgerBooks.{LedgerBooks}
 use Rattle.rx_places.specs.Shelves.{AreAllAgreed, ShelfParts, is_out, value_of}
 use Rattle.rx_schedule.specs.declared.event.Event.{Event}
 use Rattle.rx_schedule.specs.Machine.{IsComplete}

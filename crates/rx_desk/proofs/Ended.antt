@@ -8,10 +8,10 @@ use Rattle.std.proofs.lemmas.Cmp.{tied_itself}
 use Rattle.std.proofs.lemmas.Option.{slice_get-get_or, slice_get_past}
 use Rattle.rx_fields.specs.Numbered.{LotParts}
 use Rattle.rx_fields.specs.Order.{id_cmp, key_cmp}
-use Rattle.rx_claim.specs.declared.reply.Reply.{Reply}
-use Rattle.rx_claim.specs.declared.transmission.Transmission.{Transmission}
-use Rattle.rx_order.proofs.Edits.{same_members}
-use Rattle.rx_order.proofs.Filters.{Contains-filter, Contains-filter_kept}
+use Rattle.rx_d0_values.specs.declared.reply.Reply.{Reply}
+use Rattle.rx_d0_values.specs.declared.transmission.Transmission.{Transmission}
+use Rattle.rx_sorted.proofs.Edits.{same_members}
+use Rattle.rx_sorted.proofs.Filters.{Contains-filter, Contains-filter_kept}
 use Rattle.rx_ledger.specs.declared.member.Member.{Member}
 use Rattle.rx_ledger.specs.declared.row.Row.{Row}
 use Rattle.rx_ledger.specs.Fold.{fold_ledger, fold_replies, ledger_after, reply_to}
@@ -20,8 +20,8 @@ use Rattle.rx_ledger.specs.Members.{member_cmp, member_key}
 use Rattle.rx_ledger.specs.Plan.{Plan}
 use Rattle.rx_ledger.specs.Rows.{row_key}
 use Rattle.rx_ledger.proofs.Orders.{id_total, key_total, member_total}
-use Rattle.rx_parcels.specs.Books.{Book, IsInOrder, OfFamily, OfKey, book, has_member, has_row}
-use Rattle.rx_parcels.proofs.Parts.{ledger_path}
+use Rattle.rx_books_parcel.specs.Books.{Book, IsInOrder, OfFamily, OfKey, book, has_member, has_row}
+use Rattle.rx_books_parcel.proofs.Parts.{ledger_path}
 use Rattle.rx_schedule.specs.declared.event.Event.{Event}
 use Rattle.rx_schedule.specs.declared.event.Event.TheVariants.{Give, Take}
 use Rattle.rx_schedule.specs.Footprints.{no_record, record_at}

@@ -3,20 +3,20 @@ use Rattle.std.proofs.Common.{◌≡◌, ℕ, List, [], ◌∷◌, true, false, 
 use Rattle.std.specs.Prelude.{◌&&◌}
 use Rattle.std.specs.List.{list_all}
 use Rattle.std.proofs.lemmas.Bool.{cases_Bool}
-use Rattle.rx_claim.specs.declared.transaction.Transaction.{Transaction}
-use Rattle.rx_claim.specs.declared.transaction.Transaction.TheVariants.{Bill, Faulty, Reverse}
-use Rattle.rx_claim.specs.declared.transmission.Body.{Body}
-use Rattle.rx_claim.specs.declared.transmission.Body.TheVariants.{Heard, Rejected}
-use Rattle.rx_claim.specs.declared.transmission.Heard.{Heard as HeardRecord}
-use Rattle.rx_claim.specs.declared.transmission.Transmission.{Transmission}
+use Rattle.rx_d0_values.specs.declared.transaction.Transaction.{Transaction}
+use Rattle.rx_d0_values.specs.declared.transaction.Transaction.TheVariants.{Bill, Faulty, Reverse}
+use Rattle.rx_d0_values.specs.declared.transmission.Body.{Body}
+use Rattle.rx_d0_values.specs.declared.transmission.Body.TheVariants.{Heard, Rejected}
+use Rattle.rx_d0_values.specs.declared.transmission.Heard.{Heard as HeardRecord}
+use Rattle.rx_d0_values.specs.declared.transmission.Transmission.{Transmission}
 use Rattle.rx_ledger.specs.Ledger.{Ledger}
 use Rattle.rx_ledger.specs.Named.{key_in}
 use Rattle.rx_ledger.specs.TermList.{TermParts}
-use Rattle.rx_parcels.specs.Books.{Book, IsInOrder, OfKey, book}
-use Rattle.rx_parcels.specs.Footprints.{FootprintParts, fits, fits_body, fits_one, names, names_holder}
-use Rattle.rx_parcels.specs.Parcels.{ParcelParts, ledger_in, named_in, values_of}
-use Rattle.rx_parcels.proofs.Agreed.{books_agree}
-use Rattle.rx_parcels.proofs.Parts.{part, row_part, sub_part, sub_same}
+use Rattle.rx_books_parcel.specs.Books.{Book, IsInOrder, OfKey, book}
+use Rattle.rx_books_parcel.specs.Footprints.{FootprintParts, fits, fits_body, fits_one, names, names_holder}
+use Rattle.rx_books_parcel.specs.Parcels.{ParcelParts, ledger_in, named_in, values_of}
+use Rattle.rx_books_parcel.proofs.Agreed.{books_agree}
+use Rattle.rx_books_parcel.proofs.Parts.{part, row_part, sub_part, sub_same}
 use Rattle.rx_adjudicate.specs.Orders.{Fits}
 
 -- what a footprint names fits alike on the ledger and on its part

@@ -4,8 +4,8 @@ use Rattle.std.proofs.Common.{get_or, reverse, set, Option, Some, None, refl, sy
 use Rattle.std.specs.Prelude.{◌↔◌, IsTrue, is_some}
 use Rattle.std.specs.List.{sum_by}
 use Rattle.std.proofs.lemmas.List.Sums.{sum_by-cons, sum_by-set}
-use Rattle.rx_claim.specs.declared.reply.Reply.{Reply}
-use Rattle.rx_parcels.specs.Footprints.{FootprintParts}
+use Rattle.rx_d0_values.specs.declared.reply.Reply.{Reply}
+use Rattle.rx_books_parcel.specs.Footprints.{FootprintParts}
 use Rattle.rx_places.specs.Shelves.{ShelfParts}
 use Rattle.rx_schedule.specs.declared.event.Event.{Event}
 use Rattle.rx_schedule.specs.declared.event.Event.TheVariants.{Give, Take}

@@ -6,16 +6,16 @@ use Rattle.std.specs.Option.{option_and_then, option_to_list}
 use Rattle.std.proofs.lemmas.List.Elements.{All-contains}
 use Rattle.rx_fields.specs.Numbered.{Span}
 use Rattle.rx_fields.specs.Order.{id_cmp, key_cmp}
-use Rattle.rx_order.specs.Ascending.{item_at}
-use Rattle.rx_order.proofs.LookUps.{item_at-from_contains}
+use Rattle.rx_sorted.specs.Ascending.{item_at}
+use Rattle.rx_sorted.proofs.LookUps.{item_at-from_contains}
 use Rattle.rx_ledger.specs.declared.row.Row.{Row}
 use Rattle.rx_ledger.specs.Ledger.{Ledger}
 use Rattle.rx_ledger.proofs.Orders.{id_total, key_total}
-use Rattle.rx_parcels.specs.declared.key_book.KeyBook.{KeyBook}
-use Rattle.rx_parcels.specs.Books.{Book, OfFamily, OfKey}
-use Rattle.rx_parcels.specs.FamilyBook.{FamilyBook, family_of}
-use Rattle.rx_parcels.specs.Footprints.{FootprintParts}
-use Rattle.rx_parcels.specs.Parcels.{IsParcel, ParcelParts, family_at, key_of, ledger_of_family, named_in, row_at, values_of}
+use Rattle.rx_books_parcel.specs.declared.key_book.KeyBook.{KeyBook}
+use Rattle.rx_books_parcel.specs.Books.{Book, OfFamily, OfKey}
+use Rattle.rx_books_parcel.specs.FamilyBook.{FamilyBook, family_of}
+use Rattle.rx_books_parcel.specs.Footprints.{FootprintParts}
+use Rattle.rx_books_parcel.specs.Parcels.{IsParcel, ParcelParts, family_at, key_of, ledger_of_family, named_in, row_at, values_of}
 use Rattle.rx_desk.specs.Desks.{family_book, key_book, parcel_of}
 use Rattle.rx_desk.proofs.Lists.{made_again, of_each}
 

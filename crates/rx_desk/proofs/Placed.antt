@@ -5,11 +5,11 @@ use Rattle.std.specs.List.{slice_get, sum_by}
 use Rattle.std.proofs.lemmas.Bool.{both_ways, cases_Bool, cases_eq}
 use Rattle.std.proofs.lemmas.List.{get_or-set_other, get_or-set_same, length-append, length-set}
 use Rattle.std.proofs.lemmas.List.Sums.{sum_by-set}
-use Rattle.rx_claim.specs.declared.reply.Reply.{Reply}
+use Rattle.rx_d0_values.specs.declared.reply.Reply.{Reply}
 use Rattle.rx_ledger.specs.Ledger.{Ledger, empty}
-use Rattle.rx_parcels.specs.Books.{Book}
-use Rattle.rx_parcels.specs.Footprints.{names}
-use Rattle.rx_parcels.specs.Parcels.{ParcelParts}
+use Rattle.rx_books_parcel.specs.Books.{Book}
+use Rattle.rx_books_parcel.specs.Footprints.{names}
+use Rattle.rx_books_parcel.specs.Parcels.{ParcelParts}
 use Rattle.rx_schedule.specs.declared.event.Event.{Event}
 use Rattle.rx_schedule.specs.declared.event.Event.TheVariants.{Give, Take}
 use Rattle.rx_schedule.specs.Machine.{IsLegal, IsPlace, MayGive, MayTake, Was, cut, replay}

@@ -1,22 +1,22 @@
 -- A desk may go to another thread: each of its parts may.
 use denote.Param.Send.{IsSend, sendable}
 use Rattle.std.proofs.Crossing.{crosses}
-use Rattle.rx_books_kept.specs.contracts.amended.AmendedBooks.{the_row as amended_books_row}
-use Rattle.rx_books_kept.specs.contracts.books.Books.{the_row as books_row}
-use Rattle.rx_books_kept.specs.contracts.books.Form.{the_row as form_row}
-use Rattle.rx_books_kept.specs.contracts.open_books.OpenBooks.{the_row as open_books_row}
+use Rattle.rx_books_store.specs.contracts.amended.AmendedBooks.{the_row as amended_books_row}
+use Rattle.rx_books_store.specs.contracts.books.Books.{the_row as books_row}
+use Rattle.rx_books_store.specs.contracts.books.Form.{the_row as form_row}
+use Rattle.rx_books_store.specs.contracts.open_books.OpenBooks.{the_row as open_books_row}
 use Rattle.rx_books_shelf.specs.contracts.shelf.Shelf.{the_row as shelf_row}
-use Rattle.rx_claim.specs.contracts.codes.Codes.{the_row as codes_row}
-use Rattle.rx_claim.specs.contracts.echo.Echo.{the_row as echo_row}
-use Rattle.rx_claim.specs.contracts.reply.Answers.{the_row as answers_row}
-use Rattle.rx_claim.specs.contracts.reply.Reply.{the_row as reply_row}
-use Rattle.rx_claim.specs.contracts.transaction.Transactions.{the_row as transactions_row}
-use Rattle.rx_claim.specs.contracts.transmission.Transmission.{the_row as transmission_row}
+use Rattle.rx_d0_values.specs.contracts.codes.Codes.{the_row as codes_row}
+use Rattle.rx_d0_values.specs.contracts.echo.Echo.{the_row as echo_row}
+use Rattle.rx_d0_values.specs.contracts.reply.Answers.{the_row as answers_row}
+use Rattle.rx_d0_values.specs.contracts.reply.Reply.{the_row as reply_row}
+use Rattle.rx_d0_values.specs.contracts.transaction.Transactions.{the_row as transactions_row}
+use Rattle.rx_d0_values.specs.contracts.transmission.Transmission.{the_row as transmission_row}
 use Rattle.rx_desk.specs.contracts.desk.Desk.{the_row as desk_row}
 use Rattle.rx_desk.specs.contracts.state.State.{the_row as state_row}
-use Rattle.rx_parcels.specs.contracts.family.Family.{the_row as family_row}
-use Rattle.rx_parcels.specs.contracts.footprint.Footprint.{the_row as footprint_row}
-use Rattle.rx_parcels.specs.contracts.parcel.Parcel.{the_row as parcel_row}
+use Rattle.rx_books_parcel.specs.contracts.family.Family.{the_row as family_row}
+use Rattle.rx_books_parcel.specs.contracts.footprint.Footprint.{the_row as footprint_row}
+use Rattle.rx_books_parcel.specs.contracts.parcel.Parcel.{the_row as parcel_row}
 use Rattle.rx_places.specs.contracts.place.FamilyPlace.{the_row as family_place_row}
 use Rattle.rx_schedule.specs.contracts.queues.Queues.{the_row as queues_row}
 

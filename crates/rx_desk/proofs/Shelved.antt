@@ -12,13 +12,13 @@ use Rattle.std.proofs.lemmas.List.Concat.{flat_map-cons}
 use Rattle.std.proofs.lemmas.List.Elements.{All-contains}
 use Rattle.rx_fields.specs.Order.{id_cmp, key_cmp}
 use Rattle.rx_fields.specs.declared.key.Key.{Key}
-use Rattle.rx_order.specs.Ascending.{contains_key, item_at}
-use Rattle.rx_order.proofs.LookUps.{item_at-found, item_at-from_contains}
+use Rattle.rx_sorted.specs.Ascending.{contains_key, item_at}
+use Rattle.rx_sorted.proofs.LookUps.{item_at-found, item_at-from_contains}
 use Rattle.rx_ledger.proofs.Orders.{id_exact, id_total, key_total}
-use Rattle.rx_parcels.specs.Books.{Book, OfFamily, OfKey}
-use Rattle.rx_parcels.specs.FamilyBook.{FamilyBook, family_of}
-use Rattle.rx_parcels.specs.Footprints.{FootprintParts, itself, names}
-use Rattle.rx_parcels.specs.Parcels.{key_of, named_in}
+use Rattle.rx_books_parcel.specs.Books.{Book, OfFamily, OfKey}
+use Rattle.rx_books_parcel.specs.FamilyBook.{FamilyBook, family_of}
+use Rattle.rx_books_parcel.specs.Footprints.{FootprintParts, itself, names}
+use Rattle.rx_books_parcel.specs.Parcels.{key_of, named_in}
 use Rattle.rx_places.specs.declared.place.FamilyPlace.{FamilyPlace}
 use Rattle.rx_places.specs.declared.place.KeyPlace.{KeyPlace}
 use Rattle.rx_places.specs.Shelves.{HoldsOwnBook, IsShelf, ShelfParts, are_all_in, family_place}

@@ -6,13 +6,13 @@ use Rattle.std.proofs.lemmas.Bool.{cases_Bool}
 use Rattle.std.proofs.lemmas.List.{length-replicate}
 use Rattle.std.proofs.lemmas.List.Folds.{sum_by-replicate}
 use Rattle.rx_fields.specs.Numbered.{LotParts}
-use Rattle.rx_claim.specs.declared.reply.Reply.{Reply}
-use Rattle.rx_claim.specs.declared.transmission.Transmission.{Transmission}
+use Rattle.rx_d0_values.specs.declared.reply.Reply.{Reply}
+use Rattle.rx_d0_values.specs.declared.transmission.Transmission.{Transmission}
 use Rattle.rx_ledger.specs.Ledger.{IsLedger, Ledger}
 use Rattle.rx_ledger.specs.Plan.{Plan}
 use Rattle.rx_ledger.specs.TermList.{TermParts}
-use Rattle.rx_parcels.specs.Books.{Book, IsInOrder, book}
-use Rattle.rx_parcels.specs.Footprints.{FootprintParts, names}
+use Rattle.rx_books_parcel.specs.Books.{Book, IsInOrder, book}
+use Rattle.rx_books_parcel.specs.Footprints.{FootprintParts, names}
 use Rattle.rx_books_shelf.specs.Opened.{is_named}
 use Rattle.rx_schedule.specs.Footprints.{footprint_at, footprints_of}
 use Rattle.rx_places.specs.Shelves.{ShelfParts, has_slot, is_out, value_of}

@@ -8,15 +8,15 @@ use Rattle.std.proofs.lemmas.List.{get_or_read, reverse-append}
 use Rattle.std.proofs.lemmas.List.FromFn.{get_or-map-range_with_len}
 use Rattle.std.proofs.lemmas.List.Sums.{sum_by-set}
 use Rattle.std.proofs.lemmas.Option.{same_Some, slice_get_read}
-use Rattle.rx_claim.specs.declared.reply.Reply.{Reply}
-use Rattle.rx_claim.specs.declared.transmission.Transmission.{Transmission}
+use Rattle.rx_d0_values.specs.declared.reply.Reply.{Reply}
+use Rattle.rx_d0_values.specs.declared.transmission.Transmission.{Transmission}
 use Rattle.rx_ledger.specs.Fold.{ledger_after, reply_to}
 use Rattle.rx_ledger.specs.Ledger.{Ledger, empty}
 use Rattle.rx_ledger.specs.SameTerms.{IsTermsOf}
 use Rattle.rx_ledger.specs.TermList.{TermParts}
-use Rattle.rx_parcels.specs.Books.{Book, book}
-use Rattle.rx_parcels.specs.Footprints.{FootprintParts, names, sub}
-use Rattle.rx_parcels.specs.Parcels.{ParcelParts, ledger_in, named_in, values_of}
+use Rattle.rx_books_parcel.specs.Books.{Book, book}
+use Rattle.rx_books_parcel.specs.Footprints.{FootprintParts, names, sub}
+use Rattle.rx_books_parcel.specs.Parcels.{ParcelParts, ledger_in, named_in, values_of}
 use Rattle.rx_adjudicate.specs.Orders.{DoneParts, Fits, IsDone, OrderParts}
 use Rattle.rx_places.specs.Shelves.{ShelfParts, has_slot, is_in, is_out, value_of}
 use Rattle.rx_schedule.specs.declared.event.Event.{Event}

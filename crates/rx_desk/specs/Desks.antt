@@ -3,19 +3,19 @@
 use Rattle.std.specs.Prelude.{◌≡◌, ℕ, ◌-◌, ◌≤◌, ◌++◌, List, [], ◌∷◌, Option, Some, length, map, reverse, slice_get, slice_index_or}
 use Rattle.rx_fields.specs.Numbered.{LotParts, Span}
 use Rattle.rx_fields.specs.declared.key.Key.{Key}
-use Rattle.rx_claim.specs.declared.transmission.Transmission.{Transmission}
+use Rattle.rx_d0_values.specs.declared.transmission.Transmission.{Transmission}
 use Rattle.rx_ledger.specs.Fold.{fold_ledger}
 use Rattle.rx_ledger.specs.Ledger.{Ledger}
 use Rattle.rx_ledger.specs.Plan.{Plan}
 use Rattle.rx_ledger.specs.SameTerms.{IsTermsOf}
 use Rattle.rx_ledger.specs.TermList.{TermParts}
-use Rattle.rx_parcels.specs.declared.key_book.KeyBook.{KeyBook}
-use Rattle.rx_parcels.specs.Books.{Book, OfFamily, OfKey}
-use Rattle.rx_parcels.specs.FamilyBook.{FamilyBook}
-use Rattle.rx_parcels.specs.Footprints.{FootprintParts}
-use Rattle.rx_parcels.specs.Parcels.{ParcelParts}
+use Rattle.rx_books_parcel.specs.declared.key_book.KeyBook.{KeyBook}
+use Rattle.rx_books_parcel.specs.Books.{Book, OfFamily, OfKey}
+use Rattle.rx_books_parcel.specs.FamilyBook.{FamilyBook}
+use Rattle.rx_books_parcel.specs.Footprints.{FootprintParts}
+use Rattle.rx_books_parcel.specs.Parcels.{ParcelParts}
 use Rattle.rx_adjudicate.specs.Orders.{OrderParts}
-use Rattle.rx_books_kept.specs.LedgerBooks.{LedgerBooks}
+use Rattle.rx_books_store.specs.LedgerBooks.{LedgerBooks}
 use Rattle.rx_schedule.specs.declared.event.Event.{Event}
 use Rattle.rx_schedule.specs.declared.event.Event.TheVariants.{Give, Take}
 use Rattle.rx_schedule.specs.Footprints.{footprint_at, no_record, record_at}

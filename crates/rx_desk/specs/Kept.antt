@@ -4,16 +4,16 @@ use Rattle.std.specs.Prelude.{◌≡◌, ℕ, ◌+◌, ◌-◌, ◌*◌, ◌≤�
 use Rattle.std.specs.Prelude.{Option, Some, slice_get, slice_index_or, sum_by}
 use Rattle.rx_fields.specs.declared.limits.TheConstants.{MOST_DETAILS}
 use Rattle.rx_fields.specs.Numbered.{LotParts}
-use Rattle.rx_claim.specs.declared.reply.Reply.{Reply}
-use Rattle.rx_claim.specs.declared.transmission.Transmission.{Transmission}
+use Rattle.rx_d0_values.specs.declared.reply.Reply.{Reply}
+use Rattle.rx_d0_values.specs.declared.transmission.Transmission.{Transmission}
 use Rattle.rx_ledger.specs.declared.figures.Figures.{Figures}
 use Rattle.rx_ledger.specs.declared.sheet.Listed.{Listed}
 use Rattle.rx_ledger.specs.Ledger.{Ledger}
 use Rattle.rx_ledger.specs.TermList.{TermParts}
-use Rattle.rx_parcels.specs.Books.{Book, IsInOrder}
-use Rattle.rx_parcels.specs.Footprints.{FootprintParts, names}
-use Rattle.rx_parcels.specs.Parcels.{ParcelParts, named_in, values_of}
-use Rattle.rx_books_kept.specs.LedgerBooks.{LedgerBooks}
+use Rattle.rx_books_parcel.specs.Books.{Book, IsInOrder}
+use Rattle.rx_books_parcel.specs.Footprints.{FootprintParts, names}
+use Rattle.rx_books_parcel.specs.Parcels.{ParcelParts, named_in, values_of}
+use Rattle.rx_books_store.specs.LedgerBooks.{LedgerBooks}
 use Rattle.rx_places.specs.Shelves.{ShelfParts, has_slot, is_out, value_of}
 use Rattle.rx_schedule.specs.declared.event.Event.{Event}
 use Rattle.rx_schedule.specs.declared.event.Event.TheVariants.{Give, Take}

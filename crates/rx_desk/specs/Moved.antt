@@ -1,9 +1,9 @@
 -- Plumbing: what a move of books between the shelf and a parcel changes of the shelf.
 use Rattle.std.specs.Prelude.{◌≡◌, ◌||◌, false, if◌then◌else◌}
 use Rattle.rx_ledger.specs.Ledger.{empty}
-use Rattle.rx_parcels.specs.Books.{Book}
-use Rattle.rx_parcels.specs.Footprints.{FootprintParts, names}
-use Rattle.rx_parcels.specs.Parcels.{IsParcel, ParcelParts, named_in, values_of}
+use Rattle.rx_books_parcel.specs.Books.{Book}
+use Rattle.rx_books_parcel.specs.Footprints.{FootprintParts, names}
+use Rattle.rx_books_parcel.specs.Parcels.{IsParcel, ParcelParts, named_in, values_of}
 use Rattle.rx_places.specs.Shelves.{ShelfParts, has_slot, is_out, value_of}
 
 -- the same books are on the shelf, and the same are out

@@ -14,14 +14,14 @@ use crate::same_job::{
 };
 use crate::state::{State, is_out_with};
 use rx_adjudicate::{Done, Order};
-use rx_books_kept::Books;
+use rx_books_parcel::Footprint;
 use rx_books_shelf::Shelf;
-use rx_claim::{Reply, Transmission};
+use rx_books_store::Books;
+use rx_d0_values::{Reply, Transmission};
 use rx_fields::{Lot, Memory};
-use rx_in_order::Finished;
 use rx_ledger::{Figures, Listed, Sheet, Terms};
-use rx_parcels::Footprint;
 use rx_schedule::{Event, Queues};
+use rx_serial::Finished;
 use std::alloc::Global;
 use std::marker::Model;
 

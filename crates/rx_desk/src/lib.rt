@@ -26,5 +26,5 @@ mod state;
 pub use desk::Desk;
 pub use next::Next;
 pub use remains::Remains;
-pub use rx_in_order::Finished;
 pub use rx_schedule::Event;
+pub use rx_serial::Finished;

@@ -1,19 +1,19 @@
 ghost use Rattle.std.specs.Prelude.{◌≡◌, ◌≤◌, ◌*◌, Bool, false, [], IfOk, OnOk, length, replicate, vec_capacity};
 ghost use Rattle.rx_fields.specs.declared.limits.TheConstants.{MOST_DETAILS};
 ghost use Rattle.rx_ledger.specs.Ledger.{IsLedger};
-ghost use Rattle.rx_parcels.specs.Books.{Book, book};
+ghost use Rattle.rx_books_parcel.specs.Books.{Book, book};
 ghost use Rattle.rx_places.specs.Shelves.{has_slot, is_out, value_of};
 ghost use Rattle.rx_books_shelf.specs.Opened.{is_named};
 ghost use Rattle.rx_schedule.specs.Footprints.{footprints_of};
 ghost use Rattle.rx_desk.specs.Desks.{AreTermsOf};
 
 use crate::state::State;
-use rx_books_kept::Books;
+use rx_books_parcel::Footprint;
 use rx_books_shelf::Shelf;
-use rx_claim::{Codes, Outcome, Rejected, Reply, Transmission};
+use rx_books_store::Books;
+use rx_d0_values::{Codes, Outcome, Rejected, Reply, Transmission};
 use rx_fields::{Code, Count, Lot, Memory};
 use rx_ledger::{Listed, Sheet, Terms};
-use rx_parcels::Footprint;
 use rx_schedule::{Event, Queues, footprints};
 use std::alloc::Global;
 

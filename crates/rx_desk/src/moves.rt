@@ -1,19 +1,19 @@
 ghost use Rattle.std.specs.Prelude.{◌≡◌, ◌<◌, ◌≤◌, ◌++◌, ◌∷◌, [], false, true, length, slice_set, vec_capacity, IfErr, IfOk, OnErr};
-ghost use Rattle.rx_parcels.specs.Books.{Book};
-ghost use Rattle.rx_parcels.specs.Footprints.{names};
-ghost use Rattle.rx_parcels.specs.Parcels.{named_in};
+ghost use Rattle.rx_books_parcel.specs.Books.{Book};
+ghost use Rattle.rx_books_parcel.specs.Footprints.{names};
+ghost use Rattle.rx_books_parcel.specs.Parcels.{named_in};
 ghost use Rattle.rx_places.specs.Shelves.{has_slot, is_out, value_of};
 ghost use Rattle.rx_places.specs.Shelves.{AreAllAgreed};
 ghost use Rattle.rx_ledger.specs.Ledger.{IsLedger};
-ghost use Rattle.rx_parcels.specs.Books.{book};
+ghost use Rattle.rx_books_parcel.specs.Books.{book};
 ghost use Rattle.rx_desk.specs.Moved.{IsGiven, IsSameShelf, IsTaken};
 
 use crate::state::State;
-use rx_books_kept::Books;
+use rx_books_parcel::{Footprint, Parcel};
 use rx_books_shelf::{Shelf, TakeFault};
-use rx_claim::Transmission;
+use rx_books_store::Books;
+use rx_d0_values::Transmission;
 use rx_fields::Memory;
-use rx_parcels::{Footprint, Parcel};
 use rx_schedule::Event;
 use std::alloc::Global;
 

@@ -1,7 +1,7 @@
 ghost use Rattle.std.specs.Prelude.{◌≡◌, ◌↔◌, IsTrue};
 
-use rx_books_kept::Books;
-use rx_claim::Transmission;
+use rx_books_store::Books;
+use rx_d0_values::Transmission;
 use rx_ledger::{Figures, Listed, Terms};
 
 /// Whether two lists of drugs are one.

@@ -1,6 +1,6 @@
 ghost use Rattle.std.specs.Prelude.{◌≡◌, ◌↔◌, IsTrue};
 
-use rx_parcels::Parcel;
+use rx_books_parcel::Parcel;
 
 /// Where a record is.
 #[derive(Debug, Drop)]

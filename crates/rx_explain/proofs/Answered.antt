@@ -4,12 +4,12 @@ use Rattle.std.proofs.Common.{◌≡◌, ℕ, suc, Bool, true, List, [], ◌∷�
 use Rattle.std.specs.List.{find, list_any}
 use Rattle.std.specs.Ordering.{is_gt, is_lt}
 use Rattle.std.proofs.lemmas.Bool.{cases_Bool}
-use Rattle.rx_claim.specs.declared.bill.BillParts.{BillParts}
-use Rattle.rx_claim.specs.declared.reply.Answer.{Answer}
-use Rattle.rx_claim.specs.declared.reply.Answer.TheVariants.{Paid}
-use Rattle.rx_claim.specs.declared.transaction.Reversal.{Reversal}
-use Rattle.rx_claim.specs.declared.transaction.Transaction.{Transaction}
-use Rattle.rx_claim.specs.declared.transaction.Transaction.TheVariants.{Bill, Reverse, Faulty}
+use Rattle.rx_d0_values.specs.declared.bill.BillParts.{BillParts}
+use Rattle.rx_d0_values.specs.declared.reply.Answer.{Answer}
+use Rattle.rx_d0_values.specs.declared.reply.Answer.TheVariants.{Paid}
+use Rattle.rx_d0_values.specs.declared.transaction.Reversal.{Reversal}
+use Rattle.rx_d0_values.specs.declared.transaction.Transaction.{Transaction}
+use Rattle.rx_d0_values.specs.declared.transaction.Transaction.TheVariants.{Bill, Reverse, Faulty}
 use Rattle.rx_fields.specs.Calendar.{day_cmp}
 use Rattle.rx_fields.specs.Numbered.{is_within}
 use Rattle.rx_fields.specs.declared.code.Code.TheVariants as code

@@ -1,9 +1,9 @@
 -- One record of a batch with its reply, and those after it.
 use Rattle.std.proofs.Common.{◌≡◌, ℕ, ◌+◌, ◌<◌, ◌++◌, List, ◌∷◌, drop, drop-cons, get_or, length, add-one, append_assoc, refl, sym, ap, ◌∙◌}
-use Rattle.rx_claim.specs.declared.reply.Answer.{Answer}
-use Rattle.rx_claim.specs.declared.reply.Reply.{Reply}
-use Rattle.rx_claim.specs.declared.transmission.Heard.{Heard}
-use Rattle.rx_claim.specs.declared.transmission.Transmission.{Transmission}
+use Rattle.rx_d0_values.specs.declared.reply.Answer.{Answer}
+use Rattle.rx_d0_values.specs.declared.reply.Reply.{Reply}
+use Rattle.rx_d0_values.specs.declared.transmission.Heard.{Heard}
+use Rattle.rx_d0_values.specs.declared.transmission.Transmission.{Transmission}
 use Rattle.rx_explain.specs.declared.at.At.{At}
 use Rattle.rx_explain.specs.Listed.{of_batch, of_record}
 

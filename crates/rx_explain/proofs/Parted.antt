@@ -13,7 +13,7 @@ use Rattle.std.specs.Ordering.{is_eq}
 use Rattle.rx_fields.specs.Order.{key_cmp}
 use Rattle.rx_fields.specs.declared.key.Key.{Key}
 use Rattle.rx_ledger.proofs.Orders.{key_exact}
-use Rattle.rx_order.proofs.Keys.{Equal-from_is_eq}
+use Rattle.rx_sorted.proofs.Keys.{Equal-from_is_eq}
 use Rattle.rx_explain.specs.declared.at.At.{At}
 use Rattle.rx_explain.specs.declared.events.Event.{Event}
 use Rattle.rx_explain.specs.Traces.{pays_before, returns_after, source_at, source_of, taken_back_at}

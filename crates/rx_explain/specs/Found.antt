@@ -1,10 +1,10 @@
 -- Meaning: the transactions that are asked for.
 use Rattle.std.specs.Prelude.{ℕ, ◌&&◌, ◌==◌, Bool, false, if◌then◌else◌, List, [], ◌∷◌, Option, Some, None}
-use Rattle.rx_claim.specs.declared.reply.Answer.{Answer}
-use Rattle.rx_claim.specs.declared.reply.Answer.TheVariants.{Paid, Twice, Approved, Refused}
-use Rattle.rx_claim.specs.declared.reply.Reply.{Reply}
-use Rattle.rx_claim.specs.declared.transmission.Heard.{Heard as HeardRecord}
-use Rattle.rx_claim.specs.declared.transmission.Transmission.{Transmission}
+use Rattle.rx_d0_values.specs.declared.reply.Answer.{Answer}
+use Rattle.rx_d0_values.specs.declared.reply.Answer.TheVariants.{Paid, Twice, Approved, Refused}
+use Rattle.rx_d0_values.specs.declared.reply.Reply.{Reply}
+use Rattle.rx_d0_values.specs.declared.transmission.Heard.{Heard as HeardRecord}
+use Rattle.rx_d0_values.specs.declared.transmission.Transmission.{Transmission}
 use Rattle.rx_ledger.specs.Members.{is_same}
 use Rattle.rx_explain.specs.declared.at.At.{At}
 use Rattle.rx_explain.specs.declared.finding.Wanted.{Wanted}

@@ -1,8 +1,8 @@
 -- Meaning: the standing claims that are shown with a case.
 use Rattle.std.specs.Prelude.{ℕ, Bool, ◌&&◌, List, [], filter, Option, Some, None}
 use Rattle.rx_fields.specs.Numbered.{Span, is_within}
-use Rattle.rx_claim.specs.declared.transaction.Transaction.{Transaction}
-use Rattle.rx_claim.specs.declared.transaction.Transaction.TheVariants.{Bill, Reverse, Faulty}
+use Rattle.rx_d0_values.specs.declared.transaction.Transaction.{Transaction}
+use Rattle.rx_d0_values.specs.declared.transaction.Transaction.TheVariants.{Bill, Reverse, Faulty}
 use Rattle.rx_ledger.specs.declared.row.Row.{Row}
 use Rattle.rx_ledger.specs.Ledger.{Ledger}
 use Rattle.rx_ledger.specs.Rows.{claimed_by}

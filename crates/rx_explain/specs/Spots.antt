@@ -1,11 +1,11 @@
 -- Meaning: the transaction at a place of a batch.
 use Rattle.std.specs.Prelude.{ℕ, ◌-◌, nat_lt, if◌then◌else◌, List, Option, Some, None, slice_get, option_and_then}
 use Rattle.std.specs.Option.{option_map}
-use Rattle.rx_claim.specs.declared.transaction.Transaction.{Transaction}
-use Rattle.rx_claim.specs.declared.transmission.Body.{Body}
-use Rattle.rx_claim.specs.declared.transmission.Body.TheVariants.{Rejected, Heard}
-use Rattle.rx_claim.specs.declared.transmission.Heard.{Heard as HeardRecord}
-use Rattle.rx_claim.specs.declared.transmission.Transmission.{Transmission}
+use Rattle.rx_d0_values.specs.declared.transaction.Transaction.{Transaction}
+use Rattle.rx_d0_values.specs.declared.transmission.Body.{Body}
+use Rattle.rx_d0_values.specs.declared.transmission.Body.TheVariants.{Rejected, Heard}
+use Rattle.rx_d0_values.specs.declared.transmission.Heard.{Heard as HeardRecord}
+use Rattle.rx_d0_values.specs.declared.transmission.Transmission.{Transmission}
 use Rattle.rx_explain.specs.declared.at.At.{At}
 
 -- an item of a list by its number from 1

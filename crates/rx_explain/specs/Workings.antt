@@ -1,8 +1,8 @@
 -- Meaning: the steps from a billing to its amounts.
 use Rattle.std.specs.Prelude.{ℕ, ◌+◌, ◌-◌, ◌*◌, ◌/◌, Option, min, unwrap_or}
 use Rattle.std.specs.Option.{option_map}
-use Rattle.rx_claim.specs.Billed.{cap}
-use Rattle.rx_claim.specs.declared.bill.BillParts.{BillParts}
+use Rattle.rx_d0_values.specs.Billed.{cap}
+use Rattle.rx_d0_values.specs.declared.bill.BillParts.{BillParts}
 use Rattle.rx_ledger.specs.declared.drug.Drug.{Drug}
 use Rattle.rx_ledger.specs.declared.drug.Share.{Share}
 use Rattle.rx_ledger.specs.declared.drug.Share.TheVariants.{Copay, Percent}

@@ -1,5 +1,5 @@
 ghost use Rattle.std.specs.Prelude.{◌≡◌, ◌≤◌, IfOk, OnOk};
-ghost use Rattle.rx_claim.specs.declared.transaction.Transaction.TheVariants as asks;
+ghost use Rattle.rx_d0_values.specs.declared.transaction.Transaction.TheVariants as asks;
 ghost use Rattle.rx_explain.specs.Around.{HasRows};
 ghost use Rattle.rx_explain.specs.Explained.{IsOnLedger};
 ghost use Rattle.rx_fields.specs.declared.limits.TheConstants.{MOST_DETAILS};
@@ -11,7 +11,7 @@ ghost use Rattle.rx_ledger.specs.Named.{key_in};
 use crate::at::At;
 use crate::events::Events;
 use crate::explanation::{Explanation, explain_on};
-use rx_claim::{Answer, Bill, Heard, Reversal, Transaction};
+use rx_d0_values::{Answer, Bill, Heard, Reversal, Transaction};
 use rx_fields::{Lot, Memory};
 use rx_ledger::{Basis, Occasion, Row, Sheet, answer_reversal};
 use std::alloc::Global;

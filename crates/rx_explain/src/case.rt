@@ -3,7 +3,7 @@ ghost use Rattle.rx_ledger.specs.Answers.{refused};
 ghost use Rattle.rx_explain.specs.Cases.{answer_by};
 
 use crate::workings::Workings;
-use rx_claim::{Answer, Approved, Codes, Faulty, Paid, Pricing, Refused};
+use rx_d0_values::{Answer, Approved, Codes, Faulty, Paid, Pricing, Refused};
 use rx_fields::{Authorization, Cents, Code, Reference};
 use rx_ledger::{Drug, Member, Row, Used};
 

@@ -17,7 +17,7 @@ ghost use Rattle.rx_explain.specs.Cases.{answer_to, case_bill, case_covered, cas
 
 use crate::case::{Case, Payment};
 use crate::workings::workings_of;
-use rx_claim::{Answer, Bill, Refused, Reversal, Transaction};
+use rx_d0_values::{Answer, Bill, Refused, Reversal, Transaction};
 use rx_fields::{Day, Id};
 use rx_ledger::{
     Allowance, Basis, Drug, Figures, Member, MemberKey, Occasion, Row, Sheet, is_too_soon, shared,

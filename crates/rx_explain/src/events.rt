@@ -7,7 +7,7 @@ ghost use Rattle.rx_explain.specs.Traces.{event_of, events_of};
 
 use crate::at::At;
 use crate::part::{PARTS, part_of_key};
-use rx_claim::{Answer, Body, Heard, Outcome, Reply, Transmission};
+use rx_d0_values::{Answer, Body, Heard, Outcome, Reply, Transmission};
 use rx_fields::{Key, Memory};
 use std::alloc::{AllocError, Global};
 use std::marker::Model;

@@ -20,7 +20,7 @@ use crate::deciding::{Decision, decide};
 use crate::events::Events;
 use crate::open_from::open_from;
 use crate::traced::{Traced, trace, trace_again, trace_each};
-use rx_claim::{Answer, Heard, Transaction};
+use rx_d0_values::{Answer, Heard, Transaction};
 use rx_fields::{Authorization, Day, Id, Lot, Memory, Period, Provider};
 use rx_ledger::{Basis, Occasion, Row, Sheet};
 use std::alloc::Global;

@@ -5,7 +5,7 @@ ghost use Rattle.rx_explain.specs.Found.{found_at, found_in, has_number, has_ref
 ghost use Rattle.rx_explain.specs.Listed.{of_answers, of_record};
 
 use crate::at::At;
-use rx_claim::{Answer, Body, Heard, Outcome, Reply, Transmission};
+use rx_d0_values::{Answer, Body, Heard, Outcome, Reply, Transmission};
 use rx_fields::{Authorization, Memory, Provider, Reference};
 use std::alloc::{AllocError, Global};
 

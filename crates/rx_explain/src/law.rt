@@ -1,7 +1,7 @@
 ghost use Rattle.std.specs.Prelude.{◌≡◌, ◌+◌, ℕ, List, Some, filter, slice_get, sum_by, take};
-ghost use Rattle.rx_claim.specs.declared.transaction.Transaction.{Transaction};
-ghost use Rattle.rx_claim.specs.declared.transmission.Heard.{Heard as HeardRecord};
-ghost use Rattle.rx_claim.specs.declared.transmission.Transmission.{Transmission};
+ghost use Rattle.rx_d0_values.specs.declared.transaction.Transaction.{Transaction};
+ghost use Rattle.rx_d0_values.specs.declared.transmission.Heard.{Heard as HeardRecord};
+ghost use Rattle.rx_d0_values.specs.declared.transmission.Transmission.{Transmission};
 ghost use Rattle.rx_fields.specs.Numbered.{LotParts, Span};
 ghost use Rattle.rx_ledger.specs.Answers.{answer};
 ghost use Rattle.rx_ledger.specs.Fold.{answers_from, asked, fold_ledger, fold_replies, ledger_from, reply_to};

@@ -6,7 +6,7 @@ ghost use Rattle.rx_explain.specs.Opens.{IsOpenFrom, is_early_fill};
 
 use crate::case::Case;
 use crate::deciding::is_early_fill;
-use rx_claim::{Bill, Transaction};
+use rx_d0_values::{Bill, Transaction};
 use rx_fields::{Day, date_read, digits_write};
 use rx_ledger::{Figures, Row};
 

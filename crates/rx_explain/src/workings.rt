@@ -5,7 +5,7 @@ ghost use Rattle.rx_fields.specs.declared.limits.TheConstants.{MOST_CENTS};
 ghost use Rattle.rx_ledger.specs.Share.{left};
 ghost use Rattle.rx_explain.specs.Workings.{share_of, workings_of};
 
-use rx_claim::Bill;
+use rx_d0_values::Bill;
 use rx_ledger::{Allowance, Drug, Figures, Share, Used, cost_of, left, under_deductible};
 
 /// The steps from a billing to its amounts, in cents (docs/PRODUCT.md, "Rules of adjudication").

@@ -3,18 +3,18 @@ use Rattle.std.specs.Prelude.{ℕ, List, [], ◌∷◌, ◌++◌, Option, Some, 
 use Rattle.std.specs.Fmt.{decimal}
 use Rattle.std.specs.List.{flat_map}
 use Rattle.std.specs.Option.{unwrap_or}
-use Rattle.rx_claim.specs.Priced.{patient_pay, total_paid}
-use Rattle.rx_claim.specs.declared.bill.BillParts.{BillParts}
-use Rattle.rx_claim.specs.declared.pricing.Amounts.{Amounts}
-use Rattle.rx_claim.specs.declared.reply.Answer.{Answer}
-use Rattle.rx_claim.specs.declared.reply.Approved.{Approved}
-use Rattle.rx_claim.specs.declared.reply.Paid.{Paid}
-use Rattle.rx_claim.specs.declared.reply.Answer.TheVariants as answer
-use Rattle.rx_claim.specs.declared.transaction.Transaction.{Transaction}
-use Rattle.rx_claim.specs.declared.transaction.Transaction.TheVariants.{Bill, Reverse, Faulty}
-use Rattle.rx_claim.specs.declared.transmission.Rejected.{Rejected}
-use Rattle.rx_escape.specs.Escape.{escaped}
-use Rattle.rx_escape.specs.declared.style.Style.TheVariants.{Json}
+use Rattle.rx_d0_values.specs.Priced.{patient_pay, total_paid}
+use Rattle.rx_d0_values.specs.declared.bill.BillParts.{BillParts}
+use Rattle.rx_d0_values.specs.declared.pricing.Amounts.{Amounts}
+use Rattle.rx_d0_values.specs.declared.reply.Answer.{Answer}
+use Rattle.rx_d0_values.specs.declared.reply.Approved.{Approved}
+use Rattle.rx_d0_values.specs.declared.reply.Paid.{Paid}
+use Rattle.rx_d0_values.specs.declared.reply.Answer.TheVariants as answer
+use Rattle.rx_d0_values.specs.declared.transaction.Transaction.{Transaction}
+use Rattle.rx_d0_values.specs.declared.transaction.Transaction.TheVariants.{Bill, Reverse, Faulty}
+use Rattle.rx_d0_values.specs.declared.transmission.Rejected.{Rejected}
+use Rattle.rx_print.specs.Escape.{escaped}
+use Rattle.rx_print.specs.declared.style.Style.TheVariants.{Json}
 use Rattle.rx_explain.specs.declared.at.At.{At}
 use Rattle.rx_explain.specs.declared.case.Case.{Case}
 use Rattle.rx_explain.specs.declared.case.Case.TheVariants as case

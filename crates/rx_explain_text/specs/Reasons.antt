@@ -1,11 +1,11 @@
 -- Meaning: why a case holds, in words; nothing of a claim that is paid, whose figures say it.
 use Rattle.std.specs.Prelude.{ℕ, ◌*◌, ◌-ℤ◌, unsigned_abs, if◌then◌else◌, List, [], ◌++◌, Option, Some, None, codes}
 use Rattle.std.specs.Fmt.{decimal}
-use Rattle.rx_claim.specs.Priced.{patient_pay, total_paid}
-use Rattle.rx_claim.specs.declared.bill.BillParts.{BillParts}
-use Rattle.rx_claim.specs.declared.pricing.Amounts.{Amounts}
-use Rattle.rx_claim.specs.declared.transaction.Transaction.{Transaction}
-use Rattle.rx_claim.specs.declared.transaction.Transaction.TheVariants.{Bill, Reverse, Faulty}
+use Rattle.rx_d0_values.specs.Priced.{patient_pay, total_paid}
+use Rattle.rx_d0_values.specs.declared.bill.BillParts.{BillParts}
+use Rattle.rx_d0_values.specs.declared.pricing.Amounts.{Amounts}
+use Rattle.rx_d0_values.specs.declared.transaction.Transaction.{Transaction}
+use Rattle.rx_d0_values.specs.declared.transaction.Transaction.TheVariants.{Bill, Reverse, Faulty}
 use Rattle.rx_explain.specs.declared.case.Case.{Case}
 use Rattle.rx_explain.specs.declared.case.Case.TheVariants as case
 use Rattle.rx_explain.specs.declared.explanation.Explanation.{Explanation}

@@ -1,7 +1,7 @@
 -- Meaning: what is said of a record whose header is rejected.
 use Rattle.std.specs.Prelude.{ℕ, List, [], ◌++◌, Option, Some, None, codes}
 use Rattle.std.specs.Fmt.{decimal}
-use Rattle.rx_claim.specs.declared.transmission.Rejected.{Rejected}
+use Rattle.rx_d0_values.specs.declared.transmission.Rejected.{Rejected}
 use Rattle.rx_explain_text.specs.Codes.{code_lines, shown}
 use Rattle.rx_explain_text.specs.RequestField.{field_bytes}
 use Rattle.rx_explain_text.specs.Said.{said, say}

@@ -9,7 +9,7 @@ use Rattle.rx_text.specs.declared.separators.TheConstants.{FIELD, GROUP, SEGMENT
 use Rattle.rx_fields.specs.Text.{trimmed}
 use Rattle.rx_fields.specs.declared.code.Code.{Code}
 use Rattle.rx_fields.specs.declared.code.Code.TheVariants as code
-use Rattle.rx_request.specs.declared.header.TheConstants.{HEADER_LENGTH}
+use Rattle.rx_d0_request.specs.declared.header.TheConstants.{HEADER_LENGTH}
 use Rattle.rx_explain_text.specs.declared.request_field.Stand.{Stand}
 use Rattle.rx_explain_text.specs.declared.request_field.Stand.TheVariants.{Header, Common, Group, Part}
 

@@ -8,7 +8,7 @@ ghost use Rattle.rx_explain_text.specs.Figures.{share_line, submitted_text};
 
 use crate::page::Page;
 use crate::reasons::put_traced;
-use rx_claim::{Bill, Transaction};
+use rx_d0_values::{Bill, Transaction};
 use rx_explain::{Case, Explanation, Payment, Traced};
 use rx_ledger::{Figures, Share};
 use std::alloc::AllocError;

@@ -12,11 +12,11 @@ use crate::figures::put_figures;
 use crate::page::Page;
 use crate::reasons::{put_member, put_reason};
 use crate::request_field::field_bytes;
-use rx_claim::{Answer, Bill, Rejected, Transaction};
-use rx_escape::Style;
+use rx_d0_values::{Answer, Bill, Rejected, Transaction};
 use rx_explain::{At, Case, Explanation};
 use rx_fields::{Authorization, Code, Id, Lot, Memory, Person, Reference, trimmed};
 use rx_ledger::Figures;
+use rx_print::Style;
 use std::alloc::{AllocError, Global};
 
 /// An explanation in words: a line that says what was answered to whom, and below it, set in, why

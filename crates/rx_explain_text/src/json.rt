@@ -19,13 +19,13 @@ use crate::json_list::{Decided, Spoken, Standing, put_list};
 use crate::page::Page;
 use crate::reasons::{as_decided, days_between};
 use crate::request_field::{field_bytes, field_name};
-use rx_claim::{
+use rx_d0_values::{
     Amounts, Answer, Approved, Bill, BillParts, Codes, Paid, Pricing, Rejected, Transaction,
 };
-use rx_escape::Style;
 use rx_explain::{At, Case, Explanation, Payment, Source, Traced};
 use rx_fields::{Authorization, Cents, Code, Day, Lot, Memory, Period, Reference};
 use rx_ledger::{Figures, Row, Share};
+use rx_print::Style;
 use std::alloc::{AllocError, Global};
 
 /// An explanation as one JSON object on one line. Amounts are in cents. `request` is the text of the record's transmission.

@@ -1,13 +1,13 @@
 ghost use Rattle.std.specs.Prelude.{◌≡◌, ◌++◌, [], ◌<◌, OnOk, replicate};
 ghost use Rattle.std.specs.Fmt.{decimal};
-ghost use Rattle.rx_escape.specs.Escape.{escaped};
+ghost use Rattle.rx_print.specs.Escape.{escaped};
 ghost use Rattle.rx_fields.specs.Digits.{digits_text};
 ghost use Rattle.rx_explain_text.specs.Dates.{dashed};
 ghost use Rattle.rx_explain_text.specs.Money.{cents_text, money_text, price_text, right_in, thousandths_text};
 ghost use Rattle.rx_explain_text.specs.Said.{said};
 
-use rx_escape::{Style, put_escaped};
 use rx_fields::{Authorization, Day, digits_write};
+use rx_print::{Style, put_escaped};
 use std::alloc::{AllocError, Global};
 
 /// A text that is written from front to end.

@@ -5,8 +5,8 @@ ghost use Rattle.rx_text.specs.declared.separators.TheConstants.{FIELD, SEGMENT}
 ghost use Rattle.rx_explain_text.specs.RequestField.{bytes_at, field_bytes, field_number, front_of, has_field, is_under};
 ghost use Rattle.rx_explain_text.specs.RequestField.{part_of, stand_of, value_in, value_of, value_under};
 
+use rx_d0_request::HEADER_LENGTH;
 use rx_fields::{Code, trimmed};
-use rx_request::HEADER_LENGTH;
 use rx_text::{FIELD, GROUP, SEGMENT};
 
 // Where the bytes stand that a code speaks of.

@@ -12,7 +12,7 @@ use Rattle.rx_fields.specs.contracts.door.DoorPartialEq.TheImpl.{ghosts as door}
 use Rattle.rx_fields.specs.contracts.key.KeyPartialEq.TheImpl.{ghosts as key}
 use Rattle.rx_fields.specs.contracts.lot.LotPartialEq.TheImpl.{ghosts as lot}
 use Rattle.rx_fields.specs.contracts.period.PeriodPartialEq.TheImpl.{ghosts as period}
-use Rattle.rx_claim.proofs.Decided.{pricing_decides}
+use Rattle.rx_d0_values.proofs.Decided.{pricing_decides}
 use Rattle.rx_ledger.specs.declared.drug.Drug.{Drug}
 use Rattle.rx_ledger.specs.declared.drug.Share.{Share}
 use Rattle.rx_ledger.specs.declared.drug.Share.TheVariants.{Copay, Percent}

@@ -6,14 +6,14 @@ use Rattle.std.specs.Ordering.{is_eq}
 use Rattle.std.proofs.lemmas.Bool.{cases_Bool}
 use Rattle.rx_fields.specs.Order.{key_cmp}
 use Rattle.rx_fields.specs.declared.key.Key.{Key}
-use Rattle.rx_claim.specs.declared.reply.Answer.{Answer}
-use Rattle.rx_claim.specs.declared.reply.Answer.TheVariants.{Paid, Twice, Approved, Refused}
-use Rattle.rx_claim.specs.declared.transaction.Transaction.{Transaction}
-use Rattle.rx_claim.specs.declared.transaction.Transaction.TheVariants.{Bill, Reverse, Faulty}
-use Rattle.rx_claim.specs.declared.transmission.Body.{Body}
-use Rattle.rx_claim.specs.declared.transmission.Body.TheVariants.{Rejected, Heard}
-use Rattle.rx_order.specs.Ascending.{has_key}
-use Rattle.rx_order.proofs.LookUps.{item_at-put, item_at-without}
+use Rattle.rx_d0_values.specs.declared.reply.Answer.{Answer}
+use Rattle.rx_d0_values.specs.declared.reply.Answer.TheVariants.{Paid, Twice, Approved, Refused}
+use Rattle.rx_d0_values.specs.declared.transaction.Transaction.{Transaction}
+use Rattle.rx_d0_values.specs.declared.transaction.Transaction.TheVariants.{Bill, Reverse, Faulty}
+use Rattle.rx_d0_values.specs.declared.transmission.Body.{Body}
+use Rattle.rx_d0_values.specs.declared.transmission.Body.TheVariants.{Rejected, Heard}
+use Rattle.rx_sorted.specs.Ascending.{has_key}
+use Rattle.rx_sorted.proofs.LookUps.{item_at-put, item_at-without}
 use Rattle.rx_ledger.specs.declared.row.Row.{Row}
 use Rattle.rx_ledger.specs.Answers.{Asked, after}
 use Rattle.rx_ledger.specs.Basis.{Scope, Holds, HoldsRecord, whole}

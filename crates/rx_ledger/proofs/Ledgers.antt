@@ -3,9 +3,9 @@ use Rattle.std.proofs.Common.{◌≡◌, Bool, true, not, inl, inr}
 use Rattle.std.proofs.lemmas.Bool.{cases_Bool}
 use Rattle.rx_fields.specs.Order.{key_cmp}
 use Rattle.rx_fields.specs.declared.key.Key.{Key}
-use Rattle.rx_order.specs.Ascending.{has_key}
-use Rattle.rx_order.proofs.Kept.{IsAscending-put, IsAscending-without}
-use Rattle.rx_order.proofs.LookUps.{item_at-put}
+use Rattle.rx_sorted.specs.Ascending.{has_key}
+use Rattle.rx_sorted.proofs.Kept.{IsAscending-put, IsAscending-without}
+use Rattle.rx_sorted.proofs.LookUps.{item_at-put}
 use Rattle.rx_ledger.specs.Ledger.{Ledger, IsLedger, is_listed, with_member, with_row, without_row}
 use Rattle.rx_ledger.specs.Members.{member_cmp, member_key}
 use Rattle.rx_ledger.specs.Rows.{member_of_row, row_key}

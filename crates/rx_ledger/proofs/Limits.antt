@@ -2,8 +2,8 @@
 use Rattle.std.proofs.Common.{◌≡◌, ◌≤◌, ℕ, ◌+◌, ◌-◌, ◌*◌, ◌/◌, true, min, Option, Some, None, IsSome, refl, arith}
 use Rattle.std.proofs.Math.Nat.{mul-le-mul_left}
 use Rattle.std.proofs.lemmas.Bool.{and_from, le-leb, leb-true}
-use Rattle.rx_claim.specs.declared.pricing.Amounts.{Amounts}
-use Rattle.rx_claim.specs.Priced.{allowed, is_priced, patient_pay, pricing_of}
+use Rattle.rx_d0_values.specs.declared.pricing.Amounts.{Amounts}
+use Rattle.rx_d0_values.specs.Priced.{allowed, is_priced, patient_pay, pricing_of}
 use Rattle.rx_ledger.specs.declared.drug.Share.{Share}
 use Rattle.rx_ledger.specs.declared.drug.Share.TheVariants.{Copay, Percent}
 use Rattle.rx_ledger.specs.declared.figures.Figures.{Figures}

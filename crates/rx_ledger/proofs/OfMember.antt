@@ -6,11 +6,11 @@ use Rattle.std.specs.Ordering.{is_eq, ordering_then}
 use Rattle.std.specs.declared.cmp.Ordering.{Ordering}
 use Rattle.std.specs.declared.cmp.Ordering.TheVariants.{Less, Equal, Greater}
 use Rattle.std.proofs.lemmas.Bool.{cases_Bool}
-use Rattle.rx_claim.specs.declared.bill.BillParts.{BillParts}
-use Rattle.rx_claim.specs.declared.reply.Answer.TheVariants.{Paid}
-use Rattle.rx_claim.specs.declared.reply.Paid.{Paid as PaidParts}
-use Rattle.rx_claim.specs.declared.transaction.Transaction.TheVariants.{Bill}
-use Rattle.rx_order.specs.Ascending.{contains_key, has_key}
+use Rattle.rx_d0_values.specs.declared.bill.BillParts.{BillParts}
+use Rattle.rx_d0_values.specs.declared.reply.Answer.TheVariants.{Paid}
+use Rattle.rx_d0_values.specs.declared.reply.Paid.{Paid as PaidParts}
+use Rattle.rx_d0_values.specs.declared.transaction.Transaction.TheVariants.{Bill}
+use Rattle.rx_sorted.specs.Ascending.{contains_key, has_key}
 use Rattle.rx_ledger.specs.declared.member.Member.{Member}
 use Rattle.rx_ledger.specs.declared.member.MemberKey.{MemberKey}
 use Rattle.rx_ledger.specs.declared.row.Row.{Row}

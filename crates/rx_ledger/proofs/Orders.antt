@@ -5,8 +5,8 @@ use Rattle.std.proofs.lemmas.Map.Lookups.{CmpEqualImpliesEq}
 use Rattle.rx_fields.specs.Calendar.{Civil, day_cmp}
 use Rattle.rx_fields.specs.Order.{id_cmp, key_cmp}
 use Rattle.rx_fields.specs.declared.key.Key.{Key}
-use Rattle.rx_order.proofs.KeyOrders.{number_total, number_exact, text_total, text_exact, by_two_total, by_two_exact}
-use Rattle.rx_order.proofs.KeyOrders.{by_three_total, by_three_exact, triple_total, triple_exact}
+use Rattle.rx_sorted.proofs.KeyOrders.{number_total, number_exact, text_total, text_exact, by_two_total, by_two_exact}
+use Rattle.rx_sorted.proofs.KeyOrders.{by_three_total, by_three_exact, triple_total, triple_exact}
 use Rattle.rx_ledger.specs.Members.{member_cmp}
 use Rattle.rx_ledger.specs.declared.member.MemberKey.{MemberKey}
 

@@ -4,10 +4,10 @@ use Rattle.std.specs.Prelude.{not, ◌||◌, nat_lt}
 use Rattle.std.specs.List.{list_any}
 use Rattle.std.specs.Ordering.{is_gt, is_lt}
 use Rattle.std.proofs.lemmas.Bool.{cases_Bool}
-use Rattle.rx_claim.specs.declared.bill.BillParts.{BillParts}
-use Rattle.rx_claim.specs.declared.reply.Answer.TheVariants.{Paid}
-use Rattle.rx_claim.specs.declared.reply.Paid.{Paid as PaidParts}
-use Rattle.rx_claim.specs.declared.transaction.Transaction.TheVariants.{Bill}
+use Rattle.rx_d0_values.specs.declared.bill.BillParts.{BillParts}
+use Rattle.rx_d0_values.specs.declared.reply.Answer.TheVariants.{Paid}
+use Rattle.rx_d0_values.specs.declared.reply.Paid.{Paid as PaidParts}
+use Rattle.rx_d0_values.specs.declared.transaction.Transaction.TheVariants.{Bill}
 use Rattle.rx_fields.specs.Calendar.{day_cmp}
 use Rattle.rx_fields.specs.Numbered.{is_within}
 use Rattle.rx_ledger.specs.declared.drug.Drug.{Drug}

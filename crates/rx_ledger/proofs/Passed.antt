@@ -3,8 +3,8 @@ use Rattle.std.proofs.Common.{◌≡◌, List, [], ◌∷◌, Bool, true, Some, 
 use Rattle.std.specs.List.{filter, list_all}
 use Rattle.std.specs.declared.cmp.Ordering.{Ordering}
 use Rattle.std.proofs.lemmas.Bool.{cases_Bool, and_parts}
-use Rattle.rx_order.specs.Ascending.{has_key, item_at, put}
-use Rattle.rx_order.proofs.Keys.{cases_Ordering}
+use Rattle.rx_sorted.specs.Ascending.{has_key, item_at, put}
+use Rattle.rx_sorted.proofs.Keys.{cases_Ordering}
 
 module _ {X : Type 0} (p : X → Bool) where
   pub passed_next : (x : X) (xs : List X) → p x ≡ true → list_all p xs ≡ true → list_all p (x ∷ xs) ≡ true

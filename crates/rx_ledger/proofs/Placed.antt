@@ -4,14 +4,14 @@ use Rattle.std.specs.Prelude.{◌⊎◌, IfSome, slice_get, option_and_then}
 use Rattle.std.specs.Ordering.{nat_cmp}
 use Rattle.std.proofs.lemmas.Bool.{cases_Bool}
 use Rattle.rx_fields.specs.Numbered.{LotParts}
-use Rattle.rx_order.specs.Ascending.{has_key}
-use Rattle.rx_order.proofs.Keys.{Equal-from_is_eq, has_key-itself}
-use Rattle.rx_order.proofs.KeyOrders.{number_total, number_exact}
-use Rattle.rx_claim.specs.declared.transaction.Transaction.{Transaction}
-use Rattle.rx_claim.specs.declared.transaction.Transaction.TheVariants.{Bill, Reverse, Faulty}
-use Rattle.rx_claim.specs.declared.transmission.Transmission.{Transmission}
-use Rattle.rx_claim.specs.declared.reply.Outcome.{Outcome}
-use Rattle.rx_claim.specs.declared.reply.Reply.{Reply}
+use Rattle.rx_sorted.specs.Ascending.{has_key}
+use Rattle.rx_sorted.proofs.Keys.{Equal-from_is_eq, has_key-itself}
+use Rattle.rx_sorted.proofs.KeyOrders.{number_total, number_exact}
+use Rattle.rx_d0_values.specs.declared.transaction.Transaction.{Transaction}
+use Rattle.rx_d0_values.specs.declared.transaction.Transaction.TheVariants.{Bill, Reverse, Faulty}
+use Rattle.rx_d0_values.specs.declared.transmission.Transmission.{Transmission}
+use Rattle.rx_d0_values.specs.declared.reply.Outcome.{Outcome}
+use Rattle.rx_d0_values.specs.declared.reply.Reply.{Reply}
 use Rattle.rx_ledger.specs.declared.drug.Drug.{Drug}
 use Rattle.rx_ledger.specs.declared.figures.Figures.{Figures}
 use Rattle.rx_ledger.specs.declared.sheet.Listed.{Listed}

@@ -1,9 +1,9 @@
 -- When a call is refused with an error: exactly where a test holds.
 use Rattle.std.proofs.Common.{◌≡◌, Bool, true, false, Result, Ok, Err, IsErrOf, OnOk, OnErr, sym, ap, ◌∙◌}
 use Rattle.std.specs.Prelude.{◌↔◌}
-use Rattle.rx_order.specs.InsertError.{is_there}
-use Rattle.rx_order.specs.declared.list.InsertError.{InsertError}
-use Rattle.rx_order.specs.declared.list.InsertError.TheVariants.{There}
+use Rattle.rx_sorted.specs.InsertError.{is_there}
+use Rattle.rx_sorted.specs.declared.list.InsertError.{InsertError}
+use Rattle.rx_sorted.specs.declared.list.InsertError.TheVariants.{There}
 
 module _ {T E : Type 0} (r : Result T E) (e : E) where
   -- what didn't come, and isn't called for

@@ -1,9 +1,9 @@
 -- One transaction of a record, and those after it.
 use Rattle.std.proofs.Common.{◌≡◌, ℕ, ◌+◌, ◌<◌, ◌++◌, List, [], ◌∷◌, drop, get_or, length, add-one, append_assoc, sym, ap, ◌∙◌}
 use Rattle.std.proofs.Common.{drop-cons}
-use Rattle.rx_claim.specs.declared.reply.Answer.{Answer}
-use Rattle.rx_claim.specs.declared.transaction.Transaction.{Transaction}
-use Rattle.rx_claim.specs.declared.transmission.Heard.{Heard as HeardRecord}
+use Rattle.rx_d0_values.specs.declared.reply.Answer.{Answer}
+use Rattle.rx_d0_values.specs.declared.transaction.Transaction.{Transaction}
+use Rattle.rx_d0_values.specs.declared.transmission.Heard.{Heard as HeardRecord}
 use Rattle.rx_fields.specs.Numbered.{LotParts}
 use Rattle.rx_ledger.specs.Answers.{after, answer}
 use Rattle.rx_ledger.specs.Fold.{answers_from, asked, ledger_from}

@@ -2,7 +2,7 @@
 use Rattle.std.specs.Prelude.{not, ◌||◌}
 use Rattle.std.proofs.Common.{◌≡◌, false, List, Option, refl}
 use Rattle.std.specs.Ordering.{is_gt, is_lt}
-use Rattle.rx_claim.specs.declared.bill.BillParts.{BillParts}
+use Rattle.rx_d0_values.specs.declared.bill.BillParts.{BillParts}
 use Rattle.rx_fields.specs.Calendar.{day_cmp}
 use Rattle.rx_fields.specs.Numbered.{is_within}
 use Rattle.rx_ledger.specs.declared.drug.Drug.{Drug}

@@ -6,23 +6,23 @@ use Rattle.std.proofs.lemmas.Bool.{cases_Bool}
 use Rattle.std.proofs.lemmas.List.Sums.{sum_by-cons}
 use Rattle.rx_fields.specs.Numbered.{LotParts, Span, is_within}
 use Rattle.rx_fields.specs.Order.{key_cmp}
-use Rattle.rx_claim.specs.Priced.{patient_pay}
-use Rattle.rx_claim.specs.declared.bill.BillParts.{BillParts}
-use Rattle.rx_claim.specs.declared.reply.Answer.{Answer}
-use Rattle.rx_claim.specs.declared.reply.Answer.TheVariants.{Paid, Twice, Approved, Refused}
-use Rattle.rx_claim.specs.declared.reply.Paid.{Paid as PaidParts}
-use Rattle.rx_claim.specs.declared.transaction.Transaction.{Transaction}
-use Rattle.rx_claim.specs.declared.transaction.Transaction.TheVariants.{Bill, Reverse, Faulty}
-use Rattle.rx_claim.specs.declared.transmission.Body.{Body}
-use Rattle.rx_claim.specs.declared.transmission.Body.TheVariants.{Rejected, Heard}
-use Rattle.rx_claim.specs.declared.transmission.Heard.{Heard as HeardRecord}
-use Rattle.rx_claim.specs.declared.transmission.Transmission.{Transmission}
-use Rattle.rx_order.specs.Ascending.{IsAscending, has_key}
-use Rattle.rx_order.proofs.FilteredPuts.{filter-put, filter-put_free}
-use Rattle.rx_order.proofs.Kept.{IsAscending-put, IsAscending-without}
-use Rattle.rx_order.proofs.Keys.{Equal-from_is_eq}
-use Rattle.rx_order.proofs.LookUps.{item_at-filter_none}
-use Rattle.rx_order.proofs.Totals.{sum_by-put_free}
+use Rattle.rx_d0_values.specs.Priced.{patient_pay}
+use Rattle.rx_d0_values.specs.declared.bill.BillParts.{BillParts}
+use Rattle.rx_d0_values.specs.declared.reply.Answer.{Answer}
+use Rattle.rx_d0_values.specs.declared.reply.Answer.TheVariants.{Paid, Twice, Approved, Refused}
+use Rattle.rx_d0_values.specs.declared.reply.Paid.{Paid as PaidParts}
+use Rattle.rx_d0_values.specs.declared.transaction.Transaction.{Transaction}
+use Rattle.rx_d0_values.specs.declared.transaction.Transaction.TheVariants.{Bill, Reverse, Faulty}
+use Rattle.rx_d0_values.specs.declared.transmission.Body.{Body}
+use Rattle.rx_d0_values.specs.declared.transmission.Body.TheVariants.{Rejected, Heard}
+use Rattle.rx_d0_values.specs.declared.transmission.Heard.{Heard as HeardRecord}
+use Rattle.rx_d0_values.specs.declared.transmission.Transmission.{Transmission}
+use Rattle.rx_sorted.specs.Ascending.{IsAscending, has_key}
+use Rattle.rx_sorted.proofs.FilteredPuts.{filter-put, filter-put_free}
+use Rattle.rx_sorted.proofs.Kept.{IsAscending-put, IsAscending-without}
+use Rattle.rx_sorted.proofs.Keys.{Equal-from_is_eq}
+use Rattle.rx_sorted.proofs.LookUps.{item_at-filter_none}
+use Rattle.rx_sorted.proofs.Totals.{sum_by-put_free}
 use Rattle.rx_ledger.specs.declared.drug.Drug.{Drug}
 use Rattle.rx_ledger.specs.declared.drug.Share.{Share}
 use Rattle.rx_ledger.specs.declared.drug.Share.TheVariants.{Copay, Percent}

@@ -2,8 +2,8 @@
 use Rattle.std.specs.Prelude.{◌≡◌, ℕ, true, List, IfSome, length, nat_lt}
 use Rattle.std.specs.List.{list_any}
 use Rattle.std.specs.Option.{option_map}
-use Rattle.rx_claim.specs.declared.bill.BillParts.{BillParts}
-use Rattle.rx_claim.specs.declared.transmission.Heard.{Heard}
+use Rattle.rx_d0_values.specs.declared.bill.BillParts.{BillParts}
+use Rattle.rx_d0_values.specs.declared.transmission.Heard.{Heard}
 use Rattle.rx_fields.specs.Numbered.{LotParts}
 use Rattle.rx_ledger.specs.declared.claim.Claim.{Claim}
 use Rattle.rx_ledger.specs.declared.claim.Patient.{Patient}

@@ -3,7 +3,7 @@ use Rattle.std.specs.Prelude.{◌≡◌, ℕ, Bool, true, List, [], Option, filt
 use Rattle.std.specs.List.{list_all}
 use Rattle.rx_fields.specs.Order.{key_cmp}
 use Rattle.rx_fields.specs.declared.key.Key.{Key}
-use Rattle.rx_order.specs.Ascending.{IsAscending, contains_key, item_at, put, without}
+use Rattle.rx_sorted.specs.Ascending.{IsAscending, contains_key, item_at, put, without}
 use Rattle.rx_ledger.specs.declared.member.Member.{Member}
 use Rattle.rx_ledger.specs.declared.member.MemberKey.{MemberKey}
 use Rattle.rx_ledger.specs.declared.row.Row.{Row}

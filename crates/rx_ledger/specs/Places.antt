@@ -1,10 +1,10 @@
 -- Plumbing: which drugs the terms of a record hold: a place for each of its transactions.
 use Rattle.std.specs.Prelude.{ℕ, List, [], Option, None, slice_get, option_and_then}
 use Rattle.std.specs.Option.{option_map}
-use Rattle.rx_claim.specs.declared.transaction.Transaction.{Transaction}
-use Rattle.rx_claim.specs.declared.transaction.Transaction.TheVariants.{Bill, Reverse, Faulty}
-use Rattle.rx_claim.specs.declared.transmission.Body.{Body}
-use Rattle.rx_claim.specs.declared.transmission.Body.TheVariants.{Rejected, Heard}
+use Rattle.rx_d0_values.specs.declared.transaction.Transaction.{Transaction}
+use Rattle.rx_d0_values.specs.declared.transaction.Transaction.TheVariants.{Bill, Reverse, Faulty}
+use Rattle.rx_d0_values.specs.declared.transmission.Body.{Body}
+use Rattle.rx_d0_values.specs.declared.transmission.Body.TheVariants.{Rejected, Heard}
 use Rattle.rx_ledger.specs.declared.drug.Drug.{Drug}
 use Rattle.rx_ledger.specs.declared.sheet.Listed.{Listed}
 use Rattle.rx_ledger.specs.Plan.{Plan, drug_of}

@@ -7,7 +7,7 @@ use Rattle.rx_ledger.specs.declared.figures.TheConstants.{MOST_LIMIT}
 use Rattle.rx_ledger.specs.declared.drug.TheConstants.{MOST_PRICE}
 use Rattle.rx_fields.specs.declared.limits.TheConstants.{MOST_CENTS}
 use Rattle.rx_text.specs.Bytes.{all_digits, all_printable}
-use Rattle.rx_order.specs.Ascending.{contains_key, item_at, put}
+use Rattle.rx_sorted.specs.Ascending.{contains_key, item_at, put}
 use Rattle.rx_ledger.specs.declared.drug.Drug.{Drug}
 use Rattle.rx_ledger.specs.declared.drug.Share.{Share}
 use Rattle.rx_ledger.specs.declared.drug.Share.TheVariants.{Copay, Percent}

@@ -1,7 +1,7 @@
 -- Meaning: what is paid for a drug before the patient's share.
 use Rattle.std.specs.Prelude.{ℕ, ◌+◌, ◌-◌, ◌*◌, ◌/◌, nat_lt, if◌then◌else◌, unwrap_or, min}
-use Rattle.rx_claim.specs.declared.bill.BillParts.{BillParts}
-use Rattle.rx_claim.specs.Billed.{cap}
+use Rattle.rx_d0_values.specs.declared.bill.BillParts.{BillParts}
+use Rattle.rx_d0_values.specs.Billed.{cap}
 
 -- an ingredient cost and a dispensing fee, in cents
 pub record Allowance : Type 0 where

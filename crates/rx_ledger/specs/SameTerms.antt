@@ -1,7 +1,7 @@
 -- Meaning: terms under which a record is adjudicated as under the whole sheet.
 use Rattle.std.specs.Prelude.{◌≡◌, ℕ}
 use Rattle.rx_fields.specs.Numbered.{LotParts}
-use Rattle.rx_claim.specs.declared.transmission.Transmission.{Transmission}
+use Rattle.rx_d0_values.specs.declared.transmission.Transmission.{Transmission}
 use Rattle.rx_ledger.specs.Fold.{ledger_after, reply_to}
 use Rattle.rx_ledger.specs.Ledger.{Ledger}
 use Rattle.rx_ledger.specs.Plan.{Plan}

@@ -1,6 +1,6 @@
 -- Meaning: what the member pays of an allowance.
 use Rattle.std.specs.Prelude.{ℕ, ◌+◌, ◌-◌, ◌*◌, ◌/◌, Option, Some, None, min}
-use Rattle.rx_claim.specs.declared.pricing.Amounts.{Amounts}
+use Rattle.rx_d0_values.specs.declared.pricing.Amounts.{Amounts}
 use Rattle.rx_ledger.specs.declared.drug.Share.{Share}
 use Rattle.rx_ledger.specs.declared.drug.Share.TheVariants.{Copay, Percent}
 use Rattle.rx_ledger.specs.declared.figures.Figures.{Figures}

@@ -1,7 +1,7 @@
 -- Meaning: the accumulators of a benefit period: sums over the standing claims of a family that are dated within it.
 use Rattle.std.specs.Prelude.{ℕ, List, if◌then◌else◌, sum_by}
 use Rattle.rx_fields.specs.Numbered.{Span, is_within}
-use Rattle.rx_claim.specs.Priced.{patient_pay}
+use Rattle.rx_d0_values.specs.Priced.{patient_pay}
 use Rattle.rx_ledger.specs.declared.row.Row.{Row}
 use Rattle.rx_ledger.specs.Ledger.{Ledger, rows_of}
 use Rattle.rx_ledger.specs.Members.{is_same}

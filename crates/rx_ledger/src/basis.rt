@@ -11,7 +11,7 @@ use crate::figures::Figures;
 use crate::member::{Member, MemberKey};
 use crate::row::Row;
 use crate::share::Used;
-use rx_claim::Bill;
+use rx_d0_values::Bill;
 use rx_fields::{Day, Id, Key, Memory};
 
 /// What a record is adjudicated on: books that answer as a ledger does, whole or in part. It says what it answers for:

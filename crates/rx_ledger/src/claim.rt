@@ -14,7 +14,7 @@ use crate::occasion::Occasion;
 use crate::price::Allowance;
 use crate::row::Row;
 use crate::share::{Used, shared};
-use rx_claim::{Answer, Bill, Codes, Paid, Refused};
+use rx_d0_values::{Answer, Bill, Codes, Paid, Refused};
 use rx_fields::{Code, Reference};
 
 /// The member of a billing, with what the standing claims of the family say.

@@ -5,7 +5,7 @@ ghost use Rattle.rx_ledger.specs.Fold.{fold_ledger, fold_replies};
 use crate::ledger::Ledger;
 use crate::reply::answer_record;
 use crate::sheet::Sheet;
-use rx_claim::{Reply, Transmission};
+use rx_d0_values::{Reply, Transmission};
 use rx_fields::{Lot, Memory};
 use std::alloc::Global;
 

@@ -1,5 +1,5 @@
 ghost use Rattle.std.specs.Prelude.{◌≡◌, ℕ, List, false};
-ghost use Rattle.rx_claim.specs.declared.transmission.Transmission.{Transmission};
+ghost use Rattle.rx_d0_values.specs.declared.transmission.Transmission.{Transmission};
 ghost use Rattle.rx_fields.specs.Numbered.{LotParts};
 ghost use Rattle.rx_fields.specs.declared.key.Key.{Key};
 ghost use Rattle.rx_ledger.specs.Fold.{fold_ledger};

@@ -5,7 +5,7 @@ ghost use Rattle.rx_ledger.specs.Rows.{member_of_row};
 use crate::member::{Member, MemberKey};
 use crate::row::Row;
 use rx_fields::{Key, Memory};
-use rx_order::{Ascending, InsertError};
+use rx_sorted::{Ascending, InsertError};
 use std::alloc::Global;
 use std::marker::Model;
 

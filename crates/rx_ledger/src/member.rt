@@ -2,7 +2,7 @@ ghost use Rattle.std.specs.Prelude.{◌≡◌};
 ghost use Rattle.rx_ledger.specs.Members.{member_of};
 
 use rx_fields::{Day, Id, Period, Person};
-use rx_order::Keyed;
+use rx_sorted::Keyed;
 
 /// What a member is known by: the family, and the person within it.
 #[derive(Clone, Copy, Debug, PartialEq, Eq, PartialOrd, Ord)]

@@ -5,7 +5,7 @@ ghost use Rattle.rx_ledger.specs.Claims.{asked_on, occasion_of};
 
 use crate::figures::Figures;
 use crate::row::Row;
-use rx_claim::{Bill, Heard, Paid};
+use rx_d0_values::{Bill, Heard, Paid};
 use rx_fields::{Authorization, Day, Key, Lot, NUMBERS_OF_A_BATCH, Provider, Reference};
 
 /// What a transaction is asked under.

@@ -11,7 +11,7 @@ use crate::refill::is_too_soon;
 use crate::row::Row;
 use crate::share::Used;
 use crate::sums::used_by;
-use rx_claim::Bill;
+use rx_d0_values::Bill;
 use rx_fields::{Day, Id, Key, Memory};
 
 // A plain ledger answers for everything, and goes over all members or rows at each question.

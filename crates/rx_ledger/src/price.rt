@@ -2,7 +2,7 @@ ghost use Rattle.std.specs.Prelude.{◌≡◌};
 ghost use Rattle.rx_fields.specs.declared.limits.TheConstants.{MOST_CENTS};
 
 use crate::drug::MOST_PRICE;
-use rx_claim::Bill;
+use rx_d0_values::Bill;
 use rx_fields::Quantity;
 use std::marker::Model;
 

@@ -4,7 +4,7 @@ ghost use Rattle.rx_ledger.specs.Answers.{is_too_soon};
 
 use crate::figures::Figures;
 use crate::row::Row;
-use rx_claim::Bill;
+use rx_d0_values::Bill;
 use rx_fields::{Day, Days};
 
 /// Whether a standing claim of the family makes a billing on the date of service a refill too soon: it is a fill of

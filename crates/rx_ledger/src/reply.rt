@@ -1,7 +1,7 @@
 ghost use Rattle.std.specs.Prelude.{◌≡◌, ◌≤◌, length, true, IfOk, OnOk};
 ghost use Rattle.std.specs.List.{All};
 ghost use Rattle.rx_fields.specs.declared.limits.TheConstants.{MOST_DETAILS};
-ghost use Rattle.rx_claim.specs.Listed.{is_few};
+ghost use Rattle.rx_d0_values.specs.Listed.{is_few};
 ghost use Rattle.rx_ledger.specs.Basis.{HasPeriod, Holds, HoldsRecord};
 ghost use Rattle.rx_ledger.specs.Fold.{answers_from, ledger_after, ledger_from, reply_to};
 ghost use Rattle.rx_ledger.specs.Named.{key_in};
@@ -11,7 +11,7 @@ use crate::basis::Basis;
 use crate::occasion::Occasion;
 use crate::step::adjudicate;
 use crate::terms::Terms;
-use rx_claim::{Answer, Answers, Body, Heard, Outcome, Reply, Transmission};
+use rx_d0_values::{Answer, Answers, Body, Heard, Outcome, Reply, Transmission};
 use rx_fields::Memory;
 use std::alloc::Global;
 

@@ -5,7 +5,7 @@ ghost use Rattle.rx_ledger.specs.Claims.{asked_on};
 use crate::claim::refused;
 use crate::occasion::Occasion;
 use crate::row::Row;
-use rx_claim::{Answer, Approved, Reversal};
+use rx_d0_values::{Answer, Approved, Reversal};
 use rx_fields::{Cents, Code};
 
 /// The answer to a reversal, given the row under its fill key (docs/PRODUCT.md, "Rules of adjudication").

@@ -2,9 +2,9 @@ ghost use Rattle.std.specs.Prelude.{◌≡◌};
 ghost use Rattle.rx_ledger.specs.Rows.{row_of};
 
 use crate::member::MemberKey;
-use rx_claim::{Amounts, Pricing};
+use rx_d0_values::{Amounts, Pricing};
 use rx_fields::{Authorization, Days, Id, Key, Person, Product, Quantity};
-use rx_order::Keyed;
+use rx_sorted::Keyed;
 use std::mem::size_of;
 
 /// A standing claim (docs/PRODUCT.md, "Words"). Its fields stand in an order that leaves few gaps: a ledger has many.

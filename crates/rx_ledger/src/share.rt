@@ -6,7 +6,7 @@ ghost use Rattle.rx_ledger.specs.Share.{coinsurance_of, copay_of, left, shared, 
 use crate::drug::Share;
 use crate::figures::Figures;
 use crate::price::Allowance;
-use rx_claim::{Amounts, Pricing};
+use rx_d0_values::{Amounts, Pricing};
 
 /// What is used of a plan's figures in the benefit period, in cents.
 #[derive(Clone, Copy, Debug, PartialEq, Eq)]

@@ -4,7 +4,7 @@ use crate::drug::Drug;
 use crate::figures::Figures;
 use crate::sheet_key::Wrong;
 use rx_fields::{Door, Period, Product};
-use rx_order::{Ascending, InsertError, Keyed};
+use rx_sorted::{Ascending, InsertError, Keyed};
 use std::alloc::Global;
 use std::marker::Model;
 

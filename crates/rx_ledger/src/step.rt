@@ -1,6 +1,6 @@
 ghost use Rattle.std.specs.Prelude.{◌≡◌, [], IfOk, IfSome, OnOk, true};
 ghost use Rattle.std.specs.Option.{option_map};
-ghost use Rattle.rx_claim.specs.declared.transaction.Transaction.TheVariants as asks;
+ghost use Rattle.rx_d0_values.specs.declared.transaction.Transaction.TheVariants as asks;
 ghost use Rattle.rx_ledger.specs.Answers.{after, answer, key_of};
 ghost use Rattle.rx_ledger.specs.Basis.{HasPeriod, Holds, HoldsBill, HoldsReversal, billed_member};
 ghost use Rattle.rx_ledger.specs.Claims.{IsPatient, asked_on};
@@ -15,7 +15,7 @@ use crate::member::MemberKey;
 use crate::occasion::Occasion;
 use crate::reversal::answer_reversal;
 use crate::terms::Terms;
-use rx_claim::{Answer, Bill, Refused, Reversal, Transaction};
+use rx_d0_values::{Answer, Bill, Refused, Reversal, Transaction};
 use rx_fields::Memory;
 
 // Adjudicates a transaction: a paid claim stands from now on, a reversed one no longer.

@@ -3,7 +3,7 @@ ghost use Rattle.std.specs.Prelude.{◌≡◌};
 use crate::drug::Drug;
 use crate::figures::Figures;
 use crate::sheet::{Listed, Sheet};
-use rx_claim::{Body, Transaction, Transmission};
+use rx_d0_values::{Body, Transaction, Transmission};
 use rx_fields::{Lot, Product};
 use std::marker::Model;
 
@@ -30,7 +30,7 @@ impl Model for Terms {
 
 ghost use Rattle.std.specs.Prelude.{◌↔◌, ◌≤◌, IfSome, IsTrue, length, true};
 ghost use Rattle.std.specs.Ordering.{nat_cmp};
-ghost use Rattle.rx_order.specs.Ascending.{item_at};
+ghost use Rattle.rx_sorted.specs.Ascending.{item_at};
 ghost use Rattle.rx_ledger.specs.Places.{billed_at, transactions_of};
 ghost use Rattle.rx_ledger.specs.Plan.{AreFigures, drug_of, is_drug, listed_product};
 ghost use Rattle.rx_ledger.specs.SameTerms.{IsTermsOf};
@@ -117,7 +117,7 @@ fn listed_in(places: &[Option<Listed>], product: Product) -> Option<Listed>
         .find(|listed| listed.product == product)
 }
 
-ghost use Rattle.rx_claim.specs.Same.{same, same_laws, same_equivalence};
+ghost use Rattle.rx_d0_values.specs.Same.{same, same_laws, same_equivalence};
 ghost use Rattle.rx_ledger.specs.contracts.terms.Terms.{the_row as terms_row};
 
 impl PartialEq for Terms {

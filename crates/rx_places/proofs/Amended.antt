@@ -11,17 +11,17 @@ use Rattle.std.proofs.lemmas.List.Sums.{AllPass-from_list_all, list_all-from_All
 use Rattle.rx_fields.specs.Numbered.{Span}
 use Rattle.rx_fields.specs.Order.{id_cmp, key_cmp}
 use Rattle.rx_fields.specs.declared.key.Key.{Key}
-use Rattle.rx_order.specs.Ascending.{IsAscending, contains_key, item_at}
-use Rattle.rx_order.specs.Joined.{Agree, joined}
-use Rattle.rx_order.specs.Overlaid.{HoldsOwn, IsUnder, found_under}
-use Rattle.rx_order.proofs.Agreeing.{item_at-joined, item_at-joined_from}
-use Rattle.rx_order.proofs.Edits.{put_all-nil, same_item, same_members}
-use Rattle.rx_order.proofs.Filters.{Contains-filter, Contains-filter_kept, filter_all}
-use Rattle.rx_order.proofs.Joined.{IsAscending-joined}
-use Rattle.rx_order.proofs.Keys.{Equal-from_is_eq}
-use Rattle.rx_order.proofs.Kept.{IsAscending-filter}
-use Rattle.rx_order.proofs.LookUps.{item_at-found, item_at-from_contains}
-use Rattle.rx_order.proofs.Overlaid.{IsAscending-overlaid, item_at-overlaid}
+use Rattle.rx_sorted.specs.Ascending.{IsAscending, contains_key, item_at}
+use Rattle.rx_sorted.specs.Joined.{Agree, joined}
+use Rattle.rx_sorted.specs.Overlaid.{HoldsOwn, IsUnder, found_under}
+use Rattle.rx_sorted.proofs.Agreeing.{item_at-joined, item_at-joined_from}
+use Rattle.rx_sorted.proofs.Edits.{put_all-nil, same_item, same_members}
+use Rattle.rx_sorted.proofs.Filters.{Contains-filter, Contains-filter_kept, filter_all}
+use Rattle.rx_sorted.proofs.Joined.{IsAscending-joined}
+use Rattle.rx_sorted.proofs.Keys.{Equal-from_is_eq}
+use Rattle.rx_sorted.proofs.Kept.{IsAscending-filter}
+use Rattle.rx_sorted.proofs.LookUps.{item_at-found, item_at-from_contains}
+use Rattle.rx_sorted.proofs.Overlaid.{IsAscending-overlaid, item_at-overlaid}
 use Rattle.rx_ledger.specs.declared.member.Member.{Member}
 use Rattle.rx_ledger.specs.declared.member.MemberKey.{MemberKey}
 use Rattle.rx_ledger.specs.declared.row.Row.{Row}
@@ -30,11 +30,11 @@ use Rattle.rx_ledger.specs.Members.{member_cmp, member_key, of_family}
 use Rattle.rx_ledger.specs.Rows.{claimed_by, member_of_row, row_key}
 use Rattle.rx_ledger.proofs.Decided.{member_decides}
 use Rattle.rx_ledger.proofs.Orders.{id_exact, id_total, key_total, member_exact, member_total}
-use Rattle.rx_parcels.specs.Books.{Book, OfFamily, OfKey, book, has_member, has_row}
-use Rattle.rx_parcels.specs.FamilyBook.{FamilyBook}
-use Rattle.rx_parcels.specs.Parcels.{ledger_of_family}
-use Rattle.rx_parcels.proofs.Agreed.{IsValue}
-use Rattle.rx_parcels.proofs.Parts.{ledger_path}
+use Rattle.rx_books_parcel.specs.Books.{Book, OfFamily, OfKey, book, has_member, has_row}
+use Rattle.rx_books_parcel.specs.FamilyBook.{FamilyBook}
+use Rattle.rx_books_parcel.specs.Parcels.{ledger_of_family}
+use Rattle.rx_books_parcel.proofs.Agreed.{IsValue}
+use Rattle.rx_books_parcel.proofs.Parts.{ledger_path}
 use Rattle.rx_places.specs.declared.place.FamilyPlace.{FamilyPlace}
 use Rattle.rx_places.specs.declared.place.KeyPlace.{KeyPlace}
 use Rattle.rx_places.specs.Amended.{IsAmended, amended, is_among, is_member_found, is_unkeyed, is_unplaced, members_held}

@@ -12,11 +12,11 @@ use Rattle.std.proofs.lemmas.Bool.{cases_Bool}
 use Rattle.std.proofs.lemmas.Cmp.{tied_back}
 use Rattle.std.proofs.Math.Seq.{drop-cons}
 use Rattle.std.proofs.lemmas.Map.Lookups.{CmpEqualImpliesEq}
-use Rattle.rx_order.specs.Ascending.{IsAscending, IsBelow, contains_key, has_key, item_at, put}
-use Rattle.rx_order.proofs.Keys.{cases_Ordering, Equal-from_is_eq, Greater-from_Less, IsBelow-through}
-use Rattle.rx_order.proofs.Keys.{IsBelow-tied, Less-from_Greater, item_at-below}
-use Rattle.rx_order.proofs.LookUps.{item_at-found, item_at-map}
-use Rattle.rx_parcels.specs.Footprints.{itself}
+use Rattle.rx_sorted.specs.Ascending.{IsAscending, IsBelow, contains_key, has_key, item_at, put}
+use Rattle.rx_sorted.proofs.Keys.{cases_Ordering, Equal-from_is_eq, Greater-from_Less, IsBelow-through}
+use Rattle.rx_sorted.proofs.Keys.{IsBelow-tied, Less-from_Greater, item_at-below}
+use Rattle.rx_sorted.proofs.LookUps.{item_at-found, item_at-map}
+use Rattle.rx_books_parcel.specs.Footprints.{itself}
 use Rattle.rx_places.specs.Moving.{filled_of, one_at, over, with_book}
 use Rattle.rx_places.proofs.Moving.{apart, one_keeps}
 

@@ -8,10 +8,10 @@ use Rattle.std.specs.declared.cmp.Ordering.{Ordering}
 use Rattle.std.specs.declared.cmp.Ordering.TheVariants.{Less}
 use Rattle.std.proofs.lemmas.Bool.{cases_Bool}
 use Rattle.std.proofs.lemmas.Cmp.{tied_back}
-use Rattle.rx_order.specs.Ascending.{IsAscending, IsAt, IsBelow, IsGap, has_key, item_at}
-use Rattle.rx_order.proofs.Keys.{Greater-from_Less, IsBelow-tied}
-use Rattle.rx_order.proofs.Kept.{IsAscending-map}
-use Rattle.rx_order.proofs.Places.{has_key-elsewhere, item_at-gap}
+use Rattle.rx_sorted.specs.Ascending.{IsAscending, IsAt, IsBelow, IsGap, has_key, item_at}
+use Rattle.rx_sorted.proofs.Keys.{Greater-from_Less, IsBelow-tied}
+use Rattle.rx_sorted.proofs.Kept.{IsAscending-map}
+use Rattle.rx_sorted.proofs.Places.{has_key-elsewhere, item_at-gap}
 use Rattle.rx_places.specs.Moving.{one_at, over}
 
 -- whether a place is told

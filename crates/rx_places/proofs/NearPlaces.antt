@@ -5,9 +5,9 @@ use Rattle.std.specs.declared.cmp.Ordering.{Ordering}
 use Rattle.std.specs.declared.cmp.Ordering.TheVariants.{Less, Equal, Greater}
 use Rattle.std.proofs.lemmas.Bool.{cases_lt}
 use Rattle.std.proofs.lemmas.List.{get_or_default}
-use Rattle.rx_order.specs.Ascending.{IsAscending}
-use Rattle.rx_order.proofs.Keys.{Greater-from_Less, Less-from_Greater}
-use Rattle.rx_order.proofs.Kept.{IsAscending-at}
+use Rattle.rx_sorted.specs.Ascending.{IsAscending}
+use Rattle.rx_sorted.proofs.Keys.{Greater-from_Less, Less-from_Greater}
+use Rattle.rx_sorted.proofs.Kept.{IsAscending-at}
 use Rattle.rx_places.specs.Near.{AreBefore, AreBehind}
 
 pub Greater-from_is_gt : (o : Ordering) → is_gt o ≡ true → o ≡ Greater

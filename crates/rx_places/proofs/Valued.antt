@@ -10,19 +10,19 @@ use Rattle.std.proofs.lemmas.List.Elements.{All-cons, All-contains, All-nil, fil
 use Rattle.rx_fields.specs.Numbered.{Span}
 use Rattle.rx_fields.specs.Order.{id_cmp, key_cmp}
 use Rattle.rx_fields.specs.declared.key.Key.{Key}
-use Rattle.rx_order.specs.Ascending.{item_at}
-use Rattle.rx_order.proofs.Kept.{IsAscending-filter}
-use Rattle.rx_order.proofs.LookUps.{item_at-filter, item_at-found}
+use Rattle.rx_sorted.specs.Ascending.{item_at}
+use Rattle.rx_sorted.proofs.Kept.{IsAscending-filter}
+use Rattle.rx_sorted.proofs.LookUps.{item_at-filter, item_at-found}
 use Rattle.rx_ledger.specs.declared.row.Row.{Row}
 use Rattle.rx_ledger.specs.Ledger.{IsLedger, Ledger, row_under}
 use Rattle.rx_ledger.specs.Members.{member_cmp, member_key, of_family}
 use Rattle.rx_ledger.specs.Rows.{claimed_by, row_key}
 use Rattle.rx_ledger.proofs.Orders.{id_exact, id_total, key_exact, key_total, member_total}
-use Rattle.rx_parcels.specs.Books.{Book, OfFamily, OfKey, book, has_member, has_row}
-use Rattle.rx_parcels.specs.FamilyBook.{FamilyBook}
-use Rattle.rx_parcels.specs.Parcels.{ledger_of_family}
-use Rattle.rx_parcels.proofs.Agreed.{IsValue}
-use Rattle.rx_parcels.proofs.Families.{members_theirs, rows_theirs}
+use Rattle.rx_books_parcel.specs.Books.{Book, OfFamily, OfKey, book, has_member, has_row}
+use Rattle.rx_books_parcel.specs.FamilyBook.{FamilyBook}
+use Rattle.rx_books_parcel.specs.Parcels.{ledger_of_family}
+use Rattle.rx_books_parcel.proofs.Agreed.{IsValue}
+use Rattle.rx_books_parcel.proofs.Families.{members_theirs, rows_theirs}
 use Rattle.rx_places.specs.declared.place.FamilyPlace.{FamilyPlace}
 use Rattle.rx_places.specs.declared.place.KeyPlace.{KeyPlace}
 use Rattle.rx_places.specs.Shelves.{HoldsOwnBook, HoldsOwnRow, IsOwnBook, IsShelf, ShelfParts, family_place, family_value_or, key_place}

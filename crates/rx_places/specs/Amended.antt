@@ -1,9 +1,9 @@
 -- Meaning: the ledger that a shelf's books make together, where they agree (docs/MODEL.md, "Book values").
 use Rattle.std.specs.Prelude.{Bool, true, false, not, List, ◌∷◌, Option, Some, None, filter, map}
 use Rattle.rx_fields.specs.Order.{id_cmp, key_cmp}
-use Rattle.rx_order.specs.Ascending.{contains_key, item_at}
-use Rattle.rx_order.specs.Joined.{joined}
-use Rattle.rx_order.specs.Overlaid.{overlaid}
+use Rattle.rx_sorted.specs.Ascending.{contains_key, item_at}
+use Rattle.rx_sorted.specs.Joined.{joined}
+use Rattle.rx_sorted.specs.Overlaid.{overlaid}
 use Rattle.rx_ledger.specs.declared.member.Member.{Member}
 use Rattle.rx_ledger.specs.declared.row.Row.{Row}
 use Rattle.rx_ledger.specs.contracts.member.MemberPartialEq.TheImpl.{ghosts as member}

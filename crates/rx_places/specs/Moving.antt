@@ -2,8 +2,8 @@
 use Rattle.std.specs.Prelude.{Bool, false, not, List, map, Option, Some, None, if◌then◌else◌}
 use Rattle.std.specs.Option.{is_some, option_and_then, option_to_list}
 use Rattle.std.specs.declared.cmp.Ordering.{Ordering}
-use Rattle.rx_order.specs.Ascending.{contains_key, has_key, item_at}
-use Rattle.rx_parcels.specs.Footprints.{itself}
+use Rattle.rx_sorted.specs.Ascending.{contains_key, has_key, item_at}
+use Rattle.rx_books_parcel.specs.Footprints.{itself}
 
 module _ {X K : Type 0} (cmp : K → K → Ordering) (key : X → K) where
   abbrev pub one_at : (X → X) → K → X → X

@@ -7,13 +7,13 @@ use Rattle.std.specs.Ordering.{is_eq}
 use Rattle.rx_fields.specs.Numbered.{Span}
 use Rattle.rx_fields.specs.Order.{id_cmp, key_cmp}
 use Rattle.rx_fields.specs.declared.key.Key.{Key}
-use Rattle.rx_order.specs.Ascending.{IsAscending, contains_key, item_at}
+use Rattle.rx_sorted.specs.Ascending.{IsAscending, contains_key, item_at}
 use Rattle.rx_ledger.specs.declared.row.Row.{Row}
 use Rattle.rx_ledger.specs.Ledger.{IsLedger, Ledger}
-use Rattle.rx_parcels.specs.Books.{Book, OfFamily, OfKey, book, has_row}
-use Rattle.rx_parcels.specs.FamilyBook.{FamilyBook, IsOwn}
-use Rattle.rx_parcels.specs.Footprints.{itself}
-use Rattle.rx_parcels.specs.Parcels.{ledger_of_family}
+use Rattle.rx_books_parcel.specs.Books.{Book, OfFamily, OfKey, book, has_row}
+use Rattle.rx_books_parcel.specs.FamilyBook.{FamilyBook, IsOwn}
+use Rattle.rx_books_parcel.specs.Footprints.{itself}
+use Rattle.rx_books_parcel.specs.Parcels.{ledger_of_family}
 use Rattle.rx_places.specs.declared.place.KeyPlace.{KeyPlace}
 use Rattle.rx_places.specs.declared.place.FamilyPlace.{FamilyPlace}
 

@@ -1,10 +1,10 @@
 ghost use Rattle.std.specs.Prelude.{◌≡◌};
-ghost use Rattle.rx_order.specs.Ascending.{IsAscending};
+ghost use Rattle.rx_sorted.specs.Ascending.{IsAscending};
 ghost use Rattle.rx_ledger.specs.Members.{member_cmp, member_key};
 ghost use Rattle.rx_places.specs.Amended.{is_among};
 
 use rx_ledger::Member;
-use rx_order::place_of;
+use rx_sorted::place_of;
 
 /// Whether the member is one of these, which ascend.
 pub fn is_among(members: &[Member], member: &Member) -> bool

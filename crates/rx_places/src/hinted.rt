@@ -1,10 +1,10 @@
 ghost use Rattle.std.specs.Prelude.{◌≡◌, IfErr, IfOk, Option, is_some};
 ghost use Rattle.std.specs.Option.{option_copied};
-ghost use Rattle.rx_order.specs.Ascending.{IsAscending, IsAt, IsGap, contains_key, item_at};
+ghost use Rattle.rx_sorted.specs.Ascending.{IsAscending, IsAt, IsGap, contains_key, item_at};
 
 use crate::near::is_at;
 use rx_fields::Memory;
-use rx_order::{Ascending, Keyed, place_of};
+use rx_sorted::{Ascending, Keyed, place_of};
 use std::alloc::Global;
 use std::marker::Model;
 
@@ -74,7 +74,7 @@ pub struct Hinted<T: Hashed> {
 
 impl<T: Hashed> Model for Hinted<T> {
     ghost use Rattle.std.specs.Prelude.{List};
-    ghost use Rattle.rx_order.specs.Ascending.{IsAscending};
+    ghost use Rattle.rx_sorted.specs.Ascending.{IsAscending};
 
     ghost Value = { List T };
 

@@ -2,14 +2,14 @@ ghost use Rattle.std.specs.Prelude.{◌≡◌, ◌≢◌, ◌≤◌, is_some, le
 ghost use Rattle.std.specs.List.{flat_map, list_all};
 ghost use Rattle.std.specs.Option.{option_and_then};
 ghost use Rattle.std.specs.declared.cmp.Ordering.TheVariants.{Equal};
-ghost use Rattle.rx_order.specs.Ascending.{IsAscending, item_at};
-ghost use Rattle.rx_parcels.specs.Few.{items_of};
-ghost use Rattle.rx_parcels.specs.Footprints.{itself};
+ghost use Rattle.rx_sorted.specs.Ascending.{IsAscending, item_at};
+ghost use Rattle.rx_books_parcel.specs.Few.{items_of};
+ghost use Rattle.rx_books_parcel.specs.Footprints.{itself};
 ghost use Rattle.rx_places.specs.Moving.{book_at, emptied_of, filled_of, is_in, is_out, over};
 
 use crate::hinted::{Hinted, Place};
-use rx_order::Keyed;
-use rx_parcels::Few;
+use rx_books_parcel::Few;
+use rx_sorted::Keyed;
 
 impl<T: Place> Hinted<T> {
     /// Whether each of these keys has a place, and its book is there: then where books may be taken from, to look there

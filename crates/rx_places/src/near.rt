@@ -1,9 +1,9 @@
 ghost use Rattle.std.specs.Prelude.{◌≡◌, IfErr, IfOk, IsTrue};
 ghost use Rattle.std.specs.Option.{option_copied};
-ghost use Rattle.rx_order.specs.Ascending.{IsAscending, IsAt, IsGap, item_at};
+ghost use Rattle.rx_sorted.specs.Ascending.{IsAscending, IsAt, IsGap, item_at};
 ghost use Rattle.rx_places.specs.Near.{AreBefore, AreBehind};
 
-use rx_order::{Keyed, place_of};
+use rx_sorted::{Keyed, place_of};
 
 /// Where the item with the key is, or where it would go. Before the list is searched, it is looked for at the place
 /// `near`.

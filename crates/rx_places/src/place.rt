@@ -4,10 +4,10 @@ ghost use Rattle.rx_places.specs.Amended.{members_held};
 ghost use Rattle.rx_places.specs.Shelves.{row_held};
 
 use crate::hinted::{Hashed, Place, hash_of_text, mixed};
+use rx_books_parcel::{Family, KeyBook};
 use rx_fields::{Id, Key};
 use rx_ledger::{Member, Row};
-use rx_order::Keyed;
-use rx_parcels::{Family, KeyBook};
+use rx_sorted::Keyed;
 
 /// The place of a fill key's book: the row that stands under the key, or none; or nothing, where the book is out.
 #[derive(Clone, Copy, Debug)]

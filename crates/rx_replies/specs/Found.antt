@@ -1,10 +1,10 @@
 -- Meaning: what a detail of a response file holds.
 use Rattle.std.specs.Prelude.{◌≡◌, ℕ, List}
-use Rattle.rx_claim.specs.declared.reply.Reply.{Reply}
-use Rattle.rx_reply.specs.declared.fault.ReplyFault.{ReplyFault}
-use Rattle.rx_reply.specs.Fault.{fault_of}
-use Rattle.rx_reply.specs.Limits.{IsReply}
-use Rattle.rx_reply.specs.Text.{reply_text}
+use Rattle.rx_d0_values.specs.declared.reply.Reply.{Reply}
+use Rattle.rx_d0_reply.specs.declared.fault.ReplyFault.{ReplyFault}
+use Rattle.rx_d0_reply.specs.Fault.{fault_of}
+use Rattle.rx_d0_reply.specs.Limits.{IsReply}
+use Rattle.rx_d0_reply.specs.Text.{reply_text}
 use Rattle.rx_replies.specs.declared.found.Found.{Found}
 use Rattle.rx_replies.specs.declared.found.Found.TheVariants as found
 

@@ -3,17 +3,17 @@ use Rattle.std.specs.Prelude.{ℕ, ◌+◌, List, [], ◌∷◌, ◌++◌, Optio
 use Rattle.std.specs.List.{flat_map, join_with_byte}
 use Rattle.std.specs.Fmt.{decimal}
 use Rattle.rx_fields.specs.Digits.{digits_text}
-use Rattle.rx_claim.specs.declared.echo.EchoParts.{EchoParts}
-use Rattle.rx_claim.specs.declared.pricing.Amounts.{Amounts}
-use Rattle.rx_claim.specs.declared.reply.Answer.{Answer}
-use Rattle.rx_claim.specs.declared.reply.Answer.TheVariants as answer
-use Rattle.rx_claim.specs.declared.reply.Approved.{Approved}
-use Rattle.rx_claim.specs.declared.reply.Outcome.{Outcome}
-use Rattle.rx_claim.specs.declared.reply.Outcome.TheVariants as outcome
-use Rattle.rx_claim.specs.declared.reply.Paid.{Paid}
-use Rattle.rx_claim.specs.declared.reply.Refused.{Refused}
-use Rattle.rx_claim.specs.Priced.{patient_pay, total_paid}
-use Rattle.rx_reply.specs.Fault.{fault_code}
+use Rattle.rx_d0_values.specs.declared.echo.EchoParts.{EchoParts}
+use Rattle.rx_d0_values.specs.declared.pricing.Amounts.{Amounts}
+use Rattle.rx_d0_values.specs.declared.reply.Answer.{Answer}
+use Rattle.rx_d0_values.specs.declared.reply.Answer.TheVariants as answer
+use Rattle.rx_d0_values.specs.declared.reply.Approved.{Approved}
+use Rattle.rx_d0_values.specs.declared.reply.Outcome.{Outcome}
+use Rattle.rx_d0_values.specs.declared.reply.Outcome.TheVariants as outcome
+use Rattle.rx_d0_values.specs.declared.reply.Paid.{Paid}
+use Rattle.rx_d0_values.specs.declared.reply.Refused.{Refused}
+use Rattle.rx_d0_values.specs.Priced.{patient_pay, total_paid}
+use Rattle.rx_d0_reply.specs.Fault.{fault_code}
 use Rattle.rx_settle.specs.Providers.{named}
 use Rattle.rx_show.specs.Lines.{code_list, line, rejected_line}
 use Rattle.rx_replies.specs.declared.found.Found.{Found}

@@ -3,9 +3,9 @@ ghost use Rattle.std.specs.List.{AllZip};
 ghost use Rattle.rx_replies.specs.Found.{IsFound};
 
 use rx_batch::Detail;
-use rx_claim::Reply;
+use rx_d0_reply::{ReplyFault, decode_reply};
+use rx_d0_values::Reply;
 use rx_fields::Memory;
-use rx_reply::{ReplyFault, decode_reply};
 use std::alloc::Global;
 
 /// What a detail of a response file holds.

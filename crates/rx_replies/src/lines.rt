@@ -1,9 +1,9 @@
 ghost use Rattle.std.specs.Prelude.{◌≡◌, ◌++◌, ◌∷◌, [], IfOk, OnOk, codes};
 ghost use Rattle.std.specs.Fmt.{decimal};
 ghost use Rattle.std.specs.List.{flat_map, join_with_byte};
-ghost use Rattle.rx_claim.specs.Priced.{patient_pay, total_paid};
+ghost use Rattle.rx_d0_values.specs.Priced.{patient_pay, total_paid};
 ghost use Rattle.rx_fields.specs.Digits.{digits_text};
-ghost use Rattle.rx_reply.specs.Fault.{fault_code};
+ghost use Rattle.rx_d0_reply.specs.Fault.{fault_code};
 ghost use Rattle.rx_settle.specs.Providers.{named};
 ghost use Rattle.rx_show.specs.Lines.{line};
 ghost use Rattle.rx_replies.specs.Lines.{after_blank, amount_words, answer_line, answer_lines, answer_words, found_lines};
@@ -11,9 +11,9 @@ ghost use Rattle.rx_replies.specs.Lines.{approved_words, known_words, outcome_li
 ghost use Rattle.rx_replies.specs.Lines.{reply_lines, visit_words};
 
 use crate::found::Found;
-use rx_claim::{Answer, Approved, EchoParts, Outcome, Paid, Pricing, Refused};
+use rx_d0_reply::ReplyFault;
+use rx_d0_values::{Answer, Approved, EchoParts, Outcome, Paid, Pricing, Refused};
 use rx_fields::{Authorization, Memory, Provider, Reference, digits_write};
-use rx_reply::ReplyFault;
 use rx_show::{put_codes, put_place, put_rejected};
 use std::alloc::{AllocError, Global};
 

@@ -1,10 +1,10 @@
 -- Meaning: what a report says of an answer, column by column. What isn't known stays blank.
 use Rattle.std.specs.Prelude.{ℕ, ◌==◌, Bool, true, false, if◌then◌else◌, List, [], ◌∷◌, Option, Some, None, codes}
 use Rattle.std.specs.Fmt.{decimal}
-use Rattle.rx_claim.specs.Priced.{allowed, patient_pay, total_paid}
-use Rattle.rx_claim.specs.declared.pricing.Amounts.{Amounts}
-use Rattle.rx_claim.specs.declared.reply.Answer.{Answer}
-use Rattle.rx_claim.specs.declared.reply.Answer.TheVariants.{Paid, Twice, Approved, Refused}
+use Rattle.rx_d0_values.specs.Priced.{allowed, patient_pay, total_paid}
+use Rattle.rx_d0_values.specs.declared.pricing.Amounts.{Amounts}
+use Rattle.rx_d0_values.specs.declared.reply.Answer.{Answer}
+use Rattle.rx_d0_values.specs.declared.reply.Answer.TheVariants.{Paid, Twice, Approved, Refused}
 use Rattle.rx_report.specs.declared.column.Column.{Column}
 use Rattle.rx_report.specs.declared.column.Column.TheVariants as column
 use Rattle.rx_report.specs.declared.line.Line.{Line}

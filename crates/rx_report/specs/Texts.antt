@@ -1,8 +1,8 @@
 -- Meaning: a report as a table of tabs, and as JSON.
 use Rattle.std.specs.Prelude.{ℕ, ◌==◌, if◌then◌else◌, List, [], ◌∷◌, ◌++◌, codes, length}
 use Rattle.std.specs.List.{flat_map}
-use Rattle.rx_escape.specs.Escape.{escaped}
-use Rattle.rx_escape.specs.declared.style.Style.TheVariants.{Json}
+use Rattle.rx_print.specs.Escape.{escaped}
+use Rattle.rx_print.specs.declared.style.Style.TheVariants.{Json}
 use Rattle.rx_report.specs.declared.column.Column.{Column}
 use Rattle.rx_report.specs.declared.column.Column.TheVariants as column
 use Rattle.rx_report.specs.declared.line.Line.{Line}

@@ -6,7 +6,7 @@ ghost use Rattle.rx_settle.specs.Providers.{named};
 
 use crate::column::Column;
 use crate::line::Line;
-use rx_claim::{Answer, Pricing};
+use rx_d0_values::{Answer, Pricing};
 use rx_fields::{Id, Person, Provider, Reference};
 use rx_show::put_codes;
 use std::alloc::{AllocError, Global};

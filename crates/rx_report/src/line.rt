@@ -1,4 +1,4 @@
-use rx_claim::Answer;
+use rx_d0_values::Answer;
 use rx_fields::{Id, Person};
 
 /// One answer of a batch, with what its request says of it.

@@ -3,7 +3,7 @@ ghost use Rattle.rx_report.specs.Lines.{answer_lines, answer_of, lines_of, membe
 ghost use Rattle.rx_settle.specs.Answers.{answers_of};
 
 use crate::line::Line;
-use rx_claim::{Answer, Body, Outcome, Refused, Reply, Transaction, Transmission};
+use rx_d0_values::{Answer, Body, Outcome, Refused, Reply, Transaction, Transmission};
 use rx_fields::{Id, Memory, Person};
 use std::alloc::Global;
 

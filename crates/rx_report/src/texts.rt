@@ -7,8 +7,8 @@ ghost use Rattle.rx_report.specs.Texts.{row, tab_cell, tab_name, tsv_text};
 use crate::cells::{cell_of, put_cell};
 use crate::column::{Column, OTHERS};
 use crate::line::Line;
-use rx_escape::{Style, put_escaped};
 use rx_fields::Memory;
+use rx_print::{Style, put_escaped};
 use std::alloc::{AllocError, Global};
 
 /// The lines as a table for programs: a heading with the columns' names, then a row for each line, with a tab between

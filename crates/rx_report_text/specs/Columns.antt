@@ -3,8 +3,8 @@ use Rattle.std.specs.Prelude.{ℕ, ◌-◌, Bool, true, if◌then◌else◌, Lis
 use Rattle.std.specs.Char.{is_ascii_whitespace}
 use Rattle.std.specs.Fmt.{decimal, signed_decimal}
 use Rattle.std.specs.List.{flat_map, fold, suffix_len}
-use Rattle.rx_escape.specs.Escape.{escaped}
-use Rattle.rx_escape.specs.declared.style.Style.TheVariants.{Terminal}
+use Rattle.rx_print.specs.Escape.{escaped}
+use Rattle.rx_print.specs.declared.style.Style.TheVariants.{Terminal}
 use Rattle.rx_report.specs.declared.line.Line.{Line}
 use Rattle.rx_report.specs.declared.portion.Portion.{Portion}
 use Rattle.rx_report.specs.declared.portion.Portion.TheVariants as portion

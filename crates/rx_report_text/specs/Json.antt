@@ -3,8 +3,8 @@ use Rattle.std.specs.Prelude.{ℕ, List, [], ◌∷◌, ◌++◌, Option, Some, 
 use Rattle.std.specs.Fmt.{decimal, signed_decimal}
 use Rattle.std.specs.List.{flat_map}
 use Rattle.std.specs.Result.{result_ok}
-use Rattle.rx_escape.specs.Escape.{escaped}
-use Rattle.rx_escape.specs.declared.style.Style.TheVariants.{Json}
+use Rattle.rx_print.specs.Escape.{escaped}
+use Rattle.rx_print.specs.declared.style.Style.TheVariants.{Json}
 use Rattle.rx_fields.specs.Text.{id_of}
 use Rattle.rx_report.specs.Texts.{json_text}
 use Rattle.rx_report.specs.declared.portion.Portion.{Portion}

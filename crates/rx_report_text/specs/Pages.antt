@@ -2,8 +2,8 @@
 use Rattle.std.specs.Prelude.{ℕ, List, option_map, codes}
 use Rattle.std.specs.Option.{unwrap_or}
 use Rattle.std.specs.Result.{result_ok}
-use Rattle.rx_escape.specs.Escape.{escaped}
-use Rattle.rx_escape.specs.declared.style.Style.TheVariants.{Html}
+use Rattle.rx_print.specs.Escape.{escaped}
+use Rattle.rx_print.specs.declared.style.Style.TheVariants.{Html}
 use Rattle.rx_fields.specs.Text.{id_of}
 use Rattle.rx_report.specs.declared.line.Line.{Line}
 use Rattle.rx_report_text.specs.declared.shown.Shown.{Shown}

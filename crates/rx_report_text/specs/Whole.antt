@@ -1,8 +1,8 @@
 -- Meaning: the whole page of an account.
 use Rattle.std.specs.Prelude.{ℕ, Bool, true, false, List, ◌++◌, codes}
 use Rattle.std.specs.List.{enumerate_from}
-use Rattle.rx_escape.specs.Escape.{escaped}
-use Rattle.rx_escape.specs.declared.style.Style.TheVariants.{Html}
+use Rattle.rx_print.specs.Escape.{escaped}
+use Rattle.rx_print.specs.declared.style.Style.TheVariants.{Html}
 use Rattle.rx_fields.specs.Calendar.{date_text}
 use Rattle.rx_fields.specs.Digits.{digits_text}
 use Rattle.rx_fields.specs.Numbered.{LotParts}

@@ -4,9 +4,9 @@ use Rattle.std.specs.List.{flat_map}
 use Rattle.std.specs.Option.{option_map, unwrap_or}
 use Rattle.std.specs.Ordering.{nat_cmp, ordering_then}
 use Rattle.std.specs.declared.cmp.Ordering.{Ordering}
-use Rattle.rx_escape.specs.Escape.{escaped}
-use Rattle.rx_escape.specs.declared.style.Style.TheVariants.{Html}
-use Rattle.rx_order.specs.Ascending.{item_at}
+use Rattle.rx_print.specs.Escape.{escaped}
+use Rattle.rx_print.specs.declared.style.Style.TheVariants.{Html}
+use Rattle.rx_sorted.specs.Ascending.{item_at}
 use Rattle.rx_report.specs.declared.line.Line.{Line}
 use Rattle.rx_report_text.specs.declared.shown.Shown.TheVariants.{Record}
 use Rattle.rx_report_text.specs.declared.why.AnswerSpot.{AnswerSpot}

@@ -7,7 +7,7 @@ ghost use Rattle.rx_report_text.specs.Claims.{figures_of, section_text, span_tex
 use crate::page::Page;
 use crate::shown::Shown;
 use crate::why::Whys;
-use rx_claim::Answer;
+use rx_d0_values::Answer;
 use rx_report::{Line, Section};
 use std::alloc::AllocError;
 

@@ -5,8 +5,8 @@ ghost use Rattle.rx_report_text.specs.Json.{account_json, comma_section, counts_
 ghost use Rattle.rx_report_text.specs.Json.{provider_json, quoted, section_json, sections_json, tally_json};
 
 use crate::money::net_cents;
-use rx_escape::{Style, put_escaped};
 use rx_fields::{Memory, Provider};
+use rx_print::{Style, put_escaped};
 use rx_report::{Account, Portion, Section, json_text as lines_json};
 use rx_settle::{Field, Tally};
 use std::alloc::{AllocError, Global};

@@ -11,7 +11,7 @@
 //!
 //! The page takes nothing from outside: no script, no font, no picture. It has a table of providers with counts, net and a
 //! bar for each, and behind it each provider's claims, a line each that unfolds to its figures and to why they are so. It
-//! is written in two ways alone: by markup that stands in this crate, and by bytes that `rx_escape` turns into text.
+//! is written in two ways alone: by markup that stands in this crate, and by bytes that `rx_print` turns into text.
 //! `specs/Whole.antt` has the whole page, of a table (`specs/Providers.antt`) and claims (`specs/Claims.antt`);
 //! `specs/Pages.antt` says what a byte of a file becomes, `specs/Whys.antt` what stands there for an explanation.
 //!

@@ -1,7 +1,7 @@
 ghost use Rattle.std.specs.Prelude.{◌≡◌, ◌++◌, [], length, nat_le, sum_by, IfOk, OnOk};
 ghost use Rattle.std.specs.List.{enumerate_from};
-ghost use Rattle.rx_escape.specs.Escape.{escaped};
-ghost use Rattle.rx_escape.specs.declared.style.Style.TheVariants.{Html};
+ghost use Rattle.rx_print.specs.Escape.{escaped};
+ghost use Rattle.rx_print.specs.declared.style.Style.TheVariants.{Html};
 ghost use Rattle.rx_fields.specs.Calendar.{date_text};
 ghost use Rattle.rx_report_text.specs.Claims.{sections_text};
 ghost use Rattle.rx_report_text.specs.ClaimsShown.{shows_claims};
@@ -15,8 +15,8 @@ use crate::providers::put_providers;
 use crate::style::STYLE;
 use crate::why::Whys;
 use rx_fields::{Day, Lot, Memory, date_write, digits_write};
-use rx_order::Ascending;
 use rx_report::{Account, Portion, Section};
+use rx_sorted::Ascending;
 use std::alloc::{AllocError, Global};
 
 /// How many lines of a whole batch a page shows at most; of more it has the table of providers alone.

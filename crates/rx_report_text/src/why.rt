@@ -2,8 +2,8 @@ ghost use Rattle.std.specs.Prelude.{◌≡◌};
 ghost use Rattle.std.specs.Option.{option_map};
 ghost use Rattle.rx_report_text.specs.Whys.{spot_of, why_of};
 
-use rx_order::{Ascending, Keyed};
 use rx_report::Line;
+use rx_sorted::{Ascending, Keyed};
 
 /// Where an answer stands in a batch. Ordered as the batch is adjudicated.
 #[derive(Clone, Copy, Debug, PartialEq, Eq, PartialOrd, Ord)]

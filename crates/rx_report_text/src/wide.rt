@@ -2,8 +2,8 @@ ghost use Rattle.std.specs.Prelude.{◌≡◌, IfOk, length, map, max};
 ghost use Rattle.rx_report_text.specs.Columns.{printed, wide, wide_columns, widened, width_of};
 
 use crate::shown::{COLUMNS, Shown, shown_cell};
-use rx_escape::{Style, put_escaped};
 use rx_fields::Memory;
+use rx_print::{Style, put_escaped};
 use rx_report::{Line, Section};
 use std::alloc::{AllocError, Global};
 

@@ -11,7 +11,7 @@ use Rattle.std.proofs.lemmas.Grind.{flat_map-append}
 use Rattle.rayon.specs.Lists.{Folds}
 use Rattle.rayon.proofs.Reducing.{Folds-elim}
 use Rattle.rx_batch.specs.declared.detail.Detail.{Detail}
-use Rattle.rx_claim.specs.declared.reply.Reply.{Reply}
+use Rattle.rx_d0_values.specs.declared.reply.Reply.{Reply}
 use Rattle.rx_response.specs.Pieces.{answer_text, records_text}
 use Rattle.rx_response.specs.Response.{response_detail, response_details}
 

@@ -5,8 +5,8 @@ use Rattle.rx_batch.specs.declared.detail.Detail.{Detail}
 use Rattle.rx_batch.specs.declared.head.Head.{Head}
 use Rattle.rx_batch.specs.declared.head.Kind.TheVariants.{Response}
 use Rattle.rx_batch.specs.Writing.{file_text}
-use Rattle.rx_claim.specs.declared.reply.Reply.{Reply}
-use Rattle.rx_reply.specs.Text.{reply_text}
+use Rattle.rx_d0_values.specs.declared.reply.Reply.{Reply}
+use Rattle.rx_d0_reply.specs.Text.{reply_text}
 
 -- the batch's header as its receiver sends it back: the same batch number and file type, the stamp as date and time
 abbrev pub response_head : Head → Stamp → Head

@@ -10,9 +10,9 @@ ghost use Rattle.rx_response.specs.Response.{response_head, response_details, re
 use rayon::current_num_threads;
 use rayon::prelude::*;
 use rx_batch::{Detail, Head, Kind, put_header, put_trailer};
-use rx_claim::Reply;
+use rx_d0_reply::put_reply;
+use rx_d0_values::Reply;
 use rx_fields::{Lot, Memory, Stamp};
-use rx_reply::put_reply;
 use std::alloc::{AllocError, Global};
 use std::thread::Threads;
 

@@ -13,15 +13,15 @@ use Rattle.std.proofs.lemmas.List.Folds.{list_any-append}
 use Rattle.rx_fields.specs.Numbered.{LotParts}
 use Rattle.rx_fields.specs.Order.{id_cmp, key_cmp}
 use Rattle.rx_fields.specs.declared.key.Key.{Key}
-use Rattle.rx_claim.specs.declared.reply.Answer.{Answer}
-use Rattle.rx_claim.specs.declared.reply.Answer.TheVariants.{Paid, Twice, Approved, Refused}
-use Rattle.rx_claim.specs.declared.transaction.Transaction.{Transaction}
-use Rattle.rx_claim.specs.declared.transaction.Transaction.TheVariants.{Bill, Reverse, Faulty}
-use Rattle.rx_claim.specs.declared.transmission.Body.{Body}
-use Rattle.rx_claim.specs.declared.transmission.Body.TheVariants.{Rejected, Heard}
-use Rattle.rx_claim.specs.declared.transmission.Heard.{Heard as HeardRecord}
-use Rattle.rx_claim.specs.declared.transmission.Transmission.{Transmission}
-use Rattle.rx_order.proofs.LookUps.{item_at-put, item_at-without}
+use Rattle.rx_d0_values.specs.declared.reply.Answer.{Answer}
+use Rattle.rx_d0_values.specs.declared.reply.Answer.TheVariants.{Paid, Twice, Approved, Refused}
+use Rattle.rx_d0_values.specs.declared.transaction.Transaction.{Transaction}
+use Rattle.rx_d0_values.specs.declared.transaction.Transaction.TheVariants.{Bill, Reverse, Faulty}
+use Rattle.rx_d0_values.specs.declared.transmission.Body.{Body}
+use Rattle.rx_d0_values.specs.declared.transmission.Body.TheVariants.{Rejected, Heard}
+use Rattle.rx_d0_values.specs.declared.transmission.Heard.{Heard as HeardRecord}
+use Rattle.rx_d0_values.specs.declared.transmission.Transmission.{Transmission}
+use Rattle.rx_sorted.proofs.LookUps.{item_at-put, item_at-without}
 use Rattle.rx_ledger.proofs.Orders.{id_exact, id_total, key_exact, key_total}
 use Rattle.rx_ledger.specs.Answers.{after, answer, key_of, paid_row}
 use Rattle.rx_ledger.specs.Fold.{asked, fold_ledger, ledger_after, ledger_from, ledger_of_body}
@@ -30,9 +30,9 @@ use Rattle.rx_ledger.specs.Named.{key_in}
 use Rattle.rx_ledger.specs.Plan.{Plan}
 use Rattle.rx_ledger.specs.Rows.{row_key}
 use Rattle.rx_ledger.specs.declared.row.Row.{Row}
-use Rattle.rx_parcels.specs.Books.{IsInOrder, OfFamily, OfKey, book}
-use Rattle.rx_parcels.specs.Footprints.{FootprintParts, fits, fits_body, fits_one, names, names_holder}
-use Rattle.rx_parcels.proofs.Locality.{local_books, local_outside, local_reply, order_after}
+use Rattle.rx_books_parcel.specs.Books.{IsInOrder, OfFamily, OfKey, book}
+use Rattle.rx_books_parcel.specs.Footprints.{FootprintParts, fits, fits_body, fits_one, names, names_holder}
+use Rattle.rx_books_parcel.proofs.Locality.{local_books, local_outside, local_reply, order_after}
 use Rattle.rx_schedule.specs.Billed.{is_among}
 use Rattle.rx_schedule.specs.Footprints.{billed_by, billers, billers_in, families_named, family_of, footprint_at}
 use Rattle.rx_schedule.specs.Footprints.{footprint_of, holders, key_named, no_record, record_at}

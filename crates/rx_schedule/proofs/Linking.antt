@@ -9,7 +9,7 @@ use Rattle.std.proofs.lemmas.Map.Lookups.{CmpEqualImpliesEq}
 use Rattle.rx_fields.specs.Order.{id_cmp, key_cmp}
 use Rattle.rx_fields.specs.declared.key.Key.{Key}
 use Rattle.rx_ledger.proofs.Orders.{id_exact, id_total, key_exact, key_total}
-use Rattle.rx_parcels.specs.Footprints.{FootprintParts}
+use Rattle.rx_books_parcel.specs.Footprints.{FootprintParts}
 use Rattle.rx_schedule.specs.declared.links.Link.{Link}
 use Rattle.rx_schedule.specs.Footprints.{in_order}
 use Rattle.rx_schedule.specs.Links.{AreLinks, is_used, linked, links_in, use_cmp}

@@ -3,7 +3,7 @@ use Rattle.std.proofs.Common.{◌≡◌, ℕ, zero, suc, ◌+◌, ◌-◌, ◌<�
 use Rattle.std.proofs.Common.{◌++◌, length, refl, ap, sym, ◌∙◌, inl, inr, arith, subst}
 use Rattle.std.proofs.lemmas.Bool.{cases_lt}
 use Rattle.std.proofs.lemmas.List.{get_or_append_left, get_or_push, length_push}
-use Rattle.rx_parcels.specs.Footprints.{FootprintParts}
+use Rattle.rx_books_parcel.specs.Footprints.{FootprintParts}
 use Rattle.rx_schedule.proofs.Scanned.{read_past}
 use Rattle.rx_schedule.specs.Waves.{AreLongest, AreWaves, EndsAt, IsChain, IsSharingChain, IsValidNumbering, member_at, number_in, shares}
 

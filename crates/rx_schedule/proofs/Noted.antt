@@ -12,14 +12,14 @@ use Rattle.std.proofs.lemmas.List.Concat.{flat_map-cons}
 use Rattle.std.proofs.lemmas.List.Folds.{list_any-append}
 use Rattle.rx_fields.specs.Order.{id_cmp, key_cmp}
 use Rattle.rx_fields.specs.declared.key.Key.{Key}
-use Rattle.rx_order.proofs.Keys.{cases_Ordering, Equal-from_is_eq}
+use Rattle.rx_sorted.proofs.Keys.{cases_Ordering, Equal-from_is_eq}
 use Rattle.rx_ledger.specs.Ledger.{Ledger}
 use Rattle.rx_ledger.proofs.Orders.{id_exact, key_exact}
 use Rattle.rx_schedule.specs.Billed.{HasBilled, billed_families, families_kept, is_among, is_biller}
-use Rattle.rx_claim.specs.declared.bill.BillParts.{BillParts}
-use Rattle.rx_claim.specs.declared.transaction.Transaction.TheVariants.{Bill}
-use Rattle.rx_claim.specs.declared.transmission.Heard.{Heard as HeardRecord}
-use Rattle.rx_claim.specs.declared.transmission.Transmission.{Transmission}
+use Rattle.rx_d0_values.specs.declared.bill.BillParts.{BillParts}
+use Rattle.rx_d0_values.specs.declared.transaction.Transaction.TheVariants.{Bill}
+use Rattle.rx_d0_values.specs.declared.transmission.Heard.{Heard as HeardRecord}
+use Rattle.rx_d0_values.specs.declared.transmission.Transmission.{Transmission}
 use Rattle.rx_ledger.specs.Named.{key_in}
 use Rattle.rx_schedule.specs.Footprints.{billed_by, billers, billers_in, footprint_at, footprint_of, no_record}
 use Rattle.rx_schedule.proofs.Ors.{asked_twice, grouped, or_false, swapped, turned}

@@ -6,7 +6,7 @@ use Rattle.std.specs.List.{AllByRecursion, IsDistinct, list_any}
 use Rattle.std.proofs.lemmas.Bool.{cases_Bool, cases_eq, cases_lt, eqb-true, ltb-false, ltb-true}
 use Rattle.std.proofs.lemmas.List.{length-append, length-set, take-append-le, take_all, take_at, take_more}
 use Rattle.std.proofs.lemmas.Map.Steps.{length-le_from_distinct_below}
-use Rattle.rx_parcels.specs.Footprints.{FootprintParts}
+use Rattle.rx_books_parcel.specs.Footprints.{FootprintParts}
 use Rattle.rx_schedule.specs.declared.links.Link.{Link}
 use Rattle.rx_schedule.specs.Links.{AreCounted, AreFree, AreLinks, AreRows, linked, number_of, row_of, times, total}
 use Rattle.rx_schedule.specs.Machine.{Was}

@@ -2,11 +2,11 @@
 use Rattle.std.proofs.Common.{◌≡◌, ℕ, zero, suc, ◌≤◌, true, List, length, ap, ◌∙◌, sym, inl, inr, arith}
 use Rattle.std.proofs.lemmas.List.FromFn.{get_or-map-range_with_len, length-map-range_with_len}
 use Rattle.rx_fields.specs.Numbered.{LotParts}
-use Rattle.rx_claim.specs.declared.transmission.Transmission.{Transmission}
+use Rattle.rx_d0_values.specs.declared.transmission.Transmission.{Transmission}
 use Rattle.rx_ledger.specs.Ledger.{Ledger}
 use Rattle.rx_ledger.specs.Plan.{Plan}
-use Rattle.rx_parcels.specs.Books.{Book, OfFamily, OfKey}
-use Rattle.rx_parcels.specs.Footprints.{FootprintParts, names}
+use Rattle.rx_books_parcel.specs.Books.{Book, OfFamily, OfKey}
+use Rattle.rx_books_parcel.specs.Footprints.{FootprintParts, names}
 use Rattle.rx_schedule.specs.Footprints.{footprint_at, footprints_of}
 use Rattle.rx_schedule.specs.Jobs.{job}
 use Rattle.rx_schedule.specs.Machine.{IsNumbering, Share}

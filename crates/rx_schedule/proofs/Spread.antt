@@ -12,9 +12,9 @@ use Rattle.std.proofs.lemmas.List.{get_or_default, length-take-le, map-append, s
 use Rattle.std.proofs.lemmas.List.Elements.{filter-append}
 use Rattle.std.proofs.lemmas.List.FromFn.{get_or-map-range_with_len, length-map-range_with_len}
 use Rattle.std.proofs.lemmas.Map.Lookups.{CmpEqualImpliesEq}
-use Rattle.rx_order.proofs.KeyOrders.{number_exact, number_total}
-use Rattle.rx_order.proofs.Keys.{cases_Ordering, Equal-from_is_eq}
-use Rattle.rx_parcels.specs.Footprints.{FootprintParts}
+use Rattle.rx_sorted.proofs.KeyOrders.{number_exact, number_total}
+use Rattle.rx_sorted.proofs.Keys.{cases_Ordering, Equal-from_is_eq}
+use Rattle.rx_books_parcel.specs.Footprints.{FootprintParts}
 use Rattle.rx_schedule.specs.Links.{is_used, use_cmp}
 use Rattle.rx_schedule.specs.Marked.{is_named}
 use Rattle.rx_schedule.specs.Used.{AreWithin, footprints_used, names_at}

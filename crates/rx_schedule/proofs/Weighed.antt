@@ -11,11 +11,11 @@ use Rattle.std.proofs.lemmas.List.Filters.{length-filter_more}
 use Rattle.std.proofs.lemmas.List.FromFn.{sum_by-map-range_with_len_more, take-map-range_with_len}
 use Rattle.std.proofs.lemmas.List.Sums.{sum_by-take-le, sum_by_more}
 use Rattle.rx_fields.specs.Order.{id_cmp}
-use Rattle.rx_order.proofs.Keys.{Equal-from_is_eq}
+use Rattle.rx_sorted.proofs.Keys.{Equal-from_is_eq}
 use Rattle.rx_ledger.specs.Ledger.{Ledger}
 use Rattle.rx_ledger.proofs.Orders.{id_exact}
-use Rattle.rx_claim.specs.declared.transmission.Transmission.{Transmission}
-use Rattle.rx_parcels.specs.Footprints.{FootprintParts}
+use Rattle.rx_d0_values.specs.declared.transmission.Transmission.{Transmission}
+use Rattle.rx_books_parcel.specs.Footprints.{FootprintParts}
 use Rattle.rx_schedule.specs.Footprints.{footprint_of}
 use Rattle.rx_schedule.specs.Weight.{HasWeights, batch_weight, billings_in, count_kept, family_weight, record_weight, share_of}
 use Rattle.rx_schedule.proofs.Noted.{footprint-next}

@@ -5,14 +5,14 @@ use Rattle.std.specs.List.{list_any}
 use Rattle.rx_fields.specs.Numbered.{LotParts}
 use Rattle.rx_fields.specs.Order.{id_cmp}
 use Rattle.rx_fields.specs.declared.key.Key.{Key}
-use Rattle.rx_claim.specs.declared.reply.Reply.{Reply}
-use Rattle.rx_claim.specs.declared.transmission.Transmission.{Transmission}
+use Rattle.rx_d0_values.specs.declared.reply.Reply.{Reply}
+use Rattle.rx_d0_values.specs.declared.transmission.Transmission.{Transmission}
 use Rattle.rx_ledger.specs.Fold.{fold_ledger, ledger_after, reply_to}
 use Rattle.rx_ledger.specs.Ledger.{Ledger, empty, row_under}
 use Rattle.rx_ledger.specs.Plan.{Plan}
 use Rattle.rx_ledger.specs.declared.row.Row.{Row}
-use Rattle.rx_parcels.specs.Books.{Book, book}
-use Rattle.rx_parcels.specs.Footprints.{names, sub}
+use Rattle.rx_books_parcel.specs.Books.{Book, book}
+use Rattle.rx_books_parcel.specs.Footprints.{names, sub}
 use Rattle.rx_schedule.specs.Footprints.{footprint_at, holders, record_at}
 use Rattle.rx_schedule.specs.Machine.{Job}
 

@@ -1,6 +1,6 @@
 -- Meaning: which records may go: those whose earlier sharers were all passed. Places count from 1.
 use Rattle.std.specs.Prelude.{◌≡◌, ◌≢◌, ℕ, ◌<◌, ◌≤◌, true, nat_lt, if◌then◌else◌, List, length, slice_index_or, take, Option, Some, None}
-use Rattle.rx_parcels.specs.Footprints.{FootprintParts}
+use Rattle.rx_books_parcel.specs.Footprints.{FootprintParts}
 use Rattle.rx_schedule.specs.Links.{AreCounted, AreFree, AreLeft, times}
 use Rattle.rx_schedule.specs.Machine.{Pairs, Was}
 use Rattle.rx_schedule.specs.Waves.{shares}

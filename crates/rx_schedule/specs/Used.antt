@@ -2,7 +2,7 @@
 use Rattle.std.specs.Prelude.{ℕ, ◌≤◌, ◌==◌, List, length, map}
 use Rattle.std.specs.List.{filter, range_with_len}
 use Rattle.rx_fields.specs.declared.key.Key.{Key}
-use Rattle.rx_parcels.specs.Footprints.{FootprintParts}
+use Rattle.rx_books_parcel.specs.Footprints.{FootprintParts}
 
 -- the names that are used at a place
 abbrev pub names_at : {K : Type 0} → List (K × ℕ) → ℕ → List K

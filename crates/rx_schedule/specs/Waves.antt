@@ -1,7 +1,7 @@
 -- Meaning: waves: numbers of the records, by which those that share no book go together. Places count from 1.
 use Rattle.std.specs.Prelude.{◌≡◌, ◌≢◌, ℕ, suc, ◌-◌, ◌<◌, ◌≤◌, ◌⊎◌, Bool, true, List, [], ◌∷◌, length, slice_index_or}
 use Rattle.std.specs.List.{list_any}
-use Rattle.rx_parcels.specs.Footprints.{FootprintParts, books_in, names}
+use Rattle.rx_books_parcel.specs.Footprints.{FootprintParts, books_in, names}
 
 -- two footprints meet: some book is named by both
 abbrev pub meet : FootprintParts → FootprintParts → Bool

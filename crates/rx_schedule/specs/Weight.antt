@@ -4,11 +4,11 @@ use Rattle.std.specs.BTreeMap.{BTreeMap, get}
 use Rattle.std.specs.List.{filter, range_with_len, sum, sum_by}
 use Rattle.std.specs.Option.{unwrap_or}
 use Rattle.rx_fields.specs.Order.{id_cmp}
-use Rattle.rx_claim.specs.declared.transaction.Transaction.{Transaction}
-use Rattle.rx_claim.specs.declared.transaction.Transaction.TheVariants.{Bill, Reverse, Faulty}
-use Rattle.rx_claim.specs.declared.transmission.Body.{Body}
-use Rattle.rx_claim.specs.declared.transmission.Body.TheVariants.{Rejected, Heard}
-use Rattle.rx_claim.specs.declared.transmission.Transmission.{Transmission}
+use Rattle.rx_d0_values.specs.declared.transaction.Transaction.{Transaction}
+use Rattle.rx_d0_values.specs.declared.transaction.Transaction.TheVariants.{Bill, Reverse, Faulty}
+use Rattle.rx_d0_values.specs.declared.transmission.Body.{Body}
+use Rattle.rx_d0_values.specs.declared.transmission.Body.TheVariants.{Rejected, Heard}
+use Rattle.rx_d0_values.specs.declared.transmission.Transmission.{Transmission}
 use Rattle.rx_ledger.specs.Ledger.{Ledger, members_of, rows_of}
 use Rattle.rx_ledger.specs.Members.{is_same}
 use Rattle.rx_schedule.specs.Footprints.{footprint_at}

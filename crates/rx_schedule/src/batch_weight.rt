@@ -5,8 +5,8 @@ ghost use Rattle.rx_schedule.specs.Weight.{HasWeights, batch_weight, family_weig
 use crate::billers::Billers;
 use crate::family_weights::Weights;
 use crate::naming::footprint;
-use rx_books_kept::Books;
-use rx_claim::Transmission;
+use rx_books_store::Books;
+use rx_d0_values::Transmission;
 use rx_fields::Memory;
 use std::alloc::Global;
 

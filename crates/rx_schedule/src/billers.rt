@@ -3,11 +3,11 @@ ghost use Rattle.std.specs.List.{flat_map};
 ghost use Rattle.std.specs.Ordering.{is_eq};
 ghost use Rattle.rx_fields.specs.Order.{id_cmp, key_cmp};
 ghost use Rattle.rx_fields.specs.declared.key.Key.{Key as KeyValue};
-ghost use Rattle.rx_claim.specs.declared.transmission.Transmission.{Transmission as TransmissionValue};
+ghost use Rattle.rx_d0_values.specs.declared.transmission.Transmission.{Transmission as TransmissionValue};
 ghost use Rattle.rx_schedule.specs.Billed.{HasBilled, billed_families, is_among, is_biller};
 ghost use Rattle.rx_schedule.specs.Footprints.{billed_by, billers_in};
 
-use rx_claim::{Body, Heard, Transaction, Transmission};
+use rx_d0_values::{Body, Heard, Transaction, Transmission};
 use rx_fields::{Id, Key, Memory};
 use std::alloc::Global;
 use std::collections::{BTreeMap, BTreeSet};

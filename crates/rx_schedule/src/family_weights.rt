@@ -5,8 +5,8 @@ ghost use Rattle.rx_schedule.specs.Shares.{share_in};
 ghost use Rattle.rx_schedule.specs.Weight.{HasWeights, billings_in, count_kept, family_weight, is_billing_of, share_of};
 
 use crate::member_shares::{Share, shares_of};
-use rx_books_kept::Books;
-use rx_claim::{Body, Heard, Transaction, Transmission};
+use rx_books_store::Books;
+use rx_d0_values::{Body, Heard, Transaction, Transmission};
 use rx_fields::{Id, Memory};
 use std::alloc::Global;
 use std::collections::BTreeMap;

@@ -1,11 +1,11 @@
 ghost use Rattle.std.specs.Prelude.{◌≡◌, ◌≤◌, ℕ, List, ◌∷◌, ◌++◌, Some, length, suc, true};
 ghost use Rattle.rx_fields.specs.Numbered.{LotParts};
-ghost use Rattle.rx_claim.specs.declared.transmission.Transmission.{Transmission};
+ghost use Rattle.rx_d0_values.specs.declared.transmission.Transmission.{Transmission};
 ghost use Rattle.rx_ledger.specs.Fold.{fold_ledger};
 ghost use Rattle.rx_ledger.specs.Ledger.{Ledger};
 ghost use Rattle.rx_ledger.specs.Plan.{Plan};
-ghost use Rattle.rx_parcels.specs.Books.{Book, IsInOrder, book};
-ghost use Rattle.rx_parcels.specs.Footprints.{fits, names};
+ghost use Rattle.rx_books_parcel.specs.Books.{Book, IsInOrder, book};
+ghost use Rattle.rx_books_parcel.specs.Footprints.{fits, names};
 ghost use Rattle.rx_schedule.specs.Footprints.{footprint_at, footprints_of, record_at};
 ghost use Rattle.rx_schedule.specs.Jobs.{IsHeld, job, ledger_before, reply_at};
 ghost use Rattle.rx_schedule.specs.Machine.{GoesByNumber, IsNumbering, IsOrder, IsPlace, KeepsFileOrder};

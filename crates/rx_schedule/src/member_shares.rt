@@ -4,7 +4,7 @@ ghost use Rattle.rx_ledger.specs.Ledger.{members_of, rows_of};
 ghost use Rattle.rx_schedule.specs.Shares.{share_in, share_alone};
 
 use crate::family_weights::sum_up_to;
-use rx_books_kept::OpenBooks;
+use rx_books_store::OpenBooks;
 use rx_fields::{Id, Memory};
 use rx_ledger::Member;
 use std::alloc::Global;

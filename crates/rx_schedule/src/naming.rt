@@ -1,19 +1,19 @@
 ghost use Rattle.std.specs.Prelude.{◌≡◌, ◌++◌, ◌||◌, ℕ, List, IfOk, OnOk};
 ghost use Rattle.std.specs.List.{flat_map};
 ghost use Rattle.rx_fields.specs.Order.{id_cmp, key_cmp};
-ghost use Rattle.rx_claim.specs.declared.transmission.Transmission.{Transmission as TransmissionValue};
+ghost use Rattle.rx_d0_values.specs.declared.transmission.Transmission.{Transmission as TransmissionValue};
 ghost use Rattle.rx_ledger.specs.Named.{key_in};
-ghost use Rattle.rx_order.specs.Ascending.{IsAscending};
-ghost use Rattle.rx_parcels.specs.Footprints.{itself};
+ghost use Rattle.rx_sorted.specs.Ascending.{IsAscending};
+ghost use Rattle.rx_books_parcel.specs.Footprints.{itself};
 ghost use Rattle.rx_schedule.specs.Billed.{HasBilled, is_among};
 ghost use Rattle.rx_schedule.specs.Footprints.{families_named, footprint_of, families_in, footprints_of, holders, key_named, keys_in};
 
 use crate::billers::Billers;
 use crate::ordered::put_in_order;
-use rx_books_kept::Books;
-use rx_claim::{Body, Heard, Transaction, Transmission};
+use rx_books_parcel::Footprint;
+use rx_books_store::Books;
+use rx_d0_values::{Body, Heard, Transaction, Transmission};
 use rx_fields::{Id, Key, Memory, Reference};
-use rx_parcels::Footprint;
 use std::alloc::Global;
 
 /// The footprint of each record, in file order: the books that it names, read off the opening books and the records

@@ -4,8 +4,8 @@ ghost use Rattle.rx_schedule.specs.Queues.{AreQueues, IsNext};
 
 use crate::followers::{Followers, followers_of, free_places, release};
 use crate::uses::Uses;
+use rx_books_parcel::Footprint;
 use rx_fields::Memory;
-use rx_parcels::Footprint;
 use std::alloc::Global;
 use std::marker::Model;
 use std::snapshot::Snapshot;

@@ -5,8 +5,8 @@ ghost use Rattle.rx_schedule.specs.Links.{AreLinks, links_in, use_cmp};
 
 use crate::links::Link;
 use crate::ordered::put_in_order;
+use rx_books_parcel::Footprint;
 use rx_fields::{Id, Key, Memory};
-use rx_parcels::Footprint;
 use std::alloc::Global;
 use std::marker::Model;
 
@@ -20,7 +20,7 @@ pub(crate) struct Uses {
 
 impl Model for Uses {
     ghost use Rattle.std.specs.Prelude.{List};
-    ghost use Rattle.rx_parcels.specs.Footprints.{FootprintParts};
+    ghost use Rattle.rx_books_parcel.specs.Footprints.{FootprintParts};
     ghost use Rattle.rx_schedule.specs.Used.{AreWithin, footprints_used};
 
     ghost Value = { List FootprintParts };

@@ -1,12 +1,12 @@
 ghost use Rattle.std.specs.Prelude.{◌≤◌, ◌<◌, ◌+◌, ℕ, List, IfOk, OnOk, length};
-ghost use Rattle.rx_parcels.specs.Footprints.{FootprintParts};
+ghost use Rattle.rx_books_parcel.specs.Footprints.{FootprintParts};
 ghost use Rattle.rx_schedule.specs.Marked.{IsScan};
 ghost use Rattle.rx_schedule.specs.Waves.{AreLongest, AreWaves, IsChain, IsSharingChain, IsValidNumbering, number_in};
 
 use crate::marks::{Mark, Marks};
 use crate::wave_numbers::Waves;
+use rx_books_parcel::Footprint;
 use rx_fields::{Id, Key, Memory};
-use rx_parcels::Footprint;
 use std::alloc::Global;
 
 // No record.

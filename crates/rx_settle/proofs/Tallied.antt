@@ -14,7 +14,7 @@ use Rattle.std.specs.Prelude.{Option, Some, None, is_some, position, slice_get}
 use Rattle.std.specs.Map.{lookup, keys_of, values_of}
 use Rattle.indexmap.specs.IndexMap.{insert_entry, set_value_at}
 use Rattle.indexmap.proofs.MapLemmas.{Found-position, insert_entry-first}
-use Rattle.rx_claim.specs.declared.reply.Reply.{Reply}
+use Rattle.rx_d0_values.specs.declared.reply.Reply.{Reply}
 use Rattle.rx_settle.specs.declared.tally.Tally.{Tally}
 use Rattle.rx_settle.specs.Answers.{answers_in, tally, plus, weight}
 use Rattle.rx_settle.specs.Counting.{field_text, tally_at, tally_for, tallies_of, counted, line}

@@ -1,12 +1,12 @@
 -- Meaning: what a reply answers, and how answers are counted.
 use Rattle.std.specs.Prelude.{ℕ, ◌+◌, Bool, true, false, List, replicate, None, count_by, sum_by}
 use Rattle.std.specs.List.{flat_map}
-use Rattle.rx_claim.specs.Priced.{total_paid}
-use Rattle.rx_claim.specs.declared.reply.Answer.{Answer}
-use Rattle.rx_claim.specs.declared.reply.Answer.TheVariants.{Paid, Twice, Approved, Refused}
-use Rattle.rx_claim.specs.declared.reply.Outcome.{Outcome}
-use Rattle.rx_claim.specs.declared.reply.Outcome.TheVariants as outcome
-use Rattle.rx_claim.specs.declared.reply.Reply.{Reply}
+use Rattle.rx_d0_values.specs.Priced.{total_paid}
+use Rattle.rx_d0_values.specs.declared.reply.Answer.{Answer}
+use Rattle.rx_d0_values.specs.declared.reply.Answer.TheVariants.{Paid, Twice, Approved, Refused}
+use Rattle.rx_d0_values.specs.declared.reply.Outcome.{Outcome}
+use Rattle.rx_d0_values.specs.declared.reply.Outcome.TheVariants as outcome
+use Rattle.rx_d0_values.specs.declared.reply.Reply.{Reply}
 use Rattle.rx_settle.specs.declared.tally.Tally.{Tally}
 
 -- the answers of a reply; a rejected header answers each of its groups with its codes

@@ -3,7 +3,7 @@ use Rattle.std.specs.Prelude.{ℕ, ◌-◌, List, [], ◌∷◌, ◌++◌, codes
 use Rattle.std.specs.Option.{unwrap_or}
 use Rattle.std.specs.Map.{lookup}
 use Rattle.rx_settle.specs.declared.tally.Tally.{Tally}
-use Rattle.rx_claim.specs.declared.reply.Reply.{Reply}
+use Rattle.rx_d0_values.specs.declared.reply.Reply.{Reply}
 use Rattle.rx_settle.specs.Answers.{answers_of, tally, plus}
 use Rattle.rx_settle.specs.Providers.{named, is_same, providers, replies_to}
 use Rattle.rx_settle.specs.Settlement.{counts_text}

@@ -5,7 +5,7 @@ use Rattle.std.specs.Option.{unwrap_or}
 use Rattle.std.specs.Result.{result_ok}
 use Rattle.std.specs.Cmp.Lexicographic.{pointwise}
 use Rattle.rx_fields.specs.Text.{id_of}
-use Rattle.rx_claim.specs.declared.reply.Reply.{Reply}
+use Rattle.rx_d0_values.specs.declared.reply.Reply.{Reply}
 
 -- the provider that a field names: its bytes without trailing blanks where that is an id, else empty
 abbrev pub named : List ℕ → List ℕ

@@ -6,7 +6,7 @@ use Rattle.rx_fields.specs.Clock.{stamp_text}
 use Rattle.rx_fields.specs.Digits.{digits_text}
 use Rattle.rx_fields.specs.Numbered.{LotParts}
 use Rattle.rx_fields.specs.declared.stamp.Stamp.{Stamp}
-use Rattle.rx_claim.specs.declared.reply.Reply.{Reply}
+use Rattle.rx_d0_values.specs.declared.reply.Reply.{Reply}
 use Rattle.rx_settle.specs.declared.tally.Tally.{Tally}
 use Rattle.rx_settle.specs.Answers.{answers_of, tally}
 use Rattle.rx_settle.specs.Providers.{providers, replies_to}

@@ -3,7 +3,7 @@ ghost use Rattle.std.specs.Result.{OnOk};
 ghost use Rattle.rx_settle.specs.Providers.{named, provider_of};
 ghost use Rattle.rx_settle.specs.Counting.{field_text};
 
-use rx_claim::Reply;
+use rx_d0_values::Reply;
 use rx_fields::Provider;
 use std::alloc::AllocError;
 

@@ -9,7 +9,7 @@ use crate::lines::{put_head, put_line, put_total};
 use crate::provider::{Field, provider_field};
 use crate::tally::Tally;
 use indexmap::IndexMap;
-use rx_claim::Reply;
+use rx_d0_values::Reply;
 use rx_fields::{Lot, Memory, Stamp};
 use std::alloc::{AllocError, Global};
 

@@ -1,7 +1,7 @@
 ghost use Rattle.std.specs.Prelude.{◌≡◌, ◌≤◌, ◌<◌, ◌+◌, ◌*◌, ◌^◌, [], ◌∷◌, length};
 ghost use Rattle.rx_settle.specs.Answers.{answers_in, tally, plus, weight};
 
-use rx_claim::{Answer, Outcome};
+use rx_d0_values::{Answer, Outcome};
 
 /// How many answers of each status there are, and the cents that they move. Its numbers are wide enough for all
 /// replies that fit in memory.

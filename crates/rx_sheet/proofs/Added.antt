@@ -13,10 +13,10 @@ use Rattle.rx_ledger.specs.Planned.{planned}
 use Rattle.rx_ledger.specs.declared.figures.Figures.{Figures}
 use Rattle.rx_ledger.specs.declared.sheet_key.SheetKey.{SheetKey}
 use Rattle.rx_ledger.specs.declared.sheet.Listed.{Listed}
-use Rattle.rx_order.specs.Ascending.{IsAscending, IsBelow, is_past, item_at}
-use Rattle.rx_order.proofs.Edits.{put-past}
-use Rattle.rx_order.proofs.Keys.{Less-from_is_lt}
-use Rattle.rx_order.proofs.KeyOrders.{number_total}
+use Rattle.rx_sorted.specs.Ascending.{IsAscending, IsBelow, is_past, item_at}
+use Rattle.rx_sorted.proofs.Edits.{put-past}
+use Rattle.rx_sorted.proofs.Keys.{Less-from_is_lt}
+use Rattle.rx_sorted.proofs.KeyOrders.{number_total}
 use Rattle.rx_sheet.specs.Drugs.{AreListed}
 use Rattle.rx_sheet.specs.SheetText.{plan_of}
 

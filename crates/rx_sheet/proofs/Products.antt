@@ -23,7 +23,7 @@ use Rattle.rx_ledger.specs.Plan.{listed_product}
 use Rattle.rx_ledger.specs.declared.drug.Drug.{Drug}
 use Rattle.rx_ledger.specs.declared.sheet.Listed.{Listed}
 use Rattle.rx_ledger.specs.declared.sheet_key.SheetKey.TheVariants.{Drugs}
-use Rattle.rx_order.specs.Ascending.{IsAscending, IsBelow}
+use Rattle.rx_sorted.specs.Ascending.{IsAscending, IsBelow}
 use Rattle.rx_sheet.specs.declared.fault.SheetFault.{SheetFault}
 use Rattle.rx_sheet.specs.declared.fault.SheetFault.TheVariants.{Wrong}
 use Rattle.rx_sheet.specs.Drugs.{drug_in, drugs_of, listed_in}

@@ -3,7 +3,7 @@ use Rattle.std.specs.Prelude.{ℕ, List, [], ◌∷◌, ◌++◌, codes, None}
 use Rattle.std.specs.List.{flat_map}
 use Rattle.rx_fields.specs.Calendar.{Civil}
 use Rattle.rx_fields.specs.Numbered.{LotParts, Span}
-use Rattle.rx_claim.specs.declared.reply.Reply.{Reply}
+use Rattle.rx_d0_values.specs.declared.reply.Reply.{Reply}
 use Rattle.rx_ledger.specs.Fold.{reply_to}
 use Rattle.rx_ledger.specs.Ledger.{Ledger, empty, with_member}
 use Rattle.rx_ledger.specs.Plan.{Plan, with_drug}
@@ -11,8 +11,8 @@ use Rattle.rx_ledger.specs.declared.drug.Drug.{Drug}
 use Rattle.rx_ledger.specs.declared.drug.Share.TheVariants.{Copay}
 use Rattle.rx_ledger.specs.declared.figures.Figures.{Figures}
 use Rattle.rx_ledger.specs.declared.member.Member.{Member}
-use Rattle.rx_reply.specs.Text.{reply_text}
-use Rattle.rx_request.specs.Request.{transmission_of}
+use Rattle.rx_d0_reply.specs.Text.{reply_text}
+use Rattle.rx_d0_request.specs.Request.{transmission_of}
 use Rattle.rx_show.specs.Bytes.{shown_byte}
 
 abbrev pub in_2026 : ℕ → ℕ → Civil

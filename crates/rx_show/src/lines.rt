@@ -5,7 +5,7 @@ ghost use Rattle.rx_fields.specs.Calendar.{date_text};
 ghost use Rattle.rx_show.specs.Lines.{after_comma, bill_words, body_lines, code_list, rejected_line, reversal_words};
 ghost use Rattle.rx_show.specs.Lines.{shown_lines, transaction_lines, words_of};
 
-use rx_claim::{BillParts, Body, Codes, Heard, Rejected, Reversal, Transaction, Transmission};
+use rx_d0_values::{BillParts, Body, Codes, Heard, Rejected, Reversal, Transaction, Transmission};
 use rx_fields::{Code, Memory, Reference, date_write};
 use std::alloc::{AllocError, Global};
 

@@ -1,16 +1,16 @@
 ghost use Rattle.std.specs.Prelude.{◌≡◌, ◌≤◌, IfOk, length};
 ghost use Rattle.rx_fields.specs.declared.limits.TheConstants.{MOST_DETAILS};
 ghost use Rattle.rx_ledger.specs.Fold.{fold_replies};
-ghost use Rattle.rx_reply.specs.Text.{reply_text};
+ghost use Rattle.rx_d0_reply.specs.Text.{reply_text};
 ghost use Rattle.rx_show.specs.Sample.{base_claim, opening, sample_lot, sample_reply, sample_text};
 
 use crate::bytes::shown;
 use crate::sample_inputs::{lot, opening_books, plain_sheet};
-use rx_claim::{Reply, Transmission};
+use rx_d0_reply::encode;
+use rx_d0_request::decode;
+use rx_d0_values::{Reply, Transmission};
 use rx_fields::Memory;
 use rx_ledger::{Sheet, plain_run};
-use rx_reply::encode;
-use rx_request::decode;
 use std::alloc::Global;
 
 // The base claim (docs/FORMATS.md, "Fixed inputs").

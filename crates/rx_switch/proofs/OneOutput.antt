@@ -5,11 +5,11 @@ use Rattle.rx_batch.specs.declared.detail.Detail.{Detail}
 use Rattle.rx_batch.specs.declared.head.Head.{Head}
 use Rattle.rx_batch.specs.Grammar.{IsFile}
 use Rattle.rx_batch.proofs.Readings.{file_is_read}
-use Rattle.rx_books_kept.specs.BooksFile.{IsBooksText}
-use Rattle.rx_books_kept.specs.BooksText.{parts_of}
-use Rattle.rx_books_kept.specs.Figures.{books_of, books_of_parts, unless_wrong, unsummed}
-use Rattle.rx_books_kept.specs.LedgerBooks.{LedgerBooks}
-use Rattle.rx_books_kept.proofs.BooksFile.{parts_right}
+use Rattle.rx_books_store.specs.BooksFile.{IsBooksText}
+use Rattle.rx_books_store.specs.BooksText.{parts_of}
+use Rattle.rx_books_store.specs.Figures.{books_of, books_of_parts, unless_wrong, unsummed}
+use Rattle.rx_books_store.specs.LedgerBooks.{LedgerBooks}
+use Rattle.rx_books_store.proofs.BooksFile.{parts_right}
 use Rattle.rx_text.specs.Results.{◌>>=◌}
 use Rattle.rx_books_text.specs.Printed.{PrintedParts}
 use Rattle.rx_books_text.proofs.Printing.{printed_again}

@@ -4,7 +4,7 @@ use Rattle.rx_batch.specs.Fault.{UnlessMemory as UnlessBatchMemory}
 use Rattle.rx_batch.specs.Reading.{HasFault}
 use Rattle.rx_batch.specs.declared.fault.BatchFault.{BatchFault}
 use Rattle.rx_batch.specs.declared.fault.BatchFault.TheVariants as batch
-use Rattle.rx_books_kept.specs.BooksFile.{HasBooksFault, IsBooksText}
+use Rattle.rx_books_store.specs.BooksFile.{HasBooksFault, IsBooksText}
 use Rattle.rx_books_text.specs.Fault.{UnlessMemory as UnlessBooksMemory}
 use Rattle.rx_books_text.specs.declared.fault.BooksFault.{BooksFault}
 use Rattle.rx_books_text.specs.declared.fault.BooksFault.TheVariants as books

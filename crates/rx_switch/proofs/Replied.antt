@@ -4,11 +4,11 @@ use Rattle.std.proofs.lemmas.List.{length-map}
 use Rattle.rx_fields.specs.Numbered.{LotParts}
 use Rattle.rx_fields.specs.declared.door.Door.{Door}
 use Rattle.rx_batch.specs.declared.detail.Detail.{Detail}
-use Rattle.rx_claim.specs.declared.transmission.Transmission.{Transmission}
+use Rattle.rx_d0_values.specs.declared.transmission.Transmission.{Transmission}
 use Rattle.rx_ledger.specs.Fold.{fold_replies, ledger_after}
 use Rattle.rx_ledger.specs.Ledger.{Ledger}
 use Rattle.rx_ledger.specs.Plan.{Plan}
-use Rattle.rx_request.specs.Request.{transmission_of}
+use Rattle.rx_d0_request.specs.Request.{transmission_of}
 use Rattle.rx_wave.specs.Decoding.{transmissions_of}
 
 -- as many replies as transmissions

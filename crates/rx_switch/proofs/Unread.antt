@@ -1,9 +1,9 @@
 -- How reading an input breaks off, and which devices failed then.
 use Rattle.std.proofs.Common.{◌≡◌, ◌≤◌, ℕ, List, length, Option, IfSome, Result, Err, refl}
 use Rattle.rx_batch.specs.Pieces.{Fed}
-use Rattle.rx_devices.specs.Reading.{most_reads}
-use Rattle.rx_devices.specs.declared.fault.ReadFault.{ReadFault}
-use Rattle.rx_devices.specs.declared.fault.ReadFault.TheVariants as reading
+use Rattle.rx_io.specs.Reading.{most_reads}
+use Rattle.rx_io.specs.declared.fault.ReadFault.{ReadFault}
+use Rattle.rx_io.specs.declared.fault.ReadFault.TheVariants as reading
 use Rattle.rx_switch.specs.declared.fault.Device.{Device}
 use Rattle.rx_switch.specs.declared.fault.IoFault.{IoFault}
 use Rattle.rx_switch.specs.declared.fault.IoFault.TheVariants as io

@@ -2,10 +2,10 @@
 use Rattle.std.specs.Prelude.{◌≡◌, ◌≤◌, ◌==◌, ℕ, Bool, false, List, length, Option, IfSome, Result, Ok, Err}
 use Rattle.std.specs.Io.KnownBytes.{Appends}
 use Rattle.rx_batch.specs.Pieces.{Fed, StandsFor}
-use Rattle.rx_devices.specs.Reading.{IsRead, most_reads}
-use Rattle.rx_devices.specs.Writing.{AppendsFront}
-use Rattle.rx_devices.specs.declared.fault.ReadFault.{ReadFault}
-use Rattle.rx_devices.specs.declared.fault.ReadFault.TheVariants as reading
+use Rattle.rx_io.specs.Reading.{IsRead, most_reads}
+use Rattle.rx_io.specs.Writing.{AppendsFront}
+use Rattle.rx_io.specs.declared.fault.ReadFault.{ReadFault}
+use Rattle.rx_io.specs.declared.fault.ReadFault.TheVariants as reading
 use Rattle.rx_switch.specs.declared.devices.Inputs.{Inputs}
 use Rattle.rx_switch.specs.declared.devices.Outputs.{Outputs}
 use Rattle.rx_switch.specs.declared.fault.Device.{Device}

@@ -9,12 +9,12 @@ use Rattle.rx_batch.specs.Reading.{HasFault as HasBatchFault}
 use Rattle.rx_batch.specs.declared.detail.Detail.{Detail}
 use Rattle.rx_batch.specs.declared.fault.BatchFault.{BatchFault}
 use Rattle.rx_batch.specs.declared.head.Head.{Head}
-use Rattle.rx_books_kept.specs.BooksText.{books_text}
-use Rattle.rx_books_kept.specs.BooksFile.{HasBooksFault, IsBooksText}
+use Rattle.rx_books_store.specs.BooksText.{books_text}
+use Rattle.rx_books_store.specs.BooksFile.{HasBooksFault, IsBooksText}
 use Rattle.rx_books_text.specs.declared.fault.BooksFault.{BooksFault}
 use Rattle.rx_books_text.specs.declared.version.Version.TheVariants.{Three}
-use Rattle.rx_claim.specs.declared.reply.Reply.{Reply}
-use Rattle.rx_claim.specs.declared.transmission.Transmission.{Transmission}
+use Rattle.rx_d0_values.specs.declared.reply.Reply.{Reply}
+use Rattle.rx_d0_values.specs.declared.transmission.Transmission.{Transmission}
 use Rattle.rx_ledger.specs.Fold.{fold_ledger, fold_replies}
 use Rattle.rx_ledger.specs.Ledger.{Ledger}
 use Rattle.rx_ledger.specs.Plan.{Plan}

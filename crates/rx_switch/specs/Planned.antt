@@ -6,9 +6,9 @@ use Rattle.rx_batch.specs.Reading.{HasFault}
 use Rattle.rx_batch.specs.declared.detail.Detail.{Detail}
 use Rattle.rx_batch.specs.declared.fault.BatchFault.{BatchFault}
 use Rattle.rx_batch.specs.declared.head.Head.{Head}
-use Rattle.rx_books_kept.specs.BooksFile.{HasBooksFault, IsBooksText}
+use Rattle.rx_books_store.specs.BooksFile.{HasBooksFault, IsBooksText}
 use Rattle.rx_books_text.specs.declared.fault.BooksFault.{BooksFault}
-use Rattle.rx_claim.specs.declared.transmission.Transmission.{Transmission}
+use Rattle.rx_d0_values.specs.declared.transmission.Transmission.{Transmission}
 use Rattle.rx_ledger.specs.Ledger.{Ledger}
 use Rattle.rx_ledger.specs.Plan.{Plan}
 use Rattle.rx_schedule.specs.Footprints.{footprints_of}

@@ -8,7 +8,7 @@ ghost use Rattle.rx_switch.specs.Output.{IsRefused, StandFor, stamp_for};
 use crate::adjudicating::parts_of;
 use crate::fault::SwitchFault;
 use rx_batch::{Batch, BatchFault, Pieces, read_batch};
-use rx_books_kept::Books;
+use rx_books_store::Books;
 use rx_fields::Stamp;
 use rx_ledger::Sheet;
 use rx_sheet::read_sheet;

@@ -1,12 +1,12 @@
 ghost use Rattle.std.specs.Prelude.{◌≡◌, IfErr, IfOk, false};
-ghost use Rattle.rx_devices.specs.Reading.{AreFewReads, IsRead};
+ghost use Rattle.rx_io.specs.Reading.{AreFewReads, IsRead};
 ghost use Rattle.rx_switch.specs.Devices.{AreRead, IsFed, IsUnread, IsUnreadAt, has_failed, left_of, of_reading};
 
 use crate::devices::Inputs;
 use crate::fault::{Device, IoFault, SwitchFault};
 use rx_batch::Pieces;
-use rx_devices::{Consumer, ReadFault, Source, read_each};
 use rx_fields::Memory;
+use rx_io::{Consumer, ReadFault, Source, read_each};
 use std::alloc::Global;
 
 /// Reads an input of a run to its end (docs/PRODUCT.md, "Limits").
@@ -26,7 +26,7 @@ pub fn read_all<S: Source>(
     ensures failed { S.failed source.new ≡ has_failed device result }
     ensures reads { AreFewReads S.reads S.cramped source.old source.new }
 {
-    match rx_devices::read_all(alloc, source) {
+    match rx_io::read_all(alloc, source) {
         Ok(text) => Ok(text),
         Err(fault) => Err(of_reading(device, fault)),
     }
@@ -86,7 +86,7 @@ pub(crate) struct ReadInputs {
 }
 
 // Reads the three inputs to their ends, in this order.
-#[tactic(auto, using(rx_devices::proofs::Passing::none_made))]
+#[tactic(auto, using(rx_io::proofs::Passing::none_made))]
 pub(crate) fn read_inputs<A: Source, B: Source, C: Source>(
     alloc: Global,
     inputs: &mut Inputs<A, B, C>,

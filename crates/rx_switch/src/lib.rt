@@ -34,7 +34,7 @@ pub use law::one_output;
 pub use on_devices::run_io;
 pub use plan::plan_text;
 pub use running::run;
-pub use rx_devices::{ReaderSource, Sink, Source, WriterSink};
+pub use rx_io::{ReaderSource, Sink, Source, WriterSink};
 pub use rx_show::sample_line;
 pub use show::show_text;
 pub use telling::told;

@@ -1,6 +1,6 @@
 ghost use Rattle.std.specs.Prelude.{◌≡◌, Err, IfErr, IfOk, List, OnOk, false, ℕ};
 ghost use Rattle.rx_batch.specs.Pieces.{StandsFor};
-ghost use Rattle.rx_devices.specs.Reading.{AreFewReads};
+ghost use Rattle.rx_io.specs.Reading.{AreFewReads};
 ghost use Rattle.rx_switch.specs.Devices.{IsBroken, IsDone, devices_of, has_failed};
 ghost use Rattle.rx_switch.specs.Job.{given_read, texts_in_pieces};
 ghost use Rattle.rx_switch.specs.Output.{IsOutput, IsRefused, RefusesOne};
@@ -14,7 +14,7 @@ use crate::fault::{IoFault, SwitchFault};
 use crate::inputs::{ReadInputs, read_inputs};
 use crate::job::OutputPieces;
 use crate::outputs::write_outputs;
-use rx_devices::{Sink, Source};
+use rx_io::{Sink, Source};
 use rx_wave::Gate;
 use std::alloc::Global;
 use std::sync::Wait;

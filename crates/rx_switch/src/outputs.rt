@@ -2,7 +2,7 @@ ghost use Rattle.std.specs.Prelude.{◌≡◌, IfErr, OnOk, false};
 ghost use Rattle.std.specs.Io.KnownBytes.{Appends};
 ghost use Rattle.std.specs.List.{flat_map};
 ghost use Rattle.std.specs.Vec.{vec_items};
-ghost use Rattle.rx_devices.specs.Writing.{AppendsFront};
+ghost use Rattle.rx_io.specs.Writing.{AppendsFront};
 ghost use Rattle.rx_switch.specs.Devices.{AreWritten, IsUnwritten, has_failed, written_of};
 ghost use Rattle.rx_switch.specs.Job.{texts_in_pieces};
 ghost use Rattle.rx_switch.specs.declared.fault.IoFault.TheVariants as io;
@@ -10,7 +10,7 @@ ghost use Rattle.rx_switch.specs.declared.fault.IoFault.TheVariants as io;
 use crate::devices::Outputs;
 use crate::fault::{Device, IoFault};
 use crate::job::OutputPieces;
-use rx_devices::{Sink, write_pieces};
+use rx_io::{Sink, write_pieces};
 use std::slice;
 
 // Writes the three texts to their ends, in this order.

@@ -1,13 +1,13 @@
 ghost use Rattle.std.specs.Prelude.{◌≡◌, IfErr, IfOk};
-ghost use Rattle.rx_request.specs.Request.{transmission_of};
+ghost use Rattle.rx_d0_request.specs.Request.{transmission_of};
 ghost use Rattle.rx_wave.specs.Decoding.{transmissions_of};
 ghost use Rattle.rx_switch.specs.Shown.{IsShown, IsNotShown};
 
 use crate::fault::SwitchFault;
 use rx_batch::{Detail, read_batch};
-use rx_claim::Transmission;
+use rx_d0_request::decode;
+use rx_d0_values::Transmission;
 use rx_fields::{Door, Memory};
-use rx_request::decode;
 use rx_sheet::read_sheet;
 use rx_show::show_lines;
 use std::alloc::Global;

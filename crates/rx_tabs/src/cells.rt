@@ -5,7 +5,7 @@ ghost use Rattle.rx_fields.specs.Digits.{digits_text};
 ghost use Rattle.rx_tabs.specs.Tabs.{after_tab, asked_cells, bill_cells, cells_of, charge_cells, faulty_cells, key_cells, known};
 ghost use Rattle.rx_tabs.specs.Tabs.{measure_cells, reversal_cells};
 
-use rx_claim::{BillParts, Faulty, Heard, Reversal, Transaction};
+use rx_d0_values::{BillParts, Faulty, Heard, Reversal, Transaction};
 use rx_fields::{Cents, Product, Reference, date_write};
 use rx_show::put_codes;
 use std::alloc::{AllocError, Global};

@@ -5,7 +5,7 @@ ghost use Rattle.rx_show.specs.Lines.{code_list};
 ghost use Rattle.rx_tabs.specs.Tabs.{body_rows, cells_of, heading, rejected_cells, row, shown_table, transaction_rows};
 
 use crate::cells::put_transaction;
-use rx_claim::{Body, Codes, Heard, Transaction, Transmission};
+use rx_d0_values::{Body, Codes, Heard, Transaction, Transmission};
 use rx_fields::Memory;
 use rx_show::put_codes;
 use std::alloc::{AllocError, Global};

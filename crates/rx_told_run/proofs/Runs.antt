@@ -6,10 +6,10 @@ use Rattle.rx_batch.specs.Reading.{batch_of}
 use Rattle.rx_batch.specs.declared.batch.Batch.{Batch}
 use Rattle.rx_batch.specs.declared.fault.BatchFault.{BatchFault}
 use Rattle.rx_batch.proofs.Readings.{batch_is_file, fault_is_there}
-use Rattle.rx_books_kept.specs.BooksFile.{HasBooksFault, IsBooksText}
-use Rattle.rx_books_kept.specs.Figures.{books_of}
-use Rattle.rx_books_kept.specs.LedgerBooks.{LedgerBooks}
-use Rattle.rx_books_kept.proofs.BooksFile.{says}
+use Rattle.rx_books_store.specs.BooksFile.{HasBooksFault, IsBooksText}
+use Rattle.rx_books_store.specs.Figures.{books_of}
+use Rattle.rx_books_store.specs.LedgerBooks.{LedgerBooks}
+use Rattle.rx_books_store.proofs.BooksFile.{says}
 use Rattle.rx_books_text.specs.declared.fault.BooksFault.{BooksFault}
 use Rattle.rx_fields.specs.declared.stamp.Stamp.{Stamp}
 use Rattle.rx_ledger.specs.Plan.{Plan}

@@ -2,9 +2,9 @@
 use Rattle.std.proofs.Common.{◌≡◌, refl, subst, sym}
 use Rattle.rx_sheet.specs.declared.fault.SheetFault.{SheetFault}
 use Rattle.rx_sheet.specs.declared.fault.SheetFault.TheVariants as sheet
-use Rattle.rx_told.specs.declared.place.Place.{Place}
-use Rattle.rx_told.specs.declared.place.Place.TheVariants as place
-use Rattle.rx_told.specs.Places.{IsSheetPlace}
+use Rattle.rx_diagnostics.specs.declared.place.Place.{Place}
+use Rattle.rx_diagnostics.specs.declared.place.Place.TheVariants as place
+use Rattle.rx_diagnostics.specs.Places.{IsSheetPlace}
 
 whole_place : (f : SheetFault) → IsSheetPlace f place.Whole
 whole_place sheet.NotToml = tt

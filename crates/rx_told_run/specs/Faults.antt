@@ -3,10 +3,10 @@ use Rattle.std.specs.Prelude.{◌≡◌, ℕ, List, Option, Some, None, option_c
 use Rattle.rx_batch.specs.declared.fault.BatchFault.{BatchFault}
 use Rattle.rx_switch.specs.declared.fault.SwitchFault.{SwitchFault}
 use Rattle.rx_switch.specs.declared.fault.SwitchFault.TheVariants as fault
-use Rattle.rx_told.specs.declared.place.Place.{Place}
+use Rattle.rx_diagnostics.specs.declared.place.Place.{Place}
 use Rattle.rx_told_run.specs.declared.run.Asked.{Asked}
-use Rattle.rx_told.specs.Lines.{BeginsAt}
-use Rattle.rx_told.specs.Places.{IsSheetPlace, batch_place, books_place, unread_batch_place}
+use Rattle.rx_diagnostics.specs.Lines.{BeginsAt}
+use Rattle.rx_diagnostics.specs.Places.{IsSheetPlace, batch_place, books_place, unread_batch_place}
 
 -- the place of a batch fault, with its record where the file could be read again
 abbrev pub batch_place_in : Option (List ℕ) → BatchFault → Place

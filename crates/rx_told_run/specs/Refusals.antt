@@ -4,7 +4,7 @@ use Rattle.std.specs.Option.{option_map}
 use Rattle.rx_batch.specs.Grammar.{IsFile}
 use Rattle.rx_batch.specs.declared.detail.Detail.{Detail}
 use Rattle.rx_batch.specs.declared.head.Head.{Head}
-use Rattle.rx_books_kept.specs.BooksFile.{IsBooksText}
+use Rattle.rx_books_store.specs.BooksFile.{IsBooksText}
 use Rattle.rx_books_text.specs.declared.fault.BooksFault.{BooksFault}
 use Rattle.rx_check.specs.Found.{first_of}
 use Rattle.rx_check.specs.declared.checking.Files.{Files}

@@ -8,7 +8,7 @@
 //! let fault = rx_told_run::refusal(&found);
 //! ```
 //!
-//! Whose fault it is, is found in `rx_switch`; what is said of an input is said in `rx_told`.
+//! Whose fault it is, is found in `rx_switch`; what is said of an input is said in `rx_diagnostics`.
 #![tactic(auto)]
 
 mod law;

@@ -1,17 +1,17 @@
 ghost use Rattle.std.specs.Prelude.{◌≡◌, IfOk, option_copied, string_bytes};
-ghost use Rattle.rx_told.specs.Places.{IsSheetPlace, books_place};
+ghost use Rattle.rx_diagnostics.specs.Places.{IsSheetPlace, books_place};
 ghost use Rattle.rx_told_run.specs.Faults.{IsTold, batch_place_in};
 
 use rx_batch::BatchFault;
 use rx_books_text::BooksFault;
+use rx_diagnostics::{
+    Words, batch_words, books_words, quoted, sheet_words, unread_batch_words, unread_books_words,
+    unread_sheet_words,
+};
 use rx_fields::{Memory, date_read};
 use rx_sheet::SheetFault;
 use rx_switch::SwitchFault;
 use rx_text::all_digits;
-use rx_told::{
-    Words, batch_words, books_words, quoted, sheet_words, unread_batch_words, unread_books_words,
-    unread_sheet_words,
-};
 use std::alloc::{AllocError, Global};
 
 /// An input: its name, and its bytes where they could be read again.

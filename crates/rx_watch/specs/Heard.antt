@@ -2,7 +2,7 @@
 use Rattle.std.specs.Prelude.{◌≡◌, ℕ, ◌-◌, ◌==◌, List, ◌++◌, count_by, drop, length, take}
 use Rattle.std.specs.Prelude.{IfOk, IfSome, OnErr, Result, Some}
 use Rattle.sha2.specs.Hashers.{Holds256}
-use Rattle.rx_devices.specs.declared.fault.Failed.{Failed}
+use Rattle.rx_io.specs.declared.fault.Failed.{Failed}
 use Rattle.rx_watch.specs.declared.heard.Heard.{Heard}
 use Rattle.rx_watch.specs.declared.heard.TheConstants.{KEPT}
 

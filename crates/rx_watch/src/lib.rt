@@ -5,7 +5,7 @@
 //!
 //! ```rust
 //! let mut batch = Watched::new(ReaderSource::new(file), &rt);
-//! let text = rx_devices::read_all(alloc, &mut batch)?;
+//! let text = rx_io::read_all(alloc, &mut batch)?;
 //! let digest = batch.heard().digest()?;
 //! ```
 //!

@@ -2,11 +2,11 @@
 ghost use Rattle.std.specs.Prelude.{◌≡◌, ◌||◌};
 ghost use Rattle.std.specs.Io.{WritesAtMost};
 ghost use Rattle.std.specs.Io.KnownBytes.{WriteAppends};
-ghost use Rattle.rx_devices.specs.Writing.{is_failed_write};
+ghost use Rattle.rx_io.specs.Writing.{is_failed_write};
 ghost use Rattle.rx_watch.specs.Heard.{HearsCall};
 
 use crate::watched::Watched;
-use rx_devices::{Failed, Sink};
+use rx_io::{Failed, Sink};
 use std::time::Clock;
 
 impl<'c, S: Sink, C: Clock> Sink for Watched<'c, S, C> {

@@ -2,11 +2,11 @@
 ghost use Rattle.std.specs.Prelude.{◌≡◌, ◌≤◌, ◌+◌, ◌||◌, false, is_err, length};
 ghost use Rattle.std.specs.Io.{ReadsAtMost};
 ghost use Rattle.std.specs.Io.KnownBytes.{ReadConsumes};
-ghost use Rattle.rx_devices.specs.Reading.{least_room};
+ghost use Rattle.rx_io.specs.Reading.{least_room};
 ghost use Rattle.rx_watch.specs.Heard.{HearsCall};
 
 use crate::watched::Watched;
-use rx_devices::{Failed, Source};
+use rx_io::{Failed, Source};
 use std::time::Clock;
 
 impl<'c, S: Source, C: Clock> Source for Watched<'c, S, C> {

@@ -1,12 +1,12 @@
 ghost use Rattle.std.specs.Prelude.{◌≡◌, IfOk};
-ghost use Rattle.rx_request.specs.Request.{transmission_of};
+ghost use Rattle.rx_d0_request.specs.Request.{transmission_of};
 ghost use Rattle.rx_wave.specs.Decoding.{transmissions_of};
 
 use rayon::prelude::*;
 use rx_batch::Detail;
-use rx_claim::Transmission;
+use rx_d0_request::decode;
+use rx_d0_values::Transmission;
 use rx_fields::{Door, Memory};
-use rx_request::decode;
 use std::alloc::Global;
 use std::thread::Threads;
 

@@ -2,8 +2,8 @@ ghost use Rattle.std.specs.Prelude.{◌≤◌, length};
 ghost use Rattle.rx_fields.specs.declared.limits.TheConstants.{MOST_DETAILS};
 
 use crate::rough::rough_weight;
-use rx_books_kept::Books;
-use rx_claim::Transmission;
+use rx_books_store::Books;
+use rx_d0_values::Transmission;
 use rx_fields::Memory;
 use rx_schedule::weight;
 use std::alloc::Global;

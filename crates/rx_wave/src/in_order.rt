@@ -2,14 +2,14 @@ ghost use Rattle.std.specs.Prelude.{◌≡◌, ◌≤◌, IfOk, OnOk, length};
 ghost use Rattle.std.specs.List.{All};
 ghost use Rattle.rx_fields.specs.declared.limits.TheConstants.{MOST_DETAILS};
 ghost use Rattle.rx_ledger.specs.Fold.{fold_ledger, fold_replies};
-ghost use Rattle.rx_in_order.specs.Underway.{IsAwaited};
+ghost use Rattle.rx_serial.specs.Underway.{IsAwaited};
 
 use crate::gate::Gate;
-use rx_books_kept::Books;
-use rx_claim::{Reply, Transmission};
+use rx_books_store::Books;
+use rx_d0_values::{Reply, Transmission};
 use rx_fields::{Lot, Memory};
-use rx_in_order::{Finished, InOrder};
 use rx_ledger::Sheet;
+use rx_serial::{Finished, InOrder};
 use std::alloc::Global;
 
 /// Adjudicates a batch's records one after another in file order, on a copy of the books: the books after them, and a

@@ -10,7 +10,7 @@
 //! let finished = rx_wave::run_one(&NoGate, alloc, lot, &sheet, &books, &transmissions)?;
 //! ```
 //!
-//! What a request means is left to `rx_request`.
+//! What a request means is left to `rx_d0_request`.
 #![tactic(auto)]
 
 mod counter;
@@ -26,5 +26,5 @@ pub use decoding::{decode_all, decode_in_parts};
 pub use gate::{Gate, NoGate};
 pub use in_order::{run_one, run_one_on};
 pub use run_fault::RunFault;
-pub use rx_in_order::Finished;
+pub use rx_serial::Finished;
 pub use workers::run_waves;

@@ -1,5 +1,5 @@
-use rx_books_kept::{Books, OpenBooks};
-use rx_claim::{Body, Heard, Transaction, Transmission};
+use rx_books_store::{Books, OpenBooks};
+use rx_d0_values::{Body, Heard, Transaction, Transmission};
 use rx_fields::{Id, Memory, Reference};
 use std::alloc::Global;
 

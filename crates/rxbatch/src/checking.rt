@@ -3,10 +3,10 @@ use crate::printing::print;
 use crate::texts::text_of;
 use crate::verbose::{long_words, read_words};
 use rx_check::{Files, Found, Names, check as look_at, report};
+use rx_cli::CheckWords;
 use rx_fields::Memory;
 use rx_switch::{Device, IoFault};
 use rx_told_run::refusal;
-use rx_words::CheckWords;
 
 // The bytes of the files that are given.
 #[derive(Drop)]

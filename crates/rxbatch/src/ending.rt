@@ -1,7 +1,7 @@
 use rx_batch::BatchFault;
+use rx_cli::WordsFault;
 use rx_fields::Memory;
 use rx_switch::{IoFault, SwitchFault, told};
-use rx_words::WordsFault;
 use std::io;
 
 /// How the program ends where its work isn't done (docs/PRODUCT.md, "The program").

@@ -2,12 +2,12 @@ use crate::ending::Ending;
 use crate::printing::print;
 use crate::texts::{InputTexts, text_of};
 use rx_batch::Details;
+use rx_cli::{Asked, ExplainWords};
+use rx_commands::{Retraced, Told, retrace, tell};
 use rx_explain::{At, Wanted};
 use rx_fields::{Authorization, Provider, Reference};
 use rx_replies::read_response;
-use rx_retrace::{Retraced, Told, retrace, tell};
 use rx_switch::Device;
-use rx_words::{Asked, ExplainWords};
 use std::thread::Threads;
 
 /// Prints why the transactions that are asked for were answered as they were, and whether a response file has these

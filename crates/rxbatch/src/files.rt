@@ -2,9 +2,9 @@ ghost use Rattle.std.specs.Prelude.{◌≡◌, false, IfOk};
 
 use crate::ending::Ending;
 use crate::nodes::Node;
-use rx_devices::{ReaderSource, Source};
+use rx_cli::{Inputs, Outputs};
+use rx_io::{ReaderSource, Source};
 use rx_switch::{Device, IoFault};
-use rx_words::{Inputs, Outputs};
 use std::fs::{File, OpenOptions};
 use std::{fs, io};
 

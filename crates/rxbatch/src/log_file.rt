@@ -2,8 +2,8 @@
 use crate::ending::Ending;
 use crate::files::OutputFile;
 use crate::nodes::{Node, option_of};
+use rx_cli::RunWords;
 use rx_switch::Device;
-use rx_words::RunWords;
 use std::fs;
 use std::io::Write;
 

@@ -17,7 +17,7 @@
 //! rxbatch --version                                 the version, and the kit that proved it
 //! ```
 //!
-//! Words are read by `rx_words`, batches adjudicated by `rx_switch`; here files are opened, and refusals told.
+//! Words are read by `rx_cli`, batches adjudicated by `rx_switch`; here files are opened, and refusals told.
 #![tactic(auto)]
 
 mod checking;
@@ -40,7 +40,7 @@ mod verbose;
 mod verifying;
 
 use ending::Ending;
-use rx_words::{Command, WordsFault, command};
+use rx_cli::{Command, WordsFault, command};
 use std::process::ExitCode;
 use std::sync::Wait;
 use std::thread::Threads;

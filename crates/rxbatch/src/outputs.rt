@@ -3,7 +3,7 @@ use crate::ending::Ending;
 use crate::files::OutputFiles;
 use crate::nodes::Node;
 use crate::safe::SafeFiles;
-use rx_words::{Outputs, RunWords};
+use rx_cli::{Outputs, RunWords};
 use std::fs::File;
 
 /// The files that a run writes.

@@ -1,10 +1,10 @@
 use crate::ending::Ending;
 use crate::files::open_input;
 use crate::texts::{InputTexts, text_in};
+use rx_cli::{Inputs, ShowWords, WordsFault};
+use rx_commands::show_table;
 use rx_fields::Memory;
-use rx_retrace::show_table;
 use rx_switch::{Device, plan_text, sample_line, show_text};
-use rx_words::{Inputs, ShowWords, WordsFault};
 use std::fs::File;
 use std::io;
 use std::io::Write;

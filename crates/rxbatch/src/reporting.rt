@@ -1,14 +1,14 @@
 ghost use Rattle.std.specs.Prelude.{IfOk};
-ghost use Rattle.rx_course.specs.Adjudicated.{IsAdjudicated};
+ghost use Rattle.rx_explain_replay.specs.Adjudicated.{IsAdjudicated};
 
 use crate::ending::Ending;
 use crate::printing::print;
 use crate::texts::InputTexts;
+use rx_cli::{Form, Inputs, Portion as PortionWords, ReportWords};
+use rx_commands::{Report, job_report, whys_of};
 use rx_fields::Memory;
 use rx_report::{Account, Groups, Line, Portion, account_of, kept_lines, tsv_text};
 use rx_report_text::{Whys, columns_text, explained_page, json_text, shows_claims};
-use rx_retrace::{Report, job_report, whys_of};
-use rx_words::{Form, Inputs, Portion as PortionWords, ReportWords};
 use std::alloc::Global;
 use std::thread::Threads;
 

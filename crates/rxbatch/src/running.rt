@@ -3,10 +3,10 @@ use crate::files::InputFiles;
 use crate::logging;
 use crate::nodes::one_file_twice;
 use crate::outputs::RunOutputs;
-use rx_devices::{ReaderSource, WriterSink};
+use rx_cli::RunWords;
+use rx_io::{ReaderSource, WriterSink};
 use rx_switch::{Inputs, Outputs, run_io};
 use rx_wave::NoGate;
-use rx_words::RunWords;
 use std::sync::Wait;
 use std::thread::Threads;
 

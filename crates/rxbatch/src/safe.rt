@@ -1,8 +1,8 @@
 //! The outputs of a run that is to leave each earlier file as it is until the whole run is done.
 use crate::ending::Ending;
 use crate::nodes::{Node, option_of};
+use rx_cli::Outputs;
 use rx_switch::{Device, IoFault, SwitchFault};
-use rx_words::Outputs;
 use std::fs::{File, Metadata, OpenOptions, Permissions};
 use std::io::ErrorKind;
 use std::os::unix::fs::{MetadataExt, OpenOptionsExt, PermissionsExt, fchown};

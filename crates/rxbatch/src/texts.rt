@@ -1,9 +1,9 @@
 //! The files that a command reads whole.
 use crate::ending::Ending;
 use crate::files::{InputFiles, source};
-use rx_devices::ReaderSource;
+use rx_cli::Inputs;
+use rx_io::ReaderSource;
 use rx_switch::{Device, read_all};
-use rx_words::Inputs;
 use std::fs::File;
 
 /// The whole text of the file at a path.

@@ -2,7 +2,7 @@
 ghost use Rattle.std.specs.Prelude.{◌≡◌, false};
 
 use crate::telling::Teller;
-use rx_devices::{Failed, ReaderSource, Source};
+use rx_io::{Failed, ReaderSource, Source};
 use rx_steps::Name;
 use rx_watch::{Heard, Watched};
 use std::fs::File;

@@ -1,9 +1,9 @@
 use crate::ending::Ending;
 use crate::files::source;
+use rx_cli::RunWords;
 use rx_fields::Memory;
 use rx_switch::{Device, IoFault, SwitchFault, read_all};
 use rx_told_run::{Asked, Given, fault_words};
-use rx_words::RunWords;
 use std::fs::OpenOptions;
 use std::io::Read;
 use std::{fs, io};

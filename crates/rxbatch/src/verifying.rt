@@ -1,10 +1,10 @@
 use crate::ending::Ending;
 use crate::printing::print;
 use crate::texts::{InputTexts, text_of};
-use rx_retrace::{Files, verdict_text, verify as verify_files};
+use rx_cli::{Outputs, VerifyWords};
+use rx_commands::{Files, verdict_text, verify as verify_files};
 use rx_switch::{Device, Job};
 use rx_wave::NoGate;
-use rx_words::{Outputs, VerifyWords};
 use std::sync::Wait;
 use std::thread::Threads;
 

@@ -1,5 +1,5 @@
 use Rattle.std.proofs.Common.{◌≡◌, ◌∙◌, ap}
-use Rattle.rx_parcels.specs.Parcels.{ledger_in}
+use Rattle.rx_books_parcel.specs.Parcels.{ledger_in}
 use Rattle.rx_adjudicate.specs.Orders.{ledger_of, reply_of}
 use Rattle.rx_adjudicate.specs.Scopes.{IsAgreed, scope_in}
 use Rattle.rx_adjudicate.proofs.Asked.{holds_record}

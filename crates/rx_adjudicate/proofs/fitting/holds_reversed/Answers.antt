@@ -1,8 +1,8 @@
 use Rattle.std.proofs.Common.{◌≡◌, true, sym, ap, ◌∙◌}
-use Rattle.rx_parcels.specs.Books.{OfKey}
-use Rattle.rx_parcels.specs.Footprints.{names, names_holder}
-use Rattle.rx_parcels.specs.Parcels.{named_in}
-use Rattle.rx_parcels.proofs.Held.{row_read}
+use Rattle.rx_books_parcel.specs.Books.{OfKey}
+use Rattle.rx_books_parcel.specs.Footprints.{names, names_holder}
+use Rattle.rx_books_parcel.specs.Parcels.{named_in}
+use Rattle.rx_books_parcel.proofs.Held.{row_read}
 use Rattle.rx_adjudicate.proofs.fitting.holds_reversed.Goals as goal
 
 pub returns-then-has_key : goal.returns-then-has_key

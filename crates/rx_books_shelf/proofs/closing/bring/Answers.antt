@@ -3,7 +3,7 @@ use Rattle.std.specs.Prelude.{IfSome, slice_get}
 use Rattle.rx_ledger.specs.declared.row.Row.{Row}
 use Rattle.rx_ledger.specs.Ledger.{is_listed, is_taken}
 use Rattle.rx_ledger.specs.Rows.{member_of_row}
-use Rattle.rx_books_kept.specs.OpenBooks.{OpenParts, open_with}
+use Rattle.rx_books_store.specs.OpenBooks.{OpenParts, open_with}
 use Rattle.rx_books_shelf.proofs.Brought.{brought_row, emptied_free, own_key}
 use Rattle.rx_books_shelf.proofs.closing.bring.Goals as goal
 

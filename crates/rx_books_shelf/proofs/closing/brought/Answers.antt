@@ -3,14 +3,14 @@ use Rattle.std.specs.Prelude.{IfSome}
 use Rattle.std.specs.List.{All}
 use Rattle.rx_fields.specs.Order.{key_cmp}
 use Rattle.rx_fields.specs.declared.key.Key.{Key}
-use Rattle.rx_order.specs.Ascending.{contains_key}
-use Rattle.rx_order.specs.Overlaid.{overlaid}
+use Rattle.rx_sorted.specs.Ascending.{contains_key}
+use Rattle.rx_sorted.specs.Overlaid.{overlaid}
 use Rattle.rx_ledger.specs.declared.member.Member.{Member}
 use Rattle.rx_ledger.specs.declared.row.Row.{Row}
 use Rattle.rx_ledger.specs.Ledger.{is_listed}
 use Rattle.rx_ledger.specs.Members.{member_cmp, member_key}
 use Rattle.rx_ledger.specs.Rows.{member_of_row, row_key}
-use Rattle.rx_books_kept.specs.OpenBooks.{OpenParts}
+use Rattle.rx_books_store.specs.OpenBooks.{OpenParts}
 use Rattle.rx_places.specs.declared.place.KeyPlace.{KeyPlace}
 use Rattle.rx_places.specs.Shelves.{HoldsOwnRow, place_key, row_held}
 use Rattle.rx_books_shelf.specs.Closed.{HasSlot}

@@ -2,7 +2,7 @@ use Rattle.std.proofs.Common.{◌≡◌, Bor, Bool, true, false, Option, Some, N
 use Rattle.std.specs.Option.{is_some, option_copied}
 use Rattle.std.proofs.lemmas.Option.{slice_get_within}
 use Rattle.rx_ledger.specs.Ledger.{row_under}
-use Rattle.rx_books_kept.specs.OpenBooks.{open_without}
+use Rattle.rx_books_store.specs.OpenBooks.{open_without}
 use Rattle.rx_books_shelf.proofs.Brought.{emptied_there}
 use Rattle.rx_books_shelf.proofs.closing.empty_slot.Goals as goal
 

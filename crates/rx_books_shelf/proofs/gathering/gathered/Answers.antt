@@ -1,10 +1,10 @@
 use Rattle.std.proofs.Common.{◌≡◌, [], List, map, refl, sym, ap, subst, ◌∙◌}
 use Rattle.std.specs.List.{All}
 use Rattle.rx_fields.specs.Order.{id_cmp}
-use Rattle.rx_order.specs.Ascending.{IsAscending}
+use Rattle.rx_sorted.specs.Ascending.{IsAscending}
 use Rattle.rx_ledger.specs.Ledger.{members_of}
-use Rattle.rx_parcels.specs.FamilyBook.{FamilyBook, empty_book, family_of}
-use Rattle.rx_parcels.specs.Footprints.{itself}
+use Rattle.rx_books_parcel.specs.FamilyBook.{FamilyBook, empty_book, family_of}
+use Rattle.rx_books_parcel.specs.Footprints.{itself}
 use Rattle.rx_books_shelf.specs.Gathered.{with_members, with_rows}
 use Rattle.rx_books_shelf.specs.Opened.{family_book}
 use Rattle.rx_places.proofs.Moved.{map_map}

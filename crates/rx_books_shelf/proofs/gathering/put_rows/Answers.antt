@@ -3,11 +3,11 @@ use Rattle.std.specs.List.{All}
 use Rattle.std.proofs.lemmas.List.Elements.{All-head, All-tail}
 use Rattle.std.proofs.lemmas.List.Sums.{AllPass-from_list_all}
 use Rattle.rx_fields.specs.Order.{id_cmp, key_cmp}
-use Rattle.rx_order.specs.Ascending.{IsAscending}
+use Rattle.rx_sorted.specs.Ascending.{IsAscending}
 use Rattle.rx_ledger.specs.declared.row.Row.{Row}
 use Rattle.rx_ledger.specs.Ledger.{Ledger, is_listed}
 use Rattle.rx_ledger.specs.Rows.{member_of_row, row_key}
-use Rattle.rx_parcels.specs.FamilyBook.{FamilyBook, family_of}
+use Rattle.rx_books_parcel.specs.FamilyBook.{FamilyBook, family_of}
 use Rattle.rx_books_shelf.specs.Gathered.{with_own_row}
 use Rattle.rx_books_shelf.proofs.PutBooks.{HasMembers, PastRows, all_rows_past, all_rows_past_kept, listed_first, row_past_first}
 use Rattle.rx_books_shelf.proofs.PutBooks.{members_stay, rise_with_row, rows_put, rows_put_all}

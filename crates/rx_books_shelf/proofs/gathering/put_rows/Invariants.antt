@@ -2,11 +2,11 @@
 use Rattle.std.proofs.Common.{◌≡◌, length, true}
 use Rattle.std.specs.List.{All}
 use Rattle.rx_fields.specs.Order.{id_cmp, key_cmp}
-use Rattle.rx_order.specs.Ascending.{IsAscending}
+use Rattle.rx_sorted.specs.Ascending.{IsAscending}
 use Rattle.rx_ledger.specs.declared.row.Row.{Row}
 use Rattle.rx_ledger.specs.Ledger.{is_listed}
 use Rattle.rx_ledger.specs.Rows.{member_of_row, row_key}
-use Rattle.rx_parcels.specs.FamilyBook.{family_of}
+use Rattle.rx_books_parcel.specs.FamilyBook.{family_of}
 use Rattle.rx_books_shelf.proofs.PutBooks.{HasMembers, PastRows, rows_put}
 use Rattle.rx_books_shelf.proofs.gathering.put_rows.Given as goal
 

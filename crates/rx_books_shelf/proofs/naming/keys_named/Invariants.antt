@@ -1,7 +1,7 @@
 -- The names of the footprints so far, whose lists are in order.
 use Rattle.std.proofs.Common.{◌≡◌, take}
 use Rattle.std.specs.List.{All, flat_map}
-use Rattle.rx_parcels.specs.Footprints.{FootprintParts, IsFootprint}
+use Rattle.rx_books_parcel.specs.Footprints.{FootprintParts, IsFootprint}
 use Rattle.rx_books_shelf.proofs.naming.keys_named.Given as goal
 
 abbrev pub invariant-loop-footprint : goal.invariant-loop-footprint

@@ -3,11 +3,11 @@ use Rattle.std.specs.List.{All}
 use Rattle.std.proofs.lemmas.List.{map-append, reverse-append}
 use Rattle.std.proofs.lemmas.List.Elements.{All-head}
 use Rattle.rx_fields.specs.Order.{id_cmp}
-use Rattle.rx_order.specs.Ascending.{IsAscending}
-use Rattle.rx_order.proofs.Kept.{is_ascending-from_fact}
+use Rattle.rx_sorted.specs.Ascending.{IsAscending}
+use Rattle.rx_sorted.proofs.Kept.{is_ascending-from_fact}
 use Rattle.rx_ledger.proofs.Orders.{id_total}
-use Rattle.rx_parcels.specs.FamilyBook.{FamilyBook, family_of}
-use Rattle.rx_books_kept.proofs.Figured.{all_back, all_front}
+use Rattle.rx_books_parcel.specs.FamilyBook.{FamilyBook, family_of}
+use Rattle.rx_books_store.proofs.Figured.{all_back, all_front}
 use Rattle.rx_places.specs.declared.place.FamilyPlace.{FamilyPlace}
 use Rattle.rx_places.specs.Shelves.{place_family}
 use Rattle.rx_books_shelf.specs.Opened.{family_book, filled_place}

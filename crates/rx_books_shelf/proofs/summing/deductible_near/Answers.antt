@@ -1,9 +1,9 @@
 use Rattle.std.proofs.Common.{◌≡◌, Some, None, sym, ap, subst, ◌∙◌}
 use Rattle.std.specs.Prelude.{IfSome}
 use Rattle.std.specs.List.{Contains}
-use Rattle.rx_order.specs.Ascending.{IsAscending, item_at}
-use Rattle.rx_order.proofs.LookUps.{item_at-from_contains}
-use Rattle.rx_order.proofs.Places.{item_at-gap}
+use Rattle.rx_sorted.specs.Ascending.{IsAscending, item_at}
+use Rattle.rx_sorted.proofs.LookUps.{item_at-from_contains}
+use Rattle.rx_sorted.proofs.Places.{item_at-gap}
 use Rattle.rx_ledger.specs.declared.member.Member.{Member}
 use Rattle.rx_ledger.specs.declared.member.MemberKey.{MemberKey}
 use Rattle.rx_ledger.specs.Members.{member_cmp, member_key}

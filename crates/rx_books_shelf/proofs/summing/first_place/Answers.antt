@@ -1,5 +1,5 @@
 use Rattle.std.proofs.Common.{sym, subst}
-use Rattle.rx_order.specs.Ascending.{IsAscending}
+use Rattle.rx_sorted.specs.Ascending.{IsAscending}
 use Rattle.rx_ledger.specs.Members.{member_cmp, member_key}
 use Rattle.rx_books_shelf.proofs.summing.first_place.Goals as goal
 

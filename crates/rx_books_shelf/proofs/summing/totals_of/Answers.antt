@@ -3,9 +3,9 @@ use Rattle.std.specs.Prelude.{slice_get}
 use Rattle.std.specs.List.{All, Contains}
 use Rattle.rx_ledger.specs.Ledger.{rows_of}
 use Rattle.rx_ledger.specs.Sums.{family_deductible, family_deductible_in, out_of_pocket, out_of_pocket_in}
-use Rattle.rx_parcels.specs.FamilyBook.{FamilyBook}
-use Rattle.rx_books_kept.specs.BooksText.{families_of}
-use Rattle.rx_books_kept.specs.LedgerBooks.{has_members}
+use Rattle.rx_books_parcel.specs.FamilyBook.{FamilyBook}
+use Rattle.rx_books_store.specs.BooksText.{families_of}
+use Rattle.rx_books_store.specs.LedgerBooks.{has_members}
 use Rattle.rx_books_shelf.specs.Gathered.{own_deductible}
 use Rattle.rx_books_shelf.proofs.Summed.{all_among, no_claims, totals_stored}
 use Rattle.rx_books_shelf.proofs.summing.totals_of.Goals as goal

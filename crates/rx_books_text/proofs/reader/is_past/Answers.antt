@@ -1,7 +1,7 @@
 -- the last item alone tells
 use Rattle.std.proofs.Common.{sym, ap, ◌∙◌}
 use Rattle.std.specs.Ordering.{is_lt}
-use Rattle.rx_order.proofs.Kept.{is_past-last}
+use Rattle.rx_sorted.proofs.Kept.{is_past-last}
 use Rattle.rx_books_text.proofs.reader.is_past.Goals as goal
 
 pub returns-in-Some : goal.returns-in-Some

@@ -1,5 +1,5 @@
 use Rattle.std.proofs.Common.{◌≡◌}
-use Rattle.rx_told.specs.Places.{batch_place}
+use Rattle.rx_diagnostics.specs.Places.{batch_place}
 use Rattle.rx_check.proofs.Reports.{tells}
 use Rattle.rx_check.proofs.reporting.batch_line.Goals as goal
 

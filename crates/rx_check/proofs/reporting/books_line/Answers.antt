@@ -1,5 +1,5 @@
 use Rattle.std.proofs.Common.{◌≡◌}
-use Rattle.rx_told.specs.Places.{books_place}
+use Rattle.rx_diagnostics.specs.Places.{books_place}
 use Rattle.rx_check.proofs.Reports.{tells}
 use Rattle.rx_check.proofs.reporting.books_line.Goals as goal
 

@@ -1,4 +1,4 @@
-use Rattle.rx_told.specs.Places.{IsSheetPlace}
+use Rattle.rx_diagnostics.specs.Places.{IsSheetPlace}
 use Rattle.rx_check.proofs.Reports.{tells}
 use Rattle.rx_check.proofs.reporting.sheet_line.Goals as goal
 

@@ -1,5 +1,5 @@
 use Rattle.std.proofs.Common.{◌≡◌, true, Err, ap, ◌∙◌}
-use Rattle.rx_parcels.specs.Parcels.{named_in}
+use Rattle.rx_books_parcel.specs.Parcels.{named_in}
 use Rattle.rx_books_shelf.specs.Taken.{has_all}
 use Rattle.rx_desk.proofs.Shelved.{has_all_named, in_place_of, named_of_taken}
 use Rattle.rx_desk.proofs.moves.parcel_of.Goals as goal

@@ -1,4 +1,4 @@
-use Rattle.rx_parcels.specs.Parcels.{named_in}
+use Rattle.rx_books_parcel.specs.Parcels.{named_in}
 use Rattle.rx_desk.proofs.Shelved.{are_out_named}
 use Rattle.rx_desk.proofs.moves.put_in.Goals as goal
 

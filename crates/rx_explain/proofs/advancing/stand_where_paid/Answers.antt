@@ -1,7 +1,7 @@
 -- A claim that is paid is of a listed member, and its fill key was free.
 use Rattle.std.proofs.Common.{◌≡◌, ◌∙◌, sym}
-use Rattle.rx_claim.specs.declared.reply.Answer.TheVariants.{Paid}
-use Rattle.rx_claim.specs.declared.transaction.Transaction.TheVariants.{Bill}
+use Rattle.rx_d0_values.specs.declared.reply.Answer.TheVariants.{Paid}
+use Rattle.rx_d0_values.specs.declared.transaction.Transaction.TheVariants.{Bill}
 use Rattle.rx_ledger.specs.Answers.{answer}
 use Rattle.rx_ledger.specs.Fold.{asked}
 use Rattle.rx_ledger.proofs.OfMember.{paid-free, paid-listed}

@@ -1,5 +1,5 @@
 use Rattle.std.proofs.Common.{ap, codes, rules, ◌++◌, ◌∙◌}
-use Rattle.rx_claim.specs.Priced.{patient_pay, total_paid}
+use Rattle.rx_d0_values.specs.Priced.{patient_pay, total_paid}
 use Rattle.rx_explain_text.specs.Json.{amounts_json, number_member}
 use Rattle.rx_explain_text.proofs.Joined.{joined_7, told}
 use Rattle.rx_explain_text.proofs.json.put_pricing.Goals as goal

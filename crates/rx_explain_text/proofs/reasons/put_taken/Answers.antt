@@ -1,5 +1,5 @@
 use Rattle.std.proofs.Common.{rules}
-use Rattle.rx_claim.specs.Priced.{total_paid}
+use Rattle.rx_d0_values.specs.Priced.{total_paid}
 use Rattle.rx_explain_text.specs.Claims.{standing_text}
 use Rattle.rx_explain_text.specs.Money.{money_text}
 use Rattle.rx_explain_text.specs.Reasons.{taken_text}

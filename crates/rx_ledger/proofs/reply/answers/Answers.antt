@@ -1,6 +1,6 @@
 -- The next transaction is asked under the occasion that the rules name, and what it asks for is held.
 use Rattle.std.proofs.Common.{◌≡◌, ◌+◌, ◌<◌, ◌∙◌, length, length-append, ap, sym, subst, ◌++◌, ◌∷◌, [], get_or, arith, refl}
-use Rattle.rx_claim.specs.declared.transaction.Transaction.{Transaction}
+use Rattle.rx_d0_values.specs.declared.transaction.Transaction.{Transaction}
 use Rattle.rx_ledger.specs.Answers.{after, answer}
 use Rattle.rx_ledger.specs.Basis.{Holds, Scope}
 use Rattle.rx_ledger.specs.Claims.{asked_on}

@@ -1,6 +1,6 @@
 -- What is paid is within the limits of a claim.
 use Rattle.std.proofs.Common.{◌≡◌, ◌≤◌, ◌+◌, IsSome, subst, sym, arith}
-use Rattle.rx_claim.specs.Priced.{pricing_of}
+use Rattle.rx_d0_values.specs.Priced.{pricing_of}
 use Rattle.rx_ledger.specs.Share.{shared}
 use Rattle.rx_ledger.proofs.Limits.{pricing_of-there, shared-priced}
 use Rattle.rx_ledger.proofs.share.shared.Goals as goal

@@ -1,5 +1,5 @@
 use Rattle.std.proofs.Common.{◌≡◌, Some, sym, ap, ◌∙◌}
-use Rattle.rx_order.proofs.Places.{item_at-at, item_at-gap}
+use Rattle.rx_sorted.proofs.Places.{item_at-at, item_at-gap}
 use Rattle.rx_ledger.specs.Members.{member_cmp, member_key}
 use Rattle.rx_ledger.proofs.Orders.{member_total}
 use Rattle.rx_places.specs.Amended.{is_member_found}

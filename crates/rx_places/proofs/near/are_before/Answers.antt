@@ -1,6 +1,6 @@
 use Rattle.std.proofs.Common.{◌≡◌, ◌+◌, ◌-◌, ◌<◌, get_or, length, true, sym, ap, subst, ◌∙◌, arith, is_lt}
 use Rattle.std.proofs.Common.{ltb-true}
-use Rattle.rx_order.proofs.Keys.{Less-from_is_lt}
+use Rattle.rx_sorted.proofs.Keys.{Less-from_is_lt}
 use Rattle.rx_places.specs.Near.{AreBefore}
 use Rattle.rx_places.proofs.NearPlaces.{all_before}
 use Rattle.rx_places.proofs.near.are_before.Goals as goal

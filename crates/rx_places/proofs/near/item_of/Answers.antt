@@ -1,5 +1,5 @@
 use Rattle.std.proofs.Common.{Some, sym, ap, ◌∙◌}
-use Rattle.rx_order.proofs.Places.{item_at-at, item_at-gap}
+use Rattle.rx_sorted.proofs.Places.{item_at-at, item_at-gap}
 use Rattle.rx_places.proofs.near.item_of.Goals as goal
 
 pub returns-in-Ok : goal.returns-in-Ok

@@ -1,6 +1,6 @@
 use Rattle.std.proofs.Common.{ap, codes, ◌++◌, ◌∙◌}
-use Rattle.rx_escape.specs.Escape.{escaped}
-use Rattle.rx_escape.specs.declared.style.Style.TheVariants.{Html}
+use Rattle.rx_print.specs.Escape.{escaped}
+use Rattle.rx_print.specs.declared.style.Style.TheVariants.{Html}
 use Rattle.rx_fields.specs.Calendar.{date_text}
 use Rattle.rx_report_text.specs.Shown.{dashed}
 use Rattle.rx_report_text.specs.Whole.{lot_text, portion_text, title_text}

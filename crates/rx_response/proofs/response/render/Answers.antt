@@ -4,7 +4,7 @@ use Rattle.std.specs.List.{AllZip, flat_map}
 use Rattle.std.proofs.lemmas.List.{length-map}
 use Rattle.rayon.proofs.ToStd.{slice-zip}
 use Rattle.rx_batch.specs.declared.detail.Detail.{Detail}
-use Rattle.rx_claim.specs.declared.reply.Reply.{Reply}
+use Rattle.rx_d0_values.specs.declared.reply.Reply.{Reply}
 use Rattle.rx_fields.specs.declared.memory.Memory.{Memory}
 use Rattle.rx_response.specs.Pieces.{answer_text, records_text}
 use Rattle.rx_response.specs.Response.{response_detail}

@@ -1,7 +1,7 @@
 use Rattle.std.proofs.Common.{arith, ◌++◌, ◌∷◌, [], List, take, ap, sym, ◌∙◌, subst}
-use Rattle.rx_claim.specs.declared.transmission.Transmission.{Transmission}
+use Rattle.rx_d0_values.specs.declared.transmission.Transmission.{Transmission}
 use Rattle.std.proofs.lemmas.List.{take_more}
-use Rattle.rx_parcels.specs.Footprints.{FootprintParts}
+use Rattle.rx_books_parcel.specs.Footprints.{FootprintParts}
 use Rattle.rx_schedule.specs.Billed.{HasBilled}
 use Rattle.rx_schedule.specs.Weight.{family_weight}
 use Rattle.rx_schedule.proofs.Weighed.{family_weight-more, total_more, total_reached, weights_are}

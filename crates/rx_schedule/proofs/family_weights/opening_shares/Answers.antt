@@ -1,7 +1,7 @@
 use Rattle.std.proofs.Common.{◌≡◌, ℕ, ◌+◌, List, length, ap, subst, ◌∙◌}
 use Rattle.std.specs.Prelude.{IfOk, min}
 use Rattle.std.specs.List.{sum_by}
-use Rattle.rx_books_kept.specs.LedgerBooks.{LedgerBooks}
+use Rattle.rx_books_store.specs.LedgerBooks.{LedgerBooks}
 use Rattle.rx_ledger.specs.Ledger.{Ledger, members_of, rows_of}
 use Rattle.rx_schedule.specs.Shares.{share_in}
 use Rattle.rx_schedule.proofs.family_weights.opening_shares.Goals as goal

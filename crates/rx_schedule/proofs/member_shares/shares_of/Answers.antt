@@ -2,7 +2,7 @@ use Rattle.std.proofs.Common.{◌≡◌, ◌+◌, List, length, map, ap, subst, 
 use Rattle.std.specs.Prelude.{min}
 use Rattle.std.specs.List.{filter, sum_by}
 use Rattle.std.proofs.Math.Seq.{map-set_same}
-use Rattle.rx_order.specs.Ascending.{IsAt}
+use Rattle.rx_sorted.specs.Ascending.{IsAt}
 use Rattle.rx_ledger.specs.declared.member.Member.{Member}
 use Rattle.rx_ledger.specs.Ledger.{Ledger}
 use Rattle.rx_ledger.specs.Members.{member_cmp, member_key, of_family}

@@ -1,7 +1,7 @@
 -- What was there, and what the transactions so far name.
 use Rattle.std.proofs.Common.{◌≡◌, ◌++◌, ◌||◌, ℕ, List, take}
 use Rattle.std.specs.List.{flat_map}
-use Rattle.rx_claim.specs.declared.transmission.Transmission.{Transmission}
+use Rattle.rx_d0_values.specs.declared.transmission.Transmission.{Transmission}
 use Rattle.rx_schedule.specs.Billed.{HasBilled, is_among}
 use Rattle.rx_schedule.specs.Footprints.{families_named, key_named}
 use Rattle.rx_schedule.proofs.naming.name_all.Given as goal

@@ -4,9 +4,9 @@ use Rattle.std.specs.List.{AllZip}
 use Rattle.std.proofs.lemmas.Slice.Zip.{AllZip-map}
 use Rattle.rayon.proofs.ToStd.{slice-AllZip}
 use Rattle.rx_batch.specs.declared.detail.Detail.{Detail}
-use Rattle.rx_claim.specs.declared.transmission.Transmission.{Transmission}
+use Rattle.rx_d0_values.specs.declared.transmission.Transmission.{Transmission}
 use Rattle.rx_fields.specs.declared.memory.Memory.{Memory}
-use Rattle.rx_request.specs.Request.{transmission_of}
+use Rattle.rx_d0_request.specs.Request.{transmission_of}
 use Rattle.rx_wave.specs.Decoding.{transmissions_of}
 use Rattle.rx_wave.proofs.Gathered.{AllZip-all_ok, IfOk-matched}
 use Rattle.rx_wave.proofs.decoding.decode_in_pieces.Goals as goal

@@ -1,10 +1,10 @@
 -- The next record is awaited, and its reply and ledger are those of the whole sheet.
 use Rattle.std.proofs.Common.{◌≡◌, ◌+◌, ◌<◌, ◌++◌, [], ◌∷◌, get_or, length, sym, ap, subst, ◌∙◌, arith}
 use Rattle.std.proofs.lemmas.Option.{same_Some}
-use Rattle.rx_claim.specs.declared.transmission.Transmission.{Transmission}
+use Rattle.rx_d0_values.specs.declared.transmission.Transmission.{Transmission}
 use Rattle.rx_ledger.specs.Basis.{HoldsRecord, Scope}
 use Rattle.rx_ledger.specs.Fold.{ledger_after, reply_to}
-use Rattle.rx_in_order.specs.Underway.{IsAwaited}
+use Rattle.rx_serial.specs.Underway.{IsAwaited}
 use Rattle.rx_wave.proofs.Records.{ledger_next, replies_next}
 use Rattle.rx_wave.proofs.in_order.replies_of.Goals as goal
 

@@ -3,7 +3,7 @@
 use Rattle.std.proofs.Common.{◌≡◌, ◌+◌, ◌++◌, drop}
 use Rattle.std.specs.List.{All}
 use Rattle.rx_ledger.specs.Fold.{fold_ledger, fold_replies}
-use Rattle.rx_in_order.specs.Underway.{IsAwaited}
+use Rattle.rx_serial.specs.Underway.{IsAwaited}
 use Rattle.rx_wave.proofs.in_order.replies_of.Given as goal
 
 abbrev pub invariant-loop-at : goal.invariant-loop-at

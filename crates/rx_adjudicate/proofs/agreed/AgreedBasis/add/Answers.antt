@@ -1,14 +1,14 @@
 use Rattle.std.proofs.Common.{◌≡◌, None, refl, sym, ◌∙◌, false, true}
 use Rattle.rx_fields.specs.Order.{key_cmp}
-use Rattle.rx_order.proofs.LookUps.{item_at-free}
+use Rattle.rx_sorted.proofs.LookUps.{item_at-free}
 use Rattle.rx_ledger.specs.Ledger.{is_listed, is_taken}
 use Rattle.rx_ledger.specs.Rows.{member_of_row, row_key}
 use Rattle.rx_ledger.proofs.Orders.{key_total}
-use Rattle.rx_parcels.specs.Books.{OfFamily, OfKey}
-use Rattle.rx_parcels.specs.Footprints.{names}
-use Rattle.rx_parcels.specs.Parcels.{ledger_in, named_in, row_at}
-use Rattle.rx_parcels.proofs.Edited.{agrees_added, ledger_added, named_added}
-use Rattle.rx_parcels.proofs.Held.{row_read}
+use Rattle.rx_books_parcel.specs.Books.{OfFamily, OfKey}
+use Rattle.rx_books_parcel.specs.Footprints.{names}
+use Rattle.rx_books_parcel.specs.Parcels.{ledger_in, named_in, row_at}
+use Rattle.rx_books_parcel.proofs.Edited.{agrees_added, ledger_added, named_added}
+use Rattle.rx_books_parcel.proofs.Held.{row_read}
 use Rattle.rx_adjudicate.proofs.Asked.{member_of, scope_same}
 use Rattle.rx_adjudicate.proofs.agreed.AgreedBasis.add.Goals as goal
 

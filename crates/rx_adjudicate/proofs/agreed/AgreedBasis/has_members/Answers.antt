@@ -1,6 +1,6 @@
 use Rattle.std.proofs.Common.{◌≡◌, length, not, Some, None, sym, ap, ◌∙◌}
 use Rattle.std.specs.Prelude.{◌==◌}
-use Rattle.rx_parcels.specs.Parcels.{family_at}
+use Rattle.rx_books_parcel.specs.Parcels.{family_at}
 use Rattle.rx_adjudicate.specs.Scopes.{IsAgreed}
 use Rattle.rx_adjudicate.proofs.Asked.{has_members_in, no_members_in}
 use Rattle.rx_adjudicate.proofs.agreed.AgreedBasis.has_members.Goals as goal

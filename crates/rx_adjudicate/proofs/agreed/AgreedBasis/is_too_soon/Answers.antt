@@ -1,8 +1,8 @@
 use Rattle.std.proofs.Common.{sym, ap, ◌∙◌}
 use Rattle.std.specs.List.{list_any}
 use Rattle.rx_ledger.specs.Answers.{is_too_soon}
-use Rattle.rx_claim.specs.declared.bill.BillParts.{BillParts}
-use Rattle.rx_parcels.specs.Parcels.{rows_at}
+use Rattle.rx_d0_values.specs.declared.bill.BillParts.{BillParts}
+use Rattle.rx_books_parcel.specs.Parcels.{rows_at}
 use Rattle.rx_adjudicate.specs.Scopes.{IsAgreed}
 use Rattle.rx_adjudicate.proofs.Asked.{rows_here}
 use Rattle.rx_adjudicate.proofs.agreed.AgreedBasis.is_too_soon.Goals as goal

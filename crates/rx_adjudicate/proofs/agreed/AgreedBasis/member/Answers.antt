@@ -1,5 +1,5 @@
 use Rattle.std.proofs.Common.{sym, ap, ◌∙◌}
-use Rattle.rx_parcels.specs.Parcels.{member_at}
+use Rattle.rx_books_parcel.specs.Parcels.{member_at}
 use Rattle.rx_adjudicate.specs.Scopes.{IsAgreed}
 use Rattle.rx_adjudicate.proofs.Asked.{person_here}
 use Rattle.rx_adjudicate.proofs.agreed.AgreedBasis.member.Goals as goal

@@ -1,6 +1,6 @@
 use Rattle.std.proofs.Common.{sym, ap, ◌∙◌}
-use Rattle.rx_parcels.specs.Parcels.{row_at}
-use Rattle.rx_parcels.proofs.Held.{row_read}
+use Rattle.rx_books_parcel.specs.Parcels.{row_at}
+use Rattle.rx_books_parcel.proofs.Held.{row_read}
 use Rattle.rx_adjudicate.specs.Scopes.{IsAgreed}
 use Rattle.rx_adjudicate.proofs.agreed.AgreedBasis.row_under.Goals as goal
 

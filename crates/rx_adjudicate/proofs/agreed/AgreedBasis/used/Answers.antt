@@ -1,6 +1,6 @@
 use Rattle.std.proofs.Common.{◌≡◌, Some, None, sym, ap, ◌∙◌}
 use Rattle.rx_ledger.specs.Ledger.{rows_of}
-use Rattle.rx_parcels.specs.Parcels.{family_at, ledger_in}
+use Rattle.rx_books_parcel.specs.Parcels.{family_at, ledger_in}
 use Rattle.rx_adjudicate.specs.Scopes.{IsAgreed, used_over}
 use Rattle.rx_adjudicate.proofs.Asked.{nobody_of, person_of, used_here}
 use Rattle.rx_adjudicate.proofs.agreed.AgreedBasis.used.Goals as goal

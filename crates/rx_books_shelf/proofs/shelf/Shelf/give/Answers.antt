@@ -1,8 +1,8 @@
 use Rattle.std.proofs.Common.{◌≡◌, true, refl, sym, ap, subst, ◌∙◌}
 use Rattle.std.specs.List.{All}
 use Rattle.std.specs.Option.{is_some}
-use Rattle.rx_parcels.specs.Few.{items_of}
-use Rattle.rx_parcels.specs.Parcels.{named_in}
+use Rattle.rx_books_parcel.specs.Few.{items_of}
+use Rattle.rx_books_parcel.specs.Parcels.{named_in}
 use Rattle.rx_places.specs.Shelves.{IsShelf, ShelfParts, has_slot, is_out, value_of}
 use Rattle.rx_books_shelf.specs.Closed.{HasSlot}
 use Rattle.rx_books_shelf.specs.Taken.{are_out, put_back}

@@ -1,5 +1,5 @@
 use Rattle.std.proofs.Common.{◌≡◌, Some, sym, ap, subst, ◌∙◌}
-use Rattle.rx_order.specs.Ascending.{IsAscending}
+use Rattle.rx_sorted.specs.Ascending.{IsAscending}
 use Rattle.rx_ledger.specs.Members.{member_cmp, member_key}
 use Rattle.rx_places.specs.Shelves.{ShelfParts, family_place}
 use Rattle.rx_places.proofs.Valued.{family_book_value, held_book_own}

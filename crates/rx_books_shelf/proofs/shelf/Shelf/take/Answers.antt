@@ -2,11 +2,11 @@ use Rattle.std.proofs.Common.{◌≡◌, true, sym, ap, subst, ◌∙◌}
 use Rattle.std.specs.List.{All}
 use Rattle.std.specs.Option.{is_some}
 use Rattle.rx_fields.specs.Order.{id_cmp, key_cmp}
-use Rattle.rx_order.specs.Ascending.{IsAscending}
+use Rattle.rx_sorted.specs.Ascending.{IsAscending}
 use Rattle.rx_ledger.proofs.Orders.{id_exact, key_exact}
-use Rattle.rx_parcels.specs.FamilyBook.{FamilyBook, family_of}
-use Rattle.rx_parcels.specs.Few.{items_of}
-use Rattle.rx_parcels.specs.Parcels.{HasOwnRow, key_of, values_of}
+use Rattle.rx_books_parcel.specs.FamilyBook.{FamilyBook, family_of}
+use Rattle.rx_books_parcel.specs.Few.{items_of}
+use Rattle.rx_books_parcel.specs.Parcels.{HasOwnRow, key_of, values_of}
 use Rattle.rx_places.specs.Shelves.{IsShelf, ShelfParts, has_slot, is_out, value_of}
 use Rattle.rx_books_shelf.specs.Closed.{HasSlot}
 use Rattle.rx_books_shelf.specs.Taken.{has_all, parcel_of, taken_out}

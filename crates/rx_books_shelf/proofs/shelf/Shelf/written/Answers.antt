@@ -2,13 +2,13 @@ use Rattle.std.proofs.Common.{◌≡◌, List, true, sym, ap, subst, ◌∙◌}
 use Rattle.std.specs.Prelude.{IfSome}
 use Rattle.std.specs.List.{All}
 use Rattle.rx_fields.specs.Order.{key_cmp}
-use Rattle.rx_order.specs.Overlaid.{overlaid}
+use Rattle.rx_sorted.specs.Overlaid.{overlaid}
 use Rattle.rx_ledger.specs.declared.row.Row.{Row}
 use Rattle.rx_ledger.specs.Ledger.{is_listed}
 use Rattle.rx_ledger.specs.Rows.{member_of_row, row_key}
-use Rattle.rx_parcels.specs.Books.{book}
-use Rattle.rx_books_kept.specs.LedgerBooks.{LedgerBooks}
-use Rattle.rx_books_kept.specs.OpenBooks.{OpenParts}
+use Rattle.rx_books_parcel.specs.Books.{book}
+use Rattle.rx_books_store.specs.LedgerBooks.{LedgerBooks}
+use Rattle.rx_books_store.specs.OpenBooks.{OpenParts}
 use Rattle.rx_places.specs.declared.place.KeyPlace.{KeyPlace}
 use Rattle.rx_places.specs.Shelves.{AreAllAgreed, HoldsOwnRow, ShelfParts, place_key, row_held, value_of}
 use Rattle.rx_books_shelf.specs.Closed.{HasSlot, are_members_kept}

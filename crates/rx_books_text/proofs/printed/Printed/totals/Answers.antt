@@ -1,5 +1,5 @@
 use Rattle.std.proofs.Common.{subst}
-use Rattle.rx_order.specs.Ascending.{IsAscending}
+use Rattle.rx_sorted.specs.Ascending.{IsAscending}
 use Rattle.rx_fields.specs.Order.{id_cmp}
 use Rattle.rx_books_text.specs.Printed.{PrintedParts, total_family}
 use Rattle.rx_books_text.proofs.printed.Printed.totals.Goals as goal

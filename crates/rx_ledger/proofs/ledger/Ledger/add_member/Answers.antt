@@ -1,7 +1,7 @@
 use Rattle.std.proofs.Common.{◌≡◌, refl, true, Err, sym, ap, ◌∙◌}
 use Rattle.std.specs.Prelude.{List}
-use Rattle.rx_order.specs.Ascending.{put}
-use Rattle.rx_order.specs.InsertError.{is_there}
+use Rattle.rx_sorted.specs.Ascending.{put}
+use Rattle.rx_sorted.specs.InsertError.{is_there}
 use Rattle.rx_ledger.specs.Ledger.{Ledger, IsLedger, is_listed}
 use Rattle.rx_ledger.specs.Members.{member_cmp, member_key}
 use Rattle.rx_ledger.specs.declared.ledger.AddError.TheVariants as errors

@@ -1,6 +1,6 @@
 use Rattle.std.proofs.Common.{refl}
 use Rattle.rx_fields.specs.Order.{key_cmp}
-use Rattle.rx_order.specs.Ascending.{contains_key, put}
+use Rattle.rx_sorted.specs.Ascending.{contains_key, put}
 use Rattle.rx_ledger.specs.Ledger.{Ledger, IsLedger}
 use Rattle.rx_ledger.specs.Rows.{row_key}
 use Rattle.rx_ledger.specs.declared.row.Row.{Row}

@@ -1,7 +1,7 @@
 use Rattle.std.proofs.Common.{◌≡◌, List, true, Err, sym, ap, ◌∙◌}
 use Rattle.std.specs.Ordering.{nat_cmp}
-use Rattle.rx_order.specs.Ascending.{put}
-use Rattle.rx_order.specs.InsertError.{is_there}
+use Rattle.rx_sorted.specs.Ascending.{put}
+use Rattle.rx_sorted.specs.InsertError.{is_there}
 use Rattle.rx_ledger.specs.Plan.{is_drug, listed_product, lists}
 use Rattle.rx_ledger.specs.Planned.{IsPlan}
 use Rattle.rx_ledger.specs.declared.sheet.AddFault.TheVariants as faults

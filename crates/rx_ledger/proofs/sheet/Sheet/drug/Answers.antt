@@ -2,7 +2,7 @@ use Rattle.std.proofs.Common.{◌≡◌, Some, sym, ap, ◌∙◌}
 use Rattle.std.specs.Option.{option_copied}
 use Rattle.std.specs.Ordering.{nat_cmp}
 use Rattle.rx_ledger.specs.Plan.{is_drug, listed_product}
-use Rattle.rx_order.specs.Ascending.{item_at}
+use Rattle.rx_sorted.specs.Ascending.{item_at}
 use Rattle.rx_ledger.specs.declared.sheet.Listed.{Listed}
 use Rattle.rx_ledger.proofs.Passed.{passed_found}
 use Rattle.rx_ledger.proofs.sheet.Sheet.drug.Goals as goal

@@ -1,4 +1,4 @@
-use Rattle.rx_claim.specs.Same.{same_answer}
+use Rattle.rx_d0_values.specs.Same.{same_answer}
 use Rattle.rx_ledger.proofs.terms.TermsPartialEq.TheImpl.Goals as goal
 
 pub eq-tells : goal.eq-tells

@@ -1,4 +1,4 @@
-use Rattle.rx_order.proofs.Places.{contains_key-searched}
+use Rattle.rx_sorted.proofs.Places.{contains_key-searched}
 use Rattle.rx_places.proofs.hinted.Hinted.contains_key.Goals as goal
 
 pub returns : goal.returns

@@ -1,6 +1,6 @@
 use Rattle.std.proofs.Common.{sym, ap, ◌∙◌}
 use Rattle.std.specs.Option.{is_some}
-use Rattle.rx_order.proofs.Places.{item_at-at, item_at-gap}
+use Rattle.rx_sorted.proofs.Places.{item_at-at, item_at-gap}
 use Rattle.rx_places.specs.Moving.{is_in}
 use Rattle.rx_places.proofs.Moving.{is_told}
 use Rattle.rx_places.proofs.hinted.Hinted.place_in.Goals as goal

@@ -1,6 +1,6 @@
 use Rattle.std.proofs.Common.{not, sym, ap, ◌∙◌}
 use Rattle.std.specs.Option.{is_some}
-use Rattle.rx_order.proofs.Places.{item_at-at, item_at-gap}
+use Rattle.rx_sorted.proofs.Places.{item_at-at, item_at-gap}
 use Rattle.rx_places.specs.Moving.{is_out}
 use Rattle.rx_places.proofs.Moving.{is_told}
 use Rattle.rx_places.proofs.hinted.Hinted.place_out.Goals as goal

@@ -1,5 +1,5 @@
 use Rattle.std.proofs.Common.{◌≡◌, get_or, set, sym, ap, ◌∙◌}
-use Rattle.rx_order.specs.Ascending.{IsAscending, IsAt, IsGap}
+use Rattle.rx_sorted.specs.Ascending.{IsAscending, IsAt, IsGap}
 use Rattle.rx_places.specs.Moving.{over}
 use Rattle.rx_places.proofs.Moving.{over_at, over_gap, over_rises}
 use Rattle.rx_places.proofs.hinted.Hinted.put.Goals as goal

@@ -1,6 +1,6 @@
 use Rattle.std.proofs.Common.{◌≡◌, get_or, set, sym, ap, ◌∙◌}
 use Rattle.std.specs.Option.{option_and_then}
-use Rattle.rx_order.proofs.Places.{item_at-at, item_at-gap}
+use Rattle.rx_sorted.proofs.Places.{item_at-at, item_at-gap}
 use Rattle.rx_places.specs.Moving.{over}
 use Rattle.rx_places.proofs.Moving.{over_at, over_gap, over_rises}
 use Rattle.rx_places.proofs.hinted.Hinted.take.Goals as goal

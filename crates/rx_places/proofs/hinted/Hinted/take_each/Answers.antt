@@ -3,7 +3,7 @@ use Rattle.std.proofs.Common.{length-append}
 use Rattle.std.specs.Prelude.{vec_capacity}
 use Rattle.std.specs.Option.{option_to_list}
 use Rattle.std.proofs.lemmas.List.{append-nil}
-use Rattle.rx_order.specs.Ascending.{item_at}
+use Rattle.rx_sorted.specs.Ascending.{item_at}
 use Rattle.rx_places.proofs.Moved.{all_over, all_over_are, book_read, drop_next, none_left, reads, reads_are}
 use Rattle.rx_places.proofs.hinted.Hinted.take_each.Goals as goal
 use Rattle.rx_places.proofs.hinted.Hinted.take_each.Goals.{in-Some, in_default}

@@ -2,7 +2,7 @@ use Rattle.std.proofs.Common.{◌||◌, ap, sym, ◌∙◌}
 use Rattle.std.specs.Prelude.{◌&&◌}
 use Rattle.std.specs.Ordering.{is_eq}
 use Rattle.rx_fields.specs.Order.{id_cmp, key_cmp}
-use Rattle.rx_claim.specs.declared.bill.BillParts.{BillParts}
+use Rattle.rx_d0_values.specs.declared.bill.BillParts.{BillParts}
 use Rattle.rx_ledger.specs.Named.{key_in}
 use Rattle.rx_schedule.specs.Billed.{is_biller}
 use Rattle.rx_schedule.proofs.Noted.{among_billed, on_ok}

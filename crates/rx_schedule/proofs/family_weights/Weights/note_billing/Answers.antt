@@ -1,6 +1,6 @@
 use Rattle.std.proofs.Common.{◌+◌, refl, ap, ◌∙◌}
 use Rattle.std.specs.Prelude.{min}
-use Rattle.rx_claim.specs.declared.bill.BillParts.{BillParts}
+use Rattle.rx_d0_values.specs.declared.bill.BillParts.{BillParts}
 use Rattle.rx_schedule.specs.Weight.{share_of}
 use Rattle.rx_schedule.proofs.Noted.{on_ok}
 use Rattle.rx_schedule.proofs.family_weights.Weights.note_billing.Goals as goal

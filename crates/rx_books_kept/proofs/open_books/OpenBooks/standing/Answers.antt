@@ -1,4 +1,0 @@
-use Rattle.rx_books_kept.proofs.open_books.OpenBooks.standing.Goals as goal
-
-pub returns-clause-within : goal.returns-clause-within
-returns-clause-within c = rw (← c.self.view_is) c.self.invariant.in_order

@@ -1,0 +1,61 @@
+ghost use Rattle.std.specs.Prelude.{◌≡◌, ◌≤◌, ◌*◌, ◌^◌, length, true, IsTrue};
+ghost use Rattle.rx_fields.specs.declared.limits.TheConstants.{MOST_CENTS};
+ghost use Rattle.rx_ledger.specs.Ledger.{is_listed};
+ghost use Rattle.rx_ledger.specs.Members.{member_cmp, member_key};
+ghost use Rattle.rx_ledger.specs.Sums.{counted, deductible_paid, paid_by_patient};
+ghost use Rattle.rx_sorted.specs.Ascending.{IsAt, contains_key};
+
+use rx_fields::Period;
+use rx_ledger::{Member, MemberKey, Row};
+use rx_sorted::Ascending;
+
+/// What a row counts in a period, in cents: nothing where it isn't dated within it.
+#[derive(Clone, Copy, Debug, PartialEq, Eq)]
+pub struct Counted {
+    /// Toward the deductibles.
+    pub deductible: u128,
+    /// Toward the family's out of pocket.
+    pub out_of_pocket: u128,
+}
+
+/// The totals of a family's book, in cents.
+#[derive(Debug, Drop)]
+pub struct FamilyTotals {
+    /// The members' deductibles, in their order.
+    pub deductibles: Vec<u128>,
+    /// The family's out of pocket.
+    pub out_of_pocket: u128,
+    /// The family's deductible.
+    pub deductible: u128,
+}
+
+/// What a row counts in a period.
+pub fn counted_in(period: Period, row: &Row) -> Counted
+    ensures deductible { result.deductible ≡ counted period deductible_paid row.now }
+    ensures out_of_pocket { result.out_of_pocket ≡ counted period paid_by_patient row.now }
+    ensures small { paid_by_patient row.now ≤ MOST_CENTS }
+{
+    let patient_pay = row.pricing.patient_pay();
+    if period.contains(row.key.date) {
+        Counted {
+            deductible: u128::from(row.pricing.amounts().deductible),
+            out_of_pocket: u128::from(patient_pay),
+        }
+    } else {
+        Counted {
+            deductible: 0,
+            out_of_pocket: 0,
+        }
+    }
+}
+
+// The place of a listed member.
+pub(crate) fn place_of_member(members: &Ascending<Member>, key: &MemberKey) -> usize
+    requires { contains_key member_cmp member_key members.now key.now ≡ true }
+    ensures { IsAt member_cmp member_key members.now key.now result }
+{
+    match members.place(key) {
+        Ok(at) => at,
+        Err(_) => unreachable!(),
+    }
+}

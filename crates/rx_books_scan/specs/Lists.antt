@@ -1,0 +1,48 @@
+-- Plumbing: the lists that a books text prints, before anything is looked up in them (docs/FORMATS.md, "Books file").
+use Rattle.std.specs.Prelude.{◌≡◌, ℕ, ◌≤◌, List, ◌++◌, length, map, All}
+use Rattle.std.specs.List.{flat_map}
+use Rattle.rx_sorted.specs.Ascending.{IsAscending}
+use Rattle.rx_fields.specs.Order.{id_cmp, key_cmp}
+use Rattle.rx_ledger.specs.declared.member.Member.{Member}
+use Rattle.rx_ledger.specs.declared.row.Row.{Row}
+use Rattle.rx_ledger.specs.Members.{member_cmp, member_key}
+use Rattle.rx_ledger.specs.Rows.{row_key}
+use Rattle.rx_books_text.specs.declared.line.Line.{Line}
+use Rattle.rx_books_text.specs.declared.line.Line.TheVariants as line
+use Rattle.rx_books_text.specs.declared.line.TotalLine.{TotalLine}
+use Rattle.rx_books_text.specs.declared.version.Version.{Version}
+use Rattle.rx_books_text.specs.LineFits.{IsPeriod, IsLine}
+use Rattle.rx_books_text.specs.LineText.{line_text, ended}
+use Rattle.rx_books_text.specs.Printed.{PrintedParts, line_feeds, lines_of, member_lines, printed_text, total_family}
+
+-- the text of lines, each with its line feed
+abbrev pub lines_text : Version → List Line → List ℕ
+lines_text v ls = flat_map (λ l. ended (line_text v l)) ls
+
+-- the bytes begin with these lines, which the version can print, and go on with the rest
+pub record BeginWith (v : Version) (bytes : List ℕ) (ls : List Line) (rest : List ℕ) : Type 0 where
+  pub whole : bytes ≡ lines_text v ls ++ rest
+  pub fits : All (IsLine v) ls
+
+-- a line for each claim, and for each total
+abbrev pub claim_lines : List Row → List Line
+claim_lines rows = map (λ r. line.Claim r) rows
+
+abbrev pub total_lines : List TotalLine → List Line
+total_lines totals = map (λ t. line.Total t) totals
+
+-- the lines of the members with their deductibles, then those of the claims and the totals
+abbrev pub lines_in : List Member → List ℕ → List Row → List TotalLine → List Line
+lines_in ms ds rows totals = member_lines ms ds ++ (claim_lines rows ++ total_lines totals)
+
+-- the text prints these lists, of at most 1,000,000 lines: the lists ascend, and each line is one of the head's version.
+-- Whether the member of a row is listed, or a member of a total's family, isn't said.
+pub record AreLists (text : List ℕ) (p : PrintedParts) : Type 0 where
+  pub printed : text ≡ printed_text p
+  pub period : IsPeriod p.head.period
+  pub one_each : length p.deductibles ≡ length p.ledger.members
+  pub members_rise : IsAscending member_cmp member_key p.ledger.members
+  pub rows_rise : IsAscending key_cmp row_key p.ledger.rows
+  pub totals_rise : IsAscending id_cmp total_family p.totals
+  pub lines : All (IsLine p.head.version) (lines_of p)
+  pub few : line_feeds text ≤ 1_000_000

@@ -1,0 +1,65 @@
+use rx_books_text::{Head, TotalLine};
+use rx_ledger::{Member, Row};
+use rx_sorted::{Ascending, Runs};
+
+/// The lists that a books text prints, before anything is looked up in them.
+#[derive(Debug, Drop)]
+pub struct Lists {
+    /// The version and the period.
+    pub head: Head,
+    /// The members.
+    pub members: Ascending<Member>,
+    /// The deductible that each member line prints, in the members' order, in cents.
+    pub deductibles: Vec<u128>,
+    /// The claims.
+    pub rows: Runs<Row>,
+    /// The totals.
+    pub totals: Ascending<TotalLine>,
+}
+
+ghost use Rattle.std.specs.Prelude.{IfSome};
+ghost use Rattle.rx_books_scan.specs.Parts.{IsMadeOf};
+
+use crate::members::Members;
+use crate::part::Part;
+use crate::whole::{Whole, join_parts};
+use std::alloc::Global;
+
+// The lines that a file may have, with its head line.
+const MOST_LINES: usize = 1_000_000;
+
+/// The lists of the parts of a text, under its head; None where they don't ascend, or are no lines in order, or are too
+/// many, or for want of memory.
+pub(crate) fn lists_of(alloc: Global, head: Head, parts: Vec<Part>) -> Option<Lists>
+    ensures { IfSome result (IsMadeOf head parts.items) }
+{
+    let Whole {
+        members,
+        runs,
+        totals,
+    } = join_parts(alloc, parts)?;
+    let Members {
+        members,
+        deductibles,
+    } = members;
+    let Ok(members) = Ascending::from_vec(members) else {
+        return None;
+    };
+    let Ok(rows) = Runs::from_runs(runs) else {
+        return None;
+    };
+    let Ok(totals) = Ascending::from_vec(totals) else {
+        return None;
+    };
+    let others = members.len() + totals.len();
+    if others >= MOST_LINES || rows.len() >= MOST_LINES - others {
+        return None;
+    }
+    Some(Lists {
+        head,
+        members,
+        deductibles,
+        rows,
+        totals,
+    })
+}

@@ -1,0 +1,40 @@
+use crate::members::Members;
+use crate::run::{claims_at, members_at, totals_at};
+use rx_books_text::{TotalLine, Version};
+use rx_ledger::Row;
+use std::alloc::Global;
+
+/// What a part of the lines prints, in the order of the lines.
+#[derive(Drop)]
+pub(crate) struct Part {
+    pub(crate) members: Members,
+    pub(crate) rows: Vec<Row>,
+    pub(crate) totals: Vec<TotalLine>,
+}
+
+ghost use Rattle.std.specs.Prelude.{[], IfSome};
+ghost use Rattle.rx_books_scan.specs.Lists.{BeginWith};
+ghost use Rattle.rx_books_scan.specs.Parts.{part_lines};
+
+/// What a part of the lines prints; None where it is none, or for want of memory.
+pub(crate) fn read_part(alloc: Global, version: Version, text: &[u8]) -> Option<Part>
+    ensures { IfSome result (λ part. BeginWith version text.now (part_lines part) []) }
+{
+    let Some((members, rest)) = members_at(alloc, version, text) else {
+        return None;
+    };
+    let Some((rows, rest)) = claims_at(alloc, version, rest) else {
+        return None;
+    };
+    let Some((totals, rest)) = totals_at(alloc, version, rest) else {
+        return None;
+    };
+    if !rest.is_empty() {
+        return None;
+    }
+    Some(Part {
+        members,
+        rows,
+        totals,
+    })
+}

@@ -1,0 +1,117 @@
+use crate::members::Members;
+use crate::part::Part;
+use rx_books_text::TotalLine;
+use rx_ledger::Row;
+use std::alloc::Global;
+
+/// What parts print that were put behind one another: their claims stay apart, as runs.
+#[derive(Drop)]
+pub(crate) struct Whole {
+    pub(crate) members: Members,
+    pub(crate) runs: Vec<Vec<Row>>,
+    pub(crate) totals: Vec<TotalLine>,
+}
+
+ghost use Rattle.std.specs.Prelude.{◌≡◌, ◌++◌, [], IfSome};
+ghost use Rattle.std.specs.List.{flat_map};
+ghost use Rattle.std.specs.Vec.{vec_items};
+ghost use Rattle.rx_books_scan.specs.Parts.{whole_lines, may_follow, part_lines};
+
+/// The parts, put behind one another; None where a kind of line stands before that of a line above, or for want of
+/// memory. Keys aren't compared.
+pub(crate) fn join_parts(alloc: Global, parts: Vec<Part>) -> Option<Whole>
+    ensures { IfSome result (λ whole. whole_lines whole ≡ flat_map part_lines parts.items) }
+{
+    let mut whole = Whole {
+        members: Members {
+            members: Vec::new(alloc),
+            deductibles: Vec::new(alloc),
+        },
+        runs: Vec::new(alloc),
+        totals: Vec::new(alloc),
+    };
+    for part in parts {
+        whole = followed(whole, part)?;
+    }
+    Some(whole)
+}
+
+// The part behind the others.
+fn followed(whole: Whole, part: Part) -> Option<Whole>
+    ensures { IfSome result (λ all. whole_lines all ≡ whole_lines whole ++ part_lines part) }
+{
+    if !may_follow(&whole, &part) {
+        return None;
+    }
+    let Whole {
+        members,
+        runs,
+        totals,
+    } = whole;
+    let Part {
+        members: more_members,
+        rows,
+        totals: more_totals,
+    } = part;
+    let members = all_members(members, more_members)?;
+    let runs = all_runs(runs, rows)?;
+    let totals = all_items(totals, more_totals)?;
+    Some(Whole {
+        members,
+        runs,
+        totals,
+    })
+}
+
+// Whether no kind of line of the part stands before that of a line above.
+fn may_follow(whole: &Whole, part: &Part) -> bool
+    ensures { result ≡ may_follow whole.now part.now }
+{
+    (part.members.members.is_empty() || (whole.runs.is_empty() && whole.totals.is_empty()))
+        && (part.rows.is_empty() || whole.totals.is_empty())
+}
+
+// Members behind others.
+fn all_members(first: Members, more: Members) -> Option<Members>
+    ensures members { IfSome result (λ all. all.members.items ≡ first.members.items ++ more.members.items) }
+    ensures deductibles { IfSome result (λ all. all.deductibles.items ≡ first.deductibles.items ++ more.deductibles.items) }
+{
+    let Members {
+        members: first_members,
+        deductibles: first_deductibles,
+    } = first;
+    let Members {
+        members: more_members,
+        deductibles: more_deductibles,
+    } = more;
+    let members = all_items(first_members, more_members)?;
+    let deductibles = all_items(first_deductibles, more_deductibles)?;
+    Some(Members {
+        members,
+        deductibles,
+    })
+}
+
+// A run behind others, where it has claims.
+fn all_runs(mut runs: Vec<Vec<Row>>, run: Vec<Row>) -> Option<Vec<Vec<Row>>>
+    ensures { IfSome result (λ all. flat_map vec_items all.items ≡ flat_map vec_items runs.items ++ run.items) }
+{
+    if run.is_empty() {
+        return Some(runs);
+    }
+    let Ok(()) = runs.push(run) else {
+        return None;
+    };
+    Some(runs)
+}
+
+// Items behind others; where there are no others, none is copied.
+fn all_items<T: Copy + Drop>(mut first: Vec<T>, more: Vec<T>) -> Option<Vec<T>>
+    ensures { IfSome result (λ all. all.items ≡ first.items ++ more.items) }
+{
+    if first.is_empty() {
+        return Some(more);
+    }
+    first.extend_from_slice(&more).ok()?;
+    Some(first)
+}

@@ -1,0 +1,273 @@
+ghost use Rattle.std.specs.Prelude.{◌≡◌, ◌<◌, ◌-◌, ◌^◌, ◌++◌, ◌∷◌, [], OnOk, if◌then◌else◌};
+ghost use Rattle.std.specs.Prelude.{IfOk, IfSome, Some, true, is_some, length, slice_get};
+ghost use Rattle.rx_fields.specs.Order.{id_cmp};
+ghost use Rattle.rx_sorted.specs.Ascending.{IsAscending, IsAt, is_past};
+ghost use Rattle.rx_ledger.specs.Ledger.{IsLedger, is_listed, is_whole};
+ghost use Rattle.rx_ledger.specs.Members.{member_cmp, member_key};
+ghost use Rattle.rx_ledger.specs.Rows.{member_of_row};
+ghost use Rattle.rx_books_store.specs.BooksText.{families_of};
+ghost use Rattle.rx_books_store.specs.LedgerBooks.{has_members};
+ghost use Rattle.rx_books_store.specs.Opening.{name_of, names_of};
+ghost use Rattle.rx_books_store.specs.Store.{AreHolders, AreHomes};
+
+use crate::places::Places;
+use rx_fields::{Id, Memory};
+use rx_ledger::{Member, MemberKey, Row};
+use rx_sorted::{Ascending, Keyed, Runs};
+use std::alloc::Global;
+use std::marker::Model;
+use std::sync::Arc;
+
+/// A family that has a member.
+#[derive(Clone, Copy, Debug)]
+pub(crate) struct FamilyName {
+    pub(crate) family: Id,
+}
+
+impl Keyed for FamilyName {
+    type Key = Id;
+
+    ghost key_of = { λ name. name.family };
+
+    fn key(&self) -> Id {
+        self.family
+    }
+}
+
+/// The lists of a ledger, with the place of each member's family and of each row's member. Contracts see the ledger.
+#[derive(Debug, Drop)]
+pub(crate) struct Lists {
+    members: Ascending<Member>,
+    rows: Runs<Row>,
+    families: Ascending<FamilyName>,
+    homes: Vec<u32>,
+    holders: Vec<u32>,
+    places: Places,
+}
+
+impl Model for Lists {
+    ghost use Rattle.rx_ledger.specs.Ledger.{Ledger};
+
+    ghost Value = { Ledger };
+
+    ghost use Rattle.rx_books_store.specs.Opening.{names_of};
+    ghost use Rattle.rx_books_store.specs.Store.{AreLists};
+
+    ghost view = { λ l. record { members = l.members; rows = l.rows } };
+
+    ghost invariant = { λ l. AreLists (record { members = l.members; rows = l.rows }) (names_of l.families) l.homes.items l.holders.items };
+}
+
+/// What books were made from. It never changes, and copies share it. Contracts see the ledger.
+#[derive(Debug, Drop)]
+pub(crate) struct Opening {
+    lists: Arc<Lists, Global>,
+}
+
+impl Model for Opening {
+    ghost use Rattle.std.specs.Arc.{arc_value};
+    ghost use Rattle.rx_ledger.specs.Ledger.{Ledger};
+
+    ghost Value = { Ledger };
+
+    ghost view = { λ o. arc_value o.lists };
+}
+
+impl Opening {
+    /// The opening lists of these members and rows, each of which has a listed member, at these places.
+    pub(crate) fn of(
+        alloc: Global,
+        members: Ascending<Member>,
+        rows: Runs<Row>,
+        holders: Vec<u32>,
+        places: Places,
+    ) -> Result<Opening, Memory>
+        requires few { length members < 2 ^ 32 }
+        requires held { AreHolders members rows holders.items }
+        ensures value { IfOk result (λ opening. opening ≡ record { members = members; rows = rows }) }
+        ensures within { IfOk result (λ opening. IsLedger opening) }
+    {
+        let lists = Lists::of(alloc, members, rows, holders, places)?;
+        let lists = Arc::new(alloc, lists)?;
+        Ok(Opening { lists })
+    }
+
+    /// The same lists, shared.
+    pub(crate) fn share(&self) -> Result<Opening, Memory>
+        ensures { IfOk result (λ opening. opening ≡ self.now) }
+    {
+        let lists = Arc::try_clone(&self.lists)?;
+        Ok(Opening { lists })
+    }
+
+    /// The members, in order.
+    pub(crate) fn members(&self) -> &Ascending<Member>
+        ensures value { result.now ≡ self.now.members }
+        ensures within { IsLedger self.now }
+        ensures few { length self.now.members < 2 ^ 32 }
+    {
+        self.lists.members()
+    }
+
+    /// The rows, in order.
+    pub(crate) fn rows(&self) -> &Runs<Row>
+        ensures value { result.now ≡ self.now.rows }
+        ensures within { IsLedger self.now }
+    {
+        self.lists.rows()
+    }
+
+    /// The families that have a member, in order.
+    pub(crate) fn families(&self) -> &[FamilyName]
+        ensures { names_of result.now ≡ families_of self.now.members }
+    {
+        self.lists.families()
+    }
+
+    /// The place of a family that has a member.
+    pub(crate) fn family_of(&self, family: &Id) -> Option<usize>
+        ensures found { IfSome result (λ at. slice_get (families_of self.now.members) at ≡ Some family.now) }
+        ensures listed { is_some result ≡ has_members self.now family.now }
+    {
+        self.lists.family_of(family)
+    }
+
+    /// The place of a listed member.
+    pub(crate) fn member_of(&self, key: &MemberKey) -> Option<usize>
+        ensures found { IfSome result (IsAt member_cmp member_key self.now.members key.now) }
+        ensures listed { is_some result ≡ is_listed self.now key.now }
+    {
+        self.lists.member_of(key)
+    }
+
+    /// The place of a member, as a slot keeps it.
+    pub(crate) fn kept_place(&self, member: usize) -> u32
+        requires { member < length self.now.members }
+        ensures { result ≡ member }
+    {
+        let _members = self.members();
+        member as u32
+    }
+
+    /// The place of the family of the member at a place.
+    pub(crate) fn home(&self, member: usize) -> usize
+        requires { member < length self.now.members }
+        ensures { IfSome (slice_get self.now.members member) (λ m. slice_get (families_of self.now.members) result ≡ Some m.key.family) }
+    {
+        self.lists.home(member)
+    }
+
+    /// The place of the member of the row at a place.
+    pub(crate) fn holder(&self, row: usize) -> usize
+        requires { row < length self.now.rows }
+        ensures { IfSome (slice_get self.now.rows row) (λ r. IsAt member_cmp member_key self.now.members (member_of_row r) result) }
+    {
+        self.lists.holder(row)
+    }
+}
+
+impl Lists {
+    fn of(
+        alloc: Global,
+        members: Ascending<Member>,
+        rows: Runs<Row>,
+        holders: Vec<u32>,
+        places: Places,
+    ) -> Result<Lists, Memory>
+        requires few { length members < 2 ^ 32 }
+        requires held { AreHolders members rows holders.items }
+        ensures value { IfOk result (λ lists. lists ≡ record { members = members; rows = rows }) }
+        ensures within { IfOk result (λ lists. IsLedger lists) }
+    {
+        let (families, homes) = homes_of(alloc, members.as_slice())?;
+        let _rows = rows.runs();
+        Ok(Lists {
+            members,
+            rows,
+            families,
+            homes,
+            holders,
+            places,
+        })
+    }
+
+    fn members(&self) -> &Ascending<Member>
+        ensures value { result.now ≡ self.now.members }
+        ensures within { IsLedger self.now }
+        ensures few { length self.now.members < 2 ^ 32 }
+    {
+        &self.members
+    }
+
+    fn rows(&self) -> &Runs<Row>
+        ensures value { result.now ≡ self.now.rows }
+        ensures within { IsLedger self.now }
+    {
+        &self.rows
+    }
+
+    fn families(&self) -> &[FamilyName]
+        ensures { names_of result.now ≡ families_of self.now.members }
+    {
+        self.families.as_slice()
+    }
+
+    fn family_of(&self, family: &Id) -> Option<usize>
+        ensures found { IfSome result (λ at. slice_get (families_of self.now.members) at ≡ Some family.now) }
+        ensures listed { is_some result ≡ has_members self.now family.now }
+    {
+        match self.families.place(family) {
+            Ok(at) => Some(at),
+            Err(_) => None,
+        }
+    }
+
+    fn member_of(&self, key: &MemberKey) -> Option<usize>
+        ensures found { IfSome result (IsAt member_cmp member_key self.now.members key.now) }
+        ensures listed { is_some result ≡ is_listed self.now key.now }
+    {
+        self.places.place_of(&self.members, key)
+    }
+
+    fn home(&self, member: usize) -> usize
+        requires { member < length self.now.members }
+        ensures { IfSome (slice_get self.now.members member) (λ m. slice_get (families_of self.now.members) result ≡ Some m.key.family) }
+    {
+        self.homes[member] as usize
+    }
+
+    fn holder(&self, row: usize) -> usize
+        requires { row < length self.now.rows }
+        ensures { IfSome (slice_get self.now.rows row) (λ r. IsAt member_cmp member_key self.now.members (member_of_row r) result) }
+    {
+        self.holders[row] as usize
+    }
+}
+
+// The families of these members, which ascend, and for each member the place of its family.
+fn homes_of(alloc: Global, members: &[Member]) -> Result<(Ascending<FamilyName>, Vec<u32>), Memory>
+    requires rise { IsAscending member_cmp member_key members.now }
+    requires few { length members.now < 2 ^ 32 }
+    ensures names { IfOk result (λ r. names_of r.0 ≡ families_of members.now) }
+    ensures homes { IfOk result (λ r. AreHomes members.now (families_of members.now) r.1.items) }
+{
+    let mut families = Ascending::new(alloc);
+    let mut homes = Vec::with_capacity(alloc, members.len())?;
+    for member in members {
+        let home = last_place(&mut families, member.key.family)?;
+        homes.push(home as u32)?;
+    }
+    Ok((families, homes))
+}
+
+// The place of a family that comes after these, or is the last of them. It is the last of them from now on.
+fn last_place(families: &mut Ascending<FamilyName>, family: Id) -> Result<usize, Memory>
+    ensures names { OnOk result (families.new ≡ (if is_past id_cmp name_of families.old family then families.old
+        ++ (record { family = family }) ∷ [] else families.old)) }
+    ensures place { IfOk result (λ at. at ≡ length families.new - 1) }
+{
+    if families.is_past(&family) {
+        families.push(FamilyName { family })?;
+    }
+    Ok(families.len() - 1)
+}

@@ -1,0 +1,155 @@
+-- Plumbing: what a command holds of the words' matches: the subcommand's name and its options' values.
+use Rattle.std.specs.Prelude.{◌≡◌, ◌≤◌, ◌⊎◌, ℕ, Bool, true, false, List, Option, Some, None, codes, option_map}
+use Rattle.std.specs.Option.{option_map_or}
+use Rattle.std.specs.Str.{bytes_eq}
+use Rattle.std.specs.Borrow.{Bor}
+use Rattle.std.specs.Str.Parse.{IsNumeral, digits_value}
+use Rattle.clap.specs.Words.{Row, Text, first_of}
+use Rattle.rx_cli.specs.Paths.{has_twice, paths_of}
+use Rattle.rx_cli.specs.declared.asked.CheckWords.{CheckWords}
+use Rattle.rx_cli.specs.declared.asked.Command.{Command}
+use Rattle.rx_cli.specs.declared.asked.Command.TheVariants.{Run, Show, Plan, Sample, Check, Explain, Verify, Report, Replies}
+use Rattle.rx_cli.specs.declared.asked.Inputs.{Inputs}
+use Rattle.rx_cli.specs.declared.asked.Outputs.{Outputs}
+use Rattle.rx_cli.specs.declared.asked.RunWords.{RunWords}
+use Rattle.rx_cli.specs.declared.asked.ShowWords.{ShowWords}
+use Rattle.rx_cli.specs.declared.retrace.Asked.{Asked}
+use Rattle.rx_cli.specs.declared.retrace.Asked.TheVariants.{Record, Number, Rx}
+use Rattle.rx_cli.specs.declared.retrace.ExplainWords.{ExplainWords}
+use Rattle.rx_cli.specs.declared.retrace.Form.{Form}
+use Rattle.rx_cli.specs.declared.retrace.Form.TheVariants.{Columns, Tsv, Json, Html}
+use Rattle.rx_cli.specs.declared.retrace.Portion.{Portion}
+use Rattle.rx_cli.specs.declared.retrace.Portion.TheVariants.{Whole, Provider, Family}
+use Rattle.rx_cli.specs.declared.retrace.ReportWords.{ReportWords}
+use Rattle.rx_cli.specs.declared.retrace.VerifyWords.{VerifyWords}
+
+-- the option's value is this text
+abbrev pub HasText : List Row → Text → Text → Type 0
+HasText rows name text = first_of name rows ≡ Some text
+
+-- the option's value is this text, or it doesn't stand and there is none
+abbrev pub MayHaveText : List Row → Text → Option (Bor Text) → Type 0
+MayHaveText rows name text = option_map (λ t. t.now) text ≡ first_of name rows
+
+-- the option doesn't stand
+abbrev pub IsAbsent : List Row → Text → Type 0
+IsAbsent rows name = first_of name rows ≡ None
+
+-- the flag stands
+abbrev pub is_set : Text → List Row → Bool
+is_set name rows = option_map_or (λ text. bytes_eq text (codes "true")) (first_of name rows) false
+
+-- the option's value is the number, 0 to 65535, in digits alone
+abbrev pub HasNumber : List Row → Text → ℕ → Type 0
+HasNumber rows name n = (text : Text) × HasText rows name text × IsNumeral 10 text × (n ≡ digits_value 10 text)
+    × (n ≤ 65535)
+
+-- the option's number, or another where the option doesn't stand
+abbrev pub HasNumberOr : List Row → Text → ℕ → ℕ → Type 0
+HasNumberOr rows name other n = (IsAbsent rows name × (n ≡ other)) ⊎ HasNumber rows name n
+
+-- the input files are the values of their options
+abbrev pub HoldsInputs : List Row → Inputs → Type 0
+HoldsInputs rows i = HasText rows (codes "sheet") i.sheet.now × HasText rows (codes "books") i.books.now
+    × HasText rows (codes "batch") i.batch.now
+
+-- the output files are the values of their options
+abbrev pub HoldsOutputs : List Row → Outputs → Type 0
+HoldsOutputs rows o = HasText rows (codes "response") o.response.now × HasText rows (codes "books-out") o.books.now
+    × HasText rows (codes "settlement") o.settlement.now
+
+-- what `show` takes is the values of its options
+pub record HoldsShow (rows : List Row) (s : ShowWords) : Type 0 where
+  pub sheet : HasText rows (codes "sheet") s.sheet.now
+  pub batch : HasText rows (codes "batch") s.batch.now
+  pub tsv : s.tsv ≡ is_set (codes "tsv") rows
+
+-- what `check` takes is the values of its options
+pub record HoldsCheck (rows : List Row) (c : CheckWords) : Type 0 where
+  pub sheet : HasText rows (codes "sheet") c.sheet.now
+  pub books : MayHaveText rows (codes "books") c.books
+  pub batch : MayHaveText rows (codes "batch") c.batch
+
+-- what `run` takes is the values of its options
+pub record HoldsRun (rows : List Row) (r : RunWords) : Type 0 where
+  pub inputs : HoldsInputs rows r.inputs
+  pub outputs : HoldsOutputs rows r.outputs
+  pub stamp : HasText rows (codes "stamp") r.stamp.now
+  pub workers : HasNumber rows (codes "workers") r.workers
+  pub plain : r.plain ≡ is_set (codes "plain") rows
+  pub safe : r.safe ≡ is_set (codes "safe") rows
+  pub verbose : r.verbose ≡ is_set (codes "verbose") rows
+  pub log : MayHaveText rows (codes "log") r.log
+
+-- what `run` takes is the values of its options, and no path of its stands twice
+abbrev pub HoldsRunApart : List Row → RunWords → Type 0
+HoldsRunApart rows r = HoldsRun rows r × (has_twice (paths_of r) ≡ false)
+
+-- exactly one of `--record`, `--number` and `--rx` stands, and `--provider` only beside `--rx`
+abbrev pub HoldsAsked : List Row → Asked → Type 0
+HoldsAsked rows (Record place) = HasText rows (codes "record") place.now × IsAbsent rows (codes "number")
+    × IsAbsent rows (codes "rx") × IsAbsent rows (codes "provider")
+HoldsAsked rows (Number number) = HasText rows (codes "number") number.now × IsAbsent rows (codes "record")
+    × IsAbsent rows (codes "rx") × IsAbsent rows (codes "provider")
+HoldsAsked rows (Rx reference provider) = HasText rows (codes "rx") reference.now
+    × MayHaveText rows (codes "provider") provider × IsAbsent rows (codes "record") × IsAbsent rows (codes "number")
+
+-- what `explain` takes is the values of its options
+pub record HoldsExplain (rows : List Row) (e : ExplainWords) : Type 0 where
+  pub inputs : HoldsInputs rows e.inputs
+  pub asked : HoldsAsked rows e.asked
+  pub response : MayHaveText rows (codes "response") e.response
+  pub json : e.json ≡ is_set (codes "json") rows
+
+-- what `verify` takes is the values of its options
+pub record HoldsVerify (rows : List Row) (v : VerifyWords) : Type 0 where
+  pub inputs : HoldsInputs rows v.inputs
+  pub outputs : HoldsOutputs rows v.outputs
+  pub stamp : HasText rows (codes "stamp") v.stamp.now
+  pub workers : HasNumberOr rows (codes "workers") 1 v.workers
+  pub plain : v.plain ≡ is_set (codes "plain") rows
+
+-- at most one of `--provider` and `--family` stands
+abbrev pub HoldsPortion : List Row → Portion → Type 0
+HoldsPortion rows Whole = IsAbsent rows (codes "provider") × IsAbsent rows (codes "family")
+HoldsPortion rows (Provider id) = HasText rows (codes "provider") id.now × IsAbsent rows (codes "family")
+HoldsPortion rows (Family id) = HasText rows (codes "family") id.now × IsAbsent rows (codes "provider")
+
+-- the form, by whether `--tsv`, `--json` and `--html` stand, of which at most one may
+abbrev pub form_of : Bool → Bool → Bool → Option Form
+form_of false false false = Some Columns
+form_of true false false = Some Tsv
+form_of false true false = Some Json
+form_of false false true = Some Html
+form_of _ _ _ = None
+
+-- the form that is asked for
+abbrev pub form_in : List Row → Option Form
+form_in rows = form_of (is_set (codes "tsv") rows) (is_set (codes "json") rows) (is_set (codes "html") rows)
+
+-- what `report` takes is the values of its options
+pub record HoldsReport (rows : List Row) (r : ReportWords) : Type 0 where
+  pub inputs : HoldsInputs rows r.inputs
+  pub portion : HoldsPortion rows r.portion
+  pub form : form_in rows ≡ Some r.form
+
+-- the command has the name of this subcommand, and the values of its options
+abbrev pub HoldsNamed : Text → List Row → Command → Type 0
+HoldsNamed name rows (Run r) = (name ≡ codes "run") × HoldsRunApart rows r
+HoldsNamed name rows (Show s) = (name ≡ codes "show") × HoldsShow rows s
+HoldsNamed name rows (Plan i) = (name ≡ codes "plan") × HoldsInputs rows i
+HoldsNamed name rows Sample = name ≡ codes "sample"
+HoldsNamed name rows (Check c) = (name ≡ codes "check") × HoldsCheck rows c
+HoldsNamed name rows (Explain e) = (name ≡ codes "explain") × HoldsExplain rows e
+HoldsNamed name rows (Verify v) = (name ≡ codes "verify") × HoldsVerify rows v
+HoldsNamed name rows (Report r) = (name ≡ codes "report") × HoldsReport rows r
+HoldsNamed name rows (Replies path) = (name ≡ codes "replies") × HasText rows (codes "response") path.now
+
+-- the command is the subcommand that was found, with the values of its options
+abbrev pub Holds : Option (Text × List Row) → Command → Type 0
+Holds None c = ⊥
+Holds (Some found) c = HoldsNamed found.0 found.1 c
+
+-- nothing has the values that are asked for
+abbrev pub NoneHolds : {X : Type 0} → (X → Type 0) → Type 0
+NoneHolds {X} P = (x : X) → P x → ⊥

@@ -1,0 +1,52 @@
+-- Meaning: the faults of the command words.
+use Rattle.std.specs.Prelude.{◌≡◌, ℕ, ⊤, Bool, true, false, List, [], ◌∷◌, ◌++◌, codes, Option, None, Some, Result, Ok, Err}
+use Rattle.clap.specs.Words.{kind_of}
+use Rattle.clap.specs.declared.error.Error.{Error}
+use Rattle.clap.specs.declared.error.kind.ErrorKind.{ErrorKind}
+use Rattle.clap.specs.declared.error.kind.ErrorKind.TheVariants.{DisplayVersion, OutOfMemory}
+use Rattle.rx_cli.specs.declared.fault.WordsFault.{WordsFault}
+use Rattle.rx_cli.specs.declared.fault.WordsFault.TheVariants.{Words, Memory}
+
+-- the number of a fault, in the order in which they are checked
+abbrev pub number_of : WordsFault → ℕ
+number_of (Words text) = 1
+number_of Memory = 2
+
+-- the words aren't understood
+abbrev pub IsWords : WordsFault → Type 0
+IsWords (Words text) = ⊤
+IsWords Memory = ⊥
+
+-- the text for standard error: none where one path stands twice; where `clap` tells it, no definition fixes it
+abbrev pub told_text : WordsFault → Option (List ℕ)
+told_text (Words (Some told)) = None
+told_text (Words None) = Some []
+told_text Memory = Some (codes "refused 6 0 0" ++ 10 ∷ [])
+
+-- what `clap` says where the words ask for the version
+abbrev pub is_version_kind : ErrorKind → Bool
+is_version_kind DisplayVersion = true
+is_version_kind _ = false
+
+-- the words ask for the version
+abbrev pub asks_version : WordsFault → Bool
+asks_version (Words (Some told)) = is_version_kind (kind_of told)
+asks_version _ = false
+
+-- the words are misused, which `clap` tells as a fault of this kind, unless memory was wanting
+abbrev pub IsMisuse : ErrorKind → WordsFault → Type 0
+IsMisuse kind (Words (Some told)) = kind_of told ≡ kind
+IsMisuse kind (Words None) = ⊥
+IsMisuse kind Memory = ⊤
+
+abbrev pub misuse_of : {E : Type 0} → Result Error E → WordsFault
+misuse_of (Ok told) = Words (Some told)
+misuse_of (Err error) = Memory
+
+-- memory was wanting
+abbrev pub memory_fault : WordsFault
+memory_fault = Memory
+
+-- what `clap` says where memory was wanting
+abbrev pub out_of_memory : ErrorKind
+out_of_memory = OutOfMemory

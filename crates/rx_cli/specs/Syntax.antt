@@ -1,0 +1,137 @@
+-- Meaning: the command line: its subcommands and their options (docs/PRODUCT.md, "The program").
+use Rattle.std.specs.Prelude.{◌≡◌, true, false, pos, IfOk, Some, codes}
+use Rattle.clap.specs.Words.{App, Rule, Text, app_of, new_app, new_rule, with_rule, with_subcommand}
+use Rattle.clap.specs.declared.builder.command.Command.{Command}
+use Rattle.clap.specs.declared.builder.command.Command.TheViews.{out-Command}
+use Rattle.clap.specs.declared.builder.action.ArgAction.TheVariants.{SetTrue}
+use Rattle.clap.specs.declared.builder.value_parser.ValueParser.TheVariants as vp
+use Rattle.rx_cli.specs.declared.draft.Draft.{Draft}
+
+-- `--name VALUE`, which has to stand
+abbrev pub required_option : Text → Rule
+required_option name = record (new_rule name) { long = Some name; value_names = 1; required = true }
+
+-- `--workers N`, a number from 0 to 65535
+abbrev pub workers_option : Rule
+workers_option = record (required_option (codes "workers")) { parser = Some (vp.Signed (pos 0) (pos 65535)) }
+
+-- `--name VALUE`, which may stand
+abbrev pub optional_option : Text → Rule
+optional_option name = record (required_option name) { required = false }
+
+-- `--name`, which may stand
+abbrev pub flag : Text → Rule
+flag name = record (new_rule name) { long = Some name; action = Some SetTrue }
+
+-- `-v` or `--verbose`, which may stand
+abbrev pub verbose_flag : Rule
+verbose_flag = record (flag (codes "verbose")) { short = Some 118 }
+
+-- the line with the three input files
+abbrev pub with_inputs : App → App
+with_inputs line = with_rule (with_rule (with_rule line (required_option (codes "sheet")))
+    (required_option (codes "books"))) (required_option (codes "batch"))
+
+-- the line with the three output files
+abbrev pub with_outputs : App → App
+with_outputs line = with_rule (with_rule (with_rule line (required_option (codes "response")))
+    (required_option (codes "books-out"))) (required_option (codes "settlement"))
+
+-- the line with the options of `run` that are no files
+abbrev pub with_run_options : App → App
+with_run_options line = with_rule (with_rule (with_rule line (required_option (codes "stamp"))) workers_option)
+    (flag (codes "plain"))
+
+-- the line with the options of `run` for a run that nobody watches
+abbrev pub with_watch : App → App
+with_watch line = with_rule (with_rule (with_rule line (flag (codes "safe"))) verbose_flag) (optional_option (codes "log"))
+
+-- `run --sheet F --books F --batch F --response F --books-out F --settlement F --stamp S --workers N [--plain] [--safe]
+-- [-v] [--log F]`
+abbrev pub run_line : App
+run_line = with_watch (with_run_options (with_outputs (with_inputs (new_app (codes "run")))))
+
+-- `show --sheet F --batch F [--tsv]`
+abbrev pub show_line : App
+show_line = with_rule (with_rule (with_rule (new_app (codes "show")) (required_option (codes "sheet")))
+    (required_option (codes "batch"))) (flag (codes "tsv"))
+
+-- `plan --sheet F --books F --batch F`
+abbrev pub plan_line : App
+plan_line = with_inputs (new_app (codes "plan"))
+
+-- `sample`
+abbrev pub sample_line : App
+sample_line = new_app (codes "sample")
+
+-- `check --sheet F [--books F] [--batch F]`
+abbrev pub check_line : App
+check_line = with_rule (with_rule (with_rule (new_app (codes "check")) (required_option (codes "sheet")))
+    (optional_option (codes "books"))) (optional_option (codes "batch"))
+
+-- the line with what `explain` is asked after
+abbrev pub with_asked : App → App
+with_asked line = with_rule (with_rule (with_rule (with_rule line (optional_option (codes "record")))
+    (optional_option (codes "number"))) (optional_option (codes "rx"))) (optional_option (codes "provider"))
+
+-- `explain --sheet F --books F --batch F [--record PLACE] [--number AUTHORIZATION] [--rx REFERENCE] [--provider ID]
+-- [--response F] [--json]`
+abbrev pub explain_line : App
+explain_line = with_rule (with_rule (with_asked (with_inputs (new_app (codes "explain")))) (optional_option (codes "response")))
+    (flag (codes "json"))
+
+-- the line with the options of `verify` that are no files
+abbrev pub with_verify_options : App → App
+with_verify_options line = with_rule (with_rule (with_rule line (required_option (codes "stamp")))
+    (record workers_option { required = false })) (flag (codes "plain"))
+
+-- `verify --sheet F --books F --batch F --response F --books-out F --settlement F --stamp S [--workers N] [--plain]`
+abbrev pub verify_line : App
+verify_line = with_verify_options (with_outputs (with_inputs (new_app (codes "verify"))))
+
+-- the line with the three forms of a report
+abbrev pub with_forms : App → App
+with_forms line = with_rule (with_rule (with_rule line (flag (codes "tsv"))) (flag (codes "json"))) (flag (codes "html"))
+
+-- `report --sheet F --books F --batch F [--provider ID] [--family ID] [--tsv] [--json] [--html]`
+abbrev pub report_line : App
+report_line = with_forms (with_rule (with_rule (with_inputs (new_app (codes "report"))) (optional_option (codes "provider")))
+    (optional_option (codes "family")))
+
+-- `replies --response F`
+abbrev pub replies_line : App
+replies_line = with_rule (new_app (codes "replies")) (required_option (codes "response"))
+
+-- the line of which a subcommand has to stand
+abbrev pub with_subcommand_required : App → App
+with_subcommand_required line = record line { top = record line.top { subcommand_required = true } }
+
+-- the line with `-V` or `--version`
+abbrev pub with_version : App → App
+with_version line = record line { top = record line.top { has_version = true } }
+
+-- the program's name, its version, and one of its subcommands
+abbrev pub program : App
+program = with_version (with_subcommand_required (new_app (codes "rxbatch")))
+
+-- the line with the subcommands that adjudicate and show
+abbrev pub with_adjudication : App → App
+with_adjudication line = with_subcommand (with_subcommand (with_subcommand (with_subcommand line
+    run_line.top) show_line.top) plan_line.top) sample_line.top
+
+-- the line with the subcommands that check a run's files and retrace it
+abbrev pub with_retracing : App → App
+with_retracing line = with_subcommand (with_subcommand (with_subcommand (with_subcommand (with_subcommand line
+    check_line.top) explain_line.top) verify_line.top) report_line.top) replies_line.top
+
+-- `rxbatch run ..` and so on, or `rxbatch --version`
+abbrev pub whole_line : App
+whole_line = with_retracing (with_adjudication program)
+
+-- no option of the line is one of its subcommands' too
+abbrev pub IsLocal : Command → Type 0
+IsLocal line = (out-Command line).has_globals ≡ false
+
+-- unless memory was wanting, the draft is of this line, and no option of it is one of its subcommands' too
+abbrev pub Draws : App → Draft → Type 0
+Draws app draft = IfOk draft.line (λ l. (app_of l ≡ app) × IsLocal l)

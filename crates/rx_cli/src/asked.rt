@@ -1,0 +1,120 @@
+//! What the program is asked to do.
+ghost use Rattle.std.specs.Prelude.{◌≡◌, map};
+ghost use Rattle.rx_cli.specs.Paths.{files_of, has_twice, paths_of};
+
+use crate::paths::has_one_twice;
+use crate::retrace::{ExplainWords, ReportWords, VerifyWords};
+
+/// The input files of a run (docs/PRODUCT.md, "The program").
+#[derive(Clone, Copy, Debug, PartialEq, Eq)]
+pub struct Inputs<'a> {
+    /// `--sheet`: the plan sheet.
+    pub sheet: &'a str,
+    /// `--books`: the opening books.
+    pub books: &'a str,
+    /// `--batch`: the batch file.
+    pub batch: &'a str,
+}
+
+/// The output files of a run.
+#[derive(Clone, Copy, Debug, PartialEq, Eq)]
+pub struct Outputs<'a> {
+    /// `--response`: the response file.
+    pub response: &'a str,
+    /// `--books-out`: the end books.
+    pub books: &'a str,
+    /// `--settlement`: the settlement.
+    pub settlement: &'a str,
+}
+
+/// The words of `run`. Its six files and its log are different texts.
+#[derive(Clone, Copy, Debug, PartialEq, Eq)]
+pub struct RunWords<'a> {
+    pub inputs: Inputs<'a>,
+    pub outputs: Outputs<'a>,
+    /// `--stamp`, as it was written; whether it is a stamp is the run's to say.
+    pub stamp: &'a str,
+    /// `--workers`, 0 to 65535; whether so many can work is the run's to say.
+    pub workers: u16,
+    /// `--plain`: adjudicate over plain lists, one record after another.
+    pub plain: bool,
+    /// `--safe`: each output takes its path only where the whole run is done.
+    pub safe: bool,
+    /// `--verbose`: the steps of the run and its faults in words.
+    pub verbose: bool,
+    /// `--log`: the file for a line about the run.
+    pub log: Option<&'a str>,
+}
+
+impl<'a> RunWords<'a> {
+    /// Tells whether a path stands twice.
+    pub(crate) fn names_one_twice(&self) -> bool
+        ensures { result ≡ has_twice (paths_of self.now) }
+    {
+        let files = self.files();
+        match self.log {
+            None => has_one_twice(files.as_slice()),
+            Some(log) => files.contains(&log) || has_one_twice(files.as_slice()),
+        }
+    }
+
+    /// The six files, inputs before outputs.
+    fn files(&self) -> [&'a str; 6]
+        ensures { map (λ p. p.now) result ≡ files_of self.now }
+    {
+        let (inputs, outputs) = (self.inputs, self.outputs);
+        [
+            inputs.sheet,
+            inputs.books,
+            inputs.batch,
+            outputs.response,
+            outputs.books,
+            outputs.settlement,
+        ]
+    }
+}
+
+/// The words of `show`.
+#[derive(Clone, Copy, Debug, PartialEq, Eq)]
+pub struct ShowWords<'a> {
+    /// `--sheet`: the plan sheet.
+    pub sheet: &'a str,
+    /// `--batch`: the batch file.
+    pub batch: &'a str,
+    /// `--tsv`: a tab between fields, and more of them.
+    pub tsv: bool,
+}
+
+/// The words of `check`.
+#[derive(Clone, Copy, Debug, PartialEq, Eq)]
+pub struct CheckWords<'a> {
+    /// `--sheet`: the plan sheet.
+    pub sheet: &'a str,
+    /// `--books`: the books, where they are to be checked too.
+    pub books: Option<&'a str>,
+    /// `--batch`: the batch file, where it is to be checked too.
+    pub batch: Option<&'a str>,
+}
+
+/// One of the subcommands, with the values of its options (docs/PRODUCT.md, "The program").
+#[derive(Clone, Copy, Debug, PartialEq, Eq)]
+pub enum Command<'a> {
+    /// `run`: adjudicates a batch file.
+    Run(RunWords<'a>),
+    /// `show`: one line per transaction.
+    Show(ShowWords<'a>),
+    /// `plan`: the waves and the chain.
+    Plan(Inputs<'a>),
+    /// `sample`: the reply to the base claim.
+    Sample,
+    /// `check`: the faults of the inputs, in words.
+    Check(CheckWords<'a>),
+    /// `explain`: why a transaction was answered so.
+    Explain(ExplainWords<'a>),
+    /// `verify`: whether the outputs are those of the inputs.
+    Verify(VerifyWords<'a>),
+    /// `report`: a line for each answer, by provider.
+    Report(ReportWords<'a>),
+    /// `replies`: one line per reply of this response file.
+    Replies(&'a str),
+}

@@ -1,0 +1,35 @@
+//! Command words: what the program `rxbatch` is asked to do.
+//!
+//! In come the words of the command line, the program's name first; out comes a `Command`, one of the
+//! subcommands with the values of its options, or a `WordsFault`, whose `Display` is the text for standard error.
+//! The words are read by `clap`; what they hold is defined in `specs/` over `clap`'s own matches: `Syntax` has the
+//! command line, `Asked` what a command holds of the matches.
+//!
+//! ```rust
+//! let words = ["rxbatch", "show", "--sheet", "sheet.toml", "--batch", "batch.bin"];
+//! match rx_cli::command(alloc, words.as_slice()) {
+//!     Ok(Command::Show(show)) => ..,
+//!     Err(fault) => eprint!(rt; "{fault}")?,
+//!     ..
+//! }
+//! ```
+//!
+//! No file is opened here, and what a path names isn't looked at: paths are compared as texts.
+#![tactic(auto)]
+
+mod asked;
+mod draft;
+mod fault;
+mod misuse;
+mod options;
+mod paths;
+mod retrace;
+mod retracing;
+mod syntax;
+mod words;
+
+pub use asked::{CheckWords, Command, Inputs, Outputs, RunWords, ShowWords};
+pub use fault::WordsFault;
+pub use retrace::{Asked, ExplainWords, Form, Portion, ReportWords, VerifyWords};
+pub use syntax::VERSION;
+pub use words::command;

@@ -1,0 +1,316 @@
+//! The command line as `clap` reads it.
+ghost use Rattle.std.specs.Prelude.{◌≡◌, false, IfOk};
+ghost use Rattle.clap.specs.Words.{App, app_of, new_app, rule_of};
+ghost use Rattle.rx_cli.specs.Syntax.{Draws, IsLocal, flag, optional_option, required_option, verbose_flag, workers_option};
+ghost use Rattle.rx_cli.specs.Syntax.{with_inputs, with_outputs, with_run_options, with_watch};
+ghost use Rattle.rx_cli.specs.Syntax.{check_line, plan_line, run_line, show_line, with_adjudication};
+ghost use Rattle.rx_cli.specs.Syntax.{explain_line, replies_line, report_line, verify_line, with_retracing};
+ghost use Rattle.rx_cli.specs.Syntax.{whole_line, with_asked, with_forms, with_verify_options};
+
+use crate::draft::Draft;
+use clap::{Arg, ArgAction, Command as Line, value_parser};
+use std::alloc::{AllocError, Global};
+
+/// What `rxbatch --version` prints behind the program's name: the version, and the kit that proved it, without the letter of
+/// its edition, which proves nothing.
+pub const VERSION: &str = "0.1.0 (rattle-kit-13 logic dac8208d650f15bf)";
+
+// What is told of the outputs of a command that writes them.
+const WRITTEN: [&'static str; 3] = [
+    "Response file, to be written",
+    "End books, to be written",
+    "Settlement, to be written",
+];
+
+// And of one that compares them.
+const COMPARED: [&'static str; 3] = [
+    "Response file, to be compared",
+    "End books, to be compared",
+    "Settlement, to be compared",
+];
+
+/// The option `--name VALUE`.
+fn option<'a>(alloc: Global, name: &'a str, value: &'a str, help: &'a str) -> Arg<'a>
+    ensures rule { rule_of result ≡ required_option name.entry.now }
+    ensures local { result.global ≡ false }
+{
+    Arg::new(alloc, name)
+        .long(name)
+        .value_name(value)
+        .required(true)
+        .help(help)
+}
+
+/// The option `--name FILE`.
+fn file<'a>(alloc: Global, name: &'a str, help: &'a str) -> Arg<'a>
+    ensures rule { rule_of result ≡ required_option name.entry.now }
+    ensures local { result.global ≡ false }
+{
+    option(alloc, name, "FILE", help)
+}
+
+/// The option `--name VALUE`, which may be absent.
+fn optional<'a>(alloc: Global, name: &'a str, value: &'a str, help: &'a str) -> Arg<'a>
+    ensures rule { rule_of result ≡ optional_option name.entry.now }
+    ensures local { result.global ≡ false }
+{
+    option(alloc, name, value, help).required(false)
+}
+
+/// The option `--workers N`.
+fn workers<'a>(alloc: Global) -> Arg<'a>
+    ensures rule { rule_of result ≡ workers_option }
+    ensures local { result.global ≡ false }
+{
+    option(alloc, "workers", "N", "Number of threads, 1 to 64").value_parser(value_parser!(u16))
+}
+
+/// The flag `--name`.
+fn flag<'a>(alloc: Global, name: &'a str, help: &'a str) -> Arg<'a>
+    ensures rule { rule_of result ≡ flag name.entry.now }
+    ensures local { result.global ≡ false }
+{
+    Arg::new(alloc, name)
+        .long(name)
+        .action(ArgAction::SetTrue)
+        .help(help)
+}
+
+/// The line of this name, as yet without an option.
+fn named<'a>(alloc: Global, name: &'a str, about: &'a str) -> Line<'a>
+    ensures shape { app_of result ≡ new_app name.entry.now }
+    ensures local { IsLocal result }
+{
+    Line::new(alloc, name).about(about)
+}
+
+/// A draft of the line of this name.
+fn draft<'a>(alloc: Global, name: &'a str, about: &'a str) -> Draft<'a>
+    ensures { Draws (new_app name.entry.now) result }
+{
+    Draft::of(named(alloc, name, about))
+}
+
+/// A line with the three input files.
+fn takes_inputs<'a>(alloc: Global, line: Draft<'a>) -> Draft<'a>
+    ensures { (app : App) → Draws app line.entry → Draws (with_inputs app) result }
+{
+    line.arg(file(alloc, "sheet", "Plan sheet"))
+        .arg(file(alloc, "books", "Opening books"))
+        .arg(file(alloc, "batch", "Batch file"))
+}
+
+/// A line with the three output files, each with what is told of it.
+fn takes_outputs<'a>(alloc: Global, line: Draft<'a>, told: [&'a str; 3]) -> Draft<'a>
+    ensures { (app : App) → Draws app line.entry → Draws (with_outputs app) result }
+{
+    let [response, books, settlement] = told;
+    line.arg(file(alloc, "response", response))
+        .arg(file(alloc, "books-out", books))
+        .arg(file(alloc, "settlement", settlement))
+}
+
+/// A line with the input files and the output files.
+fn takes_files<'a>(alloc: Global, line: Draft<'a>, told: [&'a str; 3]) -> Draft<'a>
+    ensures { (app : App) → Draws app line.entry → Draws (with_outputs (with_inputs app)) result }
+{
+    let inputs = takes_inputs(alloc, line);
+    takes_outputs(alloc, inputs, told)
+}
+
+/// A line with the options of `run` that are no files.
+fn takes_run_options<'a>(alloc: Global, line: Draft<'a>) -> Draft<'a>
+    ensures { (app : App) → Draws app line.entry → Draws (with_run_options app) result }
+{
+    let stamp = option(alloc, "stamp", "STAMP", "Date and time, CCYYMMDDHHMM");
+    let plain = flag(
+        alloc,
+        "plain",
+        "Work over plain lists, one record after another",
+    );
+    line.arg(stamp).arg(workers(alloc)).arg(plain)
+}
+
+/// A line with the options of `run` for a run that nobody watches.
+fn takes_watch<'a>(alloc: Global, line: Draft<'a>) -> Draft<'a>
+    ensures { (app : App) → Draws app line.entry → Draws (with_watch app) result }
+{
+    let safe = flag(
+        alloc,
+        "safe",
+        "Give the outputs their names only where all is done",
+    );
+    let verbose = flag(alloc, "verbose", "Tell the steps, and a fault in words").short('v');
+    let log = optional(
+        alloc,
+        "log",
+        "FILE",
+        "Log of the run, a line of JSON, to be written",
+    );
+    line.arg(safe).arg(verbose).arg(log)
+}
+
+/// The subcommand `run`.
+pub(crate) fn run<'a>(alloc: Global) -> Draft<'a>
+    ensures { Draws run_line result }
+{
+    let run = draft(alloc, "run", "Adjudicates a batch file");
+    let files = takes_files(alloc, run, WRITTEN);
+    let options = takes_run_options(alloc, files);
+    takes_watch(alloc, options)
+}
+
+/// The subcommand `show`.
+fn show<'a>(alloc: Global) -> Draft<'a>
+    ensures { Draws show_line result }
+{
+    let sheet = file(alloc, "sheet", "Plan sheet");
+    let batch = file(alloc, "batch", "Batch file");
+    let tsv = flag(
+        alloc,
+        "tsv",
+        "Write a tab between fields, and the amounts too",
+    );
+    draft(alloc, "show", "Shows the transactions, a line each")
+        .arg(sheet)
+        .arg(batch)
+        .arg(tsv)
+}
+
+/// The subcommand `plan`.
+fn plan<'a>(alloc: Global) -> Draft<'a>
+    ensures { Draws plan_line result }
+{
+    let plan = draft(alloc, "plan", "Shows the waves and the chain");
+    takes_inputs(alloc, plan)
+}
+
+/// The subcommand `check`.
+fn check<'a>(alloc: Global) -> Draft<'a>
+    ensures { Draws check_line result }
+{
+    let sheet = file(alloc, "sheet", "Plan sheet");
+    let books = optional(alloc, "books", "FILE", "Books");
+    let batch = optional(alloc, "batch", "FILE", "Batch file");
+    draft(alloc, "check", "Tells the faults of input files in words")
+        .arg(sheet)
+        .arg(books)
+        .arg(batch)
+}
+
+/// A line with what `explain` is asked after.
+fn takes_asked<'a>(alloc: Global, line: Draft<'a>) -> Draft<'a>
+    ensures { (app : App) → Draws app line.entry → Draws (with_asked app) result }
+{
+    let record = optional(
+        alloc,
+        "record",
+        "PLACE",
+        "Record, PLACE or PLACE.NTH for one transaction",
+    );
+    let number = optional(alloc, "number", "AUTHORIZATION", "Authorization number");
+    let reference = optional(alloc, "rx", "REFERENCE", "Prescription reference number");
+    let provider = optional(alloc, "provider", "ID", "Provider of the prescription");
+    line.arg(record).arg(number).arg(reference).arg(provider)
+}
+
+/// The subcommand `explain`.
+pub(crate) fn explain<'a>(alloc: Global) -> Draft<'a>
+    ensures { Draws explain_line result }
+{
+    let explain = draft(alloc, "explain", "Tells why transactions are answered so");
+    let inputs = takes_inputs(alloc, explain);
+    let asked = takes_asked(alloc, inputs);
+    let response = optional(alloc, "response", "FILE", "Response file, to be compared");
+    let json = flag(alloc, "json", "Write JSON");
+    asked.arg(response).arg(json)
+}
+
+/// A line with the options of `verify` that are no files.
+fn takes_verify_options<'a>(alloc: Global, line: Draft<'a>) -> Draft<'a>
+    ensures { (app : App) → Draws app line.entry → Draws (with_verify_options app) result }
+{
+    let stamp = option(alloc, "stamp", "STAMP", "Date and time, CCYYMMDDHHMM");
+    let workers = workers(alloc).required(false);
+    let plain = flag(
+        alloc,
+        "plain",
+        "Work over plain lists, one record after another",
+    );
+    line.arg(stamp).arg(workers).arg(plain)
+}
+
+/// The subcommand `verify`.
+pub(crate) fn verify<'a>(alloc: Global) -> Draft<'a>
+    ensures { Draws verify_line result }
+{
+    let verify = draft(alloc, "verify", "Compares outputs with those of the inputs");
+    let files = takes_files(alloc, verify, COMPARED);
+    takes_verify_options(alloc, files)
+}
+
+/// A line with the three forms of a report.
+fn takes_forms<'a>(alloc: Global, line: Draft<'a>) -> Draft<'a>
+    ensures { (app : App) → Draws app line.entry → Draws (with_forms app) result }
+{
+    let tsv = flag(alloc, "tsv", "Write a tab between fields");
+    let json = flag(alloc, "json", "Write JSON");
+    let html = flag(alloc, "html", "Write one HTML page");
+    line.arg(tsv).arg(json).arg(html)
+}
+
+/// The subcommand `report`.
+pub(crate) fn report<'a>(alloc: Global) -> Draft<'a>
+    ensures { Draws report_line result }
+{
+    let report = draft(
+        alloc,
+        "report",
+        "Shows the answers, a line each, by provider",
+    );
+    let inputs = takes_inputs(alloc, report);
+    let provider = optional(alloc, "provider", "ID", "Only the lines of this provider");
+    let family = optional(alloc, "family", "ID", "Only the lines of this family");
+    let portions = inputs.arg(provider).arg(family);
+    takes_forms(alloc, portions)
+}
+
+/// The subcommand `replies`.
+fn replies<'a>(alloc: Global) -> Draft<'a>
+    ensures { Draws replies_line result }
+{
+    let response = file(alloc, "response", "Response file");
+    draft(alloc, "replies", "Shows the replies, a line each").arg(response)
+}
+
+/// The line with the subcommands that adjudicate and show.
+fn takes_adjudication<'a>(alloc: Global, line: Draft<'a>) -> Draft<'a>
+    ensures { (app : App) → Draws app line.entry → Draws (with_adjudication app) result }
+{
+    line.subcommand(run(alloc))
+        .subcommand(show(alloc))
+        .subcommand(plan(alloc))
+        .subcommand(draft(alloc, "sample", "Shows the reply to the base claim"))
+}
+
+/// The line with the subcommands that check a run's files and retrace it.
+fn takes_retracing<'a>(alloc: Global, line: Draft<'a>) -> Draft<'a>
+    ensures { (app : App) → Draws app line.entry → Draws (with_retracing app) result }
+{
+    line.subcommand(check(alloc))
+        .subcommand(explain(alloc))
+        .subcommand(verify(alloc))
+        .subcommand(report(alloc))
+        .subcommand(replies(alloc))
+}
+
+/// The command line of the program.
+pub(crate) fn line<'a>(alloc: Global) -> Result<Line<'a>, AllocError>
+    ensures { IfOk result (λ l. app_of l ≡ whole_line) }
+{
+    let top = named(alloc, "rxbatch", "Adjudicates pharmacy batch files")
+        .subcommand_required(true)
+        .version(VERSION);
+    let adjudicates = takes_adjudication(alloc, Draft::of(top));
+    takes_retracing(alloc, adjudicates).line()
+}

@@ -1,0 +1,137 @@
+//! The words read.
+ghost use Rattle.std.specs.Prelude.{◌≡◌, [], true, IfErr, IfNone, IfOk, IfSome, map};
+ghost use Rattle.clap.specs.Words.{fault_of, found_of, rows_of, subcommand_of, takes};
+ghost use Rattle.rx_cli.specs.Syntax.{whole_line};
+ghost use Rattle.rx_cli.specs.Asked.{Holds, HoldsCheck, HoldsNamed, HoldsRun, HoldsRunApart, HoldsShow, NoneHolds};
+ghost use Rattle.rx_cli.specs.Faults.{IsWords};
+
+use crate::asked::{CheckWords, Command, RunWords, ShowWords};
+use crate::fault::WordsFault;
+use crate::misuse::{explain_conflict, report_conflict, run_signed, verify_signed};
+use crate::options::{flag, inputs, number, outputs, text};
+use crate::retracing::{explain, report, verify};
+use crate::syntax::line;
+use clap::ArgMatches;
+use std::alloc::Global;
+use std::convert::AsStr;
+
+fn show<'a>(found: &ArgMatches<'a>) -> Option<ShowWords<'a>>
+    ensures some { IfSome result (HoldsShow (rows_of (found_of found.now))) }
+    ensures none { IfNone result (NoneHolds (HoldsShow (rows_of (found_of found.now)))) }
+{
+    let sheet = text(found, "sheet")?;
+    let batch = text(found, "batch")?;
+    let tsv = flag(found, "tsv");
+    Some(ShowWords { sheet, batch, tsv })
+}
+
+fn check<'a>(found: &ArgMatches<'a>) -> Option<CheckWords<'a>>
+    ensures some { IfSome result (HoldsCheck (rows_of (found_of found.now))) }
+    ensures none { IfNone result (NoneHolds (HoldsCheck (rows_of (found_of found.now)))) }
+{
+    let sheet = text(found, "sheet")?;
+    let books = text(found, "books");
+    let batch = text(found, "batch");
+    Some(CheckWords {
+        sheet,
+        books,
+        batch,
+    })
+}
+
+fn run<'a>(found: &ArgMatches<'a>) -> Option<RunWords<'a>>
+    ensures some { IfSome result (HoldsRun (rows_of (found_of found.now))) }
+    ensures none { IfNone result (NoneHolds (HoldsRun (rows_of (found_of found.now)))) }
+{
+    let inputs = inputs(found)?;
+    let outputs = outputs(found)?;
+    let stamp = text(found, "stamp")?;
+    let workers = number(found, "workers")?;
+    Some(RunWords {
+        inputs,
+        outputs,
+        stamp,
+        workers,
+        plain: flag(found, "plain"),
+        safe: flag(found, "safe"),
+        verbose: flag(found, "verbose"),
+        log: text(found, "log"),
+    })
+}
+
+/// `run` of which no path stands twice.
+fn run_apart<'a>(alloc: Global, found: &ArgMatches<'a>) -> Result<RunWords<'a>, WordsFault>
+    ensures ok { IfOk result (HoldsRunApart (rows_of (found_of found.now))) }
+    ensures words { IfErr result (λ e. IsWords e → NoneHolds (HoldsRunApart (rows_of (found_of found.now)))) }
+{
+    let Some(run) = run(found) else {
+        return Err(run_signed(alloc, found));
+    };
+    if run.names_one_twice() {
+        return Err(WordsFault::Words(None));
+    }
+    Ok(run)
+}
+
+/// The command of this name. `clap` lets no other name through, and no option be absent that a command wants.
+fn named<'a>(alloc: Global, name: &str, found: &ArgMatches<'a>) -> Result<Command<'a>, WordsFault>
+    ensures ok { IfOk result (HoldsNamed name.now (rows_of (found_of found.now))) }
+    ensures words { IfErr result (λ e. IsWords e → NoneHolds (HoldsNamed name.now (rows_of (found_of found.now)))) }
+{
+    match name {
+        "run" => Ok(Command::Run(run_apart(alloc, found)?)),
+        "show" => match show(found) {
+            Some(show) => Ok(Command::Show(show)),
+            None => Err(WordsFault::Words(None)),
+        },
+        "plan" => match inputs(found) {
+            Some(inputs) => Ok(Command::Plan(inputs)),
+            None => Err(WordsFault::Words(None)),
+        },
+        "sample" => Ok(Command::Sample),
+        "check" => match check(found) {
+            Some(check) => Ok(Command::Check(check)),
+            None => Err(WordsFault::Words(None)),
+        },
+        "explain" => match explain(found) {
+            Some(explain) => Ok(Command::Explain(explain)),
+            None => Err(explain_conflict(alloc)),
+        },
+        "verify" => match verify(found) {
+            Some(verify) => Ok(Command::Verify(verify)),
+            None => Err(verify_signed(alloc, found)),
+        },
+        "report" => match report(found) {
+            Some(report) => Ok(Command::Report(report)),
+            None => Err(report_conflict(alloc)),
+        },
+        "replies" => match text(found, "response") {
+            Some(response) => Ok(Command::Replies(response)),
+            None => Err(WordsFault::Words(None)),
+        },
+        _ => Err(WordsFault::Words(None)),
+    }
+}
+
+/// What the words ask for, the program's name being the first (docs/PRODUCT.md, "The program").
+///
+/// At `Ok` `clap` finds no fault in the words, and the command holds the subcommand and the option values that `clap`'s
+/// matches of them hold; the workers are 0 to 65535, and the paths of `run` are different texts.
+///
+/// # Errors
+///
+/// `Words` where `clap` doesn't take the words, help or the version being asked for too, where the workers aren't digits
+/// alone, where `run` names one path twice, and where options stand together that exclude or want each other; `Memory`
+/// where memory was wanting.
+pub fn command<'a, S: AsStr>(alloc: Global, words: &'a [S]) -> Result<Command<'a>, WordsFault>
+    ensures ok { IfOk result (Holds (subcommand_of whole_line (map S.text words.now))) }
+    ensures taken { IfOk result (λ _. fault_of whole_line (map S.text words.now) ≡ []) }
+    ensures words { IfErr result (λ e. IsWords e → takes whole_line (map S.text words.now) ≡ true
+        → NoneHolds (Holds (subcommand_of whole_line (map S.text words.now)))) }
+{
+    let matches = line(alloc)?.try_get_matches_from(words)?;
+    match matches.subcommand() {
+        Some((name, found)) => named(alloc, name, found),
+        None => Err(WordsFault::Words(None)),
+    }
+}

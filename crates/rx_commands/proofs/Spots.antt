@@ -1,0 +1,23 @@
+-- Items that have the same keys are in order together.
+use Rattle.std.proofs.Common.{◌≡◌, List, [], ◌∷◌, map, refl, sym, ap, ◌∙◌}
+use Rattle.std.specs.Prelude.{◌&&◌}
+use Rattle.std.specs.Ordering.{is_lt}
+use Rattle.std.specs.declared.cmp.Ordering.{Ordering}
+use Rattle.rx_sorted.specs.Ascending.{is_ascending}
+use Rattle.rx_report.specs.declared.line.Line.{Line}
+use Rattle.rx_report_text.specs.Whys.{spot_cmp, spot_of}
+use Rattle.rx_report_text.specs.declared.why.Why.{Why}
+
+module _ {X K : Type 0} (cmp : K → K → Ordering) (key : X → K) where
+  by_keys : (xs : List X) → is_ascending cmp key xs ≡ is_ascending cmp (λ k. k) (map key xs)
+  by_keys [] = refl
+  by_keys (x ∷ []) = refl
+  by_keys (x ∷ y ∷ ys) = ap (λ b. is_lt (cmp (key x) (key y)) && b) (by_keys (y ∷ ys))
+
+-- texts are in order where the lines that they tell of are
+pub same_order : (whys : List Why) (lines : List Line) → map (λ (w : Why). w.spot) whys ≡ map spot_of lines
+    → is_ascending spot_cmp (λ w. w.spot) whys ≡ is_ascending spot_cmp spot_of lines
+same_order whys lines e =
+    by_keys spot_cmp (λ (w : Why). w.spot) whys
+    ∙ ap (is_ascending spot_cmp (λ k. k)) e
+    ∙ sym (by_keys spot_cmp spot_of lines)

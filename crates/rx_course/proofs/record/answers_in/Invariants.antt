@@ -1,6 +1,0 @@
--- The answers so far.
-use Rattle.std.proofs.Common.{◌≡◌, map, take}
-use Rattle.rx_course.proofs.record.answers_in.Given as goal
-
-abbrev pub invariant-loop-explanation : goal.invariant-loop-explanation
-invariant-loop-explanation l = l.answers.items ≡ map (λ x. x.answer) (take l.explanation-index l.explanations)

@@ -1,0 +1,11 @@
+use Rattle.std.proofs.Common.{◌≡◌, ◌≤◌, length, drop}
+use Rattle.rx_d0_request.specs.Marks.{marks_of}
+use Rattle.rx_d0_request.proofs.marks.single_marks.Given as goal
+
+-- the marks of what was looked at
+abbrev pub invariant-loop-at : goal.invariant-loop-at
+invariant-loop-at l =
+    record { behind : l.marks ≡ marks_of l.byte (drop l.at l.text); within : l.at ≤ length l.text }
+
+abbrev pub decreases-loop-at : goal.decreases-loop-at
+decreases-loop-at l = l.at

@@ -1,0 +1,220 @@
+-- Meaning: what is said of a fault of a batch file: what stands there, and what is wanted.
+use Rattle.std.specs.Prelude.{ℕ, ◌+◌, ◌-◌, Bool, true, false, not, ◌&&◌, ◌||◌, ◌==◌, nat_le, nat_lt}
+use Rattle.std.specs.Prelude.{if◌then◌else◌, List, [], ◌∷◌, ◌++◌, codes, drop, length, slice_range, take}
+use Rattle.std.specs.Prelude.{Option, Some, None, is_err, is_none}
+use Rattle.std.specs.Fmt.{decimal}
+use Rattle.std.specs.List.{position_or_len}
+use Rattle.std.specs.Result.{result_unwrap_or}
+use Rattle.std.specs.Str.{bytes_eq}
+use Rattle.rx_batch.specs.declared.fault.BatchFault.{BatchFault}
+use Rattle.rx_batch.specs.declared.fault.BatchFault.TheVariants as fault
+use Rattle.rx_fields.specs.Calendar.{date_of}
+use Rattle.rx_fields.specs.Clock.{time_of}
+use Rattle.rx_fields.specs.Digits.{number_of}
+use Rattle.rx_text.specs.Bytes.{all_digits}
+use Rattle.rx_diagnostics.specs.Looks.{begins, has_mark, looks_like}
+use Rattle.rx_diagnostics.specs.Parts.{behind, body_at}
+use Rattle.rx_diagnostics.specs.Places.{starts_before}
+use Rattle.rx_diagnostics.specs.Quoting.{quoted_text}
+
+-- ---- where a record could begin
+
+-- what stands at a place, as far as it is shown
+abbrev pub seen_at : List ℕ → ℕ → List ℕ
+seen_at text at = quoted_text (take 16 (drop at text))
+
+-- the kind of file that the text looks like, where its first byte is at fault
+abbrev pub kind_at : List ℕ → ℕ → Option (List ℕ)
+kind_at text at = if at == 0 then looks_like text else None
+
+-- an ETX, which ends a record, stands before the place
+abbrev pub ends_before : List ℕ → ℕ → Bool
+ends_before text at = bytes_eq (slice_range text (at - 1) at) (3 ∷ [])
+
+abbrev pub outside_with : List ℕ → Option (List ℕ) → Bool → List ℕ
+outside_with there (Some kind) behind_end = there ++ (codes ": STX (X'02') is wanted; this looks like " ++ kind)
+outside_with there None true =
+    there ++ codes " stands behind a record's ETX (X'03'): STX (X'02') is wanted, and no ETX within a record"
+outside_with there None false = there ++ codes " stands where a record could begin: STX (X'02') is wanted"
+
+-- a byte where a record could begin
+unfoldable pub outside_text : List ℕ → ℕ → List ℕ
+outside_text text at =
+    if at == 0 && has_mark text
+    then codes "the file begins with a byte order mark (EF BB BF): STX (X'02') is wanted"
+    else outside_with (seen_at text at) (kind_at text at) (ends_before text at)
+
+-- no header where one is wanted
+unfoldable pub no_header_text : List ℕ → ℕ → List ℕ
+no_header_text text at =
+    if length text == 0 then codes "the file is empty: a header is wanted, which begins STX 00"
+    else (if nat_le (length text) at then codes "the file ends before a header, which begins STX 00"
+    else (codes "the first record begins "
+    ++ (quoted_text (take 2 (behind text at)) ++ codes ": a header is wanted, which begins \"00\"")))
+
+-- what follows the trailer
+unfoldable pub after_text : List ℕ → ℕ → List ℕ
+after_text text at =
+    if begins (drop at text) (2 ∷ codes "00")
+    then codes "a second batch begins behind the trailer: one batch a file is read"
+    else (decimal (length (drop at text)) ++ (codes " bytes follow the trailer, "
+    ++ (seen_at text at ++ codes ": the file ends with the trailer")))
+
+-- ---- a record's fields
+
+-- a field of a record whose STX stands at a place, with its own byte, and what is wanted of it
+unfoldable pub field_text : ℕ → List ℕ → List ℕ → ℕ → ℕ → List ℕ → List ℕ
+field_text at name body start end wanted =
+    name ++ (codes " " ++ (quoted_text (slice_range body start end) ++ (codes " at byte "
+    ++ (decimal (at + start + 1) ++ (codes ": " ++ wanted)))))
+
+-- why eight bytes are no date
+abbrev pub date_wanted : List ℕ → List ℕ
+date_wanted date = if all_digits date then codes "no such day" else codes "8 digits CCYYMMDD are wanted"
+
+-- P in earnest, T for a test
+abbrev pub is_file_type : List ℕ → Bool
+is_file_type file = bytes_eq file (codes "P") || bytes_eq file (codes "T")
+
+-- the fields of a header, the first that is wrong: from the file type on
+unfoldable pub file_type_text : ℕ → List ℕ → List ℕ
+file_type_text at body =
+    if is_file_type (slice_range body 46 47) then field_text at (codes "version") body 47 49 (codes "12 is wanted")
+    else field_text at (codes "file type") body 46 47 (codes "P or T is wanted")
+
+-- from the creation time on
+unfoldable pub time_text : ℕ → List ℕ → List ℕ
+time_text at body =
+    if is_none (time_of (slice_range body 42 46))
+    then field_text at (codes "creation time") body 42 46 (codes "HHMM from 0000 to 2359 is wanted")
+    else file_type_text at body
+
+-- from the creation date on
+unfoldable pub date_text : ℕ → List ℕ → List ℕ
+date_text at body =
+    if is_err (date_of (slice_range body 34 42))
+    then field_text at (codes "creation date") body 34 42 (date_wanted (slice_range body 34 42))
+    else time_text at body
+
+-- from the batch number on
+unfoldable pub lot_text : ℕ → List ℕ → List ℕ
+lot_text at body =
+    if all_digits (slice_range body 27 34) then date_text at body
+    else field_text at (codes "batch number") body 27 34 (codes "7 digits are wanted")
+
+-- all of them
+unfoldable pub fields_text : ℕ → List ℕ → List ℕ
+fields_text at body =
+    if bytes_eq (slice_range body 2 3) (codes "T") then lot_text at body
+    else field_text at (codes "type") body 2 3 (codes "T is wanted")
+
+-- a header: its length, or that it is a response file's, or its first field that is wrong
+unfoldable pub header_text : ℕ → List ℕ → List ℕ
+header_text at body =
+    if not (length body == 73)
+    then codes "the header has " ++ (decimal (length body + 2) ++ codes " bytes: 75 are wanted")
+    else (if bytes_eq (slice_range body 2 3) (codes "R")
+    then codes "type \"R\" at byte " ++ (decimal (at + 3) ++ codes ": this is a response file, T is wanted")
+    else fields_text at body)
+
+-- a trailer: its length, or its first number that is none
+unfoldable pub trailer_text : ℕ → List ℕ → List ℕ
+trailer_text at body =
+    if nat_lt (length body) 19
+    then codes "the trailer has " ++ (decimal (length body + 2) ++ codes " bytes: 21 to 56 are wanted")
+    else (if nat_lt 54 (length body)
+    then codes "the trailer's message has " ++ (decimal (length body - 19) ++ codes " bytes: at most 35 are wanted")
+    else (if not (all_digits (slice_range body 2 9))
+    then field_text at (codes "batch number") body 2 9 (codes "7 digits are wanted")
+    else field_text at (codes "count") body 9 19 (codes "10 digits are wanted")))
+
+-- ---- a record as a whole
+
+-- how many bytes behind a record's STX the next mark stands, STX or ETX
+abbrev pub to_mark : List ℕ → ℕ
+to_mark rest = position_or_len (λ b. b == 2 || b == 3) rest
+
+-- a record that isn't closed
+unfoldable pub unclosed_text : ℕ → List ℕ → List ℕ
+unclosed_text at rest =
+    if nat_lt (to_mark rest) (length rest)
+    then codes "another STX (X'02') stands at byte "
+    ++ (decimal (at + 1 + to_mark rest) ++ codes ", before the record's ETX (X'03')")
+    else codes "the file ends "
+    ++ (decimal (length rest) ++ codes " bytes behind the record's STX, before its ETX (X'03'): it may have been cut")
+
+-- a record of no kind
+unfoldable pub kind_text : List ℕ → List ℕ
+kind_text body =
+    codes "the record begins " ++ (quoted_text (take 2 body) ++ codes ": a detail begins \"G1\", the trailer \"99\"")
+
+-- a detail without a reference
+unfoldable pub detail_text : List ℕ → List ℕ
+detail_text body =
+    codes "the detail has " ++ (decimal (length body - 2) ++ codes " bytes behind G1: a reference of 10 bytes is wanted")
+
+-- ---- the batch as a whole
+
+-- how many details begin before a byte behind the header
+abbrev pub details_before : List ℕ → ℕ → ℕ
+details_before text at = starts_before text at - 1
+
+-- no trailer
+unfoldable pub no_trailer_text : ℕ → List ℕ
+no_trailer_text details =
+    codes "the file ends without a trailer, after " ++ (decimal details ++ codes " details: it may have been cut")
+
+-- a trailer of another batch: what holds the first record's batch number, and what its own
+unfoldable pub number_text : List ℕ → List ℕ → List ℕ
+number_text header trailer =
+    codes "the trailer has batch number " ++ (quoted_text (slice_range trailer 2 9)
+    ++ (codes ", the header " ++ quoted_text (slice_range header 27 34)))
+
+-- the first record of a text
+abbrev pub first_body : List ℕ → List ℕ
+first_body text = body_at text (position_or_len (λ b. b == 2) text)
+
+-- a trailer that counts otherwise
+unfoldable pub count_text : List ℕ → ℕ → List ℕ
+count_text trailer details =
+    codes "the trailer says " ++ (decimal (result_unwrap_or (number_of 10 (slice_range trailer 9 19)) 0)
+    ++ (codes " records, the file has " ++ (decimal details ++ codes ": it may have been cut or joined")))
+
+abbrev pub too_much_text : List ℕ
+too_much_text = codes "this is detail 100001: at most 100000 are read"
+
+abbrev pub no_memory_text : List ℕ
+no_memory_text = codes "more memory was wanted than there is"
+
+-- what is said of each fault
+abbrev pub batch_text : List ℕ → BatchFault → List ℕ
+batch_text text (fault.Outside at) = outside_text text at
+batch_text text (fault.NoHeader at) = no_header_text text at
+batch_text text (fault.HeaderShape at) = header_text at (body_at text at)
+batch_text text (fault.Unclosed at) = unclosed_text at (behind text at)
+batch_text text (fault.RecordKind at) = kind_text (body_at text at)
+batch_text text (fault.DetailShape at) = detail_text (body_at text at)
+batch_text text (fault.TrailerShape at) = trailer_text at (body_at text at)
+batch_text text (fault.NoTrailer at) = no_trailer_text (details_before text at)
+batch_text text (fault.NumberDiffers at) = number_text (first_body text) (body_at text at)
+batch_text text (fault.CountDiffers at) = count_text (body_at text at) (details_before text at)
+batch_text text (fault.AfterTrailer at) = after_text text at
+batch_text text (fault.TooMuch at) = too_much_text
+batch_text text fault.Memory = no_memory_text
+
+-- the same where the text can't be read again
+abbrev pub unread_batch_text : BatchFault → List ℕ
+unread_batch_text (fault.Outside at) = codes "a byte stands where a record could begin: STX (X'02') is wanted"
+unread_batch_text (fault.NoHeader at) = codes "a header is wanted, which begins STX 00"
+unread_batch_text (fault.HeaderShape at) = codes "a field of the header is wrong, or it hasn't 75 bytes"
+unread_batch_text (fault.Unclosed at) = codes "the record has no ETX (X'03')"
+unread_batch_text (fault.RecordKind at) = codes "the record begins neither G1 nor 99"
+unread_batch_text (fault.DetailShape at) = codes "the detail has no reference of 10 bytes"
+unread_batch_text (fault.TrailerShape at) = codes "the trailer's numbers aren't digits, or its message is too long"
+unread_batch_text (fault.NoTrailer at) = codes "the file ends without a trailer"
+unread_batch_text (fault.NumberDiffers at) = codes "the trailer's batch number isn't the header's"
+unread_batch_text (fault.CountDiffers at) =
+    codes "the trailer's count isn't the number of details, nor that number plus two"
+unread_batch_text (fault.AfterTrailer at) = codes "bytes follow the trailer"
+unread_batch_text (fault.TooMuch at) = too_much_text
+unread_batch_text fault.Memory = no_memory_text

@@ -1,0 +1,29 @@
+-- Meaning: bytes in quotes, on one line.
+use Rattle.std.specs.Prelude.{ℕ, ◌/◌, ◌%◌, nat_lt, if◌then◌else◌, List, [], ◌∷◌, ◌++◌, codes, length, take}
+use Rattle.std.specs.List.{flat_map}
+use Rattle.rx_show.specs.Bytes.{hexadecimal}
+use Rattle.rx_text.specs.Bytes.{is_printable}
+use Rattle.rx_diagnostics.specs.declared.quoting.TheConstants.{LONGEST}
+
+-- the number of a byte: two hexadecimal digits in angle brackets
+abbrev pub number_text : ℕ → List ℕ
+number_text b = 60 ∷ hexadecimal (b / 16) ∷ hexadecimal (b % 16) ∷ 62 ∷ []
+
+-- printable ASCII stands for itself, and any other byte is shown by its number
+abbrev pub byte_text : ℕ → List ℕ
+byte_text b = if is_printable b then b ∷ [] else number_text b
+
+abbrev pub bytes_text : List ℕ → List ℕ
+bytes_text bytes = flat_map byte_text bytes
+
+-- two dots behind the front of a long quotation
+abbrev pub cut_mark : List ℕ → List ℕ
+cut_mark bytes = if nat_lt LONGEST (length bytes) then codes ".." else []
+
+-- the first 60 bytes, or all
+abbrev pub shown_text : List ℕ → List ℕ
+shown_text bytes = bytes_text (take LONGEST bytes) ++ cut_mark bytes
+
+-- the same in quotes
+abbrev pub quoted_text : List ℕ → List ℕ
+quoted_text bytes = codes "\"" ++ (shown_text bytes ++ codes "\"")

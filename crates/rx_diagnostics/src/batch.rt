@@ -1,0 +1,209 @@
+ghost use Rattle.std.specs.Prelude.{◌≡◌, [], IfOk, option_copied, option_map, string_bytes};
+ghost use Rattle.rx_diagnostics.specs.BatchTexts.{after_text, batch_text, details_before, ends_before, kind_at, no_header_text};
+ghost use Rattle.rx_diagnostics.specs.BatchTexts.{no_trailer_text, outside_text, outside_with, seen_at, unread_batch_text};
+ghost use Rattle.rx_diagnostics.specs.Places.{batch_place, unread_batch_place};
+
+use crate::batch_record::{
+    behind, body_at, count_words, detail_words, first_body, header_words, kind_words, number_words,
+    trailer_words, unclosed_words,
+};
+use crate::looks::{has_mark, looks_like};
+use crate::place::{Place, front, starts_before};
+use crate::quoting::{from, part, quoted, said};
+use crate::words::{Said, Words};
+use rx_batch::BatchFault;
+use rx_fields::Memory;
+use std::alloc::{AllocError, Global};
+
+/// The words of a fault of this batch file (docs/FORMATS.md, "Faults of a batch file"): the record and the byte at which
+/// it begins, what stands there, and what is wanted.
+///
+/// # Errors
+///
+/// Memory alone.
+pub fn batch_words(alloc: Global, fault: BatchFault, text: &[u8]) -> Result<Words, Memory>
+    ensures place { IfOk result (λ words. words.place ≡ batch_place text.now fault) }
+    ensures text { IfOk result (λ words. string_bytes words.text ≡ batch_text text.now fault) }
+    ensures mend { IfOk result (λ words. words.mend.now ≡ []) }
+{
+    let said = said_of(alloc, fault, text)?;
+    Ok(Words::of(Place::of_batch(fault, text), Said::plain(said)))
+}
+
+/// The words of a fault of a batch file that can't be read again.
+///
+/// # Errors
+///
+/// Memory alone.
+pub fn unread_batch_words(alloc: Global, fault: BatchFault) -> Result<Words, Memory>
+    ensures place { IfOk result (λ words. words.place ≡ unread_batch_place fault) }
+    ensures text { IfOk result (λ words. string_bytes words.text ≡ unread_batch_text fault) }
+    ensures mend { IfOk result (λ words. words.mend.now ≡ []) }
+{
+    let said = Said::plain(said(alloc, unread_text(fault))?);
+    Ok(Words::of(Place::of_unread_batch(fault), said))
+}
+
+// What is said where the text isn't known.
+fn unread_text(fault: BatchFault) -> &'static str
+    ensures { result.now ≡ unread_batch_text fault }
+{
+    match fault {
+        BatchFault::Outside { .. } =>
+            "a byte stands where a record could begin: STX (X'02') is wanted",
+        BatchFault::NoHeader { .. } => "a header is wanted, which begins STX 00",
+        BatchFault::HeaderShape { .. } => "a field of the header is wrong, or it hasn't 75 bytes",
+        BatchFault::Unclosed { .. } => "the record has no ETX (X'03')",
+        BatchFault::RecordKind { .. } => "the record begins neither G1 nor 99",
+        BatchFault::DetailShape { .. } => "the detail has no reference of 10 bytes",
+        BatchFault::TrailerShape { .. } =>
+            "the trailer's numbers aren't digits, or its message is too long",
+        BatchFault::NoTrailer { .. } => "the file ends without a trailer",
+        BatchFault::NumberDiffers { .. } => "the trailer's batch number isn't the header's",
+        BatchFault::CountDiffers { .. } =>
+            "the trailer's count isn't the number of details, nor that number plus two",
+        BatchFault::AfterTrailer { .. } => "bytes follow the trailer",
+        BatchFault::TooMuch { .. } => "this is detail 100001: at most 100000 are read",
+        BatchFault::Memory => "more memory was wanted than there is",
+    }
+}
+
+fn said_of(alloc: Global, fault: BatchFault, text: &[u8]) -> Result<String, AllocError>
+    ensures { IfOk result (λ said. string_bytes said ≡ batch_text text.now fault) }
+{
+    match fault {
+        BatchFault::Outside { at } => outside_words(alloc, text, at),
+        BatchFault::NoHeader { at } => no_header_words(alloc, text, at),
+        BatchFault::HeaderShape { at } => header_words(alloc, at, body_at(text, at)),
+        BatchFault::Unclosed { at } => unclosed_words(alloc, at, behind(text, at)),
+        BatchFault::RecordKind { at } => kind_words(alloc, body_at(text, at)),
+        BatchFault::DetailShape { at } => detail_words(alloc, body_at(text, at)),
+        BatchFault::TrailerShape { at } => trailer_words(alloc, at, body_at(text, at)),
+        BatchFault::NoTrailer { at } => no_trailer_words(alloc, details_before(text, at)),
+        BatchFault::NumberDiffers { at } => {
+            number_words(alloc, first_body(text), body_at(text, at))
+        }
+        BatchFault::CountDiffers { at } => {
+            count_words(alloc, body_at(text, at), details_before(text, at))
+        }
+        BatchFault::AfterTrailer { at } => after_words(alloc, text, at),
+        BatchFault::TooMuch { .. } => said(alloc, "this is detail 100001: at most 100000 are read"),
+        BatchFault::Memory => said(alloc, "more memory was wanted than there is"),
+    }
+}
+
+// How many details begin before a byte behind the header.
+fn details_before(text: &[u8], at: u64) -> u64
+    ensures { result ≡ details_before text.now at }
+{
+    starts_before(text, at).saturating_sub(1)
+}
+
+// What is said of a file that ends without a trailer.
+#[tactic(auto, using(std::proofs::Common::append_assoc), unfolding(crate::specs::BatchTexts::no_trailer_text))]
+fn no_trailer_words(alloc: Global, details: u64) -> Result<String, AllocError>
+    ensures { IfOk result (λ said. string_bytes said ≡ no_trailer_text details) }
+{
+    format!(in alloc;
+        "the file ends without a trailer, after {details} details: it may have been cut"
+    )
+}
+
+// What stands at a place, as far as it is shown.
+fn seen_at(alloc: Global, text: &[u8], at: u64) -> Result<String, AllocError>
+    ensures { IfOk result (λ seen. string_bytes seen ≡ seen_at text.now at) }
+{
+    quoted(alloc, front(from(text, at as usize), 16))
+}
+
+// What the text looks like, where its first byte is at fault.
+fn kind_at(text: &[u8], at: u64) -> Option<&'static str>
+    ensures { option_map (λ kind. kind.now) result ≡ kind_at text.now at }
+{
+    if at == 0 { looks_like(text) } else { None }
+}
+
+// Whether an ETX stands before a place.
+fn ends_before(text: &[u8], at: u64) -> bool
+    ensures { result ≡ ends_before text.now at }
+{
+    part(text, (at as usize).saturating_sub(1), at as usize) == b"\x03".as_slice()
+}
+
+// What is said of a byte where a record could begin.
+#[tactic(auto, using(std::proofs::Common::append_assoc), unfolding(crate::specs::BatchTexts::outside_text))]
+fn outside_words(alloc: Global, text: &[u8], at: u64) -> Result<String, AllocError>
+    ensures { IfOk result (λ said. string_bytes said ≡ outside_text text.now at) }
+{
+    if at == 0 && has_mark(text) {
+        return said(
+            alloc,
+            "the file begins with a byte order mark (EF BB BF): STX (X'02') is wanted",
+        );
+    }
+    let there = seen_at(alloc, text, at)?;
+    outside_with(
+        alloc,
+        there.as_str(),
+        kind_at(text, at),
+        ends_before(text, at),
+    )
+}
+
+#[tactic(auto, using(std::proofs::Common::append_assoc))]
+fn outside_with(
+    alloc: Global,
+    there: &str,
+    kind: Option<&'static str>,
+    behind_end: bool,
+) -> Result<String, AllocError>
+    ensures { IfOk result (λ said. string_bytes said
+        ≡ outside_with there.now (option_map (λ k. k.now) kind.entry) behind_end) }
+{
+    match (kind, behind_end) {
+        (Some(kind), _) => format!(in alloc;
+            "{there}: STX (X'02') is wanted; this looks like {kind}"
+        ),
+        (None, true) => format!(in alloc;
+            "{there} stands behind a record's ETX (X'03'): STX (X'02') is wanted, and no ETX within a record"
+        ),
+        (None, false) => format!(in alloc;
+            "{there} stands where a record could begin: STX (X'02') is wanted"
+        ),
+    }
+}
+
+// What is said where the header is wanted.
+#[tactic(auto, using(std::proofs::Common::append_assoc), unfolding(crate::specs::BatchTexts::no_header_text))]
+fn no_header_words(alloc: Global, text: &[u8], at: u64) -> Result<String, AllocError>
+    ensures { IfOk result (λ said. string_bytes said ≡ no_header_text text.now at) }
+{
+    if text.is_empty() {
+        return said(
+            alloc,
+            "the file is empty: a header is wanted, which begins STX 00",
+        );
+    }
+    if at as usize >= text.len() {
+        return said(alloc, "the file ends before a header, which begins STX 00");
+    }
+    let there = quoted(alloc, front(behind(text, at), 2))?;
+    format!(in alloc; "the first record begins {there}: a header is wanted, which begins \"00\"")
+}
+
+// What is said of what follows the trailer.
+#[tactic(auto, using(std::proofs::Common::append_assoc), unfolding(crate::specs::BatchTexts::after_text))]
+fn after_words(alloc: Global, text: &[u8], at: u64) -> Result<String, AllocError>
+    ensures { IfOk result (λ said. string_bytes said ≡ after_text text.now at) }
+{
+    let rest = from(text, at as usize);
+    if rest.starts_with(b"\x0200") {
+        return said(
+            alloc,
+            "a second batch begins behind the trailer: one batch a file is read",
+        );
+    }
+    let there = seen_at(alloc, text, at)?;
+    let count = rest.len();
+    format!(in alloc; "{count} bytes follow the trailer, {there}: the file ends with the trailer")
+}

@@ -1,4 +1,0 @@
-use Rattle.rx_edge_tests.proofs.shelf.closed.Goals as goal
-
-pub close-requires : goal.close-requires
-close-requires g c = λ _. (c.agrees.ensures.0 c.if-not-agrees.false).1

@@ -1,0 +1,156 @@
+ghost use Rattle.std.specs.Prelude.{◌≡◌, ◌≤◌, IfOk, List, OnOk, Option, length};
+ghost use Rattle.std.specs.List.{AllZip};
+ghost use Rattle.std.specs.Option.{option_copied};
+ghost use Rattle.rx_explain_replay.specs.Adjudicated.{AreExplained, IsAdjudicated};
+ghost use Rattle.rx_explain_replay.specs.Courses.{IsCourse};
+ghost use Rattle.rx_explain_replay.specs.Records.{AreAmong, IsAt};
+ghost use Rattle.rx_explain_replay.specs.declared.batch.Batch.{Batch as BatchRecord};
+ghost use Rattle.rx_explain.specs.declared.events.Event.{Event};
+ghost use Rattle.rx_fields.specs.declared.limits.TheConstants.{MOST_DETAILS};
+
+use crate::batch::{Adjudicated, Batch};
+use crate::course::{Course, begun, go_to};
+use crate::record::explain_record;
+use rx_explain::{At, Events, Explanation, item, place_at};
+use rx_fields::Memory;
+use std::alloc::Global;
+
+/// An explanation of the transaction at each of these places of a batch, None where there is none. Places in the order of
+/// the batch take one more pass over it.
+#[tactic(auto, using(crate::proofs::Replied::one_each))]
+pub fn explanations(
+    alloc: Global,
+    batch: &Adjudicated,
+    places: &[At],
+) -> Result<Vec<Option<Explanation>>, Memory>
+    requires { IsAdjudicated batch.now }
+    ensures { IfOk result (λ all. AreExplained batch.now places.now all.items) }
+{
+    let events = Events::of(alloc, &batch.asked, &batch.replies)?;
+    let batch = Batch {
+        lot: batch.lot,
+        sheet: &batch.sheet,
+        opening: &batch.opening,
+        asked: &batch.asked,
+    };
+    explain_each(alloc, &batch, &events, places)
+}
+
+/// The same among these events.
+pub fn explain_each(
+    alloc: Global,
+    batch: &Batch<'_>,
+    events: &Events,
+    places: &[At],
+) -> Result<Vec<Option<Explanation>>, Memory>
+    requires { length batch.now.asked.now ≤ MOST_DETAILS }
+    ensures { IfOk result (λ all. AllZip (IsAt batch.now events.now) places.now all.items) }
+{
+    let mut pass = pass_begun(alloc, batch)?;
+    let explanations = explain_on(alloc, batch, events, &mut pass, places);
+    drop(pass);
+    explanations
+}
+
+// The transactions at these places, explained as the pass comes to them.
+fn explain_on(
+    alloc: Global,
+    batch: &Batch<'_>,
+    events: &Events,
+    pass: &mut Pass,
+    places: &[At],
+) -> Result<Vec<Option<Explanation>>, Memory>
+    requires course { IsCourse batch.now pass.old.course }
+    requires latest { AreAmong batch.now events.now pass.old.place pass.old.latest.items }
+    ensures { IfOk result (λ all. AllZip (IsAt batch.now events.now) places.now all.items) }
+{
+    let mut explanations = Vec::with_capacity(alloc, places.len())?;
+    for nth in 0..places.len() {
+        let at = place_at(places, nth);
+        pass_to(alloc, batch, events, pass, at.place)?;
+        explanations.push(among(alloc, events, item(&pass.latest, at.nth))?)?;
+    }
+    Ok(explanations)
+}
+
+/// An explanation among these events, where there is one.
+pub fn among(
+    alloc: Global,
+    events: &Events,
+    explanation: Option<&Explanation>,
+) -> Result<Option<Explanation>, Memory>
+    ensures { (b : BatchRecord) → (others : List Event) → (at : At)
+        → IsAt b others at (option_copied explanation.entry) → IfOk result (IsAt b events.now at) }
+{
+    match explanation {
+        Some(explanation) => Ok(Some(explanation.among(alloc, events)?)),
+        None => Ok(None),
+    }
+}
+
+// A batch gone through, and the explanations of the transactions of the record at a place of it.
+#[derive(Drop)]
+struct Pass {
+    course: Course,
+    place: u64,
+    latest: Vec<Explanation>,
+}
+
+// A batch of which no record is done, nor explained.
+fn pass_begun(alloc: Global, batch: &Batch<'_>) -> Result<Pass, Memory>
+    requires { length batch.now.asked.now ≤ MOST_DETAILS }
+    ensures course { IfOk result (λ pass. IsCourse batch.now pass.course) }
+    ensures latest { (events : List Event) → IfOk result (λ pass. AreAmong batch.now events pass.place pass.latest.items) }
+{
+    Ok(Pass {
+        course: begun(alloc, batch)?,
+        place: 0,
+        latest: Vec::new(alloc),
+    })
+}
+
+// The pass goes on to the record at a place, and explains it; where it is past it, it begins again.
+fn pass_to(
+    alloc: Global,
+    batch: &Batch<'_>,
+    events: &Events,
+    pass: &mut Pass,
+    place: u64,
+) -> Result<(), Memory>
+    requires course { IsCourse batch.now pass.old.course }
+    requires latest { AreAmong batch.now events.now pass.old.place pass.old.latest.items }
+    ensures course { OnOk result (IsCourse batch.now pass.new.course) }
+    ensures latest { OnOk result (AreAmong batch.now events.now pass.new.place pass.new.latest.items) }
+    ensures place { OnOk result (pass.new.place ≡ place) }
+{
+    if place == pass.place {
+        return Ok(());
+    }
+    pass.latest.clear();
+    pass.place = place;
+    if place == 0 || place > batch.asked.len() as u64 {
+        return Ok(());
+    }
+    let before = (place - 1) as usize;
+    go_back(alloc, batch, &mut pass.course, before)?;
+    go_to(alloc, batch, &mut pass.course, before)?;
+    pass.latest = explain_record(alloc, batch, events, &mut pass.course)?;
+    Ok(())
+}
+
+// The batch begun again, where more of its records are done than these.
+fn go_back(
+    alloc: Global,
+    batch: &Batch<'_>,
+    course: &mut Course,
+    before: usize,
+) -> Result<(), Memory>
+    requires { IsCourse batch.now course.old }
+    ensures course { OnOk result (IsCourse batch.now course.new) }
+    ensures done { OnOk result (course.new.done ≤ before) }
+{
+    if course.done > before {
+        *course = begun(alloc, batch)?;
+    }
+    Ok(())
+}

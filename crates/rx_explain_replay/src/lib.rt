@@ -1,0 +1,24 @@
+//! A batch gone through: the replies to its records, and explanations of any of its transactions.
+//!
+//! In come the opening books and what a batch asks; out come the replies to it, with explanations of the records at some
+//! places (`replay`), or, once the replies are known, the explanations of the transactions at some places
+//! (`explanations`), in the order of the batch in one pass over it. What an explanation says is in `rx_explain`; what a
+//! record is explained on is the books themselves, as they are when its turn comes.
+//!
+//! ```rust
+//! let replayed = rx_explain_replay::replay(alloc, batch, &places)?;
+//! let explanations = rx_explain_replay::explanations(alloc, &adjudicated, &places)?;
+//! ```
+//!
+//! Which transactions are asked for is left to the caller, and so are words for people.
+#![tactic(auto)]
+
+mod batch;
+mod course;
+mod explaining;
+mod record;
+mod replaying;
+
+pub use batch::{Adjudicated, Batch};
+pub use explaining::{among, explain_each, explanations};
+pub use replaying::{Explained, Replayed, replay};

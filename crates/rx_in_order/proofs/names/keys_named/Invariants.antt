@@ -1,7 +1,0 @@
--- The fill keys of the records so far.
-use Rattle.std.proofs.Common.{◌≡◌, map, take}
-use Rattle.rx_in_order.specs.Named.{keys_named, named_key}
-use Rattle.rx_in_order.proofs.names.keys_named.Given as goal
-
-abbrev pub invariant-loop-transmission : goal.invariant-loop-transmission
-invariant-loop-transmission l = map named_key l.named.items ≡ keys_named (take l.transmission-index l.transmissions)

@@ -1,7 +1,0 @@
--- The keys so far.
-use Rattle.std.proofs.Common.{◌≡◌, map, take}
-use Rattle.rx_in_order.specs.Named.{named_key}
-use Rattle.rx_in_order.proofs.names.only_keys.Given as goal
-
-abbrev pub invariant-loop-name : goal.invariant-loop-name
-invariant-loop-name l = l.keys.items ≡ map named_key (take l.name-index l.named)

@@ -1,9 +1,0 @@
--- The fill keys of the transactions so far stand behind the others.
-use Rattle.std.proofs.Common.{◌≡◌, ◌++◌, map, take}
-use Rattle.std.specs.List.{flat_map}
-use Rattle.rx_in_order.specs.Named.{keys_of, named_key}
-use Rattle.rx_in_order.proofs.names.put_keys.Given as goal
-
-abbrev pub invariant-loop-transaction : goal.invariant-loop-transaction
-invariant-loop-transaction l =
-    map named_key l.named.items ≡ map named_key l.initial.named.items ++ flat_map (keys_of l.heard) (take l.transaction-index l.list)

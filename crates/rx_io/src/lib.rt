@@ -1,0 +1,29 @@
+//! Devices that a run is lent: sources that bytes are read from, sinks that bytes are written to.
+//!
+//! In comes a device; out come all the bytes that it had left, at once or piece by piece to a consumer, or a text is
+//! written to its end. No failed call is taken for the end, and an endless input is refused. What an input may have is
+//! in `specs/Reading.antt`, what a write did in `specs/Writing.antt`.
+//!
+//! ```rust
+//! let text = rx_io::read_all(alloc, &mut ReaderSource::new(file))?;
+//! rx_io::write_all(&mut WriterSink::new(copy), text.as_slice())?;
+//! ```
+//!
+//! Which file is which, and what its bytes mean, is left to the crates above.
+#![tactic(auto)]
+
+mod consumer;
+mod fault;
+mod memory;
+mod reading;
+mod sink;
+mod source;
+mod wrapped;
+
+pub use consumer::Consumer;
+pub use fault::{Failed, ReadFault};
+pub use memory::{SliceSource, VecSink};
+pub use reading::{read_all, read_each};
+pub use sink::{Sink, write_all, write_pieces};
+pub use source::Source;
+pub use wrapped::{ReaderSource, WriterSink};

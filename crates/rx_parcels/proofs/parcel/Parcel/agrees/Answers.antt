@@ -1,5 +1,0 @@
-use Rattle.rx_parcels.proofs.Tested.{agree_exact}
-use Rattle.rx_parcels.proofs.parcel.Parcel.agrees.Goals as goal
-
-pub returns : goal.returns
-returns c = agree_exact c.args.self.now c.passes.ensures.within c.passes.result c.passes.ensures.value

@@ -1,0 +1,14 @@
+ghost use Rattle.std.specs.Prelude.{◌≡◌, ℕ, List, All, false};
+ghost use Rattle.rx_print.specs.Escape.{AreBytes, escaped, is_mark, read};
+ghost use Rattle.rx_print.specs.declared.style.Style.{Style};
+
+/// Whatever the bytes are, no byte is written that ends the place where they stand, or that isn't printable.
+pub fn no_mark_is_written()
+    ensures { (style : Style) → (bytes : List ℕ) → AreBytes bytes
+        → All (λ b. is_mark style b ≡ false) (escaped style bytes) }
+{}
+
+/// What is written is read as the bytes that were to be written. So different bytes are never written alike.
+pub fn read_back()
+    ensures { (style : Style) → (bytes : List ℕ) → AreBytes bytes → read style (escaped style bytes) ≡ bytes }
+{}

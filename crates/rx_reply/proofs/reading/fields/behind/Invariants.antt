@@ -1,6 +1,0 @@
-use Rattle.std.proofs.Common.{◌≡◌, ◌-◌}
-use Rattle.rx_reply.specs.Readers.{behind}
-use Rattle.rx_reply.proofs.reading.fields.behind.Given as goal
-
-abbrev pub invariant-loop : goal.invariant-loop
-invariant-loop l = behind (l.count - l.counter) l.text l.rest ≡ behind l.count l.text l.bytes

@@ -1,0 +1,152 @@
+ghost use Rattle.std.specs.Prelude.{◌≡◌, ◌≤◌, IfOk, IsTrue, true};
+ghost use Rattle.std.specs.List.{All};
+ghost use Rattle.rx_serial.specs.declared.fill.FillKey.{FillKey};
+ghost use Rattle.rx_serial.specs.Fills.{AreCounted, concerns, count_among, count_at, fills_in, is_counted};
+
+use crate::billed::longest_of;
+use crate::fill::{Entry, Fill, FillKey, FirstDay, fill_at, tally_near};
+use crate::marks::{has_mark, marks_of};
+use crate::refill::{Refill, are_left};
+use rx_books_store::OpenBooks;
+use rx_fields::{Days, Memory};
+use rx_sorted::Ascending;
+use std::alloc::Global;
+
+/// The counts of fills; and for each transaction of the batch, where the entry of its own fill is among them, if it has
+/// one. What is looked up there is compared.
+#[derive(Debug, Drop)]
+pub(crate) struct Counts {
+    pub(crate) fills: Ascending<Fill>,
+    pub(crate) places: Vec<usize>,
+}
+
+/// The counts; the marks and the first day by which they were made; and the longest days supply of all that is counted.
+#[derive(Drop)]
+pub(crate) struct Tally {
+    pub(crate) marks: Vec<bool>,
+    pub(crate) first_day: FirstDay,
+    pub(crate) fills: Ascending<Fill>,
+    pub(crate) places: Vec<usize>,
+    pub(crate) longest: Days,
+}
+
+/// The counts for so many transactions, with marks for the courses of these entries.
+pub(crate) fn tally_of(
+    alloc: Global,
+    books: &OpenBooks,
+    own: Vec<Entry>,
+    transactions: usize,
+) -> Result<Tally, Memory>
+    requires { All (λ e. e.fill.count ≡ 0) own.items }
+    ensures counted { let L = books.now.books.ledger in
+        IfOk result (λ t. AreCounted (is_counted t.marks.items t.first_day) L.members L.rows t.fills) }
+    ensures longest { IfOk result (λ t. All (λ f. f.key.when.days ≤ t.longest) t.fills) }
+{
+    let marks = marks_of(alloc, &own)?;
+    let first_day = first_day_of(&own);
+    let Counts { fills, places } = counted(alloc, books, &marks, first_day, own, transactions)?;
+    let longest = longest_of(fills.as_slice());
+    Ok(Tally {
+        marks,
+        first_day,
+        fills,
+        places,
+        longest,
+    })
+}
+
+// The counts for so many transactions, of the fills of courses that have a mark, as far as days of them are left on the
+// first day. There is an entry for each of the batch's own fills, so that counting these asks for no memory later on.
+fn counted(
+    alloc: Global,
+    books: &OpenBooks,
+    marks: &[bool],
+    first_day: FirstDay,
+    own: Vec<Entry>,
+    transactions: usize,
+) -> Result<Counts, Memory>
+    requires { All (λ e. e.fill.count ≡ 0) own.items }
+    ensures { let L = books.now.books.ledger in
+        IfOk result (λ counted. AreCounted (is_counted marks.now first_day) L.members L.rows counted.fills) }
+{
+    let mut found = found(books, marks, first_day, own)?;
+    found.sort_unstable_by_key(|entry| packed(&entry.fill.key));
+    all_tallied(alloc, &found, transactions)
+}
+
+// The fill in one number, by which fills are in the order of their keys: the member's place, 37 bits for the product, 32 for
+// the day and 10 for its days supply. Nothing is promised of it: entries in another order are counted the same, slower.
+fn packed(key: &FillKey) -> u128 {
+    let course = ((key.course.holder as u128) << 37) | u128::from(key.course.product.number());
+    let day = (i64::from(key.when.number) + (1 << 31)) as u128;
+    (course << 42) | (day << 10) | u128::from(key.when.days.get())
+}
+
+// The first day of these entries' fills; the last day of all where there is none.
+fn first_day_of(entries: &[Entry]) -> FirstDay {
+    let mut number = i32::MAX;
+    for entry in entries {
+        number = number.min(entry.fill.key.when.number);
+    }
+    FirstDay { number }
+}
+
+/// Whether all fills that concern a refill are counted.
+pub(crate) fn are_counted_for(marks: &[bool], first_day: FirstDay, refill: &Refill) -> bool
+    requires { refill.now.percent ≤ 100 }
+    ensures { IsTrue result → (k : FillKey) → concerns refill.now k ≡ true → is_counted marks.now first_day k ≡ true }
+{
+    if refill.number < first_day.number {
+        return false;
+    }
+    has_mark(marks, &refill.course)
+}
+
+// Whether the fill is counted: one of a course that has a mark, of which days are left on the first day.
+fn is_counted(marks: &[bool], first_day: FirstDay, key: &FillKey) -> bool
+    ensures { result ≡ is_counted marks.now first_day key.now }
+{
+    are_left(first_day.number, key.when.number, key.when.days, 100) && has_mark(marks, &key.course)
+}
+
+// These entries, and one for each standing claim whose fill is counted.
+fn found(
+    books: &OpenBooks,
+    marks: &[bool],
+    first_day: FirstDay,
+    own: Vec<Entry>,
+) -> Result<Vec<Entry>, Memory>
+    requires { All (λ e. e.fill.count ≡ 0) own.items }
+    ensures { let L = books.now.books.ledger in
+        IfOk result (λ found. (k : FillKey) → is_counted marks.now first_day k ≡ true
+        → count_among found.items k ≡ fills_in L.members L.rows k) }
+{
+    let mut found = own;
+    let mut standing = books.standing();
+    while let Some((row, holder)) = standing.next_row() {
+        let key = fill_at(holder, row);
+        if is_counted(marks, first_day, &key) {
+            found.push(Entry {
+                fill: Fill { key, count: 1 },
+                transaction: usize::MAX,
+            })?;
+        }
+    }
+    Ok(found)
+}
+
+// The counts of all these entries, and where each transaction's is.
+fn all_tallied(alloc: Global, found: &[Entry], transactions: usize) -> Result<Counts, Memory>
+    ensures { IfOk result (λ counted. (k : FillKey) → count_at counted.fills k ≡ count_among found.now k) }
+{
+    let mut fills = Ascending::new(alloc);
+    let mut places = vec![in alloc; 0usize; transactions]?;
+    for entry in found {
+        let last = fills.len().saturating_sub(1);
+        tally_near(&mut fills, &[last], entry.fill)?;
+        if let Some(place) = places.get_mut(entry.transaction) {
+            *place = fills.len().saturating_sub(1);
+        }
+    }
+    Ok(Counts { fills, places })
+}

@@ -1,0 +1,310 @@
+ghost use Rattle.std.specs.Prelude.{◌≡◌, ◌≤◌, IfOk, OnOk};
+ghost use Rattle.std.specs.List.{All, list_any};
+ghost use Rattle.rx_fields.specs.declared.limits.TheConstants.{MOST_DETAILS};
+ghost use Rattle.rx_ledger.specs.Answers.{is_too_soon};
+ghost use Rattle.rx_ledger.specs.Fold.{ledger_after, reply_to};
+ghost use Rattle.rx_ledger.specs.Ledger.{rows_of};
+ghost use Rattle.rx_ledger.specs.Members.{is_same};
+ghost use Rattle.rx_ledger.specs.TermList.{plan_of};
+ghost use Rattle.rx_serial.specs.Underway.{IsAwaited, IsHolder, scope_of};
+ghost use Rattle.rx_serial.specs.Fills.{AreCounted, is_counted};
+
+use crate::billed::{Billed, billed_by, longer};
+use crate::counted::{Tally, are_counted_for, tally_of};
+use crate::fill::{Fill, FirstDay, fill_at, lower, tally_near};
+use crate::names::{Names, names_of, slots_of};
+use crate::near::near_of;
+use crate::refill::Refill;
+use crate::used::used_at;
+use rx_books_store::{Books, OpenBooks};
+use rx_d0_values::{Bill, Reply, Transmission};
+use rx_fields::{Day, Days, Id, Key, Memory};
+use rx_ledger::{Basis, Figures, Member, MemberKey, Row, Terms, Used, answer_record, is_too_soon};
+use rx_sorted::Ascending;
+use std::alloc::Global;
+use std::marker::Model;
+
+/// Books on which the records of a batch are adjudicated one after another. Contracts see the books so far, and the fill
+/// keys that the batch names.
+#[derive(Debug, Drop)]
+pub struct InOrder {
+    pub(crate) books: OpenBooks,
+    // Where the members of the batch's transactions are listed, in order; where those of each record begin; and where
+    // those of the record begin that is adjudicated. Who is found there is compared with who is looked for.
+    pub(crate) holders: Vec<Option<usize>>,
+    pub(crate) firsts: Vec<usize>,
+    pub(crate) at: usize,
+    // Where the slots of the transactions' fill keys probably are, and the entries of their own fills, in the same order.
+    // They are compared too.
+    pub(crate) slots: Vec<usize>,
+    pub(crate) own: Vec<usize>,
+    // The fills of the courses that have a mark, as far as days of them are left on the first day, each with how many
+    // standing claims are such fills, and the longest days supply of all.
+    pub(crate) marks: Vec<bool>,
+    pub(crate) first_day: FirstDay,
+    pub(crate) fills: Ascending<Fill>,
+    pub(crate) longest: Days,
+}
+
+impl Model for InOrder {
+    ghost use Rattle.rx_serial.specs.Underway.{IsUnderway, Underway};
+
+    ghost Value = { Underway };
+
+    ghost view = { λ o. record { books = o.books.books; slots = o.books.slots } };
+
+    ghost invariant = { λ o. IsUnderway o.books o.marks.items o.first_day o.fills o.longest o.holders.items };
+}
+
+impl InOrder {
+    /// The books for a batch: a slot for each fill key that it names, and the fills of what it bills, counted. Without
+    /// memory the books are dropped.
+    pub fn new(
+        alloc: Global,
+        books: Books,
+        transmissions: &[Transmission],
+    ) -> Result<InOrder, Memory>
+        ensures same { IfOk result (λ order. order.books ≡ books) }
+        ensures awaited { IfOk result (λ order. All (IsAwaited order) transmissions.now) }
+    {
+        let names = names_of(alloc, transmissions)?;
+        let books = books.open(alloc, &names.keys)?;
+        InOrder::over(alloc, books, &names, transmissions)
+    }
+
+    // The same over opened books, which have a slot for each of the batch's fill keys.
+    fn over(
+        alloc: Global,
+        books: OpenBooks,
+        names: &Names,
+        transmissions: &[Transmission],
+    ) -> Result<InOrder, Memory>
+        ensures same { IfOk result (λ order. order.books ≡ books.books) }
+        ensures slots { IfOk result (λ order. order.slots ≡ books.slots) }
+    {
+        let found = found_in(alloc, &books, names, transmissions)?;
+        let _in_order = books.standing();
+        let Found {
+            holders,
+            firsts,
+            slots,
+            tally,
+        } = found;
+        let Tally {
+            marks,
+            first_day,
+            fills,
+            places,
+            longest,
+        } = tally;
+        Ok(InOrder {
+            books,
+            holders,
+            firsts,
+            at: 0,
+            slots,
+            own: places,
+            marks,
+            first_day,
+            fills,
+            longest,
+        })
+    }
+
+    /// The reply to a record of the batch at its place; the books are then those after it (docs/MODEL.md, "Record and
+    /// fold"). Without memory, nothing is promised of the books.
+    pub fn record(
+        &mut self,
+        alloc: Global,
+        terms: &Terms,
+        place: u64,
+        transmission: &Transmission,
+    ) -> Result<Reply, Memory>
+        requires place { place ≤ MOST_DETAILS }
+        requires period { self.old.books.period ≡ terms.now.figures.period }
+        requires awaited { IsAwaited self.old transmission.now }
+        ensures value { IfOk result (λ reply.
+            reply ≡ reply_to terms.now.lot (plan_of terms.now) place transmission.now self.old.books.ledger) }
+        ensures after { OnOk result (self.new.books.ledger
+            ≡ ledger_after terms.now.lot (plan_of terms.now) place transmission.now self.old.books.ledger) }
+        ensures scope { OnOk result (scope_of self.new ≡ scope_of self.old) }
+    {
+        self.begin(place);
+        answer_record(alloc, self, terms, place, transmission)
+    }
+
+    // Turns to the members of the record at a place.
+    fn begin(&mut self, place: u64)
+        ensures { self.new ≡ self.old }
+    {
+        if place > 0 {
+            if let Some(first) = self.firsts.get((place - 1) as usize) {
+                self.at = *first;
+            }
+        }
+    }
+
+    /// The standing claims of a family so far, ascending by fill key. All rows are gone over.
+    pub fn rows_of(&self, alloc: Global, family: &Id) -> Result<Vec<Row>, Memory>
+        ensures { IfOk result (λ rows. rows.items ≡ rows_of self.now.books.ledger family.now) }
+    {
+        rows_of(alloc, &self.books, family)
+    }
+
+    /// The books so far. It takes no memory.
+    pub fn close(self) -> Books
+        ensures { result ≡ self.books }
+    {
+        let InOrder { books, .. } = self;
+        books.close()
+    }
+}
+
+impl Basis for InOrder {
+    ghost use Rattle.rx_serial.specs.Underway.{scope_of};
+
+    ghost ledger = { λ o. o.books.ledger };
+
+    ghost scope = { λ o. scope_of o };
+
+    fn row_under(&self, key: &Key) -> Option<Row> {
+        match self.slot_of(key) {
+            Some(slot) => self.books.row_at(slot).copied(),
+            None => unreachable!(),
+        }
+    }
+
+    fn has_members(&self, family: &Id) -> bool {
+        self.is_near(family) || self.books.family_of(family).is_some()
+    }
+
+    fn member(&self, key: &MemberKey) -> Option<Member> {
+        match self.holder_of(key) {
+            Some(holder) => Some(*self.books.member_at(holder)),
+            None => None,
+        }
+    }
+
+    fn used(&self, _figures: &Figures, key: &MemberKey) -> Used {
+        match self.holder_of(key) {
+            Some(holder) => used_at(&self.books, holder),
+            None => unreachable!(),
+        }
+    }
+
+    fn is_too_soon(&self, figures: &Figures, date: Day, bill: &Bill) -> bool {
+        let parts = bill.parts();
+        let Some(holder) = self.holder_of(&MemberKey {
+            family: parts.family,
+            person: parts.person,
+        }) else {
+            unreachable!()
+        };
+        let refill = Refill::of(figures, date, bill, holder);
+        let _in_order = self.fills.as_slice();
+        if are_counted_for(&self.marks, self.first_day, &refill) {
+            return refill.is_too_soon(&self.fills, near_of(&self.own, self.at), self.longest);
+        }
+        is_any_row_too_soon(&self.books, figures, date, bill)
+    }
+
+    fn add(&mut self, row: Row) -> Result<(), Memory> {
+        let Some(slot) = self.slot_of(&row.key) else {
+            unreachable!()
+        };
+        let Some(holder) = self.holder_of(&row.member()) else {
+            unreachable!()
+        };
+        self.longest = longer(self.longest, row.days);
+        let key = fill_at(holder, &row);
+        let near = near_of(&self.own, self.at);
+        tally_near(&mut self.fills, near, Fill { key, count: 1 })?;
+        let home = self.books.home_of(holder);
+        self.books.add(slot, home, holder, row);
+        Ok(())
+    }
+
+    fn remove(&mut self, key: &Key) -> Result<(), Memory> {
+        let Some(slot) = self.slot_of(key) else {
+            unreachable!()
+        };
+        let row = self.books.remove(slot);
+        let Some(holder) = self.books.member_of(&row.family, &row.person) else {
+            unreachable!()
+        };
+        lower(&mut self.fills, fill_at(holder, &row));
+        Ok(())
+    }
+}
+
+// What is looked up of a batch in its books.
+#[derive(Drop)]
+struct Found {
+    holders: Vec<Option<usize>>,
+    firsts: Vec<usize>,
+    slots: Vec<usize>,
+    tally: Tally,
+}
+
+// Looks up what a batch names and bills.
+fn found_in(
+    alloc: Global,
+    books: &OpenBooks,
+    names: &Names,
+    transmissions: &[Transmission],
+) -> Result<Found, Memory>
+    ensures holders { IfOk result (λ found. All (IsHolder books.now.books.ledger.members) found.holders.items) }
+    ensures counted { let L = books.now.books.ledger in
+        IfOk result (λ found. let t = found.tally in AreCounted (is_counted t.marks.items t.first_day) L.members L.rows t.fills) }
+    ensures longest { IfOk result (λ found. All (λ f. f.key.when.days ≤ found.tally.longest) found.tally.fills) }
+{
+    let Billed {
+        holders,
+        firsts,
+        own,
+    } = billed_by(alloc, books, transmissions)?;
+    let tally = tally_of(alloc, books, own, holders.len())?;
+    let slots = slots_of(alloc, &names.named, &names.keys, holders.len())?;
+    Ok(Found {
+        holders,
+        firsts,
+        slots,
+        tally,
+    })
+}
+
+// Whether some row that stands makes a billing too soon. All rows are gone over: no record of the batch asks for it.
+fn is_any_row_too_soon(books: &OpenBooks, figures: &Figures, date: Day, bill: &Bill) -> bool
+    requires { figures.now.refill_percent ≤ 100 }
+    ensures { result ≡ list_any (is_too_soon figures.now date bill.now) (rows_of books.now.books.ledger bill.now.family) }
+{
+    let mut standing = books.standing();
+    while let Some((row, _)) = standing.next_row() {
+        if is_same(&row.family, &bill.parts().family) && is_too_soon(figures, date, bill, row) {
+            return true;
+        }
+    }
+    false
+}
+
+// The rows of a family that stand, in order.
+fn rows_of(alloc: Global, books: &OpenBooks, family: &Id) -> Result<Vec<Row>, Memory>
+    ensures { IfOk result (λ rows. rows.items ≡ rows_of books.now.books.ledger family.now) }
+{
+    let mut rows = Vec::new(alloc);
+    let mut standing = books.standing();
+    while let Some((row, _)) = standing.next_row() {
+        if is_same(&row.family, family) {
+            rows.push(*row)?;
+        }
+    }
+    Ok(rows)
+}
+
+// Whether two families are the same.
+#[tactic(auto, using(rx_ledger::proofs::SameText::same_text))]
+fn is_same(a: &Id, b: &Id) -> bool
+    ensures { result ≡ is_same a.now b.now }
+{
+    *a == *b
+}

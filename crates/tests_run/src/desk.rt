@@ -1,0 +1,328 @@
+// The case desk-by-hand: three fills that reach the family maximum, from an order to the next by hand.
+use crate::same::same;
+use crate::worked::{bare_sheet, bill, id, lot, member, person, plain_sheet, this_year, today};
+use rx_adjudicate::{Done, Order, adjudicate};
+use rx_books_store::Books;
+use rx_d0_values::{Answer, Outcome, Reply, Transmission};
+use rx_desk::{Desk, Event, Finished, Next};
+use rx_fields::Lot;
+use rx_ledger::{Ledger, Sheet};
+use std::alloc::Global;
+use std::process::Abort;
+
+// Lists three persons of a family, who are covered to the day.
+fn enroll(rt: &impl Abort, ledger: &mut Ledger, family: &[u8], last: &[u8]) {
+    for code in [b"01", b"02", b"03"] {
+        let member = member(rt, family, code, last);
+        ledger.add_member(member).expect(rt, "a new member");
+    }
+}
+
+fn books_of(rt: &impl Abort, alloc: Global, ledger: &Ledger) -> Books {
+    Books::from_ledger(alloc, ledger, this_year(rt)).expect(rt, "memory")
+}
+
+// Books of family C100, whose persons are covered to the day.
+fn books(rt: &impl Abort, alloc: Global, last: &[u8]) -> Books {
+    let mut ledger = Ledger::new(alloc);
+    enroll(rt, &mut ledger, b"C100", last);
+    books_of(rt, alloc, &ledger)
+}
+
+// Puts a fill for a person of a family to the others.
+fn put(
+    rt: &impl Abort,
+    alloc: Global,
+    fills: &mut Vec<Transmission>,
+    number: u64,
+    family: &[u8],
+    code: &[u8],
+) {
+    let bill = bill(rt, number, family, code, b"00002000202");
+    fills.push(today(rt, alloc, &[bill])).expect(rt, "memory");
+}
+
+// The fills of the case.
+fn fills(rt: &impl Abort, alloc: Global) -> Vec<Transmission> {
+    let mut fills = Vec::new(alloc);
+    put(rt, alloc, &mut fills, 201, b"C100", b"01");
+    put(rt, alloc, &mut fills, 202, b"C100", b"02");
+    put(rt, alloc, &mut fills, 203, b"C100", b"03");
+    fills
+}
+
+// The desk of the case, over books that cover to the day.
+fn desk(rt: &impl Abort, alloc: Global, last: &[u8]) -> Desk {
+    let books = books(rt, alloc, last);
+    desk_of(rt, alloc, books, fills(rt, alloc))
+}
+
+// A desk of these books and records, under the plain sheet.
+fn desk_of(rt: &impl Abort, alloc: Global, books: Books, records: Vec<Transmission>) -> Desk {
+    let (lot, sheet) = (lot(rt, 42), plain_sheet(rt, alloc));
+    assert!(rt; records.len() <= 100_000, "a batch");
+    assert!(rt; books.period() == sheet.period(), "one period");
+    Desk::new(alloc, lot, &sheet, books, records).expect(rt, "memory")
+}
+
+// The order that comes next.
+fn order(rt: &impl Abort, desk: &mut Desk) -> Order {
+    match desk.next() {
+        Next::Order(order) => order,
+        Next::Later | Next::Over | Next::Memory => panic!(rt; "an order"),
+    }
+}
+
+// The patient pay amount of a reply to one fill.
+fn patient_pay(reply: &Reply) -> Option<u64> {
+    match &reply.outcome {
+        Outcome::Rejected(_) => None,
+        Outcome::Heard(answers) => match answers.as_slice().first()? {
+            Answer::Paid(paid) => Some(paid.pricing.patient_pay()),
+            Answer::Twice(_) | Answer::Approved(_) | Answer::Refused(_) => None,
+        },
+    }
+}
+
+fn done(rt: &impl Abort, alloc: Global, order: Order) -> Done {
+    adjudicate(alloc, order).expect(rt, "memory")
+}
+
+fn give(rt: &impl Abort, desk: &mut Desk, done: Done) {
+    desk.give(done).expect(rt, "taken back");
+}
+
+// The record at the place goes out, and no other is ready beside it.
+fn only_order(rt: &impl Abort, desk: &mut Desk, place: u64) -> Order {
+    same(rt, desk.is_ready(), true);
+    let order = order(rt, desk);
+    same(rt, order.place(), place);
+    same(rt, desk.is_ready(), false);
+    order
+}
+
+// What the desk hands out, in a word.
+fn next_word(desk: &mut Desk) -> &'static str {
+    word(&desk.next())
+}
+
+fn word(next: &Next) -> &'static str {
+    match next {
+        Next::Order(_) => "order",
+        Next::Later => "later",
+        Next::Over => "over",
+        Next::Memory => "memory",
+    }
+}
+
+// The record at the place goes out, and no other beside it, of which the desk tells this; it comes in again.
+fn goes_alone(rt: &impl Abort, desk: &mut Desk, alloc: Global, place: u64, beside: &'static str) {
+    let order = only_order(rt, desk, place);
+    same(rt, next_word(desk), beside);
+    give(rt, desk, done(rt, alloc, order));
+}
+
+// The records of the case go one after another, each alone.
+fn go_alone(rt: &impl Abort, alloc: Global, desk: &mut Desk) {
+    for &(place, beside) in &[(1, "later"), (2, "later"), (3, "over")] {
+        goes_alone(rt, desk, alloc, place, beside);
+    }
+}
+
+const ONE_AFTER_ANOTHER: &[Event] = &[
+    Event::Take(1),
+    Event::Give(1),
+    Event::Take(2),
+    Event::Give(2),
+    Event::Take(3),
+    Event::Give(3),
+];
+
+// These events were.
+fn went(rt: &impl Abort, desk: &Desk, history: &[Event]) {
+    same(rt, desk.history(), history);
+}
+
+// The next record goes out, and comes in again.
+fn goes(rt: &impl Abort, alloc: Global, desk: &mut Desk) {
+    let order = order(rt, desk);
+    give(rt, desk, done(rt, alloc, order));
+}
+
+// Whether the desk is at its end.
+fn is_closed(desk: Desk) -> bool {
+    let finished = desk.close().ok();
+    finished.is_some()
+}
+
+fn closed(rt: &impl Abort, desk: Desk) -> Finished {
+    desk.close().ok().expect(rt, "an end")
+}
+
+// What the desk of the case ends with.
+fn finished(rt: &impl Abort, alloc: Global) -> Finished {
+    let mut desk = desk(rt, alloc, b"20261231");
+    for _ in 0..3 {
+        goes(rt, alloc, &mut desk);
+    }
+    closed(rt, desk)
+}
+
+#[test]
+fn sharers_go_one_after_another(rt: HostRuntime) {
+    let mut desk = desk(&rt, rt.alloc(), b"20261231");
+    go_alone(&rt, rt.alloc(), &mut desk);
+    went(&rt, &desk, ONE_AFTER_ANOTHER);
+    same(&rt, next_word(&mut desk), "over");
+    drop(desk);
+}
+
+#[test]
+fn ends_with_the_books_of_the_case(rt: HostRuntime) {
+    let (family, third) = (id(&rt, b"C100"), person(&rt, b"03"));
+    let finished = finished(&rt, rt.alloc());
+    let books = &finished.books;
+    same(&rt, books.out_of_pocket(&family), Some(30_000));
+    same(&rt, books.family_deductible(&family), Some(24_000));
+    same(&rt, books.deductible(&family, &third), Some(4000));
+    drop(finished);
+}
+
+#[test]
+fn ends_with_the_replies_of_the_case(rt: HostRuntime) {
+    let finished = finished(&rt, rt.alloc());
+    are_paid(&rt, &finished.replies, &[13_000, 13_000, 4000]);
+    drop(finished);
+}
+
+// The replies tell these patient pay amounts.
+fn are_paid(rt: &impl Abort, replies: &[Reply], amounts: &[u64]) {
+    same(rt, replies.len(), amounts.len());
+    for (reply, &paid) in replies.iter().zip(amounts) {
+        same(rt, patient_pay(reply), Some(paid));
+    }
+}
+
+// The first record of a desk over books that cover to the day, done.
+fn first_done(rt: &impl Abort, alloc: Global, last: &[u8]) -> Done {
+    let mut desk = desk(rt, alloc, last);
+    let order = order(rt, &mut desk);
+    drop(desk);
+    done(rt, alloc, order)
+}
+
+// A desk whose first record is out, and won't come back.
+fn with_one_out(rt: &impl Abort, alloc: Global) -> Desk {
+    let mut desk = desk(rt, alloc, b"20261231");
+    let _out = order(rt, &mut desk);
+    desk
+}
+
+// A desk whose first record was given back.
+fn with_one_given(rt: &impl Abort, alloc: Global) -> Desk {
+    let mut desk = desk(rt, alloc, b"20261231");
+    goes(rt, alloc, &mut desk);
+    desk
+}
+
+// Whether what is done comes back.
+fn turns_away(desk: &mut Desk, done: Done) -> bool {
+    let taken = desk.give(done).ok();
+    taken.is_none()
+}
+
+#[test]
+fn turns_away_a_done_over_other_books(rt: HostRuntime) {
+    let stranger = first_done(&rt, rt.alloc(), b"20261130");
+    let mut desk = with_one_out(&rt, rt.alloc());
+    same(&rt, turns_away(&mut desk, stranger), true);
+    went(&rt, &desk, &[Event::Take(1)]);
+    drop(desk);
+}
+
+#[test]
+fn turns_away_an_order_given_twice(rt: HostRuntime) {
+    let again = first_done(&rt, rt.alloc(), b"20261231");
+    let mut desk = with_one_given(&rt, rt.alloc());
+    same(&rt, turns_away(&mut desk, again), true);
+    same(&rt, desk.history().len(), 2);
+    drop(desk);
+}
+
+#[test]
+fn comes_back_while_a_record_is_left(rt: HostRuntime) {
+    let desk = with_one_out(&rt, rt.alloc());
+    same(&rt, is_closed(desk), false);
+}
+
+// What is asked of the desk of the case: the batch number, the drugs that the sheet lists, the last day that the books
+// cover, and how many records.
+#[derive(Clone, Copy)]
+struct Asked {
+    batch: u32,
+    drugs: usize,
+    last: &'static [u8],
+    records: usize,
+}
+
+const OWN: Asked = Asked {
+    batch: 42,
+    drugs: 3,
+    last: b"20261231",
+    records: 3,
+};
+
+fn asked_sheet(rt: &impl Abort, alloc: Global, drugs: usize) -> Sheet {
+    match drugs {
+        0 => bare_sheet(rt, alloc, 75),
+        _ => plain_sheet(rt, alloc),
+    }
+}
+
+fn asked_records(rt: &impl Abort, alloc: Global, count: usize) -> Vec<Transmission> {
+    let mut records = fills(rt, alloc);
+    records.truncate(count);
+    records
+}
+
+// What a desk is asked for.
+#[derive(Drop)]
+struct Job {
+    lot: Lot,
+    sheet: Sheet,
+    books: Books,
+    records: Vec<Transmission>,
+}
+
+fn asked_job(rt: &impl Abort, alloc: Global, asked: Asked) -> Job {
+    Job {
+        lot: lot(rt, asked.batch),
+        sheet: asked_sheet(rt, alloc, asked.drugs),
+        books: books(rt, alloc, asked.last),
+        records: asked_records(rt, alloc, asked.records),
+    }
+}
+
+// Whether the desk of the case is for this job.
+fn is_job(rt: &impl Abort, alloc: Global, job: &Job) -> bool {
+    let desk = desk(rt, alloc, b"20261231");
+    let is_job = desk.job_is(job.lot, &job.sheet, &job.books, &job.records);
+    drop(desk);
+    is_job
+}
+
+fn is_for(rt: &impl Abort, alloc: Global, asked: Asked) -> bool {
+    let job = asked_job(rt, alloc, asked);
+    is_job(rt, alloc, &job)
+}
+
+#[test]
+fn knows_its_job(rt: HostRuntime) {
+    let alloc = rt.alloc();
+    let last = b"20261130";
+    same(&rt, is_for(&rt, alloc, OWN), true);
+    same(&rt, is_for(&rt, alloc, Asked { batch: 43, ..OWN }), false);
+    same(&rt, is_for(&rt, alloc, Asked { drugs: 0, ..OWN }), false);
+    same(&rt, is_for(&rt, alloc, Asked { last, ..OWN }), false);
+    same(&rt, is_for(&rt, alloc, Asked { records: 2, ..OWN }), false);
+}

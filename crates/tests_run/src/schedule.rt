@@ -1,0 +1,335 @@
+// The footprints, waves and queues of the worked cases (docs/CASES.md), counted by hand.
+ghost use Rattle.std.specs.Prelude.{◌≤◌, ℕ};
+ghost use Rattle.rx_schedule.specs.Machine.{Was};
+
+use crate::same::same;
+use crate::worked::{base, id, key, rejected, reversal, today};
+use rx_books_parcel::Footprint;
+use rx_books_store::Books;
+use rx_d0_values::{Transaction, Transmission};
+use rx_fields::{Id, Key, digits_write};
+use rx_schedule::{Queues, footprints, waves, weight};
+use std::alloc::Global;
+use std::process::Abort;
+
+const OPENING: &[u8] = b"BOOKS|3|20260101|20261231\n";
+
+// The books after one-billing.
+const BILLED: &[u8] = b"BOOKS|3|20260101|20261231\n\
+M|C100|01|20260101|20261231|10000\n\
+M|C100|02|20260101|20261231|0\n\
+M|C100|03|20260101|20261231|0\n\
+M|C200|01|20260101|20261231|0\n\
+C|1234567893|123|20260228|C100|01|00002000202|30000|30|30000|175|10000|3000|0|000004200000011\n\
+T|C100|13000|10000\n\
+T|C200|0|0\n";
+
+// Puts a record of this one transaction to the others.
+fn put(rt: &impl Abort, alloc: Global, records: &mut Vec<Transmission>, one: Transaction) {
+    records.push(today(rt, alloc, &[one])).expect(rt, "memory");
+}
+
+fn put_rejected(rt: &impl Abort, records: &mut Vec<Transmission>) {
+    records.push(rejected(rt)).expect(rt, "memory");
+}
+
+fn books(rt: &impl Abort, alloc: Global, text: &[u8]) -> Books {
+    Books::read(alloc, text).expect(rt, "books")
+}
+
+// Three claims of one family.
+fn three_fills(rt: &impl Abort, alloc: Global) -> Vec<Transmission> {
+    let mut records = Vec::new(alloc);
+    for &reference in &[201, 202, 203] {
+        put(rt, alloc, &mut records, base(rt, reference, b"C100"));
+    }
+    records
+}
+
+// The footprints of the records on the books of this text.
+fn footprints_on(
+    rt: &impl Abort,
+    alloc: Global,
+    text: &[u8],
+    records: &[Transmission],
+) -> Vec<Footprint> {
+    let opening = books(rt, alloc, text);
+    footprints(alloc, &opening, records).expect(rt, "memory")
+}
+
+// The footprint of the record at the place, from 0, names these fill keys and families alone.
+fn names(rt: &impl Abort, list: &[Footprint], at: usize, keys: &[Key], families: &[Id]) {
+    let footprint = list.get(at).expect(rt, "a footprint");
+    same(rt, footprint.keys(), keys);
+    same(rt, footprint.families(), families);
+}
+
+// The records go in waves of these numbers, and the chain of as many as there are waves is of these records.
+fn waves_are(
+    rt: &impl Abort,
+    alloc: Global,
+    list: &[Footprint],
+    numbers: &[usize],
+    chain: &[usize],
+) {
+    let waves = waves(alloc, list).expect(rt, "memory");
+    same(rt, waves.numbers.as_slice(), numbers);
+    same(rt, waves.count, chain.len());
+    same(rt, waves.chain.as_slice(), chain);
+}
+
+// The footprints of the three fills.
+fn of_three_fills(rt: &impl Abort, alloc: Global) -> Vec<Footprint> {
+    let fills = three_fills(rt, alloc);
+    footprints_on(rt, alloc, OPENING, &fills)
+}
+
+#[test]
+fn three_fills_reach_the_family_maximum(rt: HostRuntime) {
+    let c100 = [id(&rt, b"C100")];
+    let list = of_three_fills(&rt, rt.alloc());
+    same(&rt, list.len(), 3);
+    names(&rt, &list, 0, &[key(&rt, 201)], &c100);
+    names(&rt, &list, 1, &[key(&rt, 202)], &c100);
+    names(&rt, &list, 2, &[key(&rt, 203)], &c100);
+    waves_are(&rt, rt.alloc(), &list, &[1, 2, 3], &[1, 2, 3]);
+}
+
+#[test]
+fn same_key_another_family(rt: HostRuntime) {
+    let c200 = id(&rt, b"C200");
+    let mut records = Vec::new(rt.alloc());
+    put(&rt, rt.alloc(), &mut records, base(&rt, 123, b"C200"));
+    let list = footprints_on(&rt, rt.alloc(), BILLED, &records);
+    same(&rt, list.len(), 1);
+    names(&rt, &list, 0, &[key(&rt, 123)], &[c200]);
+    waves_are(&rt, rt.alloc(), &list, &[1], &[1]);
+}
+
+// The claim of one-billing taken back, billed for C200 and taken back again.
+fn billed_for_another_family(rt: &impl Abort, alloc: Global) -> Vec<Transmission> {
+    let mut records = Vec::new(alloc);
+    put(rt, alloc, &mut records, reversal(rt, 123));
+    put(rt, alloc, &mut records, base(rt, 123, b"C200"));
+    put(rt, alloc, &mut records, reversal(rt, 123));
+    records
+}
+
+// The footprints of these, and of another claim of C100.
+fn of_a_freed_key(rt: &impl Abort, alloc: Global) -> Vec<Footprint> {
+    let mut records = billed_for_another_family(rt, alloc);
+    put(rt, alloc, &mut records, base(rt, 125, b"C100"));
+    footprints_on(rt, alloc, BILLED, &records)
+}
+
+#[test]
+fn reversal_frees_a_key(rt: HostRuntime) {
+    let (c100, c200) = (id(&rt, b"C100"), id(&rt, b"C200"));
+    let list = of_a_freed_key(&rt, rt.alloc());
+    same(&rt, list.len(), 4);
+    names(&rt, &list, 0, &[key(&rt, 123)], &[c100]);
+    names(&rt, &list, 1, &[key(&rt, 123)], &[c200]);
+    names(&rt, &list, 2, &[key(&rt, 123)], &[c100, c200]);
+    names(&rt, &list, 3, &[key(&rt, 125)], &[c100]);
+    waves_are(&rt, rt.alloc(), &list, &[1, 2, 3, 4], &[1, 2, 3, 4]);
+}
+
+// What the records weigh on the books of this text, up to a bound.
+fn weight_on(
+    rt: &impl Abort,
+    alloc: Global,
+    text: &[u8],
+    records: &[Transmission],
+    most: u64,
+) -> u64 {
+    let opening = books(rt, alloc, text);
+    let weight = weight(alloc, &opening, records, most);
+    drop(opening);
+    weight.expect(rt, "memory")
+}
+
+// C100 has three members and a claim, C200 one member: each earlier billing of the family adds one.
+#[test]
+fn weights_counted_by_hand(rt: HostRuntime) {
+    let alloc = rt.alloc();
+    let fills = three_fills(&rt, alloc);
+    same(&rt, weight_on(&rt, alloc, BILLED, &fills, 1000), 4 + 5 + 6);
+    same(&rt, weight_on(&rt, alloc, OPENING, &fills, 1000), 1 + 2);
+    same(&rt, weight_on(&rt, alloc, BILLED, &fills, 9), 9);
+    same(&rt, weight_on(&rt, alloc, BILLED, &fills, 8), 8);
+}
+
+#[test]
+fn weight_of_a_fill_taken_back_and_billed_for_another_family(rt: HostRuntime) {
+    let records = billed_for_another_family(&rt, rt.alloc());
+    let weight = weight_on(&rt, rt.alloc(), BILLED, &records, 1000);
+    same(&rt, weight, 4 + 1 + (4 + 2));
+}
+
+// Two records of each of five hundred families, the second ones after the first.
+fn two_of_each_family(rt: &impl Abort, alloc: Global) -> Vec<Transmission> {
+    let mut records = Vec::new(alloc);
+    for place in 1..1001 {
+        let digits: [u8; 3] = digits_write(7 * place % 500 + 1);
+        put(rt, alloc, &mut records, base(rt, place, &digits));
+    }
+    records
+}
+
+// Whether the first records, so many, are in wave 1, and the others in wave 2.
+fn are_in_two(numbers: &[usize], count: usize) -> bool {
+    numbers.iter().take(count).all(|wave| *wave == 1)
+        && numbers.iter().skip(count).all(|wave| *wave == 2)
+}
+
+#[test]
+fn five_hundred_families(rt: HostRuntime) {
+    let records = two_of_each_family(&rt, rt.alloc());
+    let list = footprints_on(&rt, rt.alloc(), OPENING, &records);
+    let waves = waves(rt.alloc(), &list).expect(&rt, "memory");
+    same(&rt, waves.numbers.len(), 1000);
+    same(&rt, are_in_two(&waves.numbers, 500), true);
+    same(&rt, waves.count, 2);
+    same(&rt, waves.chain.as_slice(), [1, 501].as_slice());
+    all_go(&rt, rt.alloc(), &list, 1000);
+}
+
+#[test]
+fn empty_batch(rt: HostRuntime) {
+    let list = footprints_on(&rt, rt.alloc(), OPENING, &[]);
+    same(&rt, list.len(), 0);
+    waves_are(&rt, rt.alloc(), &list, &[], &[]);
+    all_go(&rt, rt.alloc(), &list, 0);
+}
+
+#[test]
+fn rejected_headers_share_with_nobody(rt: HostRuntime) {
+    let mut records = Vec::new(rt.alloc());
+    put_rejected(&rt, &mut records);
+    put_rejected(&rt, &mut records);
+    let list = footprints_on(&rt, rt.alloc(), BILLED, &records);
+    same(&rt, list.len(), 2);
+    names(&rt, &list, 0, &[], &[]);
+    names(&rt, &list, 1, &[], &[]);
+    waves_are(&rt, rt.alloc(), &list, &[1, 1], &[1]);
+}
+
+// Three hundred families bill under one key, and then it is taken back twenty times.
+fn billed_and_taken_back(rt: &impl Abort, alloc: Global) -> Vec<Transmission> {
+    let mut records = Vec::new(alloc);
+    for place in 0..300 {
+        let digits: [u8; 3] = digits_write(place);
+        put(rt, alloc, &mut records, base(rt, 7, &digits));
+    }
+    for _ in 0..20 {
+        put(rt, alloc, &mut records, reversal(rt, 7));
+    }
+    records
+}
+
+// How many footprints name so many families.
+fn naming(list: &[Footprint], families: usize) -> usize {
+    list.iter()
+        .filter(|footprint| footprint.families().len() == families)
+        .count()
+}
+
+#[test]
+fn reversals_after_three_hundred_billers(rt: HostRuntime) {
+    let records = billed_and_taken_back(&rt, rt.alloc());
+    let list = footprints_on(&rt, rt.alloc(), OPENING, &records);
+    same(&rt, list.len(), 320);
+    same(&rt, naming(&list, 1), 300);
+    same(&rt, naming(&list, 300), 20);
+    let waves = waves(rt.alloc(), &list).expect(&rt, "memory");
+    same(&rt, waves.count, 320);
+    same(&rt, waves.chain.len(), 320);
+    all_go(&rt, rt.alloc(), &list, 320);
+}
+
+fn queues_of(rt: &impl Abort, alloc: Global, list: &[Footprint]) -> Queues {
+    Queues::of(alloc, list).expect(rt, "memory")
+}
+
+// Hands out the place that is ready and passes it at once, or tells that none is.
+fn pass_next(queues: &mut Queues) -> bool {
+    let Some(place) = queues.ready() else {
+        return false;
+    };
+    queues.hand();
+    queues.pass(place);
+    true
+}
+
+// How many places go so, one after another.
+fn drive(queues: &mut Queues, most: usize) -> usize {
+    for went in 0..most {
+        if !pass_next(queues) {
+            return went;
+        }
+    }
+    most
+}
+
+// So many places of the footprints go, one after another, and then none is ready.
+fn all_go(rt: &impl Abort, alloc: Global, list: &[Footprint], count: usize) {
+    let mut queues = queues_of(rt, alloc, list);
+    same(rt, drive(&mut queues, 2000), count);
+    same(rt, queues.ready(), None);
+}
+
+// Hands out what is ready, and then passes it, the last of it first; it says how many went.
+fn drive_back(queues: &mut Queues, most: usize) -> usize
+    ensures few { result ≤ most }
+    ensures handed { (p : ℕ) → Was p queues.old.handed → Was p queues.new.handed }
+    ensures passed { (p : ℕ) → Was p queues.new.passed → Was p queues.old.handed → Was p queues.old.passed }
+{
+    if most == 0 {
+        return 0;
+    }
+    match queues.ready() {
+        Some(place) => {
+            queues.hand();
+            let went = drive_back(queues, most - 1);
+            queues.pass(place);
+            went + 1
+        }
+        None => 0,
+    }
+}
+
+// So many go together.
+fn go_together(rt: &impl Abort, queues: &mut Queues, count: usize) {
+    same(rt, drive_back(queues, 9), count);
+}
+
+#[test]
+fn sharers_wait_for_each_other(rt: HostRuntime) {
+    let list = of_three_fills(&rt, rt.alloc());
+    let mut queues = queues_of(&rt, rt.alloc(), &list);
+    for &place in &[1, 2, 3] {
+        same(&rt, queues.ready(), Some(place));
+        go_together(&rt, &mut queues, 1);
+    }
+    same(&rt, queues.ready(), None);
+}
+
+// Three families with two records each.
+fn two_of_three_families(rt: &impl Abort, alloc: Global) -> Vec<Transmission> {
+    let mut records = Vec::new(alloc);
+    for place in 0..6 {
+        let digits: [u8; 3] = digits_write(place % 3);
+        put(rt, alloc, &mut records, base(rt, place, &digits));
+    }
+    records
+}
+
+#[test]
+fn last_ready_goes_first(rt: HostRuntime) {
+    let records = two_of_three_families(&rt, rt.alloc());
+    let list = footprints_on(&rt, rt.alloc(), OPENING, &records);
+    let mut queues = queues_of(&rt, rt.alloc(), &list);
+    go_together(&rt, &mut queues, 3);
+    go_together(&rt, &mut queues, 3);
+    same(&rt, queues.ready(), None);
+}

@@ -1,0 +1,180 @@
+// What is understood; what is refused, and how, is told of the built program (`tests/run_words.py`).
+use crate::same::same;
+use rx_cli::{
+    Asked, CheckWords, Command, ExplainWords, Form, Inputs, Outputs, Portion, ReportWords,
+    RunWords, ShowWords, VerifyWords, command,
+};
+use std::alloc::Global;
+use std::process::Abort;
+
+const INPUTS: Inputs<'static> = Inputs {
+    sheet: "s",
+    books: "b",
+    batch: "c",
+};
+
+const OUTPUTS: Outputs<'static> = Outputs {
+    response: "e",
+    books: "f",
+    settlement: "g",
+};
+
+fn understood<'a>(rt: &impl Abort, alloc: Global, words: &'a [&'a str]) -> Command<'a> {
+    command(alloc, words).ok().expect(rt, "a command")
+}
+
+const RUN: &[&str] = &[
+    "rxbatch",
+    "run",
+    "-v",
+    "--sheet=s",
+    "--books",
+    "b",
+    "--batch=c",
+    "--stamp=d",
+    "--workers=065535",
+    "--response=e",
+    "--books-out=f",
+    "--settlement=g",
+    "--safe",
+    "--log=h",
+];
+
+#[test]
+fn run_has_each_option(rt: HostRuntime) {
+    let wanted = RunWords {
+        inputs: INPUTS,
+        outputs: OUTPUTS,
+        stamp: "d",
+        workers: 65_535,
+        plain: false,
+        safe: true,
+        verbose: true,
+        log: Some("h"),
+    };
+    same(&rt, understood(&rt, rt.alloc(), RUN), Command::Run(wanted));
+}
+
+const CHECK: &[&str] = &["rxbatch", "check", "--batch", "c", "--sheet", "s"];
+
+#[test]
+fn check_has_what_is_named(rt: HostRuntime) {
+    let wanted = CheckWords {
+        sheet: "s",
+        books: None,
+        batch: Some("c"),
+    };
+    let given = understood(&rt, rt.alloc(), CHECK);
+    same(&rt, given, Command::Check(wanted));
+}
+
+const EXPLAIN: &[&str] = &[
+    "rxbatch",
+    "explain",
+    "--sheet=s",
+    "--books=b",
+    "--batch=c",
+    "--rx=412",
+    "--provider",
+    "P1",
+    "--json",
+];
+
+#[test]
+fn explain_is_asked_after_one_thing(rt: HostRuntime) {
+    let wanted = ExplainWords {
+        inputs: INPUTS,
+        asked: Asked::Rx {
+            reference: "412",
+            provider: Some("P1"),
+        },
+        response: None,
+        json: true,
+    };
+    let given = understood(&rt, rt.alloc(), EXPLAIN);
+    same(&rt, given, Command::Explain(wanted));
+}
+
+const VERIFY: &[&str] = &[
+    "rxbatch",
+    "verify",
+    "--sheet=s",
+    "--books=b",
+    "--batch=c",
+    "--stamp=d",
+    "--response=e",
+    "--books-out=f",
+    "--settlement=g",
+];
+
+#[test]
+fn verify_has_one_worker_unless_told(rt: HostRuntime) {
+    let wanted = VerifyWords {
+        inputs: INPUTS,
+        outputs: OUTPUTS,
+        stamp: "d",
+        workers: 1,
+        plain: false,
+    };
+    let given = understood(&rt, rt.alloc(), VERIFY);
+    same(&rt, given, Command::Verify(wanted));
+}
+
+const REPORT: &[&str] = &[
+    "rxbatch",
+    "report",
+    "--sheet=s",
+    "--books=b",
+    "--batch=c",
+    "--family=F1",
+    "--html",
+];
+
+#[test]
+fn a_report_has_one_portion_and_one_form(rt: HostRuntime) {
+    let wanted = ReportWords {
+        inputs: INPUTS,
+        portion: Portion::Family("F1"),
+        form: Form::Html,
+    };
+    let given = understood(&rt, rt.alloc(), REPORT);
+    same(&rt, given, Command::Report(wanted));
+}
+
+const PLAN: &[&str] = &["rxbatch", "plan", "--batch=c", "--books=b", "--sheet=s"];
+
+const SHOW: &[&str] = &["rxbatch", "show", "--sheet=s", "--batch=c", "--tsv"];
+
+const REPLIES: &[&str] = &["rxbatch", "replies", "--response", "e"];
+
+#[test]
+fn the_others_have_their_files(rt: HostRuntime) {
+    let shown = ShowWords {
+        sheet: "s",
+        batch: "c",
+        tsv: true,
+    };
+    let given = understood(&rt, rt.alloc(), PLAN);
+    same(&rt, given, Command::Plan(INPUTS));
+    let given = understood(&rt, rt.alloc(), SHOW);
+    same(&rt, given, Command::Show(shown));
+    let given = understood(&rt, rt.alloc(), REPLIES);
+    same(&rt, given, Command::Replies("e"));
+    let given = understood(&rt, rt.alloc(), &["rxbatch", "sample"]);
+    same(&rt, given, Command::Sample);
+}
+
+fn owned(alloc: Global, words: &[&str]) -> Option<Vec<String>> {
+    let mut all = Vec::new(alloc);
+    for word in words {
+        all.push(String::from_str(alloc, word).ok()?).ok()?;
+    }
+    Some(all)
+}
+
+#[test]
+fn owned_words_are_read(rt: HostRuntime) {
+    let words = owned(rt.alloc(), &["rxbatch", "sample"]).expect(&rt, "memory");
+    let given = command(rt.alloc(), words.as_slice());
+    same(&rt, given.ok().expect(&rt, "a command"), Command::Sample);
+}

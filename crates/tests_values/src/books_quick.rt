@@ -1,0 +1,106 @@
+// What no clause says: that good texts are read, whatever the cuts.
+use rx_books_scan::{Lists, read_lists, read_lists_cut, read_lists_in_parts};
+use rx_books_text::read_printed;
+use rx_ledger::Row;
+use std::alloc::Global;
+use std::process::Abort;
+use std::thread::Threads;
+
+// Two families, and a claim of each.
+const BOOKS: &[u8] = b"BOOKS|3|20260101|20261231\n\
+M|C100|01|20260101|20261231|10000\n\
+M|C100|02|20260101|20261231|0\n\
+M|C200|01|20260101|20261231|0\n\
+C|1234567893|123|20260228|C100|01|00002000202|30000|30|30000|175|10000|3000|0|000004200000011\n\
+C|1234567893|124|20260301|C200|01|00002000202|30000|30|30000|175|10000|3000|0|000004200000021\n\
+T|C100|13000|10000\n\
+T|C200|13000|10000\n";
+
+// The claims in one list.
+fn rows(rt: &impl Abort, alloc: Global, lists: &Lists) -> Vec<Row> {
+    let mut rows = Vec::new(alloc);
+    for run in lists.rows.runs() {
+        rows.extend_from_slice(run).expect(rt, "memory");
+    }
+    rows
+}
+
+// Whether the lists are those that the exact reader finds.
+fn are_exact(rt: &impl Abort, alloc: Global, text: &[u8], lists: &Lists) -> bool {
+    let printed = read_printed(alloc, text).expect(rt, "books");
+    lists.head == printed.head()
+        && lists.members.as_slice() == printed.ledger().members()
+        && lists.deductibles.as_slice() == printed.deductibles()
+        && rows(rt, alloc, lists).as_slice() == printed.ledger().rows()
+        && lists.totals.as_slice() == printed.totals()
+}
+
+// The lists are there, and those that the exact reader finds.
+fn is_exact(rt: &impl Abort, alloc: Global, text: &[u8], lists: Option<Lists>) {
+    let lists = lists.expect(rt, "lists");
+    assert!(rt; are_exact(rt, alloc, text, &lists));
+}
+
+// The text is read in parts, cut at these places, as the exact reader reads it.
+fn is_read<R: Threads + Sync + Abort>(rt: &R, alloc: Global, places: &[usize], text: &[u8]) {
+    is_exact(rt, alloc, text, read_lists_cut(rt, alloc, places, text));
+}
+
+// The text is left to the exact reader, whole or cut at a place.
+fn is_left<R: Threads + Sync + Abort>(rt: &R, alloc: Global, text: &[u8]) {
+    assert!(rt; read_lists(alloc, text).is_none());
+    assert!(rt; read_lists_cut(rt, alloc, &[5], text).is_none());
+}
+
+#[test]
+fn reads_in_one_part(rt: HostRuntime) {
+    is_exact(&rt, rt.alloc(), BOOKS, read_lists(rt.alloc(), BOOKS));
+    is_exact(
+        &rt,
+        rt.alloc(),
+        BOOKS,
+        read_lists_in_parts(&rt, rt.alloc(), 3, BOOKS),
+    );
+}
+
+#[test]
+fn reads_alike_at_every_cut(rt: HostRuntime) {
+    for place in 0..BOOKS.len() {
+        is_read(&rt, rt.alloc(), &[place], BOOKS);
+        is_read(&rt, rt.alloc(), &[place / 2, place], BOOKS);
+    }
+}
+
+#[test]
+fn reads_books_without_a_kind(rt: HostRuntime) {
+    let head = b"BOOKS|3|20260101|20261231\n".as_slice();
+    is_exact(&rt, rt.alloc(), head, read_lists(rt.alloc(), head));
+    let member =
+        b"BOOKS|3|20260101|20261231\nM|C100|01|20260101|20261231|0\nT|C100|0|0\n".as_slice();
+    is_read(&rt, rt.alloc(), &[30], member);
+}
+
+#[test]
+fn reads_older_versions(rt: HostRuntime) {
+    let text = b"BOOKS|1|20260101|20261231\nM|C100|01|20260101|20261231|0\n\
+C|1234567893|90|20251230|C100|01|00002000202|30000|30|30000|175|10000|3000|000003100000051\n\
+T|C100|5\n"
+        .as_slice();
+    is_exact(&rt, rt.alloc(), text, read_lists(rt.alloc(), text));
+}
+
+#[test]
+fn gives_up_on_what_is_no_file(rt: HostRuntime) {
+    is_left(&rt, rt.alloc(), &BOOKS[..BOOKS.len() - 1]);
+    is_left(&rt, rt.alloc(), b"");
+    is_left(
+        &rt,
+        rt.alloc(),
+        b"BOOKS|3|20260101|20261231\nT|C200|0|0\nT|C100|0|0\n",
+    );
+    is_left(
+        &rt,
+        rt.alloc(),
+        b"BOOKS|3|20260101|20261231\nT|C100|0|0\nM|C100|01|20260101|20261231|0\n",
+    );
+}
