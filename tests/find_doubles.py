@@ -1,25 +1,17 @@
 #!/usr/bin/env python3
 """Finds code and definitions that stand twice: six or more lines that are equal, names aside.
 
-    python3 tests/find_doubles.py [FOLDER] [--least N] [--most N] [--crate NAME]
+    python3 tests/find_doubles.py [FOLDER] [--least N] [--allowed N] [--crate NAME]
 
-Read are crates/*/src and crates/*/specs below FOLDER. Lines are equal, names aside, where one becomes the other by giving
-each name, number and text another one throughout; keywords stay. What the language or the formatter asks for is no line:
+Read are crates/*/src and crates/*/specs below FOLDER, tests aside. Lines are equal, names aside, where one becomes the other
+by giving each name, number and text another one throughout; keywords stay. Only these are no lines:
 
-- Blank lines, comments, imports, attributes and lines of brackets alone are passed over. So are an `impl`'s rows
-  `ghost NAME = { .. };`, which a trait asks for and which name the type's own definitions, and the heads of an equality
-  and of a `From`, which are the trait's for every type, with the equality's clause; what they do stays. So is a word of
-  `specs/` that only passes one of the same name on, as `Gives result meant = outcome.Gives wants_memory result meant`,
-  with its type: it is an import.
-- What a type holds and lends is said by names alone, and no line: the declaration of a `struct` or an `enum`, the head of an
-  `impl`, and a getter, which is a function whose body is `self.NAME` or the slice of it.
-- What the formatter broke is one line: the parameters of a head, the arguments of a call, the fields of a literal, a
-  `let .. else` that returns. How long the names are doesn't make a double. So is a text that goes over several lines.
-- Lines of one form that follow each other are a table, as the arms of a `match` of codes, a list of fields or the
-  equations of a number: they count as one line. Six lines of fewer than four forms are a table too, and no double.
+- blank lines, comments, imports, attributes, and lines of brackets only;
+- the further lines of a table: lines of one form that follow each other, as a list of fields or the arms of a `match` of
+  codes, count as one.
 
-One line is printed for each double, the longest first: how many lines, and the places. The last line counts them; the
-exit status is 1 where there are any. --least asks for longer ones, --crate for those that touch a crate.
+One row is printed for each double, the longest first: how many lines, and all places where they stand. The last line counts
+the rows; the exit status is 1 where there are more than --allowed. --crate shows only those that touch a crate.
 """
 
 import argparse
@@ -32,107 +24,12 @@ TOKEN = re.compile(r'b?"(?:\\.|[^"\\])*"|b?\'(?:\\.|[^\'\\])\'|[^\W\d][\w\'-]*|\
 WORD = re.compile(r"[^\W\d]")
 NUMBER_OR_TEXT = re.compile(r"\d|b?[\"']")
 IMPORT = re.compile(r"(pub(\(\w+\))? )?(ghost )?(use|mod)\b|#!?\[")
-GHOST_ROW = re.compile(r"ghost [\w-]+ = \{")
-TRAIT = re.compile(r"impl(<.*>)? (Eq|PartialEq|From<.*>) for |fn (eq\(&self, |from\()"
-                   r"|ensures \{ IsTrue result ↔ \(self\.now ≡ other\.now\) \}$")
-# the first row of a type's declaration, an impl's head, a function's head, and what a getter lends
-DECLARED = re.compile(r"(pub(\(\w+\))? )?(struct|enum) .*\{$")
-IMPL = re.compile(r"impl\b.*\{$")
-FUNCTION = re.compile(r"(pub(\(\w+\))? )?fn ")
-LENT = re.compile(r"self\.\w+(\.as_slice\(\))?$")
-PASSED_ON = re.compile(r"([\w-]+)( [^=]*)? = [\w-]+\.\1 ")
-# a line that opens a literal, and one of its fields
-LITERAL = re.compile(r"(?!.*\b(fn|impl|struct|enum|trait|match|if|for|while|loop|else|unsafe)\b)(?!.*=> \{$).*\w \{$")
-FIELD = re.compile(r"(\w+(: [^{}]*)?|\.\.[^{}]*),?$")
+COMMENT = {".rt": re.compile(r"//.*$"), ".antt": re.compile(r"-- .*$|--$")}
 KEYWORDS = set("""
     abbrev as break const continue data elim else ensures enum fn for ghost if impl in invariant let loop match mod move mut
     open pub record ref requires return self Self struct then trait type unfoldable unfolding use where while
     bool char false i64 str true u128 u16 u32 u64 u8 usize Bool Err List None Ok Option Result Some Type Vec
 """.split())
-FORMS = 4
-
-
-def texts_of(path):
-    """The lines of a file without comments, each as (its number, how far in it stands, its text)."""
-    comment = re.compile(r"//.*$" if path.suffix == ".rt" else r"-- .*$|--$")
-    texts = [comment.sub("", line).rstrip() for line in path.read_text().splitlines()]
-    return [(number, len(text) - len(text.lstrip()), text.strip()) for number, text in enumerate(texts, 1)]
-
-
-def joined(texts, at):
-    """How many lines the formatter broke the one at this place into, and their text."""
-    _, indent, text = texts[at]
-    if text.endswith("\\"):
-        many, rest = joined(texts, at + 1)
-        return 1 + many, text + rest
-    if text.startswith("let ") and text.endswith(" else {") and texts[at + 2][2] == "};":
-        return 3, f"{text} {texts[at + 1][2]} }};"
-    is_broken = (lambda inner: not re.search(r"[{};]$", inner)) if text.endswith("(") else FIELD.match
-    if not (text.endswith("(") or LITERAL.match(text)):
-        return 1, text
-    for end in range(at + 1, len(texts)):
-        _, inner_indent, inner = texts[end]
-        if inner and inner_indent <= indent:
-            return end + 1 - at, " ".join(line for _, _, line in texts[at:end + 1])
-        if inner and not is_broken(inner):
-            break
-    return 1, text
-
-
-def rows_of(path):
-    """The lines of a file as they were before the formatter broke them, each as (its number, its text)."""
-    texts, at = texts_of(path), 0
-    while at < len(texts):
-        many, text = joined(texts, at) if path.suffix == ".rt" else (1, texts[at][2])
-        yield texts[at][0], text
-        at += many
-
-
-def ends_of(rows, at, text):
-    """The place behind the next row that is this text."""
-    return next((end + 1 for end in range(at, len(rows)) if rows[end][1] == text), len(rows))
-
-
-def told_rows(path):
-    """The rows of a file without what a type holds and lends."""
-    rows, at = list(rows_of(path)), 0
-    while at < len(rows):
-        text = rows[at][1]
-        if DECLARED.match(text):
-            at = ends_of(rows, at, "}")
-            continue
-        body = ends_of(rows, at, "{") if FUNCTION.match(text) and not text.endswith("{") else len(rows)
-        if body + 1 < len(rows) and LENT.match(rows[body][1]) and rows[body + 1][1] == "}":
-            at = body + 2
-            continue
-        if not IMPL.match(text):
-            yield rows[at]
-        at += 1
-
-
-def lines_of(path):
-    """The lines of a file that count, each as (its number, its tokens)."""
-    found, in_import, form = [], False, ""
-    for number, text in told_rows(path) if path.suffix == ".rt" else rows_of(path):
-        if in_import or IMPORT.match(text):
-            in_import = "{" in text and "}" not in text or in_import and "}" not in text
-            continue
-        if GHOST_ROW.match(text) or TRAIT.match(text):
-            continue
-        if path.suffix == ".antt" and (word := PASSED_ON.match(text)):
-            if found and found[-1][1][:3] == ["abbrev", "pub", word[1]]:
-                found.pop()
-            form = ""
-            continue
-        tokens = TOKEN.findall(text)
-        if not any(WORD.match(token) or NUMBER_OR_TEXT.match(token) for token in tokens):
-            continue
-        if found and form_of(tokens) == form:
-            found[-1][1].extend(tokens)
-        else:
-            found.append((number, tokens))
-        form = form_of(tokens)
-    return found
 
 
 def is_name(token):
@@ -147,74 +44,103 @@ def form_of(tokens):
 def shape_of(lines):
     """Lines with each name given a number, by where it stands first."""
     numbers = {}
-    return "\n".join(" ".join(str(numbers.setdefault(token, len(numbers))) if is_name(token) else token for token in tokens)
-                     for _, tokens in lines)
+    rows = [[str(numbers.setdefault(token, len(numbers))) if is_name(token) else token for token in tokens] for _, tokens in lines]
+    return "\n".join(map(" ".join, rows))
 
 
-def windows_of(files, least):
-    """For each shape of `least` lines the places, as (file, index of the first line); tables are left out."""
+def lines_of(path):
+    """The lines of a file that count, each as (its number, its tokens)."""
+    found, in_import, form = [], False, ""
+    for number, text in enumerate(path.read_text().splitlines(), 1):
+        text = COMMENT[path.suffix].sub("", text).strip()
+        if in_import or IMPORT.match(text):
+            in_import = "}" not in text and (in_import or "{" in text)
+            continue
+        tokens = TOKEN.findall(text)
+        if not any(WORD.match(token) or NUMBER_OR_TEXT.match(token) for token in tokens):
+            continue
+        if found and form_of(tokens) == form:
+            found[-1][1].extend(tokens)
+        else:
+            found.append((number, tokens))
+        form = form_of(tokens)
+    return found
+
+
+def is_read(path):
+    """Whether a file has code or definitions, and no tests."""
+    return not any(part.startswith("tests") for part in path.parts)
+
+
+def places_of(files, least):
+    """For each shape of `least` lines the places where it begins, as (file, index of the first line)."""
     places = collections.defaultdict(list)
     for file, lines in files.items():
         for at in range(len(lines) - least + 1):
-            window = lines[at:at + least]
-            if len({form_of(tokens) for _, tokens in window}) >= FORMS:
-                places[shape_of(window)].append((file, at))
+            places[shape_of(lines[at:at + least])].append((file, at))
     return places
 
 
-def pairs_of(places, least):
-    """The pairs of places, the earlier first, at which equal windows begin that don't overlap."""
-    pairs = set()
-    for found in places.values():
-        found = sorted(found)
-        for at, one in enumerate(found):
-            pairs.update((one, other) for other in found[at + 1:] if one[0] != other[0] or other[1] - one[1] >= least)
-    return pairs
+def apart(places, least):
+    """Those places that don't overlap the one before, in order."""
+    found = []
+    for file, at in sorted(places):
+        if not found or found[-1][0] != file or at - found[-1][1] >= least:
+            found.append((file, at))
+    return found
 
 
-def runs_of(files, places, least):
-    """The doubles, each as long as it can be: {(file, index, how many lines): the other places}."""
-    pairs, runs = pairs_of(places, least), collections.defaultdict(set)
-    done = set()
-    for (file, at), (other, there) in sorted(pairs):
-        if ((file, at), (other, there)) in done:
-            continue
-        lines, room = least, there - at if file == other else len(files[file])
-        while (lines < room and ((file, at + lines - least + 1), (other, there + lines - least + 1)) in pairs
-               and shape_of(files[file][at:at + lines + 1]) == shape_of(files[other][there:there + lines + 1])):
-            lines += 1
-        done.update(((file, at + step), (other, there + step)) for step in range(lines))
-        runs[file, at, lines].add((other, there))
+def doubles_of(files, least):
+    """The doubles, each as {file: the indexes of its lines}: shapes whose places overlap are one."""
+    shapes = [found for found in (apart(it, least) for it in places_of(files, least).values()) if len(found) > 1]
+    owner, doubles = {}, {}
+    for number, found in enumerate(shapes):
+        lines = {(file, at + step) for file, at in found for step in range(least)}
+        for other in {owner[line] for line in lines if line in owner}:
+            lines |= doubles.pop(other)
+        doubles[number] = lines
+        owner.update((line, number) for line in lines)
+    for lines in doubles.values():
+        at = collections.defaultdict(list)
+        for file, index in sorted(lines):
+            at[file].append(index)
+        yield at
+
+
+def runs_of(indexes):
+    """Ascending indexes as runs without a gap."""
+    runs = []
+    for index in indexes:
+        if runs and index == runs[-1][1] + 1:
+            runs[-1][1] = index
+        else:
+            runs.append([index, index])
     return runs
 
 
-def told(root, files, file, at, lines):
-    numbers = [number for number, _ in files[file][at:at + lines]]
-    return f"{file.relative_to(root)}:{numbers[0]}-{numbers[-1]}"
+def row_of(root, files, double):
+    """How many lines the longest place of a double has, and what is printed of it."""
+    places = [(file, first, last) for file, indexes in double.items() for first, last in runs_of(indexes)]
+    most = max(last - first + 1 for _, first, last in places)
+    names = [f"{file.relative_to(root)}:{files[file][first][0]}-{files[file][last][0]}" for file, first, last in places]
+    return most, f"{most:4} lines  " + " = ".join(names)
 
 
 def main():
     words = argparse.ArgumentParser(description=__doc__.splitlines()[0])
-    words.add_argument("folder", nargs="?", default=pathlib.Path(__file__).parent.parent)
+    words.add_argument("folder", nargs="?", default=pathlib.Path(__file__).parent.parent, type=pathlib.Path)
     words.add_argument("--least", type=int, default=6)
-    words.add_argument("--most", type=int)
+    words.add_argument("--allowed", type=int, default=0)
     words.add_argument("--crate")
-    asked = words.parse_args()
-    root = pathlib.Path(asked.folder)
-    paths = sorted(root.glob("crates/*/src/**/*.rt")) + sorted(root.glob("crates/*/specs/**/*.antt"))
-    files = {path: lines_of(path) for path in paths}
-    runs = runs_of(files, windows_of(files, asked.least), asked.least)
-    rows, seen = [], set()
-    for (file, at, lines), others in sorted(runs.items(), key=lambda run: (-run[0][2], run[0])):
-        places = [told(root, files, *place, lines) for place in [(file, at)] + sorted(others)]
-        if seen.issuperset(places) or (asked.crate and not any(asked.crate in place.split("/") for place in places)):
-            continue
-        seen.update(places)
-        rows.append(f"{lines:4} lines  " + " = ".join(places))
-    for row in rows[:asked.most]:
-        print(row)
-    print(f"{len(rows)} doubles of {asked.least} lines or more in {len(files)} files")
-    return 1 if rows else 0
+    given = words.parse_args()
+    paths = [*given.folder.glob("crates/*/src/**/*.rt"), *given.folder.glob("crates/*/specs/**/*.antt")]
+    files = {path: lines_of(path) for path in sorted(paths) if is_read(path.relative_to(given.folder))}
+    rows = sorted((row_of(given.folder, files, it) for it in doubles_of(files, given.least)), key=lambda row: (-row[0], row[1]))
+    for _, row in rows:
+        if not given.crate or f"crates/{given.crate}/" in row:
+            print(row)
+    print(f"{len(rows)} doubles of {given.least} lines or more in {len(files)} files, {given.allowed} allowed")
+    return 1 if len(rows) > given.allowed else 0
 
 
 if __name__ == "__main__":
