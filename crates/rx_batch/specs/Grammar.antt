@@ -11,6 +11,7 @@ use Rattle.rx_batch.specs.declared.front.Front.{Front}
 use Rattle.rx_batch.specs.declared.front.Stage.{Stage}
 use Rattle.rx_batch.specs.declared.front.Stage.TheVariants.{Start, Headed, Whole}
 use Rattle.rx_batch.specs.declared.head.Head.{Head}
+use Rattle.rx_batch.specs.declared.layout.TheConstants.{ETX, STX}
 use Rattle.rx_batch.specs.declared.trailer.Trailer.{Trailer}
 use Rattle.rx_text.specs.Bytes.{is_line_end}
 use Rattle.rx_text.specs.Results.{◌>>=◌}
@@ -22,7 +23,7 @@ is_skipped = is_line_end
 
 -- STX and ETX, which no record holds inside
 abbrev pub is_mark : ℕ → Bool
-is_mark b = b == 2 || b == 3
+is_mark b = b == STX || b == ETX
 
 -- what may stand between a record's STX and ETX
 abbrev pub IsInside : List ℕ → Type 0
@@ -30,7 +31,7 @@ IsInside body = All (λ b. is_mark b ≡ false) body
 
 -- a record of these bytes
 abbrev pub record_text : List ℕ → List ℕ
-record_text body = 2 ∷ (body ++ 3 ∷ [])
+record_text body = STX ∷ (body ++ ETX ∷ [])
 
 -- a front that is longer by some bytes
 abbrev pub past : ℕ → Front → Front

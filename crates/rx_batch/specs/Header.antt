@@ -13,6 +13,7 @@ use Rattle.rx_batch.specs.declared.head.Kind.{Kind}
 use Rattle.rx_batch.specs.declared.head.Kind.TheVariants.{Transmission, Response}
 use Rattle.rx_batch.specs.declared.head.FileType.{FileType}
 use Rattle.rx_batch.specs.declared.head.FileType.TheVariants.{Production, Test}
+use Rattle.rx_batch.specs.declared.layout.TheConstants.{BATCH_NUMBER_AT, CREATION_DATE_AT, CREATION_TIME_AT}
 use Rattle.rx_batch.specs.declared.trailer.Trailer.{Trailer}
 
 -- T for requests, R for replies
@@ -44,8 +45,8 @@ lot_in number created = do
 abbrev pub head_of : List ℕ → Option Head
 head_of body =
     if length body == 73 && slice_index body 2 == 84 && is_kind (codes "12") (slice_range body 47 49) then (do
-      lot ← lot_in (slice_range body 27 34) (slice_range body 34 42)
-      time ← time_of (slice_range body 42 46)
+      lot ← lot_in (slice_range body BATCH_NUMBER_AT CREATION_DATE_AT) (slice_range body CREATION_DATE_AT CREATION_TIME_AT)
+      time ← time_of (slice_range body CREATION_TIME_AT 46)
       file ← file_of (slice_index body 46)
       Some (record {
         kind = Transmission;

@@ -2,6 +2,7 @@
 use Rattle.std.specs.Prelude.{◌≡◌, ℕ, false, List, [], ◌∷◌, ◌++◌, Option, Some, None, Result, Ok, Err, MatchOption}
 use Rattle.rx_batch.specs.declared.fault.BatchFault.{BatchFault}
 use Rattle.rx_batch.specs.declared.front.Front.{Front}
+use Rattle.rx_batch.specs.declared.layout.TheConstants.{STX}
 use Rattle.rx_batch.specs.declared.reader.Reader.{Reader}
 use Rattle.rx_batch.specs.Fault.{UnlessMemory}
 use Rattle.rx_batch.specs.Grammar.{IsFront, IsInside}
@@ -10,7 +11,7 @@ use Rattle.rx_batch.specs.Reading.{is_whole, batch_of}
 -- the bytes of a record without its ETX, or nothing
 abbrev pub begun_text : Option (List ℕ) → List ℕ
 begun_text None = []
-begun_text (Some body) = 2 ∷ body
+begun_text (Some body) = STX ∷ body
 
 -- no second STX stands in a record that was begun, and no record is begun after the trailer
 abbrev pub CanBegin : Front → Option (List ℕ) → Type 0

@@ -8,6 +8,7 @@ use Rattle.rx_batch.specs.declared.front.Front.{Front}
 use Rattle.rx_batch.specs.declared.front.Stage.{Stage}
 use Rattle.rx_batch.specs.declared.front.Stage.TheVariants.{Start, Headed, Whole}
 use Rattle.rx_batch.specs.declared.head.Head.{Head}
+use Rattle.rx_batch.specs.declared.layout.TheConstants.{ETX, STX}
 use Rattle.rx_text.specs.Results.{◌>>=◌}
 use Rattle.rx_batch.specs.Grammar.{is_skipped, IsInside, IsFront, past, record_of, no_front}
 
@@ -32,13 +33,13 @@ stray f = if is_whole f.stage then fault.AfterTrailer f.length else fault.Outsid
 
 -- the byte begins a record: STX, where no trailer was read
 abbrev pub begins : Front → ℕ → Bool
-begins f b = if is_whole f.stage then false else b == 2
+begins f b = if is_whole f.stage then false else b == STX
 
 -- what stands before an ETX, without CR and LF in front
 abbrev pub closed : Front → List ℕ → Result Front BatchFault
 closed f [] = Err (stray f)
 closed f (b ∷ body) =
-    if begins f b then (if list_any (λ x. x == 2) body then Err (fault.Unclosed f.length) else record_of f body)
+    if begins f b then (if list_any (λ x. x == STX) body then Err (fault.Unclosed f.length) else record_of f body)
     else Err (stray f)
 
 -- what stands after the last ETX, without CR and LF in front
@@ -53,11 +54,11 @@ pub data FaultAfter (f : Front) : List ℕ → BatchFault → Type 0 where
   no_record : (b : ℕ) (rest : List ℕ)
       → is_skipped b ≡ false → begins f b ≡ false → FaultAfter f (b ∷ rest) (stray f)
   no_end : (body : List ℕ)
-      → is_whole f.stage ≡ false → IsInside body → FaultAfter f (2 ∷ body) (fault.Unclosed f.length)
+      → is_whole f.stage ≡ false → IsInside body → FaultAfter f (STX ∷ body) (fault.Unclosed f.length)
   second_start : (body rest : List ℕ)
-      → is_whole f.stage ≡ false → IsInside body → FaultAfter f (2 ∷ (body ++ 2 ∷ rest)) (fault.Unclosed f.length)
+      → is_whole f.stage ≡ false → IsInside body → FaultAfter f (STX ∷ (body ++ STX ∷ rest)) (fault.Unclosed f.length)
   bad_record : (body rest : List ℕ) (e : BatchFault)
-      → is_whole f.stage ≡ false → IsInside body → record_of f body ≡ Err e → FaultAfter f (2 ∷ (body ++ 3 ∷ rest)) e
+      → is_whole f.stage ≡ false → IsInside body → record_of f body ≡ Err e → FaultAfter f (STX ∷ (body ++ ETX ∷ rest)) e
 
 -- the bytes are no file, and have this fault
 pub record HasFault (bytes : List ℕ) (e : BatchFault) : Type 0 where
@@ -85,7 +86,7 @@ batch_after f (piece ∷ next ∷ pieces) = do
 
 -- what follows a good front
 abbrev pub batch_from : Front → List ℕ → Result Batch BatchFault
-batch_from f bytes = batch_after f (slice_split (λ b. b == 3) bytes)
+batch_from f bytes = batch_after f (slice_split (λ b. b == ETX) bytes)
 
 -- the batch of a text, or its first fault
 abbrev pub batch_of : List ℕ → Result Batch BatchFault

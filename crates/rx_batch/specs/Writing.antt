@@ -6,6 +6,7 @@ use Rattle.rx_fields.specs.Calendar.{date_text}
 use Rattle.rx_fields.specs.Clock.{time_of, time_text}
 use Rattle.rx_batch.specs.declared.detail.Detail.{Detail}
 use Rattle.rx_batch.specs.declared.head.Head.{Head}
+use Rattle.rx_batch.specs.declared.layout.TheConstants.{STX}
 use Rattle.rx_batch.specs.declared.head.Kind.TheVariants.{Transmission}
 use Rattle.rx_batch.specs.Grammar.{IsInside, record_text}
 use Rattle.rx_batch.specs.Header.{byte_of_kind, byte_of_file, lot_in}
@@ -18,6 +19,10 @@ lot_text head =
 -- a header's fields in order
 abbrev pub header_text : Head → List ℕ
 header_text head = codes "00" ++ (byte_of_kind head.kind ∷ (head.sender ++ (lot_text head ++ head.receiver)))
+
+-- what stands before a detail's text: STX, `G1`, the reference
+abbrev pub detail_front : List ℕ → List ℕ
+detail_front reference = STX ∷ (codes "G1" ++ reference)
 
 -- a detail's fields in order
 abbrev pub detail_text : Detail → List ℕ

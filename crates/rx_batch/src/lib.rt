@@ -17,6 +17,7 @@ mod fault;
 mod front;
 mod head;
 mod law;
+mod layout;
 mod pieces;
 mod reader;
 mod reading;
@@ -29,6 +30,9 @@ pub use detail::{Detail, Details, Text};
 pub use fault::BatchFault;
 pub use head::{FileType, Head, Kind};
 pub use law::one_reading;
+pub use layout::{
+    BATCH_NUMBER_AT, CREATION_DATE_AT, CREATION_TIME_AT, ETX, HEADER_LENGTH, STX, TRAILER_LENGTH,
+};
 pub use pieces::Pieces;
 pub use reading::read_batch;
-pub use writing::{put_detail, put_header, put_trailer, write_batch};
+pub use writing::{begin_detail, put_header, put_trailer, write_batch};

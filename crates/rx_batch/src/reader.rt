@@ -8,13 +8,10 @@ use crate::batch::Batch;
 use crate::detail::Text;
 use crate::fault::BatchFault;
 use crate::front::Front;
+use crate::layout::{ETX, STX};
 use memchr::memchr2;
 use rx_text::line_ends;
 use std::alloc::Global;
-
-pub(crate) const STX: u8 = 2;
-
-pub(crate) const ETX: u8 = 3;
 
 /// A good front of a text, and the bytes after the STX of a record that was begun.
 #[derive(Debug, Drop)]

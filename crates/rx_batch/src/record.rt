@@ -6,6 +6,7 @@ ghost use Rattle.rx_batch.specs.Header.{head_of, lot_in};
 use crate::detail::{Detail, Text};
 use crate::fault::BatchFault;
 use crate::head::{FileType, Head, Kind};
+use crate::layout::{BATCH_NUMBER_AT, CREATION_DATE_AT, CREATION_TIME_AT};
 use crate::trailer::Trailer;
 use rx_fields::{Lot, MOST_DETAILS, Time, date_read, number_read};
 use std::alloc::Global;
@@ -27,8 +28,10 @@ fn head_of(body: &[u8]) -> Option<Head>
     if body.len() != 73 || body[2] != b'T' || !body[47..49].starts_with(b"12") {
         return None;
     }
-    let lot = lot(&body[27..34], &body[34..42])?;
-    let time = Time::new(&body[42..46])?;
+    let number = &body[BATCH_NUMBER_AT..CREATION_DATE_AT];
+    let created = &body[CREATION_DATE_AT..CREATION_TIME_AT];
+    let lot = lot(number, created)?;
+    let time = Time::new(&body[CREATION_TIME_AT..46])?;
     let file = FileType::of(body[46])?;
     Some(Head {
         kind: Kind::Transmission,

@@ -45,7 +45,8 @@ pub use fault::{FieldFault, IdFault};
 pub use id::{Id, trimmed};
 pub use key::Key;
 pub use limits::{
-    MOST_AUTHORIZATION, MOST_CENTS, MOST_DETAILS, MOST_QUANTITY, MOST_REFERENCE, NUMBERS_OF_A_BATCH,
+    MOST_AUTHORIZATION, MOST_CENTS, MOST_DETAILS, MOST_LINES, MOST_QUANTITY, MOST_REFERENCE,
+    MOST_WORKERS, NUMBERS_OF_A_BATCH,
 };
 pub use lot::Lot;
 pub use memory::Memory;

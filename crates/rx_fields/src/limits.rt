@@ -15,3 +15,9 @@ pub const NUMBERS_OF_A_BATCH: u64 = 100_000_000;
 
 /// How many details a batch file may have.
 pub const MOST_DETAILS: usize = 100_000;
+
+/// How many lines a books file may have (docs/FORMATS.md, "Books file").
+pub const MOST_LINES: usize = 1_000_000;
+
+/// How many workers a run may have.
+pub const MOST_WORKERS: u16 = 64;
