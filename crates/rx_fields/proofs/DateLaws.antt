@@ -1,18 +1,15 @@
 -- The days of the calendar, and those that the library of dates makes.
 use Rattle.std.proofs.Common.{◌≡◌, ℕ, ◌+◌, ◌^◌, ◌<◌, ◌≤◌, Bool, true, false, ◌&&◌, ltb, leb}
 use Rattle.std.proofs.Common.{List, length, take, drop, length-take, length-drop}
-use Rattle.std.proofs.Common.{Ok, Err, ℤ, pos, ◌≤ℤ◌, sym, ap, ◌∙◌, refl, arith, w8, w16}
+use Rattle.std.proofs.Common.{Ok, Err, pos, ◌≤ℤ◌, sym, ap, ◌∙◌, refl, arith, w8, w16}
 use Rattle.std.specs.Prelude.{slice_range}
-use Rattle.std.proofs.lemmas.Bool.{and_from, and_parts, lt-ltb, le-leb, ltb-true, leb-true}
-use Rattle.std.proofs.lemmas.Bool.Decides.{nat_tests}
+use Rattle.std.proofs.lemmas.Bool.{and_from, and_parts, lt-ltb, le-leb, leb-true}
 use Rattle.std.proofs.lemmas.Int.{ints, to_z_pos}
 use mir.Val.{to_z}
-use Rattle.jiff_core.specs.Calendar.{IsDate, days_from_civil, days_in_month}
-use Rattle.jiff_core.specs.Date.{IsYmd, epoch_day}
-use Rattle.jiff_core.specs.declared.civil.date.Date.{Date}
+use Rattle.jiff_core.specs.Calendar.{IsDate, days_in_month}
 use Rattle.rx_text.specs.Bytes.{all_digits}
 use Rattle.rx_fields.specs.Digits.{number}
-use Rattle.rx_fields.specs.Calendar.{Civil, IsCivil, is_civil, civil_of, date_of, day_number}
+use Rattle.rx_fields.specs.Calendar.{Civil, IsCivil, is_civil, civil_of, date_of}
 use Rattle.rx_fields.specs.declared.fault.FieldFault.TheVariants.{NotDate}
 
 -- a year, a month and a day
@@ -36,7 +33,7 @@ civil_made y m d hy hm hd h =
     and_from _ _ (and_from _ _ month (le-leb 1 d (from_signed date.2.0)))
     (le-leb d (days_in_month (pos y) m) (from_signed date.2.1))
 
-all_five : (a b c d e : Bool) → (a && b && c && d && e) ≡ true
+pub all_five : (a b c d e : Bool) → (a && b && c && d && e) ≡ true
     → (a ≡ true) × (b ≡ true) × (c ≡ true) × (d ≡ true) × (e ≡ true)
 all_five a b c d e h =
     let four = and_parts (a && b && c && d) e h in
@@ -55,29 +52,6 @@ date_made y m d hy hm hd h =
       (to_signed is.1, to_signed is.2),
       (to_signed is.3, to_signed is.4),
     )
-
-month_most : (y : ℤ) (m : ℕ) → days_in_month y m ≤ 31
-month_most y m = grind (arith, nat_tests)
-
--- the numbers of a day of the calendar are small
-pub civil_below : (y m d : ℕ) → IsCivil (parts y m d) → (y < 10000) × (m < 100) × (d < 100)
-civil_below y m d h =
-    let is = all_five (ltb y 10000) (leb 1 m) (leb m 12) (leb 1 d) (leb d (days_in_month (pos y) m)) h in
-    let month = leb-true m 12 is.2 in
-    let day = leb-true d (days_in_month (pos y) m) is.4 in
-    let most = month_most (pos y) m in
-    (ltb-true y 10000 is.0, omega arith, omega arith)
-
--- the library numbers the days as the calendar does
-pub number_is : (y m d : ℕ) (date : Date) → y < 10000 → m < 100 → d < 100 → IsYmd (to_z w16 y) (to_z w8 m) (to_z w8 d) date
-    → epoch_day date ≡ day_number (parts y m d)
-number_is y m d date hy hm hd is =
-    let year = is.0 ∙ to_z_pos w16 y (omega arith) in
-    let in_month = is.1 ∙ to_z_pos w8 m (omega arith) in
-    let in_day = is.2 ∙ to_z_pos w8 d (omega arith) in
-    let month : date.month ≡ m = cc in
-    let day : date.day ≡ d = cc in
-    (λ j. days_from_civil (year j) (month j) (day j))
 
 -- a number of n digits is below their power of ten
 pub part_below : (bs : List ℕ) (from n v : ℕ) → from + n ≤ length bs → v < 10 ^ length (take n (drop from bs)) → v < 10 ^ n

@@ -2,6 +2,7 @@
 pub mod AmountLaws
 pub mod DateFaults
 pub mod DateLaws
+pub mod DayNumbers
 pub mod DigitLaws
 pub mod IdLaws
 pub mod OrderLaws

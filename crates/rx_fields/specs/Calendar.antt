@@ -29,6 +29,10 @@ IsCivil c = is_civil c ≡ true
 abbrev pub day_number : Civil → ℤ
 day_number c = days_from_civil (pos c.year) c.month c.day
 
+-- the last day: 9999-12-31
+abbrev pub last_day : Civil
+last_day = record { year = 9999; month = 12; day = 31 }
+
 -- the parts of eight digits CCYYMMDD
 abbrev pub civil_of : List ℕ → Civil
 civil_of bs =

@@ -25,9 +25,10 @@ impl Model for Day {
     ghost inverse = { λ c. record { year = c.year; month = c.month; day = c.day } };
 }
 
-ghost use Rattle.std.specs.Prelude.{Ok};
+ghost use Rattle.std.specs.Prelude.{◌↔◌, ◌+ℤ◌, ◌<ℤ◌, ◌≤ℤ◌, pos, IfSome, IsNone, Ok};
 ghost use Rattle.jiff_core.specs.Calendar.{IsEpochDay};
-ghost use Rattle.rx_fields.specs.Calendar.{IsCivil, day_number, date_of, date_text};
+ghost use Rattle.jiff_core.specs.Date.{epoch_day};
+ghost use Rattle.rx_fields.specs.Calendar.{IsCivil, day_number, date_of, date_text, last_day};
 
 impl Day {
     /// The year, 0 to 9999.
@@ -56,8 +57,35 @@ impl Day {
         ensures value { result ≡ day_number self.now }
         ensures within { IsEpochDay result }
     {
+        self.date().to_unix_epoch_day()
+    }
+
+    /// The day that is a number of days later; None where that is after the last day of the calendar, 9999-12-31.
+    pub fn plus(&self, days: u64) -> Option<Day>
+        ensures value { IfSome result (λ day. day_number day ≡ day_number self.now +ℤ pos days) }
+        ensures none { IsNone result ↔ (day_number last_day <ℤ (day_number self.now +ℤ pos days)) }
+    {
+        let date = self.date();
+        let Ok(days) = i64::try_from(days) else {
+            return None;
+        };
+        match date.checked_add(days) {
+            Ok(later) => Some(Day {
+                year: later.year as u16,
+                month: later.month,
+                day: later.day,
+            }),
+            Err(_) => None,
+        }
+    }
+
+    // The day as the library of dates has it.
+    fn date(&self) -> Date
+        ensures number { epoch_day result ≡ day_number self.now }
+        ensures year { pos 0 ≤ℤ result.year }
+    {
         match Date::new(self.year as i16, self.month as i8, self.day as i8) {
-            Ok(date) => date.to_unix_epoch_day(),
+            Ok(date) => date,
             Err(_) => unreachable!(),
         }
     }
