@@ -1,4 +1,5 @@
 -- Plumbing: which files there are.
 pub mod Calls
+pub mod Files
 pub mod Reading
 pub mod Writing

@@ -1,4 +1,4 @@
-//! Devices that a run is lent: sources that bytes are read from, sinks that bytes are written to.
+//! The six files of a run, and the devices that it is lent: sources that bytes are read from, sinks that bytes are written to.
 //!
 //! In comes a device; out come all the bytes that it had left, at once or piece by piece to a consumer, or a text is
 //! written to its end. No failed call is taken for the end, and an endless input is refused. What an input may have is
@@ -9,11 +9,19 @@
 //! rx_io::write_all(&mut WriterSink::new(copy), text.as_slice())?;
 //! ```
 //!
-//! Which file is which, and what its bytes mean, is left to the crates above.
+//! `Inputs` and `Outputs` hold something of each file, and `Device` tells which file it is (`specs/Files.antt`).
+//!
+//! ```rust
+//! let texts = paths.try_map(|device, path| text_of(path, device))?;
+//! ```
+//!
+//! What the bytes of a file mean is left to the crates above.
 #![tactic(auto)]
 
 mod consumer;
+mod device;
 mod fault;
+mod files;
 mod memory;
 mod reading;
 mod sink;
@@ -21,7 +29,9 @@ mod source;
 mod wrapped;
 
 pub use consumer::Consumer;
+pub use device::Device;
 pub use fault::{Failed, ReadFault};
+pub use files::{Inputs, Outputs};
 pub use memory::{SliceSource, VecSink};
 pub use reading::{read_all, read_each};
 pub use sink::{Sink, write_all, write_pieces};
