@@ -5,6 +5,7 @@ pub mod Families
 pub mod FewItems
 pub mod Held
 pub mod Locality
+pub mod OneLedger
 pub mod Owned
 pub mod Parts
 pub mod Same

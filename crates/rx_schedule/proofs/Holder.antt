@@ -132,7 +132,7 @@ fold_more lot plan place (suc i) (t ∷ records) L h =
 
 module _ (lot : LotParts) (plan : Plan) (L : Ledger) (records : List Transmission) where
   -- the ledger before the next place is that after the record at this one
-  next_ledger : (i : ℕ) → 1 ≤ i → i ≤ length records
+  pub next_ledger : (i : ℕ) → 1 ≤ i → i ≤ length records
       → ledger_before lot plan L records (suc i)
       ≡ ledger_after lot plan i (record_at records i) (ledger_before lot plan L records i)
   next_ledger i one to =

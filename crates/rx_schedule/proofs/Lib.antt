@@ -1,4 +1,7 @@
+pub mod Chosen
+pub mod Closed
 pub mod Followed
+pub mod Grouped
 pub mod Holder
 pub mod InOrder
 pub mod Linked
@@ -7,14 +10,17 @@ pub mod Longest
 pub mod MarkedNames
 pub mod Noted
 pub mod Ors
+pub mod PartLedger
 pub mod Released
 pub mod Replayed
 pub mod Running
 pub mod Scanned
+pub mod Sharded
 pub mod Shared
 pub mod Shares
 pub mod Spread
 pub mod Standing
 pub mod Times
+pub mod Together
 pub mod WaveByWave
 pub mod Weighed

@@ -6,6 +6,7 @@ pub mod Links
 pub mod Machine
 pub mod Marked
 pub mod Queues
+pub mod Shards
 pub mod Shares
 pub mod Used
 pub mod Waves

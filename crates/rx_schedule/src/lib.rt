@@ -33,7 +33,7 @@ mod wave_plan;
 
 pub use batch_weight::weight;
 pub use event::Event;
-pub use law::{law_of_holder, law_of_standing, law_of_waves};
+pub use law::{law_of_holder, law_of_shards, law_of_standing, law_of_waves};
 pub use naming::footprints;
 pub use queues::Queues;
 pub use wave_numbers::Waves;
