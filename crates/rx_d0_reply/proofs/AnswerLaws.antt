@@ -31,7 +31,8 @@ use Rattle.rx_d0_reply.specs.Reading.{codes_at, paid_claim_at, approved_at, refu
 use Rattle.rx_text.proofs.Steps.{bind_some, guarded, some_same, chain}
 use Rattle.rx_d0_reply.proofs.Laws.{after_takes, after_again, Reads, Always}
 use Rattle.rx_d0_reply.proofs.Laws.{labelled-reads, pair-reads, made-reads, shaped-reads, times-reads}
-use Rattle.rx_d0_reply.proofs.FieldLaws.{bytes-reads, number-reads, paid-reads, reversed-reads, code_is, code_again}
+use Rattle.rx_fields.proofs.CodeLaws.{code_again}
+use Rattle.rx_d0_reply.proofs.FieldLaws.{bytes-reads, number-reads, paid-reads, reversed-reads, code_is}
 
 -- nothing, or the next group
 abbrev pub Ends : List ℕ → Type 0

@@ -1,5 +1,6 @@
 -- Laws of the definitions in `specs/`.
 pub mod AmountLaws
+pub mod CodeLaws
 pub mod DateFaults
 pub mod DateLaws
 pub mod DayNumbers
