@@ -5,7 +5,6 @@ use Rattle.std.specs.List.{find, list_any}
 use Rattle.std.specs.Ordering.{is_gt, is_lt}
 use Rattle.std.proofs.lemmas.Bool.{cases_Bool}
 use Rattle.rx_d0_values.specs.declared.bill.BillParts.{BillParts}
-use Rattle.rx_d0_values.specs.declared.reply.Answer.{Answer}
 use Rattle.rx_d0_values.specs.declared.reply.Answer.TheVariants.{Paid}
 use Rattle.rx_d0_values.specs.declared.transaction.Reversal.{Reversal}
 use Rattle.rx_d0_values.specs.declared.transaction.Transaction.{Transaction}
@@ -22,7 +21,6 @@ use Rattle.rx_ledger.specs.Ledger.{Ledger, members_of, row_under, rows_of}
 use Rattle.rx_ledger.specs.Members.{of_family, person_in}
 use Rattle.rx_ledger.specs.Plan.{drug_of}
 use Rattle.rx_ledger.proofs.Found.{any_passes}
-use Rattle.rx_explain.specs.declared.case.Case.{Case}
 use Rattle.rx_explain.specs.declared.case.Case.TheVariants as case
 use Rattle.rx_explain.specs.declared.case.Payment.{Payment}
 use Rattle.rx_explain.specs.Cases.{answer_by, answer_to, case_after, case_bill, case_covered, case_member, case_new, case_of, case_person}

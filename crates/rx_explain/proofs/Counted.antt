@@ -1,20 +1,16 @@
 -- One more row, of those of a family that count in a period.
-use Rattle.std.specs.Prelude.{◌&&◌, IfOk, IfSome, Result, Ok, Err, Vec}
-use Rattle.std.proofs.Common.{◌≡◌, ℕ, ◌+◌, ◌<◌, ◌++◌, Bool, true, false, List, [], ◌∷◌, Option}
-use Rattle.std.proofs.Common.{Some, None, length, take, get_or, refl, sym, ap, ◌∙◌, inl, inr}
+use Rattle.std.specs.Prelude.{◌&&◌, IfOk, Result, Ok, Err, Vec}
+use Rattle.std.proofs.Common.{◌≡◌, ℕ, ◌+◌, ◌<◌, ◌++◌, Bool, true, false, List, [], ◌∷◌}
+use Rattle.std.proofs.Common.{length, take, get_or, refl, sym, ap, ◌∙◌, inl, inr}
 use Rattle.std.specs.List.{filter, list_any}
 use Rattle.std.proofs.lemmas.Bool.{cases_Bool}
 use Rattle.std.proofs.lemmas.List.{append-nil, take_more}
 use Rattle.std.proofs.lemmas.List.Elements.{filter-append}
 use Rattle.rx_d0_values.specs.declared.bill.BillParts.{BillParts}
-use Rattle.rx_fields.specs.Calendar.{Civil}
 use Rattle.rx_fields.specs.Numbered.{Span}
-use Rattle.rx_ledger.specs.declared.figures.Figures.{Figures}
 use Rattle.rx_ledger.specs.declared.row.Row.{Row}
-use Rattle.rx_ledger.specs.Answers.{is_too_soon}
 use Rattle.rx_ledger.specs.Ledger.{Ledger, rows_of}
 use Rattle.rx_ledger.specs.Rows.{claimed_by}
-use Rattle.rx_explain.specs.Opens.{is_early_fill}
 use Rattle.rx_explain.specs.Shown.{counts_in, is_counted}
 
 module _ {X : Type 0} (p : X → Bool) (xs : List X) (i : ℕ) (x : X) (within : i < length xs) (is : x ≡ get_or xs i x) where
@@ -61,13 +57,6 @@ module _ (L : Ledger) (rows : List Row) (family : List ℕ) (has : filter (claim
       ≡ filter (λ r. claimed_by family r && q r) L.rows
   kept_among q =
       filter_both (claimed_by family) q rows ∙ ap (filter q) has ∙ sym (filter_both (claimed_by family) q L.rows)
-
-pub none_among : (L : Ledger) (rows : List Row) (f : Figures) (b : BillParts)
-    → filter (claimed_by b.family) rows ≡ rows_of L b.family → (o : Option Civil)
-    → IfSome o (λ d. list_any (is_early_fill f d b) rows ≡ false)
-    → IfSome o (λ d. list_any (is_early_fill f d b) L.rows ≡ false)
-none_among L rows f b has None none = tt
-none_among L rows f b has (Some d) none = sym (any_among L rows b.family has (is_too_soon f d b)) ∙ none
 
 pub counted_among : {E Z : Type 0} (L : Ledger) (rows : List Row) (period : Span) (b : BillParts)
     → filter (claimed_by b.family) rows ≡ rows_of L b.family → (found : Result (Vec Row Z) E)

@@ -1,11 +1,9 @@
 -- The reply at a place of the fold, the answer at a place of a record, and sums of the rows that are counted.
-use Rattle.std.specs.Prelude.{if◌then◌else◌, slice_get}
-use Rattle.std.proofs.Common.{◌≡◌, ℕ, zero, suc, ◌+◌, Bool, List, [], ◌∷◌, Option, Some, None}
+use Rattle.std.specs.Prelude.{slice_get}
+use Rattle.std.proofs.Common.{◌≡◌, ℕ, zero, suc, ◌+◌, List, [], ◌∷◌, Some, None}
 use Rattle.std.proofs.Common.{take, refl, sym, ap, ◌∙◌, inl, inr, add-zero, arith}
 use Rattle.std.specs.List.{filter, fold, sum_by}
 use Rattle.std.proofs.lemmas.Bool.{cases_Bool}
-use Rattle.rx_d0_values.specs.declared.reply.Answer.{Answer}
-use Rattle.rx_d0_values.specs.declared.reply.Reply.{Reply}
 use Rattle.rx_d0_values.specs.declared.transaction.Transaction.{Transaction}
 use Rattle.rx_d0_values.specs.declared.transmission.Heard.{Heard as HeardRecord}
 use Rattle.rx_d0_values.specs.declared.transmission.Transmission.{Transmission}

@@ -3,6 +3,7 @@ pub mod Answered
 pub mod Counted
 pub mod Laws
 pub mod Nexts
+pub mod Opened
 pub mod Parted
 pub mod Retraced
 pub mod Sources

@@ -1,5 +1,5 @@
 -- One more event, to the last payment before a transaction and to the first taking back after it; and rows that are found.
-use Rattle.std.specs.Prelude.{if◌then◌else◌, ◌&&◌}
+use Rattle.std.specs.Prelude.{◌&&◌}
 use Rattle.std.proofs.Common.{◌≡◌, ℕ, ◌+◌, ◌<◌, ◌++◌, Bool, true, false, List, [], ◌∷◌, Some, reverse, drop}
 use Rattle.std.proofs.Common.{drop-cons, take, get_or, length, add-one, refl, sym, ap, ◌∙◌, inl, inr}
 use Rattle.std.specs.List.{filter, find}

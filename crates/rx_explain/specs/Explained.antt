@@ -18,7 +18,7 @@ use Rattle.rx_explain.specs.Spots.{Spot}
 use Rattle.rx_explain.specs.Traces.{events_of, traced}
 
 -- place, pharmacy, date and number; the case on the ledger and its answer; the rows that mattered, each with its source
--- and its end among these events; and a date from which on it isn't too soon
+-- and its end among these events; and the first date, from its own on, on which it isn't too soon
 pub record IsOnLedger (lot : LotParts) (plan : Plan) (L : Ledger) (events : List Event) (at : At) (s : Spot) (x : Explanation)
     : Type 0 where
   pub at_is : x.at ≡ at
@@ -29,7 +29,7 @@ pub record IsOnLedger (lot : LotParts) (plan : Plan) (L : Ledger) (events : List
   pub case_is : x.case ≡ case_of (asked lot plan at.place s.heard at.nth) L s.transaction
   pub answer_is : x.answer ≡ answer (asked lot plan at.place s.heard at.nth) L s.transaction
   pub standing_is : x.standing ≡ option_map (traced events at) (row_in x.case)
-  pub open_from_is : IsOpenFrom plan.figures L s.transaction x.open_from
+  pub open_from_is : IsOpenFrom plan.figures s.heard.date L s.transaction x.case x.open_from
   pub counted_are : x.counted.items ≡ map (traced events at) (counted_for plan.figures.period L s.transaction x.case)
 
 module _ (lot : LotParts) (plan : Plan) (ts : List Transmission) (opening : Ledger) where

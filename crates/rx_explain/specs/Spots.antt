@@ -1,5 +1,5 @@
 -- Meaning: the transaction at a place of a batch.
-use Rattle.std.specs.Prelude.{ℕ, ◌-◌, nat_lt, if◌then◌else◌, List, Option, Some, None, slice_get, option_and_then}
+use Rattle.std.specs.Prelude.{ℕ, ◌-◌, nat_lt, if◌then◌else◌, List, Option, None, slice_get, option_and_then}
 use Rattle.std.specs.Option.{option_map}
 use Rattle.rx_d0_values.specs.declared.transaction.Transaction.{Transaction}
 use Rattle.rx_d0_values.specs.declared.transmission.Body.{Body}

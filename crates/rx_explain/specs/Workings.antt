@@ -1,5 +1,5 @@
 -- Meaning: the steps from a billing to its amounts.
-use Rattle.std.specs.Prelude.{ℕ, ◌+◌, ◌-◌, ◌*◌, ◌/◌, Option, min, unwrap_or}
+use Rattle.std.specs.Prelude.{ℕ, ◌+◌, ◌-◌, ◌*◌, ◌/◌, min, unwrap_or}
 use Rattle.std.specs.Option.{option_map}
 use Rattle.rx_d0_values.specs.Billed.{cap}
 use Rattle.rx_d0_values.specs.declared.bill.BillParts.{BillParts}

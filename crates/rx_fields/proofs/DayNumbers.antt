@@ -7,7 +7,8 @@ use Rattle.std.proofs.lemmas.Int.{by_lt_z, to_z-of_z}
 use Rattle.jiff_core.specs.Calendar.{IsCivilDate, IsEpochDay, days_in_month}
 use Rattle.jiff_core.specs.Date.{epoch_day}
 use Rattle.jiff_core.specs.declared.civil.date.Date.{Date}
-use Rattle.jiff_core.proofs.SignedLemmas.{fits_between, signed_arith}
+use Rattle.jiff_core.proofs.SignedLemmas.{fits_between}
+pub use Rattle.jiff_core.proofs.SignedLemmas.{signed_arith}
 use Rattle.jiff_core.proofs.CalendarLemmas.{days_from_civil-day_count, day_count_bounds, day_count-lt_year}
 use Rattle.jiff_core.proofs.DateLemmas.{civil, days_from_civil-max, epoch_day_range, epoch_day_injective}
 use Rattle.rx_fields.specs.Calendar.{Civil, IsCivil, day_number, last_day}

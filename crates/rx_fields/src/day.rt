@@ -64,6 +64,7 @@ impl Day {
     pub fn plus(&self, days: u64) -> Option<Day>
         ensures value { IfSome result (λ day. day_number day ≡ day_number self.now +ℤ pos days) }
         ensures none { IsNone result ↔ (day_number last_day <ℤ (day_number self.now +ℤ pos days)) }
+        ensures civil { IsCivil self.now }
     {
         let date = self.date();
         let Ok(days) = i64::try_from(days) else {
@@ -83,6 +84,7 @@ impl Day {
     fn date(&self) -> Date
         ensures number { epoch_day result ≡ day_number self.now }
         ensures year { pos 0 ≤ℤ result.year }
+        ensures civil { IsCivil self.now }
     {
         match Date::new(self.year as i16, self.month as i8, self.day as i8) {
             Ok(date) => date,

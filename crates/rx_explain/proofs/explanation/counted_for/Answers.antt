@@ -1,5 +1,4 @@
 -- The rows of the family that count are those of the ledger.
-use Rattle.std.proofs.Common.{◌∙◌}
 use Rattle.rx_explain.proofs.Counted.{counted_among}
 use Rattle.rx_explain.proofs.explanation.counted_for.Goals as goal
 

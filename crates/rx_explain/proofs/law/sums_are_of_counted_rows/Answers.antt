@@ -1,4 +1,4 @@
-use Rattle.std.proofs.Common.{ℕ, List, sym, ap, ◌∙◌}
+use Rattle.std.proofs.Common.{List, sym, ap, ◌∙◌}
 use Rattle.std.specs.List.{filter, sum_by}
 use Rattle.rx_ledger.specs.Ledger.{rows_of}
 use Rattle.rx_ledger.specs.Members.{is_same}

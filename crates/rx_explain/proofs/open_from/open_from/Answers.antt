@@ -1,12 +1,10 @@
--- An early fill is among the rows exactly where one is in the ledger.
-use Rattle.std.proofs.Common.{◌≡◌, sym, ◌∙◌, false}
-use Rattle.std.specs.List.{list_any}
-use Rattle.rx_ledger.specs.Answers.{is_too_soon}
-use Rattle.rx_explain.proofs.Counted.{none_among}
+-- The date among the family's rows is that among the ledger's.
+use Rattle.rx_explain.proofs.Opened.{first_among}
 use Rattle.rx_explain.proofs.open_from.open_from.Goals as goal
 
 pub returns-in-Bill-TooSoon : goal.returns-in-Bill-TooSoon
 returns-in-Bill-TooSoon c L has =
     let b = c.in-Bill-TooSoon.bill in
-    rw c.in-Bill-TooSoon.is-0 (none_among L c.args.rows.now c.args.figures.now b (rw c.in-Bill-TooSoon.is-0 at has) c.first_open.result
-    c.first_open.ensures)
+    let family = rw c.in-Bill-TooSoon.is-0 at has in
+    rw (c.in-Bill-TooSoon.is-0, c.in-Bill-TooSoon.is-1)
+    (first_among L c.args.rows.now c.args.figures.now b c.args.date family c.first_open.result c.first_open.ensures)

@@ -1,5 +1,5 @@
 -- Only where claims come from and what becomes of them is looked up anew.
-use Rattle.std.proofs.Common.{◌≡◌, ◌∙◌, refl, ap, map}
+use Rattle.std.proofs.Common.{◌∙◌, refl, ap, map}
 use Rattle.rx_explain.specs.Shown.{counted_for}
 use Rattle.rx_explain.specs.Traces.{traced}
 use Rattle.rx_explain.proofs.Retraced.{traced_again}
