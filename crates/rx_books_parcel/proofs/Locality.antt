@@ -1,16 +1,15 @@
 -- A record on the books of a footprint that fits it gives what it gives on the whole ledger, and changes no other book.
-use Rattle.std.proofs.Common.{◌≡◌, ℕ, ◌+◌, ◌&&◌, List, [], ◌∷◌, true, false, Option, Some, None, refl, sym, ap, subst, ◌∙◌, inl, inr}
-use Rattle.std.specs.List.{filter, list_all}
+use Rattle.std.proofs.Common.{◌≡◌, ℕ, ◌+◌, ◌&&◌, List, [], ◌∷◌, true, false, Option, Some, None, length, refl, sym, ap, subst, ◌∙◌, inl, inr}
+use Rattle.std.specs.Prelude.{nat_lt}
+use Rattle.std.specs.List.{filter, list_all, list_any}
 use Rattle.std.specs.Ordering.{is_eq}
 use Rattle.std.proofs.lemmas.Bool.{and_from, and_parts, both_ways, cases_Bool}
 use Rattle.rx_fields.specs.Numbered.{LotParts}
 use Rattle.rx_fields.specs.Order.{id_cmp, key_cmp}
 use Rattle.rx_fields.specs.declared.key.Key.{Key}
-use Rattle.rx_d0_values.specs.declared.bill.BillParts.{BillParts}
 use Rattle.rx_d0_values.specs.declared.reply.Answer.{Answer}
 use Rattle.rx_d0_values.specs.declared.reply.Answer.TheVariants.{Paid, Twice, Approved, Refused}
 use Rattle.rx_d0_values.specs.declared.reply.Outcome.TheVariants as outcome
-use Rattle.rx_d0_values.specs.declared.reply.Paid.{Paid as PaidParts}
 use Rattle.rx_d0_values.specs.declared.transaction.Transaction.{Transaction}
 use Rattle.rx_d0_values.specs.declared.transaction.Transaction.TheVariants.{Bill, Reverse, Faulty}
 use Rattle.rx_d0_values.specs.declared.transmission.Body.{Body}
@@ -23,47 +22,24 @@ use Rattle.rx_sorted.proofs.FilteredPuts.{filter-put, filter-put_free, filter-wi
 use Rattle.rx_sorted.proofs.Keys.{Equal-from_is_eq}
 use Rattle.rx_sorted.proofs.Kept.{IsAscending-put, IsAscending-without}
 use Rattle.rx_sorted.proofs.LookUps.{item_at-found, item_at-put, item_at-without}
-use Rattle.rx_ledger.specs.declared.member.Member.{Member}
 use Rattle.rx_ledger.specs.declared.row.Row.{Row}
-use Rattle.rx_ledger.specs.Answers.{Asked, after, answer, answer_bill, answer_member, answer_person}
-use Rattle.rx_ledger.specs.Answers.{answer_reversal, is_same_claim, key_of, paid_row}
+use Rattle.rx_ledger.specs.Answers.{after, answer, paid_row}
+use Rattle.rx_ledger.specs.Decisions.{Asked, key_of}
 use Rattle.rx_ledger.specs.Fold.{answers_from, asked, ledger_after, ledger_from, ledger_of_body, outcome_of, reply_to}
-use Rattle.rx_ledger.specs.Ledger.{Ledger, members_of, row_under, rows_of}
-use Rattle.rx_ledger.specs.Members.{person_in}
+use Rattle.rx_ledger.specs.Ledger.{Ledger, row_under}
+use Rattle.rx_ledger.specs.Members.{of_family}
 use Rattle.rx_ledger.specs.Named.{key_in}
 use Rattle.rx_ledger.specs.Plan.{Plan}
 use Rattle.rx_ledger.specs.Rows.{row_key}
+use Rattle.rx_ledger.proofs.Found.{any_passes}
 use Rattle.rx_ledger.proofs.Orders.{id_exact, key_exact, key_total}
+use Rattle.rx_ledger.proofs.PaidShape.{paid_new}
 use Rattle.rx_ledger.proofs.Passed.{passed_weaker}
 use Rattle.rx_books_parcel.specs.Books.{Book, IsInOrder, OfFamily, OfKey, book, has_row}
 use Rattle.rx_books_parcel.specs.Footprints.{FootprintParts, cut, fits, fits_body, fits_one, names, names_holder, sub}
 use Rattle.rx_books_parcel.proofs.Parts.{book_part, cut_part, keeps, key_kept, ledger_path, members_part, part, row_part, rows_part}
 
 -- ---- what a transaction needs to know
-
--- a billing is paid only where no row stands under its key
-member_free : (a : Asked) (b : BillParts) (m : Member) (rows : List Row) (r : Row) (p : PaidParts)
-    → answer_member a b m rows (Some r) ≡ Paid p → ⊥
-member_free a b m rows r p paid = elim (cases_Bool (is_same_claim b r)) [
-  | inl t ↦ let e = rw t at paid in cc
-  | inr f ↦ let e = rw f at paid in cc
-]
-
-person_free : (a : Asked) (b : BillParts) (m : Option Member) (rows : List Row) (r : Row) (p : PaidParts)
-    → answer_person a b m rows (Some r) ≡ Paid p → ⊥
-person_free a b None rows r p paid = cc
-person_free a b (Some m) rows r p paid = member_free a b m rows r p paid
-
-bill_free : (a : Asked) (b : BillParts) (members : List Member) (rows : List Row) (under : Option Row) (p : PaidParts)
-    → answer_bill a b members rows under ≡ Paid p → under ≡ None
-bill_free a b members rows None p paid = refl
-bill_free a b [] rows (Some r) p paid = cc
-bill_free a b (m ∷ ms) rows (Some r) p paid = absurd (person_free a b (person_in (m ∷ ms) b.person) rows r p paid)
-
-pub paid_free : (a : Asked) (L : Ledger) (b : BillParts) (p : PaidParts) → answer a L (Bill b) ≡ Paid p
-    → row_under L (key_of a b.reference) ≡ None
-paid_free a L b p paid =
-    bill_free a b (members_of L b.family) (rows_of L b.family) (row_under L (key_of a b.reference)) p paid
 
 -- a book that is not named has no row of a named key and family
 unnamed_row : (F : FootprintParts) (b : Book) (r : Row) → names F b ≡ false → names F (OfKey r.key) ≡ true
@@ -88,17 +64,26 @@ module _ (lot : LotParts) (plan : Plan) (place : ℕ) (h : HeardRecord) (nth : �
   abbrev a : Asked
   a = asked lot plan place h nth
 
+  -- the family has a member in its part where it has one
+  some_part : (L : Ledger) (family : List ℕ) → names F (OfFamily family) ≡ true
+      → list_any (of_family family) (part F L).members ≡ list_any (of_family family) L.members
+  some_part L family named =
+      any_passes (of_family family) (part F L).members
+      ∙ ap (λ ms. nat_lt 0 (length ms)) (members_part F family L named)
+      ∙ sym (any_passes (of_family family) L.members)
+
   answer_part : (L : Ledger) (t : Transaction) → fits_one F h L t ≡ true → answer a (part F L) t ≡ answer a L t
   answer_part L (Bill b) f =
       let named = and_parts _ _ f in
-      let members : members_of (part F L) b.family ≡ members_of L b.family = members_part F b.family L named.1 in
-      let rows : rows_of (part F L) b.family ≡ rows_of L b.family = rows_part F b.family L named.1 in
-      let under : row_under (part F L) (key_of a b.reference) ≡ row_under L (key_of a b.reference) =
-      row_part F (key_of a b.reference) L named.0 in
-      λ i. answer_bill a b (members i) (rows i) (under i)
+      rw (
+        some_part L b.family named.1,
+        members_part F b.family L named.1,
+        rows_part F b.family L named.1,
+        row_part F (key_of a b.reference) L named.0,
+      ) refl
   answer_part L (Reverse v) f =
       let named = and_parts _ _ f in
-      ap (answer_reversal a v) (row_part F (key_of a v.reference) L named.0)
+      rw (row_part F (key_of a v.reference) L named.0) refl
   answer_part L (Faulty x) f = refl
 
   after_part : (L : Ledger) (t : Transaction) (given : Answer) → IsInOrder L → fits_one F h L t ≡ true
@@ -127,7 +112,7 @@ module _ (lot : LotParts) (plan : Plan) (place : ℕ) (h : HeardRecord) (nth : �
       let r : Row = paid_row a b p.number p.pricing in
       ledger_path (book c (after a L (Bill b) (Paid p))) (book c L) refl
       (filter-put_free key_cmp key_total row_key (has_row c) L.rows r (unnamed_row F c r n named.0 named.1)
-      (paid_free a L b p is))
+      (paid_new a L b p is).free)
   after_outside L (Bill b) (Twice p) order f is c n = refl
   after_outside L (Bill b) (Approved p) order f is c n = refl
   after_outside L (Bill b) (Refused p) order f is c n = refl

@@ -34,7 +34,8 @@ use Rattle.rx_d0_values.specs.contracts.reply.RefusedPartialEq.TheImpl.{ghosts a
 use Rattle.rx_d0_values.specs.contracts.reply.AnswerPartialEq.TheImpl.{ghosts as answer_eq}
 use Rattle.rx_d0_values.specs.contracts.transmission.RejectedPartialEq.TheImpl.{ghosts as rejected}
 
-option_decides : {K : Type 0} {E : K → K → Bool} → ((x y : K) → Decides (E x y) (x ≡ y)) → (o p : Option K)
+-- of options, where it decides of what they hold
+pub option_decides : {K : Type 0} {E : K → K → Bool} → ((x y : K) → Decides (E x y) (x ≡ y)) → (o p : Option K)
     → Decides (option_eq E o p) (o ≡ p)
 option_decides decides None None = (λ e. refl, λ e. refl)
 option_decides decides None (Some y) = (λ e. cc, λ e. cc)

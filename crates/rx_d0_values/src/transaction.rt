@@ -1,4 +1,5 @@
 ghost use Rattle.std.specs.Prelude.{◌≡◌};
+ghost use Rattle.rx_d0_values.specs.Keys.{reference_of};
 
 use crate::bill::Bill;
 use crate::codes::Codes;
@@ -34,6 +35,19 @@ pub enum Transaction {
     Reverse(Reversal),
     /// A billing or a reversal with reject codes.
     Faulty(Faulty),
+}
+
+impl Transaction {
+    /// The prescription reference number (402-D2); None where it could not be read.
+    pub fn reference(&self) -> Option<Reference>
+        ensures { result ≡ reference_of self.now }
+    {
+        match self {
+            Transaction::Bill(bill) => Some(bill.parts().reference),
+            Transaction::Reverse(reversal) => Some(reversal.reference),
+            Transaction::Faulty(faulty) => faulty.reference,
+        }
+    }
 }
 
 /// The transactions of a transmission: 1 to 4, with no billing beside a reversal.

@@ -1,9 +1,10 @@
 ghost use Rattle.std.specs.Prelude.{◌≡◌, ◌↔◌, IfOk, IsTrue};
+ghost use Rattle.rx_d0_values.specs.Keys.{key_in};
 
 use crate::codes::Codes;
 use crate::echo::Echo;
 use crate::transaction::Transactions;
-use rx_fields::{Count, Day, Memory, Provider};
+use rx_fields::{Count, Day, Key, Memory, Provider, Reference};
 use std::alloc::Global;
 
 /// A header that could not be heard.
@@ -45,6 +46,17 @@ pub struct Transmission {
 }
 
 impl Heard {
+    /// The fill key of a prescription reference number.
+    pub fn key(&self, reference: Reference) -> Key
+        ensures { result ≡ key_in self.now reference }
+    {
+        Key {
+            provider: self.provider,
+            reference,
+            date: self.date,
+        }
+    }
+
     fn copy(&self, alloc: Global) -> Result<Heard, Memory>
         ensures { IfOk result (λ heard. heard ≡ self.now) }
     {

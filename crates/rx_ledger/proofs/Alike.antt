@@ -1,10 +1,7 @@
 -- A record is answered alike under two plans with the same figures that say the same of the products which it bills.
-use Rattle.std.proofs.Common.{◌≡◌, ℕ, ◌+◌, List, [], ◌∷◌, Option, Some, None, refl, ap, ◌∙◌}
-use Rattle.std.specs.Prelude.{not, ◌||◌, if◌then◌else◌}
-use Rattle.std.specs.Ordering.{is_lt, is_gt}
-use Rattle.rx_fields.specs.Calendar.{Civil, day_cmp}
-use Rattle.rx_fields.specs.Numbered.{LotParts, is_within}
-use Rattle.rx_fields.specs.declared.code.Code.TheVariants as code
+use Rattle.std.proofs.Common.{◌≡◌, ℕ, ◌+◌, List, [], ◌∷◌, refl, ap, ◌∙◌}
+use Rattle.rx_fields.specs.Calendar.{Civil}
+use Rattle.rx_fields.specs.Numbered.{LotParts}
 use Rattle.rx_d0_values.specs.declared.bill.BillParts.{BillParts}
 use Rattle.rx_d0_values.specs.declared.reply.Answer.{Answer}
 use Rattle.rx_d0_values.specs.declared.reply.Answer.TheVariants.{Paid, Twice, Approved, Refused}
@@ -15,16 +12,12 @@ use Rattle.rx_d0_values.specs.declared.transaction.Transaction.TheVariants.{Bill
 use Rattle.rx_d0_values.specs.declared.transmission.Body.{Body}
 use Rattle.rx_d0_values.specs.declared.transmission.Body.TheVariants.{Rejected, Heard}
 use Rattle.rx_d0_values.specs.declared.transmission.Heard.{Heard as HeardRecord}
-use Rattle.rx_ledger.specs.declared.drug.Drug.{Drug}
 use Rattle.rx_ledger.specs.declared.figures.Figures.{Figures}
-use Rattle.rx_ledger.specs.declared.member.Member.{Member}
-use Rattle.rx_ledger.specs.declared.row.Row.{Row}
 use Rattle.rx_ledger.specs.declared.sheet.Listed.{Listed}
-use Rattle.rx_ledger.specs.Answers.{Asked, answer, answer_bill, answer_covered, answer_member, answer_new, answer_person}
-use Rattle.rx_ledger.specs.Answers.{answer_reversal, after, after_bill, after_reversal, key_of, refused}
+use Rattle.rx_ledger.specs.Answers.{after, after_bill, after_reversal, answer, answer_by}
+use Rattle.rx_ledger.specs.Decisions.{Asked, billing}
 use Rattle.rx_ledger.specs.Fold.{answers_from, asked, authorization, ledger_from, ledger_of_body, outcome_of}
-use Rattle.rx_ledger.specs.Ledger.{Ledger, members_of, row_under, rows_of}
-use Rattle.rx_ledger.specs.Members.{person_in}
+use Rattle.rx_ledger.specs.Ledger.{Ledger}
 use Rattle.rx_ledger.specs.Places.{transactions_of}
 use Rattle.rx_ledger.specs.Plan.{Plan, drug_of}
 
@@ -53,52 +46,14 @@ module _
   abbrev other : Asked
   other = record { lot = lot; plan = plan_with figures es; provider = provider; date = date; number = number }
 
-  covered_alike : (b : BillParts) (rows : List Row) (said : Option Drug)
-      → answer_covered one b rows said ≡ answer_covered other b rows said
-  covered_alike b rows None = refl
-  covered_alike b rows (Some drug) = refl
-
-  new_alike : (b : BillParts) (m : Member) (rows : List Row)
-      → drug_of one.plan b.product ≡ drug_of other.plan b.product
-      → answer_new one b m rows ≡ answer_new other b m rows
-  new_alike b m rows same =
-      let last : answer_covered one b rows (drug_of one.plan b.product)
-      ≡ answer_covered other b rows (drug_of other.plan b.product) =
-      covered_alike b rows (drug_of one.plan b.product) ∙ ap (answer_covered other b rows) same in
-      ap (λ (a : Answer).
-      if is_lt (day_cmp date figures.period.first) then refused code.TooOld b.reference
-      else (if is_gt (day_cmp date lot.created) then refused code.PostDated b.reference
-      else (if not (is_within m.coverage date) || is_gt (day_cmp date figures.period.last)
-      then refused code.NotCovered b.reference
-      else a))) last
-
-  member_alike : (b : BillParts) (m : Member) (rows : List Row) (under : Option Row)
-      → drug_of one.plan b.product ≡ drug_of other.plan b.product
-      → answer_member one b m rows under ≡ answer_member other b m rows under
-  member_alike b m rows None same = new_alike b m rows same
-  member_alike b m rows (Some r) same = refl
-
-  person_alike : (b : BillParts) (m : Option Member) (rows : List Row) (under : Option Row)
-      → drug_of one.plan b.product ≡ drug_of other.plan b.product
-      → answer_person one b m rows under ≡ answer_person other b m rows under
-  person_alike b None rows under same = refl
-  person_alike b (Some m) rows under same = member_alike b m rows under same
-
-  bill_alike : (b : BillParts) (ms : List Member) (rows : List Row) (under : Option Row)
-      → drug_of one.plan b.product ≡ drug_of other.plan b.product
-      → answer_bill one b ms rows under ≡ answer_bill other b ms rows under
-  bill_alike b [] rows under same = refl
-  bill_alike b (m ∷ ms) rows under same = person_alike b (person_in (m ∷ ms) b.person) rows under same
-
-  reversal_alike : (v : Reversal) (under : Option Row) → answer_reversal one v under ≡ answer_reversal other v under
-  reversal_alike v None = refl
-  reversal_alike v (Some r) = refl
+  billing_alike : (b : BillParts) (L : Ledger) → drug_of one.plan b.product ≡ drug_of other.plan b.product
+      → billing one L b ≡ billing other L b
+  billing_alike b L same = rw same refl
 
   pub answer_alike : (L : Ledger) (t : Transaction) → SaysAlike one.plan other.plan t
       → answer one L t ≡ answer other L t
-  answer_alike L (Bill b) same =
-      bill_alike b (members_of L b.family) (rows_of L b.family) (row_under L (key_of one b.reference)) same
-  answer_alike L (Reverse v) same = reversal_alike v (row_under L (key_of one v.reference))
+  answer_alike L (Bill b) same = ap (answer_by number b.reference) (billing_alike b L same)
+  answer_alike L (Reverse v) same = refl
   answer_alike L (Faulty f) same = refl
 
   after_bill_alike : (L : Ledger) (b : BillParts) (given : Answer)

@@ -1,5 +1,5 @@
 -- A derived `==` answers true exactly where the two values are one.
-use Rattle.std.proofs.Common.{◌≡◌, Bool, true, ◌==◌, List, Option, Some, None, Decides, refl, sym, ap, ◌∙◌}
+use Rattle.std.proofs.Common.{◌≡◌, Bool, true, ◌==◌, List, Option, Decides, sym, ap, ◌∙◌}
 use Rattle.std.specs.Option.{option_eq}
 use Rattle.std.specs.Cmp.Lexicographic.{bytes_decides, pointwise, pointwise_decides}
 use Rattle.std.proofs.lemmas.Bool.Decides.{Decides-at, Decides-eqb, Decides-and, Decides-like}
@@ -12,7 +12,7 @@ use Rattle.rx_fields.specs.contracts.door.DoorPartialEq.TheImpl.{ghosts as door}
 use Rattle.rx_fields.specs.contracts.key.KeyPartialEq.TheImpl.{ghosts as key}
 use Rattle.rx_fields.specs.contracts.lot.LotPartialEq.TheImpl.{ghosts as lot}
 use Rattle.rx_fields.specs.contracts.period.PeriodPartialEq.TheImpl.{ghosts as period}
-use Rattle.rx_d0_values.proofs.Decided.{pricing_decides}
+use Rattle.rx_d0_values.proofs.Decided.{option_decides, pricing_decides}
 use Rattle.rx_ledger.specs.declared.drug.Drug.{Drug}
 use Rattle.rx_ledger.specs.declared.drug.Share.{Share}
 use Rattle.rx_ledger.specs.declared.drug.Share.TheVariants.{Copay, Percent}
@@ -29,13 +29,6 @@ use Rattle.rx_ledger.specs.contracts.member.MemberPartialEq.TheImpl.{ghosts as m
 use Rattle.rx_ledger.specs.contracts.member.MemberKeyPartialEq.TheImpl.{ghosts as member_key}
 use Rattle.rx_ledger.specs.contracts.row.RowPartialEq.TheImpl.{ghosts as row}
 use Rattle.rx_ledger.specs.contracts.sheet.ListedPartialEq.TheImpl.{ghosts as listed}
-
-option_decides : {K : Type 0} {E : K → K → Bool} → ((x y : K) → Decides (E x y) (x ≡ y)) → (o p : Option K)
-    → Decides (option_eq E o p) (o ≡ p)
-option_decides decides None None = (λ e. refl, λ e. refl)
-option_decides decides None (Some y) = (λ e. cc, λ e. cc)
-option_decides decides (Some x) None = (λ e. cc, λ e. cc)
-option_decides {K} {E} decides (Some x) (Some y) = Decides-like (E x y) (ap Some) (λ e. cc) (decides x y)
 
 -- ---- field values
 

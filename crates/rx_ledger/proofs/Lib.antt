@@ -1,4 +1,5 @@
 pub mod Alike
+pub mod DayTests
 pub mod Decided
 pub mod Found
 pub mod Held
@@ -12,7 +13,6 @@ pub mod Passed
 pub mod Placed
 pub mod Refusals
 pub mod SameText
-pub mod Steps
 pub mod Stepped
 pub mod Summed
 pub mod Within

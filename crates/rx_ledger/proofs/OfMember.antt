@@ -13,10 +13,11 @@ use Rattle.rx_d0_values.specs.declared.transaction.Transaction.TheVariants.{Bill
 use Rattle.rx_sorted.specs.Ascending.{contains_key, has_key}
 use Rattle.rx_ledger.specs.declared.member.Member.{Member}
 use Rattle.rx_ledger.specs.declared.member.MemberKey.{MemberKey}
-use Rattle.rx_ledger.specs.declared.row.Row.{Row}
-use Rattle.rx_ledger.specs.Answers.{Asked, answer, answer_bill, answer_member, answer_person, is_same_claim, key_of}
-use Rattle.rx_ledger.specs.Ledger.{Ledger, is_taken, members_of, row_under, rows_of}
+use Rattle.rx_ledger.specs.Answers.{answer}
+use Rattle.rx_ledger.specs.Decisions.{Asked, key_of}
+use Rattle.rx_ledger.specs.Ledger.{Ledger, is_taken, members_of}
 use Rattle.rx_ledger.specs.Members.{is_same, member_cmp, member_key, of_family, person_in}
+use Rattle.rx_ledger.proofs.PaidShape.{paid_new}
 
 -- two keys tie where their parts do
 tied-both : (p q : Ordering) → is_eq p ≡ true → is_eq q ≡ true → is_eq (ordering_then p q) ≡ true
@@ -44,17 +45,6 @@ listed_by-person (x ∷ xs) family person m found =
       ])
     ]
 
--- a billing that is paid is of a person among the family's members
-person-paid : (a : Asked) (b : BillParts) (found : Option Member) (rows : List Row) (under : Option Row) (p : PaidParts)
-    → answer_person a b found rows under ≡ Paid p → IsSome found
-person-paid a b None rows under p paid = cc
-person-paid a b (Some m) rows under p paid = refl
-
-bill-paid : (a : Asked) (b : BillParts) (members : List Member) (rows : List Row) (under : Option Row) (p : PaidParts)
-    → answer_bill a b members rows under ≡ Paid p → IsSome (person_in members b.person)
-bill-paid a b [] rows under p paid = cc
-bill-paid a b (x ∷ xs) rows under p paid = person-paid a b (person_in (x ∷ xs) b.person) rows under p paid
-
 listed-found : (L : Ledger) (family person : List ℕ) (found : Option Member)
     → person_in (members_of L family) person ≡ found
     → IsSome found → contains_key member_cmp member_key L.members (record { family = family; person = person }) ≡ true
@@ -64,30 +54,8 @@ listed-found L family person (Some m) e h = listed_by-person L.members family pe
 pub paid-listed : (a : Asked) (L : Ledger) (b : BillParts) (p : PaidParts) → answer a L (Bill b) ≡ Paid p
     → contains_key member_cmp member_key L.members (record { family = b.family; person = b.person }) ≡ true
 paid-listed a L b p paid =
-    let members = members_of L b.family in
-    listed-found L b.family b.person (person_in members b.person) refl
-    (bill-paid a b members (rows_of L b.family) (row_under L (key_of a b.reference)) p paid)
-
--- no row stands under the key of a billing that is paid
-member-free : (a : Asked) (b : BillParts) (m : Member) (rows : List Row) (under : Option Row) (p : PaidParts)
-    → answer_member a b m rows under ≡ Paid p → under ≡ None
-member-free a b m rows None p paid = refl
-member-free a b m rows (Some r) p paid = elim (cases_Bool (is_same_claim b r)) [
-  | inl same ↦ let e = rw same at paid in cc
-  | inr other ↦ let e = rw other at paid in cc
-]
-
-person-free : (a : Asked) (b : BillParts) (found : Option Member) (rows : List Row) (under : Option Row) (p : PaidParts)
-    → answer_person a b found rows under ≡ Paid p → under ≡ None
-person-free a b None rows under p paid = cc
-person-free a b (Some m) rows under p paid = member-free a b m rows under p paid
-
-bill-free : (a : Asked) (b : BillParts) (members : List Member) (rows : List Row) (under : Option Row) (p : PaidParts)
-    → answer_bill a b members rows under ≡ Paid p → under ≡ None
-bill-free a b [] rows under p paid = cc
-bill-free a b (x ∷ xs) rows under p paid = person-free a b (person_in (x ∷ xs) b.person) rows under p paid
+    listed-found L b.family b.person (person_in (members_of L b.family) b.person) refl (paid_new a L b p paid).person
 
 pub paid-free : (a : Asked) (L : Ledger) (b : BillParts) (p : PaidParts) → answer a L (Bill b) ≡ Paid p
     → is_taken L (key_of a b.reference) ≡ false
-paid-free a L b p paid =
-    ap is_some (bill-free a b (members_of L b.family) (rows_of L b.family) (row_under L (key_of a b.reference)) p paid)
+paid-free a L b p paid = ap is_some (paid_new a L b p paid).free

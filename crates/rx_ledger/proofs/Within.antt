@@ -31,7 +31,7 @@ use Rattle.rx_ledger.specs.declared.row.Row.{Row}
 use Rattle.rx_ledger.specs.declared.share.Used.{Used}
 use Rattle.rx_ledger.specs.Answers.{Asked, after, answer, key_of, paid_row, priced, used_by}
 use Rattle.rx_ledger.specs.Fold.{asked, fold_ledger, ledger_after, ledger_from, ledger_of_body}
-use Rattle.rx_ledger.specs.Ledger.{Ledger, rows_of, row_under}
+use Rattle.rx_ledger.specs.Ledger.{Ledger, rows_of}
 use Rattle.rx_ledger.specs.Members.{is_same}
 use Rattle.rx_ledger.specs.Plan.{Plan}
 use Rattle.rx_ledger.specs.Price.{Allowance, allowance}
@@ -146,7 +146,7 @@ module _ (lot : LotParts) (plan : Plan) (g : Row → ℕ) (limit : ℕ) (bounded
 
   -- a paid claim of the family, or of another
   after-paid : (a : Asked) → a.plan ≡ plan → (L : Ledger) (b : BillParts) (p : PaidParts) → Rises L
-      → IsPaidNew a b (rows_of L b.family) (row_under L (key_of a b.reference)) p
+      → IsPaidNew a L b p
       → sum_of (after a L (Bill b) (Paid p)) ≤ max limit (sum_of L)
   after-paid a same L b p rise new =
       let r : Row = paid_row a b p.number p.pricing in
@@ -156,10 +156,10 @@ module _ (lot : LotParts) (plan : Plan) (g : Row → ℕ) (limit : ℕ) (bounded
             let free = item_at-filter_none key_cmp key_total row_key (claimed_by family) L.rows r.key rise new.free in
             let put_in = filter-put key_cmp key_total row_key (claimed_by family) L.rows r own rise in
             let more = sum_by-put_free key_cmp key_total row_key counts (rows_of L family) r free in
-            let amounts : p.pricing ≡ priced plan.figures new.paid.drug b (rows_of L family) =
-            subst (λ f. p.pricing ≡ priced plan.figures new.paid.drug b (rows_of L f)) one
-            (subst (λ (q : Plan). p.pricing ≡ priced q.figures new.paid.drug b (rows_of L b.family)) same new.paid.amounts) in
-            let claim = bounded.claim new.paid.drug b r (rows_of L family) refl amounts in
+            let amounts : p.pricing ≡ priced plan.figures new.drug b (rows_of L family) =
+            subst (λ f. p.pricing ≡ priced plan.figures new.drug b (rows_of L f)) one
+            (subst (λ (q : Plan). p.pricing ≡ priced q.figures new.drug b (rows_of L b.family)) same new.amounts) in
+            let claim = bounded.claim new.drug b r (rows_of L family) refl amounts in
             rw put_in (omega (arith, more, claim, counted-most plan.figures.period g r))
         | inr other ↦
             let unseen = filter-put_free key_cmp key_total row_key (claimed_by family) L.rows r other new.free in

@@ -2,6 +2,7 @@
 pub mod Answers
 pub mod Basis
 pub mod Claims
+pub mod Decisions
 pub mod Fold
 pub mod Keys
 pub mod Ledger

@@ -1,5 +1,6 @@
 -- Plumbing: the fill keys that a batch names.
-use Rattle.std.specs.Prelude.{ℕ, Bool, false, List}
+pub use Rattle.rx_d0_values.specs.Keys.{key_in}
+use Rattle.std.specs.Prelude.{Bool, false, List}
 use Rattle.std.specs.List.{list_any}
 use Rattle.std.specs.Ordering.{is_eq}
 use Rattle.rx_fields.specs.Order.{key_cmp}
@@ -10,10 +11,6 @@ use Rattle.rx_d0_values.specs.declared.transmission.Body.{Body}
 use Rattle.rx_d0_values.specs.declared.transmission.Body.TheVariants.{Rejected, Heard}
 use Rattle.rx_d0_values.specs.declared.transmission.Heard.{Heard as HeardRecord}
 use Rattle.rx_d0_values.specs.declared.transmission.Transmission.{Transmission}
-
--- the fill key of a prescription reference number in a record
-abbrev pub key_in : HeardRecord → ℕ → Key
-key_in h reference = record { provider = h.provider; reference = reference; date = h.date }
 
 -- a transaction of the record is a billing or a reversal under the fill key
 abbrev pub names : HeardRecord → Key → Transaction → Bool

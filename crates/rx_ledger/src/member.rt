@@ -1,6 +1,8 @@
 ghost use Rattle.std.specs.Prelude.{◌≡◌};
+ghost use Rattle.rx_ledger.specs.Basis.{billed_member};
 ghost use Rattle.rx_ledger.specs.Members.{member_of};
 
+use rx_d0_values::Bill;
 use rx_fields::{Day, Id, Period, Person};
 use rx_sorted::Keyed;
 
@@ -11,6 +13,19 @@ pub struct MemberKey {
     pub family: Id,
     /// The person code.
     pub person: Person,
+}
+
+impl MemberKey {
+    /// The member whom a billing names.
+    pub fn of(bill: &Bill) -> MemberKey
+        ensures { result ≡ billed_member bill.now }
+    {
+        let parts = bill.parts();
+        MemberKey {
+            family: parts.family,
+            person: parts.person,
+        }
+    }
 }
 
 /// A person whom the plan covers.

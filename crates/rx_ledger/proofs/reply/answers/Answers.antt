@@ -2,6 +2,7 @@
 use Rattle.std.proofs.Common.{◌≡◌, ◌+◌, ◌<◌, ◌∙◌, length, length-append, ap, sym, subst, ◌++◌, ◌∷◌, [], get_or, arith, refl}
 use Rattle.rx_d0_values.specs.declared.transaction.Transaction.{Transaction}
 use Rattle.rx_ledger.specs.Answers.{after, answer}
+use Rattle.rx_ledger.specs.Decisions.{Asked}
 use Rattle.rx_ledger.specs.Basis.{Holds, Scope}
 use Rattle.rx_ledger.specs.Claims.{asked_on}
 use Rattle.rx_ledger.specs.Fold.{asked}
@@ -44,7 +45,8 @@ loop-at-preserved g c =
     subst (λ (u : Transaction). Holds scope (key_in h) now u) is (c.loop-at.invariant.held c.loop-at.at t within) in
     let next : then ≡ after a now t given =
     rw under at c.in_ok-adjudicate.ensures.after in
-    let answered : given ≡ answer a now t = rw under at c.in_ok-adjudicate.ensures.value in
+    let answered : given ≡ answer a now t =
+    c.in_ok-adjudicate.ensures.value ∙ ap (λ (q : Asked). answer q now t) under in
     let pushed : c.push.new.self.items ≡ c.loop-at.answers.items ++ given ∷ [] = c.in_ok-push.ensures.items in
     let longer : length c.push.new.self.items ≡ length c.loop-at.answers.items + 1 =
     ap length pushed ∙ length-append c.loop-at.answers.items (given ∷ []) in
