@@ -24,13 +24,13 @@ use Rattle.rx_ledger.specs.Basis.{Holds, HoldsRecord}
 use Rattle.rx_ledger.specs.Ledger.{Ledger, is_listed, members_of, row_under, rows_of}
 use Rattle.rx_ledger.specs.Members.{member_cmp, member_key, of_family, person_in}
 use Rattle.rx_ledger.specs.Named.{key_in}
-use Rattle.rx_books_parcel.specs.Books.{OfFamily, OfKey}
-use Rattle.rx_books_parcel.specs.FamilyBook.{FamilyBook, has_person, own_ledger}
+use Rattle.rx_books_family.specs.Books.{OfFamily, OfKey}
+use Rattle.rx_books_family.specs.FamilyBook.{FamilyBook, has_person, ledger_of_family, own_ledger}
 use Rattle.rx_books_parcel.specs.Footprints.{fits_body, fits_one, names, names_holder}
-use Rattle.rx_books_parcel.specs.Parcels.{ParcelParts, family_at, ledger_in, ledger_of_family, member_at, named_in, rows_at}
+use Rattle.rx_books_parcel.specs.Parcels.{ParcelParts, family_at, ledger_in, member_at, named_in, rows_at}
 use Rattle.rx_books_parcel.proofs.Held.{family_found, members_read, period_found, rows_read}
-use Rattle.rx_books_parcel.proofs.Families.{persons_found}
-use Rattle.rx_books_parcel.proofs.Parts.{find_filter}
+use Rattle.rx_books_family.proofs.Families.{persons_found}
+use Rattle.rx_sorted.proofs.Filters.{find_filter}
 use Rattle.rx_adjudicate.specs.Scopes.{IsAgreed, scope_in, used_over}
 
 -- ---- what a record asks

@@ -2,7 +2,7 @@
 use Rattle.std.proofs.Common.{◌≡◌, Some, sym, ap, ◌∙◌}
 use Rattle.rx_d0_values.specs.declared.reply.Reply.{Reply}
 use Rattle.rx_ledger.specs.Basis.{Scope}
-use Rattle.rx_books_parcel.specs.Books.{Book, OfFamily, OfKey, book}
+use Rattle.rx_books_family.specs.Books.{Book, OfFamily, OfKey, book}
 use Rattle.rx_books_parcel.specs.Footprints.{names}
 use Rattle.rx_books_parcel.specs.Parcels.{IsParcel, ParcelParts, ledger_in, named_in}
 use Rattle.rx_books_parcel.proofs.Held.{books_are}

@@ -5,13 +5,13 @@ use Rattle.std.specs.Option.{is_some}
 use Rattle.std.specs.declared.cmp.Ordering.{Ordering}
 use Rattle.std.proofs.lemmas.Map.Lookups.{CmpEqualImpliesEq}
 use Rattle.rx_fields.specs.Order.{id_cmp, key_cmp}
-use Rattle.rx_sorted.specs.Ascending.{IsAscending, IsBelow, contains_key, item_at}
+use Rattle.rx_sorted.specs.Ascending.{IsAscending, IsBelow, contains_key, item_at, itself}
 use Rattle.rx_sorted.proofs.Edits.{same_items}
 use Rattle.rx_sorted.proofs.LookUps.{item_at-found}
 use Rattle.rx_ledger.proofs.Orders.{id_exact, id_total, key_exact, key_total}
-use Rattle.rx_books_parcel.specs.Books.{Book, OfFamily, OfKey}
-use Rattle.rx_books_parcel.specs.FamilyBook.{family_of}
-use Rattle.rx_books_parcel.specs.Footprints.{FootprintParts, IsFootprint, itself, names}
+use Rattle.rx_books_family.specs.Books.{Book, OfFamily, OfKey}
+use Rattle.rx_books_family.specs.FamilyBook.{family_of}
+use Rattle.rx_books_parcel.specs.Footprints.{FootprintParts, IsFootprint, names}
 use Rattle.rx_books_parcel.specs.Parcels.{IsParcel, ParcelParts, key_of, named_in}
 
 module _ {K : Type 0} (cmp : K → K → Ordering) (order : IsTotalOrder cmp) (exact : CmpEqualImpliesEq cmp) where

@@ -6,7 +6,7 @@ use Rattle.rx_d0_values.specs.declared.transmission.Transmission.{Transmission}
 use Rattle.rx_ledger.specs.Fold.{ledger_after, reply_to}
 use Rattle.rx_ledger.specs.Ledger.{Ledger}
 use Rattle.rx_ledger.specs.TermList.{TermParts, plan_of}
-use Rattle.rx_books_parcel.specs.Books.{Book, book}
+use Rattle.rx_books_family.specs.Books.{Book, book}
 use Rattle.rx_books_parcel.specs.Footprints.{fits, names}
 use Rattle.rx_books_parcel.specs.Parcels.{Agrees, ParcelParts, ledger_in, named_in, values_of}
 

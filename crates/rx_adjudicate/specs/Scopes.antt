@@ -5,7 +5,7 @@ use Rattle.rx_ledger.specs.declared.row.Row.{Row}
 use Rattle.rx_ledger.specs.declared.share.Used.{Used}
 use Rattle.rx_ledger.specs.Basis.{Scope}
 use Rattle.rx_ledger.specs.Sums.{deductible_in, family_deductible_in, out_of_pocket_in}
-use Rattle.rx_books_parcel.specs.Books.{OfFamily, OfKey}
+use Rattle.rx_books_family.specs.Books.{OfFamily, OfKey}
 use Rattle.rx_books_parcel.specs.Footprints.{names}
 use Rattle.rx_books_parcel.specs.Parcels.{Agrees, IsParcel, ParcelParts, named_in}
 

@@ -1,11 +1,12 @@
 ghost use Rattle.std.specs.Prelude.{◌≡◌, ◌≤◌, true};
 ghost use Rattle.std.specs.List.{list_any};
 ghost use Rattle.rx_ledger.specs.Answers.{is_too_soon};
-ghost use Rattle.rx_books_parcel.specs.FamilyBook.{has_person};
+ghost use Rattle.rx_books_family.specs.FamilyBook.{has_person};
 ghost use Rattle.rx_books_parcel.specs.Parcels.{Agrees, IsParcel};
 ghost use Rattle.rx_adjudicate.specs.Scopes.{IsAgreed, used_over};
 
-use rx_books_parcel::{Family, Parcel};
+use rx_books_family::Family;
+use rx_books_parcel::Parcel;
 use rx_d0_values::Bill;
 use rx_fields::{Day, Id, Key, Memory, Person};
 use rx_ledger::{Basis, Figures, Member, MemberKey, Row, Used, is_too_soon};

@@ -2,7 +2,7 @@ ghost use Rattle.std.specs.Prelude.{◌≡◌, ◌↔◌, ◌&&◌, IsTrue};
 ghost use Rattle.std.specs.List.{list_all};
 ghost use Rattle.rx_ledger.specs.Ledger.{row_under};
 ghost use Rattle.rx_ledger.specs.Named.{key_in};
-ghost use Rattle.rx_books_parcel.specs.Books.{OfKey};
+ghost use Rattle.rx_books_family.specs.Books.{OfKey};
 ghost use Rattle.rx_books_parcel.specs.Footprints.{fits, fits_one, names, names_holder};
 ghost use Rattle.rx_books_parcel.specs.Parcels.{Agrees, IsParcel, ledger_in, named_in};
 ghost use Rattle.rx_adjudicate.specs.Orders.{Fits};

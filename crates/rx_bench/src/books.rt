@@ -62,6 +62,6 @@ fn written<R: Clock + Threads + Sync>(watch: &mut Watch<R>, books: &Books) {
     watch.begin();
     let text = books.write(watch.alloc);
     watch.lap("bytes written", length(&text));
-    let again = books.write_in_parts(watch.rt, watch.alloc, PARTS);
-    watch.lap("bytes written in 4 parts", length(&again));
+    let pieces = books.write_pieces(watch.rt, watch.alloc, PARTS, Vec::new(watch.alloc));
+    watch.lap("times written in 4 parts", one_if(pieces.ok()));
 }

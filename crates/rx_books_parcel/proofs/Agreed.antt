@@ -1,6 +1,6 @@
 -- Values that agree are the books of the ledger that they make; and the books of a ledger agree.
 use Rattle.std.proofs.Common.{◌≡◌, ℕ, suc, List, [], ◌∷◌, ◌++◌, map, true, false, refl, sym, ap, subst, ◌∙◌, inl, inr, arith}
-use Rattle.std.specs.List.{All, Contains}
+use Rattle.std.specs.List.{Contains}
 use Rattle.std.specs.Ordering.{is_eq}
 use Rattle.std.specs.declared.cmp.Ordering.TheVariants.{Equal}
 use Rattle.std.proofs.lemmas.Bool.{cases_Bool}
@@ -8,7 +8,7 @@ use Rattle.std.proofs.lemmas.Cmp.{tied_back}
 use Rattle.std.proofs.lemmas.List.Elements.{All-contains}
 use Rattle.rx_fields.specs.Order.{id_cmp, key_cmp}
 use Rattle.rx_fields.specs.declared.key.Key.{Key}
-use Rattle.rx_sorted.specs.Ascending.{contains_key}
+use Rattle.rx_sorted.specs.Ascending.{contains_key, itself}
 use Rattle.rx_sorted.specs.Joined.{Agree}
 use Rattle.rx_sorted.proofs.Agreeing.{filter-joined}
 use Rattle.rx_sorted.proofs.Edits.{same_item}
@@ -22,15 +22,10 @@ use Rattle.rx_ledger.specs.Ledger.{Ledger}
 use Rattle.rx_ledger.specs.Members.{member_cmp, member_key}
 use Rattle.rx_ledger.specs.Rows.{row_key}
 use Rattle.rx_ledger.proofs.Orders.{id_exact, key_exact, key_total, member_exact, member_total}
-use Rattle.rx_books_parcel.specs.Books.{Book, IsInOrder, OfFamily, OfKey, book, has_member, has_row}
-use Rattle.rx_books_parcel.specs.Footprints.{AreAgreed, FootprintParts, books_in, cut, itself, names, sub}
-use Rattle.rx_books_parcel.proofs.Parts.{books_named, ledger_path, part, sub_part, sub_same}
-
--- the value of a book: in order, and its own members and rows alone
-pub record IsValue (b : Book) (L : Ledger) : Type 0 where
-  pub order : IsInOrder L
-  pub members_own : All (λ m. has_member b m ≡ true) L.members
-  pub rows_own : All (λ r. has_row b r ≡ true) L.rows
+use Rattle.rx_books_family.specs.Books.{Book, IsInOrder, OfFamily, OfKey, book, has_member, has_row}
+use Rattle.rx_books_family.proofs.BookValues.{IsValue, ledger_path}
+use Rattle.rx_books_parcel.specs.Footprints.{AreAgreed, FootprintParts, books_in, cut, names, sub}
+use Rattle.rx_books_parcel.proofs.Parts.{books_named, part, sub_part, sub_same}
 
 -- ---- the named books are those of the list
 

@@ -20,15 +20,16 @@ use Rattle.rx_ledger.specs.Ledger.{Ledger, row_under, with_row, without_row}
 use Rattle.rx_ledger.specs.Members.{is_same}
 use Rattle.rx_ledger.specs.Rows.{row_key}
 use Rattle.rx_ledger.proofs.Orders.{id_exact, id_total, key_exact, key_total}
-use Rattle.rx_books_parcel.specs.declared.key_book.KeyBook.{KeyBook}
-use Rattle.rx_books_parcel.specs.Books.{Book, IsInOrder, OfFamily, OfKey, book, has_row}
-use Rattle.rx_books_parcel.specs.FamilyBook.{FamilyBook, book_with_row, book_without_row, family_of, own_ledger}
+use Rattle.rx_books_family.specs.declared.key_book.KeyBook.{KeyBook}
+use Rattle.rx_books_family.specs.Books.{Book, IsInOrder, OfFamily, OfKey, book, has_row}
+use Rattle.rx_books_family.specs.FamilyBook.{FamilyBook, book_with_row, book_without_row, family_of, ledger_of_family, own_ledger}
 use Rattle.rx_books_parcel.specs.Footprints.{AreAgreed, names, sub}
-use Rattle.rx_books_parcel.specs.Parcels.{Agrees, IsParcel, ParcelParts, family_at, family_without, key_of, ledger_in, ledger_of_family}
+use Rattle.rx_books_parcel.specs.Parcels.{Agrees, IsParcel, ParcelParts, family_at, family_without, key_of, ledger_in}
 use Rattle.rx_books_parcel.specs.Parcels.{named_in, parcel_with_row, parcel_without_row, row_at, values_of, with_family_book}
 use Rattle.rx_books_parcel.proofs.Agreed.{books_agree, order_of_sub, sub_is, whole_of_sub}
 use Rattle.rx_books_parcel.proofs.Held.{book_held, books_are, family_found, family_held, key_held, row_found, row_read}
-use Rattle.rx_books_parcel.proofs.Parts.{keeps, key_kept, ledger_path, part}
+use Rattle.rx_books_family.proofs.BookValues.{ledger_path}
+use Rattle.rx_books_parcel.proofs.Parts.{keeps, key_kept, part}
 
 -- ---- names stay
 

@@ -9,22 +9,23 @@ use Rattle.std.proofs.lemmas.Cmp.{tied_itself}
 use Rattle.std.proofs.lemmas.List.Elements.{All-cons, All-contains, All-nil}
 use Rattle.rx_fields.specs.Order.{id_cmp, key_cmp}
 use Rattle.rx_fields.specs.declared.key.Key.{Key}
-use Rattle.rx_sorted.specs.Ascending.{contains_key, item_at}
+use Rattle.rx_sorted.specs.Ascending.{contains_key, item_at, itself}
 use Rattle.rx_sorted.proofs.LookUps.{item_at-found, item_at-map}
 use Rattle.rx_ledger.specs.declared.row.Row.{Row}
 use Rattle.rx_ledger.specs.Ledger.{Ledger, is_listed, is_taken, members_of, row_under, rows_of}
 use Rattle.rx_ledger.specs.Members.{of_family, person_in}
 use Rattle.rx_ledger.specs.Rows.{claimed_by, row_key}
 use Rattle.rx_ledger.proofs.Orders.{id_exact, id_total, key_exact, key_total}
-use Rattle.rx_books_parcel.specs.declared.key_book.KeyBook.{KeyBook}
-use Rattle.rx_books_parcel.specs.Books.{Book, OfFamily, OfKey, book, has_row}
-use Rattle.rx_books_parcel.specs.FamilyBook.{FamilyBook, IsOwn, family_of, own_ledger}
-use Rattle.rx_books_parcel.specs.Footprints.{itself, names}
+use Rattle.rx_books_family.specs.declared.key_book.KeyBook.{KeyBook}
+use Rattle.rx_books_family.specs.Books.{Book, OfFamily, OfKey, book, has_row}
+use Rattle.rx_books_family.specs.FamilyBook.{FamilyBook, IsOwn, family_of, ledger_of_family, own_ledger}
+use Rattle.rx_books_parcel.specs.Footprints.{names}
 use Rattle.rx_books_parcel.specs.Parcels.{Agrees, HasOwnRow, IsParcel, ParcelParts, family_at, key_of, ledger_in}
-use Rattle.rx_books_parcel.specs.Parcels.{ledger_of_family, named_in, row_at, rows_at, values_of}
-use Rattle.rx_books_parcel.proofs.Agreed.{IsValue, book_of_sub}
-use Rattle.rx_books_parcel.proofs.Families.{members_theirs, persons_found, rows_theirs}
-use Rattle.rx_books_parcel.proofs.Parts.{find_filter}
+use Rattle.rx_books_parcel.specs.Parcels.{named_in, row_at, rows_at, values_of}
+use Rattle.rx_books_family.proofs.BookValues.{IsValue}
+use Rattle.rx_books_parcel.proofs.Agreed.{book_of_sub}
+use Rattle.rx_books_family.proofs.Families.{members_theirs, persons_found, rows_theirs}
+use Rattle.rx_sorted.proofs.Filters.{find_filter}
 
 -- ---- what is held
 

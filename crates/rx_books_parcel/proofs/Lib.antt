@@ -1,12 +1,8 @@
 pub mod Agreed
-pub mod Changed
 pub mod Edited
-pub mod Families
-pub mod FewItems
 pub mod Held
 pub mod Locality
 pub mod OneLedger
-pub mod Owned
 pub mod Parts
 pub mod Same
 pub mod Tested

@@ -35,9 +35,10 @@ use Rattle.rx_ledger.proofs.Found.{any_passes}
 use Rattle.rx_ledger.proofs.Orders.{id_exact, key_exact, key_total}
 use Rattle.rx_ledger.proofs.PaidShape.{paid_new}
 use Rattle.rx_ledger.proofs.Passed.{passed_weaker}
-use Rattle.rx_books_parcel.specs.Books.{Book, IsInOrder, OfFamily, OfKey, book, has_row}
+use Rattle.rx_books_family.specs.Books.{Book, IsInOrder, OfFamily, OfKey, book, has_row}
 use Rattle.rx_books_parcel.specs.Footprints.{FootprintParts, cut, fits, fits_body, fits_one, names, names_holder, sub}
-use Rattle.rx_books_parcel.proofs.Parts.{book_part, cut_part, keeps, key_kept, ledger_path, members_part, part, row_part, rows_part}
+use Rattle.rx_books_family.proofs.BookValues.{ledger_path}
+use Rattle.rx_books_parcel.proofs.Parts.{book_part, cut_part, keeps, key_kept, members_part, part, row_part, rows_part}
 
 -- ---- what a transaction needs to know
 

@@ -12,8 +12,8 @@ use Rattle.rx_ledger.specs.Ledger.{Ledger}
 use Rattle.rx_ledger.specs.Members.{member_cmp, member_key}
 use Rattle.rx_ledger.specs.Rows.{row_key}
 use Rattle.rx_ledger.proofs.Orders.{id_total, key_total, member_total}
-use Rattle.rx_books_parcel.specs.Books.{Book, IsInOrder, OfFamily, OfKey, book, has_member, has_row}
-use Rattle.rx_books_parcel.proofs.Parts.{ledger_path}
+use Rattle.rx_books_family.specs.Books.{Book, IsInOrder, OfFamily, OfKey, book, has_member, has_row}
+use Rattle.rx_books_family.proofs.BookValues.{ledger_path}
 
 module _ (L M : Ledger) (in_L : IsInOrder L) (in_M : IsInOrder M) (same : (b : Book) → book b L ≡ book b M) where
   row_over : (r : Row) → Contains L.rows r → Contains M.rows r

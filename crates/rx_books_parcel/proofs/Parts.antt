@@ -1,17 +1,17 @@
 -- The part of a ledger that stands in the books of a footprint: it has these books as the whole has them.
 use Rattle.std.proofs.Common.{◌≡◌, ℕ, List, [], ◌∷◌, ◌++◌, map, Bool, true, get_or, refl, ap, ◌∙◌, inl, inr}
-use Rattle.std.specs.List.{All, filter, find, list_any}
+use Rattle.std.specs.List.{All, filter, list_any}
 use Rattle.std.specs.Cmp.{IsTotalOrder}
 use Rattle.std.specs.Ordering.{is_eq}
 use Rattle.std.specs.declared.cmp.Ordering.{Ordering}
-use Rattle.std.proofs.lemmas.Bool.{cases_Bool, both_ways}
+use Rattle.std.proofs.lemmas.Bool.{cases_Bool}
 use Rattle.std.proofs.lemmas.Cmp.{tied_itself}
 use Rattle.std.proofs.lemmas.List.Elements.{All-append, All-cons, All-head, All-map, All-nil, All-tail, All-weaker}
 use Rattle.rx_fields.specs.Order.{id_cmp, key_cmp}
 use Rattle.rx_fields.specs.declared.key.Key.{Key}
-use Rattle.rx_sorted.specs.Ascending.{contains_key}
+use Rattle.rx_sorted.specs.Ascending.{contains_key, itself}
 use Rattle.rx_sorted.specs.Joined.{joined}
-use Rattle.rx_sorted.proofs.Filters.{filter_within}
+use Rattle.rx_sorted.proofs.Filters.{filter_within, find_filter}
 use Rattle.rx_sorted.proofs.Joined.{joined-filters}
 use Rattle.rx_sorted.proofs.Keys.{Equal-from_is_eq}
 use Rattle.rx_ledger.specs.declared.row.Row.{Row}
@@ -19,11 +19,9 @@ use Rattle.rx_ledger.specs.Ledger.{Ledger, members_of, row_under, rows_of}
 use Rattle.rx_ledger.specs.Members.{member_cmp, member_key}
 use Rattle.rx_ledger.specs.Rows.{row_key}
 use Rattle.rx_ledger.proofs.Orders.{id_exact, id_total, key_exact, key_total, member_total}
-use Rattle.rx_books_parcel.specs.Books.{Book, IsInOrder, OfFamily, OfKey, book, has_member, has_row}
-use Rattle.rx_books_parcel.specs.Footprints.{FootprintParts, books_in, cut, itself, names, sub}
-
-pub ledger_path : (L M : Ledger) → L.members ≡ M.members → L.rows ≡ M.rows → L ≡ M
-ledger_path L M members rows = λ i. record { members = members i; rows = rows i }
+use Rattle.rx_books_family.specs.Books.{Book, IsInOrder, OfFamily, OfKey, book, has_member, has_row}
+use Rattle.rx_books_family.proofs.BookValues.{ledger_path}
+use Rattle.rx_books_parcel.specs.Footprints.{FootprintParts, books_in, cut, names, sub}
 
 -- some book of the footprint has it
 abbrev pub keeps : {A : Type 0} → (Book → A → Bool) → FootprintParts → A → Bool
@@ -101,20 +99,6 @@ pub rows_part : (F : FootprintParts) (family : List ℕ) (L : Ledger) → names 
 rows_part F family L n = ap (λ (M : Ledger). M.rows) (book_part F (OfFamily family) L n)
 
 -- what is looked for in a filter that keeps it
-pub find_filter : {A : Type 0} (q p : A → Bool) (xs : List A) → ((x : A) → q x ≡ true → p x ≡ true)
-    → find q (filter p xs) ≡ find q xs
-find_filter q p [] h = refl
-find_filter q p (x ∷ xs) h = elim (cases_Bool (p x)) [
-  | inl t ↦ elim (cases_Bool (q x)) [
-    | inl here ↦ simp (t, here)
-    | inr other ↦ simp (t, other) (find_filter q p xs h)
-  ]
-  | inr f ↦ elim (cases_Bool (q x)) [
-    | inl here ↦ absurd (both_ways _ f (h x here))
-    | inr other ↦ rw (f, other) (find_filter q p xs h)
-  ]
-]
-
 pub row_part : (F : FootprintParts) (key : Key) (L : Ledger) → names F (OfKey key) ≡ true
     → row_under (part F L) key ≡ row_under L key
 row_part F key L n = find_filter (has_row (OfKey key)) (keeps has_row F) L.rows

@@ -20,13 +20,13 @@ use Rattle.rx_ledger.specs.Members.{is_same}
 use Rattle.rx_ledger.specs.Rows.{claimed_by, row_key}
 use Rattle.rx_ledger.proofs.Decided.{row_decides}
 use Rattle.rx_ledger.proofs.Orders.{id_exact, id_total, key_exact, key_total}
-use Rattle.rx_books_parcel.specs.declared.key_book.KeyBook.{KeyBook}
-use Rattle.rx_books_parcel.specs.Agreement.{agree, are_apart, are_under_keys, is_found, is_in_book, is_in_family, is_under_key}
-use Rattle.rx_books_parcel.specs.Books.{Book, OfFamily, OfKey, has_row}
-use Rattle.rx_books_parcel.specs.FamilyBook.{FamilyBook, family_of, own_ledger}
+use Rattle.rx_books_family.specs.declared.key_book.KeyBook.{KeyBook}
+use Rattle.rx_books_family.specs.Books.{Book, OfFamily, OfKey, has_row, is_found}
+use Rattle.rx_books_parcel.specs.Agreement.{agree, are_apart, are_under_keys, is_in_book, is_in_family, is_under_key}
+use Rattle.rx_books_family.specs.FamilyBook.{FamilyBook, family_of, ledger_of_family, own_ledger}
 use Rattle.rx_books_parcel.specs.Footprints.{names}
-use Rattle.rx_books_parcel.specs.Parcels.{Agrees, IsParcel, ParcelParts, family_at, key_of, ledger_of_family, named_in, row_at, values_of}
-use Rattle.rx_books_parcel.proofs.Families.{rows_theirs}
+use Rattle.rx_books_parcel.specs.Parcels.{Agrees, IsParcel, ParcelParts, family_at, key_of, named_in, row_at, values_of}
+use Rattle.rx_books_family.proofs.Families.{rows_theirs}
 use Rattle.rx_books_parcel.proofs.Held.{family_found, family_held, key_held, row_found}
 
 -- ---- small things

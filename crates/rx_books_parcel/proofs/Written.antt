@@ -11,8 +11,8 @@ use Rattle.rx_sorted.proofs.Places.{IsAscending-set, item_at-at, set-at}
 use Rattle.rx_sorted.proofs.Totals.{All-put}
 use Rattle.rx_ledger.specs.declared.row.Row.{Row}
 use Rattle.rx_ledger.proofs.Orders.{id_total, key_total}
-use Rattle.rx_books_parcel.specs.declared.key_book.KeyBook.{KeyBook}
-use Rattle.rx_books_parcel.specs.FamilyBook.{FamilyBook, IsOwn, book_with_row, book_without_row, family_of}
+use Rattle.rx_books_family.specs.declared.key_book.KeyBook.{KeyBook}
+use Rattle.rx_books_family.specs.FamilyBook.{FamilyBook, IsOwn, book_with_row, book_without_row, family_of}
 use Rattle.rx_books_parcel.specs.Parcels.{HasOwnRow, IsParcel, ParcelParts, family_at, family_without, key_of, row_at, with_family_book}
 use Rattle.rx_books_parcel.proofs.Held.{family_found, period_found}
 

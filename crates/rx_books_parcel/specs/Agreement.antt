@@ -1,19 +1,13 @@
 -- Plumbing: the tests by which it is told whether the books of a parcel agree.
 use Rattle.std.specs.Prelude.{Bool, true, not, ◌&&◌, ◌||◌, Option, Some, None}
 use Rattle.std.specs.List.{list_all}
-use Rattle.std.specs.Option.{option_eq}
 use Rattle.rx_ledger.specs.declared.row.Row.{Row}
-use Rattle.rx_ledger.specs.contracts.row.RowPartialEq.TheImpl.{ghosts as row}
 use Rattle.rx_ledger.specs.Ledger.{is_taken, row_under}
 use Rattle.rx_ledger.specs.Members.{is_same}
-use Rattle.rx_books_parcel.specs.Books.{OfKey}
-use Rattle.rx_books_parcel.specs.FamilyBook.{FamilyBook, own_ledger}
+use Rattle.rx_books_family.specs.Books.{OfKey, is_found}
+use Rattle.rx_books_family.specs.FamilyBook.{FamilyBook, own_ledger}
 use Rattle.rx_books_parcel.specs.Footprints.{names}
 use Rattle.rx_books_parcel.specs.Parcels.{ParcelParts, family_at, named_in, row_at}
-
--- what was found is the row
-abbrev pub is_found : Row → Option Row → Bool
-is_found r found = option_eq row.eq found (Some r)
 
 -- the family's book has the row, where it is held
 abbrev pub is_in_book : Row → Option FamilyBook → Bool

@@ -4,7 +4,7 @@ use Rattle.std.specs.List.{Contains, list_all}
 use Rattle.std.specs.Ordering.{is_eq}
 use Rattle.rx_fields.specs.Order.{id_cmp, key_cmp}
 use Rattle.rx_fields.specs.declared.key.Key.{Key}
-use Rattle.rx_sorted.specs.Ascending.{IsAscending, contains_key}
+use Rattle.rx_sorted.specs.Ascending.{IsAscending, contains_key, itself}
 use Rattle.rx_sorted.specs.Joined.{joined}
 use Rattle.rx_d0_values.specs.declared.transaction.Transaction.{Transaction}
 use Rattle.rx_d0_values.specs.declared.transaction.Transaction.TheVariants.{Bill, Reverse, Faulty}
@@ -17,16 +17,12 @@ use Rattle.rx_ledger.specs.Ledger.{Ledger, empty, row_under}
 use Rattle.rx_ledger.specs.Members.{member_cmp, member_key}
 use Rattle.rx_ledger.specs.Named.{key_in}
 use Rattle.rx_ledger.specs.Rows.{row_key}
-use Rattle.rx_books_parcel.specs.Books.{Book, OfFamily, OfKey, book, has_row}
+use Rattle.rx_books_family.specs.Books.{Book, OfFamily, OfKey, book, has_row}
 
 -- fill keys and families
 pub record FootprintParts : Type 0 where
   pub keys : List Key
   pub families : List (List ℕ)
-
--- keys and families are ordered by themselves
-abbrev pub itself : {K : Type 0} → K → K
-itself k = k
 
 -- both lists ascend, without repeats
 pub record IsFootprint (F : FootprintParts) : Type 0 where

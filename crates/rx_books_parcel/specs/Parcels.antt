@@ -8,12 +8,13 @@ use Rattle.rx_fields.specs.declared.key.Key.{Key}
 use Rattle.rx_sorted.specs.Ascending.{IsAscending, item_at, put}
 use Rattle.rx_ledger.specs.declared.member.Member.{Member}
 use Rattle.rx_ledger.specs.declared.row.Row.{Row}
-use Rattle.rx_ledger.specs.Ledger.{Ledger, empty}
+use Rattle.rx_ledger.specs.Ledger.{Ledger}
 use Rattle.rx_ledger.specs.Members.{person_in}
 use Rattle.rx_ledger.specs.Sums.{family_deductible_in, out_of_pocket_in}
-use Rattle.rx_books_parcel.specs.declared.key_book.KeyBook.{KeyBook}
-use Rattle.rx_books_parcel.specs.Books.{Book, OfFamily, OfKey}
-use Rattle.rx_books_parcel.specs.FamilyBook.{FamilyBook, IsOwn, book_with_row, book_without_row, deductible_at, family_of, own_ledger}
+use Rattle.rx_books_family.specs.declared.key_book.KeyBook.{KeyBook}
+use Rattle.rx_books_family.specs.Books.{Book, OfFamily, OfKey}
+use Rattle.rx_books_family.specs.FamilyBook.{FamilyBook, IsOwn, book_with_row, book_without_row, deductible_at, family_of}
+use Rattle.rx_books_family.specs.FamilyBook.{ledger_of_family}
 use Rattle.rx_books_parcel.specs.Footprints.{AreAgreed, FootprintParts, sub}
 
 -- a period, the books of some fill keys and the books of some families
@@ -57,11 +58,6 @@ row_at p key = option_and_then (λ b. b.row) (item_at key_cmp key_of p.keys key)
 
 abbrev pub family_at : ParcelParts → List ℕ → Option FamilyBook
 family_at p family = item_at id_cmp family_of p.families family
-
--- the book's ledger; a book that isn't held is empty
-abbrev pub ledger_of_family : Option FamilyBook → Ledger
-ledger_of_family None = empty
-ledger_of_family (Some b) = own_ledger b
 
 abbrev pub values_of : ParcelParts → Book → Ledger
 values_of p (OfKey key) = record { members = []; rows = option_to_list (row_at p key) }

@@ -2,11 +2,11 @@ ghost use Rattle.std.specs.Prelude.{◌≡◌, ◌↔◌, IsTrue, not};
 ghost use Rattle.std.specs.List.{list_all};
 ghost use Rattle.rx_ledger.specs.Ledger.{is_taken};
 ghost use Rattle.rx_books_parcel.specs.Agreement.{agree, are_apart, are_under_keys, is_in_family, is_under_key};
-ghost use Rattle.rx_books_parcel.specs.FamilyBook.{own_ledger};
+ghost use Rattle.rx_books_family.specs.FamilyBook.{own_ledger};
 ghost use Rattle.rx_books_parcel.specs.Parcels.{Agrees, IsParcel};
 
-use crate::family::Family;
 use crate::parcel::Parcel;
+use rx_books_family::Family;
 use rx_ledger::Row;
 
 impl Parcel {

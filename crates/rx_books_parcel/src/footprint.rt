@@ -1,11 +1,11 @@
 ghost use Rattle.std.specs.Prelude.{◌≡◌, ◌↔◌, ◌&&◌, IfOk, IfSome, IsTrue, is_some};
 ghost use Rattle.rx_fields.specs.Order.{id_cmp, key_cmp};
-ghost use Rattle.rx_sorted.specs.Ascending.{IsAscending, is_ascending};
-ghost use Rattle.rx_books_parcel.specs.Books.{OfFamily, OfKey};
-ghost use Rattle.rx_books_parcel.specs.Footprints.{IsFootprint, itself, names};
+ghost use Rattle.rx_sorted.specs.Ascending.{IsAscending, is_ascending, itself};
+ghost use Rattle.rx_books_family.specs.Books.{OfFamily, OfKey};
+ghost use Rattle.rx_books_parcel.specs.Footprints.{IsFootprint, names};
 
-use crate::few::Few;
 use rx_fields::{Id, Key, Memory};
+use rx_sorted::Few;
 use std::alloc::Global;
 use std::marker::Model;
 
@@ -17,7 +17,7 @@ pub struct Footprint {
 }
 
 impl Model for Footprint {
-    ghost use Rattle.rx_books_parcel.specs.Few.{items_of};
+    ghost use Rattle.rx_sorted.specs.Few.{items_of};
     ghost use Rattle.rx_books_parcel.specs.Footprints.{FootprintParts, IsFootprint};
 
     ghost Value = { FootprintParts };

@@ -4,7 +4,7 @@ ghost use Rattle.rx_d0_values.specs.declared.transmission.Transmission.{Transmis
 ghost use Rattle.rx_ledger.specs.Fold.{ledger_after, reply_to};
 ghost use Rattle.rx_ledger.specs.Ledger.{Ledger};
 ghost use Rattle.rx_ledger.specs.Plan.{Plan};
-ghost use Rattle.rx_books_parcel.specs.Books.{Book, IsInOrder, book};
+ghost use Rattle.rx_books_family.specs.Books.{Book, IsInOrder, book};
 ghost use Rattle.rx_books_parcel.specs.Footprints.{AreAgreed, FootprintParts, cut, fits, names, sub};
 
 /// The law of locality, for every lot, plan, place, record and ledger, and every footprint that fits the record there:

@@ -3,21 +3,19 @@ ghost use Rattle.std.specs.List.{All};
 ghost use Rattle.std.specs.Option.{option_copied};
 ghost use Rattle.rx_fields.specs.Order.{id_cmp, key_cmp};
 ghost use Rattle.rx_sorted.specs.Ascending.{IsAscending, IsAt, contains_key, item_at, put};
-ghost use Rattle.rx_books_parcel.specs.Books.{OfFamily, OfKey};
-ghost use Rattle.rx_books_parcel.specs.FamilyBook.{IsOwn, family_of};
-ghost use Rattle.rx_books_parcel.specs.Few.{items_of};
+ghost use Rattle.rx_books_family.specs.Books.{OfFamily, OfKey};
+ghost use Rattle.rx_books_family.specs.FamilyBook.{IsOwn, family_of};
+ghost use Rattle.rx_sorted.specs.Few.{items_of};
 ghost use Rattle.rx_books_parcel.specs.Footprints.{names};
 ghost use Rattle.rx_books_parcel.specs.Parcels.{Agrees, AreBooks, HasOwnRow, IsParcel, family_at, family_deductible_at, key_of};
 ghost use Rattle.rx_books_parcel.specs.Parcels.{member_at, member_deductible, named_in, parcel_with_row, parcel_without_row, pocket_at};
 ghost use Rattle.rx_books_parcel.specs.Parcels.{row_at, rows_at};
 
-use crate::family::Family;
-use crate::few::Few;
-use crate::key_book::KeyBook;
+use rx_books_family::{Family, KeyBook};
 use rx_d0_values::copies;
 use rx_fields::{Id, Key, Memory, Period, Person};
 use rx_ledger::{Member, Row};
-use rx_sorted::{Keyed, is_ascending, place_of};
+use rx_sorted::{Few, Keyed, is_ascending, place_of};
 use std::alloc::Global;
 use std::marker::Model;
 
@@ -31,7 +29,7 @@ pub struct Parcel {
 }
 
 impl Model for Parcel {
-    ghost use Rattle.rx_books_parcel.specs.Few.{items_of};
+    ghost use Rattle.rx_sorted.specs.Few.{items_of};
     ghost use Rattle.rx_books_parcel.specs.Parcels.{IsParcel, ParcelParts};
 
     ghost Value = { ParcelParts };

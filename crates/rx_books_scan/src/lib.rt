@@ -23,4 +23,4 @@ mod run;
 mod whole;
 
 pub use lists::Lists;
-pub use reader::{read_lists, read_lists_cut, read_lists_in_parts};
+pub use reader::{read_lists, read_lists_in_parts};

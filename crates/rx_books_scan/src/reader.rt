@@ -46,8 +46,8 @@ pub fn read_lists_in_parts<R: Threads + Sync>(
     read_lists_cut(rt, alloc, &places, text)
 }
 
-/// The same, where the lines are cut behind the first line feed at or behind each of these places.
-pub fn read_lists_cut<R: Threads + Sync>(
+// The same, where the lines are cut after the first line feed at or after each of these places.
+fn read_lists_cut<R: Threads + Sync>(
     rt: &R,
     alloc: Global,
     places: &[usize],

@@ -5,9 +5,9 @@ use Rattle.std.proofs.lemmas.List.{append-nil}
 use Rattle.std.proofs.lemmas.List.Elements.{All-weaker}
 use Rattle.rx_fields.specs.Order.{id_cmp, key_cmp}
 use Rattle.rx_fields.specs.declared.key.Key.{Key}
-use Rattle.rx_sorted.specs.Ascending.{IsAscending, contains_key}
+use Rattle.rx_sorted.specs.Ascending.{IsAscending, contains_key, itself}
 use Rattle.rx_ledger.proofs.Orders.{id_exact, id_total, key_exact, key_total}
-use Rattle.rx_books_parcel.specs.Footprints.{FootprintParts, IsFootprint, itself}
+use Rattle.rx_books_parcel.specs.Footprints.{FootprintParts, IsFootprint}
 use Rattle.rx_books_shelf.specs.Opened.{all_families, all_keys}
 use Rattle.rx_books_shelf.proofs.Ascended.{gathered_is}
 

@@ -15,14 +15,12 @@ use Rattle.std.proofs.lemmas.List.Kept.{Contains-dedup, Contains-from_dedup, IsS
 use Rattle.std.proofs.lemmas.List.Sorted.{list_any-IsPermutation}
 use Rattle.std.proofs.lemmas.Map.Lookups.{CmpEqualImpliesEq}
 use Rattle.std.proofs.lemmas.Map.Views.{Contains-from_any, list_any-from_Contains}
-use Rattle.rx_sorted.specs.Ascending.{IsAscending, IsBelow, contains_key, item_at, put_all}
+use Rattle.rx_sorted.specs.Ascending.{IsAscending, IsBelow, contains_key, item_at, itself, put_all}
 use Rattle.rx_sorted.specs.Joined.{joined}
 use Rattle.rx_sorted.proofs.Edits.{same_items}
 use Rattle.rx_sorted.proofs.Joined.{IsAscending-joined}
 use Rattle.rx_sorted.proofs.Keys.{Equal-from_is_eq}
-use Rattle.rx_sorted.proofs.Kept.{IsAscending-put_all}
 use Rattle.rx_sorted.proofs.LookUps.{item_at-put_all}
-use Rattle.rx_books_parcel.specs.Footprints.{itself}
 
 module _ {K : Type 0} (cmp : K → K → Ordering) (order : IsTotalOrder cmp) (exact : CmpEqualImpliesEq cmp) where
   -- what is found by a key that stands for itself

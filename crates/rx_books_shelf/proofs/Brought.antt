@@ -1,7 +1,7 @@
 -- Open books while the slot of a key is brought to what the key's place holds.
-use Rattle.std.proofs.Common.{◌≡◌, Bool, false, Option, Some, None, refl, sym, ap, subst, ◌∙◌}
+use Rattle.std.proofs.Common.{◌≡◌, false, Some, None, sym, ap, subst, ◌∙◌}
 use Rattle.std.specs.Prelude.{IfSome}
-use Rattle.std.specs.Option.{is_some, option_copied}
+use Rattle.std.specs.Option.{is_some}
 use Rattle.rx_fields.specs.Order.{key_cmp}
 use Rattle.rx_fields.specs.declared.key.Key.{Key}
 use Rattle.rx_sorted.specs.Ascending.{IsAscending, put, without}
@@ -13,8 +13,8 @@ use Rattle.rx_ledger.specs.Ledger.{is_taken, row_under}
 use Rattle.rx_ledger.specs.Rows.{row_key}
 use Rattle.rx_ledger.proofs.Orders.{key_total}
 use Rattle.rx_books_store.specs.OpenBooks.{OpenParts, open_with, open_without}
-use Rattle.rx_places.specs.declared.place.KeyPlace.{KeyPlace}
-use Rattle.rx_places.specs.Shelves.{HoldsOwnRow, place_key, row_held}
+use Rattle.rx_books_family.specs.declared.place.KeyPlace.{KeyPlace}
+use Rattle.rx_books_family.specs.Shelves.{HoldsOwnRow, place_key, row_held}
 use Rattle.rx_books_shelf.specs.Closed.{with_place}
 
 -- nothing is under the key of an emptied slot

@@ -1,15 +1,14 @@
 -- The books of a shelf whose books are all in and agree: they have the members beside, and under each key the row of the
 -- key's book.
-use Rattle.std.proofs.Common.{◌≡◌, ℕ, List, [], ◌∷◌, Bool, true, false, Option, Some, None, refl, sym, ap, subst, ◌∙◌, arith}
+use Rattle.std.proofs.Common.{◌≡◌, ℕ, List, [], ◌∷◌, true, false, Option, Some, None, refl, sym, ap, subst, ◌∙◌, arith}
 use Rattle.std.specs.Prelude.{IfSome}
-use Rattle.std.specs.List.{All, Contains, filter, list_all}
+use Rattle.std.specs.List.{All, Contains, filter}
 use Rattle.std.specs.Option.{is_some, option_to_list}
 use Rattle.std.specs.Ordering.{is_eq}
 use Rattle.std.proofs.lemmas.Bool.{and_parts}
 use Rattle.std.proofs.lemmas.Cmp.{tied_itself}
 use Rattle.std.proofs.lemmas.List.Elements.{All-contains, All-contains_itself, All-weaker}
 use Rattle.rx_fields.specs.Order.{id_cmp, key_cmp}
-use Rattle.rx_fields.specs.declared.key.Key.{Key}
 use Rattle.rx_sorted.specs.Ascending.{contains_key, item_at}
 use Rattle.rx_sorted.specs.Overlaid.{overlaid}
 use Rattle.rx_sorted.proofs.Edits.{same_members}
@@ -24,18 +23,16 @@ use Rattle.rx_ledger.specs.Ledger.{Ledger, is_listed, members_of}
 use Rattle.rx_ledger.specs.Members.{member_cmp, member_key, of_family}
 use Rattle.rx_ledger.specs.Rows.{claimed_by, member_of_row, row_key}
 use Rattle.rx_ledger.proofs.Orders.{id_exact, id_total, key_total, member_total}
-use Rattle.rx_books_parcel.specs.Books.{Book, OfFamily, OfKey, book, has_member}
-use Rattle.rx_books_parcel.specs.FamilyBook.{FamilyBook}
-use Rattle.rx_books_parcel.specs.Parcels.{ledger_of_family}
-use Rattle.rx_books_parcel.proofs.Agreed.{IsValue}
-use Rattle.rx_books_parcel.proofs.Parts.{ledger_path}
-use Rattle.rx_places.specs.declared.place.FamilyPlace.{FamilyPlace}
-use Rattle.rx_places.specs.declared.place.KeyPlace.{KeyPlace}
-use Rattle.rx_places.specs.Amended.{is_among}
-use Rattle.rx_places.specs.Shelves.{AreAllAgreed, IsOwnBook, IsShelf, ShelfParts, family_place, family_value, family_value_or, key_place}
-use Rattle.rx_places.specs.Shelves.{key_value_or, place_family, place_key, row_held, value_of}
-use Rattle.rx_places.proofs.Amended.{among_then, each, rows_of_book}
-use Rattle.rx_places.proofs.Valued.{held_book_own, shelf_value}
+use Rattle.rx_books_family.specs.Books.{Book, OfFamily, OfKey, book, has_member}
+use Rattle.rx_books_family.specs.FamilyBook.{FamilyBook, ledger_of_family}
+use Rattle.rx_books_family.proofs.BookValues.{IsValue, ledger_path}
+use Rattle.rx_books_family.specs.declared.place.FamilyPlace.{FamilyPlace}
+use Rattle.rx_books_family.specs.declared.place.KeyPlace.{KeyPlace}
+use Rattle.rx_books_family.specs.Amended.{is_among}
+use Rattle.rx_books_family.specs.Shelves.{AreAllAgreed, IsOwnBook, IsShelf, ShelfParts, family_place, family_value, family_value_or, key_place}
+use Rattle.rx_books_family.specs.Shelves.{key_value_or, place_family, place_key, row_held, value_of}
+use Rattle.rx_books_family.proofs.Amended.{among_then, each, rows_of_book}
+use Rattle.rx_books_family.proofs.Valued.{held_book_own, shelf_value}
 use Rattle.rx_books_shelf.specs.Closed.{are_members_kept, does_book_keep, is_in_place, is_member_held}
 
 -- ---- members

@@ -1,5 +1,5 @@
 -- The member at a place that was looked up.
-use Rattle.std.proofs.Common.{◌≡◌, ℕ, List, get_or, Option, Some, subst, inl, inr, arith}
+use Rattle.std.proofs.Common.{◌≡◌, ℕ, List, Some, subst, inl, inr, arith}
 use Rattle.std.specs.Prelude.{slice_get}
 use Rattle.std.proofs.lemmas.Option.{slice_get_cases}
 use Rattle.rx_sorted.specs.Ascending.{IsAt}

@@ -1,17 +1,15 @@
 -- The shelf of books: what each is worth there, which have a place, and that all are in.
-use Rattle.std.proofs.Common.{◌≡◌, ℕ, List, [], ◌∷◌, map, Bool, true, false, Option, Some, None, refl, sym, ap, ◌∙◌, inl, inr}
+use Rattle.std.proofs.Common.{◌≡◌, ℕ, List, [], ◌∷◌, map, false, Option, Some, None, refl, sym, ap, ◌∙◌, inl, inr}
 use Rattle.std.proofs.Common.{Result, Ok, Err}
 use Rattle.std.specs.Prelude.{IfOk, IfSome}
-use Rattle.std.specs.List.{All, Contains, filter, list_any}
+use Rattle.std.specs.List.{All, Contains, filter}
 use Rattle.std.specs.Option.{is_some, option_map, option_to_list}
 use Rattle.std.specs.Ordering.{is_eq}
 use Rattle.std.proofs.lemmas.Bool.{cases_Bool}
 use Rattle.std.proofs.lemmas.List.Elements.{All-cons, All-head, All-nil, All-tail, All-weaker}
 use Rattle.rx_fields.specs.Order.{id_cmp, key_cmp}
 use Rattle.rx_fields.specs.declared.key.Key.{Key}
-use Rattle.rx_sorted.specs.Ascending.{IsAscending, contains_key, has_key, item_at}
-use Rattle.rx_sorted.proofs.Edits.{same_members}
-use Rattle.rx_sorted.proofs.Filters.{filter_none}
+use Rattle.rx_sorted.specs.Ascending.{IsAscending, item_at, itself}
 use Rattle.rx_sorted.proofs.Joined.{IsAscending-joined}
 use Rattle.rx_sorted.proofs.Keys.{Equal-from_is_eq, item_at-below}
 use Rattle.rx_sorted.proofs.LookUps.{item_at-found, item_at-map, item_at-tied}
@@ -20,20 +18,20 @@ use Rattle.rx_ledger.specs.declared.row.Row.{Row}
 use Rattle.rx_ledger.specs.Ledger.{IsLedger, Ledger, row_under}
 use Rattle.rx_ledger.specs.Rows.{row_key}
 use Rattle.rx_ledger.proofs.Orders.{id_exact, id_total, key_exact, key_total}
-use Rattle.rx_books_parcel.specs.Books.{Book, OfFamily, OfKey, book, has_member, has_row}
-use Rattle.rx_books_parcel.specs.FamilyBook.{FamilyBook, IsOwn}
-use Rattle.rx_books_parcel.specs.Footprints.{FootprintParts, IsFootprint, itself, names}
-use Rattle.rx_books_parcel.proofs.Parts.{ledger_path}
+use Rattle.rx_books_family.specs.Books.{Book, OfFamily, OfKey, book, has_member, has_row}
+use Rattle.rx_books_family.specs.FamilyBook.{FamilyBook, IsOwn}
+use Rattle.rx_books_parcel.specs.Footprints.{FootprintParts, IsFootprint}
+use Rattle.rx_books_family.proofs.BookValues.{ledger_path}
 use Rattle.rx_books_store.specs.LedgerBooks.{LedgerBooks}
-use Rattle.rx_places.specs.declared.place.FamilyPlace.{FamilyPlace}
-use Rattle.rx_places.specs.declared.place.KeyPlace.{KeyPlace}
-use Rattle.rx_places.specs.Shelves.{HoldsOwnBook, HoldsOwnRow, IsShelf, ShelfParts, family_place, family_value_or}
-use Rattle.rx_places.specs.Shelves.{has_slot, is_family_out, is_key_out, is_out}
-use Rattle.rx_places.specs.Shelves.{key_place, key_value_or, place_family, place_key, row_held, value_of}
+use Rattle.rx_books_family.specs.declared.place.FamilyPlace.{FamilyPlace}
+use Rattle.rx_books_family.specs.declared.place.KeyPlace.{KeyPlace}
+use Rattle.rx_books_family.specs.Shelves.{HoldsOwnBook, HoldsOwnRow, IsShelf, ShelfParts, family_place, family_value_or}
+use Rattle.rx_books_family.specs.Shelves.{has_slot, is_family_out, is_key_out, is_out}
+use Rattle.rx_books_family.specs.Shelves.{key_place, key_value_or, place_family, place_key, value_of}
 use Rattle.rx_books_shelf.specs.Closed.{HasSlot}
 use Rattle.rx_books_shelf.specs.Opened.{all_families, all_keys, family_book, filled_place, full_key_place, is_named, shelf_of}
 use Rattle.rx_books_shelf.proofs.Ascended.{joined_has}
-use Rattle.rx_places.proofs.Moved.{map_map}
+use Rattle.rx_sorted.proofs.AllSlots.{map_map}
 use Rattle.rx_books_shelf.proofs.ShelfKept.{ascending_changed}
 
 -- the row under a key, as a list

@@ -1,7 +1,7 @@
 -- Books of families while members and rows are put into them, in order: at the end each has all of its family.
 use Rattle.std.proofs.Common.{◌≡◌, ℕ, List, [], ◌∷◌, ◌++◌, map, set, get_or, cond, true, false}
 use Rattle.std.proofs.Common.{Option, Some, None, Result, Ok, Err, refl, sym, ap, subst, ◌∙◌, inl, inr}
-use Rattle.std.specs.Prelude.{◌||◌, OnOk}
+use Rattle.std.specs.Prelude.{OnOk}
 use Rattle.std.specs.Cmp.{eq_by_cmp_equiv}
 use Rattle.std.specs.List.{All, filter}
 use Rattle.std.specs.Option.{is_some}
@@ -12,7 +12,7 @@ use Rattle.std.proofs.lemmas.Bool.{and_from, and_parts, cases_Bool}
 use Rattle.std.proofs.lemmas.Cmp.{tied_itself}
 use Rattle.std.proofs.lemmas.List.Elements.{All-cons, All-head, All-nil, All-tail, All-weaker}
 use Rattle.rx_fields.specs.Order.{id_cmp, key_cmp}
-use Rattle.rx_sorted.specs.Ascending.{IsAscending, IsAt, IsBelow, contains_key, is_past, item_at, put, put_all}
+use Rattle.rx_sorted.specs.Ascending.{IsAscending, IsAt, IsBelow, contains_key, is_past, item_at, put_all}
 use Rattle.rx_sorted.proofs.Edits.{put-past, put_all-nil}
 use Rattle.rx_sorted.proofs.Kept.{IsAscending-filter}
 use Rattle.rx_sorted.proofs.LookUps.{item_at-filter_kept, item_at-found}
@@ -23,11 +23,11 @@ use Rattle.rx_ledger.specs.Ledger.{Ledger, is_listed, members_of, rows_of}
 use Rattle.rx_ledger.specs.Members.{is_same, member_cmp, member_key, of_family}
 use Rattle.rx_ledger.specs.Rows.{claimed_by, member_of_row, row_key}
 use Rattle.rx_ledger.proofs.Orders.{id_exact, id_total, key_total, member_exact, member_total}
-use Rattle.rx_books_parcel.specs.FamilyBook.{FamilyBook, book_with_member, book_with_row, family_of, own_ledger}
+use Rattle.rx_books_family.specs.FamilyBook.{FamilyBook, book_with_member, book_with_row, family_of, own_ledger}
 use Rattle.rx_books_shelf.specs.Gathered.{with_members, with_own_member, with_own_row, with_rows}
-use Rattle.rx_places.specs.Moving.{one_at}
-use Rattle.rx_places.proofs.Moving.{over_absent, over_at}
-use Rattle.rx_places.proofs.Moved.{map_map, map_same}
+use Rattle.rx_sorted.specs.Slots.{one_at}
+use Rattle.rx_sorted.proofs.OneSlot.{over_absent, over_at}
+use Rattle.rx_sorted.proofs.AllSlots.{map_map, map_same}
 use Rattle.rx_books_shelf.proofs.ShelfKept.{ascending_changed}
 
 map_itself : {A : Type 0} (xs : List A) → map (λ x. x) xs ≡ xs

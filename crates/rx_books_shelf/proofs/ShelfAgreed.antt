@@ -1,36 +1,31 @@
 -- The tests of a shelf's books tell whether all are in and agree.
-use Rattle.std.proofs.Common.{◌≡◌, ℕ, zero, suc, List, [], Bool, true, false, Option, Some}
-use Rattle.std.proofs.Common.{None, refl, sym, ap, subst, ◌∙◌, inl, inr, arith}
+use Rattle.std.proofs.Common.{◌≡◌, zero, suc, List, Bool, true, false, Option, Some}
+use Rattle.std.proofs.Common.{None, refl, sym, ap, subst, ◌∙◌, arith}
 use Rattle.std.specs.Prelude.{◌↔◌, ◌&&◌, ◌||◌, IsTrue}
-use Rattle.std.specs.List.{All, Contains, list_all}
+use Rattle.std.specs.List.{Contains, list_all}
 use Rattle.std.specs.Option.{is_some, option_to_list}
 use Rattle.std.specs.Ordering.{is_eq}
-use Rattle.std.proofs.lemmas.Bool.{and_from, and_parts, cases_Bool}
+use Rattle.std.proofs.lemmas.Bool.{and_from, and_parts}
 use Rattle.std.proofs.lemmas.Cmp.{tied_itself}
 use Rattle.std.proofs.lemmas.List.Elements.{All-contains, All-contains_itself, All-weaker}
 use Rattle.std.proofs.lemmas.List.Sums.{AllPass-from_list_all, list_all-from_AllPass}
 use Rattle.rx_fields.specs.Order.{id_cmp, key_cmp}
-use Rattle.rx_fields.specs.declared.key.Key.{Key}
-use Rattle.rx_sorted.specs.Ascending.{item_at}
 use Rattle.rx_sorted.proofs.Edits.{same_item}
 use Rattle.rx_sorted.proofs.Filters.{Contains-filter, Contains-filter_kept}
 use Rattle.rx_sorted.proofs.Keys.{Equal-from_is_eq}
 use Rattle.rx_sorted.proofs.LookUps.{item_at-found, item_at-from_contains}
 use Rattle.rx_ledger.specs.declared.row.Row.{Row}
-use Rattle.rx_ledger.specs.Ledger.{Ledger, row_under}
+use Rattle.rx_ledger.specs.Ledger.{row_under}
 use Rattle.rx_ledger.specs.Rows.{row_key}
 use Rattle.rx_ledger.proofs.Decided.{row_decides}
 use Rattle.rx_ledger.proofs.Orders.{id_exact, id_total, key_exact, key_total}
-use Rattle.rx_books_parcel.specs.Agreement.{is_found}
-use Rattle.rx_books_parcel.specs.Books.{Book, OfFamily, OfKey, book, has_row}
-use Rattle.rx_books_parcel.specs.FamilyBook.{FamilyBook}
-use Rattle.rx_books_parcel.specs.Parcels.{ledger_of_family}
-use Rattle.rx_books_parcel.proofs.Agreed.{IsValue}
-use Rattle.rx_places.specs.declared.place.FamilyPlace.{FamilyPlace}
-use Rattle.rx_places.specs.declared.place.KeyPlace.{KeyPlace}
-use Rattle.rx_places.specs.Shelves.{AreAllAgreed, IsShelf, ShelfParts, are_all_in, family_place, family_value_or, has_slot, key_place}
-use Rattle.rx_places.specs.Shelves.{key_value_or, place_family, place_key, row_held, value_of}
-use Rattle.rx_places.proofs.Valued.{shelf_value}
+use Rattle.rx_books_family.specs.Books.{Book, OfFamily, OfKey, book, has_row, is_found}
+use Rattle.rx_books_family.specs.FamilyBook.{FamilyBook, ledger_of_family}
+use Rattle.rx_books_family.specs.declared.place.FamilyPlace.{FamilyPlace}
+use Rattle.rx_books_family.specs.declared.place.KeyPlace.{KeyPlace}
+use Rattle.rx_books_family.specs.Shelves.{AreAllAgreed, IsShelf, ShelfParts, are_all_in, family_place, family_value_or, has_slot, key_place}
+use Rattle.rx_books_family.specs.Shelves.{key_value_or, place_family, place_key, row_held, value_of}
+use Rattle.rx_books_family.proofs.Valued.{shelf_value}
 use Rattle.rx_books_shelf.specs.Agreement.{agree, book_stands, is_kept_out, rest_stands, row_stands, stands, stands_in}
 
 -- ---- small things

@@ -2,7 +2,6 @@
 use Rattle.std.proofs.Common.{◌≡◌, ℕ, List, [], ◌∷◌, ◌++◌, map, Bool, true, false, not, Option}
 use Rattle.std.proofs.Common.{Some, None, refl, sym, ap, subst, ◌∙◌, inl, inr}
 use Rattle.std.specs.Prelude.{◌&&◌, IfSome}
-use Rattle.std.specs.Cmp.{IsTotalOrder}
 use Rattle.std.specs.List.{All, Contains, flat_map, list_all}
 use Rattle.std.specs.Option.{option_and_then, option_to_list}
 use Rattle.std.specs.declared.cmp.Ordering.{Ordering}
@@ -13,22 +12,22 @@ use Rattle.rx_fields.specs.Numbered.{Span}
 use Rattle.rx_fields.specs.Order.{id_cmp, key_cmp}
 use Rattle.rx_fields.specs.declared.key.Key.{Key}
 use Rattle.rx_fields.specs.contracts.period.PeriodPartialEq.TheImpl.{ghosts as period}
-use Rattle.rx_sorted.specs.Ascending.{IsAscending, IsBelow, contains_key, item_at}
+use Rattle.rx_sorted.specs.Ascending.{IsAscending, IsBelow, contains_key, item_at, itself}
 use Rattle.rx_sorted.proofs.Keys.{IsBelow-append}
 use Rattle.rx_sorted.proofs.LookUps.{item_at-found}
 use Rattle.rx_ledger.specs.declared.row.Row.{Row}
 use Rattle.rx_ledger.proofs.Decided.{period_decides}
 use Rattle.rx_ledger.proofs.Orders.{id_exact, id_total, key_exact, key_total}
-use Rattle.rx_books_parcel.specs.declared.key_book.KeyBook.{KeyBook}
-use Rattle.rx_books_parcel.specs.Books.{OfFamily, OfKey}
-use Rattle.rx_books_parcel.specs.FamilyBook.{FamilyBook, IsOwn, family_of}
-use Rattle.rx_books_parcel.specs.Footprints.{FootprintParts, itself}
+use Rattle.rx_books_family.specs.declared.key_book.KeyBook.{KeyBook}
+use Rattle.rx_books_family.specs.Books.{OfFamily, OfKey}
+use Rattle.rx_books_family.specs.FamilyBook.{FamilyBook, IsOwn, family_of}
+use Rattle.rx_books_parcel.specs.Footprints.{FootprintParts}
 use Rattle.rx_books_parcel.specs.Parcels.{HasOwnRow, IsParcel, ParcelParts, key_of, named_in}
 use Rattle.rx_books_store.specs.LedgerBooks.{LedgerBooks}
-use Rattle.rx_places.specs.declared.place.FamilyPlace.{FamilyPlace}
-use Rattle.rx_places.specs.declared.place.KeyPlace.{KeyPlace}
-use Rattle.rx_places.specs.Shelves.{HoldsOwnBook, HoldsOwnRow, IsOwnBook, IsShelf, ShelfParts, is_family_out, is_key_out}
-use Rattle.rx_places.specs.Shelves.{is_out, place_family, place_key, row_held}
+use Rattle.rx_books_family.specs.declared.place.FamilyPlace.{FamilyPlace}
+use Rattle.rx_books_family.specs.declared.place.KeyPlace.{KeyPlace}
+use Rattle.rx_books_family.specs.Shelves.{HoldsOwnBook, HoldsOwnRow, IsOwnBook, IsShelf, ShelfParts, is_family_out, is_key_out}
+use Rattle.rx_books_family.specs.Shelves.{is_out, place_family, place_key, row_held}
 use Rattle.rx_books_shelf.specs.Closed.{HasSlot}
 use Rattle.rx_books_shelf.specs.Taken.{are_out, family_book, family_given, family_taken, key_book, key_given, key_taken, parcel_of}
 use Rattle.rx_books_shelf.specs.Taken.{put_back, taken_out, with_book, with_row}

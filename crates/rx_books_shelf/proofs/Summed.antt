@@ -1,12 +1,8 @@
 -- The totals of a family's book are the stored figures of the books that it is of.
-use Rattle.std.proofs.Common.{◌≡◌, ℕ, List, [], ◌∷◌, ◌++◌, map, Bool, true, false, Option, Some, None, refl, sym, ap, subst, ◌∙◌, inl, inr}
-use Rattle.std.specs.Prelude.{IfSome, slice_get}
+use Rattle.std.proofs.Common.{◌≡◌, ℕ, List, [], ◌∷◌, map, true, false, refl, sym, ap, ◌∙◌, inl, inr}
 use Rattle.std.specs.List.{All, Contains, filter, list_all, list_any}
-use Rattle.std.specs.Option.{is_some}
-use Rattle.std.specs.Ordering.{is_eq}
 use Rattle.std.proofs.lemmas.Bool.{cases_Bool}
-use Rattle.std.proofs.lemmas.List.Elements.{All-cons, All-contains_itself, All-head, All-tail, All-weaker, filter_passes}
-use Rattle.rx_fields.specs.Order.{id_cmp}
+use Rattle.std.proofs.lemmas.List.Elements.{All-contains_itself, All-head, All-tail, All-weaker, filter_passes}
 use Rattle.rx_sorted.proofs.Filters.{Contains-filter}
 use Rattle.rx_sorted.proofs.Keys.{Equal-from_is_eq}
 use Rattle.rx_ledger.specs.declared.member.Member.{Member}
@@ -16,7 +12,7 @@ use Rattle.rx_ledger.specs.Members.{of_family}
 use Rattle.rx_ledger.specs.Rows.{member_of_row}
 use Rattle.rx_ledger.specs.Sums.{deductible, deductible_in, family_deductible, family_deductible_in, out_of_pocket, out_of_pocket_in}
 use Rattle.rx_ledger.proofs.Orders.{id_exact}
-use Rattle.rx_books_parcel.specs.FamilyBook.{AreTotals, FamilyBook, IsOwn, deductibles_over, own_ledger}
+use Rattle.rx_books_family.specs.FamilyBook.{AreTotals, FamilyBook, IsOwn, deductibles_over, own_ledger}
 use Rattle.rx_books_store.specs.LedgerBooks.{LedgerBooks, has_members}
 use Rattle.rx_books_shelf.specs.Gathered.{own_deductible}
 use Rattle.rx_books_shelf.specs.Opened.{family_book}

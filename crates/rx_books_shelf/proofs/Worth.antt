@@ -1,38 +1,35 @@
 -- What the books of a shelf are worth after a parcel was taken, and after one was given back.
-use Rattle.std.proofs.Common.{◌≡◌, ℕ, List, [], ◌∷◌, ◌++◌, map, cond, Bool, true, false, not}
+use Rattle.std.proofs.Common.{◌≡◌, ℕ, List, [], ◌∷◌, ◌++◌, map, cond, Bool, true, false}
 use Rattle.std.proofs.Common.{Option, Some, None, refl, sym, ap, subst, ◌∙◌, inl, inr}
-use Rattle.std.specs.Prelude.{◌||◌, ◌&&◌, if◌then◌else◌, IfSome}
+use Rattle.std.specs.Prelude.{◌||◌, if◌then◌else◌, IfSome}
 use Rattle.std.specs.Cmp.{IsTotalOrder}
-use Rattle.std.specs.List.{All, Contains, flat_map, list_all}
+use Rattle.std.specs.List.{flat_map, list_all}
 use Rattle.std.specs.Option.{is_some, option_and_then, option_map, option_or, option_to_list}
 use Rattle.std.specs.Ordering.{is_eq}
 use Rattle.std.specs.declared.cmp.Ordering.{Ordering}
-use Rattle.std.specs.declared.cmp.Ordering.TheVariants.{Equal}
 use Rattle.std.proofs.lemmas.Bool.{and_parts, cases_Bool}
-use Rattle.std.proofs.lemmas.Cmp.{tied_itself}
 use Rattle.std.proofs.lemmas.List.Elements.{All-contains}
 use Rattle.std.proofs.lemmas.List.Sums.{AllPass-from_list_all}
 use Rattle.std.proofs.lemmas.Map.Lookups.{CmpEqualImpliesEq}
 use Rattle.rx_fields.specs.Order.{id_cmp, key_cmp}
 use Rattle.rx_fields.specs.declared.key.Key.{Key}
-use Rattle.rx_sorted.specs.Ascending.{IsAscending, contains_key, has_key, item_at}
+use Rattle.rx_sorted.specs.Ascending.{contains_key, item_at, itself}
 use Rattle.rx_sorted.proofs.Keys.{Equal-from_is_eq}
 use Rattle.rx_sorted.proofs.LookUps.{item_at-found, item_at-map}
-use Rattle.rx_ledger.specs.declared.row.Row.{Row}
 use Rattle.rx_ledger.specs.Ledger.{Ledger, empty}
 use Rattle.rx_ledger.proofs.Orders.{id_exact, id_total, key_exact, key_total}
-use Rattle.rx_books_parcel.specs.declared.key_book.KeyBook.{KeyBook}
-use Rattle.rx_books_parcel.specs.Books.{Book, OfFamily, OfKey, book}
-use Rattle.rx_books_parcel.specs.FamilyBook.{FamilyBook, family_of}
-use Rattle.rx_books_parcel.specs.Footprints.{FootprintParts, itself, names}
-use Rattle.rx_books_parcel.specs.Parcels.{ParcelParts, family_at, key_of, ledger_of_family, named_in, row_at, values_of}
+use Rattle.rx_books_family.specs.declared.key_book.KeyBook.{KeyBook}
+use Rattle.rx_books_family.specs.Books.{Book, OfFamily, OfKey, book}
+use Rattle.rx_books_family.specs.FamilyBook.{FamilyBook, family_of, ledger_of_family}
+use Rattle.rx_books_parcel.specs.Footprints.{FootprintParts, names}
+use Rattle.rx_books_parcel.specs.Parcels.{ParcelParts, family_at, key_of, named_in, values_of}
 use Rattle.rx_books_parcel.proofs.Held.{family_held, key_held}
-use Rattle.rx_places.specs.declared.place.FamilyPlace.{FamilyPlace}
-use Rattle.rx_places.specs.declared.place.KeyPlace.{KeyPlace}
-use Rattle.rx_places.specs.Shelves.{HoldsOwnBook, IsOwnBook, IsShelf, ShelfParts, family_place}
-use Rattle.rx_places.specs.Shelves.{family_value_or, has_slot, is_family_in, is_family_out}
-use Rattle.rx_places.specs.Shelves.{is_in, is_key_in, is_key_out, is_out, key_place, key_value_or}
-use Rattle.rx_places.specs.Shelves.{place_family, place_key, row_held, value_of}
+use Rattle.rx_books_family.specs.declared.place.FamilyPlace.{FamilyPlace}
+use Rattle.rx_books_family.specs.declared.place.KeyPlace.{KeyPlace}
+use Rattle.rx_books_family.specs.Shelves.{HoldsOwnBook, IsOwnBook, IsShelf, ShelfParts, family_place}
+use Rattle.rx_books_family.specs.Shelves.{family_value_or, has_slot, is_family_in, is_family_out}
+use Rattle.rx_books_family.specs.Shelves.{is_in, is_key_in, is_key_out, is_out, key_place, key_value_or}
+use Rattle.rx_books_family.specs.Shelves.{place_family, place_key, row_held, value_of}
 use Rattle.rx_books_shelf.specs.Taken.{are_out, family_book, family_given, family_taken, has_all, key_book, key_given, key_taken, parcel_of}
 use Rattle.rx_books_shelf.specs.Taken.{put_back, taken_out, with_book, with_row}
 

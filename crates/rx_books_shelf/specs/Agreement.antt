@@ -3,12 +3,9 @@ use Rattle.std.specs.Prelude.{Bool, true, ◌&&◌, ◌||◌, Option, Some, None
 use Rattle.std.specs.List.{list_all}
 use Rattle.rx_ledger.specs.declared.row.Row.{Row}
 use Rattle.rx_ledger.specs.Ledger.{row_under}
-use Rattle.rx_books_parcel.specs.Agreement.{is_found}
-use Rattle.rx_books_parcel.specs.Books.{Book, OfFamily, OfKey}
-use Rattle.rx_books_parcel.specs.FamilyBook.{FamilyBook}
-use Rattle.rx_places.specs.declared.place.FamilyPlace.{FamilyPlace}
-use Rattle.rx_places.specs.declared.place.KeyPlace.{KeyPlace}
-use Rattle.rx_places.specs.Shelves.{ShelfParts, are_all_in, has_slot, row_held, value_of}
+use Rattle.rx_books_family.specs.Books.{Book, OfFamily, OfKey, is_found}
+use Rattle.rx_books_family.specs.FamilyBook.{FamilyBook}
+use Rattle.rx_books_family.specs.Shelves.{ShelfParts, are_all_in, has_slot, row_held, value_of}
 
 -- the row stands in the value of the book
 abbrev pub stands_in : ShelfParts → Book → Row → Bool

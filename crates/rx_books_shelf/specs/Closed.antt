@@ -8,10 +8,10 @@ use Rattle.rx_ledger.specs.declared.member.Member.{Member}
 use Rattle.rx_ledger.specs.declared.row.Row.{Row}
 use Rattle.rx_ledger.specs.Rows.{row_key}
 use Rattle.rx_books_store.specs.OpenBooks.{OpenParts}
-use Rattle.rx_places.specs.declared.place.FamilyPlace.{FamilyPlace}
-use Rattle.rx_places.specs.declared.place.KeyPlace.{KeyPlace}
-use Rattle.rx_places.specs.Amended.{is_among, members_held}
-use Rattle.rx_places.specs.Shelves.{ShelfParts, family_place, place_key, row_held}
+use Rattle.rx_books_family.specs.declared.place.FamilyPlace.{FamilyPlace}
+use Rattle.rx_books_family.specs.declared.place.KeyPlace.{KeyPlace}
+use Rattle.rx_books_family.specs.Amended.{is_among, members_held}
+use Rattle.rx_books_family.specs.Shelves.{ShelfParts, family_place, place_key, row_held}
 
 -- ---- the members
 

@@ -6,7 +6,7 @@ use Rattle.rx_ledger.specs.Ledger.{Ledger, members_of, rows_of}
 use Rattle.rx_ledger.specs.Members.{of_family}
 use Rattle.rx_ledger.specs.Rows.{claimed_by}
 use Rattle.rx_ledger.specs.Sums.{deductible}
-use Rattle.rx_books_parcel.specs.FamilyBook.{FamilyBook, book_with_member, book_with_row}
+use Rattle.rx_books_family.specs.FamilyBook.{FamilyBook, book_with_member, book_with_row}
 use Rattle.rx_books_store.specs.LedgerBooks.{LedgerBooks}
 
 -- the book with a member or a row, if it is one of its family

@@ -1,18 +1,18 @@
 -- Meaning: the shelf of books, with all of them in: a place for each book that a footprint names.
-use Rattle.std.specs.Prelude.{ℕ, Bool, List, [], Some, map}
+use Rattle.std.specs.Prelude.{ℕ, Bool, List, Some, map}
 use Rattle.std.specs.List.{list_any}
-use Rattle.rx_fields.specs.Numbered.{Span}
 use Rattle.rx_fields.specs.Order.{id_cmp, key_cmp}
 use Rattle.rx_fields.specs.declared.key.Key.{Key}
 use Rattle.rx_sorted.specs.Joined.{joined}
-use Rattle.rx_ledger.specs.Ledger.{Ledger, members_of, row_under, rows_of}
-use Rattle.rx_books_parcel.specs.Books.{Book}
-use Rattle.rx_books_parcel.specs.FamilyBook.{FamilyBook}
-use Rattle.rx_books_parcel.specs.Footprints.{FootprintParts, itself, names}
+use Rattle.rx_ledger.specs.Ledger.{members_of, row_under, rows_of}
+use Rattle.rx_books_family.specs.Books.{Book}
+use Rattle.rx_books_family.specs.FamilyBook.{FamilyBook}
+use Rattle.rx_sorted.specs.Ascending.{itself}
+use Rattle.rx_books_parcel.specs.Footprints.{FootprintParts, names}
 use Rattle.rx_books_store.specs.LedgerBooks.{LedgerBooks}
-use Rattle.rx_places.specs.declared.place.KeyPlace.{KeyPlace}
-use Rattle.rx_places.specs.declared.place.FamilyPlace.{FamilyPlace}
-use Rattle.rx_places.specs.Shelves.{ShelfParts}
+use Rattle.rx_books_family.specs.declared.place.KeyPlace.{KeyPlace}
+use Rattle.rx_books_family.specs.declared.place.FamilyPlace.{FamilyPlace}
+use Rattle.rx_books_family.specs.Shelves.{ShelfParts}
 
 -- the keys, and the families, of all footprints: each once, ascending
 abbrev pub all_keys : List FootprintParts → List Key

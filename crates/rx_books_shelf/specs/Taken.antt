@@ -4,15 +4,15 @@ use Rattle.std.specs.List.{flat_map, list_all}
 use Rattle.std.specs.Option.{option_and_then, option_to_list}
 use Rattle.rx_fields.specs.Order.{id_cmp, key_cmp}
 use Rattle.rx_fields.specs.declared.key.Key.{Key}
-use Rattle.rx_sorted.specs.Ascending.{contains_key, item_at}
-use Rattle.rx_books_parcel.specs.declared.key_book.KeyBook.{KeyBook}
-use Rattle.rx_books_parcel.specs.Books.{OfFamily, OfKey}
-use Rattle.rx_books_parcel.specs.FamilyBook.{FamilyBook, family_of}
-use Rattle.rx_books_parcel.specs.Footprints.{FootprintParts, itself}
+use Rattle.rx_sorted.specs.Ascending.{contains_key, item_at, itself}
+use Rattle.rx_books_family.specs.declared.key_book.KeyBook.{KeyBook}
+use Rattle.rx_books_family.specs.Books.{OfFamily, OfKey}
+use Rattle.rx_books_family.specs.FamilyBook.{FamilyBook, family_of}
+use Rattle.rx_books_parcel.specs.Footprints.{FootprintParts}
 use Rattle.rx_books_parcel.specs.Parcels.{ParcelParts, key_of}
-use Rattle.rx_places.specs.declared.place.KeyPlace.{KeyPlace}
-use Rattle.rx_places.specs.declared.place.FamilyPlace.{FamilyPlace}
-use Rattle.rx_places.specs.Shelves.{ShelfParts, is_in, is_out, place_family, place_key, row_held}
+use Rattle.rx_books_family.specs.declared.place.KeyPlace.{KeyPlace}
+use Rattle.rx_books_family.specs.declared.place.FamilyPlace.{FamilyPlace}
+use Rattle.rx_books_family.specs.Shelves.{ShelfParts, is_in, is_out, place_family, place_key, row_held}
 
 -- ---- a parcel is taken
 

@@ -4,18 +4,16 @@ ghost use Rattle.std.specs.List.{list_all};
 ghost use Rattle.std.specs.Option.{option_and_then};
 ghost use Rattle.rx_ledger.specs.Ledger.{row_under};
 ghost use Rattle.rx_ledger.specs.Rows.{claimed_by};
-ghost use Rattle.rx_books_parcel.specs.Agreement.{is_found};
-ghost use Rattle.rx_books_parcel.specs.Books.{OfFamily, OfKey};
-ghost use Rattle.rx_places.specs.Shelves.{AreAllAgreed, IsShelf, are_all_in, family_value, has_slot, is_family_held, is_key_held};
-ghost use Rattle.rx_places.specs.Shelves.{row_held, value_of};
+ghost use Rattle.rx_books_family.specs.Books.{OfFamily, OfKey, is_found};
+ghost use Rattle.rx_books_family.specs.Shelves.{AreAllAgreed, IsShelf, are_all_in, family_value, has_slot, is_family_held, is_key_held};
+ghost use Rattle.rx_books_family.specs.Shelves.{row_held, value_of};
 ghost use Rattle.rx_books_shelf.specs.Agreement.{agree, book_stands, rest_stands, row_stands, stands};
 
 use crate::held::row_held;
 use crate::shelf::Shelf;
-use rx_books_parcel::Family;
+use rx_books_family::{Family, FamilyPlace, KeyPlace};
 use rx_fields::{Id, Key};
 use rx_ledger::Row;
-use rx_places::{FamilyPlace, KeyPlace};
 
 impl Shelf {
     /// Whether no book is out, and the values of all books agree (docs/MODEL.md, "Book values").

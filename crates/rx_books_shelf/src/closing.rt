@@ -2,17 +2,17 @@ ghost use Rattle.std.specs.Prelude.{◌≡◌, ◌↔◌, IfErr, IfOk, IfSome, I
 ghost use Rattle.std.specs.List.{All, list_all};
 ghost use Rattle.rx_ledger.specs.Ledger.{IsLedger, is_listed, is_taken};
 ghost use Rattle.rx_ledger.specs.Rows.{member_of_row};
-ghost use Rattle.rx_books_parcel.specs.Books.{Book, book};
+ghost use Rattle.rx_books_family.specs.Books.{Book, book};
 ghost use Rattle.rx_books_store.specs.OpenBooks.{open_with, open_without};
-ghost use Rattle.rx_places.specs.Shelves.{AreAllAgreed, HoldsOwnRow, IsShelf, are_all_in, row_held, value_of};
+ghost use Rattle.rx_books_family.specs.Shelves.{AreAllAgreed, HoldsOwnRow, IsShelf, are_all_in, row_held, value_of};
 ghost use Rattle.rx_books_shelf.specs.Closed.{HasSlot, are_members_kept, does_book_keep, is_member_held, open_over, with_place};
 
 use crate::held::row_held;
 use crate::shelf::Shelf;
+use rx_books_family::{FamilyPlace, KeyPlace, is_among};
 use rx_books_store::{Books, OpenBooks};
 use rx_fields::Key;
 use rx_ledger::{Member, Row};
-use rx_places::{FamilyPlace, KeyPlace, is_among};
 
 impl Shelf {
     /// The books of all values. It takes no memory. While a book is out the shelf comes back.
@@ -44,7 +44,8 @@ impl Shelf {
     {
         let Shelf { books, keys, .. } = self;
         let books = brought(books, keys.as_slice());
-        let _told = books.standing();
+        // That the books' ledger is in order is known to the prover from this clause.
+        books.period();
         books.close()
     }
 
@@ -149,7 +150,7 @@ fn bring(books: &mut OpenBooks, near: &mut usize, place: &KeyPlace)
 fn read_rows(books: &OpenBooks)
     ensures { IsLedger books.now.books.ledger }
 {
-    let _standing = books.standing();
+    books.period();
 }
 
 // Takes the row out of the slot of a key, if there is one.

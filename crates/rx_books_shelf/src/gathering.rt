@@ -1,12 +1,11 @@
 ghost use Rattle.std.specs.Prelude.{◌≡◌, [], IfOk, OnOk, map, true};
 ghost use Rattle.std.specs.List.{All};
 ghost use Rattle.rx_fields.specs.Order.{id_cmp, key_cmp};
-ghost use Rattle.rx_sorted.specs.Ascending.{IsAscending, is_past};
+ghost use Rattle.rx_sorted.specs.Ascending.{IsAscending, is_past, itself};
 ghost use Rattle.rx_ledger.specs.Ledger.{is_listed, members_of};
 ghost use Rattle.rx_ledger.specs.Members.{member_cmp, member_key};
 ghost use Rattle.rx_ledger.specs.Rows.{member_of_row, row_key};
-ghost use Rattle.rx_books_parcel.specs.FamilyBook.{IsOwn, empty_book, family_of, own_ledger};
-ghost use Rattle.rx_books_parcel.specs.Footprints.{itself};
+ghost use Rattle.rx_books_family.specs.FamilyBook.{IsOwn, empty_book, family_of, own_ledger};
 ghost use Rattle.rx_books_shelf.specs.Gathered.{with_members, with_own_member, with_own_row, with_rows};
 ghost use Rattle.rx_books_shelf.specs.Opened.{family_book};
 
@@ -15,7 +14,7 @@ use crate::unsummed::{Room, Unsummed};
 use rx_books_store::OpenBooks;
 use rx_fields::{Id, Memory, Period};
 use rx_ledger::{Member, Row};
-use rx_places::place_near;
+use rx_sorted::place_near;
 use std::alloc::Global;
 
 /// The books of these families, gathered in one pass over the rows that stand; their totals are still to come.

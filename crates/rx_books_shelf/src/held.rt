@@ -1,8 +1,8 @@
 ghost use Rattle.std.specs.Prelude.{◌≡◌};
-ghost use Rattle.rx_places.specs.Shelves.{row_held};
+ghost use Rattle.rx_books_family.specs.Shelves.{row_held};
 
+use rx_books_family::KeyPlace;
 use rx_ledger::Row;
-use rx_places::KeyPlace;
 
 /// The row that a place holds.
 pub(crate) fn row_held(place: KeyPlace) -> Option<Row>

@@ -10,7 +10,7 @@
 //! let books = shelf.close()?;
 //! ```
 //!
-//! What each book is worth on a shelf stands in `rx_places`' `specs/Shelves.antt`, what taking and giving make of it in
+//! What each book is worth on a shelf stands in `rx_books_family`'s `specs/Shelves.antt`, what taking and giving make of it in
 //! `specs/Taken.antt`.
 #![tactic(auto)]
 

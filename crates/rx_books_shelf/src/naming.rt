@@ -1,8 +1,8 @@
 ghost use Rattle.std.specs.Prelude.{◌≡◌, IfOk};
 ghost use Rattle.std.specs.List.{All};
 ghost use Rattle.rx_fields.specs.Order.{id_cmp, key_cmp};
-ghost use Rattle.rx_sorted.specs.Ascending.{IsAscending};
-ghost use Rattle.rx_books_parcel.specs.Footprints.{IsFootprint, itself};
+ghost use Rattle.rx_sorted.specs.Ascending.{IsAscending, itself};
+ghost use Rattle.rx_books_parcel.specs.Footprints.{IsFootprint};
 ghost use Rattle.rx_books_shelf.specs.Opened.{all_families, all_keys};
 
 use crate::unique::put_in_order;

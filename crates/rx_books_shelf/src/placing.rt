@@ -1,18 +1,17 @@
 ghost use Rattle.std.specs.Prelude.{◌≡◌, IfOk, map};
 ghost use Rattle.std.specs.List.{All};
 ghost use Rattle.rx_fields.specs.Order.{id_cmp, key_cmp};
-ghost use Rattle.rx_sorted.specs.Ascending.{IsAscending};
+ghost use Rattle.rx_sorted.specs.Ascending.{IsAscending, itself};
 ghost use Rattle.rx_ledger.specs.Ledger.{row_under};
-ghost use Rattle.rx_books_parcel.specs.FamilyBook.{family_of};
-ghost use Rattle.rx_books_parcel.specs.Footprints.{itself};
+ghost use Rattle.rx_books_family.specs.FamilyBook.{family_of};
 ghost use Rattle.rx_books_shelf.specs.Opened.{family_book, filled_place, full_key_place};
 
 use crate::summing::{first_place, summed};
 use crate::unsummed::Unsummed;
+use rx_books_family::{FamilyPlace, KeyPlace};
 use rx_books_store::OpenBooks;
 use rx_fields::{Key, Memory};
 use rx_ledger::Row;
-use rx_places::{FamilyPlace, KeyPlace};
 use rx_sorted::Ascending;
 use std::alloc::Global;
 

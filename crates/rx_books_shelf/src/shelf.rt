@@ -2,13 +2,13 @@ ghost use Rattle.std.specs.Prelude.{◌≡◌, ◌≢◌, ◌≤◌, ◌↔◌, 
 ghost use Rattle.std.specs.Prelude.{IfErr, IfOk, IsErrOf, IsOk, OnErr, OnOk, map};
 ghost use Rattle.std.specs.List.{All, Contains};
 ghost use Rattle.rx_fields.specs.Order.{key_cmp};
-ghost use Rattle.rx_sorted.specs.Ascending.{IsAscending};
+ghost use Rattle.rx_sorted.specs.Ascending.{IsAscending, itself};
 ghost use Rattle.rx_ledger.specs.Ledger.{IsLedger, empty};
-ghost use Rattle.rx_books_parcel.specs.Books.{Book, book};
-ghost use Rattle.rx_books_parcel.specs.FamilyBook.{IsOwn};
-ghost use Rattle.rx_books_parcel.specs.Footprints.{itself, names};
+ghost use Rattle.rx_books_family.specs.Books.{Book, book};
+ghost use Rattle.rx_books_family.specs.FamilyBook.{IsOwn};
+ghost use Rattle.rx_books_parcel.specs.Footprints.{names};
 ghost use Rattle.rx_books_parcel.specs.Parcels.{named_in, values_of};
-ghost use Rattle.rx_places.specs.Shelves.{AreAllAgreed, IsShelf, are_all_in, has_slot, is_out, value_of};
+ghost use Rattle.rx_books_family.specs.Shelves.{AreAllAgreed, IsShelf, are_all_in, has_slot, is_out, value_of};
 ghost use Rattle.rx_books_shelf.specs.Opened.{all_families, all_keys, family_book, filled_place, full_key_place, is_named, shelf_of};
 ghost use Rattle.rx_books_shelf.specs.Taken.{are_out, has_all, parcel_of, put_back, taken_out};
 
@@ -16,10 +16,11 @@ use crate::fault::{GiveFault, TakeFault};
 use crate::gathering::gathered;
 use crate::naming::{families_named, keys_named};
 use crate::placing::{family_places, key_places};
+use rx_books_family::{FamilyPlace, KeyPlace};
 use rx_books_parcel::{Footprint, Parcel};
 use rx_books_store::{Books, OpenBooks};
 use rx_fields::{Key, Memory, Period};
-use rx_places::{FamilyPlace, Hinted, KeyPlace};
+use rx_sorted::Hinted;
 use std::alloc::Global;
 use std::marker::Model;
 
@@ -36,7 +37,7 @@ pub struct Shelf {
 
 impl Model for Shelf {
     ghost use Rattle.std.specs.List.{All};
-    ghost use Rattle.rx_places.specs.Shelves.{IsShelf, ShelfParts};
+    ghost use Rattle.rx_books_family.specs.Shelves.{IsShelf, ShelfParts};
     ghost use Rattle.rx_books_shelf.specs.Closed.{HasSlot};
 
     ghost Value = { ShelfParts };
@@ -82,7 +83,8 @@ impl Shelf {
     {
         let keys = placed_keys(alloc, &books, keys)?;
         let families = placed_families(alloc, &books, footprints)?;
-        let _standing = books.standing();
+        // That the books' ledger is in order is known to the prover from this clause.
+        books.period();
         Ok(Shelf {
             books,
             keys,
@@ -172,7 +174,8 @@ fn placed_keys(alloc: Global, books: &OpenBooks, keys: &[Key]) -> Result<Hinted<
     requires { IsAscending key_cmp itself keys.now }
     ensures { IfOk result (λ places. places ≡ map (full_key_place books.now.books) keys.now) }
 {
-    Hinted::of(alloc, key_places(alloc, books, keys)?)
+    let places = Hinted::of(alloc, key_places(alloc, books, keys)?)?;
+    Ok(places)
 }
 
 // The places of the families that footprints name, each with its book.
@@ -187,7 +190,8 @@ fn placed_families(
 {
     let families = families_named(alloc, footprints)?;
     let gathered = gathered(alloc, books, &families)?;
-    Hinted::of(alloc, family_places(alloc, books, gathered)?)
+    let places = Hinted::of(alloc, family_places(alloc, books, gathered)?)?;
+    Ok(places)
 }
 
 // Where a place of a parcel's keys and one of its families is, or may be.

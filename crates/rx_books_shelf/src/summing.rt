@@ -1,15 +1,15 @@
 ghost use Rattle.std.specs.Prelude.{◌≡◌, IfOk, map};
 ghost use Rattle.std.specs.List.{All, Contains};
-ghost use Rattle.rx_books_parcel.specs.FamilyBook.{AreTotals};
+ghost use Rattle.rx_books_family.specs.FamilyBook.{AreTotals};
 ghost use Rattle.rx_books_shelf.specs.Gathered.{own_deductible};
 ghost use Rattle.rx_books_shelf.specs.Opened.{family_book};
 
 use crate::unsummed::Unsummed;
-use rx_books_parcel::{Family, FamilyTotals};
+use rx_books_family::{Family, FamilyTotals};
 use rx_books_store::OpenBooks;
 use rx_fields::Memory;
 use rx_ledger::Member;
-use rx_places::place_near;
+use rx_sorted::place_near;
 use std::alloc::Global;
 
 /// The book of a family, with its totals as the books have them stored. Its members are looked for from `near` on.

@@ -1,7 +1,6 @@
 ghost use Rattle.std.specs.Prelude.{◌≡◌};
 ghost use Rattle.std.specs.declared.cmp.Ordering.TheVariants.{Equal};
-ghost use Rattle.rx_sorted.specs.Ascending.{IsAscending, contains_key};
-ghost use Rattle.rx_books_parcel.specs.Footprints.{itself};
+ghost use Rattle.rx_sorted.specs.Ascending.{IsAscending, contains_key, itself};
 
 /// Leaves each item once, in ascending order. It takes no memory.
 pub(crate) fn put_in_order<K: Ord + Copy + Drop>(items: &mut Vec<K>)

@@ -4,11 +4,11 @@ ghost use Rattle.rx_sorted.specs.Ascending.{is_past, put};
 ghost use Rattle.rx_ledger.specs.Ledger.{is_listed};
 ghost use Rattle.rx_ledger.specs.Members.{member_cmp, member_key};
 ghost use Rattle.rx_ledger.specs.Rows.{member_of_row, row_key};
-ghost use Rattle.rx_books_parcel.specs.FamilyBook.{AreTotals, IsOwn, book_with_member, book_with_row, empty_book, own_ledger};
+ghost use Rattle.rx_books_family.specs.FamilyBook.{AreTotals, IsOwn, book_with_member, book_with_row, empty_book, own_ledger};
 
-use rx_books_parcel::{Family, FamilyTotals, counted_in};
+use rx_books_family::{Family, FamilyTotals};
 use rx_fields::{Id, Memory, Period};
-use rx_ledger::{Member, Row};
+use rx_ledger::{Member, Row, counted_in};
 use rx_sorted::{Ascending, Keyed};
 use std::alloc::Global;
 use std::marker::Model;
@@ -23,7 +23,7 @@ pub(crate) struct Unsummed {
 }
 
 impl Model for Unsummed {
-    ghost use Rattle.rx_books_parcel.specs.FamilyBook.{FamilyBook, IsOwn};
+    ghost use Rattle.rx_books_family.specs.FamilyBook.{FamilyBook, IsOwn};
 
     ghost Value = { FamilyBook };
 

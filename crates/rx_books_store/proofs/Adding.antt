@@ -25,7 +25,7 @@ use Rattle.rx_books_store.specs.BooksText.{families_of}
 use Rattle.rx_books_store.specs.Store.{AreFigures}
 use Rattle.rx_books_store.proofs.Columns.{deductibles-added, deductibles-room, families-added, family_deductibles-room, pockets-room}
 use Rattle.rx_books_store.proofs.FamilyOrder.{itself}
-use Rattle.rx_books_parcel.proofs.Owned.{counted-small, counted_deductible-small, no_member}
+use Rattle.rx_ledger.proofs.CountedRows.{counted-small, counted_deductible-small, no_member}
 use Rattle.rx_books_store.proofs.Stored.{IsAt-get}
 
 -- these rows, claimed by these members

@@ -26,10 +26,10 @@ use Rattle.rx_ledger.specs.Sums.{counted, deductible, deductible_paid, family_de
 use Rattle.rx_ledger.specs.Sums.{paid_by_patient, persons_deductible_paid}
 use Rattle.rx_ledger.proofs.Orders.{id_total, key_total, member_total}
 use Rattle.rx_books_store.specs.BooksText.{deductibles_of, families_of}
-use Rattle.rx_books_parcel.proofs.Changed.{set-map}
+use Rattle.rx_books_family.proofs.Changed.{set-map}
 use Rattle.rx_books_store.proofs.FamilyOrder.{families_rise, itself}
-use Rattle.rx_books_parcel.proofs.Owned.{counted-other, counted-own, counted-small}
-use Rattle.rx_books_parcel.proofs.Owned.{counted_deductible-small, counted_person-small, no_member}
+use Rattle.rx_ledger.proofs.CountedRows.{counted-other, counted-own, counted-small}
+use Rattle.rx_ledger.proofs.CountedRows.{counted_deductible-small, counted_person-small, no_member}
 
 -- ---- any column of numbers
 

@@ -1,16 +1,14 @@
 -- A fault of a text is the one that is read: so a text has one reading, its books or its first fault.
-use Rattle.std.proofs.Common.{◌≡◌, ℕ, ◌+◌, List, [], ◌∷◌, ◌++◌, length, map, Bool, true, false, not, Option}
-use Rattle.std.proofs.Common.{Some, None, Result, Ok, Err, refl, sym, subst, ap, ◌∙◌, inl, inr, arith}
-use Rattle.std.specs.List.{All, Contains, position_from}
+use Rattle.std.proofs.Common.{◌≡◌, ℕ, ◌+◌, List, [], ◌∷◌, ◌++◌, length, map, Bool, true, false, not}
+use Rattle.std.proofs.Common.{Some, None, Err, refl, subst, ap, ◌∙◌, inl, inr, arith}
+use Rattle.std.specs.List.{All, position_from}
 use Rattle.std.proofs.lemmas.Bool.{cases_Bool}
 use Rattle.std.proofs.lemmas.Iterator.Adapters.{position_from-zero}
 use Rattle.std.proofs.lemmas.List.Elements.{All-cons, All-contains, All-head, All-map, All-nil, All-tail}
 use Rattle.rx_fields.specs.Numbered.{Span}
 use Rattle.rx_ledger.specs.Ledger.{Ledger}
 use Rattle.rx_books_text.specs.declared.fault.BooksFault.{BooksFault}
-use Rattle.rx_books_text.specs.declared.fault.BooksFault.TheVariants as fault
 use Rattle.rx_books_text.specs.declared.line.Line.{Line}
-use Rattle.rx_books_text.specs.declared.line.TotalLine.{TotalLine}
 use Rattle.rx_text.specs.Results.{◌>>=◌}
 use Rattle.rx_books_text.specs.Printed.{IsPrinted, PrintedParts, has_member, lines_of, total_family}
 use Rattle.rx_books_text.proofs.OneReading as lines
@@ -21,7 +19,6 @@ use Rattle.rx_books_store.specs.BooksFile.IsWrongLine.{no_total, wrong_figure}
 use Rattle.rx_books_store.specs.BooksText.{families_of}
 use Rattle.rx_books_store.specs.Figures.{are_sums, books_of, books_of_parts, first_wrong, has_all_totals}
 use Rattle.rx_books_store.specs.Figures.{has_total, unless_wrong, unsummed, wrong_from, wrong_line}
-use Rattle.rx_books_store.specs.LedgerBooks.{LedgerBooks}
 use Rattle.rx_books_store.proofs.BooksFile.{total_there}
 use Rattle.rx_books_store.proofs.FamilyOrder.{family_among}
 use Rattle.rx_books_store.proofs.Figured.{AllPassing, IsRight, all_front, nothing_wrong, passing}

@@ -37,7 +37,7 @@ use Rattle.rx_books_store.specs.Store.{IsSlot, IsStore, held, slot_key, slot_key
 use Rattle.rx_books_store.proofs.Columns.{deductibles-added, deductibles-enough, deductibles-removed, deductibles-room, families-added}
 use Rattle.rx_books_store.proofs.Columns.{families-enough, families-removed, family_deductibles-room, pockets-room}
 use Rattle.rx_books_store.proofs.FamilyOrder.{itself}
-use Rattle.rx_books_parcel.proofs.Owned.{no_member}
+use Rattle.rx_ledger.proofs.CountedRows.{no_member}
 
 -- ---- places
 

@@ -2,9 +2,9 @@
 -- other has.
 use Rattle.std.proofs.Common.{◌≡◌, ℕ, zero, suc, ◌+◌, ◌<◌, ◌≤◌, List, [], ◌∷◌, drop, get_or}
 use Rattle.std.proofs.Common.{length, Bool, true, false, not, Option, Some, None}
-use Rattle.std.proofs.Common.{Bor, refl, sym, ap, subst, ◌∙◌, inl, inr, arith, add-one}
-use Rattle.std.specs.Prelude.{◌↔◌, ◌&&◌, ◌||◌, IfSome, IsTrue, if◌then◌else◌}
-use Rattle.std.specs.List.{All, Contains, filter, find, list_all, list_any}
+use Rattle.std.proofs.Common.{Bor, refl, sym, ap, ◌∙◌, inl, inr, arith, add-one}
+use Rattle.std.specs.Prelude.{◌↔◌, IfSome, IsTrue, if◌then◌else◌}
+use Rattle.std.specs.List.{Contains, filter, list_any}
 use Rattle.std.specs.Option.{is_some, option_and_then, option_copied}
 use Rattle.std.specs.Ordering.{is_eq}
 use Rattle.std.proofs.lemmas.Bool.{and_from, and_parts, cases_Bool}
@@ -12,7 +12,7 @@ use Rattle.std.proofs.lemmas.Cmp.{tied_itself}
 use Rattle.std.proofs.Math.Seq.{drop-cons}
 use Rattle.rx_fields.specs.Numbered.{Span}
 use Rattle.rx_fields.specs.Order.{id_cmp, key_cmp}
-use Rattle.rx_sorted.specs.Ascending.{IsAscending, contains_key, has_key, item_at}
+use Rattle.rx_sorted.specs.Ascending.{has_key, item_at}
 use Rattle.rx_sorted.proofs.Edits.{same_members}
 use Rattle.rx_sorted.proofs.Keys.{Equal-from_is_eq}
 use Rattle.rx_sorted.proofs.LookUps.{item_at-found, item_at-from_contains}
@@ -25,17 +25,15 @@ use Rattle.rx_ledger.specs.Rows.{row_key}
 use Rattle.rx_ledger.specs.Sums.{deductible_in, family_deductible_in, out_of_pocket_in}
 use Rattle.rx_ledger.proofs.Decided.{member_decides, period_decides, row_decides}
 use Rattle.rx_ledger.proofs.Orders.{id_total, key_total, member_exact, member_total}
-use Rattle.rx_books_parcel.specs.Agreement.{is_found}
-use Rattle.rx_books_parcel.specs.Books.{OfFamily, book}
-use Rattle.rx_books_parcel.specs.FamilyBook.{FamilyBook, deductible_at}
-use Rattle.rx_books_parcel.specs.Parcels.{ledger_of_family}
-use Rattle.rx_books_parcel.proofs.Parts.{find_filter, ledger_path}
-use Rattle.rx_places.specs.declared.place.FamilyPlace.{FamilyPlace}
-use Rattle.rx_places.specs.Amended.{IsAmended, amended, is_among, is_member_found}
-use Rattle.rx_places.specs.Shelves.{IsOwnBook, ShelfParts, family_place, family_value, family_value_or, value_of}
-use Rattle.rx_places.proofs.Amended.{all_of, among_then, each, values_amended}
-use Rattle.rx_places.proofs.Valued.{held_book_own}
-use Rattle.rx_books_store.specs.LedgerBooks.{LedgerBooks, deductible_of_family, deductible_of_member, has_members, out_of_pocket_of_family}
+use Rattle.rx_books_family.specs.Books.{OfFamily, book, is_found}
+use Rattle.rx_books_family.specs.FamilyBook.{FamilyBook, deductible_at, ledger_of_family}
+use Rattle.rx_sorted.proofs.Filters.{find_filter}
+use Rattle.rx_books_family.specs.declared.place.FamilyPlace.{FamilyPlace}
+use Rattle.rx_books_family.specs.Amended.{IsAmended, amended, is_among, is_member_found}
+use Rattle.rx_books_family.specs.Shelves.{IsOwnBook, ShelfParts, family_place, family_value, family_value_or}
+use Rattle.rx_books_family.proofs.Amended.{all_of, among_then, each, values_amended}
+use Rattle.rx_books_family.proofs.Valued.{held_book_own}
+use Rattle.rx_books_store.specs.LedgerBooks.{LedgerBooks, deductible_of_family, deductible_of_member, out_of_pocket_of_family}
 use Rattle.rx_books_store.specs.WholeBooks.{are_members_in, are_one, are_rows_in, deductible_held, family_deductible_held, has_row, if_any}
 use Rattle.rx_books_store.specs.WholeBooks.{is_within, out_of_pocket_held}
 

@@ -10,12 +10,12 @@ use Rattle.rx_ledger.specs.declared.member.Member.{Member}
 use Rattle.rx_ledger.specs.declared.row.Row.{Row}
 use Rattle.rx_ledger.specs.Ledger.{Ledger, row_under}
 use Rattle.rx_ledger.specs.Sums.{family_deductible_in, out_of_pocket_in}
-use Rattle.rx_books_parcel.specs.Agreement.{is_found}
-use Rattle.rx_books_parcel.specs.FamilyBook.{FamilyBook, deductible_at}
-use Rattle.rx_places.specs.declared.place.FamilyPlace.{FamilyPlace}
-use Rattle.rx_places.specs.declared.place.KeyPlace.{KeyPlace}
-use Rattle.rx_places.specs.Amended.{amended, is_among}
-use Rattle.rx_places.specs.Shelves.{ShelfParts, place_family, place_key}
+use Rattle.rx_books_family.specs.Books.{is_found}
+use Rattle.rx_books_family.specs.FamilyBook.{deductible_at}
+use Rattle.rx_books_family.specs.declared.place.FamilyPlace.{FamilyPlace}
+use Rattle.rx_books_family.specs.declared.place.KeyPlace.{KeyPlace}
+use Rattle.rx_books_family.specs.Amended.{amended, is_among}
+use Rattle.rx_books_family.specs.Shelves.{ShelfParts, place_family, place_key}
 use Rattle.rx_books_store.specs.LedgerBooks.{LedgerBooks}
 
 -- the books beside these places

@@ -1,14 +1,15 @@
 ghost use Rattle.std.specs.Prelude.{◌≡◌};
 ghost use Rattle.rx_ledger.specs.Ledger.{IsLedger};
-ghost use Rattle.rx_books_parcel.specs.Books.{Book, book};
-ghost use Rattle.rx_places.specs.Amended.{IsAmended};
-ghost use Rattle.rx_places.specs.Shelves.{value_of};
+ghost use Rattle.rx_books_family.specs.Books.{Book, book};
+ghost use Rattle.rx_books_family.specs.Amended.{IsAmended};
+ghost use Rattle.rx_books_family.specs.Shelves.{value_of};
 ghost use Rattle.rx_books_store.specs.WholeBooks.{amended_books, beside};
 
 use crate::books::{Books, Form};
 use crate::open_books::OpenBooks;
 use crate::whole::Whole;
-use rx_places::{FamilyPlace, Hinted, KeyPlace};
+use rx_books_family::{FamilyPlace, KeyPlace};
+use rx_sorted::Hinted;
 use std::marker::Model;
 
 /// Books with places that stand instead of what the opened ones hold: what a shelf leaves where a family's book was given
@@ -25,7 +26,7 @@ impl Model for AmendedBooks {
 
     ghost Value = { LedgerBooks };
 
-    ghost use Rattle.rx_places.specs.Amended.{IsAmended};
+    ghost use Rattle.rx_books_family.specs.Amended.{IsAmended};
     ghost use Rattle.rx_books_store.specs.WholeBooks.{amended_books, beside};
 
     ghost view = { λ b. amended_books b.books.books b.keys b.families };

@@ -1,6 +1,6 @@
 ghost use Rattle.std.specs.Prelude.{◌≡◌, ◌↔◌, IfOk, IfSome, IsTrue};
 ghost use Rattle.std.specs.Option.{option_copied};
-ghost use Rattle.rx_ledger.specs.Ledger.{row_under};
+ghost use Rattle.rx_ledger.specs.Ledger.{IsLedger, row_under};
 ghost use Rattle.rx_books_store.specs.BooksFile.{NamesFirstFault, ReadsAllBooks, ReadsBooksAlone, ReadsWhatIsWritten};
 ghost use Rattle.rx_books_store.specs.BooksText.{books_text};
 ghost use Rattle.rx_books_text.specs.Fault.{Gives};
@@ -126,7 +126,8 @@ impl Books {
 
     /// The period that the totals are of.
     pub fn period(&self) -> Period
-        ensures { result ≡ self.now.period }
+        ensures value { result ≡ self.now.period }
+        ensures within { IsLedger self.now.ledger }
     {
         match &self.form {
             Form::Plain(books) => books.period(),

@@ -3,7 +3,7 @@ ghost use Rattle.std.specs.List.{AllZip, flat_map};
 ghost use Rattle.std.specs.Vec.{vec_items};
 ghost use Rattle.rx_books_store.specs.Store.{AreHolders};
 
-use crate::places::Places;
+use crate::hints::Places;
 use rayon::prelude::*;
 use rx_fields::Memory;
 use rx_ledger::{Member, Row};

@@ -11,9 +11,16 @@
 //! let used = books.deductible(&family, &person);
 //! ```
 //!
-//! The lists that books were made from never change, and copies share them (`opening`). Over them stand the slots
-//! (`slot`): what stands now is the opening rows with what each slot holds (`specs/Store.antt`). Where a shelf was given
-//! books with other members than these, its own places stand instead (`amended`, `specs/WholeBooks.antt`).
+//! The lists that books were made from never change, and copies share them. Over them stand the slots: what stands now is
+//! the opening rows with what each slot holds (`specs/Store.antt`). Where a shelf was given books with other members than
+//! these, its own places stand instead (`specs/WholeBooks.antt`).
+//!
+//! - `books`: `Books`, in one of two forms; `open_books`: `OpenBooks`, with the members, families and slots at their places
+//! - `plain`: books of the first form made of a ledger, copied, compared and written; `figures`, `amounts`, `sums`: their totals
+//! - `opening`: the lists that books were made from; `holders`, `hints`, `search`: where members and rows are in them
+//! - `slot`, `slots`: what stands under a fill key of the batch; `standing`: a pass over the rows that stand
+//! - `amended`, `whole`, `amended_lists`, `comparison`: books of the second form; `lent`: either form, opened for reading
+//! - `reader`, `writer`, `parts`: the text, on one thread and in parts; `law`: that it has one reading
 //!
 //! What a books file is, and which fault a text has that is none, stands in `specs/BooksFile.antt`; what a total is in
 //! `rx_ledger`'s `specs/Sums.antt`, what a line is in `rx_books_text`'s `specs/`. Which claims are added and taken out
@@ -21,28 +28,30 @@
 #![tactic(auto)]
 
 mod amended;
+mod amended_lists;
 mod amounts;
 mod books;
-mod collecting;
-mod comparing;
+mod comparison;
 mod figures;
+mod hints;
 mod holders;
-mod kept;
 mod law;
+mod lent;
 mod open_books;
-mod opened;
 mod opening;
 mod parts;
-mod places;
-mod reading;
+mod plain;
+mod reader;
 mod search;
 mod slot;
+mod slots;
 mod standing;
-mod summing;
+mod sums;
 mod whole;
-mod writing;
+mod writer;
 
 pub use books::Books;
 pub use law::one_reading;
+pub use lent::Lent;
 pub use open_books::OpenBooks;
 pub use standing::Standing;

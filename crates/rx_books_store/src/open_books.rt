@@ -1,4 +1,4 @@
-ghost use Rattle.std.specs.Prelude.{◌≡◌, ◌<◌, ◌↔◌, IfOk, IfSome, IfNone, IsTrue, Some, true, false, is_some, length, slice_get};
+ghost use Rattle.std.specs.Prelude.{◌≡◌, ◌<◌, ◌^◌, ◌↔◌, IfOk, IfSome, IfNone, IsTrue, Some, true, false, is_some, length, slice_get};
 ghost use Rattle.std.specs.List.{All, Contains};
 ghost use Rattle.std.specs.Option.{option_copied};
 ghost use Rattle.rx_fields.specs.Order.{key_cmp};
@@ -13,13 +13,12 @@ ghost use Rattle.rx_books_store.specs.OpenBooks.{open_with, open_without};
 
 use crate::amounts::{add_at, take_at};
 use crate::books::{Books, Form};
-use crate::opened::{fresh_slots, merged};
 use crate::opening::Opening;
 use crate::slot::{KeySlot, held_at, is_slot_at, slot_at};
+use crate::slots::{fresh_slots, merged};
 use crate::standing::Standing;
-use rx_books_parcel::counted_in;
 use rx_fields::{Id, Key, Memory, Period, Person};
-use rx_ledger::{Member, MemberKey, Row};
+use rx_ledger::{Member, MemberKey, Row, counted_in};
 use rx_sorted::Ascending;
 use std::alloc::Global;
 use std::marker::Model;
@@ -76,7 +75,8 @@ impl Books {
 impl OpenBooks {
     /// The period that the totals are of.
     pub fn period(&self) -> Period
-        ensures { result ≡ self.now.books.period }
+        ensures value { result ≡ self.now.books.period }
+        ensures within { IsLedger self.now.books.ledger }
     {
         self.period
     }
@@ -214,6 +214,7 @@ impl OpenBooks {
     pub fn standing(&self) -> Standing<'_>
         ensures value { result ≡ self.now.books.ledger }
         ensures within { IsLedger self.now.books.ledger }
+        ensures few { length self.now.books.ledger.rows < 2 ^ 64 }
     {
         Standing::of(&self.opening, self.changed.as_slice())
     }

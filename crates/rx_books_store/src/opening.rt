@@ -10,7 +10,7 @@ ghost use Rattle.rx_books_store.specs.LedgerBooks.{has_members};
 ghost use Rattle.rx_books_store.specs.Opening.{name_of, names_of};
 ghost use Rattle.rx_books_store.specs.Store.{AreHolders, AreHomes};
 
-use crate::places::Places;
+use crate::hints::Places;
 use rx_fields::{Id, Memory};
 use rx_ledger::{Member, MemberKey, Row};
 use rx_sorted::{Ascending, Keyed, Runs};

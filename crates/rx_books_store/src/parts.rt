@@ -7,8 +7,7 @@ ghost use Rattle.rx_books_store.specs.Figures.{books_of};
 ghost use Rattle.rx_books_text.specs.Fault.{Gives};
 
 use crate::books::Books;
-use crate::kept::in_one_piece;
-use crate::writing::put_texts;
+use crate::plain::in_one_piece;
 use rx_books_text::{BooksFault, Version};
 use rx_fields::Memory;
 use std::alloc::Global;
@@ -36,32 +35,9 @@ impl Books {
         Books::or_summed(alloc, text, quick)
     }
 
-    /// The same as `write`, where so many parts of the claims are written by threads of their own; one part is written on
-    /// the calling thread.
-    pub fn write_in_parts<R: Threads + Sync>(
-        &self,
-        rt: &R,
-        alloc: Global,
-        parts: usize,
-    ) -> Result<Vec<u8>, Memory>
-        ensures { IfOk result (λ text. text.items ≡ books_text Version.Three self.now.period self.now.ledger) }
-    {
-        if parts < 2 {
-            return self.write(alloc);
-        }
-        let pieces = self.write_pieces(rt, alloc, parts, Vec::new(alloc))?;
-        let room = match self.plain() {
-            Some(books) => books.room(),
-            None => 0,
-        };
-        let mut text = Vec::with_capacity(alloc, room)?;
-        put_texts(&mut text, &pieces)?;
-        Ok(text)
-    }
-
-    /// The text of `write` in pieces, one behind the other, which no copy joins: so many parts of the claims are written by
-    /// threads of their own; one part is written on the calling thread, and is one piece. The spent text is one that isn't
-    /// needed any more: its memory is used again.
+    /// The text of `write` in pieces, one after another, which no copy joins. The claims are written in `parts` parts, each by
+    /// a thread of its own; one part is written on the calling thread, and is one piece. Reuses the memory of `spent`, a text
+    /// that isn't needed any more.
     pub fn write_pieces<R: Threads + Sync>(
         &self,
         rt: &R,

@@ -1,16 +1,17 @@
 ghost use Rattle.std.specs.Prelude.{◌≡◌, IfOk};
 ghost use Rattle.std.specs.Option.{option_copied};
 ghost use Rattle.rx_ledger.specs.Ledger.{IsLedger, row_under};
-ghost use Rattle.rx_places.specs.Amended.{IsAmended, is_among};
+ghost use Rattle.rx_books_family.specs.Amended.{IsAmended, is_among};
 ghost use Rattle.rx_books_store.specs.LedgerBooks.{deductible_of_family, deductible_of_member, out_of_pocket_of_family};
 ghost use Rattle.rx_books_store.specs.WholeBooks.{amended_books, beside, deductible_held, family_deductible_held};
 ghost use Rattle.rx_books_store.specs.WholeBooks.{has_row, out_of_pocket_held};
 
-use crate::collecting::{amended_members, amended_rows};
+use crate::amended_lists::{amended_members, amended_rows};
 use crate::open_books::OpenBooks;
+use rx_books_family::{FamilyPlace, KeyPlace, is_among};
 use rx_fields::{Id, Key, Memory, Period, Person};
 use rx_ledger::{Ledger, Member, Row};
-use rx_places::{FamilyPlace, KeyPlace, is_among, item_of};
+use rx_sorted::item_of;
 use std::alloc::Global;
 use std::marker::Model;
 
@@ -28,7 +29,7 @@ impl<'a> Model for Whole<'a> {
 
     ghost Value = { LedgerBooks };
 
-    ghost use Rattle.rx_places.specs.Amended.{IsAmended};
+    ghost use Rattle.rx_books_family.specs.Amended.{IsAmended};
     ghost use Rattle.rx_books_store.specs.WholeBooks.{amended_books, beside};
 
     ghost view = { λ w. amended_books w.books.now.books w.keys.now w.families.now };
@@ -57,7 +58,8 @@ impl<'a> Whole<'a> {
     pub(crate) fn alone(books: &'a OpenBooks) -> Whole<'a>
         ensures { result ≡ books.now.books }
     {
-        let _standing = books.standing();
+        // That the ledger is in order is known to the prover from this clause.
+        books.period();
         Whole::of(books, &[], &[])
     }
 
@@ -70,7 +72,8 @@ impl<'a> Whole<'a> {
 
     /// The period that the totals are of.
     pub(crate) fn period(&self) -> Period
-        ensures { result ≡ self.now.period }
+        ensures value { result ≡ self.now.period }
+        ensures within { IsLedger self.now.ledger }
     {
         self.books.period()
     }

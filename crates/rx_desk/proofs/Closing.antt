@@ -12,10 +12,10 @@ use Rattle.rx_ledger.specs.Fold.{fold_ledger, fold_replies}
 use Rattle.rx_ledger.specs.Ledger.{IsLedger, Ledger}
 use Rattle.rx_ledger.specs.Rows.{row_key}
 use Rattle.rx_ledger.proofs.Orders.{key_total}
-use Rattle.rx_books_parcel.specs.Books.{Book, IsInOrder, book, has_row}
+use Rattle.rx_books_family.specs.Books.{Book, IsInOrder, book, has_row}
 use Rattle.rx_books_parcel.specs.Footprints.{FootprintParts}
 use Rattle.rx_books_store.specs.LedgerBooks.{LedgerBooks}
-use Rattle.rx_places.specs.Shelves.{AreAllAgreed, ShelfParts, is_out, value_of}
+use Rattle.rx_books_family.specs.Shelves.{AreAllAgreed, ShelfParts, is_out, value_of}
 use Rattle.rx_schedule.specs.declared.event.Event.{Event}
 use Rattle.rx_schedule.specs.Machine.{IsComplete}
 use Rattle.rx_schedule.specs.Queues.{QueueParts}

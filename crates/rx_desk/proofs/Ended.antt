@@ -10,7 +10,7 @@ use Rattle.rx_d0_values.specs.declared.transmission.Transmission.{Transmission}
 use Rattle.rx_ledger.specs.Fold.{fold_ledger, fold_replies, ledger_after, reply_to}
 use Rattle.rx_ledger.specs.Ledger.{Ledger}
 use Rattle.rx_ledger.specs.Plan.{Plan}
-use Rattle.rx_books_parcel.specs.Books.{Book, IsInOrder, book}
+use Rattle.rx_books_family.specs.Books.{Book, IsInOrder, book}
 use Rattle.rx_books_parcel.proofs.OneLedger.{one_ledger}
 use Rattle.rx_schedule.specs.declared.event.Event.{Event}
 use Rattle.rx_schedule.specs.declared.event.Event.TheVariants.{Give}

@@ -12,7 +12,7 @@ use Rattle.rx_d0_values.specs.declared.transmission.Transmission.{Transmission}
 use Rattle.rx_ledger.specs.Ledger.{Ledger}
 use Rattle.rx_ledger.specs.Named.{key_in}
 use Rattle.rx_ledger.specs.TermList.{TermParts}
-use Rattle.rx_books_parcel.specs.Books.{Book, IsInOrder, OfKey, book}
+use Rattle.rx_books_family.specs.Books.{Book, IsInOrder, OfKey, book}
 use Rattle.rx_books_parcel.specs.Footprints.{FootprintParts, fits, fits_body, fits_one, names, names_holder}
 use Rattle.rx_books_parcel.specs.Parcels.{ParcelParts, ledger_in, named_in, values_of}
 use Rattle.rx_books_parcel.proofs.Agreed.{books_agree}

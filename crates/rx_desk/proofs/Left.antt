@@ -6,7 +6,7 @@ use Rattle.std.specs.List.{sum_by}
 use Rattle.std.proofs.lemmas.List.Sums.{sum_by-cons, sum_by-set}
 use Rattle.rx_d0_values.specs.declared.reply.Reply.{Reply}
 use Rattle.rx_books_parcel.specs.Footprints.{FootprintParts}
-use Rattle.rx_places.specs.Shelves.{ShelfParts}
+use Rattle.rx_books_family.specs.Shelves.{ShelfParts}
 use Rattle.rx_schedule.specs.declared.event.Event.{Event}
 use Rattle.rx_schedule.specs.declared.event.Event.TheVariants.{Give, Take}
 use Rattle.rx_schedule.specs.Machine.{IsComplete, IsPlace, MayTake, Was}

@@ -11,11 +11,11 @@ use Rattle.rx_sorted.proofs.LookUps.{item_at-from_contains}
 use Rattle.rx_ledger.specs.declared.row.Row.{Row}
 use Rattle.rx_ledger.specs.Ledger.{Ledger}
 use Rattle.rx_ledger.proofs.Orders.{id_total, key_total}
-use Rattle.rx_books_parcel.specs.declared.key_book.KeyBook.{KeyBook}
-use Rattle.rx_books_parcel.specs.Books.{Book, OfFamily, OfKey}
-use Rattle.rx_books_parcel.specs.FamilyBook.{FamilyBook, family_of}
+use Rattle.rx_books_family.specs.declared.key_book.KeyBook.{KeyBook}
+use Rattle.rx_books_family.specs.Books.{Book, OfFamily, OfKey}
+use Rattle.rx_books_family.specs.FamilyBook.{FamilyBook, family_of, ledger_of_family}
 use Rattle.rx_books_parcel.specs.Footprints.{FootprintParts}
-use Rattle.rx_books_parcel.specs.Parcels.{IsParcel, ParcelParts, family_at, key_of, ledger_of_family, named_in, row_at, values_of}
+use Rattle.rx_books_parcel.specs.Parcels.{IsParcel, ParcelParts, family_at, key_of, named_in, row_at, values_of}
 use Rattle.rx_desk.specs.Desks.{family_book, key_book, parcel_of}
 use Rattle.rx_desk.proofs.Lists.{made_again, of_each}
 

@@ -7,7 +7,7 @@ use Rattle.std.proofs.lemmas.List.{get_or-set_other, get_or-set_same, length-app
 use Rattle.std.proofs.lemmas.List.Sums.{sum_by-set}
 use Rattle.rx_d0_values.specs.declared.reply.Reply.{Reply}
 use Rattle.rx_ledger.specs.Ledger.{Ledger, empty}
-use Rattle.rx_books_parcel.specs.Books.{Book}
+use Rattle.rx_books_family.specs.Books.{Book}
 use Rattle.rx_books_parcel.specs.Footprints.{names}
 use Rattle.rx_books_parcel.specs.Parcels.{ParcelParts}
 use Rattle.rx_schedule.specs.declared.event.Event.{Event}

@@ -6,7 +6,7 @@ use Rattle.std.proofs.lemmas.List.{length-map}
 use Rattle.std.proofs.lemmas.List.FromFn.{get_or-map-range_with_len, length-range_with_len}
 use Rattle.rx_d0_values.specs.declared.transmission.Transmission.{Transmission}
 use Rattle.rx_ledger.specs.Ledger.{Ledger}
-use Rattle.rx_books_parcel.specs.Books.{Book, OfFamily, OfKey}
+use Rattle.rx_books_family.specs.Books.{Book, OfFamily, OfKey}
 use Rattle.rx_books_parcel.specs.Footprints.{FootprintParts, names}
 use Rattle.rx_schedule.specs.declared.event.Event.{Event}
 use Rattle.rx_schedule.specs.declared.event.Event.TheVariants.{Give, Take}

@@ -14,10 +14,10 @@ use Rattle.rx_d0_values.specs.contracts.transaction.Transactions.{the_row as tra
 use Rattle.rx_d0_values.specs.contracts.transmission.Transmission.{the_row as transmission_row}
 use Rattle.rx_desk.specs.contracts.desk.Desk.{the_row as desk_row}
 use Rattle.rx_desk.specs.contracts.state.State.{the_row as state_row}
-use Rattle.rx_books_parcel.specs.contracts.family.Family.{the_row as family_row}
+use Rattle.rx_books_family.specs.contracts.family.Family.{the_row as family_row}
 use Rattle.rx_books_parcel.specs.contracts.footprint.Footprint.{the_row as footprint_row}
 use Rattle.rx_books_parcel.specs.contracts.parcel.Parcel.{the_row as parcel_row}
-use Rattle.rx_places.specs.contracts.place.FamilyPlace.{the_row as family_place_row}
+use Rattle.rx_books_family.specs.contracts.place.FamilyPlace.{the_row as family_place_row}
 use Rattle.rx_schedule.specs.contracts.queues.Queues.{the_row as queues_row}
 
 pub open_books_sent : IsSend open_books_row

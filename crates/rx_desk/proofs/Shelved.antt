@@ -12,18 +12,18 @@ use Rattle.std.proofs.lemmas.List.Concat.{flat_map-cons}
 use Rattle.std.proofs.lemmas.List.Elements.{All-contains}
 use Rattle.rx_fields.specs.Order.{id_cmp, key_cmp}
 use Rattle.rx_fields.specs.declared.key.Key.{Key}
-use Rattle.rx_sorted.specs.Ascending.{contains_key, item_at}
+use Rattle.rx_sorted.specs.Ascending.{contains_key, item_at, itself}
 use Rattle.rx_sorted.proofs.LookUps.{item_at-found, item_at-from_contains}
 use Rattle.rx_ledger.proofs.Orders.{id_exact, id_total, key_total}
-use Rattle.rx_books_parcel.specs.Books.{Book, OfFamily, OfKey}
-use Rattle.rx_books_parcel.specs.FamilyBook.{FamilyBook, family_of}
-use Rattle.rx_books_parcel.specs.Footprints.{FootprintParts, itself, names}
+use Rattle.rx_books_family.specs.Books.{Book, OfFamily, OfKey}
+use Rattle.rx_books_family.specs.FamilyBook.{FamilyBook, family_of}
+use Rattle.rx_books_parcel.specs.Footprints.{FootprintParts, names}
 use Rattle.rx_books_parcel.specs.Parcels.{key_of, named_in}
-use Rattle.rx_places.specs.declared.place.FamilyPlace.{FamilyPlace}
-use Rattle.rx_places.specs.declared.place.KeyPlace.{KeyPlace}
-use Rattle.rx_places.specs.Shelves.{HoldsOwnBook, IsShelf, ShelfParts, are_all_in, family_place}
-use Rattle.rx_places.specs.Shelves.{has_slot, is_family_held, is_family_in, is_family_out}
-use Rattle.rx_places.specs.Shelves.{is_in, is_key_held, is_key_in, is_key_out, is_out, key_place, place_family, place_key}
+use Rattle.rx_books_family.specs.declared.place.FamilyPlace.{FamilyPlace}
+use Rattle.rx_books_family.specs.declared.place.KeyPlace.{KeyPlace}
+use Rattle.rx_books_family.specs.Shelves.{HoldsOwnBook, IsShelf, ShelfParts, are_all_in, family_place}
+use Rattle.rx_books_family.specs.Shelves.{has_slot, is_family_held, is_family_in, is_family_out}
+use Rattle.rx_books_family.specs.Shelves.{is_in, is_key_held, is_key_in, is_key_out, is_out, key_place, place_family, place_key}
 use Rattle.rx_books_shelf.specs.Taken.{are_out, family_book, has_all, key_book, parcel_of}
 
 -- what is true of each key that is among these is true of all

@@ -11,11 +11,11 @@ use Rattle.rx_d0_values.specs.declared.transmission.Transmission.{Transmission}
 use Rattle.rx_ledger.specs.Ledger.{IsLedger, Ledger}
 use Rattle.rx_ledger.specs.Plan.{Plan}
 use Rattle.rx_ledger.specs.TermList.{TermParts}
-use Rattle.rx_books_parcel.specs.Books.{Book, IsInOrder, book}
+use Rattle.rx_books_family.specs.Books.{Book, IsInOrder, book}
 use Rattle.rx_books_parcel.specs.Footprints.{FootprintParts, names}
 use Rattle.rx_books_shelf.specs.Opened.{is_named}
 use Rattle.rx_schedule.specs.Footprints.{footprint_at, footprints_of}
-use Rattle.rx_places.specs.Shelves.{ShelfParts, has_slot, is_out, value_of}
+use Rattle.rx_books_family.specs.Shelves.{ShelfParts, has_slot, is_out, value_of}
 use Rattle.rx_schedule.specs.declared.event.Event.{Event}
 use Rattle.rx_schedule.specs.Machine.{IsPlace}
 use Rattle.rx_schedule.specs.Queues.{QueueParts}

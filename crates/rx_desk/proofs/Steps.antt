@@ -14,11 +14,11 @@ use Rattle.rx_ledger.specs.Fold.{ledger_after, reply_to}
 use Rattle.rx_ledger.specs.Ledger.{Ledger, empty}
 use Rattle.rx_ledger.specs.SameTerms.{IsTermsOf}
 use Rattle.rx_ledger.specs.TermList.{TermParts}
-use Rattle.rx_books_parcel.specs.Books.{Book, book}
+use Rattle.rx_books_family.specs.Books.{Book, book}
 use Rattle.rx_books_parcel.specs.Footprints.{FootprintParts, names, sub}
 use Rattle.rx_books_parcel.specs.Parcels.{ParcelParts, ledger_in, named_in, values_of}
 use Rattle.rx_adjudicate.specs.Orders.{DoneParts, Fits, IsDone, OrderParts}
-use Rattle.rx_places.specs.Shelves.{ShelfParts, has_slot, is_in, is_out, value_of}
+use Rattle.rx_books_family.specs.Shelves.{ShelfParts, has_slot, is_in, is_out, value_of}
 use Rattle.rx_schedule.specs.declared.event.Event.{Event}
 use Rattle.rx_schedule.specs.declared.event.Event.TheVariants.{Give, Take}
 use Rattle.rx_schedule.specs.Footprints.{footprint_at, no_record, record_at}

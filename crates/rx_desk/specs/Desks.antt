@@ -9,9 +9,9 @@ use Rattle.rx_ledger.specs.Ledger.{Ledger}
 use Rattle.rx_ledger.specs.Plan.{Plan}
 use Rattle.rx_ledger.specs.SameTerms.{IsTermsOf}
 use Rattle.rx_ledger.specs.TermList.{TermParts}
-use Rattle.rx_books_parcel.specs.declared.key_book.KeyBook.{KeyBook}
-use Rattle.rx_books_parcel.specs.Books.{Book, OfFamily, OfKey}
-use Rattle.rx_books_parcel.specs.FamilyBook.{FamilyBook}
+use Rattle.rx_books_family.specs.declared.key_book.KeyBook.{KeyBook}
+use Rattle.rx_books_family.specs.Books.{Book, OfFamily, OfKey}
+use Rattle.rx_books_family.specs.FamilyBook.{FamilyBook}
 use Rattle.rx_books_parcel.specs.Footprints.{FootprintParts}
 use Rattle.rx_books_parcel.specs.Parcels.{ParcelParts}
 use Rattle.rx_adjudicate.specs.Orders.{OrderParts}

@@ -10,11 +10,11 @@ use Rattle.rx_ledger.specs.declared.figures.Figures.{Figures}
 use Rattle.rx_ledger.specs.declared.sheet.Listed.{Listed}
 use Rattle.rx_ledger.specs.Ledger.{Ledger}
 use Rattle.rx_ledger.specs.TermList.{TermParts}
-use Rattle.rx_books_parcel.specs.Books.{Book, IsInOrder}
+use Rattle.rx_books_family.specs.Books.{Book, IsInOrder}
 use Rattle.rx_books_parcel.specs.Footprints.{FootprintParts, names}
 use Rattle.rx_books_parcel.specs.Parcels.{ParcelParts, named_in, values_of}
 use Rattle.rx_books_store.specs.LedgerBooks.{LedgerBooks}
-use Rattle.rx_places.specs.Shelves.{ShelfParts, has_slot, is_out, value_of}
+use Rattle.rx_books_family.specs.Shelves.{ShelfParts, has_slot, is_out, value_of}
 use Rattle.rx_schedule.specs.declared.event.Event.{Event}
 use Rattle.rx_schedule.specs.declared.event.Event.TheVariants.{Give, Take}
 use Rattle.rx_schedule.specs.Footprints.{footprints_of}

@@ -1,10 +1,10 @@
 -- Plumbing: what a move of books between the shelf and a parcel changes of the shelf.
 use Rattle.std.specs.Prelude.{◌≡◌, ◌||◌, false, if◌then◌else◌}
 use Rattle.rx_ledger.specs.Ledger.{empty}
-use Rattle.rx_books_parcel.specs.Books.{Book}
+use Rattle.rx_books_family.specs.Books.{Book}
 use Rattle.rx_books_parcel.specs.Footprints.{FootprintParts, names}
 use Rattle.rx_books_parcel.specs.Parcels.{IsParcel, ParcelParts, named_in, values_of}
-use Rattle.rx_places.specs.Shelves.{ShelfParts, has_slot, is_out, value_of}
+use Rattle.rx_books_family.specs.Shelves.{ShelfParts, has_slot, is_out, value_of}
 
 -- the same books are on the shelf, and the same are out
 pub record IsSameShelf (old new : ShelfParts) : Type 0 where

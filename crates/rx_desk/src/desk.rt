@@ -5,7 +5,7 @@ ghost use Rattle.rx_schedule.specs.Jobs.{reply_at};
 ghost use Rattle.rx_schedule.specs.Machine.{IsComplete, IsLegal, Was};
 ghost use Rattle.rx_desk.specs.Desks.{AreTerms, IsJob, IsNext, IsOut, MayBeTaken, after_event, final_books, led_to, machine_of, past_of};
 
-use crate::making::{Made, Room, Shared, in_order, made_of};
+use crate::making::{Made, Room, Shared, made_of};
 use crate::moves::{Taken, closed, mark_given, mark_out, note, put_in, take_books};
 use crate::next::Next;
 use crate::remains::Remains;
@@ -53,7 +53,7 @@ impl Model for Desk {
 
     ghost Value = { DeskParts };
 
-    ghost use Rattle.rx_places.specs.Shelves.{has_slot, is_out, value_of};
+    ghost use Rattle.rx_books_family.specs.Shelves.{has_slot, is_out, value_of};
     ghost use Rattle.rx_desk.specs.Kept.{IsKept, IsCounted, IsDesk, job_with};
 
     ghost view = { λ d. record {
@@ -81,7 +81,6 @@ impl Desk {
         ensures terms { IfOk result (λ desk. AreTerms desk.job) }
         ensures history { IfOk result (λ desk. desk.history ≡ []) }
     {
-        let books = in_order(alloc, books)?;
         let made = made_of(alloc, lot, sheet, &books, &transmissions)?;
         let waiting = transmissions.len();
         let Made {

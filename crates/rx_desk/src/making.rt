@@ -1,8 +1,8 @@
 ghost use Rattle.std.specs.Prelude.{◌≡◌, ◌≤◌, ◌*◌, Bool, false, [], IfOk, OnOk, length, replicate, vec_capacity};
 ghost use Rattle.rx_fields.specs.declared.limits.TheConstants.{MOST_DETAILS};
 ghost use Rattle.rx_ledger.specs.Ledger.{IsLedger};
-ghost use Rattle.rx_books_parcel.specs.Books.{Book, book};
-ghost use Rattle.rx_places.specs.Shelves.{has_slot, is_out, value_of};
+ghost use Rattle.rx_books_family.specs.Books.{Book, book};
+ghost use Rattle.rx_books_family.specs.Shelves.{has_slot, is_out, value_of};
 ghost use Rattle.rx_books_shelf.specs.Opened.{is_named};
 ghost use Rattle.rx_schedule.specs.Footprints.{footprints_of};
 ghost use Rattle.rx_desk.specs.Desks.{AreTermsOf};
@@ -67,6 +67,7 @@ pub(crate) fn made_of(
     ensures values { IfOk result (λ made. (b : Book) → value_of made.shared.shelf b ≡ book b books.now.ledger) }
     ensures slots { IfOk result (λ made. (b : Book) → has_slot made.shared.shelf b ≡ is_named made.shared.footprints.items b) }
     ensures inside { IfOk result (λ made. (b : Book) → is_out made.shared.shelf b ≡ false) }
+    ensures within { IfOk result (λ _. IsLedger books.now.ledger) }
 {
     let drugs = Vec::from_slice(alloc, sheet.drugs())?;
     let terms = terms_of(alloc, lot, sheet, transmissions)?;
@@ -78,16 +79,6 @@ pub(crate) fn made_of(
         room,
         shared,
     })
-}
-
-/// The same books, of which is told that their ledger is in order.
-pub(crate) fn in_order(alloc: Global, books: Books) -> Result<Books, Memory>
-    ensures same { IfOk result (λ same. same ≡ books) }
-    ensures within { IfOk result (λ same. IsLedger same.ledger) }
-{
-    let opened = books.open(alloc, &[])?;
-    let _told = opened.standing();
-    Ok(opened.close())
 }
 
 // The terms of each record.
@@ -118,6 +109,7 @@ fn shared_by(alloc: Global, books: &Books, transmissions: &[Transmission]) -> Re
     ensures values { IfOk result (λ shared. (b : Book) → value_of shared.shelf b ≡ book b books.now.ledger) }
     ensures slots { IfOk result (λ shared. (b : Book) → has_slot shared.shelf b ≡ is_named shared.footprints.items b) }
     ensures inside { IfOk result (λ shared. (b : Book) → is_out shared.shelf b ≡ false) }
+    ensures within { IfOk result (λ _. IsLedger books.now.ledger) }
 {
     let footprints = footprints(alloc, books, transmissions)?;
     let queues = Queues::of(alloc, &footprints)?;
@@ -136,6 +128,7 @@ fn shelf_over(alloc: Global, books: &Books, footprints: &[Footprint]) -> Result<
     ensures values { IfOk result (λ shelf. (b : Book) → value_of shelf b ≡ book b books.now.ledger) }
     ensures slots { IfOk result (λ shelf. (b : Book) → has_slot shelf b ≡ is_named footprints.now b) }
     ensures inside { IfOk result (λ shelf. (b : Book) → is_out shelf b ≡ false) }
+    ensures within { IfOk result (λ _. IsLedger books.now.ledger) }
 {
     let copy = books.copy(alloc, books.period())?;
     Shelf::of(alloc, copy, footprints)

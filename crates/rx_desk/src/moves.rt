@@ -1,11 +1,9 @@
 ghost use Rattle.std.specs.Prelude.{◌≡◌, ◌<◌, ◌≤◌, ◌++◌, ◌∷◌, [], false, true, length, slice_set, vec_capacity, IfErr, IfOk, OnErr};
-ghost use Rattle.rx_books_parcel.specs.Books.{Book};
+ghost use Rattle.rx_books_family.specs.Books.{Book, book};
 ghost use Rattle.rx_books_parcel.specs.Footprints.{names};
 ghost use Rattle.rx_books_parcel.specs.Parcels.{named_in};
-ghost use Rattle.rx_places.specs.Shelves.{has_slot, is_out, value_of};
-ghost use Rattle.rx_places.specs.Shelves.{AreAllAgreed};
+ghost use Rattle.rx_books_family.specs.Shelves.{AreAllAgreed, has_slot, is_out, value_of};
 ghost use Rattle.rx_ledger.specs.Ledger.{IsLedger};
-ghost use Rattle.rx_books_parcel.specs.Books.{book};
 ghost use Rattle.rx_desk.specs.Moved.{IsGiven, IsSameShelf, IsTaken};
 
 use crate::state::State;
@@ -60,6 +58,7 @@ fn parcel_of(alloc: Global, shelf: &mut Shelf, footprint: &Footprint) -> Result<
     ensures ok { IfOk result (IsTaken shelf.old shelf.new footprint.now) }
     ensures err { OnErr result (shelf.new ≡ shelf.old) }
 {
+    // That shelf and parcel keep what their types say is known to the prover from their periods' clauses.
     shelf.period();
     match shelf.take(alloc, footprint) {
         Ok(parcel) => {
@@ -113,7 +112,7 @@ pub(crate) fn closed(shelf: Shelf) -> Books
     }
 }
 
-/// Puts an event behind the others, for which there is room.
+/// Puts an event after the others, for which there is room.
 pub(crate) fn note(history: &mut Vec<Event>, event: Event)
     requires { length history.old.items < vec_capacity history.old }
     ensures items { history.new.items ≡ history.old.items ++ event ∷ [] }

@@ -1,4 +1,5 @@
 pub mod Alike
+pub mod CountedRows
 pub mod DayTests
 pub mod Decided
 pub mod Found

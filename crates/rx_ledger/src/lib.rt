@@ -14,6 +14,7 @@
 
 mod basis;
 mod bounds;
+mod counted;
 mod decision;
 mod drug;
 mod family;
@@ -38,6 +39,7 @@ mod terms;
 
 pub use basis::Basis;
 pub use bounds::accumulators_stay_within;
+pub use counted::{Counted, counted_in};
 pub use decision::{Decision, Payment};
 pub use drug::{Drug, MOST_PRICE, Share};
 pub use figures::{Figures, MOST_LIMIT};

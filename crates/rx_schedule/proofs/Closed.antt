@@ -15,7 +15,7 @@ use Rattle.rx_ledger.specs.declared.row.Row.{Row}
 use Rattle.rx_ledger.specs.Ledger.{Ledger, row_under}
 use Rattle.rx_ledger.specs.Rows.{row_key}
 use Rattle.rx_ledger.proofs.Orders.{id_exact, id_total, key_exact, key_total}
-use Rattle.rx_books_parcel.specs.Books.{Book, IsInOrder, OfFamily, OfKey}
+use Rattle.rx_books_family.specs.Books.{Book, IsInOrder, OfFamily, OfKey}
 use Rattle.rx_books_parcel.specs.Footprints.{FootprintParts, names}
 use Rattle.rx_schedule.specs.Footprints.{family_of, footprint_at}
 use Rattle.rx_schedule.proofs.InOrder.{among-in_order, named_in}

@@ -30,7 +30,7 @@ use Rattle.rx_ledger.specs.Named.{key_in}
 use Rattle.rx_ledger.specs.Plan.{Plan}
 use Rattle.rx_ledger.specs.Rows.{row_key}
 use Rattle.rx_ledger.specs.declared.row.Row.{Row}
-use Rattle.rx_books_parcel.specs.Books.{IsInOrder, OfFamily, OfKey, book}
+use Rattle.rx_books_family.specs.Books.{IsInOrder, OfFamily, OfKey, book}
 use Rattle.rx_books_parcel.specs.Footprints.{FootprintParts, fits, fits_body, fits_one, names, names_holder}
 use Rattle.rx_books_parcel.proofs.Locality.{local_books, local_outside, local_reply, order_after}
 use Rattle.rx_schedule.specs.Billed.{is_among}

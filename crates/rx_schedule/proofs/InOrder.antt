@@ -13,11 +13,10 @@ use Rattle.std.proofs.lemmas.List.Kept.{Contains-dedup, Contains-from_dedup, IsS
 use Rattle.std.proofs.lemmas.List.Sorted.{list_any-IsPermutation}
 use Rattle.std.proofs.lemmas.Map.Lookups.{CmpEqualImpliesEq}
 use Rattle.std.proofs.lemmas.Map.Views.{Contains-from_any, list_any-from_Contains}
-use Rattle.rx_sorted.specs.Ascending.{IsAscending, IsBelow, contains_key, item_at, put, put_all}
+use Rattle.rx_sorted.specs.Ascending.{IsAscending, IsBelow, contains_key, item_at, itself, put, put_all}
 use Rattle.rx_sorted.proofs.Edits.{same_items}
 use Rattle.rx_sorted.proofs.Keys.{cases_Ordering, Equal-from_is_eq}
 use Rattle.rx_sorted.proofs.Kept.{IsAscending-put_all}
-use Rattle.rx_books_parcel.specs.Footprints.{itself}
 use Rattle.rx_schedule.specs.Footprints.{in_order}
 use Rattle.rx_schedule.proofs.Ors.{asked_twice, grouped, or_false, turned}
 

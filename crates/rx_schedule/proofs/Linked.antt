@@ -13,8 +13,7 @@ use Rattle.std.proofs.lemmas.List.Sums.{sum_by-append, sum_by-cons}
 use Rattle.std.proofs.lemmas.Map.Lookups.{CmpEqualImpliesEq}
 use Rattle.rx_sorted.proofs.KeyOrders.{by_two_exact, by_two_total, number_exact, number_total}
 use Rattle.rx_sorted.proofs.Keys.{Equal-from_is_eq}
-use Rattle.rx_sorted.specs.Ascending.{IsAscending, IsBelow}
-use Rattle.rx_books_parcel.specs.Footprints.{itself}
+use Rattle.rx_sorted.specs.Ascending.{IsAscending, IsBelow, itself}
 use Rattle.rx_schedule.specs.declared.links.Link.{Link}
 use Rattle.rx_schedule.specs.Links.{is_used, linked, links_in, use_cmp}
 use Rattle.rx_schedule.proofs.Ors.{or_false}

@@ -10,7 +10,7 @@ use Rattle.std.proofs.lemmas.Bool.{cases_Bool, cases_eq, cases_lt, both_ways, eq
 use Rattle.std.proofs.lemmas.List.{take_more}
 use Rattle.std.proofs.lemmas.Map.Lookups.{CmpEqualImpliesEq}
 use Rattle.rx_sorted.proofs.Keys.{Equal-from_is_eq, has_key-itself}
-use Rattle.rx_books_parcel.specs.Footprints.{itself}
+use Rattle.rx_sorted.specs.Ascending.{itself}
 use Rattle.rx_schedule.specs.declared.marks.Mark.{Mark}
 use Rattle.rx_schedule.specs.Marked.{IsLastOf, best_of, better, better_of, is_named}
 

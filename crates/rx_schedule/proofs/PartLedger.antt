@@ -21,7 +21,7 @@ use Rattle.rx_ledger.specs.Ledger.{IsLedger, Ledger}
 use Rattle.rx_ledger.specs.Members.{member_cmp, member_key}
 use Rattle.rx_ledger.specs.Rows.{member_of_row, row_key}
 use Rattle.rx_ledger.proofs.Orders.{id_exact, id_total, key_exact, key_total, member_exact, member_total}
-use Rattle.rx_books_parcel.specs.Books.{Book, IsInOrder, OfFamily, OfKey, has_member, has_row}
+use Rattle.rx_books_family.specs.Books.{Book, IsInOrder, OfFamily, OfKey, has_member, has_row}
 use Rattle.rx_books_parcel.specs.Footprints.{FootprintParts, cut, itself, names, sub}
 use Rattle.rx_books_parcel.proofs.Parts.{cut_part, keeps, named_keeps, part}
 use Rattle.rx_schedule.specs.Shards.{IsClosed}

@@ -13,8 +13,9 @@ use Rattle.rx_fields.specs.Order.{id_cmp, key_cmp}
 use Rattle.rx_fields.specs.declared.key.Key.{Key}
 use Rattle.rx_ledger.proofs.Orders.{id_exact, id_total, key_exact, key_total}
 use Rattle.rx_sorted.proofs.Keys.{Equal-from_is_eq, has_key-itself}
-use Rattle.rx_books_parcel.specs.Books.{OfFamily, OfKey}
-use Rattle.rx_books_parcel.specs.Footprints.{FootprintParts, itself, names}
+use Rattle.rx_books_family.specs.Books.{OfFamily, OfKey}
+use Rattle.rx_sorted.specs.Ascending.{itself}
+use Rattle.rx_books_parcel.specs.Footprints.{FootprintParts, names}
 use Rattle.rx_schedule.specs.declared.marks.Mark.{Mark}
 use Rattle.rx_schedule.specs.Marked.{IsDown, IsLastOf, IsScan, best_of, families_at, is_named, keys_at, no_mark}
 use Rattle.rx_schedule.specs.Waves.{AreWaves, IsChain, IsFirstHighest, IsFirstSharer, footprint_in}

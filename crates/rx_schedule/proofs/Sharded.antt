@@ -16,7 +16,7 @@ use Rattle.rx_ledger.specs.Ledger.{Ledger, row_under}
 use Rattle.rx_ledger.specs.Named.{key_in}
 use Rattle.rx_ledger.specs.Plan.{Plan}
 use Rattle.rx_ledger.proofs.Passed.{passed_weaker}
-use Rattle.rx_books_parcel.specs.Books.{Book, IsInOrder, OfFamily, OfKey, book}
+use Rattle.rx_books_family.specs.Books.{Book, IsInOrder, OfFamily, OfKey, book}
 use Rattle.rx_books_parcel.specs.Footprints.{FootprintParts, cut, fits, fits_body, fits_one, names, names_holder, sub}
 use Rattle.rx_books_parcel.proofs.Locality.{local_outside, local_reply, local_whole}
 use Rattle.rx_books_parcel.proofs.Parts.{book_part, cut_part}

@@ -5,7 +5,7 @@ use Rattle.rx_fields.specs.Numbered.{LotParts}
 use Rattle.rx_d0_values.specs.declared.transmission.Transmission.{Transmission}
 use Rattle.rx_ledger.specs.Ledger.{Ledger}
 use Rattle.rx_ledger.specs.Plan.{Plan}
-use Rattle.rx_books_parcel.specs.Books.{Book, OfFamily, OfKey}
+use Rattle.rx_books_family.specs.Books.{Book, OfFamily, OfKey}
 use Rattle.rx_books_parcel.specs.Footprints.{FootprintParts, names}
 use Rattle.rx_schedule.specs.Footprints.{footprint_at, footprints_of}
 use Rattle.rx_schedule.specs.Jobs.{job}

@@ -7,7 +7,7 @@ use Rattle.rx_d0_values.specs.declared.transmission.Transmission.{Transmission}
 use Rattle.rx_ledger.specs.Fold.{fold_ledger}
 use Rattle.rx_ledger.specs.Ledger.{Ledger}
 use Rattle.rx_ledger.specs.Plan.{Plan}
-use Rattle.rx_books_parcel.specs.Books.{Book, IsInOrder, book}
+use Rattle.rx_books_family.specs.Books.{Book, IsInOrder, book}
 use Rattle.rx_books_parcel.specs.Footprints.{FootprintParts, names}
 use Rattle.rx_schedule.specs.Footprints.{footprint_at}
 use Rattle.rx_schedule.proofs.Holder.{ledger_end, order_before}

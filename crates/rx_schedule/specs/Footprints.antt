@@ -1,12 +1,11 @@
 -- Meaning: the footprint of a record: the books that it names, read off the opening ledger and the records before it.
-use Rattle.std.specs.Prelude.{ℕ, ◌-◌, List, [], ◌∷◌, ◌++◌, if◌then◌else◌, length, map, take, slice_index_or}
-use Rattle.std.specs.Prelude.{Option, Some, None}
+use Rattle.std.specs.Prelude.{ℕ, ◌-◌, [], ◌∷◌, ◌++◌, List, None, Option, Some, if◌then◌else◌, length, map, slice_index_or, take}
 use Rattle.std.specs.List.{flat_map, range_with_len}
 use Rattle.std.specs.Ordering.{is_eq}
 use Rattle.std.specs.declared.cmp.Ordering.{Ordering}
 use Rattle.rx_fields.specs.Order.{id_cmp, key_cmp}
 use Rattle.rx_fields.specs.declared.key.Key.{Key}
-use Rattle.rx_sorted.specs.Ascending.{put_all}
+use Rattle.rx_sorted.specs.Ascending.{itself, put_all}
 use Rattle.rx_d0_values.specs.declared.transaction.Transaction.{Transaction}
 use Rattle.rx_d0_values.specs.declared.transaction.Transaction.TheVariants.{Bill, Reverse, Faulty}
 use Rattle.rx_d0_values.specs.declared.transmission.Body.{Body}
@@ -16,7 +15,7 @@ use Rattle.rx_d0_values.specs.declared.transmission.Transmission.{Transmission}
 use Rattle.rx_ledger.specs.declared.row.Row.{Row}
 use Rattle.rx_ledger.specs.Ledger.{Ledger, row_under}
 use Rattle.rx_ledger.specs.Named.{key_in}
-use Rattle.rx_books_parcel.specs.Footprints.{FootprintParts, itself}
+use Rattle.rx_books_parcel.specs.Footprints.{FootprintParts}
 
 -- each of these once, in ascending order
 abbrev pub in_order : {K : Type 0} → (K → K → Ordering) → List K → List K

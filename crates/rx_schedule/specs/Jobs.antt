@@ -11,7 +11,7 @@ use Rattle.rx_ledger.specs.Fold.{fold_ledger, ledger_after, reply_to}
 use Rattle.rx_ledger.specs.Ledger.{Ledger, empty, row_under}
 use Rattle.rx_ledger.specs.Plan.{Plan}
 use Rattle.rx_ledger.specs.declared.row.Row.{Row}
-use Rattle.rx_books_parcel.specs.Books.{Book, book}
+use Rattle.rx_books_family.specs.Books.{Book, book}
 use Rattle.rx_books_parcel.specs.Footprints.{names, sub}
 use Rattle.rx_schedule.specs.Footprints.{footprint_at, holders, record_at}
 use Rattle.rx_schedule.specs.Machine.{Job}

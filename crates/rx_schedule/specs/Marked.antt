@@ -6,8 +6,8 @@ use Rattle.std.specs.List.{fold}
 use Rattle.std.specs.declared.cmp.Ordering.{Ordering}
 use Rattle.rx_fields.specs.Order.{id_cmp, key_cmp}
 use Rattle.rx_fields.specs.declared.key.Key.{Key}
-use Rattle.rx_sorted.specs.Ascending.{contains_key}
-use Rattle.rx_books_parcel.specs.Footprints.{FootprintParts, itself}
+use Rattle.rx_sorted.specs.Ascending.{contains_key, itself}
+use Rattle.rx_books_parcel.specs.Footprints.{FootprintParts}
 use Rattle.rx_schedule.specs.declared.marks.Mark.{Mark}
 use Rattle.rx_schedule.specs.Waves.{IsFirstHighest, IsFirstSharer, footprint_in, member_at, number_in, shares}
 

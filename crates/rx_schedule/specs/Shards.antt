@@ -9,7 +9,7 @@ use Rattle.rx_ledger.specs.Fold.{ledger_after, reply_to}
 use Rattle.rx_ledger.specs.Ledger.{Ledger, row_under}
 use Rattle.rx_ledger.specs.Plan.{Plan}
 use Rattle.rx_ledger.specs.declared.row.Row.{Row}
-use Rattle.rx_books_parcel.specs.Books.{Book, IsInOrder, OfFamily, OfKey, book}
+use Rattle.rx_books_family.specs.Books.{Book, IsInOrder, OfFamily, OfKey, book}
 use Rattle.rx_books_parcel.specs.Footprints.{FootprintParts, cut, names, sub}
 use Rattle.rx_schedule.specs.Footprints.{family_of, footprint_at, in_order, record_at}
 

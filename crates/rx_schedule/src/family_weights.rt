@@ -126,8 +126,8 @@ fn opening_shares(alloc: Global, books: &Books, limit: u64) -> Result<Vec<Share>
     ensures { let L = books.now.ledger in IfOk result (λ shares. (f : List ℕ)
         → min limit (sum_by (share_in f) shares.items) ≡ min limit (length (members_of L f) + length (rows_of L f))) }
 {
-    let opened = books.copy(alloc, books.period())?.open(alloc, &[])?;
-    shares_of(alloc, &opened, limit)
+    let lent = books.lend(alloc)?;
+    shares_of(alloc, lent.books(), limit)
 }
 
 /// The sum, up to the limit.

@@ -4,7 +4,7 @@ ghost use Rattle.rx_d0_values.specs.declared.transmission.Transmission.{Transmis
 ghost use Rattle.rx_ledger.specs.Fold.{fold_ledger};
 ghost use Rattle.rx_ledger.specs.Ledger.{IsLedger, Ledger};
 ghost use Rattle.rx_ledger.specs.Plan.{Plan};
-ghost use Rattle.rx_books_parcel.specs.Books.{Book, IsInOrder, book};
+ghost use Rattle.rx_books_family.specs.Books.{Book, IsInOrder, book};
 ghost use Rattle.rx_books_parcel.specs.Footprints.{FootprintParts, IsFootprint, cut, fits, names, sub};
 ghost use Rattle.rx_schedule.specs.Footprints.{footprint_at, footprints_of, record_at};
 ghost use Rattle.rx_schedule.specs.Jobs.{IsHeld, job, ledger_before, reply_at};

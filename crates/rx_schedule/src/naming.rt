@@ -3,8 +3,7 @@ ghost use Rattle.std.specs.List.{flat_map};
 ghost use Rattle.rx_fields.specs.Order.{id_cmp, key_cmp};
 ghost use Rattle.rx_d0_values.specs.declared.transmission.Transmission.{Transmission as TransmissionValue};
 ghost use Rattle.rx_ledger.specs.Named.{key_in};
-ghost use Rattle.rx_sorted.specs.Ascending.{IsAscending};
-ghost use Rattle.rx_books_parcel.specs.Footprints.{itself};
+ghost use Rattle.rx_sorted.specs.Ascending.{IsAscending, itself};
 ghost use Rattle.rx_schedule.specs.Billed.{HasBilled, is_among};
 ghost use Rattle.rx_schedule.specs.Footprints.{families_named, footprint_of, families_in, footprints_of, holders, key_named, keys_in};
 

@@ -1,9 +1,8 @@
 -- Filters of any list.
 use Rattle.std.proofs.Common.{◌≡◌, zero, suc, List, [], ◌∷◌, Bool, true, false, cond, ap, ◌∙◌, inl, inr, refl, arith}
-use Rattle.std.specs.List.{All, Contains, filter}
+use Rattle.std.specs.List.{All, Contains, filter, find}
 use Rattle.std.proofs.lemmas.Bool.{cases_Bool, both_ways}
-use Rattle.std.proofs.lemmas.List.Elements.{All-contains, All-contains_itself, All-filter, All-head, All-tail}
-use Rattle.std.proofs.lemmas.List.Elements.{filter_passes}
+use Rattle.std.proofs.lemmas.List.Elements.{All-contains, All-contains_itself, All-filter, All-head, All-tail, filter_passes}
 
 -- where p holds of an item, q holds too
 pub filter_within : {X : Type 0} (p q : X → Bool) (xs : List X) → All (λ x. p x ≡ true → q x ≡ true) xs
@@ -74,3 +73,18 @@ Contains-filter_kept p (y ∷ ys) x (suc i, in_range, is) t =
       | inl u ↦ rw u (suc rest.0, omega (arith, rest.1), rest.2)
       | inr f ↦ rw f rest
     ]
+
+-- an item that passes the filter is found in the filtered list, and it is the same one
+pub find_filter : {A : Type 0} (q p : A → Bool) (xs : List A) → ((x : A) → q x ≡ true → p x ≡ true)
+    → find q (filter p xs) ≡ find q xs
+find_filter q p [] h = refl
+find_filter q p (x ∷ xs) h = elim (cases_Bool (p x)) [
+  | inl t ↦ elim (cases_Bool (q x)) [
+    | inl here ↦ simp (t, here)
+    | inr other ↦ simp (t, other) (find_filter q p xs h)
+  ]
+  | inr f ↦ elim (cases_Bool (q x)) [
+    | inl here ↦ absurd (both_ways _ f (h x here))
+    | inr other ↦ rw (f, other) (find_filter q p xs h)
+  ]
+]

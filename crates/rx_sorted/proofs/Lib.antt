@@ -1,5 +1,7 @@
 pub mod Agreeing
+pub mod AllSlots
 pub mod Edits
+pub mod FewItems
 pub mod FilteredPuts
 pub mod Filters
 pub mod InRuns
@@ -9,6 +11,8 @@ pub mod KeyOrders
 pub mod Keys
 pub mod LookUps
 pub mod MapEntries
+pub mod NearPlaces
+pub mod OneSlot
 pub mod Overlaid
 pub mod Places
 pub mod Totals

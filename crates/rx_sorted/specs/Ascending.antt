@@ -1,11 +1,14 @@
 -- Meaning: ascending lists: items in the order of their keys, at most one of a key.
 -- `cmp` is the order of the keys, and `key` reads an item's key.
-use Rattle.std.specs.Prelude.{◌≡◌, ℕ, ◌<◌, ◌≤◌, Bool, true, not, ◌&&◌, List, [], ◌∷◌, length, slice_index_or, Option}
-use Rattle.std.specs.Prelude.{is_some}
+use Rattle.std.specs.Prelude.{◌≡◌, ℕ, ◌<◌, ◌≤◌, ◌&&◌, [], ◌∷◌, Bool, List, Option, is_some, length, not, slice_index_or, true}
 use Rattle.std.specs.List.{filter, find, fold, list_all}
 use Rattle.std.specs.Ordering.{is_eq, is_lt, match_ordering}
 use Rattle.std.specs.declared.cmp.Ordering.{Ordering}
 use Rattle.std.specs.declared.cmp.Ordering.TheVariants.{Less, Equal, Greater}
+
+-- what an item is found by that is its own key
+abbrev pub itself : {K : Type 0} → K → K
+itself k = k
 
 module _ {X K : Type 0} (cmp : K → K → Ordering) (key : X → K) where
   -- whether the item has the key

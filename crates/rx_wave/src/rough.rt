@@ -51,9 +51,9 @@ impl Rough {
 
     // Counts each member, and its claims, for its family.
     fn count_standing(&mut self, alloc: Global, books: &Books) -> Result<(), Memory> {
-        let opened = books.copy(alloc, books.period())?.open(alloc, &[])?;
-        let claims = claims_of(alloc, &opened)?;
-        for (member, count) in opened.members().iter().zip(claims.iter()) {
+        let lent = books.lend(alloc)?;
+        let claims = claims_of(alloc, lent.books())?;
+        for (member, count) in lent.books().members().iter().zip(claims.iter()) {
             self.count(&member.key.family, count.saturating_add(1));
         }
         Ok(())

@@ -5,13 +5,15 @@ use crate::worked::{
     reference, rejected, reversal, thirty_days, this_year, today,
 };
 use rx_adjudicate::{Done, Order, adjudicate, fits};
-use rx_books_parcel::{Family, Few, KeyBook, Parcel};
+use rx_books_family::{Family, KeyBook};
+use rx_books_parcel::Parcel;
 use rx_d0_values::{
     Amounts, Answer, Approved, Codes, Outcome, Paid, Pricing, Refused, Reply, Transaction,
     Transmission,
 };
 use rx_fields::{Cents, Code, Key, Period, Person};
 use rx_ledger::{Member, MemberKey, Row, Terms};
+use rx_sorted::Few;
 use std::alloc::Global;
 use std::process::Abort;
 

@@ -118,7 +118,12 @@ fn written<R: Threads + Sync + Abort>(
     parts: usize,
     books: &Books,
 ) -> Vec<u8> {
-    books.write_in_parts(rt, alloc, parts).expect(rt, "memory")
+    let pieces = books.write_pieces(rt, alloc, parts, Vec::new(alloc));
+    let mut text = Vec::new(alloc);
+    for piece in pieces.expect(rt, "memory").as_slice() {
+        text.extend_from_slice(piece).expect(rt, "memory");
+    }
+    text
 }
 
 // What is written of a text that is read, both in so many parts.

@@ -1,5 +1,5 @@
 // What no clause says: that good texts are read, whatever the cuts.
-use rx_books_scan::{Lists, read_lists, read_lists_cut, read_lists_in_parts};
+use rx_books_scan::{Lists, read_lists, read_lists_in_parts};
 use rx_books_text::read_printed;
 use rx_ledger::Row;
 use std::alloc::Global;
@@ -41,33 +41,27 @@ fn is_exact(rt: &impl Abort, alloc: Global, text: &[u8], lists: Option<Lists>) {
     assert!(rt; are_exact(rt, alloc, text, &lists));
 }
 
-// The text is read in parts, cut at these places, as the exact reader reads it.
-fn is_read<R: Threads + Sync + Abort>(rt: &R, alloc: Global, places: &[usize], text: &[u8]) {
-    is_exact(rt, alloc, text, read_lists_cut(rt, alloc, places, text));
+// The text is read in so many parts as the exact reader reads it.
+fn is_read<R: Threads + Sync + Abort>(rt: &R, alloc: Global, parts: usize, text: &[u8]) {
+    is_exact(rt, alloc, text, read_lists_in_parts(rt, alloc, parts, text));
 }
 
-// The text is left to the exact reader, whole or cut at a place.
+// The text is left to the exact reader, whole or in two parts.
 fn is_left<R: Threads + Sync + Abort>(rt: &R, alloc: Global, text: &[u8]) {
     assert!(rt; read_lists(alloc, text).is_none());
-    assert!(rt; read_lists_cut(rt, alloc, &[5], text).is_none());
+    assert!(rt; read_lists_in_parts(rt, alloc, 2, text).is_none());
 }
 
 #[test]
 fn reads_in_one_part(rt: HostRuntime) {
     is_exact(&rt, rt.alloc(), BOOKS, read_lists(rt.alloc(), BOOKS));
-    is_exact(
-        &rt,
-        rt.alloc(),
-        BOOKS,
-        read_lists_in_parts(&rt, rt.alloc(), 3, BOOKS),
-    );
 }
 
+// The more parts there are, the more of the places at which a text can be cut.
 #[test]
-fn reads_alike_at_every_cut(rt: HostRuntime) {
-    for place in 0..BOOKS.len() {
-        is_read(&rt, rt.alloc(), &[place], BOOKS);
-        is_read(&rt, rt.alloc(), &[place / 2, place], BOOKS);
+fn reads_alike_in_any_parts(rt: HostRuntime) {
+    for parts in 1..BOOKS.len() {
+        is_read(&rt, rt.alloc(), parts, BOOKS);
     }
 }
 
@@ -77,7 +71,7 @@ fn reads_books_without_a_kind(rt: HostRuntime) {
     is_exact(&rt, rt.alloc(), head, read_lists(rt.alloc(), head));
     let member =
         b"BOOKS|3|20260101|20261231\nM|C100|01|20260101|20261231|0\nT|C100|0|0\n".as_slice();
-    is_read(&rt, rt.alloc(), &[30], member);
+    is_read(&rt, rt.alloc(), 2, member);
 }
 
 #[test]

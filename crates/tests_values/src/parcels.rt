@@ -1,10 +1,12 @@
 // What no clause says: that the calls succeed, on books whose figures were counted by hand.
-use rx_books_parcel::{Family, Few, Footprint, KeyBook, Parcel, counted_in};
+use rx_books_family::{Family, KeyBook};
+use rx_books_parcel::{Footprint, Parcel};
 use rx_d0_values::Amounts;
 use rx_fields::{
     Authorization, Days, Id, Key, Period, Person, Product, Provider, Quantity, Reference, date_read,
 };
-use rx_ledger::{Member, MemberKey, Row};
+use rx_ledger::{Member, MemberKey, Row, counted_in};
+use rx_sorted::Few;
 use std::alloc::Global;
 use std::fmt::Debug;
 use std::process::Abort;

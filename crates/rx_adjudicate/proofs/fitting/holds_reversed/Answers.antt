@@ -1,5 +1,5 @@
 use Rattle.std.proofs.Common.{◌≡◌, true, sym, ap, ◌∙◌}
-use Rattle.rx_books_parcel.specs.Books.{OfKey}
+use Rattle.rx_books_family.specs.Books.{OfKey}
 use Rattle.rx_books_parcel.specs.Footprints.{names, names_holder}
 use Rattle.rx_books_parcel.specs.Parcels.{named_in}
 use Rattle.rx_books_parcel.proofs.Held.{row_read}

@@ -5,7 +5,7 @@ use Rattle.std.proofs.lemmas.List.Sorted.{answers_always}
 use Rattle.rx_fields.specs.Order.{key_cmp}
 use Rattle.rx_sorted.proofs.Kept.{is_ascending-neighbours}
 use Rattle.rx_ledger.proofs.Orders.{key_total}
-use Rattle.rx_books_parcel.specs.Footprints.{itself}
+use Rattle.rx_sorted.specs.Ascending.{itself}
 use Rattle.rx_books_parcel.proofs.footprint.are_keys_ascending.Goals as goal
 
 pub returns : goal.returns

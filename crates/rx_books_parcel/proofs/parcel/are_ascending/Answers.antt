@@ -2,7 +2,7 @@ use Rattle.std.proofs.Common.{sym, ◌∙◌}
 use Rattle.rx_fields.specs.Order.{id_cmp}
 use Rattle.rx_sorted.proofs.Kept.{IsAscending-from_test, is_ascending-from_fact}
 use Rattle.rx_ledger.proofs.Orders.{id_total}
-use Rattle.rx_books_parcel.specs.FamilyBook.{family_of}
+use Rattle.rx_books_family.specs.FamilyBook.{family_of}
 use Rattle.rx_books_parcel.proofs.parcel.are_ascending.Goals as goal
 
 pub returns : goal.returns

@@ -3,9 +3,9 @@ use Rattle.rx_fields.specs.Order.{key_cmp}
 use Rattle.rx_sorted.specs.Ascending.{IsAt}
 use Rattle.rx_sorted.proofs.Places.{set-at}
 use Rattle.rx_ledger.proofs.Orders.{key_total}
-use Rattle.rx_books_parcel.specs.Few.{items_of}
+use Rattle.rx_sorted.specs.Few.{items_of}
 use Rattle.rx_books_parcel.specs.Parcels.{key_of}
-use Rattle.rx_books_parcel.proofs.FewItems.{items_with}
+use Rattle.rx_sorted.proofs.FewItems.{items_with}
 use Rattle.rx_books_parcel.proofs.parcel.write_over.Goals as goal
 
 pub held_place-at-requires-clause-rise : goal.held_place-at-requires-clause-rise

@@ -11,10 +11,10 @@ use Rattle.rx_ledger.specs.Ledger.{is_listed}
 use Rattle.rx_ledger.specs.Members.{member_cmp, member_key}
 use Rattle.rx_ledger.specs.Rows.{member_of_row, row_key}
 use Rattle.rx_books_store.specs.OpenBooks.{OpenParts}
-use Rattle.rx_places.specs.declared.place.KeyPlace.{KeyPlace}
-use Rattle.rx_places.specs.Shelves.{HoldsOwnRow, place_key, row_held}
+use Rattle.rx_books_family.specs.declared.place.KeyPlace.{KeyPlace}
+use Rattle.rx_books_family.specs.Shelves.{HoldsOwnRow, place_key, row_held}
 use Rattle.rx_books_shelf.specs.Closed.{HasSlot}
-use Rattle.rx_places.proofs.Moved.{drop_next, none_left}
+use Rattle.rx_sorted.proofs.AllSlots.{drop_next, none_left}
 use Rattle.rx_books_shelf.proofs.closing.brought.Goals as goal
 
 -- a fact of each place is one of this

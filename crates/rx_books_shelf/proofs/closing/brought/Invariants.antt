@@ -3,7 +3,7 @@ use Rattle.std.proofs.Common.{◌≡◌, drop}
 use Rattle.rx_fields.specs.Order.{key_cmp}
 use Rattle.rx_sorted.specs.Overlaid.{overlaid}
 use Rattle.rx_ledger.specs.Rows.{row_key}
-use Rattle.rx_places.specs.Shelves.{place_key, row_held}
+use Rattle.rx_books_family.specs.Shelves.{place_key, row_held}
 use Rattle.rx_books_shelf.proofs.closing.brought.Given as goal
 
 abbrev pub invariant-loop-place : goal.invariant-loop-place

@@ -1,13 +1,11 @@
-use Rattle.std.proofs.Common.{◌≡◌, [], List, map, refl, sym, ap, subst, ◌∙◌}
+use Rattle.std.proofs.Common.{◌≡◌, [], map, refl, sym, ap, subst, ◌∙◌}
 use Rattle.std.specs.List.{All}
 use Rattle.rx_fields.specs.Order.{id_cmp}
-use Rattle.rx_sorted.specs.Ascending.{IsAscending}
+use Rattle.rx_sorted.specs.Ascending.{IsAscending, itself}
 use Rattle.rx_ledger.specs.Ledger.{members_of}
-use Rattle.rx_books_parcel.specs.FamilyBook.{FamilyBook, empty_book, family_of}
-use Rattle.rx_books_parcel.specs.Footprints.{itself}
+use Rattle.rx_books_family.specs.FamilyBook.{FamilyBook, empty_book, family_of}
 use Rattle.rx_books_shelf.specs.Gathered.{with_members, with_rows}
-use Rattle.rx_books_shelf.specs.Opened.{family_book}
-use Rattle.rx_places.proofs.Moved.{map_map}
+use Rattle.rx_sorted.proofs.AllSlots.{map_map}
 use Rattle.rx_books_shelf.proofs.PutBooks.{all_map}
 use Rattle.rx_books_shelf.proofs.ShelfKept.{ascending_changed}
 use Rattle.rx_books_shelf.proofs.gathering.gathered.Goals as goal
@@ -55,4 +53,4 @@ returns-clause-value c =
     ∙ ap (map (with_rows L)) (c.in_ok-put_members.ensures ∙ ap (map (with_members L)) c.in_ok-books.ensures)
     ∙ ap (map (with_rows L)) (map_map (with_members L) (empty_book p) c.args.families.now)
     ∙ map_map (with_rows L) (λ f. with_members L (empty_book p f)) c.args.families.now
-    ∙ ap (λ q. map (λ f. with_rows L (with_members L (empty_book q f))) c.args.families.now) c.period.ensures
+    ∙ ap (λ q. map (λ f. with_rows L (with_members L (empty_book q f))) c.args.families.now) c.period.ensures.value

@@ -1,5 +1,5 @@
 use Rattle.std.proofs.Common.{◌≡◌, map, take}
-use Rattle.rx_books_parcel.specs.FamilyBook.{empty_book}
+use Rattle.rx_books_family.specs.FamilyBook.{empty_book}
 use Rattle.rx_books_shelf.proofs.gathering.put_books.Given as goal
 
 abbrev pub invariant-loop-family : goal.invariant-loop-family

@@ -1,12 +1,10 @@
-use Rattle.std.proofs.Common.{◌≡◌, true, set, sym, ap, subst, ◌∙◌}
+use Rattle.std.proofs.Common.{◌≡◌, true, set, sym, ap, ◌∙◌}
 use Rattle.rx_fields.specs.Order.{id_cmp}
 use Rattle.rx_sorted.specs.Ascending.{IsAt, is_past}
 use Rattle.rx_sorted.proofs.Places.{item_at-gap}
-use Rattle.rx_ledger.specs.Ledger.{is_listed}
 use Rattle.rx_ledger.specs.Members.{member_cmp, member_key}
-use Rattle.rx_ledger.specs.Rows.{member_of_row}
 use Rattle.rx_ledger.proofs.Orders.{id_total}
-use Rattle.rx_books_parcel.specs.FamilyBook.{FamilyBook, book_with_member, family_of, own_ledger}
+use Rattle.rx_books_family.specs.FamilyBook.{FamilyBook, family_of}
 use Rattle.rx_books_shelf.proofs.PutBooks.{family_at_place, member_at_place, member_nowhere, of_book, on_ok}
 use Rattle.rx_books_shelf.proofs.gathering.put_member.Goals as goal
 

@@ -1,14 +1,13 @@
-use Rattle.std.proofs.Common.{◌≡◌, ◌+◌, ◌∷◌, [], List, drop, map, refl, sym, ap, subst, ◌∙◌, arith}
+use Rattle.std.proofs.Common.{◌≡◌, ◌+◌, ◌∷◌, drop, map, refl, sym, ap, subst, ◌∙◌, arith}
 use Rattle.std.specs.List.{All}
 use Rattle.rx_fields.specs.Order.{id_cmp}
 use Rattle.rx_sorted.specs.Ascending.{IsAscending}
 use Rattle.rx_sorted.proofs.Kept.{IsAscending-drop}
-use Rattle.rx_ledger.specs.declared.member.Member.{Member}
 use Rattle.rx_ledger.specs.Members.{member_cmp, member_key}
 use Rattle.rx_ledger.proofs.Orders.{member_total}
-use Rattle.rx_books_parcel.specs.FamilyBook.{FamilyBook, family_of}
+use Rattle.rx_books_family.specs.FamilyBook.{family_of}
 use Rattle.rx_books_shelf.specs.Gathered.{with_own_member}
-use Rattle.rx_places.proofs.Moved.{drop_next, none_left}
+use Rattle.rx_sorted.proofs.AllSlots.{drop_next, none_left}
 use Rattle.rx_books_shelf.proofs.PutBooks.{Past, all_past, all_past_kept, members_put, members_put_all, past_first, rise_with_member}
 use Rattle.rx_books_shelf.proofs.gathering.put_members.Goals as goal
 

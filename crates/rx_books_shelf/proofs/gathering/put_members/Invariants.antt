@@ -3,7 +3,7 @@ use Rattle.std.proofs.Common.{◌≡◌, drop}
 use Rattle.std.specs.List.{All}
 use Rattle.rx_fields.specs.Order.{id_cmp}
 use Rattle.rx_sorted.specs.Ascending.{IsAscending}
-use Rattle.rx_books_parcel.specs.FamilyBook.{family_of}
+use Rattle.rx_books_family.specs.FamilyBook.{family_of}
 use Rattle.rx_books_shelf.proofs.PutBooks.{Past, members_put}
 use Rattle.rx_books_shelf.proofs.gathering.put_members.Given as goal
 

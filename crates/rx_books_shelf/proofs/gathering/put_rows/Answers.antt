@@ -7,7 +7,7 @@ use Rattle.rx_sorted.specs.Ascending.{IsAscending}
 use Rattle.rx_ledger.specs.declared.row.Row.{Row}
 use Rattle.rx_ledger.specs.Ledger.{Ledger, is_listed}
 use Rattle.rx_ledger.specs.Rows.{member_of_row, row_key}
-use Rattle.rx_books_parcel.specs.FamilyBook.{FamilyBook, family_of}
+use Rattle.rx_books_family.specs.FamilyBook.{FamilyBook, family_of}
 use Rattle.rx_books_shelf.specs.Gathered.{with_own_row}
 use Rattle.rx_books_shelf.proofs.PutBooks.{HasMembers, PastRows, all_rows_past, all_rows_past_kept, listed_first, row_past_first}
 use Rattle.rx_books_shelf.proofs.PutBooks.{members_stay, rise_with_row, rows_put, rows_put_all}

@@ -6,7 +6,7 @@ use Rattle.rx_sorted.specs.Ascending.{IsAscending}
 use Rattle.rx_ledger.specs.declared.row.Row.{Row}
 use Rattle.rx_ledger.specs.Ledger.{is_listed}
 use Rattle.rx_ledger.specs.Rows.{member_of_row, row_key}
-use Rattle.rx_books_parcel.specs.FamilyBook.{family_of}
+use Rattle.rx_books_family.specs.FamilyBook.{family_of}
 use Rattle.rx_books_shelf.proofs.PutBooks.{HasMembers, PastRows, rows_put}
 use Rattle.rx_books_shelf.proofs.gathering.put_rows.Given as goal
 

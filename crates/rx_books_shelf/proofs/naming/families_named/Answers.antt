@@ -1,11 +1,11 @@
-use Rattle.std.proofs.Common.{◌≡◌, ◌∷◌, [], ◌++◌, take, sym, ap, subst, ◌∙◌}
+use Rattle.std.proofs.Common.{◌∷◌, [], ◌++◌, take, sym, ap, subst, ◌∙◌}
 use Rattle.std.specs.List.{All, flat_map}
 use Rattle.std.proofs.lemmas.List.{take_more}
 use Rattle.std.proofs.lemmas.List.Elements.{All-append, All-cons, All-nil}
 use Rattle.rx_fields.specs.Order.{id_cmp}
-use Rattle.rx_sorted.specs.Ascending.{contains_key}
+use Rattle.rx_sorted.specs.Ascending.{contains_key, itself}
 use Rattle.rx_ledger.proofs.Orders.{id_exact}
-use Rattle.rx_books_parcel.specs.Footprints.{FootprintParts, IsFootprint, itself}
+use Rattle.rx_books_parcel.specs.Footprints.{FootprintParts, IsFootprint}
 use Rattle.rx_books_shelf.proofs.AllNamed.{flat_more, all_taken, families_are}
 use Rattle.rx_books_shelf.proofs.naming.families_named.Goals as goal
 

@@ -6,12 +6,12 @@ use Rattle.rx_fields.specs.Order.{id_cmp}
 use Rattle.rx_sorted.specs.Ascending.{IsAscending}
 use Rattle.rx_sorted.proofs.Kept.{is_ascending-from_fact}
 use Rattle.rx_ledger.proofs.Orders.{id_total}
-use Rattle.rx_books_parcel.specs.FamilyBook.{FamilyBook, family_of}
+use Rattle.rx_books_family.specs.FamilyBook.{FamilyBook, family_of}
 use Rattle.rx_books_store.proofs.Figured.{all_back, all_front}
-use Rattle.rx_places.specs.declared.place.FamilyPlace.{FamilyPlace}
-use Rattle.rx_places.specs.Shelves.{place_family}
+use Rattle.rx_books_family.specs.declared.place.FamilyPlace.{FamilyPlace}
+use Rattle.rx_books_family.specs.Shelves.{place_family}
 use Rattle.rx_books_shelf.specs.Opened.{family_book, filled_place}
-use Rattle.rx_places.proofs.Moved.{no_items}
+use Rattle.rx_sorted.proofs.AllSlots.{no_items}
 use Rattle.rx_books_shelf.proofs.ShelfKept.{ascending_changed}
 use Rattle.rx_books_shelf.proofs.placing.family_places.Goals as goal
 

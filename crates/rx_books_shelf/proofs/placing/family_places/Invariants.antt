@@ -1,7 +1,7 @@
 -- The books that still have no place, and behind them the places so far, the last first; each is of the open books.
 use Rattle.std.proofs.Common.{◌≡◌, ◌++◌, length, map, reverse}
 use Rattle.std.specs.List.{All}
-use Rattle.rx_books_parcel.specs.FamilyBook.{FamilyBook}
+use Rattle.rx_books_family.specs.FamilyBook.{FamilyBook}
 use Rattle.rx_books_shelf.specs.Opened.{family_book, filled_place}
 use Rattle.rx_books_shelf.proofs.placing.family_places.Given as goal
 

@@ -1,10 +1,9 @@
 use Rattle.std.proofs.Common.{◌≡◌, false, map, true, refl, sym, ap, subst, ◌∙◌}
 use Rattle.rx_fields.specs.Order.{key_cmp}
-use Rattle.rx_sorted.specs.Ascending.{IsAscending}
+use Rattle.rx_sorted.specs.Ascending.{IsAscending, itself}
 use Rattle.rx_sorted.proofs.Kept.{is_ascending-from_fact}
 use Rattle.rx_ledger.proofs.Orders.{key_total}
-use Rattle.rx_books_parcel.specs.Footprints.{itself}
-use Rattle.rx_places.specs.Shelves.{place_key}
+use Rattle.rx_books_family.specs.Shelves.{place_key}
 use Rattle.rx_books_shelf.specs.Opened.{full_key_place}
 use Rattle.rx_books_shelf.proofs.AllNamed.{all_taken}
 use Rattle.rx_books_shelf.proofs.ShelfKept.{ascending_changed}

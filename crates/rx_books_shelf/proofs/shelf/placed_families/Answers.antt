@@ -1,9 +1,8 @@
 use Rattle.std.proofs.Common.{◌≡◌, map, refl, sym, ap, subst, ◌∙◌}
 use Rattle.std.specs.List.{All}
 use Rattle.rx_fields.specs.Order.{id_cmp}
-use Rattle.rx_sorted.specs.Ascending.{IsAscending}
-use Rattle.rx_books_parcel.specs.FamilyBook.{FamilyBook, family_of}
-use Rattle.rx_books_parcel.specs.Footprints.{itself}
+use Rattle.rx_sorted.specs.Ascending.{IsAscending, itself}
+use Rattle.rx_books_family.specs.FamilyBook.{FamilyBook, family_of}
 use Rattle.rx_books_shelf.specs.Opened.{family_book}
 use Rattle.rx_books_shelf.proofs.PutBooks.{all_map}
 use Rattle.rx_books_shelf.proofs.ShelfKept.{ascending_changed}

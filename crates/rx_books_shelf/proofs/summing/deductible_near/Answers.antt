@@ -1,6 +1,4 @@
 use Rattle.std.proofs.Common.{◌≡◌, Some, None, sym, ap, subst, ◌∙◌}
-use Rattle.std.specs.Prelude.{IfSome}
-use Rattle.std.specs.List.{Contains}
 use Rattle.rx_sorted.specs.Ascending.{IsAscending, item_at}
 use Rattle.rx_sorted.proofs.LookUps.{item_at-from_contains}
 use Rattle.rx_sorted.proofs.Places.{item_at-gap}

@@ -1,9 +1,8 @@
-use Rattle.std.proofs.Common.{◌≡◌, Some, [], map, sym, ap, subst, ◌∙◌}
+use Rattle.std.proofs.Common.{◌≡◌, Some, map, sym, ap, subst, ◌∙◌}
 use Rattle.std.specs.Prelude.{slice_get}
 use Rattle.std.specs.List.{All, Contains}
-use Rattle.rx_ledger.specs.Ledger.{rows_of}
-use Rattle.rx_ledger.specs.Sums.{family_deductible, family_deductible_in, out_of_pocket, out_of_pocket_in}
-use Rattle.rx_books_parcel.specs.FamilyBook.{FamilyBook}
+use Rattle.rx_ledger.specs.Sums.{family_deductible_in, out_of_pocket_in}
+use Rattle.rx_books_family.specs.FamilyBook.{FamilyBook}
 use Rattle.rx_books_store.specs.BooksText.{families_of}
 use Rattle.rx_books_store.specs.LedgerBooks.{has_members}
 use Rattle.rx_books_shelf.specs.Gathered.{own_deductible}

@@ -1,5 +1,5 @@
 -- A step goes on, and what is left between the ends shrinks.
-use Rattle.std.proofs.Common.{◌≡◌, ◌-◌, ◌≤◌, length}
+use Rattle.std.proofs.Common.{◌-◌, ◌≤◌, length}
 use Rattle.rx_books_store.proofs.search.guess_from.Given as goal
 
 abbrev pub invariant-steps : goal.invariant-steps

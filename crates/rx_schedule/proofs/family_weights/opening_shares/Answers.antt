@@ -8,8 +8,8 @@ use Rattle.rx_schedule.proofs.family_weights.opening_shares.Goals as goal
 
 pub returns : goal.returns
 returns c =
-    let same : c.in_ok-opened.opened.books.ledger ≡ c.args.books.now.ledger =
-    ap (λ (b : LedgerBooks). b.ledger) (c.in_ok-opened.ensures.same ∙ c.in_ok-copy.ensures) in
+    let same : c.books.result.now.books.ledger ≡ c.args.books.now.ledger =
+    ap (λ (b : LedgerBooks). b.ledger) (c.books.ensures ∙ c.in_ok-lent.ensures) in
     subst (λ (L : Ledger). IfOk c.shares_of.result (λ shares. (f : List ℕ)
     → min c.args.limit (sum_by (share_in f) shares.items) ≡ min c.args.limit (length (members_of L f) + length (rows_of L f))))
     same c.shares_of.ensures

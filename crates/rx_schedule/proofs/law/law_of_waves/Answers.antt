@@ -1,5 +1,5 @@
 use Rattle.std.proofs.Common.{ap, ◌∙◌}
-use Rattle.rx_books_parcel.specs.Books.{book}
+use Rattle.rx_books_family.specs.Books.{book}
 use Rattle.rx_schedule.specs.Jobs.{job, ledger_before, reply_at}
 use Rattle.rx_schedule.proofs.Holder.{is_fold, ledger_end}
 use Rattle.rx_schedule.proofs.Standing.{numbered_books, numbered_replies}

@@ -3,7 +3,7 @@ use Rattle.std.proofs.lemmas.Bool.{and_from}
 use Rattle.rx_fields.specs.Order.{id_cmp, key_cmp}
 use Rattle.rx_ledger.proofs.Orders.{id_total, key_total}
 use Rattle.rx_sorted.proofs.Kept.{is_ascending-from_fact}
-use Rattle.rx_books_parcel.specs.Footprints.{itself}
+use Rattle.rx_sorted.specs.Ascending.{itself}
 use Rattle.rx_schedule.proofs.naming.made_of.Goals as goal
 
 pub unreachable-requires : goal.unreachable-requires

@@ -4,7 +4,7 @@ use Rattle.rx_sorted.proofs.LookUps.{item_at-free}
 use Rattle.rx_ledger.specs.Ledger.{is_listed, is_taken}
 use Rattle.rx_ledger.specs.Rows.{member_of_row, row_key}
 use Rattle.rx_ledger.proofs.Orders.{key_total}
-use Rattle.rx_books_parcel.specs.Books.{OfFamily, OfKey}
+use Rattle.rx_books_family.specs.Books.{OfFamily, OfKey}
 use Rattle.rx_books_parcel.specs.Footprints.{names}
 use Rattle.rx_books_parcel.specs.Parcels.{ledger_in, named_in, row_at}
 use Rattle.rx_books_parcel.proofs.Edited.{agrees_added, ledger_added, named_added}

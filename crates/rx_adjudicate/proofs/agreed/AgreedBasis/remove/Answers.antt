@@ -2,7 +2,7 @@ use Rattle.std.proofs.Common.{◌≡◌, refl, sym, subst, ap, ◌∙◌, true}
 use Rattle.std.specs.Prelude.{IfSome}
 use Rattle.std.specs.Option.{is_some}
 use Rattle.rx_ledger.specs.Ledger.{is_taken, row_under}
-use Rattle.rx_books_parcel.specs.Books.{OfFamily, OfKey}
+use Rattle.rx_books_family.specs.Books.{OfFamily, OfKey}
 use Rattle.rx_books_parcel.specs.Footprints.{names}
 use Rattle.rx_books_parcel.specs.Parcels.{ledger_in, named_in, row_at}
 use Rattle.rx_books_parcel.proofs.Edited.{agrees_removed, ledger_removed, named_removed}

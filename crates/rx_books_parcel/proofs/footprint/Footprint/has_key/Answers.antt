@@ -2,10 +2,9 @@
 use Rattle.std.proofs.Common.{rules, ap, ◌∙◌}
 use Rattle.std.proofs.lemmas.List.Sorted.{answers_always}
 use Rattle.rx_fields.specs.Order.{key_cmp}
-use Rattle.rx_sorted.specs.Ascending.{IsAscending, contains_key}
+use Rattle.rx_sorted.specs.Ascending.{IsAscending, contains_key, itself}
 use Rattle.rx_sorted.proofs.Places.{contains_key-searched, searched}
 use Rattle.rx_ledger.proofs.Orders.{key_total}
-use Rattle.rx_books_parcel.specs.Footprints.{itself}
 use Rattle.rx_books_parcel.proofs.footprint.Footprint.has_key.Goals as goal
 
 pub returns : goal.returns

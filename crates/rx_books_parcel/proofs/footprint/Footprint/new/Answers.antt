@@ -1,9 +1,8 @@
 use Rattle.std.proofs.Common.{sym, ap, ◌∙◌}
 use Rattle.rx_fields.specs.Order.{id_cmp, key_cmp}
-use Rattle.rx_sorted.specs.Ascending.{is_ascending}
+use Rattle.rx_sorted.specs.Ascending.{is_ascending, itself}
 use Rattle.rx_sorted.proofs.Kept.{IsAscending-from_test}
 use Rattle.rx_ledger.proofs.Orders.{id_total, key_total}
-use Rattle.rx_books_parcel.specs.Footprints.{itself}
 use Rattle.rx_books_parcel.proofs.footprint.Footprint.new.Goals as goal
 
 pub invariant_of-result : goal.invariant_of-result

@@ -5,13 +5,13 @@ use Rattle.rx_fields.specs.Order.{id_cmp, key_cmp}
 use Rattle.rx_sorted.specs.Ascending.{IsAt, put}
 use Rattle.rx_ledger.specs.Ledger.{is_listed}
 use Rattle.rx_ledger.specs.Members.{person_in}
-use Rattle.rx_books_parcel.specs.declared.key_book.KeyBook.{KeyBook}
-use Rattle.rx_books_parcel.specs.Books.{OfFamily, OfKey}
-use Rattle.rx_books_parcel.specs.FamilyBook.{FamilyBook, IsOwn, book_with_row, family_of, own_ledger}
-use Rattle.rx_books_parcel.specs.Few.{items_of}
+use Rattle.rx_books_family.specs.declared.key_book.KeyBook.{KeyBook}
+use Rattle.rx_books_family.specs.Books.{OfFamily, OfKey}
+use Rattle.rx_books_family.specs.FamilyBook.{FamilyBook, IsOwn, book_with_row, family_of, own_ledger}
+use Rattle.rx_sorted.specs.Few.{items_of}
 use Rattle.rx_books_parcel.specs.Footprints.{names}
 use Rattle.rx_books_parcel.specs.Parcels.{Agrees, ParcelParts, key_of, member_at, named_in, row_at}
-use Rattle.rx_books_parcel.proofs.FewItems.{items_with}
+use Rattle.rx_sorted.proofs.FewItems.{items_with}
 use Rattle.rx_books_parcel.proofs.Held.{family_held, free_in_family, key_held, listed_there}
 use Rattle.rx_books_parcel.proofs.Written.{added_families, book_there, family_there, own_there, unwritten, written}
 use Rattle.rx_books_parcel.proofs.parcel.Parcel.add.Goals as goal

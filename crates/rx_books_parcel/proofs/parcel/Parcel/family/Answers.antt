@@ -2,7 +2,7 @@ use Rattle.std.proofs.Common.{Some, sym, ap, ◌∙◌}
 use Rattle.rx_fields.specs.Order.{id_cmp}
 use Rattle.rx_sorted.proofs.Places.{item_at-at, item_at-gap}
 use Rattle.rx_ledger.proofs.Orders.{id_total}
-use Rattle.rx_books_parcel.specs.FamilyBook.{family_of}
+use Rattle.rx_books_family.specs.FamilyBook.{family_of}
 use Rattle.rx_books_parcel.proofs.parcel.Parcel.family.Goals as goal
 
 pub place_of-requires : goal.place_of-requires

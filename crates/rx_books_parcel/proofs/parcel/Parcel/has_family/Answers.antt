@@ -3,7 +3,7 @@ use Rattle.rx_fields.specs.Order.{id_cmp}
 use Rattle.rx_sorted.specs.Ascending.{contains_key}
 use Rattle.rx_sorted.proofs.Places.{contains_key-searched}
 use Rattle.rx_ledger.proofs.Orders.{id_total}
-use Rattle.rx_books_parcel.specs.FamilyBook.{family_of}
+use Rattle.rx_books_family.specs.FamilyBook.{family_of}
 use Rattle.rx_books_parcel.proofs.Held.{family_held}
 use Rattle.rx_books_parcel.proofs.parcel.Parcel.has_family.Goals as goal
 

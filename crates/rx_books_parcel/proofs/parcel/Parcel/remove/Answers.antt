@@ -3,13 +3,13 @@ use Rattle.std.specs.Prelude.{IfSome}
 use Rattle.std.specs.List.{All}
 use Rattle.rx_fields.specs.Order.{id_cmp, key_cmp}
 use Rattle.rx_sorted.specs.Ascending.{IsAt, put}
-use Rattle.rx_books_parcel.specs.declared.key_book.KeyBook.{KeyBook}
-use Rattle.rx_books_parcel.specs.Books.{OfFamily, OfKey}
-use Rattle.rx_books_parcel.specs.FamilyBook.{IsOwn, book_without_row, family_of}
-use Rattle.rx_books_parcel.specs.Few.{items_of}
+use Rattle.rx_books_family.specs.declared.key_book.KeyBook.{KeyBook}
+use Rattle.rx_books_family.specs.Books.{OfFamily, OfKey}
+use Rattle.rx_books_family.specs.FamilyBook.{IsOwn, book_without_row, family_of}
+use Rattle.rx_sorted.specs.Few.{items_of}
 use Rattle.rx_books_parcel.specs.Footprints.{names}
 use Rattle.rx_books_parcel.specs.Parcels.{ParcelParts, key_of, named_in, row_at}
-use Rattle.rx_books_parcel.proofs.FewItems.{items_with}
+use Rattle.rx_sorted.proofs.FewItems.{items_with}
 use Rattle.rx_books_parcel.proofs.Held.{family_held, key_held}
 use Rattle.rx_books_parcel.proofs.Written.{removed_families, written}
 use Rattle.rx_books_parcel.proofs.parcel.Parcel.remove.Goals as goal

@@ -3,10 +3,11 @@ use Rattle.std.specs.Cmp.Lexicographic.{pointwise_decides}
 use Rattle.std.proofs.lemmas.Bool.Decides.{Decides-at}
 use Rattle.rx_d0_values.specs.Same.{same_lists}
 use Rattle.rx_ledger.proofs.Decided.{period_decides}
-use Rattle.rx_books_parcel.specs.Few.{items_of}
+use Rattle.rx_sorted.specs.Few.{items_of}
 use Rattle.rx_books_parcel.specs.Parcels.{ParcelParts}
-use Rattle.rx_books_parcel.specs.contracts.family.Family.{the_row as family_row}
-use Rattle.rx_books_parcel.proofs.Same.{both_hold, first_fails, key_book_decides, other_parcel, same_parcel}
+use Rattle.rx_books_family.specs.contracts.family.Family.{the_row as family_row}
+use Rattle.rx_books_family.proofs.SameBook.{both_hold, first_fails, key_book_decides}
+use Rattle.rx_books_parcel.proofs.Same.{other_parcel, same_parcel}
 use Rattle.rx_books_parcel.proofs.parcel.ParcelPartialEq.eq.Goals as goal
 use Rattle.rx_books_parcel.proofs.parcel.ParcelPartialEq.eq.Goals.{then-eq, else-eq}
 

@@ -1,9 +1,9 @@
-use Rattle.std.proofs.Common.{◌≡◌, true, false, refl, ◌∙◌}
+use Rattle.std.proofs.Common.{true, false, refl, ◌∙◌}
 use Rattle.std.specs.List.{list_all}
 use Rattle.rx_fields.specs.Order.{id_cmp}
 use Rattle.rx_sorted.specs.Ascending.{item_at}
-use Rattle.rx_books_parcel.specs.FamilyBook.{FamilyBook}
-use Rattle.rx_places.specs.Shelves.{ShelfParts, is_family_out, place_family}
+use Rattle.rx_books_family.specs.FamilyBook.{FamilyBook}
+use Rattle.rx_books_family.specs.Shelves.{ShelfParts, is_family_out, place_family}
 use Rattle.rx_books_shelf.proofs.ShelfKept.{named_out_first, shelf_parts}
 use Rattle.rx_books_shelf.proofs.TakenPlaces.{families_out, keys_out}
 use Rattle.rx_books_shelf.proofs.shelf.Shelf.all_out.Goals as goal

@@ -1,5 +1,5 @@
-use Rattle.std.proofs.Common.{◌≡◌, ap, ◌∙◌}
-use Rattle.rx_places.specs.Shelves.{AreAllAgreed, ShelfParts, value_of}
+use Rattle.std.proofs.Common.{ap}
+use Rattle.rx_books_family.specs.Shelves.{AreAllAgreed, ShelfParts, value_of}
 use Rattle.rx_books_store.specs.LedgerBooks.{LedgerBooks}
 use Rattle.rx_books_shelf.proofs.ShelfKept.{shelf_parts}
 use Rattle.rx_books_shelf.proofs.shelf.Shelf.amended.Goals as goal

@@ -3,9 +3,9 @@ use Rattle.std.specs.Bool.{then_some}
 use Rattle.std.specs.Option.{option_and_then}
 use Rattle.rx_ledger.specs.Ledger.{row_under}
 use Rattle.rx_ledger.specs.Rows.{claimed_by}
-use Rattle.rx_books_parcel.specs.Books.{OfFamily, book}
-use Rattle.rx_places.specs.Shelves.{ShelfParts, family_place, family_value_or}
-use Rattle.rx_places.proofs.Valued.{family_row_beside}
+use Rattle.rx_books_family.specs.Books.{OfFamily, book}
+use Rattle.rx_books_family.specs.Shelves.{ShelfParts, family_place, family_value_or}
+use Rattle.rx_books_family.proofs.Valued.{family_row_beside}
 use Rattle.rx_books_shelf.proofs.ShelfKept.{shelf_parts}
 use Rattle.rx_books_shelf.proofs.shelf.Shelf.family_row.Goals as goal
 

@@ -1,9 +1,9 @@
 use Rattle.std.proofs.Common.{◌≡◌, Some, sym, ap, subst, ◌∙◌}
 use Rattle.rx_sorted.specs.Ascending.{IsAscending}
 use Rattle.rx_ledger.specs.Members.{member_cmp, member_key}
-use Rattle.rx_places.specs.Shelves.{ShelfParts, family_place}
-use Rattle.rx_places.proofs.Valued.{family_book_value, held_book_own}
-use Rattle.rx_places.specs.Amended.{is_among}
+use Rattle.rx_books_family.specs.Shelves.{ShelfParts, family_place}
+use Rattle.rx_books_family.proofs.Valued.{family_book_value, held_book_own}
+use Rattle.rx_books_family.specs.Amended.{is_among}
 use Rattle.rx_books_shelf.specs.Closed.{is_in_place}
 use Rattle.rx_books_shelf.proofs.ShelfKept.{shelf_parts}
 use Rattle.rx_books_shelf.proofs.shelf.Shelf.is_member_held.Goals as goal

@@ -1,8 +1,8 @@
 use Rattle.std.proofs.Common.{◌≡◌, Some, None, sym, ap, ◌∙◌}
 use Rattle.rx_ledger.specs.Ledger.{row_under}
-use Rattle.rx_books_parcel.specs.Books.{OfKey, book}
-use Rattle.rx_places.specs.Shelves.{ShelfParts, key_place, key_value_or}
-use Rattle.rx_places.proofs.Valued.{key_row_beside, key_row_held}
+use Rattle.rx_books_family.specs.Books.{OfKey, book}
+use Rattle.rx_books_family.specs.Shelves.{ShelfParts, key_place, key_value_or}
+use Rattle.rx_books_family.proofs.Valued.{key_row_beside, key_row_held}
 use Rattle.rx_books_shelf.proofs.ShelfKept.{shelf_parts}
 use Rattle.rx_books_shelf.proofs.shelf.Shelf.key_row.Goals as goal
 

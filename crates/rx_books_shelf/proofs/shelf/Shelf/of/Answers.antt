@@ -1,8 +1,8 @@
 use Rattle.std.proofs.Common.{◌≡◌, false, sym, ap, subst, ◌∙◌}
 use Rattle.std.specs.List.{All, Contains}
 use Rattle.std.proofs.lemmas.Result.{IfOk-weaker}
-use Rattle.rx_books_parcel.specs.Books.{Book}
-use Rattle.rx_places.specs.Shelves.{ShelfParts, has_slot, is_out}
+use Rattle.rx_books_family.specs.Books.{Book}
+use Rattle.rx_books_family.specs.Shelves.{ShelfParts, has_slot, is_out}
 use Rattle.rx_books_shelf.specs.Opened.{is_named, shelf_of}
 use Rattle.rx_books_shelf.proofs.OpenedShelf.{none_out, opened_from, slots_opened}
 use Rattle.rx_books_shelf.proofs.shelf.Shelf.of.Goals as goal

@@ -1,6 +1,6 @@
 use Rattle.std.proofs.Common.{map, refl, sym, subst}
 use Rattle.std.specs.List.{All}
-use Rattle.rx_places.specs.Shelves.{IsShelf}
+use Rattle.rx_books_family.specs.Shelves.{IsShelf}
 use Rattle.rx_books_shelf.specs.Closed.{HasSlot}
 use Rattle.rx_books_shelf.specs.Opened.{all_families, family_book}
 use Rattle.rx_books_shelf.proofs.OpenedShelf.{opened_parts, shelf_opened, slots_there}
@@ -13,7 +13,7 @@ invariant_of-result c =
     let families = all_families named in
     let opened = opened_parts b b named c.args.keys.now families (map (family_book b) families) c.in_ok-keys.keys
     c.in_ok-families.families refl c.requires.keys refl c.in_ok-keys.ensures refl c.in_ok-families.ensures.value in (
-      subst IsShelf (sym opened) (shelf_opened b named c.standing-standing.ensures.within c.in_ok-families.ensures.own),
+      subst IsShelf (sym opened) (shelf_opened b named c.period.ensures.within c.in_ok-families.ensures.own),
       subst (All (HasSlot c.args.books.slots)) (sym c.in_ok-keys.ensures)
           (slots_there c.args.books.slots b c.args.keys.now c.requires.slots),
     )

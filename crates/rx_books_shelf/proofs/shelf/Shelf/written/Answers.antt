@@ -6,11 +6,11 @@ use Rattle.rx_sorted.specs.Overlaid.{overlaid}
 use Rattle.rx_ledger.specs.declared.row.Row.{Row}
 use Rattle.rx_ledger.specs.Ledger.{is_listed}
 use Rattle.rx_ledger.specs.Rows.{member_of_row, row_key}
-use Rattle.rx_books_parcel.specs.Books.{book}
+use Rattle.rx_books_family.specs.Books.{book}
 use Rattle.rx_books_store.specs.LedgerBooks.{LedgerBooks}
 use Rattle.rx_books_store.specs.OpenBooks.{OpenParts}
-use Rattle.rx_places.specs.declared.place.KeyPlace.{KeyPlace}
-use Rattle.rx_places.specs.Shelves.{AreAllAgreed, HoldsOwnRow, ShelfParts, place_key, row_held, value_of}
+use Rattle.rx_books_family.specs.declared.place.KeyPlace.{KeyPlace}
+use Rattle.rx_books_family.specs.Shelves.{AreAllAgreed, HoldsOwnRow, ShelfParts, place_key, row_held, value_of}
 use Rattle.rx_books_shelf.specs.Closed.{HasSlot, are_members_kept}
 use Rattle.rx_books_shelf.proofs.ClosedShelf.{places_listed, values_closed}
 use Rattle.rx_books_shelf.proofs.ShelfKept.{shelf_parts}

@@ -1,8 +1,8 @@
-use Rattle.std.proofs.Common.{◌≡◌, false, true, refl}
-use Rattle.rx_ledger.specs.Ledger.{is_listed, is_taken}
+use Rattle.std.proofs.Common.{◌≡◌, true, refl}
+use Rattle.rx_ledger.specs.Ledger.{is_listed}
 use Rattle.rx_ledger.specs.Rows.{member_of_row}
-use Rattle.rx_books_parcel.specs.FamilyBook.{FamilyBook, own_ledger}
-use Rattle.rx_books_parcel.proofs.Owned.{own-added}
+use Rattle.rx_books_family.specs.FamilyBook.{FamilyBook, own_ledger}
+use Rattle.rx_books_family.proofs.Owned.{own-added}
 use Rattle.rx_books_shelf.proofs.unsummed.Unsummed.add.Goals as goal
 
 pub put_behind-requires : goal.put_behind-requires

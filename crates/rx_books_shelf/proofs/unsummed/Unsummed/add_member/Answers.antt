@@ -1,9 +1,9 @@
-use Rattle.std.proofs.Common.{◌≡◌, refl}
+use Rattle.std.proofs.Common.{refl}
 use Rattle.rx_ledger.specs.Members.{member_cmp, member_key}
 use Rattle.rx_ledger.proofs.Orders.{member_total}
 use Rattle.rx_sorted.proofs.Edits.{put-past}
-use Rattle.rx_books_parcel.specs.FamilyBook.{FamilyBook}
-use Rattle.rx_books_parcel.proofs.Owned.{own-member}
+use Rattle.rx_books_family.specs.FamilyBook.{FamilyBook}
+use Rattle.rx_books_family.proofs.Owned.{own-member}
 use Rattle.rx_books_shelf.proofs.unsummed.Unsummed.add_member.Goals as goal
 
 pub push-requires : goal.push-requires

@@ -7,7 +7,7 @@ use Rattle.rx_ledger.specs.Members.{member_cmp, member_key}
 use Rattle.rx_ledger.specs.Rows.{member_of_row}
 use Rattle.rx_books_store.specs.BooksText.{families_of}
 use Rattle.rx_books_store.specs.Store.{slot_keys, standing}
-use Rattle.rx_books_parcel.proofs.Owned.{counted-small, counted_deductible-small}
+use Rattle.rx_ledger.proofs.CountedRows.{counted-small, counted_deductible-small}
 use Rattle.rx_books_store.proofs.Stored.{deductible-low, family_deductible-low, keys-added, length-family_deductibles}
 use Rattle.rx_books_store.proofs.Stored.{length-pockets, pocket-low, same_open, slot-at, stands-added, store-added}
 use Rattle.rx_books_store.proofs.open_books.OpenBooks.add.Goals as goal

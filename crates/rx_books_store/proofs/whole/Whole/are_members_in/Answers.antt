@@ -2,9 +2,9 @@ use Rattle.std.proofs.Common.{◌≡◌, Bool, true, false, sym, ap, ◌∙◌}
 use Rattle.std.specs.Prelude.{◌&&◌}
 use Rattle.std.specs.List.{list_all}
 use Rattle.rx_ledger.specs.Ledger.{Ledger}
-use Rattle.rx_places.specs.Amended.{is_among, members_held}
-use Rattle.rx_places.specs.Shelves.{ShelfParts}
-use Rattle.rx_places.proofs.AmendedTests.{members_told}
+use Rattle.rx_books_family.specs.Amended.{is_among, members_held}
+use Rattle.rx_books_family.specs.Shelves.{ShelfParts}
+use Rattle.rx_books_family.proofs.AmendedTests.{members_told}
 use Rattle.rx_books_store.specs.WholeBooks.{beside, has_unplaced}
 use Rattle.rx_books_store.proofs.whole.Whole.are_members_in.Goals as goal
 

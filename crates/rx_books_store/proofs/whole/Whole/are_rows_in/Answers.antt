@@ -2,8 +2,8 @@ use Rattle.std.proofs.Common.{◌≡◌, Bool, true, false, refl, sym, ap, ◌�
 use Rattle.std.specs.Prelude.{◌&&◌}
 use Rattle.std.specs.List.{list_all}
 use Rattle.rx_ledger.specs.Ledger.{Ledger}
-use Rattle.rx_places.specs.Shelves.{ShelfParts, row_held}
-use Rattle.rx_places.proofs.AmendedTests.{rows_told}
+use Rattle.rx_books_family.specs.Shelves.{ShelfParts, row_held}
+use Rattle.rx_books_family.proofs.AmendedTests.{rows_told}
 use Rattle.rx_books_store.specs.WholeBooks.{beside, has_if_row, has_row, has_unkeyed}
 use Rattle.rx_books_store.proofs.whole.Whole.are_rows_in.Goals as goal
 

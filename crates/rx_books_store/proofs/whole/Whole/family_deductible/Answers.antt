@@ -1,5 +1,5 @@
 use Rattle.std.proofs.Common.{◌≡◌, Some, None, sym, ◌∙◌}
-use Rattle.rx_places.specs.Shelves.{ShelfParts, family_place}
+use Rattle.rx_books_family.specs.Shelves.{ShelfParts, family_place}
 use Rattle.rx_books_store.specs.WholeBooks.{beside}
 use Rattle.rx_books_store.proofs.WholeBooks.{family_beside, family_placed}
 use Rattle.rx_books_store.proofs.whole.Whole.family_deductible.Goals as goal

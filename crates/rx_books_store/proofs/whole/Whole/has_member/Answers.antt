@@ -1,9 +1,9 @@
 use Rattle.std.proofs.Common.{◌≡◌, Some, None, sym, ap, subst, ◌∙◌}
 use Rattle.rx_sorted.specs.Ascending.{IsAscending}
 use Rattle.rx_ledger.specs.Members.{member_cmp, member_key}
-use Rattle.rx_places.specs.Amended.{is_among}
-use Rattle.rx_places.specs.Shelves.{ShelfParts, family_place}
-use Rattle.rx_places.proofs.Valued.{family_book_value, held_book_own}
+use Rattle.rx_books_family.specs.Amended.{is_among}
+use Rattle.rx_books_family.specs.Shelves.{ShelfParts, family_place}
+use Rattle.rx_books_family.proofs.Valued.{family_book_value, held_book_own}
 use Rattle.rx_books_store.specs.WholeBooks.{beside}
 use Rattle.rx_books_store.proofs.WholeBooks.{among_beside, among_placed}
 use Rattle.rx_books_store.proofs.whole.Whole.has_member.Goals as goal

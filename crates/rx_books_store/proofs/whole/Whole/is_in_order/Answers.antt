@@ -1,5 +1,5 @@
-use Rattle.rx_places.specs.Shelves.{ShelfParts}
-use Rattle.rx_places.proofs.Amended.{ledger_amended}
+use Rattle.rx_books_family.specs.Shelves.{ShelfParts}
+use Rattle.rx_books_family.proofs.Amended.{ledger_amended}
 use Rattle.rx_books_store.specs.WholeBooks.{beside}
 use Rattle.rx_books_store.proofs.whole.Whole.is_in_order.Goals as goal
 

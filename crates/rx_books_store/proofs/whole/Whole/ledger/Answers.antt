@@ -1,9 +1,9 @@
 use Rattle.std.proofs.Common.{◌≡◌, sym, ap, subst, ◌∙◌}
 use Rattle.rx_ledger.specs.Ledger.{IsLedger, Ledger}
-use Rattle.rx_places.specs.Amended.{amended, amended_members, amended_rows}
-use Rattle.rx_places.specs.Shelves.{ShelfParts}
-use Rattle.rx_places.proofs.Amended.{ledger_amended}
-use Rattle.rx_books_parcel.proofs.Parts.{ledger_path}
+use Rattle.rx_books_family.specs.Amended.{amended, amended_members, amended_rows}
+use Rattle.rx_books_family.specs.Shelves.{ShelfParts}
+use Rattle.rx_books_family.proofs.Amended.{ledger_amended}
+use Rattle.rx_books_family.proofs.BookValues.{ledger_path}
 use Rattle.rx_books_store.specs.WholeBooks.{beside}
 use Rattle.rx_books_store.proofs.whole.Whole.ledger.Goals as goal
 

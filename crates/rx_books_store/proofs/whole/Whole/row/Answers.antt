@@ -3,8 +3,8 @@ use Rattle.rx_fields.specs.Order.{key_cmp}
 use Rattle.rx_sorted.specs.Overlaid.{found_under}
 use Rattle.rx_ledger.specs.Ledger.{row_under}
 use Rattle.rx_ledger.specs.Rows.{row_key}
-use Rattle.rx_places.specs.Shelves.{ShelfParts, key_place, place_key, row_held}
-use Rattle.rx_places.proofs.Amended.{row_found}
+use Rattle.rx_books_family.specs.Shelves.{ShelfParts, key_place, place_key, row_held}
+use Rattle.rx_books_family.proofs.Amended.{row_found}
 use Rattle.rx_books_store.specs.WholeBooks.{beside}
 use Rattle.rx_books_store.proofs.whole.Whole.row.Goals as goal
 

@@ -10,7 +10,7 @@ invariant_of-result c =
     let records = c.args.transmissions.items in
     let made = c.in_ok-made.made in
     let is = c.in_ok-made.ensures in
-    let j = job_with c.args.lot c.figures.result.now made.drugs.items made.terms.items c.in_ok-books.books records in
+    let j = job_with c.args.lot c.figures.result.now made.drugs.items made.terms.items c.args.books records in
     let terms = terms_fit c.args.lot c.args.sheet.now (record { figures = c.figures.result.now; drugs = made.drugs.items })
     c.deref.result.now records made.terms.items
     (λ i. record { figures = sym c.figures.ensures.value i; drugs = sym is.drugs i })
@@ -20,13 +20,13 @@ invariant_of-result c =
     kept_start j _ made.room.history.items made.shared.footprints.items made.shared.queues
     made.shared.shelf made.room.states.items c.len-waiting.result made.room.replies.items
     (record {
-      in_order = ledger_in_order c.in_ok-books.books.ledger c.in_ok-books.ensures.within;
-      period = ap (λ b. b.period) c.in_ok-books.ensures.same ∙ c.requires.period ∙ ap (λ f. f.period) (sym c.figures.ensures.value);
+      in_order = ledger_in_order c.args.books.ledger is.within;
+      period = c.requires.period ∙ ap (λ f. f.period) (sym c.figures.ensures.value);
       few = few;
       terms = terms;
     })
     is.history
-    (is.footprints ∙ ap (footprints_of c.in_ok-books.books.ledger) c.deref.ensures.value)
+    (is.footprints ∙ ap (footprints_of c.args.books.ledger) c.deref.ensures.value)
     is.queues
     is.handed
     is.passed

@@ -1,0 +1,154 @@
+ghost use Rattle.std.specs.Prelude.{◌≡◌, ◌<◌, ◌^◌, IfSome, IsTrue, Ok, length, map};
+ghost use Rattle.rx_books_text.specs.Fault.{Gives};
+ghost use Rattle.rx_books_scan.specs.Parts.{printed_lists};
+ghost use Rattle.rx_books_store.specs.BooksText.{deductibles_of, families_of, from_three, total_of};
+ghost use Rattle.rx_books_store.specs.Figures.{books_of, unsummed};
+ghost use Rattle.rx_books_store.specs.Lists.{AreSummed, totals_in};
+ghost use Rattle.rx_books_store.specs.Store.{AreHolders};
+
+use crate::books::Books;
+use crate::hints::Places;
+use crate::holders::{holders_in_parts, holders_of};
+use crate::open_books::OpenBooks;
+use crate::opening::{FamilyName, Opening};
+use rx_books_scan::{Lists, read_lists, read_lists_in_parts};
+use rx_books_text::{BooksFault, TotalLine, Version};
+use rx_sorted::Ascending;
+use std::alloc::Global;
+use std::thread::Threads;
+
+impl Books {
+    /// The books of a text, read quickly on the calling thread. None says nothing: memory was wanting, or it is no text of
+    /// books.
+    pub(crate) fn read_quickly(alloc: Global, text: &[u8]) -> Option<Books>
+        ensures { IfSome result (λ books. books_of text.now ≡ Ok books) }
+    {
+        let lists = read_lists(alloc, text)?;
+        let places = Places::of(alloc, lists.members.as_slice())?;
+        let holders = holders_of(alloc, &places, &lists.members, &lists.rows)?;
+        Books::of_lists(alloc, lists, holders, places)
+    }
+
+    /// The same, by a thread for each of so many parts of the lines; one part is read on the calling thread.
+    pub(crate) fn read_quickly_in_parts<R: Threads + Sync>(
+        rt: &R,
+        alloc: Global,
+        parts: usize,
+        text: &[u8],
+    ) -> Option<Books>
+        ensures { IfSome result (λ books. books_of text.now ≡ Ok books) }
+    {
+        if parts < 2 {
+            return Books::read_quickly(alloc, text);
+        }
+        let lists = read_lists_in_parts(rt, alloc, parts, text)?;
+        let places = Places::of(alloc, lists.members.as_slice())?;
+        let holders = holders_in_parts(rt, alloc, &places, &lists.members, &lists.rows)?;
+        Books::of_lists(alloc, lists, holders, places)
+    }
+
+    /// The books that were read quickly, or else what the exact reader finds.
+    pub(crate) fn or_summed(
+        alloc: Global,
+        text: &[u8],
+        quick: Option<Books>,
+    ) -> Result<Books, BooksFault>
+        requires { IfSome quick (λ books. books_of text.now ≡ Ok books) }
+        ensures { Gives result (books_of text.now) }
+    {
+        match quick {
+            Some(books) => Ok(books),
+            None => Books::read_summed(alloc, text),
+        }
+    }
+
+    // The books of these lists, where each figure is the sum.
+    fn of_lists(alloc: Global, lists: Lists, holders: Vec<u32>, places: Places) -> Option<Books>
+        requires few { length lists.members < 2 ^ 32 }
+        requires held { AreHolders lists.members lists.rows holders.items }
+        ensures books { IfSome result (λ books. books ≡ unsummed (printed_lists lists)) }
+        ensures sums { IfSome result (λ books. AreSummed (printed_lists lists)) }
+    {
+        Some(OpenBooks::of_lists(alloc, lists, holders, places)?.close())
+    }
+}
+
+impl OpenBooks {
+    // The open books of these lists, where each figure is the sum. None where one isn't, or a family has no total line, or for
+    // want of memory.
+    fn of_lists(alloc: Global, lists: Lists, holders: Vec<u32>, places: Places) -> Option<OpenBooks>
+        requires few { length lists.members < 2 ^ 32 }
+        requires held { AreHolders lists.members lists.rows holders.items }
+        ensures books { IfSome result (λ kept. kept.books ≡ unsummed (printed_lists lists)) }
+        ensures sums { IfSome result (λ kept. AreSummed (printed_lists lists)) }
+    {
+        let Lists {
+            head,
+            members,
+            deductibles,
+            rows,
+            totals,
+        } = lists;
+        let opening = Opening::of(alloc, members, rows, holders, places).ok()?;
+        let kept = OpenBooks::added_up(alloc, head.period, opening, Ascending::new(alloc)).ok()?;
+        if !kept.prints(head.version, &deductibles, totals.as_slice()) {
+            return None;
+        }
+        Some(kept)
+    }
+
+    // Whether these are the figures of the members and the total lines of the families in a version.
+    fn prints(&self, version: Version, deductibles: &[u128], totals: &[TotalLine]) -> bool
+        ensures members { IsTrue result → deductibles.now ≡ deductibles_of self.now.books.period self.now.books.ledger }
+        ensures families { IsTrue result → totals.now
+            ≡ map (total_of version self.now.books.period self.now.books.ledger) (families_of self.now.books.ledger.members) }
+    {
+        self.deductibles.as_slice() == deductibles
+            && are_totals(
+                version,
+                self.opening.families(),
+                &self.out_of_pockets,
+                &self.family_deductibles,
+                totals,
+            )
+    }
+}
+
+// Whether these are the total lines of the families in a version.
+fn are_totals(
+    version: Version,
+    families: &[FamilyName],
+    out_of_pockets: &[u128],
+    deductibles: &[u128],
+    totals: &[TotalLine],
+) -> bool
+    requires pockets { length out_of_pockets.now ≡ length families.now }
+    requires deductibles { length deductibles.now ≡ length families.now }
+    ensures { IsTrue result → totals.now ≡ totals_in version families.now out_of_pockets.now deductibles.now }
+{
+    if totals.len() != families.len() {
+        return false;
+    }
+    for (at, name) in families.iter().enumerate() {
+        let line = TotalLine {
+            family: name.family,
+            out_of_pocket: out_of_pockets[at],
+            deductible: printed_in(version, deductibles[at]),
+        };
+        let is_printed = totals[at] == line;
+        if !is_printed {
+            return false;
+        }
+    }
+    true
+}
+
+// The deductible of a family, in the version that prints it.
+fn printed_in(version: Version, deductible: u128) -> Option<u128>
+    ensures { result ≡ from_three version deductible }
+{
+    match version {
+        Version::Three => Some(deductible),
+        Version::One | Version::Two => None,
+    }
+}

@@ -1,0 +1,12 @@
+use Rattle.std.proofs.Common.{Some, sym, ap, ◌∙◌}
+use Rattle.rx_sorted.proofs.Places.{item_at-at, item_at-gap}
+use Rattle.rx_sorted.proofs.near.item_of.Goals as goal
+
+pub returns-in-Ok : goal.returns-in-Ok
+returns-in-Ok g c =
+    ap Some c.index-items-at.is ∙ sym (item_at-at g.T.Key.Ord.cmp g.met.T.Key.Ord.total g.T.Keyed.key_of c.args.items.now
+    c.args.key.now c.in-Ok.at c.index-items-at.result c.requires c.in-Ok.ensures.found)
+
+pub returns-in-Err : goal.returns-in-Err
+returns-in-Err g c = sym (item_at-gap g.T.Key.Ord.cmp g.met.T.Key.Ord.total g.T.Keyed.key_of c.args.items.now
+    c.args.key.now c.in-Err.field-0 c.in-Err.ensures.absent)
