@@ -1,17 +1,13 @@
 -- Meaning: bytes in quotes, on one line.
-use Rattle.std.specs.Prelude.{ℕ, ◌/◌, ◌%◌, nat_lt, if◌then◌else◌, List, [], ◌∷◌, ◌++◌, codes, length, take}
+use Rattle.std.specs.Prelude.{ℕ, nat_lt, if◌then◌else◌, List, [], ◌∷◌, ◌++◌, codes, length, take}
 use Rattle.std.specs.List.{flat_map}
-use Rattle.rx_show.specs.Bytes.{hexadecimal}
+use Rattle.rx_print.specs.Hexadecimal.{bracketed}
 use Rattle.rx_text.specs.Bytes.{is_printable}
 use Rattle.rx_diagnostics.specs.declared.quoting.TheConstants.{LONGEST}
 
--- the number of a byte: two hexadecimal digits in angle brackets
-abbrev pub number_text : ℕ → List ℕ
-number_text b = 60 ∷ hexadecimal (b / 16) ∷ hexadecimal (b % 16) ∷ 62 ∷ []
-
--- printable ASCII stands for itself, and any other byte is shown by its number
+-- printable ASCII stands for itself, and any other byte is two hexadecimal digits in angle brackets
 abbrev pub byte_text : ℕ → List ℕ
-byte_text b = if is_printable b then b ∷ [] else number_text b
+byte_text b = if is_printable b then b ∷ [] else bracketed b
 
 abbrev pub bytes_text : List ℕ → List ℕ
 bytes_text bytes = flat_map byte_text bytes

@@ -1,10 +1,11 @@
 ghost use Rattle.std.specs.Prelude.{◌≡◌, ◌++◌, IfOk, OnOk, drop, option_copied, slice_get, slice_range, string_bytes};
+ghost use Rattle.rx_print.specs.Hexadecimal.{bracketed};
 ghost use Rattle.rx_text.specs.Bytes.{cut};
 ghost use Rattle.rx_diagnostics.specs.Parts.{field_of, line_feeds, line_of, piece};
-ghost use Rattle.rx_diagnostics.specs.Quoting.{byte_text, bytes_text, number_text, quoted_text, shown_text};
+ghost use Rattle.rx_diagnostics.specs.Quoting.{byte_text, bytes_text, quoted_text, shown_text};
 
 use crate::place::front;
-use rx_show::hexadecimal;
+use rx_print::hexadecimal;
 use rx_text::is_printable;
 use std::alloc::{AllocError, Global};
 
@@ -57,7 +58,7 @@ fn put_byte(text: &mut String, byte: u8) -> Result<(), AllocError>
 // The number of a byte.
 #[tactic(auto, using(std::proofs::Common::append_assoc))]
 fn put_number(text: &mut String, byte: u8) -> Result<(), AllocError>
-    ensures { OnOk result (string_bytes text.new ≡ string_bytes text.old ++ number_text byte) }
+    ensures { OnOk result (string_bytes text.new ≡ string_bytes text.old ++ bracketed byte) }
 {
     text.push('<')?;
     text.push(char::from(hexadecimal(byte / 16)))?;

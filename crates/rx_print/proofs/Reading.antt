@@ -6,7 +6,7 @@ use Rattle.std.proofs.lemmas.Grind.{common_steps}
 use Rattle.std.proofs.lemmas.List.Elements.{All-append, All-cons, All-nil, recursion_from_All}
 use Rattle.std.specs.List.{AllByRecursion, flat_map}
 use Rattle.rx_text.specs.Bytes.{is_printable}
-use Rattle.rx_show.specs.Bytes.{hexadecimal}
+use Rattle.rx_print.specs.Hexadecimal.{hexadecimal}
 use Rattle.rx_print.specs.Escape.{AreBytes, Stand, begins, byte_text, digit_of, escaped, is_mark, is_special, number_text, read, read_from}
 use Rattle.rx_print.specs.Escape.Stand.{Before}
 use Rattle.rx_print.specs.declared.style.Style.{Style}

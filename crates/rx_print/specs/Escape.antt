@@ -3,7 +3,7 @@ use Rattle.std.specs.Prelude.{◌<◌, ℕ, suc, zero, ◌+◌, ◌-◌, ◌*◌
 use Rattle.std.specs.Prelude.{if◌then◌else◌, List, [], ◌∷◌, ◌++◌, codes, All, length}
 use Rattle.std.specs.List.{flat_map}
 use Rattle.rx_text.specs.Bytes.{is_printable}
-use Rattle.rx_show.specs.Bytes.{hexadecimal}
+use Rattle.rx_print.specs.Hexadecimal.{hexadecimal}
 use Rattle.rx_print.specs.declared.style.Style.{Style}
 use Rattle.rx_print.specs.declared.style.Style.TheVariants.{Html, Json, Terminal}
 

@@ -14,8 +14,9 @@ use Rattle.rx_d0_values.specs.declared.reply.Paid.{Paid}
 use Rattle.rx_d0_values.specs.declared.reply.Refused.{Refused}
 use Rattle.rx_d0_values.specs.Priced.{patient_pay, total_paid}
 use Rattle.rx_d0_reply.specs.Fault.{fault_code}
+use Rattle.rx_print.specs.CodeList.{code_list}
 use Rattle.rx_settle.specs.Providers.{named}
-use Rattle.rx_show.specs.Lines.{code_list, line, rejected_line}
+use Rattle.rx_show.specs.Lines.{line, rejected_line}
 use Rattle.rx_replies.specs.declared.found.Found.{Found}
 use Rattle.rx_replies.specs.declared.found.Found.TheVariants as found
 

@@ -14,7 +14,8 @@ use crate::found::Found;
 use rx_d0_reply::ReplyFault;
 use rx_d0_values::{Answer, Approved, EchoParts, Outcome, Paid, Pricing, Refused};
 use rx_fields::{Authorization, Memory, Provider, Reference, digits_write};
-use rx_show::{put_codes, put_place, put_rejected};
+use rx_print::put_codes;
+use rx_show::{put_place, put_rejected};
 use std::alloc::{AllocError, Global};
 
 /// The lines of what the details of a response file hold, in file order (docs/PRODUCT.md, "The program"). Amounts are in

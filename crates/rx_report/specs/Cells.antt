@@ -9,7 +9,7 @@ use Rattle.rx_report.specs.declared.column.Column.{Column}
 use Rattle.rx_report.specs.declared.column.Column.TheVariants as column
 use Rattle.rx_report.specs.declared.line.Line.{Line}
 use Rattle.rx_settle.specs.Providers.{named}
-use Rattle.rx_show.specs.Lines.{code_list}
+use Rattle.rx_print.specs.CodeList.{code_list}
 
 abbrev pub name_of : Column → List ℕ
 name_of column.Place = codes "record"

@@ -8,7 +8,7 @@ use crate::column::Column;
 use crate::line::Line;
 use rx_d0_values::{Answer, Pricing};
 use rx_fields::{Id, Person, Provider, Reference};
-use rx_show::put_codes;
+use rx_print::put_codes;
 use std::alloc::{AllocError, Global};
 
 /// What a report says of an answer in a column, as its bytes are; blank where it isn't known. Amounts are in cents.

@@ -1,10 +1,9 @@
 -- Meaning: the lines of `show`: words with a blank between each two, and the line's end.
 use Rattle.std.specs.Prelude.{ℕ, ◌+◌, List, [], ◌∷◌, ◌++◌, codes}
-use Rattle.std.specs.List.{flat_map, join_with_byte}
+use Rattle.std.specs.List.{join_with_byte}
 use Rattle.std.specs.Fmt.{decimal}
 use Rattle.rx_fields.specs.Calendar.{date_text}
-use Rattle.rx_fields.specs.Codes.{code_text}
-use Rattle.rx_fields.specs.declared.code.Code.{Code}
+use Rattle.rx_print.specs.CodeList.{code_list}
 use Rattle.rx_d0_values.specs.declared.bill.BillParts.{BillParts}
 use Rattle.rx_d0_values.specs.declared.transaction.Reversal.{Reversal}
 use Rattle.rx_d0_values.specs.declared.transaction.Transaction.{Transaction}
@@ -18,14 +17,6 @@ use Rattle.rx_d0_values.specs.declared.transmission.Transmission.{Transmission}
 -- the words with a blank between each two, and the line's end
 abbrev pub line : List (List ℕ) → List ℕ
 line words = join_with_byte 32 words ++ 10 ∷ []
-
--- codes with a comma between each two: before each but the first
-abbrev pub after_comma : Code → List ℕ
-after_comma c = 44 ∷ code_text c
-
-abbrev pub code_list : List Code → List ℕ
-code_list [] = []
-code_list (c ∷ cs) = code_text c ++ flat_map after_comma cs
 
 -- what a billing says, and a reversal
 abbrev pub bill_words : HeardRecord → BillParts → List (List ℕ)

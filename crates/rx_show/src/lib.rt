@@ -18,7 +18,7 @@ mod plan;
 mod sample;
 mod sample_inputs;
 
-pub use bytes::{hexadecimal, shown};
-pub use lines::{put_codes, put_place, put_rejected, show_lines};
+pub use bytes::shown;
+pub use lines::{put_place, put_rejected, show_lines};
 pub use plan::plan_lines;
 pub use sample::sample_line;

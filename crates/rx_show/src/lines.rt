@@ -1,12 +1,14 @@
 ghost use Rattle.std.specs.Prelude.{◌≡◌, ◌++◌, ◌∷◌, ◌<◌, ◌^◌, ◌+◌, [], codes, IfOk, OnOk, length};
 ghost use Rattle.std.specs.Fmt.{decimal};
-ghost use Rattle.std.specs.List.{flat_map, join_with_byte};
+ghost use Rattle.std.specs.List.{join_with_byte};
 ghost use Rattle.rx_fields.specs.Calendar.{date_text};
-ghost use Rattle.rx_show.specs.Lines.{after_comma, bill_words, body_lines, code_list, rejected_line, reversal_words};
+ghost use Rattle.rx_print.specs.CodeList.{code_list};
+ghost use Rattle.rx_show.specs.Lines.{bill_words, body_lines, rejected_line, reversal_words};
 ghost use Rattle.rx_show.specs.Lines.{shown_lines, transaction_lines, words_of};
 
-use rx_d0_values::{BillParts, Body, Codes, Heard, Rejected, Reversal, Transaction, Transmission};
-use rx_fields::{Code, Memory, Reference, date_write};
+use rx_d0_values::{BillParts, Body, Heard, Rejected, Reversal, Transaction, Transmission};
+use rx_fields::{Memory, Reference, date_write};
+use rx_print::put_codes;
 use std::alloc::{AllocError, Global};
 
 /// A line for each transaction, and one for each rejected header, of transmissions in file order (docs/PRODUCT.md,
@@ -137,35 +139,6 @@ pub fn put_place(
 {
     let places = format!(in alloc; "{place} {nth}")?;
     text.extend_from_slice(places.as_str().as_bytes())
-}
-
-/// Puts codes at the end of a text, with a comma between each two.
-#[tactic(auto, using(std::proofs::Common::append_assoc))]
-pub fn put_codes(text: &mut Vec<u8>, given: &Codes) -> Result<(), AllocError>
-    ensures { OnOk result (text.new.items ≡ text.old.items ++ code_list given.now) }
-{
-    let [first, others @ ..] = given.as_slice() else {
-        unreachable!()
-    };
-    text.extend_from_slice(&first.text())?;
-    put_others(text, others)
-}
-
-// Each code after a comma.
-fn put_others(text: &mut Vec<u8>, others: &[Code]) -> Result<(), AllocError>
-    ensures { OnOk result (text.new.items ≡ text.old.items ++ flat_map after_comma others.now) }
-{
-    for code in others {
-        put_other(text, *code)?;
-    }
-    Ok(())
-}
-
-fn put_other(text: &mut Vec<u8>, code: Code) -> Result<(), AllocError>
-    ensures { OnOk result (text.new.items ≡ text.old.items ++ after_comma code) }
-{
-    let [first, second] = code.text();
-    text.extend_from_slice(&[b',', first, second])
 }
 
 // A word after a blank.

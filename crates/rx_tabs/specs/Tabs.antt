@@ -14,7 +14,7 @@ use Rattle.rx_d0_values.specs.declared.transmission.Body.{Body}
 use Rattle.rx_d0_values.specs.declared.transmission.Body.TheVariants.{Rejected, Heard}
 use Rattle.rx_d0_values.specs.declared.transmission.Heard.{Heard as HeardRecord}
 use Rattle.rx_d0_values.specs.declared.transmission.Transmission.{Transmission}
-use Rattle.rx_show.specs.Lines.{code_list}
+use Rattle.rx_print.specs.CodeList.{code_list}
 
 -- a tab and the cell
 abbrev pub after_tab : List ℕ → List ℕ

@@ -7,7 +7,7 @@ ghost use Rattle.rx_tabs.specs.Tabs.{measure_cells, reversal_cells};
 
 use rx_d0_values::{BillParts, Faulty, Heard, Reversal, Transaction};
 use rx_fields::{Cents, Product, Reference, date_write};
-use rx_show::put_codes;
+use rx_print::put_codes;
 use std::alloc::{AllocError, Global};
 
 /// Puts a transaction's cells, each after a tab.

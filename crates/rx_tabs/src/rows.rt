@@ -1,13 +1,13 @@
 ghost use Rattle.std.specs.Prelude.{◌≡◌, ◌++◌, ◌∷◌, [], IfOk, OnOk};
 ghost use Rattle.std.specs.Fmt.{decimal};
 ghost use Rattle.std.specs.List.{join_with_byte};
-ghost use Rattle.rx_show.specs.Lines.{code_list};
+ghost use Rattle.rx_print.specs.CodeList.{code_list};
 ghost use Rattle.rx_tabs.specs.Tabs.{body_rows, cells_of, heading, rejected_cells, row, shown_table, transaction_rows};
 
 use crate::cells::put_transaction;
 use rx_d0_values::{Body, Codes, Heard, Transaction, Transmission};
 use rx_fields::Memory;
-use rx_show::put_codes;
+use rx_print::put_codes;
 use std::alloc::{AllocError, Global};
 
 /// A table of the transactions and rejected headers of transmissions in file order, with a tab between each two cells

@@ -1,7 +1,7 @@
 use Rattle.std.proofs.Common.{◌≡◌, ◌++◌, take}
 use Rattle.std.specs.List.{flat_map}
-use Rattle.rx_show.specs.Lines.{after_comma}
-use Rattle.rx_show.proofs.lines.put_others.Given as goal
+use Rattle.rx_print.specs.CodeList.{after_comma}
+use Rattle.rx_print.proofs.code_list.put_others.Given as goal
 
 abbrev pub invariant-loop-code : goal.invariant-loop-code
 invariant-loop-code l = l.text.items ≡ l.fn.text.items ++ flat_map after_comma (take l.code-index l.others)

@@ -2,8 +2,8 @@ ghost use Rattle.std.specs.Prelude.{◌≡◌, ◌++◌, OnOk};
 ghost use Rattle.std.specs.List.{flat_map};
 ghost use Rattle.rx_print.specs.Escape.{byte_text, escaped, number_text};
 
+use crate::byte::hexadecimal;
 use crate::style::Style;
-use rx_show::hexadecimal;
 use std::alloc::AllocError;
 
 /// Puts bytes at the end of a text, each that isn't printable ASCII or would be read as markup by its number in two
