@@ -14,7 +14,7 @@ use Rattle.rx_commands.specs.declared.report.Report.{Report}
 use Rattle.rx_settle.specs.Answers.{answers_of, tally}
 use Rattle.rx_settle.specs.Counting.{tallies_of}
 use Rattle.rx_sheet.specs.SheetText.{sheet_of_text}
-use Rattle.rx_tabs.specs.Tabs.{shown_table}
+use Rattle.rx_show.specs.Table.{shown_table}
 use Rattle.rx_wave.specs.Decoding.{transmissions_of}
 
 -- the lines of the batch's answers, and what its settlement says of each provider and of all

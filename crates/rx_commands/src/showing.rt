@@ -27,6 +27,6 @@ pub fn show_table<R: Threads + Sync>(
     let sheet = read_sheet(alloc, sheet)?;
     let batch = read_batch(alloc, batch)?;
     let asked = decode_in_parts(rt, alloc, 1, sheet.door(), batch.details.as_slice())?;
-    let text = rx_tabs::show_table(alloc, &asked)?;
+    let text = rx_show::show_table(alloc, &asked)?;
     Ok(text)
 }

@@ -8,7 +8,7 @@ use std::alloc::Global;
 
 /// The bytes on one line: each byte below X'20' as two hexadecimal digits in angle brackets (docs/FORMATS.md,
 /// "Fixed inputs").
-pub fn shown(alloc: Global, text: &[u8]) -> Result<Vec<u8>, Memory>
+pub(crate) fn shown(alloc: Global, text: &[u8]) -> Result<Vec<u8>, Memory>
     ensures { IfOk result (λ line. line.items ≡ flat_map shown_byte text.now) }
 {
     let mut line = Vec::new(alloc);

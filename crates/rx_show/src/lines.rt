@@ -114,7 +114,7 @@ fn put_key(
 }
 
 /// Puts the line of the record at a place whose header is rejected.
-pub fn put_rejected(
+pub(crate) fn put_rejected(
     alloc: Global,
     text: &mut Vec<u8>,
     place: usize,
@@ -129,7 +129,7 @@ pub fn put_rejected(
 }
 
 /// Puts a record's place in its file, a blank, and the place in the record.
-pub fn put_place(
+pub(crate) fn put_place(
     alloc: Global,
     text: &mut Vec<u8>,
     place: usize,

@@ -6,7 +6,7 @@ use rx_cli::{Asked, ExplainWords};
 use rx_commands::{Retraced, Told, retrace, tell};
 use rx_explain::{At, Wanted};
 use rx_fields::{Authorization, Provider, Reference};
-use rx_replies::read_response;
+use rx_show::read_response;
 use rx_switch::Device;
 use std::thread::Threads;
 

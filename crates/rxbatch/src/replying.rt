@@ -1,7 +1,7 @@
 use crate::ending::Ending;
 use crate::printing::print;
 use crate::texts::text_of;
-use rx_replies::replies_text;
+use rx_show::replies_text;
 use rx_switch::Device;
 
 /// Prints a line for each answer of a response file.

@@ -1,8 +1,0 @@
-use Rattle.std.proofs.Common.{◌≡◌, ◌++◌, ◌+◌, drop}
-use Rattle.rx_replies.specs.Lines.{answer_lines}
-use Rattle.rx_replies.proofs.lines.put_answers.Given as goal
-
-abbrev pub invariant-loop-before : goal.invariant-loop-before
-invariant-loop-before l =
-    l.text.items ++ answer_lines l.place l.echo (l.before + 1) (drop l.before l.answers)
-    ≡ l.fn.text.items ++ answer_lines l.place l.echo 1 l.answers

@@ -1,0 +1,8 @@
+use Rattle.std.proofs.Common.{◌≡◌, ◌++◌, ◌+◌, drop}
+use Rattle.rx_show.specs.Table.{transaction_rows}
+use Rattle.rx_show.proofs.table.put_transactions.Given as goal
+
+abbrev pub invariant-loop-before : goal.invariant-loop-before
+invariant-loop-before l =
+    l.text.items ++ transaction_rows l.place l.heard (l.before + 1) (drop l.before l.transaction-items)
+    ≡ l.fn.text.items ++ transaction_rows l.place l.heard 1 l.heard.list

@@ -1,8 +1,0 @@
-use Rattle.std.proofs.Common.{◌≡◌, ◌++◌, ◌+◌, drop}
-use Rattle.rx_tabs.specs.Tabs.{transaction_rows}
-use Rattle.rx_tabs.proofs.rows.put_transactions.Given as goal
-
-abbrev pub invariant-loop-before : goal.invariant-loop-before
-invariant-loop-before l =
-    l.text.items ++ transaction_rows l.place l.heard (l.before + 1) (drop l.before l.transaction-items)
-    ≡ l.fn.text.items ++ transaction_rows l.place l.heard 1 l.heard.list
