@@ -252,14 +252,14 @@ books_with("CR LF in one line", b"T|F2|0|0\n", b"T|F2|0|0\r\n",
            ":7: the line ends with CR LF: LF alone is wanted (sed -i 's/\\r$//' books.txt)", 4, 2, 7)
 MEMBERS = BOOKS.split(b"\n")
 books("members out of order", b"\n".join([MEMBERS[0], MEMBERS[1], MEMBERS[3], MEMBERS[2]] + MEMBERS[4:]),
-      ":4: F1/02 stands after F2/01: members ascend by family, then person (sort -t'|' -k2,2 -k3,3)", 4, 3, 4)
+      ":4: F1/02 stands after F2/01: members ascend by family, then person (LC_ALL=C sort -t'|' -k2,2 -k3,3)", 4, 3, 4)
 books("a member twice", b"\n".join(MEMBERS[:3] + [MEMBERS[2]] + MEMBERS[3:]),
-      ":4: F1/02 stands twice: members ascend by family, then person (sort -t'|' -k2,2 -k3,3)", 4, 3, 4)
+      ":4: F1/02 stands twice: members ascend by family, then person (LC_ALL=C sort -t'|' -k2,2 -k3,3)", 4, 3, 4)
 books("a claim twice", b"\n".join(MEMBERS[:5] + [MEMBERS[4]] + MEMBERS[5:]),
       ":6: 1234567893/90/20260110 stands twice: claims ascend by provider, reference and date "
-      "(sort -t'|' -k2,2 -k3,3n -k4,4)", 4, 3, 6)
+      "(LC_ALL=C sort -t'|' -k2,2 -k3,3n -k4,4)", 4, 3, 6)
 books("totals out of order", b"\n".join(MEMBERS[:5] + [MEMBERS[6], MEMBERS[5], b""]),
-      ":7: F1 stands after F2: totals ascend by family (sort -t'|' -k2,2)", 4, 3, 7)
+      ":7: F1 stands after F2: totals ascend by family (LC_ALL=C sort -t'|' -k2,2)", 4, 3, 7)
 books("a member behind a claim", b"\n".join(MEMBERS[:3] + [MEMBERS[4], MEMBERS[3]] + MEMBERS[5:]),
       ":5: a member line stands after a claim line: first come all M, then all C, then all T", 4, 3, 5)
 books_with("a claim of an unknown family", b"|20260110|F1|01|", b"|20260110|F9|01|",

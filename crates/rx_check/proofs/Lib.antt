@@ -3,4 +3,7 @@ pub mod Dates
 pub mod IgnoredLines
 pub mod LeastApart
 pub mod Reports
+pub mod Runs
+pub mod Some
+pub mod Wholes
 mod Worked

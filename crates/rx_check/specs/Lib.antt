@@ -1,7 +1,9 @@
 -- Plumbing: which files there are.
+pub mod Faults
 pub mod Found
 pub mod Ignored
 pub mod Inputs
 pub mod Likeness
+pub mod Refusals
 pub mod Report
 pub mod Warned

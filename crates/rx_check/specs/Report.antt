@@ -7,6 +7,7 @@ use Rattle.rx_batch.specs.declared.fault.BatchFault.{BatchFault}
 use Rattle.rx_books_text.specs.declared.fault.BooksFault.{BooksFault}
 use Rattle.rx_fields.specs.Calendar.{date_text}
 use Rattle.rx_fields.specs.Numbered.{Span}
+use Rattle.rx_fields.specs.declared.limits.TheConstants.{MOST_LINES}
 use Rattle.rx_sheet.specs.declared.fault.SheetFault.{SheetFault}
 use Rattle.rx_diagnostics.specs.Lines.{line_text}
 use Rattle.rx_diagnostics.specs.Places.{IsSheetPlace, batch_place, books_place}
@@ -66,7 +67,7 @@ period_text books (Some period) = warning_line (books ++ codes ":1") (period_wor
 -- how many lines the books have, where these are many
 unfoldable pub lines_text : List ℕ → ℕ → List ℕ
 lines_text books lines =
-    line_if (has_many_lines lines) (warning_line books (decimal lines ++ codes " lines of at most 1000000"))
+    line_if (has_many_lines lines) (warning_line books (decimal lines ++ (codes " lines of at most " ++ decimal MOST_LINES)))
 
 -- the batch is of another plan
 unfoldable pub none_under_text : List ℕ → Bool → List ℕ
@@ -85,7 +86,8 @@ adjudicated_text batch books count =
 unfoldable pub may_pass_text : List ℕ → Bool → List ℕ
 may_pass_text books may_pass =
     line_if may_pass
-    (warning_line books (codes "with this batch the end books could have more than 1000000 lines, which no run reads"))
+    (warning_line books (codes "with this batch the end books could have more than " ++ (decimal MOST_LINES
+    ++ codes " lines, which no run reads")))
 
 -- those of the sheet, of the books, and of the batch
 abbrev pub warnings_text : Names → Warnings → List ℕ

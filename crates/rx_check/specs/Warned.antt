@@ -7,11 +7,13 @@ use Rattle.std.specs.List.{list_any}
 use Rattle.rx_batch.specs.declared.batch.Batch.{Batch}
 use Rattle.rx_batch.specs.declared.detail.Detail.{Detail}
 use Rattle.rx_books_store.specs.LedgerBooks.{LedgerBooks}
+use Rattle.rx_d0_request.specs.declared.header.TheConstants.{BIN_LENGTH, PCN_AT, PCN_LENGTH}
 use Rattle.rx_fields.specs.Numbered.{Span}
 use Rattle.rx_fields.specs.declared.door.Door.{Door}
-use Rattle.rx_fields.specs.declared.limits.TheConstants.{NUMBERS_OF_A_BATCH}
+use Rattle.rx_fields.specs.declared.limits.TheConstants.{MOST_LINES, NUMBERS_OF_A_BATCH}
 use Rattle.rx_ledger.specs.Plan.{Plan}
 use Rattle.rx_ledger.specs.declared.row.Row.{Row}
+use Rattle.rx_text.specs.declared.separators.TheConstants.{GROUP}
 use Rattle.rx_check.specs.Ignored.{ignored_lines}
 use Rattle.rx_check.specs.Inputs.{batch_taken, books_taken, sheet_taken}
 use Rattle.rx_check.specs.declared.checking.Files.{Files}
@@ -22,10 +24,11 @@ use Rattle.rx_check.specs.declared.warnings.Warnings.{Warnings}
 abbrev pub feeds : List ℕ → ℕ
 feeds text = count_by (λ b. b == 10) text
 
--- a record names the plan's BIN, in its first six bytes, and its processor control number, in bytes 10 to 20
+-- a record names the plan's BIN and its processor control number, each at its place in the header of a request
 abbrev pub is_under : Door → Detail → Bool
 is_under door d =
-    nat_le 20 (length d.text) && pointwise nat_eq (take 6 d.text) door.bin && pointwise nat_eq (slice_range d.text 10 20) door.pcn
+    nat_le (PCN_AT + PCN_LENGTH) (length d.text) && pointwise nat_eq (take BIN_LENGTH d.text) door.bin
+    && pointwise nat_eq (slice_range d.text PCN_AT (PCN_AT + PCN_LENGTH)) door.pcn
 
 -- there are records, and none is under the plan's BIN and processor control number
 abbrev pub has_none_under : Door → List Detail → Bool
@@ -40,11 +43,11 @@ adjudicated number rows = count_by (is_of_batch number) rows
 
 -- a record can add as many claims as it has groups, each of which a GS begins
 abbrev pub groups : Detail → ℕ
-groups d = count_by (λ b. b == 29) d.text
+groups d = count_by (λ b. b == GROUP) d.text
 
--- books of so many lines could have more than 1,000,000 after these records
+-- books of so many lines could have more than `MOST_LINES` after these records
 abbrev pub may_pass : ℕ → List Detail → Bool
-may_pass lines details = nat_lt 1_000_000 (lines + sum (map groups details))
+may_pass lines details = nat_lt MOST_LINES (lines + sum (map groups details))
 
 -- books of so many lines are near their limit
 abbrev pub has_many_lines : ℕ → Bool

@@ -10,22 +10,37 @@
 //! let lines = rx_check::report(alloc, &files, &names, &found)?;
 //! ```
 //!
-//! Nothing is adjudicated. That the first fault is the one by which a run refuses, is said in `rx_told_run`.
+//! A refusal of a run, of these inputs or another, is put in words by `fault_words`: one line, which begins at the fault's
+//! place (`specs/Faults.antt`). That the first fault found is the one by which a run refuses is a law
+//! (`first_fault_is_the_runs`). What is said of an input is said in `rx_diagnostics`.
+//!
+//! ```rust
+//! let fault = rx_check::refusal(&found);
+//! let line = rx_check::fault_words(alloc, fault, &run)?;
+//! ```
+//!
+//! Nothing is adjudicated.
 #![tactic(auto)]
 
 mod checking;
+mod fault_lines;
 mod found;
 mod ignored;
+mod laws;
 mod likeness;
 mod reading;
+mod refusals;
 mod reporting;
 mod warned;
 mod warnings;
 
 pub use checking::{Files, check};
+pub use fault_lines::{Input, RunInputs, fault_words};
 pub use found::{Found, InputFault};
 pub use ignored::ignored_keys;
+pub use laws::{faults_of_some_are_the_runs, first_fault_is_the_runs};
 pub use likeness::nearest;
+pub use refusals::refusal;
 pub use reporting::{Names, report};
 pub use warned::{adjudicated, feeds, has_none_under, may_pass, period_apart};
 pub use warnings::Warnings;

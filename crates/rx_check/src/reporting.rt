@@ -10,7 +10,7 @@ use crate::warnings::Warnings;
 use rx_batch::BatchFault;
 use rx_books_text::BooksFault;
 use rx_diagnostics::{Words, batch_words, books_words, sheet_words};
-use rx_fields::{Day, Memory, Period, date_write};
+use rx_fields::{Day, MOST_LINES, Memory, Period, date_write};
 use rx_sheet::SheetFault;
 use std::alloc::{AllocError, Global};
 
@@ -116,7 +116,7 @@ fn put_warnings(
     put_lines(alloc, text, names.books, warnings)?;
     put_none_under(text, names.batch, warnings.none_under)?;
     put_adjudicated(alloc, text, names.batch, names.books, warnings.adjudicated)?;
-    put_may_pass(text, names.books, warnings.may_pass)
+    put_may_pass(alloc, text, names.books, warnings.may_pass)
 }
 
 // The keys of the sheet that are ignored.
@@ -161,7 +161,7 @@ fn put_lines(
         return Ok(());
     }
     let lines = warnings.lines;
-    let said = format!(in alloc; "{lines} lines of at most 1000000")?;
+    let said = format!(in alloc; "{lines} lines of at most {MOST_LINES}")?;
     put_warning(text, books, said.as_str())
 }
 
@@ -200,15 +200,21 @@ fn put_adjudicated(
 
 // End books that could have too many lines.
 #[tactic(auto, unfolding(crate::specs::Report::may_pass_text))]
-fn put_may_pass(text: &mut String, books: &str, may_pass: bool) -> Result<(), AllocError>
+fn put_may_pass(
+    alloc: Global,
+    text: &mut String,
+    books: &str,
+    may_pass: bool,
+) -> Result<(), AllocError>
     ensures { OnOk result (string_bytes text.new ≡ string_bytes text.old ++ may_pass_text books.now may_pass) }
 {
     if !may_pass {
         return Ok(());
     }
-    let said =
-        "with this batch the end books could have more than 1000000 lines, which no run reads";
-    put_warning(text, books, said)
+    let said = format!(in alloc;
+        "with this batch the end books could have more than {MOST_LINES} lines, which no run reads"
+    )?;
+    put_warning(text, books, said.as_str())
 }
 
 // A warning of a file.

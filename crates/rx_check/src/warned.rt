@@ -4,11 +4,10 @@ ghost use Rattle.rx_check.specs.Warned.{adjudicated, feeds, groups, has_none_und
 
 use rx_batch::Detail;
 use rx_books_store::OpenBooks;
-use rx_fields::{Door, Lot, NUMBERS_OF_A_BATCH, Period};
+use rx_d0_request::{BIN_LENGTH, PCN_AT, PCN_LENGTH};
+use rx_fields::{Door, Lot, MOST_LINES, NUMBERS_OF_A_BATCH, Period};
 use rx_ledger::Row;
-
-// The most line feeds of a books file that is read.
-const MOST_LINES: usize = 1_000_000;
+use rx_text::GROUP;
 
 /// How many line feeds a text has.
 pub fn feeds(text: &[u8]) -> usize
@@ -43,7 +42,9 @@ fn is_under(door: &Door, detail: &Detail) -> bool
     ensures { result ≡ is_under door.now detail.now }
 {
     let text = detail.text.bytes();
-    text.len() >= 20 && &text[..6] == door.bin.as_slice() && &text[10..20] == door.pcn.as_slice()
+    text.len() >= PCN_AT + PCN_LENGTH
+        && &text[..BIN_LENGTH] == door.bin.as_slice()
+        && &text[PCN_AT..PCN_AT + PCN_LENGTH] == door.pcn.as_slice()
 }
 
 /// How many of the books' standing claims have a number of this lot: where there is one, the batch was adjudicated
@@ -73,10 +74,10 @@ fn is_of_batch(number: u64, row: &Row) -> bool
 fn groups(detail: &Detail) -> usize
     ensures { result ≡ groups detail.now }
 {
-    detail.text.bytes().iter().filter(|b| **b == 29).count()
+    detail.text.bytes().iter().filter(|b| **b == GROUP).count()
 }
 
-/// Whether books of so many lines could have more than 1,000,000 after these records, which no later run would read.
+/// Whether books of `lines` lines could have more than `MOST_LINES` after these records, which no later run would read.
 pub fn may_pass(lines: usize, details: &[Detail]) -> bool
     ensures { result ≡ may_pass lines details.now }
 {

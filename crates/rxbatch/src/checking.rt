@@ -2,11 +2,10 @@ use crate::ending::Ending;
 use crate::printing::print;
 use crate::texts::text_of;
 use crate::verbose::{long_words, read_words};
-use rx_check::{Files, Found, Names, check as look_at, report};
+use rx_check::{Files, Found, Names, check as look_at, refusal, report};
 use rx_cli::CheckWords;
 use rx_fields::Memory;
 use rx_switch::{Device, IoFault};
-use rx_told_run::refusal;
 
 // The bytes of the files that are given.
 #[derive(Drop)]

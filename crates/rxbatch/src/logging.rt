@@ -6,10 +6,8 @@ use crate::telling::Teller;
 use crate::told_source::ToldSource;
 use rx_cli::{RunWords, VERSION};
 use rx_io::WriterSink;
-use rx_log::{FileLog, RunLog, Steps};
-use rx_steps::Name;
+use rx_run_log::{FileLog, Lot, RunLog, Step, StepTimes, Totals, Traffic, Watched, log_line};
 use rx_switch::{Inputs, Outputs, run_io};
-use rx_watch::{Heard, Watched};
 use std::alloc::Global;
 use std::fs;
 use std::sync::Wait;
@@ -75,40 +73,42 @@ pub struct Times {
 /// What was heard of the six files.
 #[derive(Drop)]
 pub struct RunHeard {
-    pub sheet: Heard,
-    pub books: Heard,
-    pub batch: Heard,
-    pub response: Heard,
-    pub books_out: Heard,
-    pub settlement: Heard,
+    pub sheet: Traffic,
+    pub books: Traffic,
+    pub batch: Traffic,
+    pub response: Traffic,
+    pub books_out: Traffic,
+    pub settlement: Traffic,
 }
 
 impl RunHeard {
     fn nothing() -> RunHeard {
         RunHeard {
-            sheet: Heard::new(),
-            books: Heard::new(),
-            batch: Heard::new(),
-            response: Heard::new(),
-            books_out: Heard::new(),
-            settlement: Heard::new(),
+            sheet: Traffic::new(),
+            books: Traffic::new(),
+            batch: Traffic::new(),
+            response: Traffic::new(),
+            books_out: Traffic::new(),
+            settlement: Traffic::new(),
         }
     }
 
     /// How long each step took: each ends with the last call of its file, adjudication with the first call of the response.
-    pub fn steps(&self, times: Times) -> Steps {
+    pub fn steps(&self, times: Times) -> StepTimes {
         let [sheet, books, batch] = [self.sheet.last(), self.books.last(), self.batch.last()];
         let [response, books_out] = [self.response.last(), self.books_out.last()];
         let settlement = self.settlement.last();
-        Steps {
-            sheet: micros(times.begin, sheet),
-            books: micros(sheet, books),
-            batch: micros(books, batch),
-            adjudicate: micros(batch, self.response.first()),
-            response: micros(self.response.first(), response),
-            books_out: micros(response, books_out),
-            settlement: micros(books_out, settlement),
-            end: micros(settlement, times.end),
+        StepTimes {
+            micros: [
+                micros(times.begin, sheet),
+                micros(sheet, books),
+                micros(books, batch),
+                micros(batch, self.response.first()),
+                micros(self.response.first(), response),
+                micros(response, books_out),
+                micros(books_out, settlement),
+                micros(settlement, times.end),
+            ],
         }
     }
 }
@@ -131,9 +131,9 @@ fn on_files<R: Threads + Wait + Sync>(
     let RunFiles { inputs, outputs } = files;
     let [response, books_out, settlement] = outputs.files();
     let mut sources = Inputs {
-        sheet: ToldSource::new(rt, &inputs.sheet, Name::Sheet, teller),
-        books: ToldSource::new(rt, &inputs.books, Name::Books, teller),
-        batch: ToldSource::new(rt, &inputs.batch, Name::Batch, teller),
+        sheet: ToldSource::new(rt, &inputs.sheet, Step::Sheet, teller),
+        books: ToldSource::new(rt, &inputs.books, Step::Books, teller),
+        batch: ToldSource::new(rt, &inputs.batch, Step::Batch, teller),
     };
     let mut sinks = Outputs {
         response: Watched::new(WriterSink::new(response), rt),
@@ -151,12 +151,12 @@ fn on_files<R: Threads + Wait + Sync>(
         &mut sinks,
     );
     let heard = RunHeard {
-        sheet: sources.sheet.into_heard(),
-        books: sources.books.into_heard(),
-        batch: sources.batch.into_heard(),
-        response: sinks.response.into_heard(),
-        books_out: sinks.end_books.into_heard(),
-        settlement: sinks.settlement.into_heard(),
+        sheet: sources.sheet.into_traffic(),
+        books: sources.books.into_traffic(),
+        batch: sources.batch.into_traffic(),
+        response: sinks.response.into_traffic(),
+        books_out: sinks.end_books.into_traffic(),
+        settlement: sinks.settlement.into_traffic(),
     };
     (outputs.end(rt, done.map_err(Ending::Io)), heard)
 }
@@ -169,7 +169,7 @@ struct Summed {
 }
 
 impl Summed {
-    fn of(alloc: Global, heard: &Heard) -> Summed {
+    fn of(alloc: Global, heard: &Traffic) -> Summed {
         if heard.last().is_none() {
             return Summed {
                 bytes: None,
@@ -229,8 +229,8 @@ fn line(
         workers: words.workers,
         plain: words.plain,
         safe: words.safe,
-        lot: rx_log::lot(heard.batch.front()),
-        totals: rx_log::totals(heard.settlement.end()),
+        lot: Lot::of_batch(heard.batch.front()),
+        totals: Totals::of_settlement(heard.settlement.end()),
         sheet: sheet.file(words.inputs.sheet),
         books: books.file(words.inputs.books),
         batch: batch.file(words.inputs.batch),
@@ -240,7 +240,7 @@ fn line(
         steps: heard.steps(times),
         peak: peak(rt),
     };
-    rx_log::line(alloc, &log).ok()
+    log_line(alloc, &log).ok()
 }
 
 /// The most memory that the program had, in kilobytes, where the system tells it.

@@ -1,8 +1,8 @@
 //! What a run tells on standard error while it goes on.
 use crate::logging::{RunHeard, Times, micros, peak};
-use rx_log::totals;
-use rx_steps::{Answers, Counted, Done, Name, Step, done_line, progress_line, step_line};
-use rx_watch::Heard;
+use rx_run_log::{
+    Counted, RunReport, Step, StepReport, Totals, Traffic, done_line, progress_line, step_line,
+};
 use rx_wave::Gate;
 use std::alloc::AllocError;
 use std::io::Write;
@@ -50,9 +50,9 @@ impl<'a> Teller<'a> {
     }
 
     /// Tells the step of an input that was read to its end.
-    pub fn tell_input(&self, name: Name, heard: &Heard) {
-        let counted = match name {
-            Name::Batch => {
+    pub fn tell_input(&self, step: Step, heard: &Traffic) {
+        let counted = match step {
+            Step::Batch => {
                 let records = heard.starts().saturating_sub(NO_DETAILS);
                 self.records.store(records, Ordering::SeqCst);
                 Counted::Records(records)
@@ -60,52 +60,62 @@ impl<'a> Teller<'a> {
             _ => lines(heard),
         };
         let micros = micros(heard.first(), heard.last());
-        self.tell_file(name, counted, heard, micros);
+        self.tell_file(step, counted, heard, micros);
     }
 
     /// Tells the later steps of a run that is done, and its end.
     pub fn tell_done(&self, heard: &RunHeard, times: Times) {
         let steps = heard.steps(times);
         let records = Counted::Records(self.records.load(Ordering::SeqCst));
-        self.tell_step(Name::Adjudicate, Some(records), steps.adjudicate);
-        self.tell_file(Name::Response, records, &heard.response, steps.response);
-        let (books, settlement) = (&heard.books_out, &heard.settlement);
-        self.tell_file(Name::EndBooks, lines(books), books, steps.books_out);
+        self.tell_step(Step::Adjudicate, Some(records), steps.of(Step::Adjudicate));
         self.tell_file(
-            Name::Settlement,
+            Step::Response,
+            records,
+            &heard.response,
+            steps.of(Step::Response),
+        );
+        let (books, settlement) = (&heard.books_out, &heard.settlement);
+        self.tell_file(
+            Step::EndBooks,
+            lines(books),
+            books,
+            steps.of(Step::EndBooks),
+        );
+        self.tell_file(
+            Step::Settlement,
             lines(settlement),
             settlement,
-            steps.settlement,
+            steps.of(Step::Settlement),
         );
-        self.tell_step(Name::Disk, None, steps.end);
-        let done = Done {
-            answers: answers(settlement),
+        self.tell_step(Step::Disk, None, steps.of(Step::Disk));
+        let run = RunReport {
+            totals: Totals::of_settlement(settlement.end()),
             peak: peak(self.rt).and_then(|kilobytes| kilobytes.checked_mul(1_024)),
             micros: micros(times.begin, times.end),
         };
-        self.tell(done_line(self.rt.alloc(), &done));
+        self.tell(done_line(self.rt.alloc(), &run));
     }
 
     // Tells a step that reads or writes a file.
-    fn tell_file(&self, name: Name, counted: Counted, heard: &Heard, micros: Option<u64>) {
-        let step = Step {
-            name,
+    fn tell_file(&self, step: Step, counted: Counted, heard: &Traffic, micros: Option<u64>) {
+        let report = StepReport {
+            step,
             counted: Some(counted),
             bytes: Some(heard.bytes()),
             micros,
         };
-        self.tell(step_line(self.rt.alloc(), &step));
+        self.tell(step_line(self.rt.alloc(), &report));
     }
 
     // Tells another step.
-    fn tell_step(&self, name: Name, counted: Option<Counted>, micros: Option<u64>) {
-        let step = Step {
-            name,
+    fn tell_step(&self, step: Step, counted: Option<Counted>, micros: Option<u64>) {
+        let report = StepReport {
+            step,
             counted,
             bytes: None,
             micros,
         };
-        self.tell(step_line(self.rt.alloc(), &step));
+        self.tell(step_line(self.rt.alloc(), &report));
     }
 
     // Tells how many records are adjudicated, where it is time for that.
@@ -136,20 +146,8 @@ impl<'a> Teller<'a> {
     }
 }
 
-fn lines(heard: &Heard) -> Counted {
+fn lines(heard: &Traffic) -> Counted {
     Counted::Lines(heard.line_feeds())
-}
-
-// The answers that the last line of a settlement counts.
-fn answers(settlement: &Heard) -> Option<Answers> {
-    let totals = totals(settlement.end())?;
-    Some(Answers {
-        paid: totals.paid,
-        duplicate: totals.duplicate,
-        approved: totals.approved,
-        rejected: totals.rejected,
-        net: totals.net,
-    })
 }
 
 /// It starts every worker, and counts the records that leave.

@@ -3,15 +3,14 @@ ghost use Rattle.std.specs.Prelude.{◌≡◌, false};
 
 use crate::telling::Teller;
 use rx_io::{Failed, ReaderSource, Source};
-use rx_steps::Name;
-use rx_watch::{Heard, Watched};
+use rx_run_log::{Step, Traffic, Watched};
 use std::fs::File;
 
 /// An input of a run, whose step is told when its end is read.
 #[derive(Drop)]
 pub struct ToldSource<'a> {
     source: Watched<'a, ReaderSource<&'a File>, HostRuntime>,
-    name: Name,
+    step: Step,
     teller: &'a Teller<'a>,
 }
 
@@ -20,21 +19,21 @@ impl<'a> ToldSource<'a> {
     pub fn new(
         rt: &'a HostRuntime,
         file: &'a File,
-        name: Name,
+        step: Step,
         teller: &'a Teller<'a>,
     ) -> ToldSource<'a>
         ensures { ⟦<ToldSource<'a> as Source>⟧.failed result ≡ false }
     {
         ToldSource {
             source: Watched::new(ReaderSource::new(file), rt),
-            name,
+            step,
             teller,
         }
     }
 
-    /// What was heard; the device is let go.
-    pub fn into_heard(self) -> Heard {
-        self.source.into_heard()
+    /// What passed; the device is dropped.
+    pub fn into_traffic(self) -> Traffic {
+        self.source.into_traffic()
     }
 }
 
@@ -50,7 +49,7 @@ impl<'a> Source for ToldSource<'a> {
     fn read(&mut self, buffer: &mut [u8]) -> Result<usize, Failed> {
         let count = self.source.read(buffer)?;
         if count == 0 {
-            self.teller.tell_input(self.name, self.source.heard());
+            self.teller.tell_input(self.step, self.source.traffic());
         }
         Ok(count)
     }

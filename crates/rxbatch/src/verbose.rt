@@ -1,9 +1,9 @@
 use crate::ending::Ending;
 use crate::files::source;
+use rx_check::{Input, RunInputs, fault_words};
 use rx_cli::RunWords;
 use rx_fields::Memory;
 use rx_switch::{Device, IoFault, SwitchFault, read_all};
-use rx_told_run::{Asked, Given, fault_words};
 use std::fs::OpenOptions;
 use std::io::Read;
 use std::{fs, io};
@@ -46,24 +46,24 @@ fn refused_words(
     let sheet = given(words.inputs.sheet, &text);
     let books = given(words.inputs.books, &text);
     let batch = given(words.inputs.batch, &text);
-    let asked = Asked {
+    let run = RunInputs {
         sheet,
         books,
         batch,
         stamp: words.stamp,
         workers: words.workers,
     };
-    fault_words(rt.alloc(), refused, &asked)
+    fault_words(rt.alloc(), refused, &run)
 }
 
 // A file with this name, and its bytes where they are there.
-fn given<'a>(name: &'a str, text: &'a Option<Vec<u8>>) -> Given<'a> {
+fn given<'a>(name: &'a str, text: &'a Option<Vec<u8>>) -> Input<'a> {
     match text {
-        Some(text) => Given {
+        Some(text) => Input {
             name,
             text: Some(text.as_slice()),
         },
-        None => Given { name, text: None },
+        None => Input { name, text: None },
     }
 }
 

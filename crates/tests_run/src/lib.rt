@@ -51,7 +51,7 @@ mod steps;
 #[cfg(test)]
 mod switch;
 #[cfg(test)]
-mod watch;
+mod traffic;
 #[cfg(test)]
 mod words;
 #[cfg(test)]

@@ -1,5 +1,5 @@
 use crate::same::same;
-use rx_log::{FileLog, Lot, RunLog, Steps, Totals, line, lot, totals};
+use rx_run_log::{FileLog, Lot, RunLog, StepTimes, Totals, log_line};
 
 const FILE: FileLog<'static> = FileLog {
     path: "a \"b\"",
@@ -7,15 +7,9 @@ const FILE: FileLog<'static> = FileLog {
     sha256: None,
 };
 
-const STEPS: Steps = Steps {
-    sheet: Some(1),
-    books: None,
-    batch: None,
-    adjudicate: None,
-    response: None,
-    books_out: None,
-    settlement: None,
-    end: None,
+// The sheet was read, and nothing more.
+const STEPS: StepTimes = StepTimes {
+    micros: [Some(1), None, None, None, None, None, None, None],
 };
 
 // The settlement that docs/FORMATS.md shows for the first job.
@@ -30,11 +24,15 @@ fn a_settlement_has_totals(rt: HostRuntime) {
         rejected: 8,
         net: 440_530,
     };
-    same(&rt, totals(SETTLEMENT), Some(told));
-    let taken_back = totals(b"TOTAL|0|0|1|0|-7980\n").expect(&rt, "totals");
+    same(&rt, Totals::of_settlement(SETTLEMENT), Some(told));
+    let taken_back = Totals::of_settlement(b"TOTAL|0|0|1|0|-7980\n").expect(&rt, "totals");
     same(&rt, taken_back.net, -7980);
-    same(&rt, totals(b"TOTAL|0|0|1|0"), None);
-    same(&rt, totals(b"P|9000000037|4|0|1|5|-7980\n"), None);
+    same(&rt, Totals::of_settlement(b"TOTAL|0|0|1|0"), None);
+    same(
+        &rt,
+        Totals::of_settlement(b"P|9000000037|4|0|1|5|-7980\n"),
+        None,
+    );
 }
 
 #[test]
@@ -44,10 +42,10 @@ fn a_header_has_a_lot(rt: HostRuntime) {
         created: "20260316",
     };
     let header = b"\x0200TLAKESIDE SWITCH         0000012202603162130P12";
-    same(&rt, lot(header), Some(told));
+    same(&rt, Lot::of_batch(header), Some(told));
     let header = b"\r\n\x0200TLAKESIDE SWITCH         0000012202603162130P12";
-    same(&rt, lot(header), Some(told));
-    same(&rt, lot(b"\x0200T"), None);
+    same(&rt, Lot::of_batch(header), Some(told));
+    same(&rt, Lot::of_batch(b"\x0200T"), None);
 }
 
 const REFUSED: RunLog<'static> = RunLog {
@@ -73,7 +71,7 @@ const REFUSED: RunLog<'static> = RunLog {
 
 #[test]
 fn a_refused_run_has_a_line(rt: HostRuntime) {
-    let line = line(rt.alloc(), &REFUSED).expect(&rt, "memory");
+    let line = log_line(rt.alloc(), &REFUSED).expect(&rt, "memory");
     let front = "{\"file\":null,\"inputs\":{\"batch\":{\"bytes\":null,\"path\":\"a \\\"b\\\"\"";
     same(&rt, line.starts_with(front), true);
     let inner =

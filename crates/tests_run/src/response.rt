@@ -5,7 +5,8 @@ use rx_batch::{Detail, FileType, Head, Kind, Text};
 use rx_d0_reply::decode_reply;
 use rx_d0_values::Reply;
 use rx_fields::{Lot, Stamp, Time, date_read, digits_write};
-use rx_response::{response_file, response_in_parts};
+use rx_io::one_text;
+use rx_response::{response_file, response_pieces};
 use std::alloc::{AllocError, Global};
 use std::process::Abort;
 
@@ -105,8 +106,8 @@ fn replies_stand_in_file_order_in_parts(rt: HostRuntime) {
         Stamp::new(b"202603020600").expect(&rt, "a stamp"),
     );
     for parts in [1, 4] {
-        let text = response_in_parts(&rt, rt.alloc(), parts, &head, stamp, &details, &replies);
-        let text = text.expect(&rt, "memory");
+        let pieces = response_pieces(&rt, rt.alloc(), parts, &head, stamp, &details, &replies);
+        let text = one_text(rt.alloc(), pieces.expect(&rt, "memory")).expect(&rt, "memory");
         same(&rt, text.as_slice(), wanted.as_slice());
     }
 }

@@ -1,10 +1,12 @@
 use crate::same::same;
-use rx_steps::{Answers, Counted, Done, Name, Step, done_line, progress_line, step_line};
+use rx_run_log::{
+    Counted, RunReport, Step, StepReport, Totals, done_line, progress_line, step_line,
+};
 
 #[test]
 fn books_of_a_million_lines(rt: HostRuntime) {
-    let step = Step {
-        name: Name::Books,
+    let step = StepReport {
+        step: Step::Books,
         counted: Some(Counted::Lines(990_001)),
         bytes: Some(78_041_222),
         micros: Some(214_999),
@@ -16,8 +18,8 @@ fn books_of_a_million_lines(rt: HostRuntime) {
 
 #[test]
 fn a_step_of_which_little_is_known(rt: HostRuntime) {
-    let step = Step {
-        name: Name::Batch,
+    let step = StepReport {
+        step: Step::Batch,
         counted: Some(Counted::Records(1)),
         bytes: Some(999_999),
         micros: None,
@@ -36,8 +38,8 @@ fn a_run_that_goes_on(rt: HostRuntime) {
 
 #[test]
 fn a_run_that_is_done(rt: HostRuntime) {
-    let done = Done {
-        answers: Some(Answers {
+    let done = RunReport {
+        totals: Some(Totals {
             paid: 12,
             duplicate: 1,
             approved: 2,

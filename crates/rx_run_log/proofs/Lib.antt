@@ -1,0 +1,3 @@
+-- Plumbing: which files there are.
+pub mod Counts
+pub mod Kept

@@ -1,0 +1,8 @@
+-- Plumbing: which files there are.
+pub mod Header
+pub mod Lines
+pub mod Log
+pub mod Numbers
+pub mod Settlement
+pub mod Steps
+pub mod Traffic

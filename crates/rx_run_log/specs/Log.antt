@@ -1,0 +1,80 @@
+-- Meaning: the value of a log's line: what each member says.
+use Rattle.std.specs.Prelude.{ℕ, List, Option, Some, None, codes, slice_index}
+use Rattle.std.specs.Borrow.{Bor}
+use Rattle.serde_json.specs.Data.{Data, null, boolean, number, unsigned, string, array, object, item, no_items, member, no_members}
+use Rattle.serde_json.specs.Find.{of_integer}
+use Rattle.rx_run_log.specs.declared.log.FileLog.{FileLog}
+use Rattle.rx_run_log.specs.declared.header.Lot.{Lot}
+use Rattle.rx_run_log.specs.declared.log.RunLog.{RunLog}
+use Rattle.rx_run_log.specs.declared.step.Step.TheVariants as step
+use Rattle.rx_run_log.specs.declared.step.StepTimes.{StepTimes}
+use Rattle.rx_run_log.specs.declared.settlement.Totals.{Totals}
+use Rattle.rx_run_log.specs.Steps.{time_of}
+
+-- a number, or null where it isn't known
+abbrev pub number_data : Option ℕ → Data
+number_data None = null
+number_data (Some n) = number (unsigned n)
+
+-- a text, or null where it isn't known
+abbrev pub text_data : Option (Bor (List ℕ)) → Data
+text_data None = null
+text_data (Some text) = string text.now
+
+-- a file: its bytes, its path, its sum
+abbrev pub file_data : FileLog → Data
+file_data f = object (member (codes "bytes") (number_data f.bytes) (member (codes "path") (string f.path.now)
+    (member (codes "sha256") (text_data f.sha256) no_members)))
+
+-- the lot: the creation date and the batch number
+abbrev pub lot_data : Option Lot → Data
+lot_data None = null
+lot_data (Some lot) = object (member (codes "created") (string lot.created.now)
+    (member (codes "number") (string lot.number.now) no_members))
+
+-- the counts and the net
+abbrev pub totals_data : Option Totals → Data
+totals_data None = null
+totals_data (Some t) = object (member (codes "approved") (number (unsigned t.approved))
+    (member (codes "duplicate") (number (unsigned t.duplicate)) (member (codes "net") (number (of_integer t.net))
+    (member (codes "paid") (number (unsigned t.paid)) (member (codes "rejected") (number (unsigned t.rejected)) no_members)))))
+
+-- the numbers of a refusal
+abbrev pub refused_data : Option (List ℕ) → Data
+refused_data None = null
+refused_data (Some numbers) = array (item (number (unsigned (slice_index numbers 0)))
+    (item (number (unsigned (slice_index numbers 1))) (item (number (unsigned (slice_index numbers 2))) no_items)))
+
+-- the inputs
+abbrev pub inputs_data : RunLog → Data
+inputs_data r = object (member (codes "batch") (file_data r.batch) (member (codes "books") (file_data r.books)
+    (member (codes "sheet") (file_data r.sheet) no_members)))
+
+-- the outputs
+abbrev pub outputs_data : RunLog → Data
+outputs_data r = object (member (codes "books_out") (file_data r.books_out) (member (codes "response") (file_data r.response)
+    (member (codes "settlement") (file_data r.settlement) no_members)))
+
+-- the steps, in microseconds
+abbrev pub steps_data : StepTimes → Data
+steps_data s =
+    object (member (codes "adjudicate") (number_data (time_of s step.Adjudicate))
+    (member (codes "batch") (number_data (time_of s step.Batch)) (member (codes "books") (number_data (time_of s step.Books))
+    (member (codes "books_out") (number_data (time_of s step.EndBooks)) (member (codes "end") (number_data (time_of s step.Disk))
+    (member (codes "response") (number_data (time_of s step.Response))
+    (member (codes "settlement") (number_data (time_of s step.Settlement))
+    (member (codes "sheet") (number_data (time_of s step.Sheet)) no_members))))))))
+
+-- the words of the run
+abbrev pub words_data : RunLog → Data
+words_data r = object (member (codes "plain") (boolean r.plain) (member (codes "safe") (boolean r.safe)
+    (member (codes "stamp") (string r.stamp.now) (member (codes "workers") (number (unsigned r.workers)) no_members))))
+
+-- the whole
+abbrev pub log_data : RunLog → Data
+log_data r = object (member (codes "file") (number_data r.file) (member (codes "inputs") (inputs_data r)
+    (member (codes "lot") (lot_data r.lot) (member (codes "microseconds") (steps_data r.steps)
+    (member (codes "outputs") (outputs_data r) (member (codes "peak_kilobytes") (number_data r.peak)
+    (member (codes "refused") (refused_data r.refused) (member (codes "run") (words_data r)
+    (member (codes "status") (number (unsigned r.status)) (member (codes "totals") (totals_data r.totals)
+    (member (codes "version") (string r.version.now) no_members)))))))))))

@@ -1,0 +1,32 @@
+-- Meaning: what passed through a device.
+use Rattle.std.specs.Prelude.{◌≡◌, ℕ, ◌-◌, ◌==◌, List, ◌++◌, count_by, drop, length, take}
+use Rattle.std.specs.Prelude.{IfOk, IfSome, OnErr, Result, Some}
+use Rattle.sha2.specs.Hashers.{Holds256}
+use Rattle.rx_io.specs.declared.fault.Failed.{Failed}
+use Rattle.rx_run_log.specs.declared.traffic.Traffic.{Traffic}
+use Rattle.rx_run_log.specs.declared.traffic.TheConstants.{KEPT}
+
+-- the last n items, or all of fewer
+abbrev pub last_of : ℕ → List ℕ → List ℕ
+last_of n items = drop (length items - n) items
+
+-- the sum is of these bytes, and the front and the end are theirs
+pub record IsTrafficOf (t : Traffic) (bytes : List ℕ) : Type 0 where
+  pub sum : Holds256 t.sum bytes
+  pub front : t.front.items ≡ take KEPT bytes
+  pub end : t.end.items ≡ last_of KEPT bytes
+
+-- these bytes passed after those before
+abbrev pub Adds : Traffic → Traffic → List ℕ → Type 0
+Adds before after piece = (bytes : List ℕ) → IsTrafficOf before bytes → IsTrafficOf after (bytes ++ piece)
+
+-- of a call that gives or takes some bytes at the front of a piece these are added, and of one that fails nothing; the
+-- time of the first call stays once it is there
+pub record AddsCall (result : Result ℕ Failed) (before after : Traffic) (piece : List ℕ) : Type 0 where
+  pub passed : IfOk result (λ count. Adds before after (take count piece))
+  pub failed : OnErr result (after ≡ before)
+  pub first : IfSome before.first (λ time. after.first ≡ Some time)
+
+-- how many of the bytes are this one
+abbrev pub count_of : ℕ → List ℕ → ℕ
+count_of mark bytes = count_by (λ b. b == mark) bytes

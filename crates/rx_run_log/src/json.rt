@@ -1,0 +1,150 @@
+ghost use Rattle.std.specs.Prelude.{◌≡◌, IfOk, string_bytes};
+ghost use Rattle.serde_json.specs.View.{view};
+ghost use Rattle.serde_json.specs.Written.{IsInOrder};
+ghost use Rattle.rx_run_log.specs.Log.{file_data, inputs_data, log_data, lot_data, number_data, outputs_data, refused_data};
+ghost use Rattle.rx_run_log.specs.Log.{steps_data, text_data, totals_data, words_data};
+
+use crate::header::Lot;
+use crate::log::{FileLog, RunLog};
+use crate::settlement::Totals;
+use crate::step::{Step, StepTimes};
+use serde_json::{Value, json};
+use std::alloc::{AllocError, Global};
+
+/// The line of a log, without a line feed: JSON with the members of the log's value, each once and in order, and its
+/// integers in decimal.
+///
+/// # Errors
+///
+/// Out of memory.
+pub fn log_line(alloc: Global, log: &RunLog<'_>) -> Result<String, AllocError>
+    ensures { IfOk result (λ line. IsInOrder (string_bytes line) (log_data log.now)) }
+{
+    let value = value(alloc, log)?;
+    value.to_string(alloc)
+}
+
+fn value(alloc: Global, log: &RunLog<'_>) -> Result<Value, AllocError>
+    ensures { IfOk result (λ v. view v ≡ log_data log.now) }
+{
+    json!(in alloc; {
+        "file": number(log.file),
+        "inputs": inputs(alloc, log)?,
+        "lot": lot(alloc, log.lot)?,
+        "microseconds": steps(alloc, &log.steps)?,
+        "outputs": outputs(alloc, log)?,
+        "peak_kilobytes": number(log.peak),
+        "refused": refused(alloc, log.refused)?,
+        "run": words(alloc, log)?,
+        "status": log.status,
+        "totals": totals(alloc, log.totals)?,
+        "version": log.version
+    })
+}
+
+fn number(number: Option<u64>) -> Value
+    ensures { view result ≡ number_data number }
+{
+    match number {
+        Some(number) => Value::from(number),
+        None => Value::Null,
+    }
+}
+
+fn text(alloc: Global, text: Option<&str>) -> Result<Value, AllocError>
+    ensures { IfOk result (λ v. view v ≡ text_data text.entry) }
+{
+    match text {
+        Some(text) => Value::try_from_str(alloc, text),
+        None => Ok(Value::Null),
+    }
+}
+
+fn file(alloc: Global, file: &FileLog<'_>) -> Result<Value, AllocError>
+    ensures { IfOk result (λ v. view v ≡ file_data file.now) }
+{
+    json!(in alloc; {
+        "bytes": number(file.bytes),
+        "path": file.path,
+        "sha256": text(alloc, file.sha256)?
+    })
+}
+
+fn inputs(alloc: Global, log: &RunLog<'_>) -> Result<Value, AllocError>
+    ensures { IfOk result (λ v. view v ≡ inputs_data log.now) }
+{
+    json!(in alloc; {
+        "batch": file(alloc, &log.batch)?,
+        "books": file(alloc, &log.books)?,
+        "sheet": file(alloc, &log.sheet)?
+    })
+}
+
+fn outputs(alloc: Global, log: &RunLog<'_>) -> Result<Value, AllocError>
+    ensures { IfOk result (λ v. view v ≡ outputs_data log.now) }
+{
+    json!(in alloc; {
+        "books_out": file(alloc, &log.books_out)?,
+        "response": file(alloc, &log.response)?,
+        "settlement": file(alloc, &log.settlement)?
+    })
+}
+
+fn lot(alloc: Global, lot: Option<Lot<'_>>) -> Result<Value, AllocError>
+    ensures { IfOk result (λ v. view v ≡ lot_data lot.entry) }
+{
+    match lot {
+        Some(lot) => json!(in alloc; {"created": lot.created, "number": lot.number}),
+        None => Ok(Value::Null),
+    }
+}
+
+fn steps(alloc: Global, times: &StepTimes) -> Result<Value, AllocError>
+    ensures { IfOk result (λ v. view v ≡ steps_data times.now) }
+{
+    json!(in alloc; {
+        "adjudicate": number(times.of(Step::Adjudicate)),
+        "batch": number(times.of(Step::Batch)),
+        "books": number(times.of(Step::Books)),
+        "books_out": number(times.of(Step::EndBooks)),
+        "end": number(times.of(Step::Disk)),
+        "response": number(times.of(Step::Response)),
+        "settlement": number(times.of(Step::Settlement)),
+        "sheet": number(times.of(Step::Sheet))
+    })
+}
+
+fn refused(alloc: Global, refused: Option<[u64; 3]>) -> Result<Value, AllocError>
+    ensures { IfOk result (λ v. view v ≡ refused_data refused) }
+{
+    match refused {
+        Some(numbers) => json!(in alloc; [numbers[0], numbers[1], numbers[2]]),
+        None => Ok(Value::Null),
+    }
+}
+
+fn words(alloc: Global, log: &RunLog<'_>) -> Result<Value, AllocError>
+    ensures { IfOk result (λ v. view v ≡ words_data log.now) }
+{
+    json!(in alloc; {
+        "plain": log.plain,
+        "safe": log.safe,
+        "stamp": log.stamp,
+        "workers": log.workers
+    })
+}
+
+fn totals(alloc: Global, totals: Option<Totals>) -> Result<Value, AllocError>
+    ensures { IfOk result (λ v. view v ≡ totals_data totals) }
+{
+    match totals {
+        Some(totals) => json!(in alloc; {
+            "approved": totals.approved,
+            "duplicate": totals.duplicate,
+            "net": totals.net,
+            "paid": totals.paid,
+            "rejected": totals.rejected
+        }),
+        None => Ok(Value::Null),
+    }
+}

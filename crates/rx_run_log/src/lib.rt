@@ -1,0 +1,42 @@
+//! How a run goes: what passes through its files, the lines that report its steps, and its log.
+//!
+//! - A watched device (`Watched`) stays the device that it is. Beside it out come the number of bytes that went through,
+//!   their SHA-256, the first and the last of them, and the times of the first and the last call (`Traffic`).
+//! - `step_line`, `progress_line` and `done_line` spell numbers as people read them (`specs/Lines.antt`).
+//! - `log_line` is the log: one line of JSON, whose value is defined in `specs/Log.antt`. What it says of the batch and of
+//!   the answers is taken from the front of the batch file (`Lot`) and from the end of the settlement (`Totals`).
+//!
+//! ```rust
+//! let mut batch = Watched::new(ReaderSource::new(file), &rt);
+//! let text = rx_io::read_all(alloc, &mut batch)?;
+//! let digest = batch.traffic().digest()?;
+//! let line = rx_run_log::step_line(alloc, &step)?;    // books        990,001 lines  78.0 MB  0.21 s
+//! let line = rx_run_log::log_line(alloc, &log)?;
+//! ```
+//!
+//! Where the lines go is the caller's to say. A sum costs about 2.5 ns a byte.
+#![tactic(auto)]
+
+mod digit_text;
+mod header;
+mod json;
+mod lines;
+mod log;
+mod numbers;
+mod report;
+mod settlement;
+mod sink;
+mod source;
+mod step;
+mod traffic;
+mod watched;
+
+pub use header::Lot;
+pub use json::log_line;
+pub use lines::{done_line, progress_line, step_line};
+pub use log::{FileLog, RunLog};
+pub use report::{Counted, RunReport, StepReport};
+pub use settlement::Totals;
+pub use step::{Step, StepTimes};
+pub use traffic::Traffic;
+pub use watched::Watched;

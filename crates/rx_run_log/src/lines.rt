@@ -1,0 +1,176 @@
+ghost use Rattle.std.specs.Prelude.{◌≡◌, ◌++◌, IfOk, OnOk};
+ghost use Rattle.rx_run_log.specs.Lines.{totals_part, totals_text, counted_part, counted_text, done_text, ending, named};
+ghost use Rattle.rx_run_log.specs.Lines.{peak_part, progress_text, size_part, step_text, time_part};
+ghost use Rattle.rx_run_log.specs.Numbers.{grouped};
+
+use crate::numbers::{put_grouped, put_net, put_size, put_time};
+use crate::report::{Counted, RunReport, StepReport};
+use crate::settlement::Totals;
+use std::alloc::{AllocError, Global};
+
+/// The line of a step: its name, what was counted, its bytes and its time.
+///
+/// # Errors
+///
+/// Out of memory.
+#[tactic(auto, using(std::proofs::Common::append_assoc))]
+pub fn step_line(alloc: Global, report: &StepReport) -> Result<Vec<u8>, AllocError>
+    ensures { IfOk result (λ line. line.items ≡ step_text report.now) }
+{
+    let mut line = Vec::new(alloc);
+    line.extend_from_slice(report.step.label().as_bytes())?;
+    put_counted(alloc, &mut line, report.counted)?;
+    put_size_part(alloc, &mut line, report.bytes)?;
+    put_time_part(alloc, &mut line, report.micros)?;
+    line.push(b'\n')?;
+    Ok(line)
+}
+
+/// The line of a run that goes on: how many of its records are adjudicated.
+///
+/// # Errors
+///
+/// Out of memory.
+#[tactic(auto, using(std::proofs::Common::append_assoc))]
+pub fn progress_line(alloc: Global, adjudicated: u64, records: u64) -> Result<Vec<u8>, AllocError>
+    ensures { IfOk result (λ line. line.items ≡ progress_text adjudicated records) }
+{
+    let mut line = Vec::new(alloc);
+    line.extend_from_slice(b"adjudicated  ")?;
+    put_grouped(alloc, &mut line, adjudicated)?;
+    line.extend_from_slice(b" of ")?;
+    put_grouped(alloc, &mut line, records)?;
+    line.extend_from_slice(b" records\n")?;
+    Ok(line)
+}
+
+/// The line of a run that is done: its totals, the most memory that it had, and its time.
+///
+/// # Errors
+///
+/// Out of memory.
+#[tactic(auto, using(std::proofs::Common::append_assoc))]
+pub fn done_line(alloc: Global, run: &RunReport) -> Result<Vec<u8>, AllocError>
+    ensures { IfOk result (λ line. line.items ≡ done_text run.now) }
+{
+    let mut line = Vec::new(alloc);
+    line.extend_from_slice(b"done       ")?;
+    put_totals_part(alloc, &mut line, run.totals)?;
+    put_peak_part(alloc, &mut line, run.peak)?;
+    put_time_part(alloc, &mut line, run.micros)?;
+    line.push(b'\n')?;
+    Ok(line)
+}
+
+#[tactic(auto, using(std::proofs::Common::append_assoc))]
+fn put_counted(
+    alloc: Global,
+    line: &mut Vec<u8>,
+    counted: Option<Counted>,
+) -> Result<(), AllocError>
+    ensures { OnOk result (line.new.items ≡ line.old.items ++ counted_part counted) }
+{
+    let Some(counted) = counted else {
+        return Ok(());
+    };
+    line.extend_from_slice(b"  ")?;
+    put_count(alloc, line, counted)
+}
+
+fn put_count(alloc: Global, line: &mut Vec<u8>, counted: Counted) -> Result<(), AllocError>
+    ensures { OnOk result (line.new.items ≡ line.old.items ++ counted_text counted) }
+{
+    match counted {
+        Counted::Lines(count) => put_numbered(alloc, line, count, " line"),
+        Counted::Records(count) => put_numbered(alloc, line, count, " record"),
+    }
+}
+
+// A count, and what is counted, with the ending of the plural.
+#[tactic(auto, using(std::proofs::Common::append_assoc))]
+fn put_numbered(alloc: Global, line: &mut Vec<u8>, count: u64, name: &str) -> Result<(), AllocError>
+    ensures { OnOk result (line.new.items ≡ line.old.items ++ (grouped count ++ (name.now ++ ending count))) }
+{
+    put_grouped(alloc, line, count)?;
+    line.extend_from_slice(name.as_bytes())?;
+    put_ending(line, count)
+}
+
+// The ending of the plural.
+fn put_ending(line: &mut Vec<u8>, count: u64) -> Result<(), AllocError>
+    ensures { OnOk result (line.new.items ≡ line.old.items ++ ending count) }
+{
+    if count == 1 {
+        return Ok(());
+    }
+    line.push(b's')?;
+    Ok(())
+}
+
+#[tactic(auto, using(std::proofs::Common::append_assoc))]
+fn put_size_part(alloc: Global, line: &mut Vec<u8>, bytes: Option<u64>) -> Result<(), AllocError>
+    ensures { OnOk result (line.new.items ≡ line.old.items ++ size_part bytes) }
+{
+    let Some(bytes) = bytes else {
+        return Ok(());
+    };
+    line.extend_from_slice(b"  ")?;
+    put_size(alloc, line, bytes)
+}
+
+#[tactic(auto, using(std::proofs::Common::append_assoc))]
+fn put_time_part(alloc: Global, line: &mut Vec<u8>, micros: Option<u64>) -> Result<(), AllocError>
+    ensures { OnOk result (line.new.items ≡ line.old.items ++ time_part micros) }
+{
+    let Some(micros) = micros else {
+        return Ok(());
+    };
+    line.extend_from_slice(b"  ")?;
+    put_time(alloc, line, micros)
+}
+
+#[tactic(auto, using(std::proofs::Common::append_assoc))]
+fn put_peak_part(alloc: Global, line: &mut Vec<u8>, peak: Option<u64>) -> Result<(), AllocError>
+    ensures { OnOk result (line.new.items ≡ line.old.items ++ peak_part peak) }
+{
+    let Some(peak) = peak else {
+        return Ok(());
+    };
+    line.extend_from_slice(b"  peak ")?;
+    put_size(alloc, line, peak)
+}
+
+#[tactic(auto, using(std::proofs::Common::append_assoc))]
+fn put_totals_part(
+    alloc: Global,
+    line: &mut Vec<u8>,
+    totals: Option<Totals>,
+) -> Result<(), AllocError>
+    ensures { OnOk result (line.new.items ≡ line.old.items ++ totals_part totals) }
+{
+    let Some(totals) = totals else {
+        return Ok(());
+    };
+    line.extend_from_slice(b"  ")?;
+    put_totals(alloc, line, &totals)
+}
+
+#[tactic(auto, using(std::proofs::Common::append_assoc))]
+fn put_totals(alloc: Global, line: &mut Vec<u8>, totals: &Totals) -> Result<(), AllocError>
+    ensures { OnOk result (line.new.items ≡ line.old.items ++ totals_text totals.now) }
+{
+    put_named(alloc, line, totals.paid, " paid, ")?;
+    put_named(alloc, line, totals.duplicate, " duplicate, ")?;
+    put_named(alloc, line, totals.approved, " approved, ")?;
+    put_named(alloc, line, totals.rejected, " rejected, net ")?;
+    put_net(alloc, line, totals.net)
+}
+
+// A count, and what is counted.
+#[tactic(auto, using(std::proofs::Common::append_assoc), unfolding(crate::specs::Lines::named))]
+fn put_named(alloc: Global, line: &mut Vec<u8>, count: u64, name: &str) -> Result<(), AllocError>
+    ensures { OnOk result (line.new.items ≡ line.old.items ++ named count name.now) }
+{
+    put_grouped(alloc, line, count)?;
+    line.extend_from_slice(name.as_bytes())
+}

@@ -1,0 +1,42 @@
+use crate::header::Lot;
+use crate::settlement::Totals;
+use crate::step::StepTimes;
+
+/// A file of a run. What isn't known is `None`.
+#[derive(Clone, Copy, Debug)]
+pub struct FileLog<'a> {
+    /// The path, as it was given.
+    pub path: &'a str,
+    /// How many bytes were read or written.
+    pub bytes: Option<u64>,
+    /// The SHA-256 of these bytes, in 64 hexadecimal digits.
+    pub sha256: Option<&'a str>,
+}
+
+/// The fields of a log's line. What isn't known is `None`.
+#[derive(Clone, Copy, Debug)]
+pub struct RunLog<'a> {
+    /// The version of the program.
+    pub version: &'a str,
+    /// The exit status.
+    pub status: u8,
+    /// The three numbers of a refusal.
+    pub refused: Option<[u64; 3]>,
+    /// The number of the file that failed.
+    pub file: Option<u64>,
+    pub stamp: &'a str,
+    pub workers: u16,
+    pub plain: bool,
+    pub safe: bool,
+    pub lot: Option<Lot<'a>>,
+    pub totals: Option<Totals>,
+    pub sheet: FileLog<'a>,
+    pub books: FileLog<'a>,
+    pub batch: FileLog<'a>,
+    pub response: FileLog<'a>,
+    pub books_out: FileLog<'a>,
+    pub settlement: FileLog<'a>,
+    pub steps: StepTimes,
+    /// The most memory that the program had, in kilobytes of 1,024 bytes.
+    pub peak: Option<u64>,
+}

@@ -1,0 +1,182 @@
+ghost use Rattle.std.specs.Prelude.{◌≡◌, ◌+◌, ◌-◌, ◌^◌, ◌≤◌, ◌++◌, [], ℕ, IfOk, List, None, length, min, take};
+ghost use Rattle.std.specs.Option.{option_or};
+ghost use Rattle.rx_batch.specs.declared.layout.TheConstants.{STX};
+ghost use Rattle.sha2.specs.Sha256.{sha256};
+ghost use Rattle.rx_run_log.specs.Traffic.{Adds, IsTrafficOf, count_of, last_of};
+
+use arrayvec::ArrayVec;
+use rx_batch::STX;
+use sha2::{Digest, Sha256};
+use std::alloc::AllocError;
+use std::time::Duration;
+
+// How many bytes are kept of the front and of the end.
+const KEPT: usize = 256;
+
+/// What passed through a device so far.
+#[derive(Debug, Drop)]
+pub struct Traffic {
+    bytes: u64,
+    line_feeds: u64,
+    starts: u64,
+    sum: Sha256,
+    front: ArrayVec<u8, KEPT>,
+    end: ArrayVec<u8, KEPT>,
+    first: Option<Duration>,
+    last: Option<Duration>,
+}
+
+impl Traffic {
+    /// Nothing passed yet.
+    pub fn new() -> Traffic
+        ensures traffic { IsTrafficOf result [] }
+        ensures bytes { result.bytes ≡ 0 }
+        ensures line_feeds { result.line_feeds ≡ 0 }
+        ensures starts { result.starts ≡ 0 }
+        ensures front { result.front.items ≡ [] }
+        ensures end { result.end.items ≡ [] }
+        ensures first { result.first ≡ None }
+        ensures last { result.last ≡ None }
+    {
+        Traffic {
+            bytes: 0,
+            line_feeds: 0,
+            starts: 0,
+            sum: Sha256::new(),
+            front: ArrayVec::new(),
+            end: ArrayVec::new(),
+            first: None,
+            last: None,
+        }
+    }
+
+    /// Adds a piece that passed.
+    pub fn add(&mut self, piece: &[u8])
+        ensures traffic { Adds self.old self.new piece.now }
+        ensures bytes { self.new.bytes ≡ min (self.old.bytes + length piece.now) (2 ^ 64 - 1) }
+        ensures line_feeds { self.new.line_feeds ≡ min (self.old.line_feeds + count_of 10 piece.now) (2 ^ 64 - 1) }
+        ensures starts { self.new.starts ≡ min (self.old.starts + count_of STX piece.now) (2 ^ 64 - 1) }
+        ensures first { self.new.first ≡ self.old.first }
+        ensures last { self.new.last ≡ self.old.last }
+    {
+        self.sum.update(piece);
+        self.bytes = self.bytes.saturating_add(piece.len() as u64);
+        self.line_feeds = self.line_feeds.saturating_add(count_of(b'\n', piece));
+        self.starts = self.starts.saturating_add(count_of(STX, piece));
+        keep_front(&mut self.front, piece);
+        keep_end(&mut self.end, piece);
+    }
+
+    /// Notes the times at which a call began and ended.
+    pub fn at(&mut self, begin: Option<Duration>, end: Option<Duration>)
+        ensures sum { self.new.sum ≡ self.old.sum }
+        ensures bytes { self.new.bytes ≡ self.old.bytes }
+        ensures line_feeds { self.new.line_feeds ≡ self.old.line_feeds }
+        ensures starts { self.new.starts ≡ self.old.starts }
+        ensures front { self.new.front ≡ self.old.front }
+        ensures end { self.new.end ≡ self.old.end }
+        ensures first { self.new.first ≡ option_or self.old.first begin }
+        ensures last { self.new.last ≡ end }
+    {
+        if self.first.is_none() {
+            self.first = begin;
+        }
+        self.last = end;
+    }
+
+    /// How many bytes passed, 2^64 - 1 where there are more.
+    pub fn bytes(&self) -> u64
+        ensures { result ≡ self.now.bytes }
+    {
+        self.bytes
+    }
+
+    /// How many of them are line feeds, 2^64 - 1 where there are more.
+    pub fn line_feeds(&self) -> u64
+        ensures { result ≡ self.now.line_feeds }
+    {
+        self.line_feeds
+    }
+
+    /// How many of them are STX, which begins each record of a batch, 2^64 - 1 where there are more.
+    pub fn starts(&self) -> u64
+        ensures { result ≡ self.now.starts }
+    {
+        self.starts
+    }
+
+    /// The first 256 bytes that passed, or all of fewer.
+    pub fn front(&self) -> &[u8]
+        ensures { (bytes : List ℕ) → IsTrafficOf self.now bytes → result.now ≡ take KEPT bytes }
+    {
+        self.front.as_slice()
+    }
+
+    /// The last 256 bytes that passed, or all of fewer.
+    pub fn end(&self) -> &[u8]
+        ensures { (bytes : List ℕ) → IsTrafficOf self.now bytes → result.now ≡ last_of KEPT bytes }
+    {
+        self.end.as_slice()
+    }
+
+    /// When the first call began, by the clock of the device, where that answers.
+    pub fn first(&self) -> Option<Duration>
+        ensures { result ≡ self.now.first }
+    {
+        self.first
+    }
+
+    /// When the last call ended, by the clock of the device, where that answers.
+    pub fn last(&self) -> Option<Duration>
+        ensures { result ≡ self.now.last }
+    {
+        self.last
+    }
+
+    /// The SHA-256 of the bytes that passed.
+    ///
+    /// # Errors
+    ///
+    /// Out of memory.
+    pub fn digest(&self) -> Result<[u8; 32], AllocError>
+        ensures { (bytes : List ℕ) → IsTrafficOf self.now bytes → IfOk result (λ digest. digest ≡ sha256 bytes) }
+    {
+        Ok(self.sum.clone()?.finalize())
+    }
+}
+
+// How many of the bytes are `mark`.
+fn count_of(mark: u8, bytes: &[u8]) -> u64
+    ensures { result ≡ count_of mark bytes.now }
+{
+    bytes.iter().filter(|byte| **byte == mark).count() as u64
+}
+
+// Keeps what a piece adds to the front.
+fn keep_front(front: &mut ArrayVec<u8, KEPT>, piece: &[u8])
+    ensures { front.new.items ≡ take KEPT (front.old.items ++ piece.now) }
+{
+    let count = front.remaining_capacity().min(piece.len());
+    let _ = front.try_extend_from_slice(&piece[..count]);
+}
+
+// Keeps the end of what was kept and of the piece.
+fn keep_end(end: &mut ArrayVec<u8, KEPT>, piece: &[u8])
+    ensures { end.new.items ≡ last_of KEPT (end.old.items ++ piece.now) }
+{
+    let added = last_of(piece, KEPT);
+    let kept = last_of(end.as_slice(), KEPT - added.len());
+    let mut joined = ArrayVec::new();
+    let _ = joined.try_extend_from_slice(kept);
+    let _ = joined.try_extend_from_slice(added);
+    *end = joined;
+}
+
+// The last `count` bytes, or all of fewer.
+fn last_of(bytes: &[u8], count: usize) -> &[u8]
+    ensures value { result.now ≡ last_of count bytes.now }
+    ensures fits { length result.now ≤ count }
+{
+    let passed = bytes.len().saturating_sub(count);
+    &bytes[passed..]
+}

@@ -1,0 +1,55 @@
+ghost use Rattle.std.specs.Prelude.{◌≡◌, [], IfSome, Some};
+ghost use Rattle.rx_run_log.specs.Traffic.{Adds, IsTrafficOf};
+
+use crate::traffic::Traffic;
+use std::time::{Clock, Duration};
+
+/// A device and its traffic: what a sink takes, and what a source gives. It answers what the device answers.
+#[derive(Debug, Drop)]
+pub struct Watched<'c, D, C> {
+    pub(crate) device: D,
+    pub(crate) traffic: Traffic,
+    pub(crate) clock: &'c C,
+}
+
+impl<'c, D, C: Clock> Watched<'c, D, C> {
+    /// The device, through which nothing passed yet, with the clock for its times.
+    pub fn new(device: D, clock: &'c C) -> Watched<'c, D, C>
+        ensures device { result.device ≡ device }
+        ensures traffic { IsTrafficOf result.traffic [] }
+    {
+        Watched {
+            device,
+            traffic: Traffic::new(),
+            clock,
+        }
+    }
+
+    /// What passed so far.
+    pub fn traffic(&self) -> &Traffic
+        ensures { result.now ≡ self.now.traffic }
+    {
+        &self.traffic
+    }
+
+    // Adds what passed in a call that began then and ends now.
+    pub(crate) fn note(&mut self, begin: Option<Duration>, piece: &[u8])
+        ensures device { self.new.device ≡ self.old.device }
+        ensures traffic { Adds self.old.traffic self.new.traffic piece.now }
+        ensures first { IfSome self.old.traffic.first (λ time. self.new.traffic.first ≡ Some time) }
+    {
+        let end = self.clock.monotonic().ok();
+        let traffic = &mut self.traffic;
+        traffic.add(piece);
+        traffic.at(begin, end);
+    }
+}
+
+impl<'c, D: Drop, C: Clock> Watched<'c, D, C> {
+    /// What passed; the device is dropped.
+    pub fn into_traffic(self) -> Traffic
+        ensures { result ≡ self.entry.traffic }
+    {
+        self.traffic
+    }
+}

@@ -1,3 +1,0 @@
--- Plumbing: which files there are.
-pub mod Faults
-pub mod Refusals
