@@ -3,6 +3,7 @@ use Rattle.std.specs.Prelude.{◌≡◌, ℕ, ◌≤◌, List, ◌++◌, length,
 use Rattle.std.specs.List.{flat_map}
 use Rattle.rx_sorted.specs.Ascending.{IsAscending}
 use Rattle.rx_fields.specs.Order.{id_cmp, key_cmp}
+use Rattle.rx_fields.specs.declared.limits.TheConstants.{MOST_LINES}
 use Rattle.rx_ledger.specs.declared.member.Member.{Member}
 use Rattle.rx_ledger.specs.declared.row.Row.{Row}
 use Rattle.rx_ledger.specs.Members.{member_cmp, member_key}
@@ -35,7 +36,7 @@ total_lines totals = map (λ t. line.Total t) totals
 abbrev pub lines_in : List Member → List ℕ → List Row → List TotalLine → List Line
 lines_in ms ds rows totals = member_lines ms ds ++ (claim_lines rows ++ total_lines totals)
 
--- the text prints these lists, of at most 1,000,000 lines: the lists ascend, and each line is one of the head's version.
+-- the text prints these lists, of at most `MOST_LINES` lines: the lists ascend, and each line is one of the head's version.
 -- Whether the member of a row is listed, or a member of a total's family, isn't said.
 pub record AreLists (text : List ℕ) (p : PrintedParts) : Type 0 where
   pub printed : text ≡ printed_text p
@@ -45,4 +46,4 @@ pub record AreLists (text : List ℕ) (p : PrintedParts) : Type 0 where
   pub rows_rise : IsAscending key_cmp row_key p.ledger.rows
   pub totals_rise : IsAscending id_cmp total_family p.totals
   pub lines : All (IsLine p.head.version) (lines_of p)
-  pub few : line_feeds text ≤ 1_000_000
+  pub few : line_feeds text ≤ MOST_LINES

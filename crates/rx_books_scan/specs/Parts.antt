@@ -4,6 +4,7 @@ use Rattle.std.specs.List.{flat_map}
 use Rattle.std.specs.Vec.{vec_items}
 use Rattle.rx_sorted.specs.Ascending.{IsAscending}
 use Rattle.rx_fields.specs.Order.{id_cmp, key_cmp}
+use Rattle.rx_fields.specs.declared.limits.TheConstants.{MOST_LINES}
 use Rattle.rx_ledger.specs.Members.{member_cmp, member_key}
 use Rattle.rx_ledger.specs.Rows.{row_key}
 use Rattle.rx_books_text.specs.declared.head.Head.{Head}
@@ -42,7 +43,7 @@ printed_lists l =
       totals = l.totals;
     }
 
--- the lists are those of the parts, behind one another and in order; with the head line there are at most 1,000,000 lines
+-- the lists are those of the parts, behind one another and in order; with the head line there are at most `MOST_LINES` lines
 pub record IsMadeOf (h : Head) (ps : List Part) (l : Lists) : Type 0 where
   pub head : l.head ≡ h
   pub lines : lines_of (printed_lists l) ≡ flat_map part_lines ps
@@ -50,4 +51,4 @@ pub record IsMadeOf (h : Head) (ps : List Part) (l : Lists) : Type 0 where
   pub members_rise : IsAscending member_cmp member_key l.members
   pub rows_rise : IsAscending key_cmp row_key l.rows
   pub totals_rise : IsAscending id_cmp total_family l.totals
-  pub few : length l.members + length l.rows + length l.totals < 1_000_000
+  pub few : length l.members + length l.rows + length l.totals < MOST_LINES

@@ -23,10 +23,8 @@ ghost use Rattle.rx_books_scan.specs.Parts.{IsMadeOf};
 use crate::members::Members;
 use crate::part::Part;
 use crate::whole::{Whole, join_parts};
+use rx_fields::MOST_LINES;
 use std::alloc::Global;
-
-// The lines that a file may have, with its head line.
-const MOST_LINES: usize = 1_000_000;
 
 /// The lists of the parts of a text, under its head; None where they don't ascend, or are no lines in order, or are too
 /// many, or for want of memory.

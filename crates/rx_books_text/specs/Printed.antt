@@ -3,6 +3,7 @@ use Rattle.std.specs.Prelude.{◌≡◌, ℕ, ◌≤◌, Bool, true, ◌==◌, L
 use Rattle.std.specs.List.{flat_map, list_all, list_any}
 use Rattle.rx_sorted.specs.Ascending.{IsAscending}
 use Rattle.rx_fields.specs.Order.{id_cmp}
+use Rattle.rx_fields.specs.declared.limits.TheConstants.{MOST_LINES}
 use Rattle.rx_ledger.specs.declared.member.Member.{Member}
 use Rattle.rx_ledger.specs.Ledger.{Ledger, IsLedger}
 use Rattle.rx_ledger.specs.Members.{of_family}
@@ -55,4 +56,4 @@ pub record IsPrinted (p : PrintedParts) : Type 0 where
   pub totals_rise : IsAscending id_cmp total_family p.totals
   pub families : list_all (λ t. has_member p.ledger t.family) p.totals ≡ true
   pub lines : All (IsLine p.head.version) (lines_of p)
-  pub few : line_feeds (printed_text p) ≤ 1_000_000
+  pub few : line_feeds (printed_text p) ≤ MOST_LINES

@@ -2,6 +2,7 @@
 use Rattle.std.specs.Prelude.{◌≡◌, ℕ, ◌+◌, ◌<◌, ◌≤◌, Bool, true, false, ◌&&◌, ◌==◌, List, [], ◌∷◌, ◌++◌, length}
 use Rattle.rx_sorted.specs.Ascending.{is_past}
 use Rattle.rx_fields.specs.Order.{id_cmp, key_cmp}
+use Rattle.rx_fields.specs.declared.limits.TheConstants.{MOST_LINES}
 use Rattle.rx_ledger.specs.Ledger.{empty, is_listed, with_member, with_row}
 use Rattle.rx_ledger.specs.Members.{member_cmp, member_key}
 use Rattle.rx_ledger.specs.Rows.{member_of_row, row_key}
@@ -63,8 +64,8 @@ pub data FaultBehind (p : PrintedParts) (n : ℕ) (bytes : List ℕ) : BooksFaul
 
 -- the text is no books file, and has this fault: too many line feeds, no head line, or the first fault of its lines
 pub data HasFault (text : List ℕ) : BooksFault → Type 0 where
-  too_much : 1_000_000 < line_feeds text → HasFault text fault.TooMuch
-  no_head : line_feeds text ≤ 1_000_000 → ((h : Head) → IsPeriod h.period → ¬ BeginsWith text (head_text h))
+  too_much : MOST_LINES < line_feeds text → HasFault text fault.TooMuch
+  no_head : line_feeds text ≤ MOST_LINES → ((h : Head) → IsPeriod h.period → ¬ BeginsWith text (head_text h))
       → HasFault text fault.Head
-  behind : (front rest : List ℕ) (p : PrintedParts) (n : ℕ) (f : BooksFault) → line_feeds text ≤ 1_000_000
+  behind : (front rest : List ℕ) (p : PrintedParts) (n : ℕ) (f : BooksFault) → line_feeds text ≤ MOST_LINES
       → text ≡ front ++ rest → IsFront front p n → FaultBehind p n rest f → HasFault text f

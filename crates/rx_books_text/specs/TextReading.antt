@@ -1,6 +1,7 @@
 -- Plumbing: what a text is read as, line by line (docs/FORMATS.md, "Books file").
 use Rattle.std.specs.Prelude.{ℕ, ◌+◌, nat_lt, ◌==◌, if◌then◌else◌, List, [], ◌∷◌, length, Option, Some, None, Result, Ok, Err}
 use Rattle.std.specs.List.{slice_split}
+use Rattle.rx_fields.specs.declared.limits.TheConstants.{MOST_LINES}
 use Rattle.rx_books_text.specs.declared.fault.BooksFault.{BooksFault}
 use Rattle.rx_books_text.specs.declared.fault.BooksFault.TheVariants as fault
 use Rattle.rx_books_text.specs.declared.head.Head.{Head}
@@ -45,4 +46,4 @@ text_read (text ∷ next ∷ texts) = behind_head (head_of text) (next ∷ texts
 
 -- what the text of a books file holds, or its first fault
 abbrev pub printed_of : List ℕ → Result PrintedParts BooksFault
-printed_of text = if nat_lt 1_000_000 (line_feeds text) then Err fault.TooMuch else text_read (lines text)
+printed_of text = if nat_lt MOST_LINES (line_feeds text) then Err fault.TooMuch else text_read (lines text)

@@ -13,14 +13,12 @@ use crate::head::read_head;
 use crate::line::{Line, MemberLine, TotalLine, read_line};
 use crate::printed::Printed;
 use memchr::memchr;
-use rx_fields::Id;
+use rx_fields::{Id, MOST_LINES};
 use rx_ledger::{AddError, Member, Row};
 use rx_sorted::Keyed;
 use std::alloc::Global;
 
 const LINE_FEED: u8 = b'\n';
-
-const MOST_LINE_FEEDS: usize = 1_000_000;
 
 /// What a books file prints, or its first fault (docs/FORMATS.md, "Books file"). No figure is compared with a sum, so
 /// Totals is never answered.
@@ -39,7 +37,7 @@ pub fn read_printed(alloc: Global, text: &[u8]) -> Result<Printed, BooksFault>
 fn read_text(alloc: Global, text: &[u8]) -> Result<Printed, BooksFault>
     ensures { Gives result (printed_of text.now) }
 {
-    if line_feeds(text) > MOST_LINE_FEEDS {
+    if line_feeds(text) > MOST_LINES {
         return Err(BooksFault::TooMuch);
     }
     let Some(end) = memchr(LINE_FEED, text) else {

@@ -2,6 +2,7 @@
 use Rattle.std.specs.Prelude.{ℕ, ◌+◌, ◌/◌, ◌%◌, nat_lt, if◌then◌else◌, List, [], ◌∷◌, ◌++◌}
 use Rattle.std.specs.Prelude.{Option, Some, None, codes, count_by, drop, length, take}
 use Rattle.std.specs.Fmt.{decimal}
+use Rattle.rx_batch.specs.declared.layout.TheConstants.{ETX}
 use Rattle.rx_differ.specs.Difference.{is_end, piece_of}
 use Rattle.rx_print.specs.Escape.{escaped}
 use Rattle.rx_print.specs.declared.style.Style.TheVariants.{Terminal}
@@ -31,7 +32,7 @@ same_line t =
 -- the byte that ends a line or a record, the word for it, and the number of the first: a record 0 is the header
 abbrev pub end_of : Cut → ℕ
 end_of Line = 10
-end_of Record = 3
+end_of Record = ETX
 
 abbrev pub word_of : Cut → List ℕ
 word_of Line = codes "line"

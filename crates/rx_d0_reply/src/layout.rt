@@ -1,4 +1,2 @@
-//! The bytes that hold a reply together (docs/FORMATS.md, "Notation").
-
-/// The bytes of the header.
+// How many bytes the header of a reply has (docs/FORMATS.md, "Reply transmission").
 pub(crate) const HEADER: usize = 31;

@@ -1,10 +1,10 @@
 -- Meaning: the header of a request (docs/FORMATS.md, "Request header").
-use Rattle.std.specs.Prelude.{ℕ, ◌-◌, Bool, ◌&&◌, nat_le, List, ◌++◌, length, take, replicate, slice_index, slice_range}
+use Rattle.std.specs.Prelude.{ℕ, ◌+◌, ◌-◌, Bool, ◌&&◌, nat_le, List, ◌++◌, length, take, replicate, slice_index, slice_range}
 use Rattle.std.specs.List.{list_all}
 use Rattle.rx_text.specs.Bytes.{is_printable}
 use Rattle.rx_d0_values.specs.declared.echo.EchoParts.{EchoParts}
 use Rattle.rx_d0_request.specs.declared.header.Header.{Header}
-use Rattle.rx_d0_request.specs.declared.header.TheConstants.{HEADER_LENGTH}
+use Rattle.rx_d0_request.specs.declared.header.TheConstants.{BIN_LENGTH, HEADER_LENGTH, PCN_AT, PCN_LENGTH}
 
 -- the bytes of the header, missing ones blanks
 unfoldable pub header_bytes : List ℕ → List ℕ
@@ -14,10 +14,10 @@ header_bytes bytes = take HEADER_LENGTH bytes ++ replicate (HEADER_LENGTH - leng
 unfoldable pub header_of : List ℕ → Header
 header_of h =
     record {
-      bin = slice_range h 0 6;
+      bin = slice_range h 0 BIN_LENGTH;
       version = slice_range h 6 8;
       code = slice_range h 8 10;
-      pcn = slice_range h 10 20;
+      pcn = slice_range h PCN_AT (PCN_AT + PCN_LENGTH);
       count = slice_index h 20;
       qualifier = slice_range h 21 23;
       provider = slice_range h 23 38;

@@ -9,13 +9,22 @@ use rx_text::all_printable;
 /// How many bytes the header of a request has (docs/FORMATS.md, "Request header").
 pub const HEADER_LENGTH: usize = 56;
 
+/// How many bytes the BIN has, with which a header begins.
+pub const BIN_LENGTH: usize = 6;
+
+/// Where the processor control number stands in a header, counted in bytes from 0.
+pub const PCN_AT: usize = 10;
+
+/// How many bytes the processor control number has.
+pub const PCN_LENGTH: usize = 10;
+
 /// The fields of a header, missing bytes being blanks.
 #[derive(Clone, Copy, Debug)]
 pub(crate) struct Header {
-    pub(crate) bin: [u8; 6],
+    pub(crate) bin: [u8; BIN_LENGTH],
     pub(crate) version: [u8; 2],
     pub(crate) code: [u8; 2],
-    pub(crate) pcn: [u8; 10],
+    pub(crate) pcn: [u8; PCN_LENGTH],
     pub(crate) count: u8,
     pub(crate) qualifier: [u8; 2],
     pub(crate) provider: [u8; 15],
@@ -76,7 +85,7 @@ impl Header {
             bin: bytes_at(front, 0),
             version: bytes_at(front, 6),
             code: bytes_at(front, 8),
-            pcn: bytes_at(front, 10),
+            pcn: bytes_at(front, PCN_AT),
             count: front[20],
             qualifier: bytes_at(front, 21),
             provider: bytes_at(front, 23),

@@ -25,6 +25,6 @@ mod reading;
 mod request;
 mod value;
 
-pub use header::HEADER_LENGTH;
+pub use header::{BIN_LENGTH, HEADER_LENGTH, PCN_AT, PCN_LENGTH};
 pub use law::written_is_heard;
 pub use request::decode;

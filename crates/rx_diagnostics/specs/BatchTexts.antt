@@ -8,7 +8,10 @@ use Rattle.std.specs.Result.{result_unwrap_or}
 use Rattle.std.specs.Str.{bytes_eq}
 use Rattle.rx_batch.specs.declared.fault.BatchFault.{BatchFault}
 use Rattle.rx_batch.specs.declared.fault.BatchFault.TheVariants as fault
+use Rattle.rx_batch.specs.declared.layout.TheConstants.{BATCH_NUMBER_AT, CREATION_DATE_AT, CREATION_TIME_AT, ETX, HEADER_LENGTH}
+use Rattle.rx_batch.specs.declared.layout.TheConstants.{STX, TRAILER_LENGTH}
 use Rattle.rx_fields.specs.Calendar.{date_of}
+use Rattle.rx_fields.specs.declared.limits.TheConstants.{MOST_DETAILS}
 use Rattle.rx_fields.specs.Clock.{time_of}
 use Rattle.rx_fields.specs.Digits.{number_of}
 use Rattle.rx_text.specs.Bytes.{all_digits}
@@ -29,7 +32,7 @@ kind_at text at = if at == 0 then looks_like text else None
 
 -- an ETX, which ends a record, stands before the place
 abbrev pub ends_before : List ℕ → ℕ → Bool
-ends_before text at = bytes_eq (slice_range text (at - 1) at) (3 ∷ [])
+ends_before text at = bytes_eq (slice_range text (at - 1) at) (ETX ∷ [])
 
 abbrev pub outside_with : List ℕ → Option (List ℕ) → Bool → List ℕ
 outside_with there (Some kind) behind_end = there ++ (codes ": STX (X'02') is wanted; this looks like " ++ kind)
@@ -55,7 +58,7 @@ no_header_text text at =
 -- what follows the trailer
 unfoldable pub after_text : List ℕ → ℕ → List ℕ
 after_text text at =
-    if begins (drop at text) (2 ∷ codes "00")
+    if begins (drop at text) (STX ∷ codes "00")
     then codes "a second batch begins behind the trailer: one batch a file is read"
     else (decimal (length (drop at text)) ++ (codes " bytes follow the trailer, "
     ++ (seen_at text at ++ codes ": the file ends with the trailer")))
@@ -85,22 +88,22 @@ file_type_text at body =
 -- from the creation time on
 unfoldable pub time_text : ℕ → List ℕ → List ℕ
 time_text at body =
-    if is_none (time_of (slice_range body 42 46))
-    then field_text at (codes "creation time") body 42 46 (codes "HHMM from 0000 to 2359 is wanted")
+    if is_none (time_of (slice_range body CREATION_TIME_AT 46))
+    then field_text at (codes "creation time") body CREATION_TIME_AT 46 (codes "HHMM from 0000 to 2359 is wanted")
     else file_type_text at body
 
 -- from the creation date on
 unfoldable pub date_text : ℕ → List ℕ → List ℕ
 date_text at body =
-    if is_err (date_of (slice_range body 34 42))
-    then field_text at (codes "creation date") body 34 42 (date_wanted (slice_range body 34 42))
+    if is_err (date_of (slice_range body CREATION_DATE_AT CREATION_TIME_AT))
+    then field_text at (codes "creation date") body CREATION_DATE_AT CREATION_TIME_AT (date_wanted (slice_range body CREATION_DATE_AT CREATION_TIME_AT))
     else time_text at body
 
 -- from the batch number on
 unfoldable pub lot_text : ℕ → List ℕ → List ℕ
 lot_text at body =
-    if all_digits (slice_range body 27 34) then date_text at body
-    else field_text at (codes "batch number") body 27 34 (codes "7 digits are wanted")
+    if all_digits (slice_range body BATCH_NUMBER_AT CREATION_DATE_AT) then date_text at body
+    else field_text at (codes "batch number") body BATCH_NUMBER_AT CREATION_DATE_AT (codes "7 digits are wanted")
 
 -- all of them
 unfoldable pub fields_text : ℕ → List ℕ → List ℕ
@@ -111,8 +114,9 @@ fields_text at body =
 -- a header: its length, or that it is a response file's, or its first field that is wrong
 unfoldable pub header_text : ℕ → List ℕ → List ℕ
 header_text at body =
-    if not (length body == 73)
-    then codes "the header has " ++ (decimal (length body + 2) ++ codes " bytes: 75 are wanted")
+    if not (length body + 2 == HEADER_LENGTH)
+    then codes "the header has " ++ (decimal (length body + 2) ++ (codes " bytes: "
+    ++ (decimal HEADER_LENGTH ++ codes " are wanted")))
     else (if bytes_eq (slice_range body 2 3) (codes "R")
     then codes "type \"R\" at byte " ++ (decimal (at + 3) ++ codes ": this is a response file, T is wanted")
     else fields_text at body)
@@ -121,7 +125,8 @@ header_text at body =
 unfoldable pub trailer_text : ℕ → List ℕ → List ℕ
 trailer_text at body =
     if nat_lt (length body) 19
-    then codes "the trailer has " ++ (decimal (length body + 2) ++ codes " bytes: 21 to 56 are wanted")
+    then codes "the trailer has " ++ (decimal (length body + 2) ++ (codes " bytes: 21 to "
+    ++ (decimal TRAILER_LENGTH ++ codes " are wanted")))
     else (if nat_lt 54 (length body)
     then codes "the trailer's message has " ++ (decimal (length body - 19) ++ codes " bytes: at most 35 are wanted")
     else (if not (all_digits (slice_range body 2 9))
@@ -132,7 +137,7 @@ trailer_text at body =
 
 -- how many bytes behind a record's STX the next mark stands, STX or ETX
 abbrev pub to_mark : List ℕ → ℕ
-to_mark rest = position_or_len (λ b. b == 2 || b == 3) rest
+to_mark rest = position_or_len (λ b. b == STX || b == ETX) rest
 
 -- a record that isn't closed
 unfoldable pub unclosed_text : ℕ → List ℕ → List ℕ
@@ -168,11 +173,11 @@ no_trailer_text details =
 unfoldable pub number_text : List ℕ → List ℕ → List ℕ
 number_text header trailer =
     codes "the trailer has batch number " ++ (quoted_text (slice_range trailer 2 9)
-    ++ (codes ", the header " ++ quoted_text (slice_range header 27 34)))
+    ++ (codes ", the header " ++ quoted_text (slice_range header BATCH_NUMBER_AT CREATION_DATE_AT)))
 
 -- the first record of a text
 abbrev pub first_body : List ℕ → List ℕ
-first_body text = body_at text (position_or_len (λ b. b == 2) text)
+first_body text = body_at text (position_or_len (λ b. b == STX) text)
 
 -- a trailer that counts otherwise
 unfoldable pub count_text : List ℕ → ℕ → List ℕ
@@ -181,7 +186,8 @@ count_text trailer details =
     ++ (codes " records, the file has " ++ (decimal details ++ codes ": it may have been cut or joined")))
 
 abbrev pub too_much_text : List ℕ
-too_much_text = codes "this is detail 100001: at most 100000 are read"
+too_much_text =
+    codes "this is detail " ++ (decimal (MOST_DETAILS + 1) ++ (codes ": at most " ++ (decimal MOST_DETAILS ++ codes " are read")))
 
 abbrev pub no_memory_text : List ℕ
 no_memory_text = codes "more memory was wanted than there is"

@@ -7,6 +7,7 @@ use Rattle.std.specs.Str.{bytes_eq}
 use Rattle.rx_books_text.specs.declared.fault.BooksFault.{BooksFault}
 use Rattle.rx_books_text.specs.declared.fault.BooksFault.TheVariants as fault
 use Rattle.rx_fields.specs.Calendar.{date_of}
+use Rattle.rx_fields.specs.declared.limits.TheConstants.{MOST_LINES}
 use Rattle.rx_text.specs.Bytes.{all_digits, all_printable}
 use Rattle.rx_diagnostics.specs.Looks.{begins, has_mark, looks_like}
 use Rattle.rx_diagnostics.specs.Parts.{field_of, line_feeds, line_of}
@@ -115,9 +116,9 @@ called kind.Total = codes "total"
 
 -- in what order the lines of a kind stand, and the command that sorts these lines
 abbrev pub order_of : LineKind → List ℕ
-order_of kind.Member = codes "members ascend by family, then person (sort -t'|' -k2,2 -k3,3)"
-order_of kind.Claim = codes "claims ascend by provider, reference and date (sort -t'|' -k2,2 -k3,3n -k4,4)"
-order_of kind.Total = codes "totals ascend by family (sort -t'|' -k2,2)"
+order_of kind.Member = codes "members ascend by family, then person (LC_ALL=C sort -t'|' -k2,2 -k3,3)"
+order_of kind.Claim = codes "claims ascend by provider, reference and date (LC_ALL=C sort -t'|' -k2,2 -k3,3n -k4,4)"
+order_of kind.Total = codes "totals ascend by family (LC_ALL=C sort -t'|' -k2,2)"
 
 -- the key of a line: family and person, or provider, reference and date, or family
 abbrev pub key_of : List ℕ → List ℕ
@@ -147,7 +148,7 @@ order_text line above =
 -- ---- each fault
 
 abbrev pub too_many_text : List ℕ → List ℕ
-too_many_text text = decimal (line_feeds text) ++ codes " line feeds: at most 1000000 are read"
+too_many_text text = decimal (line_feeds text) ++ (codes " line feeds: at most " ++ (decimal MOST_LINES ++ codes " are read"))
 
 abbrev pub no_memory_text : List ℕ
 no_memory_text = codes "more memory was wanted than there is"
@@ -170,5 +171,5 @@ unread_books_text (fault.Line n) = codes "no line of the head's version, or no l
 unread_books_text (fault.Order n) = codes "the line stands out of order"
 unread_books_text (fault.UnknownMember n) = codes "a member who isn't listed, or a family without one"
 unread_books_text (fault.Totals n) = codes "a figure isn't the sum over the claims, or a total line is lacking"
-unread_books_text fault.TooMuch = codes "more than 1000000 lines"
+unread_books_text fault.TooMuch = codes "more than " ++ (decimal MOST_LINES ++ codes " lines")
 unread_books_text fault.Memory = no_memory_text

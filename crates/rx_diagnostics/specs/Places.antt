@@ -2,6 +2,7 @@
 use Rattle.std.specs.Prelude.{◌≡◌, ℕ, ◌==◌, List, take, count_by, Option, Some, None}
 use Rattle.rx_batch.specs.declared.fault.BatchFault.{BatchFault}
 use Rattle.rx_batch.specs.Fault.{place_of}
+use Rattle.rx_batch.specs.declared.layout.TheConstants.{STX}
 use Rattle.rx_books_text.specs.declared.fault.BooksFault.{BooksFault}
 use Rattle.rx_books_text.specs.declared.fault.BooksFault.TheVariants as books
 use Rattle.rx_books_text.specs.Fault.{line_of_fault}
@@ -22,7 +23,7 @@ books_place fault = line_place (line_of_fault fault)
 
 -- how many records begin before a byte: the number of the record that begins there, the header's being 0
 abbrev pub starts_before : List ℕ → ℕ → ℕ
-starts_before text byte = count_by (λ b. b == 2) (take byte text)
+starts_before text byte = count_by (λ b. b == STX) (take byte text)
 
 abbrev pub record_place : List ℕ → Option ℕ → Place
 record_place text (Some byte) = place.Record (starts_before text byte) byte

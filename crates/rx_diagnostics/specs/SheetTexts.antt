@@ -1,10 +1,22 @@
 -- Meaning: what is said of faults of a plan sheet: the key, and what is wanted under it.
 use Rattle.std.specs.Prelude.{◌≡◌, ℕ, List, ◌++◌, codes}
+use Rattle.std.specs.Fmt.{decimal}
+use Rattle.rx_fields.specs.declared.limits.TheConstants.{MOST_CENTS}
+use Rattle.rx_ledger.specs.declared.drug.TheConstants.{MOST_PRICE}
+use Rattle.rx_ledger.specs.declared.figures.TheConstants.{MOST_LIMIT}
 use Rattle.rx_ledger.specs.declared.sheet_key.SheetKey.{SheetKey}
 use Rattle.rx_ledger.specs.declared.sheet_key.SheetKey.TheVariants as key
 use Rattle.rx_sheet.specs.Names.{name_of}
 use Rattle.rx_sheet.specs.declared.fault.SheetFault.{SheetFault}
 use Rattle.rx_sheet.specs.declared.fault.SheetFault.TheVariants as fault
+
+-- an amount up to a limit, as this one
+abbrev pub cents_wanted : ℕ → List ℕ → List ℕ
+cents_wanted most example = codes "whole cents from 0 to " ++ (decimal most ++ (codes " are wanted, as " ++ example))
+
+-- a price of a drug
+abbrev pub price_wanted : List ℕ
+price_wanted = codes "hundredths of a cent per unit are wanted, a whole number from 0 to " ++ decimal MOST_PRICE
 
 -- what is wanted under each key, in its order
 unfoldable pub wanted_at : SheetKey → List ℕ
@@ -12,16 +24,16 @@ wanted_at key.Bin = codes "6 digits in quotes are wanted, as \"900001\""
 wanted_at key.Pcn = codes "0 to 10 printable characters in quotes are wanted, as \"RXDEMO\""
 wanted_at key.PeriodFirst = codes "8 digits in quotes are wanted, as \"20260101\""
 wanted_at key.PeriodLast = codes "8 digits in quotes are wanted, as \"20261231\""
-wanted_at key.MemberDeductible = codes "whole cents from 0 to 99999999999 are wanted, as 10000"
-wanted_at key.FamilyMaximum = codes "whole cents from 0 to 99999999999 are wanted, as 30000"
+wanted_at key.MemberDeductible = cents_wanted MOST_LIMIT (codes "10000")
+wanted_at key.FamilyMaximum = cents_wanted MOST_LIMIT (codes "30000")
 wanted_at key.RefillPercent = codes "a whole number from 0 to 100 is wanted, as 75"
 wanted_at key.MaxDays = codes "a whole number from 1 to 999 is wanted, as 90"
-wanted_at key.Fee = codes "whole cents from 0 to 99999999 are wanted, as 150"
+wanted_at key.Fee = cents_wanted MOST_CENTS (codes "150")
 wanted_at key.Tiers = codes "a table is wanted, as [tiers] with a line 1 = 1000"
 wanted_at key.Drugs = codes "tables are wanted, as [drugs.00001000101] with tier and price"
 wanted_at key.Tier = codes "the name of one of the tiers is wanted in quotes"
-wanted_at key.Price = codes "hundredths of a cent per unit are wanted, a whole number from 0 to 1000000000"
-wanted_at key.FamilyDeductible = codes "whole cents from 0 to 99999999999 are wanted, as 10000"
+wanted_at key.Price = price_wanted
+wanted_at key.FamilyDeductible = cents_wanted MOST_LIMIT (codes "10000")
 
 -- a key that isn't there
 abbrev pub missing_text : SheetKey → List ℕ

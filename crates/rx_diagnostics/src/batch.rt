@@ -1,6 +1,6 @@
 ghost use Rattle.std.specs.Prelude.{◌≡◌, [], IfOk, option_copied, option_map, string_bytes};
 ghost use Rattle.rx_diagnostics.specs.BatchTexts.{after_text, batch_text, details_before, ends_before, kind_at, no_header_text};
-ghost use Rattle.rx_diagnostics.specs.BatchTexts.{no_trailer_text, outside_text, outside_with, seen_at, unread_batch_text};
+ghost use Rattle.rx_diagnostics.specs.BatchTexts.{no_trailer_text, outside_text, outside_with, seen_at, too_much_text, unread_batch_text};
 ghost use Rattle.rx_diagnostics.specs.Places.{batch_place, unread_batch_place};
 
 use crate::batch_record::{
@@ -12,7 +12,7 @@ use crate::place::{Place, front, starts_before};
 use crate::quoting::{from, part, quoted, said};
 use crate::words::{Said, Words};
 use rx_batch::BatchFault;
-use rx_fields::Memory;
+use rx_fields::{MOST_DETAILS, Memory};
 use std::alloc::{AllocError, Global};
 
 /// The words of a fault of this batch file (docs/FORMATS.md, "Faults of a batch file"): the record and the byte at which
@@ -40,15 +40,15 @@ pub fn unread_batch_words(alloc: Global, fault: BatchFault) -> Result<Words, Mem
     ensures text { IfOk result (λ words. string_bytes words.text ≡ unread_batch_text fault) }
     ensures mend { IfOk result (λ words. words.mend.now ≡ []) }
 {
-    let said = Said::plain(said(alloc, unread_text(fault))?);
+    let said = Said::plain(unread_text(alloc, fault)?);
     Ok(Words::of(Place::of_unread_batch(fault), said))
 }
 
 // What is said where the text isn't known.
-fn unread_text(fault: BatchFault) -> &'static str
-    ensures { result.now ≡ unread_batch_text fault }
+fn unread_text(alloc: Global, fault: BatchFault) -> Result<String, AllocError>
+    ensures { IfOk result (λ text. string_bytes text ≡ unread_batch_text fault) }
 {
-    match fault {
+    let text = match fault {
         BatchFault::Outside { .. } =>
             "a byte stands where a record could begin: STX (X'02') is wanted",
         BatchFault::NoHeader { .. } => "a header is wanted, which begins STX 00",
@@ -63,9 +63,19 @@ fn unread_text(fault: BatchFault) -> &'static str
         BatchFault::CountDiffers { .. } =>
             "the trailer's count isn't the number of details, nor that number plus two",
         BatchFault::AfterTrailer { .. } => "bytes follow the trailer",
-        BatchFault::TooMuch { .. } => "this is detail 100001: at most 100000 are read",
+        BatchFault::TooMuch { .. } => return too_much_words(alloc),
         BatchFault::Memory => "more memory was wanted than there is",
-    }
+    };
+    said(alloc, text)
+}
+
+// What is said of the first detail that is too many.
+#[tactic(auto, using(std::proofs::Common::append_assoc))]
+fn too_much_words(alloc: Global) -> Result<String, AllocError>
+    ensures { IfOk result (λ said. string_bytes said ≡ too_much_text) }
+{
+    let place = MOST_DETAILS + 1;
+    format!(in alloc; "this is detail {place}: at most {MOST_DETAILS} are read")
 }
 
 fn said_of(alloc: Global, fault: BatchFault, text: &[u8]) -> Result<String, AllocError>
@@ -87,7 +97,7 @@ fn said_of(alloc: Global, fault: BatchFault, text: &[u8]) -> Result<String, Allo
             count_words(alloc, body_at(text, at), details_before(text, at))
         }
         BatchFault::AfterTrailer { at } => after_words(alloc, text, at),
-        BatchFault::TooMuch { .. } => said(alloc, "this is detail 100001: at most 100000 are read"),
+        BatchFault::TooMuch { .. } => too_much_words(alloc),
         BatchFault::Memory => said(alloc, "more memory was wanted than there is"),
     }
 }

@@ -8,6 +8,9 @@ ghost use Rattle.rx_diagnostics.specs.Parts.{behind, body_at};
 use crate::place::front;
 use crate::quoting::{from, part, quoted};
 use memchr::{memchr, memchr2};
+use rx_batch::{
+    BATCH_NUMBER_AT, CREATION_DATE_AT, CREATION_TIME_AT, ETX, HEADER_LENGTH, STX, TRAILER_LENGTH,
+};
 use rx_fields::{Time, date_read, number_read};
 use rx_text::all_digits;
 use std::alloc::{AllocError, Global};
@@ -24,14 +27,14 @@ pub(crate) fn body_at(text: &[u8], at: u64) -> &[u8]
     ensures { result.now ≡ body_at text.now at }
 {
     let rest = behind(text, at);
-    front(rest, to_byte(rest, 3))
+    front(rest, to_byte(rest, ETX))
 }
 
 /// What the first record of a text holds.
 pub(crate) fn first_body(text: &[u8]) -> &[u8]
     ensures { result.now ≡ first_body text.now }
 {
-    body_at(text, to_byte(text, 2) as u64)
+    body_at(text, to_byte(text, STX) as u64)
 }
 
 // How many bytes stand before the first one of this value; all where there is none.
@@ -45,7 +48,7 @@ fn to_byte(bytes: &[u8], byte: u8) -> usize
 fn to_mark(bytes: &[u8]) -> usize
     ensures { result ≡ to_mark bytes.now }
 {
-    memchr2(2, 3, bytes).unwrap_or(bytes.len())
+    memchr2(STX, ETX, bytes).unwrap_or(bytes.len())
 }
 
 /// What is said of a record that isn't closed, with what stands behind its STX.
@@ -89,9 +92,9 @@ pub(crate) fn detail_words(alloc: Global, body: &[u8]) -> Result<String, AllocEr
 pub(crate) fn header_words(alloc: Global, at: u64, body: &[u8]) -> Result<String, AllocError>
     ensures { IfOk result (λ said. string_bytes said ≡ header_text at body.now) }
 {
-    if body.len() != 73 {
+    if body.len() + 2 != HEADER_LENGTH {
         let count = body.len() + 2;
-        return format!(in alloc; "the header has {count} bytes: 75 are wanted");
+        return format!(in alloc; "the header has {count} bytes: {HEADER_LENGTH} are wanted");
     }
     if part(body, 2, 3) == b"R".as_slice() {
         let byte = u128::from(at) + 3;
@@ -117,7 +120,7 @@ fn fields_words(alloc: Global, at: u64, body: &[u8]) -> Result<String, AllocErro
 fn lot_words(alloc: Global, at: u64, body: &[u8]) -> Result<String, AllocError>
     ensures { IfOk result (λ said. string_bytes said ≡ lot_text at body.now) }
 {
-    if all_digits(part(body, 27, 34)) {
+    if all_digits(part(body, BATCH_NUMBER_AT, CREATION_DATE_AT)) {
         date_words(alloc, at, body)
     } else {
         field_words(
@@ -125,8 +128,8 @@ fn lot_words(alloc: Global, at: u64, body: &[u8]) -> Result<String, AllocError>
             at,
             "batch number",
             body,
-            27,
-            34,
+            BATCH_NUMBER_AT,
+            CREATION_DATE_AT,
             "7 digits are wanted",
         )
     }
@@ -137,9 +140,18 @@ fn lot_words(alloc: Global, at: u64, body: &[u8]) -> Result<String, AllocError>
 fn date_words(alloc: Global, at: u64, body: &[u8]) -> Result<String, AllocError>
     ensures { IfOk result (λ said. string_bytes said ≡ date_text at body.now) }
 {
-    let date = part(body, 34, 42);
+    let (start, end) = (CREATION_DATE_AT, CREATION_TIME_AT);
+    let date = part(body, start, end);
     if date_read(date).is_err() {
-        field_words(alloc, at, "creation date", body, 34, 42, date_wanted(date))
+        field_words(
+            alloc,
+            at,
+            "creation date",
+            body,
+            start,
+            end,
+            date_wanted(date),
+        )
     } else {
         time_words(alloc, at, body)
     }
@@ -150,9 +162,17 @@ fn date_words(alloc: Global, at: u64, body: &[u8]) -> Result<String, AllocError>
 fn time_words(alloc: Global, at: u64, body: &[u8]) -> Result<String, AllocError>
     ensures { IfOk result (λ said. string_bytes said ≡ time_text at body.now) }
 {
-    if Time::new(part(body, 42, 46)).is_none() {
+    if Time::new(part(body, CREATION_TIME_AT, 46)).is_none() {
         let wanted = "HHMM from 0000 to 2359 is wanted";
-        field_words(alloc, at, "creation time", body, 42, 46, wanted)
+        field_words(
+            alloc,
+            at,
+            "creation time",
+            body,
+            CREATION_TIME_AT,
+            46,
+            wanted,
+        )
     } else {
         file_type_words(alloc, at, body)
     }
@@ -212,7 +232,9 @@ pub(crate) fn trailer_words(alloc: Global, at: u64, body: &[u8]) -> Result<Strin
 {
     if body.len() < 19 {
         let count = body.len() + 2;
-        return format!(in alloc; "the trailer has {count} bytes: 21 to 56 are wanted");
+        return format!(in alloc;
+            "the trailer has {count} bytes: 21 to {TRAILER_LENGTH} are wanted"
+        );
     }
     if body.len() > 54 {
         let message = body.len() - 19;
@@ -235,7 +257,7 @@ pub(crate) fn number_words(
 ) -> Result<String, AllocError>
     ensures { IfOk result (λ said. string_bytes said ≡ number_text header.now trailer.now) }
 {
-    let header = quoted(alloc, part(header, 27, 34))?;
+    let header = quoted(alloc, part(header, BATCH_NUMBER_AT, CREATION_DATE_AT))?;
     let trailer = quoted(alloc, part(trailer, 2, 9))?;
     format!(in alloc; "the trailer has batch number {trailer}, the header {header}")
 }

@@ -14,7 +14,7 @@ use crate::place::Place;
 use crate::quoting::{field_of, line_feeds, line_of, quoted, said};
 use crate::words::{Said, Words};
 use rx_books_text::BooksFault;
-use rx_fields::Memory;
+use rx_fields::{MOST_LINES, Memory};
 use std::alloc::{AllocError, Global};
 
 /// The words of a fault of this books file (docs/FORMATS.md, "Faults of a books file"): its line, what stands there,
@@ -32,10 +32,10 @@ pub fn books_words(alloc: Global, fault: BooksFault, text: &[u8]) -> Result<Word
 }
 
 // What is said where the text isn't known.
-fn unread_text(fault: BooksFault) -> &'static str
-    ensures { result.now ≡ unread_books_text fault }
+fn unread_text(alloc: Global, fault: BooksFault) -> Result<String, AllocError>
+    ensures { IfOk result (λ text. string_bytes text ≡ unread_books_text fault) }
 {
-    match fault {
+    let text = match fault {
         BooksFault::Head =>
             "no head line: BOOKS|3|first|last is wanted, as BOOKS|3|20260101|20261231",
         BooksFault::Line(_) => "no line of the head's version, or no line feed at its end",
@@ -43,9 +43,10 @@ fn unread_text(fault: BooksFault) -> &'static str
         BooksFault::UnknownMember(_) => "a member who isn't listed, or a family without one",
         BooksFault::Totals(_) =>
             "a figure isn't the sum over the claims, or a total line is lacking",
-        BooksFault::TooMuch => "more than 1000000 lines",
+        BooksFault::TooMuch => return format!(in alloc; "more than {MOST_LINES} lines"),
         BooksFault::Memory => "more memory was wanted than there is",
-    }
+    };
+    said(alloc, text)
 }
 
 /// The words of a fault of a books file that can't be read again.
@@ -58,7 +59,7 @@ pub fn unread_books_words(alloc: Global, fault: BooksFault) -> Result<Words, Mem
     ensures text { IfOk result (λ words. string_bytes words.text ≡ unread_books_text fault) }
     ensures mend { IfOk result (λ words. words.mend.now ≡ []) }
 {
-    let said = said(alloc, unread_text(fault))?;
+    let said = unread_text(alloc, fault)?;
     Ok(Words::of(Place::of_books(fault), Said::plain(said)))
 }
 
@@ -80,7 +81,7 @@ fn too_many_words(alloc: Global, text: &[u8]) -> Result<String, AllocError>
     ensures { IfOk result (λ said. string_bytes said ≡ too_many_text text.now) }
 {
     let feeds = line_feeds(text);
-    format!(in alloc; "{feeds} line feeds: at most 1000000 are read")
+    format!(in alloc; "{feeds} line feeds: at most {MOST_LINES} are read")
 }
 
 // What is said of a first line that is no head line.

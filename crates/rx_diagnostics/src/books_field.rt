@@ -2,7 +2,7 @@ ghost use Rattle.std.specs.Prelude.{◌≡◌, IfOk, option_map, string_bytes};
 ghost use Rattle.rx_diagnostics.specs.BooksTexts.{date_fault, id_fault};
 
 use rx_books_text::Version;
-use rx_fields::{date_read, number_read};
+use rx_fields::{MOST_CENTS, MOST_QUANTITY, MOST_REFERENCE, date_read, number_read};
 use rx_text::{all_digits, all_printable};
 use std::alloc::{AllocError, Global};
 
@@ -48,18 +48,18 @@ pub(crate) fn member_field(place: usize) -> Option<Field> {
 pub(crate) fn claim_field(version: Version, place: usize) -> Option<Field> {
     match place {
         0 => Some(made("provider", Holds::Id(15))),
-        1 => Some(made("reference", Holds::Number(0, 999_999_999_999))),
+        1 => Some(made("reference", Holds::Number(0, MOST_REFERENCE))),
         2 => Some(made("date", Holds::Date)),
         3 => Some(made("family", Holds::Id(20))),
         4 => Some(made("person", Holds::Id(3))),
         5 => Some(made("product", Holds::Digits(11))),
-        6 => Some(made("quantity", Holds::Number(1, 9_999_999_999))),
+        6 => Some(made("quantity", Holds::Number(1, MOST_QUANTITY))),
         7 => Some(made("days", Holds::Number(1, 999))),
-        8 => Some(made("F6", Holds::Number(0, 99_999_999))),
-        9 => Some(made("F7", Holds::Number(0, 99_999_999))),
-        10 => Some(made("FH", Holds::Number(0, 99_999_999))),
-        11 => Some(made("FI", Holds::Number(0, 99_999_999))),
-        12 if version != Version::One => Some(made("4U", Holds::Number(0, 99_999_999))),
+        8 => Some(made("F6", Holds::Number(0, MOST_CENTS))),
+        9 => Some(made("F7", Holds::Number(0, MOST_CENTS))),
+        10 => Some(made("FH", Holds::Number(0, MOST_CENTS))),
+        11 => Some(made("FI", Holds::Number(0, MOST_CENTS))),
+        12 if version != Version::One => Some(made("4U", Holds::Number(0, MOST_CENTS))),
         12 => Some(made("number", Holds::Digits(15))),
         13 if version != Version::One => Some(made("number", Holds::Digits(15))),
         _ => None,

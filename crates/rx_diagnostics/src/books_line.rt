@@ -3,7 +3,7 @@ use crate::books_order::LineKind;
 use crate::quoting::{field_of, line_feeds, line_of, quoted};
 use crate::words::Said;
 use rx_books_text::{Version, read_head};
-use rx_fields::number_read;
+use rx_fields::{MOST_CENTS, number_read};
 use std::alloc::{AllocError, Global};
 
 /// What is said of a line that is none of the head's version, or has no line feed.
@@ -111,8 +111,8 @@ fn figures_words(alloc: Global, line: &[u8], version: Version) -> Result<String,
         share = share.saturating_add(number_at(line, 14));
         names = "FH + FI + 4U";
     }
-    if paid > 99_999_999 {
-        return format!(in alloc; "F6 + F7 = {paid}: at most 99999999 cents are wanted");
+    if paid > MOST_CENTS {
+        return format!(in alloc; "F6 + F7 = {paid}: at most {MOST_CENTS} cents are wanted");
     }
     format!(in alloc; "{names} = {share}: at most F6 + F7 = {paid} is wanted")
 }

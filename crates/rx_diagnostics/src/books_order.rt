@@ -111,11 +111,12 @@ impl LineKind {
         ensures { result.now ≡ order_of self }
     {
         match self {
-            LineKind::Member => "members ascend by family, then person (sort -t'|' -k2,2 -k3,3)",
+            LineKind::Member =>
+                "members ascend by family, then person (LC_ALL=C sort -t'|' -k2,2 -k3,3)",
             LineKind::Claim => {
-                "claims ascend by provider, reference and date (sort -t'|' -k2,2 -k3,3n -k4,4)"
+                "claims ascend by provider, reference and date (LC_ALL=C sort -t'|' -k2,2 -k3,3n -k4,4)"
             }
-            LineKind::Total => "totals ascend by family (sort -t'|' -k2,2)",
+            LineKind::Total => "totals ascend by family (LC_ALL=C sort -t'|' -k2,2)",
         }
     }
 }

@@ -125,18 +125,34 @@ fn total_words(alloc: Global, printed: &Printed, line: &TotalLine) -> Result<Str
     format!(in alloc; "family {family}, deductible {figure}: the claims of {days} sum to {sum}")
 }
 
-// What is said where a family has no total line: the line, and where it belongs.
+// What is said where a family has no total line: the line, and where it belongs. Members and totals ascend by family, so
+// each family so far has the total line at its place.
 fn lacking_words(alloc: Global, printed: &Printed) -> Result<String, AllocError> {
+    let mut families: usize = 0;
+    let mut last: Option<&Id> = None;
     for member in printed.ledger().members() {
         let family = &member.key.family;
-        if printed.totals().iter().all(|line| line.family != *family) {
-            return lacking_line(alloc, printed, family);
+        if last.is_some_and(|last| *last == *family) {
+            continue;
+        }
+        match printed.totals().get(families) {
+            Some(line) if line.family == *family => {
+                families = families.saturating_add(1);
+                last = Some(family);
+            }
+            _ => return lacking_line(alloc, printed, family, families),
         }
     }
     said(alloc, "a family has no total line")
 }
 
-fn lacking_line(alloc: Global, printed: &Printed, family: &Id) -> Result<String, AllocError> {
+// The total line that a family lacks, below those of this many families.
+fn lacking_line(
+    alloc: Global,
+    printed: &Printed,
+    family: &Id,
+    above: usize,
+) -> Result<String, AllocError> {
     let name = ascii(alloc, family.bytes())?;
     let sums = of_family(printed, family);
     let Sums {
@@ -144,11 +160,6 @@ fn lacking_line(alloc: Global, printed: &Printed, family: &Id) -> Result<String,
         deductible,
     } = sums;
     let ledger = printed.ledger();
-    let above = printed
-        .totals()
-        .iter()
-        .filter(|line| line.family < *family)
-        .count();
     let lines = ledger.members().len().saturating_add(ledger.rows().len());
     let at = lines.saturating_add(above).saturating_add(2);
     if printed.head().version == Version::Three {

@@ -1,7 +1,7 @@
 ghost use Rattle.std.specs.Prelude.{◌≡◌, take};
 ghost use Rattle.rx_diagnostics.specs.Places.{batch_place, books_place, starts_before, unread_batch_place};
 
-use rx_batch::BatchFault;
+use rx_batch::{BatchFault, STX};
 use rx_books_text::BooksFault;
 
 /// Where in its file a fault stands.
@@ -63,7 +63,7 @@ pub(crate) fn starts_before(text: &[u8], byte: u64) -> u64
     ensures { result ≡ starts_before text.now byte }
 {
     let before = front(text, byte as usize);
-    before.iter().filter(|b| **b == 2).count() as u64
+    before.iter().filter(|b| **b == STX).count() as u64
 }
 
 /// The first so many bytes, or all.

@@ -137,13 +137,15 @@ fn missing(alloc: Global, key: SheetKey, text: &[u8]) -> Result<String, Memory>
 fn missing_key(alloc: Global, key: SheetKey) -> Result<String, AllocError>
     ensures { IfOk result (λ said. string_bytes said ≡ missing_text key) }
 {
-    key_words(alloc, name_of(key), " is missing: ", wanted_at(key))
+    let wanted = wanted_at(alloc, key)?;
+    key_words(alloc, name_of(key), " is missing: ", wanted.as_str())
 }
 
 fn wrong_key(alloc: Global, key: SheetKey) -> Result<String, AllocError>
     ensures { IfOk result (λ said. string_bytes said ≡ wrong_text key) }
 {
-    key_words(alloc, name_of(key), " is wrong: ", wanted_at(key))
+    let wanted = wanted_at(alloc, key)?;
+    key_words(alloc, name_of(key), " is wrong: ", wanted.as_str())
 }
 
 // A key, what is wrong with it, and what is wanted.
@@ -184,7 +186,7 @@ fn wrong_value(alloc: Global, key: SheetKey, sheet: &Table) -> Result<String, Al
         return wrong_key(alloc, key);
     };
     let value = shown_value(alloc, value)?;
-    let wanted = wanted_at(key);
+    let wanted = wanted_at(alloc, key)?;
     format!(in alloc; "{name} = {value}: {wanted}")
 }
 

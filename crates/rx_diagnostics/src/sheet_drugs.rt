@@ -1,14 +1,11 @@
 use crate::quoting::quoted;
 use crate::sheet_keys::{name_of, wanted_at};
 use crate::sheet_values::{found, is_number, shown_value, table_at};
-use rx_ledger::SheetKey;
+use rx_fields::MOST_CENTS;
+use rx_ledger::{MOST_PRICE, SheetKey};
 use rx_text::all_digits;
 use std::alloc::{AllocError, Global};
 use toml::{Table, Value};
-
-const MOST_COPAY: i64 = 99_999_999;
-
-const MOST_PRICE: i64 = 1_000_000_000;
 
 /// What is said of tiers and drugs: the first tier or drug at fault by name, and its value.
 pub(crate) fn drug_words(
@@ -31,7 +28,7 @@ pub(crate) fn no_drug_key(
     sheet: &Table,
 ) -> Result<String, AllocError> {
     let name = name_of(key);
-    let wanted = wanted_at(key);
+    let wanted = wanted_at(alloc, key)?;
     if let Some(drugs) = table_at(sheet, "drugs") {
         for (product, drug) in drugs.iter() {
             if lacks(drug, name) {
@@ -52,7 +49,7 @@ fn lacks(drug: &Value, name: &str) -> bool {
 
 // The first tier that says no share.
 fn tiers_words(alloc: Global, sheet: &Table) -> Result<String, AllocError> {
-    let wanted = wanted_at(SheetKey::Tiers);
+    let wanted = wanted_at(alloc, SheetKey::Tiers)?;
     let Some(tiers) = table_at(sheet, "tiers") else {
         return format!(in alloc; "tiers is no table: {wanted}");
     };
@@ -67,9 +64,9 @@ fn tiers_words(alloc: Global, sheet: &Table) -> Result<String, AllocError> {
 // Whether a copay, or a table with a percentage.
 fn is_share(tier: &Value) -> bool {
     match tier.as_table() {
-        None => is_number(tier, 0, MOST_COPAY),
+        None => is_number(tier, MOST_CENTS),
         Some(table) => match found(table, "percent") {
-            Some(percent) => is_number(percent, 0, 100),
+            Some(percent) => is_number(percent, 100),
             None => false,
         },
     }
@@ -81,7 +78,7 @@ fn share_words(alloc: Global, name: &str, tier: &Value) -> Result<String, AllocE
     let Some(table) = tier.as_table() else {
         let value = shown_value(alloc, tier)?;
         return format!(in alloc;
-            "tier {name} = {value}: whole cents from 0 to 99999999 are wanted, as 1000, or {{ percent = 20 }}"
+            "tier {name} = {value}: whole cents from 0 to {MOST_CENTS} are wanted, as 1000, or {{ percent = 20 }}"
         );
     };
     if let Some(percent) = found(table, "percent") {
@@ -95,7 +92,7 @@ fn share_words(alloc: Global, name: &str, tier: &Value) -> Result<String, AllocE
 
 // The first drug whose product is no product, or that is no table.
 fn drugs_words(alloc: Global, sheet: &Table) -> Result<String, AllocError> {
-    let wanted = wanted_at(SheetKey::Drugs);
+    let wanted = wanted_at(alloc, SheetKey::Drugs)?;
     let Some(drugs) = table_at(sheet, "drugs") else {
         return format!(in alloc; "drugs is no table: {wanted}");
     };
@@ -153,13 +150,13 @@ fn no_tier(alloc: Global, product: &str, tier: &Value) -> Result<String, AllocEr
 
 // The first drug whose price is no price.
 fn price_words(alloc: Global, sheet: &Table) -> Result<String, AllocError> {
-    let wanted = wanted_at(SheetKey::Price);
+    let wanted = wanted_at(alloc, SheetKey::Price)?;
     if let Some(drugs) = table_at(sheet, "drugs") {
         for (product, drug) in drugs.iter() {
             let product = product.as_str();
             if let Some(drug) = drug.as_table()
                 && let Some(price) = found(drug, "price")
-                && !is_number(price, 0, MOST_PRICE)
+                && !is_number(price, MOST_PRICE)
             {
                 let value = shown_value(alloc, price)?;
                 return format!(in alloc; "drug {product}: price = {value}: {wanted}");
@@ -171,6 +168,6 @@ fn price_words(alloc: Global, sheet: &Table) -> Result<String, AllocError> {
 
 fn said_wrong(alloc: Global, key: SheetKey) -> Result<String, AllocError> {
     let name = name_of(key);
-    let wanted = wanted_at(key);
+    let wanted = wanted_at(alloc, key)?;
     format!(in alloc; "{name} of a drug is wrong: {wanted}")
 }

@@ -1,8 +1,11 @@
-ghost use Rattle.std.specs.Prelude.{◌≡◌};
+ghost use Rattle.std.specs.Prelude.{◌≡◌, IfOk, string_bytes};
 ghost use Rattle.rx_sheet.specs.Names.{name_of};
-ghost use Rattle.rx_diagnostics.specs.SheetTexts.{wanted_at};
+ghost use Rattle.rx_diagnostics.specs.SheetTexts.{cents_wanted, price_wanted, wanted_at};
 
-use rx_ledger::SheetKey;
+use crate::quoting::said;
+use rx_fields::MOST_CENTS;
+use rx_ledger::{MOST_LIMIT, MOST_PRICE, SheetKey};
+use std::alloc::{AllocError, Global};
 
 /// How a key is written.
 #[tactic(auto, unfolding(rx_sheet::specs::Names::name_of))]
@@ -28,27 +31,43 @@ pub(crate) fn name_of(key: SheetKey) -> &'static str
 }
 
 /// What is wanted under a key.
-#[tactic(auto, unfolding(crate::specs::SheetTexts::wanted_at))]
-pub(crate) fn wanted_at(key: SheetKey) -> &'static str
-    ensures { result.now ≡ wanted_at key }
+#[tactic(auto, using(std::proofs::Common::append_assoc), unfolding(crate::specs::SheetTexts::wanted_at))]
+pub(crate) fn wanted_at(alloc: Global, key: SheetKey) -> Result<String, AllocError>
+    ensures { IfOk result (λ wanted. string_bytes wanted ≡ wanted_at key) }
 {
-    match key {
+    let wanted = match key {
         SheetKey::Bin => "6 digits in quotes are wanted, as \"900001\"",
         SheetKey::Pcn => "0 to 10 printable characters in quotes are wanted, as \"RXDEMO\"",
         SheetKey::PeriodFirst => "8 digits in quotes are wanted, as \"20260101\"",
         SheetKey::PeriodLast => "8 digits in quotes are wanted, as \"20261231\"",
         SheetKey::MemberDeductible | SheetKey::FamilyDeductible => {
-            "whole cents from 0 to 99999999999 are wanted, as 10000"
+            return cents_wanted(alloc, MOST_LIMIT, "10000");
         }
-        SheetKey::FamilyMaximum => "whole cents from 0 to 99999999999 are wanted, as 30000",
+        SheetKey::FamilyMaximum => return cents_wanted(alloc, MOST_LIMIT, "30000"),
         SheetKey::RefillPercent => "a whole number from 0 to 100 is wanted, as 75",
         SheetKey::MaxDays => "a whole number from 1 to 999 is wanted, as 90",
-        SheetKey::Fee => "whole cents from 0 to 99999999 are wanted, as 150",
+        SheetKey::Fee => return cents_wanted(alloc, MOST_CENTS, "150"),
         SheetKey::Tiers => "a table is wanted, as [tiers] with a line 1 = 1000",
         SheetKey::Drugs => "tables are wanted, as [drugs.00001000101] with tier and price",
         SheetKey::Tier => "the name of one of the tiers is wanted in quotes",
-        SheetKey::Price => {
-            "hundredths of a cent per unit are wanted, a whole number from 0 to 1000000000"
-        }
-    }
+        SheetKey::Price => return price_wanted(alloc),
+    };
+    said(alloc, wanted)
+}
+
+// An amount up to a limit, as this one.
+#[tactic(auto, using(std::proofs::Common::append_assoc))]
+fn cents_wanted(alloc: Global, most: u64, example: &str) -> Result<String, AllocError>
+    ensures { IfOk result (λ wanted. string_bytes wanted ≡ cents_wanted most example.now) }
+{
+    format!(in alloc; "whole cents from 0 to {most} are wanted, as {example}")
+}
+
+// A price of a drug.
+fn price_wanted(alloc: Global) -> Result<String, AllocError>
+    ensures { IfOk result (λ wanted. string_bytes wanted ≡ price_wanted) }
+{
+    format!(in alloc;
+        "hundredths of a cent per unit are wanted, a whole number from 0 to {MOST_PRICE}"
+    )
 }

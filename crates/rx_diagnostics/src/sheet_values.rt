@@ -25,10 +25,10 @@ pub(crate) fn table_at<'t>(table: &'t Table, name: &str) -> Option<&'t Table> {
     found(table, name)?.as_table()
 }
 
-/// Whether a whole number from low to high.
-pub(crate) fn is_number(value: &Value, low: i64, high: i64) -> bool {
+/// Whether a whole number from 0 to `most`.
+pub(crate) fn is_number(value: &Value, most: u64) -> bool {
     match value.as_integer() {
-        Some(number) => low <= number && number <= high,
+        Some(number) => u64::try_from(number).is_ok_and(|number| number <= most),
         None => false,
     }
 }

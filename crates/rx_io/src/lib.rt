@@ -1,7 +1,7 @@
 //! The six files of a run, and the devices that it is lent: sources that bytes are read from, sinks that bytes are written to.
 //!
 //! In comes a device; out come all the bytes that it had left, at once or piece by piece to a consumer, or a text is
-//! written to its end. No failed call is taken for the end, and an endless input is refused. What an input may have is
+//! written to its end, whole or in pieces. No failed call is taken for the end, and an endless input is refused. What an input may have is
 //! in `specs/Reading.antt`, what a write did in `specs/Writing.antt`.
 //!
 //! ```rust
@@ -23,6 +23,7 @@ mod device;
 mod fault;
 mod files;
 mod memory;
+mod pieces;
 mod reading;
 mod sink;
 mod source;
@@ -33,6 +34,7 @@ pub use device::Device;
 pub use fault::{Failed, ReadFault};
 pub use files::{Inputs, Outputs};
 pub use memory::{SliceSource, VecSink};
+pub use pieces::one_text;
 pub use reading::{read_all, read_each};
 pub use sink::{Sink, write_all, write_pieces};
 pub use source::Source;

@@ -13,4 +13,4 @@
 
 mod response;
 
-pub use response::{one_text, response_file, response_in_parts, response_pieces};
+pub use response::{response_file, response_pieces};

@@ -9,22 +9,25 @@ ghost use Rattle.rx_response.specs.Response.{response_head, response_details, re
 
 use rayon::current_num_threads;
 use rayon::prelude::*;
-use rx_batch::{Detail, Head, Kind, put_header, put_trailer};
+use rx_batch::{
+    Detail, ETX, HEADER_LENGTH, Head, Kind, TRAILER_LENGTH, begin_detail, put_header, put_trailer,
+};
 use rx_d0_reply::put_reply;
 use rx_d0_values::Reply;
 use rx_fields::{Lot, Memory, Stamp};
+use rx_io::one_text;
 use std::alloc::{AllocError, Global};
 use std::thread::Threads;
 
 // The bytes of the header and of the trailer.
-const ENDS: usize = 75 + 56;
+const ENDS: usize = HEADER_LENGTH + TRAILER_LENGTH;
 
 // Room for the record of a reply with one answer; where records are longer, the text grows.
 const RECORD: usize = 192;
 
 /// The text of the response file: the batch's header with sender and receiver exchanged and the run's stamp as date and
 /// time, and each detail's reference with the reply at its place (docs/FORMATS.md, "Response file"). The batch is within
-/// the limits of docs/PRODUCT.md. Any number of processors gives the same bytes. Err where memory was wanting.
+/// the limits of docs/PRODUCT.md. Any number of processors gives the same bytes. Err only where memory ran out.
 pub fn response_file<R: Threads + Sync>(
     rt: &R,
     alloc: Global,
@@ -38,29 +41,12 @@ pub fn response_file<R: Threads + Sync>(
     ensures { IfOk result (λ text. text.items ≡ response_text head.now stamp details.now replies.now) }
 {
     let parts = current_num_threads(rt);
-    response_in_parts(rt, alloc, parts, head, stamp, details, replies)
-}
-
-/// The same text, rendered in at most this many parts beside one another; one part is rendered by the calling thread,
-/// and none starts one.
-pub fn response_in_parts<R: Threads + Sync>(
-    rt: &R,
-    alloc: Global,
-    parts: usize,
-    head: &Head,
-    stamp: Stamp,
-    details: &[Detail],
-    replies: &[Reply],
-) -> Result<Vec<u8>, Memory>
-    requires equally_many { length details.now ≡ length replies.now }
-    requires within { length details.now ≤ MOST_DETAILS }
-    ensures { IfOk result (λ text. text.items ≡ response_text head.now stamp details.now replies.now) }
-{
     let pieces = response_pieces(rt, alloc, parts, head, stamp, details, replies)?;
     one_text(alloc, pieces)
 }
 
-/// The same text in pieces, one behind the other, which no copy joins. What one part renders is one piece.
+/// The same text in pieces, one after the other, which no copy joins. It is rendered in at most `parts` parts side by side,
+/// each of which is one piece; one part is rendered by the calling thread, which starts none.
 pub fn response_pieces<R: Threads + Sync>(
     rt: &R,
     alloc: Global,
@@ -84,21 +70,6 @@ pub fn response_pieces<R: Threads + Sync>(
     let mut pieces = Vec::new(alloc);
     pieces.push(in_one_part(alloc, head, &stamp, details, replies)?)?;
     Ok(pieces)
-}
-
-/// The pieces of a text, as one text. A piece that is alone isn't copied.
-pub fn one_text(alloc: Global, pieces: Vec<Vec<u8>>) -> Result<Vec<u8>, Memory>
-    ensures { IfOk result (λ text. text.items ≡ flat_map vec_items pieces.items) }
-{
-    let mut pieces = pieces;
-    if pieces.len() == 1 {
-        if let Some(text) = pieces.pop() {
-            return Ok(text);
-        }
-    }
-    let mut text = Vec::with_capacity(alloc, len_of(&pieces))?;
-    put_pieces(&mut text, &pieces)?;
-    Ok(text)
 }
 
 #[tactic(auto, using(crate::proofs::Joined::as_many, std::proofs::Common::append_assoc))]
@@ -154,7 +125,7 @@ fn put_end(text: &mut Vec<u8>, head: &Head, details: &[Detail]) -> Result<(), Al
     put_trailer(text, head.lot.number(), details.len() as u64 + 2)
 }
 
-// Room for so many records.
+// Room for this many records.
 fn room(records: usize) -> usize {
     records.saturating_mul(RECORD)
 }
@@ -173,7 +144,7 @@ fn sent_back(head: &Head, stamp: Stamp) -> Head
     }
 }
 
-// The records of the answers, in order, in pieces of at least so many.
+// The records of the answers, in order, in pieces of at least `least`.
 fn render<R: Threads + Sync>(
     rt: &R,
     alloc: Global,
@@ -217,10 +188,10 @@ fn with_answer(
 fn put_answer(text: &mut Vec<u8>, detail: &Detail, reply: &Reply) -> Result<(), AllocError>
     ensures { OnOk result (text.new.items ≡ text.old.items ++ answer_text detail.now reply.now) }
 {
-    text.extend_from_slice(b"\x02G1")?;
-    text.extend_from_slice(&detail.reference)?;
+    begin_detail(text, &detail.reference)?;
     put_reply(text, reply)?;
-    text.extend_from_slice(b"\x03")
+    text.push(ETX)?;
+    Ok(())
 }
 
 // Puts the records of the answers, in order.
@@ -232,23 +203,4 @@ fn put_answers(text: &mut Vec<u8>, details: &[Detail], replies: &[Reply]) -> Res
         put_answer(text, &details[at], &replies[at])?;
     }
     Ok(())
-}
-
-// The pieces, one after another.
-fn put_pieces(text: &mut Vec<u8>, pieces: &[Vec<u8>]) -> Result<(), AllocError>
-    ensures { OnOk result (text.new.items ≡ text.old.items ++ flat_map vec_items pieces.now) }
-{
-    for piece in pieces {
-        text.extend_from_slice(piece)?;
-    }
-    Ok(())
-}
-
-// How many bytes the pieces have, so that the text grows once.
-fn len_of(pieces: &[Vec<u8>]) -> usize {
-    let mut len: usize = 0;
-    for piece in pieces {
-        len = len.saturating_add(piece.len());
-    }
-    len
 }

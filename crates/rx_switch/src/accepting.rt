@@ -9,7 +9,7 @@ use crate::adjudicating::parts_of;
 use crate::fault::SwitchFault;
 use rx_batch::{Batch, BatchFault, Pieces, read_batch};
 use rx_books_store::Books;
-use rx_fields::Stamp;
+use rx_fields::{MOST_WORKERS, Stamp};
 use rx_ledger::Sheet;
 use rx_sheet::read_sheet;
 use std::alloc::Global;
@@ -78,7 +78,7 @@ pub(crate) fn accept<R: Threads + Sync>(
 fn stamp_for(workers: u16, stamp: &[u8]) -> Result<Stamp, SwitchFault>
     ensures { result ≡ stamp_for workers stamp.now }
 {
-    if workers < 1 || workers > 64 {
+    if workers < 1 || workers > MOST_WORKERS {
         return Err(SwitchFault::Workers);
     }
     Stamp::new(stamp).ok_or(SwitchFault::Stamp)

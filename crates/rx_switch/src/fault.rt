@@ -6,31 +6,23 @@ use rx_books_text::BooksFault;
 use rx_fields::Memory;
 use rx_sheet::SheetFault;
 use rx_wave::RunFault;
-use thiserror::Error;
 
 /// Why a run is refused: the first of these that holds (docs/PRODUCT.md, "The program").
-#[derive(Clone, Copy, Debug, PartialEq, Eq, Error)]
+#[derive(Clone, Copy, Debug, PartialEq, Eq)]
 pub enum SwitchFault {
     /// The number of workers isn't 1 to 64.
-    #[error("the number of workers is not 1 to 64")]
     Workers,
     /// The stamp isn't twelve digits of a date and a time.
-    #[error("the stamp is not a date and a time")]
     Stamp,
     /// The plan sheet is refused.
-    #[error("the plan sheet is refused")]
     Sheet(SheetFault),
     /// The opening books are refused.
-    #[error("the opening books are refused")]
     Books(BooksFault),
     /// The batch file is refused.
-    #[error("the batch file is refused")]
     Batch(BatchFault),
-    /// Memory was wanting.
-    #[error("memory was wanting")]
+    /// Out of memory.
     Memory,
     /// The gate refused to start a thread.
-    #[error("a thread was refused")]
     Thread,
 }
 
@@ -153,19 +145,15 @@ impl Device {
 }
 
 /// Why a run on devices was refused or broke off (docs/PRODUCT.md, "The program").
-#[derive(Clone, Copy, Debug, PartialEq, Eq, Error)]
+#[derive(Clone, Copy, Debug, PartialEq, Eq)]
 pub enum IoFault {
     /// The run is refused.
-    #[error(transparent)]
     Switch(SwitchFault),
     /// A read of the device failed.
-    #[error("a read failed")]
     Read(Device),
     /// The device has more than 268,435,456 bytes, or takes more than 4,194,304 reads.
-    #[error("an input is too long")]
     Long(Device),
     /// A write to the device failed, or took no byte.
-    #[error("a write failed")]
     Write(Device),
 }
 

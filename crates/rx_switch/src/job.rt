@@ -2,7 +2,7 @@ ghost use Rattle.std.specs.Prelude.{◌≡◌, IfOk};
 ghost use Rattle.rx_switch.specs.Job.{texts_in, texts_in_pieces};
 
 use rx_fields::Memory;
-use rx_response::one_text;
+use rx_io::one_text;
 use std::alloc::Global;
 
 /// What a run is given (docs/PRODUCT.md, "The program").

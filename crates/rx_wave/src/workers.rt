@@ -12,7 +12,7 @@ use rx_adjudicate::{Done, Order, adjudicate};
 use rx_books_store::Books;
 use rx_d0_values::{Transmission, copies};
 use rx_desk::Desk;
-use rx_fields::{Lot, Memory};
+use rx_fields::{Lot, MOST_WORKERS, Memory};
 use rx_ledger::Sheet;
 use rx_serial::Finished;
 use std::alloc::Global;
@@ -61,7 +61,7 @@ pub fn run_waves<R: Threads + Wait + Sync, G: Gate + Sync>(
     ensures workers { result ≡ Err RunFault.Workers ↔ are_workers workers ≡ false }
     ensures thread { result ≡ Err RunFault.Thread → RefusesOne (G.starts gate.now) workers }
 {
-    if workers < 1 || workers > 64 {
+    if workers < 1 || workers > MOST_WORKERS {
         return Err(RunFault::Workers);
     }
     if workers > 1 {

@@ -7,6 +7,7 @@ ghost use Rattle.rx_commands.specs.Told.{same_line, shown_piece, sized, verdict_
 ghost use Rattle.rx_commands.specs.Verified.{texts_in_files};
 
 use crate::verifying::files::{Files, Verified};
+use rx_batch::ETX;
 use rx_differ::{pieces_before, rest_of_piece};
 use rx_fields::{Memory, digits_write};
 use rx_print::{Style, put_escaped};
@@ -27,7 +28,7 @@ impl Cut {
     {
         match self {
             Cut::Line => b'\n',
-            Cut::Record => 3,
+            Cut::Record => ETX,
         }
     }
 

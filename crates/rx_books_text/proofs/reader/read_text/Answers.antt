@@ -6,12 +6,12 @@ use Rattle.rx_books_text.proofs.reader.read_text.Goals as goal
 
 pub returns-in_default : goal.returns-in_default
 returns-in_default c =
-    let few = rw c.line_feeds.ensures at c.if-line_feeds-gt-MOST_LINE_FEEDS.false in
+    let few = rw c.line_feeds.ensures at c.if-line_feeds-gt-MOST_LINES.false in
     headless c.args.text.now few (lines_none c.args.text.now c.in_default.ensures)
 
 pub returns-in_default-read_head : goal.returns-in_default-read_head
 returns-in_default-read_head c =
-    let few = rw c.line_feeds.ensures at c.if-line_feeds-gt-MOST_LINE_FEEDS.false in
+    let few = rw c.line_feeds.ensures at c.if-line_feeds-gt-MOST_LINES.false in
     let text : List ℕ = c.args.text.now in
     let at : ℕ = c.in-Some.end in
     let cut = lines_at text at c.in-Some.ensures.0.high c.in-Some.ensures.0.before c.in-Some.ensures.1 in
@@ -20,7 +20,7 @@ returns-in_default-read_head c =
 pub returns-in_err-read_lines : goal.returns-in_err-read_lines
 returns-in_err-read_lines c =
     let error = err_from_is_err_and c.from_residual.result c.from_residual.ensures.1 in
-    let few = rw c.line_feeds.ensures at c.if-line_feeds-gt-MOST_LINE_FEEDS.false in
+    let few = rw c.line_feeds.ensures at c.if-line_feeds-gt-MOST_LINES.false in
     let text : List ℕ = c.args.text.now in
     let at : ℕ = c.in-Some.end in
     let cut = lines_at text at c.in-Some.ensures.0.high c.in-Some.ensures.0.before c.in-Some.ensures.1 in
@@ -32,7 +32,7 @@ returns-in_err-read_lines c =
 
 pub returns : goal.returns
 returns c =
-    let few = rw c.line_feeds.ensures at c.if-line_feeds-gt-MOST_LINE_FEEDS.false in
+    let few = rw c.line_feeds.ensures at c.if-line_feeds-gt-MOST_LINES.false in
     let text : List ℕ = c.args.text.now in
     let at : ℕ = c.in-Some.end in
     let cut = lines_at text at c.in-Some.ensures.0.high c.in-Some.ensures.0.before c.in-Some.ensures.1 in
