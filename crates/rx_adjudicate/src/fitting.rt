@@ -1,7 +1,6 @@
 ghost use Rattle.std.specs.Prelude.{◌≡◌, ◌↔◌, ◌&&◌, IsTrue};
 ghost use Rattle.std.specs.List.{list_all};
 ghost use Rattle.rx_ledger.specs.Ledger.{row_under};
-ghost use Rattle.rx_ledger.specs.Named.{key_in};
 ghost use Rattle.rx_books_family.specs.Books.{OfKey};
 ghost use Rattle.rx_books_parcel.specs.Footprints.{fits, fits_one, names, names_holder};
 ghost use Rattle.rx_books_parcel.specs.Parcels.{Agrees, IsParcel, ledger_in, named_in};
@@ -9,7 +8,7 @@ ghost use Rattle.rx_adjudicate.specs.Orders.{Fits};
 
 use rx_books_parcel::Parcel;
 use rx_d0_values::{Body, Heard, Transaction, Transmission};
-use rx_fields::{Key, Reference};
+use rx_fields::Key;
 use rx_ledger::{Row, Terms};
 
 /// Whether a parcel is enough for a record: it holds the books of each fill key and family that the record names, and
@@ -58,23 +57,10 @@ fn holds_books_of(parcel: &Parcel, heard: &Heard, transaction: &Transaction) -> 
     match transaction {
         Transaction::Bill(bill) => {
             let parts = bill.parts();
-            parcel.has_key(&key_in(heard, parts.reference)) && parcel.has_family(&parts.family)
+            parcel.has_key(&heard.key(parts.reference)) && parcel.has_family(&parts.family)
         }
-        Transaction::Reverse(reversal) => {
-            holds_reversed(parcel, &key_in(heard, reversal.reference))
-        }
+        Transaction::Reverse(reversal) => holds_reversed(parcel, &heard.key(reversal.reference)),
         Transaction::Faulty(_) => true,
-    }
-}
-
-// The fill key of a prescription reference number in the record.
-fn key_in(heard: &Heard, reference: Reference) -> Key
-    ensures { result ≡ key_in heard.now reference }
-{
-    Key {
-        provider: heard.provider,
-        reference,
-        date: heard.date,
     }
 }
 

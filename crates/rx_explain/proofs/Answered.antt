@@ -15,12 +15,15 @@ use Rattle.rx_fields.specs.declared.code.Code.TheVariants as code
 use Rattle.rx_ledger.specs.declared.drug.Drug.{Drug}
 use Rattle.rx_ledger.specs.declared.member.Member.{Member}
 use Rattle.rx_ledger.specs.declared.row.Row.{Row}
-use Rattle.rx_ledger.specs.Answers.{Asked, answer, answer_bill, answer_covered, answer_member, answer_new, answer_person, answer_reversal}
-use Rattle.rx_ledger.specs.Answers.{is_same_claim, is_too_soon, key_of, refused}
+use Rattle.rx_ledger.specs.declared.decision.Decision.{Decision}
+use Rattle.rx_ledger.specs.declared.decision.Decision.TheVariants as decision
+use Rattle.rx_ledger.specs.declared.decision.Payment.{Payment as LedgerPayment}
+use Rattle.rx_ledger.specs.Answers.{answer, answer_by as decided_answer}
+use Rattle.rx_ledger.specs.Decisions.{Asked, if_found, is_same_claim, is_too_soon, key_of, payment as paid_by, unless_found}
 use Rattle.rx_ledger.specs.Ledger.{Ledger, members_of, row_under, rows_of}
 use Rattle.rx_ledger.specs.Members.{of_family, person_in}
 use Rattle.rx_ledger.specs.Plan.{drug_of}
-use Rattle.rx_ledger.proofs.Found.{any_passes}
+use Rattle.rx_explain.specs.declared.case.Case.{Case}
 use Rattle.rx_explain.specs.declared.case.Case.TheVariants as case
 use Rattle.rx_explain.specs.declared.case.Payment.{Payment}
 use Rattle.rx_explain.specs.Cases.{answer_by, answer_to, case_after, case_bill, case_covered, case_member, case_new, case_of, case_person}
@@ -34,29 +37,50 @@ any_found p (x ∷ xs) = elim (cases_Bool (p x)) [
   | inr fails ↦ rw fails (any_found p xs)
 ]
 
-some_more : (n : ℕ) → nat_lt 0 (suc n) ≡ true
-some_more n = grind arith
-
 module _ (a : Asked) (b : BillParts) where
-  after_answer : (p : Payment) (o : Option Row)
-      → (if is_some o then refused code.RefillTooSoon b.reference
-      else Paid (record { number = a.number; reference = b.reference; pricing = p.pricing }))
+  -- the rows of the billing table from below, and what they are answered
+  abbrev answered : Decision → Answer
+  answered d = decided_answer a.number b.reference d
+
+  abbrev in_sheet : List Row → Drug → Decision
+  in_sheet rows drug =
+      if nat_lt a.plan.figures.max_days b.days then decision.TooManyDays
+      else (if list_any (is_too_soon a.plan.figures a.date b) rows then decision.TooSoon
+      else decision.Payable (paid_by a.plan.figures drug b rows))
+
+  abbrev at_product : List Row → Option Drug → Decision
+  at_product rows drug = unless_found drug decision.NotListed (in_sheet rows)
+
+  abbrev at_date : List Row → Member → Decision
+  at_date rows m =
+      if is_lt (day_cmp a.date a.plan.figures.period.first) then decision.BeforePeriod
+      else (if is_gt (day_cmp a.date a.lot.created) then decision.AfterCreation
+      else (if not (is_within m.coverage a.date) || is_gt (day_cmp a.date a.plan.figures.period.last) then decision.NotCovered m
+      else at_product rows (drug_of a.plan b.product)))
+
+  abbrev at_key : List Row → Option Row → Member → Decision
+  at_key rows under m =
+      if_found under (λ r. if is_same_claim b r then decision.SameStands r else decision.OtherStands r) (at_date rows m)
+
+  after_answer : (p : Payment) (q : LedgerPayment) (o : Option Row) → p.pricing ≡ q.pricing
+      → answered (if is_some o then decision.TooSoon else decision.Payable q)
       ≡ answer_by a.number b.reference (case_after p o)
-  after_answer p None = refl
-  after_answer p (Some r) = refl
+  after_answer p q None same = rw same refl
+  after_answer p q (Some r) same = refl
 
   covered_answer : (rows : List Row) (drug : Option Drug)
-      → answer_covered a b rows drug ≡ answer_by a.number b.reference (case_covered a b rows drug)
+      → answered (at_product rows drug) ≡ answer_by a.number b.reference (case_covered a b rows drug)
   covered_answer rows None = refl
   covered_answer rows (Some drug) =
       let soon = is_too_soon a.plan.figures a.date b in
       elim (cases_Bool (nat_lt a.plan.figures.max_days b.days)) [
         | inl many ↦ rw many refl
-        | inr few ↦ rw (few, any_found soon rows) (after_answer (payment a.plan.figures b rows drug) (find soon rows))
+        | inr few ↦ rw (few, any_found soon rows)
+            (after_answer (payment a.plan.figures b rows drug) (paid_by a.plan.figures drug b rows) (find soon rows) refl)
       ]
 
   new_answer : (m : Member) (rows : List Row)
-      → answer_new a b m rows ≡ answer_by a.number b.reference (case_new a b m rows)
+      → answered (at_date rows m) ≡ answer_by a.number b.reference (case_new a b m rows)
   new_answer m rows =
       elim (cases_Bool (is_lt (day_cmp a.date a.plan.figures.period.first))) [
         | inl early ↦ rw early refl
@@ -70,7 +94,7 @@ module _ (a : Asked) (b : BillParts) where
       ]
 
   member_answer : (m : Member) (rows : List Row) (under : Option Row)
-      → answer_member a b m rows under ≡ answer_by a.number b.reference (case_member a b m rows under)
+      → answered (at_key rows under m) ≡ answer_by a.number b.reference (case_member a b m rows under)
   member_answer m rows None = new_answer m rows
   member_answer m rows (Some r) = elim (cases_Bool (is_same_claim b r)) [
     | inl same ↦ rw same refl
@@ -78,30 +102,23 @@ module _ (a : Asked) (b : BillParts) where
   ]
 
   person_answer : (found : Option Member) (rows : List Row) (under : Option Row)
-      → answer_person a b found rows under ≡ answer_by a.number b.reference (case_person a b found rows under)
+      → answered (unless_found found decision.NoPerson (at_key rows under))
+      ≡ answer_by a.number b.reference (case_person a b found rows under)
   person_answer None rows under = refl
   person_answer (Some m) rows under = member_answer m rows under
 
-  members_answer : (ms : List Member) (rows : List Row) (under : Option Row)
-      → answer_bill a b ms rows under
-      ≡ answer_by a.number b.reference
-      (if nat_lt 0 (length ms) then case_person a b (person_in ms b.person) rows under else case.NoFamily)
-  members_answer [] rows under = refl
-  members_answer (m ∷ ms) rows under =
-      rw (some_more (length ms)) (person_answer (person_in (m ∷ ms) b.person) rows under)
-
   bill_answer : (L : Ledger) → answer a L (Bill b) ≡ answer_by a.number b.reference (case_bill a L b)
   bill_answer L =
-      let rows = rows_of L b.family in
-      let under = row_under L (key_of a b.reference) in
-      members_answer (members_of L b.family) rows under
-      ∙ ap
-      (λ (t : Bool). answer_by a.number b.reference
-      (if t then case_person a b (person_in (members_of L b.family) b.person) rows under else case.NoFamily))
-      (sym (any_passes (of_family b.family) L.members))
+      elim (cases_Bool (list_any (of_family b.family) L.members)) [
+        | inl some ↦ rw some
+            (person_answer (person_in (members_of L b.family) b.person) (rows_of L b.family) (row_under L (key_of a b.reference)))
+        | inr none ↦ rw none refl
+      ]
 
 reversal_answer : (a : Asked) (v : Reversal) (under : Option Row)
-    → answer_reversal a v under ≡ answer_by a.number v.reference (case_reversal v under)
+    → decided_answer a.number v.reference
+    (unless_found under decision.NoneStands (λ r. if r.product == v.product then decision.TakenBack r else decision.OtherProduct r))
+    ≡ answer_by a.number v.reference (case_reversal v under)
 reversal_answer a v None = refl
 reversal_answer a v (Some r) = elim (cases_Bool (r.product == v.product)) [
   | inl same ↦ rw same refl

@@ -13,7 +13,7 @@ use crate::events::Events;
 use crate::explanation::{Explanation, explain_on};
 use rx_d0_values::{Answer, Bill, Heard, Reversal, Transaction};
 use rx_fields::{Lot, Memory};
-use rx_ledger::{Basis, Occasion, Row, Sheet, answer_reversal};
+use rx_ledger::{Basis, Occasion, Row, Sheet};
 use std::alloc::Global;
 
 /// The explanation of a transaction on what answers as the ledger before it, as `explain_on` gives it; the transaction is
@@ -108,9 +108,10 @@ fn take_back<S: Basis>(
 {
     let occasion = Occasion::new(lot, sheet.figures(), at.place, heard, at.nth);
     let key = occasion.key(reversal.reference);
-    let answer = answer_reversal(&occasion, reversal, basis.row_under(&key));
-    if let Answer::Approved(_) = answer {
-        basis.remove(&key)?;
+    if let Some(row) = basis.row_under(&key) {
+        if row.product == reversal.product {
+            basis.remove(&key)?;
+        }
     }
     Ok(())
 }

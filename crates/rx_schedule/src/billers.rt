@@ -82,12 +82,7 @@ impl Billers {
         match transaction {
             Transaction::Bill(bill) => {
                 let parts = bill.parts();
-                let key = Key {
-                    provider: heard.provider,
-                    reference: parts.reference,
-                    date: heard.date,
-                };
-                self.note_one(alloc, key, parts.family)
+                self.note_one(alloc, heard.key(parts.reference), parts.family)
             }
             Transaction::Reverse(_) => Ok(()),
             Transaction::Faulty(_) => Ok(()),

@@ -2,7 +2,6 @@ ghost use Rattle.std.specs.Prelude.{◌≡◌, ◌++◌, ◌||◌, ℕ, List, If
 ghost use Rattle.std.specs.List.{flat_map};
 ghost use Rattle.rx_fields.specs.Order.{id_cmp, key_cmp};
 ghost use Rattle.rx_d0_values.specs.declared.transmission.Transmission.{Transmission as TransmissionValue};
-ghost use Rattle.rx_ledger.specs.Named.{key_in};
 ghost use Rattle.rx_sorted.specs.Ascending.{IsAscending, itself};
 ghost use Rattle.rx_schedule.specs.Billed.{HasBilled, is_among};
 ghost use Rattle.rx_schedule.specs.Footprints.{families_named, footprint_of, families_in, footprints_of, holders, key_named, keys_in};
@@ -12,7 +11,7 @@ use crate::ordered::put_in_order;
 use rx_books_parcel::Footprint;
 use rx_books_store::Books;
 use rx_d0_values::{Body, Heard, Transaction, Transmission};
-use rx_fields::{Id, Key, Memory, Reference};
+use rx_fields::{Id, Key, Memory};
 use std::alloc::Global;
 
 /// The footprint of each record, in file order: the books that it names, read off the opening books and the records
@@ -117,11 +116,11 @@ fn name_one(
     match transaction {
         Transaction::Bill(bill) => {
             let parts = bill.parts();
-            keys.push(key_in(heard, parts.reference))?;
+            keys.push(heard.key(parts.reference))?;
             families.push(parts.family)?;
         }
         Transaction::Reverse(reversal) => {
-            let key = key_in(heard, reversal.reference);
+            let key = heard.key(reversal.reference);
             keys.push(key)?;
             name_holders(books, billers, &key, families)?;
         }
@@ -145,15 +144,4 @@ fn name_holders(
         families.push(row.family)?;
     }
     billers.put_families(key, families)
-}
-
-// The fill key of a prescription reference number in a record.
-fn key_in(heard: &Heard, reference: Reference) -> Key
-    ensures { result ≡ key_in heard.now reference }
-{
-    Key {
-        provider: heard.provider,
-        reference,
-        date: heard.date,
-    }
 }

@@ -193,11 +193,7 @@ impl Basis for InOrder {
     }
 
     fn is_too_soon(&self, figures: &Figures, date: Day, bill: &Bill) -> bool {
-        let parts = bill.parts();
-        let Some(holder) = self.holder_of(&MemberKey {
-            family: parts.family,
-            person: parts.person,
-        }) else {
+        let Some(holder) = self.holder_of(&MemberKey::of(bill)) else {
             unreachable!()
         };
         let refill = Refill::of(figures, date, bill, holder);

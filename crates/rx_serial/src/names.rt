@@ -79,11 +79,7 @@ fn put_key(
         Transaction::Reverse(reversal) => reversal.reference,
         Transaction::Faulty(_) => return Ok(()),
     };
-    let key = Key {
-        provider: heard.provider,
-        reference,
-        date: heard.date,
-    };
+    let key = heard.key(reference);
     named.push(Named {
         rank: rank_of(&key),
         key,

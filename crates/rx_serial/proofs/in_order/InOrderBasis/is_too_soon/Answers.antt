@@ -20,7 +20,7 @@ returns-then-are_counted_for c =
     let b = c.args.bill.now in
     let i = c.in-Some.holder in
     let f : Refill = refill_of figures date b i in
-    let found = rw (← c.self.view_is, c.parts-parts.ensures) at c.in-Some.ensures.found in
+    let found = rw (← c.self.view_is, c.of.ensures) at c.in-Some.ensures.found in
     let covers = rw (c.deref.ensures.value, c.of-refill.ensures) at c.are_counted_for.ensures in
     let filled = any_filled (is_counted c.self.inside.marks.items c.self.inside.first_day) L.members L.rows
     c.self.inside.fills (concerns f) c.as_slice-in_order.ensures.ascending c.self.invariant.counted
