@@ -56,8 +56,8 @@ impl Id {
         })
     }
 
-    // The id of the text of a shorter one.
-    pub(crate) fn of_text(text: &[u8]) -> Id
+    /// The id of a text that is one as it stands, also of a shorter field: it isn't tested again.
+    pub fn of_text(text: &[u8]) -> Id
         requires few { length text.now ≤ 20 }
         requires again { IsId 20 text.now }
         ensures { result ≡ text.now }

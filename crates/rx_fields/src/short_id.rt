@@ -43,10 +43,19 @@ impl<const MAX: usize> ShortId<MAX> {
         ensures { result ≡ id_of MAX text.now }
     {
         let text = id_text(text, MAX)?;
-        Ok(ShortId {
+        Ok(ShortId::of_text(text))
+    }
+
+    /// The id of a text that is one as it stands: it isn't tested again.
+    pub fn of_text(text: &[u8]) -> ShortId<MAX>
+        requires short { MAX ≤ 20 }
+        requires again { IsId MAX text.now }
+        ensures { result ≡ text.now }
+    {
+        ShortId {
             bytes: padded(text),
             len: text.len() as u8,
-        })
+        }
     }
 
     /// The same text as an id.

@@ -1,10 +1,10 @@
--- The text that was let through is an id, so its padded bytes are one.
+-- The text that was let through is an id as it stands.
 use Rattle.std.proofs.Common.{sym, arith}
-use Rattle.rx_fields.proofs.IdLaws.{id_again, padded_whole}
+use Rattle.rx_fields.proofs.IdLaws.{id_again}
 use Rattle.rx_fields.proofs.short_id.ShortId.new.Goals as goal
 
-pub invariant_of-result : goal.invariant_of-result
-invariant_of-result g c =
+pub of_text-requires : goal.of_text-requires
+of_text-requires g c =
     let id = id_again g.row.MAX g.row.MAX c.args.text.now c.in_ok-text.text.now (omega arith)
     (sym c.in_ok-text.ensures) in
-    rw c.padded.ensures (padded_whole g.row.MAX c.in_ok-text.text.now c.requires id.0 id.1)
+    (omega (arith, c.requires), (c.requires, id.1))
