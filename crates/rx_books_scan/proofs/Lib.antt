@@ -2,5 +2,7 @@
 pub mod Begins
 pub mod Counted
 pub mod FieldLines
+pub mod Ids
+pub mod Marks
 pub mod Numbers
 pub mod Parted

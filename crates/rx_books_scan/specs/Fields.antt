@@ -1,12 +1,16 @@
 -- Plumbing: fields at the front of bytes.
-use Rattle.std.specs.Prelude.{◌≡◌, ℕ, ◌^◌, ◌<◌, ◌≤◌, Bool, true, false, not, ◌==◌, List, [], ◌∷◌, ◌++◌, length, take}
+use Rattle.std.specs.Prelude.{◌≡◌, ℕ, ◌^◌, ◌<◌, ◌≤◌, Bool, true, false, not, ◌&&◌, ◌==◌, List, [], ◌∷◌, ◌++◌, length, take}
 use Rattle.rx_fields.specs.declared.limits.TheConstants.{MOST_QUANTITY, MOST_REFERENCE}
 use Rattle.rx_fields.specs.declared.key.Key.{Key}
 use Rattle.rx_fields.specs.Calendar.{IsCivil}
-use Rattle.rx_text.specs.Bytes.{all_digits}
+use Rattle.rx_text.specs.Bytes.{all_digits, is_printable}
 use Rattle.rx_fields.specs.Digits.{number}
-use Rattle.rx_fields.specs.Text.{IsId}
+use Rattle.rx_fields.specs.Text.{is_bar, IsId}
 use Rattle.rx_ledger.specs.declared.member.MemberKey.{MemberKey}
+
+-- the byte can stand in an id: it is printable, and no bar
+abbrev pub is_letter : ℕ → Bool
+is_letter b = is_printable b && not (is_bar b)
 
 -- the bytes before the place are digits, at most eighteen, of this number
 pub record AreDigits (bytes : List ℕ) (n at : ℕ) : Type 0 where

@@ -5,7 +5,8 @@ ghost use Rattle.rx_fields.specs.Digits.{digits_text};
 ghost use Rattle.rx_fields.specs.Text.{IsId};
 ghost use Rattle.rx_books_scan.specs.Fields.{AreDigits, is_plain};
 
-use rx_fields::{Authorization, Day, Product, ShortId, date_read};
+use crate::lanes::{LANES, letters};
+use rx_fields::{Authorization, Day, Product, date_read};
 
 // The most digits that are read here: what has more is left to the exact reader.
 const MOST_DIGITS: usize = 18;
@@ -36,19 +37,22 @@ pub(crate) fn kind_at(bytes: &[u8], kind: u8) -> Option<&[u8]>
     Some(rest)
 }
 
-/// The id that the bytes begin with, and what follows the bar behind it.
-pub(crate) fn id_at<const MAX: usize>(bytes: &[u8]) -> Option<(ShortId<MAX>, &[u8])>
-    requires { MAX ≤ 20 }
-    ensures id { IfSome result (λ x. IsId MAX x.0) }
-    ensures whole { IfSome result (λ x. bytes.now ≡ x.0 ++ 124 ∷ x.1.now) }
+/// The id of at most `max` bytes that the bytes begin with, and what follows the bar behind it. None, too, where fewer
+/// bytes are left than are tested at once.
+#[inline(always)]
+pub(crate) fn id_at(bytes: &[u8], max: usize) -> Option<(&[u8], &[u8])>
+    ensures id { IfSome result (λ x. IsId max x.0.now) }
+    ensures whole { IfSome result (λ x. bytes.now ≡ x.0.now ++ 124 ∷ x.1.now) }
 {
-    let at = bytes.iter().position(|byte| *byte == b'|')?;
-    let (field, rest) = cut_at(bytes, at, b'|')?;
-    let id = ShortId::<MAX>::new(field).ok()?;
-    if id.bytes() != field {
+    if bytes.len() < LANES {
         return None;
     }
-    Some((id, rest))
+    let at = letters(bytes)?;
+    let (text, rest) = cut_at(bytes, at, b'|')?;
+    if text.is_empty() || text.len() > max || text[text.len() - 1] == b' ' {
+        return None;
+    }
+    Some((text, rest))
 }
 
 /// The date that the bytes begin with, and what follows the bar behind it.

@@ -13,6 +13,7 @@
 
 mod cut;
 mod field;
+mod lanes;
 mod line;
 mod lists;
 mod members;

@@ -10,7 +10,9 @@ ghost use Rattle.rx_books_scan.specs.Lists.{BeginWith};
 use crate::field::{authorization_at, day_at, id_at, kind_at, number_at, product_at};
 use rx_books_text::{MemberLine, TotalLine};
 use rx_d0_values::Amounts;
-use rx_fields::{Authorization, Day, Days, Key, Period, Product, Quantity, Reference};
+use rx_fields::{
+    Authorization, Day, Days, Id, Key, Period, Person, Product, Provider, Quantity, Reference,
+};
 use rx_ledger::{Member, MemberKey, Row};
 
 // What a claim dispensed.
@@ -90,13 +92,11 @@ pub(crate) fn quick_total(bytes: &[u8]) -> Option<(TotalLine, &[u8])>
     ensures { IfSome result (λ x. BeginWith versions.Three bytes.now (lines.Total x.0 ∷ []) x.1.now) }
 {
     let rest = kind_at(bytes, b'T')?;
-    let Some((family, rest)) = id_at::<20>(rest) else {
-        return None;
-    };
+    let (family, rest) = id_at(rest, 20)?;
     let (out_of_pocket, rest) = number_at(rest, b'|')?;
     let (deductible, rest) = number_at(rest, b'\n')?;
     let line = TotalLine {
-        family: family.id(),
+        family: Id::of_text(family),
         out_of_pocket: u128::from(out_of_pocket),
         deductible: Some(u128::from(deductible)),
     };
@@ -109,16 +109,14 @@ fn key_at(bytes: &[u8]) -> Option<(Key, &[u8])>
     ensures whole { IfSome result (λ x. bytes.now
         ≡ followed (x.0.provider ∷ decimal x.0.reference ∷ date_text x.0.date ∷ []) x.1.now) }
 {
-    let Some((provider, rest)) = id_at::<15>(bytes) else {
-        return None;
-    };
+    let (provider, rest) = id_at(bytes, 15)?;
     let (reference, rest) = number_at(rest, b'|')?;
     let Some((date, rest)) = day_at(rest) else {
         return None;
     };
     let reference = Reference::new(reference)?;
     let key = Key {
-        provider,
+        provider: Provider::of_text(provider),
         reference,
         date,
     };
@@ -130,15 +128,11 @@ fn member_key_at(bytes: &[u8]) -> Option<(MemberKey, &[u8])>
     ensures key { IfSome result (λ x. IsMemberKey x.0) }
     ensures whole { IfSome result (λ x. bytes.now ≡ followed (x.0.family ∷ x.0.person ∷ []) x.1.now) }
 {
-    let Some((family, rest)) = id_at::<20>(bytes) else {
-        return None;
-    };
-    let Some((person, rest)) = id_at::<3>(rest) else {
-        return None;
-    };
+    let (family, rest) = id_at(bytes, 20)?;
+    let (person, rest) = id_at(rest, 3)?;
     let key = MemberKey {
-        family: family.id(),
-        person,
+        family: Id::of_text(family),
+        person: Person::of_text(person),
     };
     Some((key, rest))
 }
