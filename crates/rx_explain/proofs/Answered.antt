@@ -1,17 +1,16 @@
 -- The answer to a transaction is the one that its case gives.
 use Rattle.std.specs.Prelude.{not, ◌||◌, nat_lt, is_some, if◌then◌else◌, ◌==◌}
-use Rattle.std.proofs.Common.{◌≡◌, ℕ, suc, Bool, true, List, [], ◌∷◌, Option, Some, None, length, refl, sym, ap, ◌∙◌, inl, inr, arith}
+use Rattle.std.proofs.Common.{◌≡◌, Bool, List, [], ◌∷◌, Option, Some, None, refl, inl, inr}
 use Rattle.std.specs.List.{find, list_any}
 use Rattle.std.specs.Ordering.{is_gt, is_lt}
 use Rattle.std.proofs.lemmas.Bool.{cases_Bool}
 use Rattle.rx_d0_values.specs.declared.bill.BillParts.{BillParts}
-use Rattle.rx_d0_values.specs.declared.reply.Answer.TheVariants.{Paid}
+use Rattle.rx_d0_values.specs.declared.reply.Answer.{Answer}
 use Rattle.rx_d0_values.specs.declared.transaction.Reversal.{Reversal}
 use Rattle.rx_d0_values.specs.declared.transaction.Transaction.{Transaction}
 use Rattle.rx_d0_values.specs.declared.transaction.Transaction.TheVariants.{Bill, Reverse, Faulty}
 use Rattle.rx_fields.specs.Calendar.{day_cmp}
 use Rattle.rx_fields.specs.Numbered.{is_within}
-use Rattle.rx_fields.specs.declared.code.Code.TheVariants as code
 use Rattle.rx_ledger.specs.declared.drug.Drug.{Drug}
 use Rattle.rx_ledger.specs.declared.member.Member.{Member}
 use Rattle.rx_ledger.specs.declared.row.Row.{Row}
@@ -23,8 +22,6 @@ use Rattle.rx_ledger.specs.Decisions.{Asked, if_found, is_same_claim, is_too_soo
 use Rattle.rx_ledger.specs.Ledger.{Ledger, members_of, row_under, rows_of}
 use Rattle.rx_ledger.specs.Members.{of_family, person_in}
 use Rattle.rx_ledger.specs.Plan.{drug_of}
-use Rattle.rx_explain.specs.declared.case.Case.{Case}
-use Rattle.rx_explain.specs.declared.case.Case.TheVariants as case
 use Rattle.rx_explain.specs.declared.case.Payment.{Payment}
 use Rattle.rx_explain.specs.Cases.{answer_by, answer_to, case_after, case_bill, case_covered, case_member, case_new, case_of, case_person}
 use Rattle.rx_explain.specs.Cases.{case_reversal, payment}
