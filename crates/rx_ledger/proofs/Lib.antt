@@ -1,6 +1,5 @@
 pub mod Alike
 pub mod CountedRows
-pub mod DayTests
 pub mod Decided
 pub mod Found
 pub mod Held

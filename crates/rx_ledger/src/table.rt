@@ -1,4 +1,7 @@
-ghost use Rattle.std.specs.Prelude.{◌≡◌, true, if◌then◌else◌, List, []};
+ghost use Rattle.std.specs.Prelude.{◌≡◌, true, not, ◌||◌, if◌then◌else◌, List, []};
+ghost use Rattle.std.specs.Ordering.{is_gt, is_lt};
+ghost use Rattle.rx_fields.specs.Calendar.{day_cmp};
+ghost use Rattle.rx_fields.specs.Numbered.{is_within};
 ghost use Rattle.rx_d0_values.specs.declared.transaction.Transaction.TheVariants as asks;
 ghost use Rattle.rx_ledger.specs.Basis.{HasPeriod, Holds, HoldsBill};
 ghost use Rattle.rx_ledger.specs.Claims.{asked_on};
@@ -13,13 +16,14 @@ use crate::basis::Basis;
 use crate::decision::{Decision, Payment};
 use crate::drug::Drug;
 use crate::figures::Figures;
-use crate::member::MemberKey;
+use crate::member::{Member, MemberKey};
 use crate::occasion::Occasion;
 use crate::price::Allowance;
 use crate::row::Row;
 use crate::share::{Used, shared};
 use crate::terms::Terms;
 use rx_d0_values::{Bill, Reversal, Transaction};
+use rx_fields::Day;
 
 /// The decision on a transaction: the tables of adjudication from top to bottom (docs/PRODUCT.md, "Rules of
 /// adjudication"). Nothing is looked up before its row's turn comes.
@@ -61,13 +65,13 @@ fn decide_bill<S: Basis>(basis: &S, occasion: &Occasion, terms: &Terms, bill: &B
     if let Some(row) = basis.row_under(&occasion.key(parts.reference)) {
         return standing(bill, row);
     }
-    if date < figures.period.first() {
+    if is_before_period(figures, date) {
         return Decision::BeforePeriod;
     }
-    if date > occasion.lot.created() {
+    if is_after_creation(occasion) {
         return Decision::AfterCreation;
     }
-    if !member.coverage.contains(date) || date > figures.period.last() {
+    if is_outside(&member, figures, date) {
         return Decision::NotCovered(member);
     }
     let Some(drug) = terms.drug(parts.product) else {
@@ -104,6 +108,25 @@ fn is_same_claim(bill: &Bill, row: &Row) -> bool
         && row.product == parts.product
         && row.quantity == parts.quantity
         && row.days == parts.days
+}
+
+fn is_before_period(figures: &Figures, date: Day) -> bool
+    ensures { result ≡ is_lt (day_cmp date figures.now.period.first) }
+{
+    date < figures.period.first()
+}
+
+fn is_after_creation(occasion: &Occasion) -> bool
+    ensures { result ≡ is_gt (day_cmp occasion.now.date occasion.now.lot.created) }
+{
+    occasion.date > occasion.lot.created()
+}
+
+// Whether the date is outside the member's coverage, or after the period.
+fn is_outside(member: &Member, figures: &Figures, date: Day) -> bool
+    ensures { result ≡ (not (is_within member.now.coverage date) || is_gt (day_cmp date figures.now.period.last)) }
+{
+    !member.coverage.contains(date) || date > figures.period.last()
 }
 
 // What a billing for a listed drug is paid by, where this much of the plan's figures is used.

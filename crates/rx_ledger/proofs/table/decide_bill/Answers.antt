@@ -1,6 +1,6 @@
 -- Each row's test in the code is the test of the table, and those above it failed.
 use Rattle.std.proofs.Common.{◌≡◌, true, false, Some, None, refl, sym, ap, ◌∙◌, []}
-use Rattle.std.specs.Prelude.{nat_lt}
+use Rattle.std.specs.Prelude.{nat_lt, not, ◌||◌}
 use Rattle.std.specs.List.{list_any}
 use Rattle.std.specs.Ordering.{is_gt, is_lt}
 use Rattle.std.proofs.lemmas.Bool.{le-ltb, lt-ltb}
@@ -13,13 +13,11 @@ use Rattle.rx_ledger.specs.Ledger.{members_of, row_under, rows_of}
 use Rattle.rx_ledger.specs.Members.{of_family, person_in}
 use Rattle.rx_ledger.specs.Plan.{drug_of}
 use Rattle.rx_ledger.specs.TermList.{plan_of}
-use Rattle.rx_ledger.proofs.DayTests.{after_is, before_is}
 use Rattle.rx_ledger.proofs.OfMember.{listed_by-person}
 use Rattle.rx_ledger.proofs.table.decide_bill.Goals as goal
-use Rattle.rx_ledger.proofs.table.decide_bill.Goals.{then-not-contains-via-then-not-contains, then-not-contains-via-else-not-contains+then-gt-2}
 
-pub returns-then-lt : goal.returns-then-lt
-returns-then-lt g c =
+pub returns-then-is_before_period : goal.returns-then-is_before_period
+returns-then-is_before_period g c =
     let L = g.S.Basis.ledger c.args.basis.now in
     let b = c.args.bill.now in
     let f = c.args.terms.now.figures in
@@ -31,11 +29,11 @@ returns-then-lt g c =
     let free : row_under L (key_of (asked_on c.args.occasion.now []) b.reference) ≡ None =
     sym (rw (c.key.ensures, c.parts-parts.ensures) at c.row_under.ensures) ∙ c.in_default-row_under.is in
     let early : is_lt (day_cmp date f.period.first) ≡ true =
-    sym (before_is date f.period.first) ∙ sym (rw (c.first.ensures, c.figures-figures.ensures.value) at c.lt.ensures) ∙ c.if-lt.true in
+    sym (rw c.figures-figures.ensures.value at c.is_before_period.ensures) ∙ c.if-is_before_period.true in
     rw (c.requires.figures, some, person, free, early) refl
 
-pub returns-then-gt : goal.returns-then-gt
-returns-then-gt g c =
+pub returns-then-is_after_creation : goal.returns-then-is_after_creation
+returns-then-is_after_creation g c =
     let L = g.S.Basis.ledger c.args.basis.now in
     let b = c.args.bill.now in
     let f = c.args.terms.now.figures in
@@ -47,13 +45,13 @@ returns-then-gt g c =
     let free : row_under L (key_of (asked_on c.args.occasion.now []) b.reference) ≡ None =
     sym (rw (c.key.ensures, c.parts-parts.ensures) at c.row_under.ensures) ∙ c.in_default-row_under.is in
     let early : is_lt (day_cmp date f.period.first) ≡ false =
-    sym (before_is date f.period.first) ∙ sym (rw (c.first.ensures, c.figures-figures.ensures.value) at c.lt.ensures) ∙ c.if-lt.false in
+    sym (rw c.figures-figures.ensures.value at c.is_before_period.ensures) ∙ c.if-is_before_period.false in
     let late : is_gt (day_cmp date c.args.occasion.now.lot.created) ≡ true =
-    sym (after_is date _) ∙ sym (rw c.created.ensures at c.gt.ensures) ∙ c.if-gt.true in
+    sym c.is_after_creation.ensures ∙ c.if-is_after_creation.true in
     rw (c.requires.figures, some, person, free, early, late) refl
 
-pub returns-then-not-contains : goal.returns-then-not-contains
-returns-then-not-contains g c =
+pub returns-then-is_outside : goal.returns-then-is_outside
+returns-then-is_outside g c =
     let L = g.S.Basis.ledger c.args.basis.now in
     let b = c.args.bill.now in
     let f = c.args.terms.now.figures in
@@ -65,19 +63,12 @@ returns-then-not-contains g c =
     let free : row_under L (key_of (asked_on c.args.occasion.now []) b.reference) ≡ None =
     sym (rw (c.key.ensures, c.parts-parts.ensures) at c.row_under.ensures) ∙ c.in_default-row_under.is in
     let early : is_lt (day_cmp date f.period.first) ≡ false =
-    sym (before_is date f.period.first) ∙ sym (rw (c.first.ensures, c.figures-figures.ensures.value) at c.lt.ensures) ∙ c.if-lt.false in
+    sym (rw c.figures-figures.ensures.value at c.is_before_period.ensures) ∙ c.if-is_before_period.false in
     let late : is_gt (day_cmp date c.args.occasion.now.lot.created) ≡ false =
-    sym (after_is date _) ∙ sym (rw c.created.ensures at c.gt.ensures) ∙ c.if-gt.false in
-    elim c.then-not-contains.branch [
-      | then-not-contains-via-then-not-contains w ↦
-          let outside : is_within c.in-Some.member.coverage date ≡ false = sym c.contains.ensures ∙ w.if-not-contains.true in
-          rw (c.requires.figures, some, person, free, early, late, outside) refl
-      | then-not-contains-via-else-not-contains+then-gt-2 w ↦
-          let covered : is_within c.in-Some.member.coverage date ≡ true = sym c.contains.ensures ∙ w.if-not-contains.false in
-          let ended : is_gt (day_cmp date f.period.last) ≡ true =
-          sym (after_is date f.period.last) ∙ sym (rw (w.last.ensures, c.figures-figures.ensures.value) at w.gt-else-not-contains.ensures) ∙ w.if-gt-2.true in
-          rw (c.requires.figures, some, person, free, early, late, covered, ended) refl
-    ]
+    sym c.is_after_creation.ensures ∙ c.if-is_after_creation.false in
+    let outside : (not (is_within c.in-Some.member.coverage date) || is_gt (day_cmp date f.period.last)) ≡ true =
+    sym (rw c.figures-figures.ensures.value at c.is_outside.ensures) ∙ c.if-is_outside.true in
+    rw (c.requires.figures, some, person, free, early, late, outside) refl
 
 pub returns-in_default-drug : goal.returns-in_default-drug
 returns-in_default-drug g c =
@@ -92,15 +83,14 @@ returns-in_default-drug g c =
     let free : row_under L (key_of (asked_on c.args.occasion.now []) b.reference) ≡ None =
     sym (rw (c.key.ensures, c.parts-parts.ensures) at c.row_under.ensures) ∙ c.in_default-row_under.is in
     let early : is_lt (day_cmp date f.period.first) ≡ false =
-    sym (before_is date f.period.first) ∙ sym (rw (c.first.ensures, c.figures-figures.ensures.value) at c.lt.ensures) ∙ c.if-lt.false in
+    sym (rw c.figures-figures.ensures.value at c.is_before_period.ensures) ∙ c.if-is_before_period.false in
     let late : is_gt (day_cmp date c.args.occasion.now.lot.created) ≡ false =
-    sym (after_is date _) ∙ sym (rw c.created.ensures at c.gt.ensures) ∙ c.if-gt.false in
-    let covered : is_within c.in-Some.member.coverage date ≡ true = sym c.contains.ensures ∙ c.if-not-contains.false in
-    let ended : is_gt (day_cmp date f.period.last) ≡ false =
-    sym (after_is date f.period.last) ∙ sym (rw (c.last.ensures, c.figures-figures.ensures.value) at c.gt-else-not-contains.ensures) ∙ c.if-gt-2.false in
+    sym c.is_after_creation.ensures ∙ c.if-is_after_creation.false in
+    let outside : (not (is_within c.in-Some.member.coverage date) || is_gt (day_cmp date f.period.last)) ≡ false =
+    sym (rw c.figures-figures.ensures.value at c.is_outside.ensures) ∙ c.if-is_outside.false in
     let listed : drug_of (plan_of c.args.terms.now) b.product ≡ None =
     sym (rw c.parts-parts.ensures at c.drug.ensures.value) ∙ c.in_default-drug.is in
-    rw (c.requires.figures, some, person, free, early, late, covered, ended, listed) refl
+    rw (c.requires.figures, some, person, free, early, late, outside, listed) refl
 
 pub returns-then-get-figures : goal.returns-then-get-figures
 returns-then-get-figures g c =
@@ -115,17 +105,17 @@ returns-then-get-figures g c =
     let free : row_under L (key_of (asked_on c.args.occasion.now []) b.reference) ≡ None =
     sym (rw (c.key.ensures, c.parts-parts.ensures) at c.row_under.ensures) ∙ c.in_default-row_under.is in
     let early : is_lt (day_cmp date f.period.first) ≡ false =
-    sym (before_is date f.period.first) ∙ sym (rw (c.first.ensures, c.figures-figures.ensures.value) at c.lt.ensures) ∙ c.if-lt.false in
+    sym (rw c.figures-figures.ensures.value at c.is_before_period.ensures) ∙ c.if-is_before_period.false in
     let late : is_gt (day_cmp date c.args.occasion.now.lot.created) ≡ false =
-    sym (after_is date _) ∙ sym (rw c.created.ensures at c.gt.ensures) ∙ c.if-gt.false in
-    let covered : is_within c.in-Some.member.coverage date ≡ true = sym c.contains.ensures ∙ c.if-not-contains.false in
-    let ended : is_gt (day_cmp date f.period.last) ≡ false =
-    sym (after_is date f.period.last) ∙ sym (rw (c.last.ensures, c.figures-figures.ensures.value) at c.gt-else-not-contains.ensures) ∙ c.if-gt-2.false in
+    sym c.is_after_creation.ensures ∙ c.if-is_after_creation.false in
+    let outside : (not (is_within c.in-Some.member.coverage date) || is_gt (day_cmp date f.period.last)) ≡ false =
+    sym (rw c.figures-figures.ensures.value at c.is_outside.ensures) ∙ c.if-is_outside.false in
     let listed : drug_of (plan_of c.args.terms.now) b.product ≡ Some c.in-Some-drug.drug =
     sym (rw c.parts-parts.ensures at c.drug.ensures.value) ∙ c.in-Some-drug.is in
     let days : c.get.result ≡ b.days = rw c.parts-parts.ensures at c.get.ensures.value in
-    let many : nat_lt f.max_days b.days ≡ true = lt-ltb _ _ (rw (days, c.figures-figures.ensures.value) at c.if-get-figures.true) in
-    rw (c.requires.figures, some, person, free, early, late, covered, ended, listed, many) refl
+    let many : nat_lt f.max_days b.days ≡ true =
+    lt-ltb _ _ (rw (days, c.figures-figures.ensures.value) at c.if-get-figures.true) in
+    rw (c.requires.figures, some, person, free, early, late, outside, listed, many) refl
 
 pub returns-then-is_too_soon : goal.returns-then-is_too_soon
 returns-then-is_too_soon g c =
@@ -140,19 +130,19 @@ returns-then-is_too_soon g c =
     let free : row_under L (key_of (asked_on c.args.occasion.now []) b.reference) ≡ None =
     sym (rw (c.key.ensures, c.parts-parts.ensures) at c.row_under.ensures) ∙ c.in_default-row_under.is in
     let early : is_lt (day_cmp date f.period.first) ≡ false =
-    sym (before_is date f.period.first) ∙ sym (rw (c.first.ensures, c.figures-figures.ensures.value) at c.lt.ensures) ∙ c.if-lt.false in
+    sym (rw c.figures-figures.ensures.value at c.is_before_period.ensures) ∙ c.if-is_before_period.false in
     let late : is_gt (day_cmp date c.args.occasion.now.lot.created) ≡ false =
-    sym (after_is date _) ∙ sym (rw c.created.ensures at c.gt.ensures) ∙ c.if-gt.false in
-    let covered : is_within c.in-Some.member.coverage date ≡ true = sym c.contains.ensures ∙ c.if-not-contains.false in
-    let ended : is_gt (day_cmp date f.period.last) ≡ false =
-    sym (after_is date f.period.last) ∙ sym (rw (c.last.ensures, c.figures-figures.ensures.value) at c.gt-else-not-contains.ensures) ∙ c.if-gt-2.false in
+    sym c.is_after_creation.ensures ∙ c.if-is_after_creation.false in
+    let outside : (not (is_within c.in-Some.member.coverage date) || is_gt (day_cmp date f.period.last)) ≡ false =
+    sym (rw c.figures-figures.ensures.value at c.is_outside.ensures) ∙ c.if-is_outside.false in
     let listed : drug_of (plan_of c.args.terms.now) b.product ≡ Some c.in-Some-drug.drug =
     sym (rw c.parts-parts.ensures at c.drug.ensures.value) ∙ c.in-Some-drug.is in
     let days : c.get.result ≡ b.days = rw c.parts-parts.ensures at c.get.ensures.value in
-    let many : nat_lt f.max_days b.days ≡ false = le-ltb _ _ (rw (days, c.figures-figures.ensures.value) at c.if-get-figures.false) in
+    let many : nat_lt f.max_days b.days ≡ false =
+    le-ltb _ _ (rw (days, c.figures-figures.ensures.value) at c.if-get-figures.false) in
     let soon : list_any (is_too_soon f date b) (rows_of L b.family) ≡ true =
     sym (rw c.figures-figures.ensures.value at c.is_too_soon.ensures) ∙ c.if-is_too_soon.true in
-    rw (c.requires.figures, some, person, free, early, late, covered, ended, listed, many, soon) refl
+    rw (c.requires.figures, some, person, free, early, late, outside, listed, many, soon) refl
 
 pub returns : goal.returns
 returns g c =
@@ -167,21 +157,21 @@ returns g c =
     let free : row_under L (key_of (asked_on c.args.occasion.now []) b.reference) ≡ None =
     sym (rw (c.key.ensures, c.parts-parts.ensures) at c.row_under.ensures) ∙ c.in_default-row_under.is in
     let early : is_lt (day_cmp date f.period.first) ≡ false =
-    sym (before_is date f.period.first) ∙ sym (rw (c.first.ensures, c.figures-figures.ensures.value) at c.lt.ensures) ∙ c.if-lt.false in
+    sym (rw c.figures-figures.ensures.value at c.is_before_period.ensures) ∙ c.if-is_before_period.false in
     let late : is_gt (day_cmp date c.args.occasion.now.lot.created) ≡ false =
-    sym (after_is date _) ∙ sym (rw c.created.ensures at c.gt.ensures) ∙ c.if-gt.false in
-    let covered : is_within c.in-Some.member.coverage date ≡ true = sym c.contains.ensures ∙ c.if-not-contains.false in
-    let ended : is_gt (day_cmp date f.period.last) ≡ false =
-    sym (after_is date f.period.last) ∙ sym (rw (c.last.ensures, c.figures-figures.ensures.value) at c.gt-else-not-contains.ensures) ∙ c.if-gt-2.false in
+    sym c.is_after_creation.ensures ∙ c.if-is_after_creation.false in
+    let outside : (not (is_within c.in-Some.member.coverage date) || is_gt (day_cmp date f.period.last)) ≡ false =
+    sym (rw c.figures-figures.ensures.value at c.is_outside.ensures) ∙ c.if-is_outside.false in
     let listed : drug_of (plan_of c.args.terms.now) b.product ≡ Some c.in-Some-drug.drug =
     sym (rw c.parts-parts.ensures at c.drug.ensures.value) ∙ c.in-Some-drug.is in
     let days : c.get.result ≡ b.days = rw c.parts-parts.ensures at c.get.ensures.value in
-    let many : nat_lt f.max_days b.days ≡ false = le-ltb _ _ (rw (days, c.figures-figures.ensures.value) at c.if-get-figures.false) in
+    let many : nat_lt f.max_days b.days ≡ false =
+    le-ltb _ _ (rw (days, c.figures-figures.ensures.value) at c.if-get-figures.false) in
     let soon : list_any (is_too_soon f date b) (rows_of L b.family) ≡ false =
     sym (rw c.figures-figures.ensures.value at c.is_too_soon.ensures) ∙ c.if-is_too_soon.false in
     let used = rw (c.figures-figures.ensures.value, c.of-2.ensures) at c.used-used.ensures in
     let paid = rw c.figures-figures.ensures.value at c.payment.ensures in
-    rw (c.requires.figures, some, person, free, early, late, covered, ended, listed, many, soon) (ap decisions.Payable (paid (rows_of L b.family) used))
+    rw (c.requires.figures, some, person, free, early, late, outside, listed, many, soon) (ap decisions.Payable (paid (rows_of L b.family) used))
 
 -- ---- the member that is found is listed
 
