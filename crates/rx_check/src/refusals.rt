@@ -1,7 +1,7 @@
 ghost use Rattle.std.specs.Prelude.{◌≡◌};
 ghost use Rattle.rx_check.specs.Refusals.{refusal_of};
 
-use rx_check::{Found, InputFault};
+use crate::found::{Found, InputFault};
 use rx_switch::SwitchFault;
 
 /// The refusal of the first fault found. That it is the run's own is the law `first_fault_is_the_runs`.

@@ -1,8 +1,8 @@
 //! The six files of a run, and the devices that it is lent: sources that bytes are read from, sinks that bytes are written to.
 //!
 //! In comes a device; out come all the bytes that it had left, at once or piece by piece to a consumer, or a text is
-//! written to its end, whole or in pieces. No failed call is taken for the end, and an endless input is refused. What an input may have is
-//! in `specs/Reading.antt`, what a write did in `specs/Writing.antt`.
+//! written to its end, whole or in pieces. No failed call is taken for the end, and an endless input is refused. What an
+//! input may have is in `specs/Reading.antt`, what a write did in `specs/Writing.antt`.
 //!
 //! ```rust
 //! let text = rx_io::read_all(alloc, &mut ReaderSource::new(file))?;
