@@ -1,47 +1,13 @@
--- Worked cases of the definitions: amounts, quantities, prices and days as people read them, and lines with these.
+-- Worked cases of the definitions: lines of an explanation.
 use Rattle.std.proofs.Common.{◌≡◌, refl, [], ◌∷◌, ◌++◌, codes}
 use Rattle.std.specs.Fmt.{decimal, digits}
+use Rattle.rx_fields.specs.Calendar.{date_text}
 use Rattle.rx_fields.specs.Digits.{digits_text}
 use Rattle.rx_fields.specs.Numbered.{Span}
-use Rattle.rx_explain_text.specs.Dates.{dashed}
 use Rattle.rx_explain_text.specs.Figures.{cut_text, labelled}
 use Rattle.rx_explain_text.specs.Json.{between_commas}
-use Rattle.rx_explain_text.specs.Money.{money_text, price_text, right_in, thousandths_text}
 use Rattle.rx_explain_text.specs.Reasons.{coverage_text, covered_text, dated_text, sum_text, supply_text}
-use Rattle.rx_explain_text.specs.Said.{said}
-
-amount : money_text 12_705 ≡ codes "$127.05"
-unfolding digits
-amount = refl
-
--- two blanks before it
-amount-in-column : right_in 9 (money_text 12_705) ≡ codes "  $127.05"
-unfolding digits
-amount-in-column = refl
-
-amount-too-wide : right_in 3 (money_text 12_705) ≡ codes "$127.05"
-unfolding digits
-amount-too-wide = refl
-
-whole-quantity : thousandths_text 30_000 ≡ codes "30"
-unfolding digits
-whole-quantity = refl
-
-half : thousandths_text 500 ≡ codes "0.500"
-unfolding digits digits_text
-half = refl
-
-price-in-cents : price_text 95_000 ≡ codes "$9.50"
-unfolding digits
-price-in-cents = refl
-
-price-below-a-cent : price_text 375 ≡ codes "$0.0375"
-unfolding digits digits_text
-price-below-a-cent = refl
-
-fifth-of-march : dashed (record { year = 2026; month = 3; day = 5 }) ≡ codes "2026-03-05"
-unfolding digits_text
-fifth-of-march = refl
+use Rattle.rx_print.specs.Said.{said}
 
 -- the lines of examples/first_job: record 4, 12, 16, 19 and 21
 cost-cut : labelled (codes "ingredient cost F6") 150 ++ cut_text (codes "the charge") 150 270
@@ -70,7 +36,7 @@ to-february = record { first = record { year = 2026; month = 1; day = 1 }; last 
 
 covered : coverage_text year to-february (record { year = 2026; month = 3; day = 16 })
     ≡ codes "  the member is covered from 2026-01-01 to 2026-02-28\n"
-unfolding digits_text covered_text dated_text said
+unfolding digits_text date_text covered_text dated_text said
 covered = refl
 
 -- three items have two commas between them

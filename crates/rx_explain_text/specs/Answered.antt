@@ -10,7 +10,7 @@ use Rattle.rx_explain.specs.declared.case.Case.TheVariants as case
 use Rattle.rx_explain.specs.declared.explanation.Explanation.{Explanation}
 use Rattle.rx_explain_text.specs.Claims.{at_text, whose_member}
 use Rattle.rx_explain_text.specs.Codes.{named_code, shown}
-use Rattle.rx_explain_text.specs.Dates.{dashed}
+use Rattle.rx_print.specs.Dates.{dashed}
 use Rattle.rx_explain_text.specs.Said.{said, say}
 use Rattle.rx_fields.specs.Digits.{digits_text}
 use Rattle.rx_fields.specs.declared.code.Code.{Code}

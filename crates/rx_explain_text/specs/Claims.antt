@@ -8,7 +8,7 @@ use Rattle.rx_explain.specs.declared.traced.Source.{Source}
 use Rattle.rx_explain.specs.declared.traced.Source.TheVariants.{Opening, Record}
 use Rattle.rx_explain.specs.declared.traced.Traced.{Traced}
 use Rattle.rx_explain_text.specs.Codes.{shown}
-use Rattle.rx_explain_text.specs.Dates.{dashed}
+use Rattle.rx_print.specs.Dates.{dashed}
 use Rattle.rx_explain_text.specs.Said.{said, say}
 
 -- the place of a transaction, as 2.1

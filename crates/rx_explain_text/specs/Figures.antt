@@ -14,7 +14,7 @@ use Rattle.rx_explain.specs.declared.case.Payment.{Payment}
 use Rattle.rx_explain.specs.declared.explanation.Explanation.{Explanation}
 use Rattle.rx_explain.specs.declared.traced.Traced.{Traced}
 use Rattle.rx_explain_text.specs.Claims.{traced_text}
-use Rattle.rx_explain_text.specs.Money.{money_text, price_text, right_in, thousandths_text}
+use Rattle.rx_print.specs.Money.{money_text, price_text, right_in, thousandths_text}
 use Rattle.rx_explain_text.specs.Said.{said, say}
 use Rattle.rx_explain_text.specs.declared.figures.Counts.{Counts}
 use Rattle.rx_explain_text.specs.declared.figures.Counts.TheVariants.{MemberDeductible, FamilyDeductible, OutOfPocket}

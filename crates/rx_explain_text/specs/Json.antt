@@ -24,7 +24,7 @@ use Rattle.rx_explain.specs.declared.traced.Source.{Source}
 use Rattle.rx_explain.specs.declared.traced.Source.TheVariants.{Opening, Record}
 use Rattle.rx_explain.specs.declared.traced.Traced.{Traced}
 use Rattle.rx_explain_text.specs.Claims.{as_decided}
-use Rattle.rx_explain_text.specs.Dates.{dashed}
+use Rattle.rx_print.specs.Dates.{dashed}
 use Rattle.rx_explain_text.specs.Figures.{if_paid, payment_of}
 use Rattle.rx_explain_text.specs.Reasons.{days_between}
 use Rattle.rx_explain_text.specs.RequestField.{field_bytes, field_number}

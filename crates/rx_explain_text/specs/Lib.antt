@@ -2,10 +2,8 @@
 pub mod Answered
 pub mod Claims
 pub mod Codes
-pub mod Dates
 pub mod Figures
 pub mod Json
-pub mod Money
 pub mod Reasons
 pub mod Rejections
 pub mod RequestField

@@ -12,8 +12,8 @@ use Rattle.rx_explain.specs.declared.explanation.Explanation.{Explanation}
 use Rattle.rx_explain.specs.declared.traced.Traced.{Traced}
 use Rattle.rx_explain_text.specs.Claims.{standing_text, traced_text}
 use Rattle.rx_explain_text.specs.Codes.{code_lines, shown}
-use Rattle.rx_explain_text.specs.Dates.{dashed}
-use Rattle.rx_explain_text.specs.Money.{money_text}
+use Rattle.rx_print.specs.Dates.{dashed}
+use Rattle.rx_print.specs.Money.{money_text}
 use Rattle.rx_explain_text.specs.Said.{said, say}
 use Rattle.rx_fields.specs.Calendar.{Civil, day_number}
 use Rattle.rx_fields.specs.Digits.{digits_text}

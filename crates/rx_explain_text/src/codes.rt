@@ -5,11 +5,10 @@ ghost use Rattle.rx_explain_text.specs.Codes.{wanted_text};
 ghost use Rattle.rx_explain_text.specs.RequestField.{field_number};
 
 use crate::code_words::{name, wanted};
-use crate::page::Page;
 use crate::request_field::{field_bytes, field_name};
 use rx_d0_values::Codes;
 use rx_fields::{Code, Door};
-use rx_print::Style;
+use rx_print::{Page, Style};
 use std::alloc::AllocError;
 
 /// A line for each code of the nth transaction of a request, or of its header, where `nth` is 0: the field, its bytes and

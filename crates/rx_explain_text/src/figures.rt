@@ -6,11 +6,11 @@ ghost use Rattle.rx_explain_text.specs.Figures.{family_left_lines, family_lines,
 ghost use Rattle.rx_explain_text.specs.Figures.{less_text, paid_lines, payer_lines, payment_lines, payment_of, pays_line, priced_text};
 ghost use Rattle.rx_explain_text.specs.Figures.{share_line, submitted_text};
 
-use crate::page::Page;
 use crate::reasons::put_traced;
 use rx_d0_values::{Bill, Transaction};
 use rx_explain::{Case, Explanation, Payment, Traced};
 use rx_ledger::{Figures, Share};
+use rx_print::Page;
 use std::alloc::AllocError;
 
 // How wide the labels and the amounts are, in bytes.

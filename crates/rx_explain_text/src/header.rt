@@ -9,14 +9,13 @@ ghost use Rattle.rx_explain_text.specs.Texts.{explanation_words};
 use crate::codes::{put_codes, put_named};
 use crate::compared::Compared;
 use crate::figures::put_figures;
-use crate::page::Page;
 use crate::reasons::{put_member, put_reason};
 use crate::request_field::field_bytes;
 use rx_d0_values::{Answer, Bill, Rejected, Transaction};
 use rx_explain::{At, Case, Explanation};
 use rx_fields::{Authorization, Code, Id, Lot, Memory, Person, Reference, trimmed};
 use rx_ledger::Figures;
-use rx_print::Style;
+use rx_print::{Page, Style};
 use std::alloc::{AllocError, Global};
 
 /// An explanation in words: a line that says what was answered to whom, and below it, set in, why

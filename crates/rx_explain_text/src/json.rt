@@ -16,7 +16,6 @@ use crate::code_words::{case_name, name, wanted};
 use crate::compared::Compared;
 use crate::figures::paid;
 use crate::json_list::{Decided, Spoken, Standing, put_list};
-use crate::page::Page;
 use crate::reasons::{as_decided, days_between};
 use crate::request_field::{field_bytes, field_name};
 use rx_d0_values::{
@@ -25,7 +24,7 @@ use rx_d0_values::{
 use rx_explain::{At, Case, Explanation, Payment, Source, Traced};
 use rx_fields::{Authorization, Cents, Code, Day, Lot, Memory, Period, Reference};
 use rx_ledger::{Figures, Row, Share};
-use rx_print::Style;
+use rx_print::{Page, Style};
 use std::alloc::{AllocError, Global};
 
 /// An explanation as one JSON object on one line. Amounts are in cents. `request` is the text of the record's transmission.

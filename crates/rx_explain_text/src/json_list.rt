@@ -3,9 +3,9 @@ ghost use Rattle.std.specs.List.{flat_map};
 ghost use Rattle.rx_explain_text.specs.Json.{after_comma, between_commas, code_json, decided_code, list_member, traced_json};
 
 use crate::json::{put_code, put_decided_code, put_name, put_traced};
-use crate::page::Page;
 use rx_explain::Traced;
 use rx_fields::Code;
+use rx_print::Page;
 use std::alloc::AllocError;
 
 // How items of a list are told.

@@ -15,7 +15,6 @@ mod figures;
 mod header;
 mod json;
 mod json_list;
-mod page;
 mod reasons;
 mod request_field;
 
@@ -23,5 +22,4 @@ pub use code_words::{name, wanted};
 pub use compared::Compared;
 pub use header::{explanation_text, rejection_text};
 pub use json::{explanation_json, rejection_json};
-pub use page::Page;
 pub use request_field::{field_bytes, field_name};

@@ -8,12 +8,11 @@ ghost use Rattle.rx_explain_text.specs.Reasons.{sum_text, supply_text, taken_tex
 
 use crate::codes::put_codes;
 use crate::header::put_at;
-use crate::page::Page;
 use rx_d0_values::{Bill, BillParts, Pricing, Transaction};
 use rx_explain::{At, Case, Explanation, Source, Traced};
 use rx_fields::{Day, Days, Id, Lot, Period, Person, Product};
 use rx_ledger::Figures;
-use rx_print::Style;
+use rx_print::{Page, Style};
 use std::alloc::AllocError;
 
 /// Why the case holds, on a line that is set in; nothing of a claim that is paid, whose figures say it.

@@ -1,4 +1,8 @@
 -- Plumbing: which files there are.
 pub mod CodeList
+pub mod Dates
+pub mod Decimal
 pub mod Escape
 pub mod Hexadecimal
+pub mod Money
+pub mod Said

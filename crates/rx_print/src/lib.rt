@@ -1,24 +1,34 @@
-//! Small texts that several outputs share: escaped bytes, hexadecimal digits, lists of reject codes.
+//! Small texts that several outputs share: numbers, amounts, dates, reject codes, bytes escaped; and a page to write on.
 //!
 //! `put_escaped` takes any bytes and the style of the place where they are to stand, in HTML, in a JSON string or on a
 //! terminal; out comes printable ASCII that is read there as those bytes, and as nothing else. What is written for a byte,
 //! and how it is read back, is in `specs/Escape.antt`. The tags, quotes and colours around them are left to the caller.
 //!
 //! ```rust
-//! rx_print::put_escaped(&mut page, Style::Html, family.bytes())?;
+//! rx_print::put_escaped(&mut text, Style::Html, family.bytes())?;
+//! rx_print::put_grouped(&mut text, records)?;
 //! ```
 //!
-//! Each other text is a definition of `specs/` and a function of the same name.
+//! Each other text is a definition of `specs/`. A function whose name begins with `put` puts it at the end of a text; where
+//! a growth was refused, what was put by then stays. `Page` has the same as methods.
 #![tactic(auto)]
 
 mod byte;
 mod code_list;
+mod date;
 mod escape;
 mod law;
+mod number;
+mod page;
 mod style;
 
 pub use byte::{bracketed, hexadecimal};
 pub use code_list::put_codes;
+pub use date::dashed_digits;
 pub use escape::put_escaped;
 pub use law::{no_mark_is_written, read_back};
+pub use number::{
+    put_decimal, put_dollars, put_grouped, put_hundredths, put_signed, put_signed_dollars,
+};
+pub use page::Page;
 pub use style::Style;

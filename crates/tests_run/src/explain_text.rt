@@ -1,7 +1,7 @@
 use crate::same::same;
-use rx_explain_text::{Page, field_bytes};
+use rx_explain_text::field_bytes;
 use rx_fields::Code;
-use rx_print::Style;
+use rx_print::{Page, Style};
 use std::alloc::{AllocError, Global};
 
 fn figures(alloc: Global) -> Result<Vec<u8>, AllocError> {

@@ -1,6 +1,6 @@
 use Rattle.std.proofs.Common.{ap, codes, rules, ◌++◌, ◌∙◌}
 use Rattle.rx_explain_text.specs.Figures.{copay_line, labelled, maximum_cut}
-use Rattle.rx_explain_text.specs.Money.{money_text}
+use Rattle.rx_print.specs.Money.{money_text}
 use Rattle.rx_explain_text.specs.Said.{say}
 use Rattle.rx_explain_text.proofs.Joined.{joined_4}
 use Rattle.rx_explain_text.proofs.figures.put_copay.Goals as goal

@@ -1,6 +1,6 @@
 use Rattle.std.proofs.Common.{ap, codes, rules, ◌++◌, ◌∙◌}
 use Rattle.rx_explain_text.specs.Figures.{cut_text, fee_line, labelled, submitted_text}
-use Rattle.rx_explain_text.specs.Money.{money_text}
+use Rattle.rx_print.specs.Money.{money_text}
 use Rattle.rx_explain_text.specs.Said.{say}
 use Rattle.std.specs.Option.{unwrap_or}
 use Rattle.rx_explain_text.proofs.Joined.{joined_6}

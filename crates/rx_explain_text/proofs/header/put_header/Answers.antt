@@ -2,7 +2,7 @@ use Rattle.std.proofs.Common.{rules}
 use Rattle.rx_explain_text.specs.Answered.{answer_text, answered_line, reference_of, rx_text, whose_text}
 use Rattle.rx_explain_text.specs.Claims.{at_text}
 use Rattle.rx_explain_text.specs.Codes.{shown}
-use Rattle.rx_explain_text.specs.Dates.{dashed}
+use Rattle.rx_print.specs.Dates.{dashed}
 use Rattle.rx_explain_text.specs.Said.{say}
 use Rattle.rx_explain_text.proofs.Joined.{joined_11}
 use Rattle.rx_explain_text.proofs.header.put_header.Goals as goal

@@ -1,5 +1,5 @@
 use Rattle.std.proofs.Common.{codes, rules}
-use Rattle.rx_explain_text.specs.Dates.{dashed}
+use Rattle.rx_print.specs.Dates.{dashed}
 use Rattle.rx_explain_text.specs.Reasons.{covered_text, dated_text}
 use Rattle.rx_explain_text.specs.Said.{say}
 use Rattle.rx_explain_text.proofs.Joined.{joined_3}

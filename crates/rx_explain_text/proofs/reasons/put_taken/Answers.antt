@@ -1,7 +1,7 @@
 use Rattle.std.proofs.Common.{rules}
 use Rattle.rx_d0_values.specs.Priced.{total_paid}
 use Rattle.rx_explain_text.specs.Claims.{standing_text}
-use Rattle.rx_explain_text.specs.Money.{money_text}
+use Rattle.rx_print.specs.Money.{money_text}
 use Rattle.rx_explain_text.specs.Reasons.{taken_text}
 use Rattle.rx_explain_text.specs.Said.{say}
 use Rattle.rx_explain_text.proofs.Joined.{joined_5}

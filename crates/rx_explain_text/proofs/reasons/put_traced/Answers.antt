@@ -2,7 +2,7 @@ use Rattle.std.proofs.Common.{rules}
 use Rattle.std.specs.Prelude.{codes}
 use Rattle.rx_explain_text.specs.Claims.{source_text, traced_text, whose_member}
 use Rattle.rx_explain_text.specs.Codes.{shown}
-use Rattle.rx_explain_text.specs.Dates.{dashed}
+use Rattle.rx_print.specs.Dates.{dashed}
 use Rattle.rx_explain_text.specs.Said.{say}
 use Rattle.std.specs.Fmt.{decimal}
 use Rattle.rx_explain_text.proofs.Joined.{joined_8}

@@ -1,5 +1,5 @@
 use Rattle.std.proofs.Common.{◌≡◌, ◌++◌, replicate}
-use Rattle.rx_explain_text.proofs.page.Page.blanks.Given as goal
+use Rattle.rx_print.proofs.page.Page.blanks.Given as goal
 
 -- so many blanks as turns are done
 abbrev pub invariant-blanks : goal.invariant-blanks

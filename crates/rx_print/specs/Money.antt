@@ -1,15 +1,29 @@
--- Meaning: amounts as people read them.
-use Rattle.std.specs.Prelude.{ℕ, ◌+◌, ◌-◌, ◌/◌, ◌%◌, ◌==◌, if◌then◌else◌, List, [], ◌∷◌, ◌++◌, codes, length, replicate}
+-- Meaning: amounts and quantities as people read them.
+use Rattle.std.specs.Prelude.{ℕ, ℤ, pos, negsuc, suc, ◌+◌, ◌-◌, ◌/◌, ◌%◌, ◌==◌, if◌then◌else◌, List, [], ◌∷◌, ◌++◌, codes, length, replicate}
 use Rattle.std.specs.Fmt.{decimal}
 use Rattle.rx_fields.specs.Digits.{digits_text}
+use Rattle.rx_print.specs.Decimal.{grouped}
 
 -- a point and two digits
 abbrev pub cents_text : ℕ → List ℕ
 cents_text cents = 46 ∷ (48 + cents / 10) ∷ (48 + cents % 10) ∷ []
 
 -- cents as dollars and cents
+abbrev pub dollars : ℕ → List ℕ
+dollars cents = decimal (cents / 100) ++ cents_text (cents % 100)
+
+-- the same behind a minus, where they are below zero
+abbrev pub signed_dollars : ℤ → List ℕ
+signed_dollars (pos n) = dollars n
+signed_dollars (negsuc n) = 45 ∷ dollars (suc n)
+
+-- behind a dollar sign
 abbrev pub money_text : ℕ → List ℕ
-money_text cents = codes "$" ++ (decimal (cents / 100) ++ cents_text (cents % 100))
+money_text cents = codes "$" ++ dollars cents
+
+-- hundredths as a number with two digits behind the point, and commas before it
+abbrev pub hundredths_text : ℕ → List ℕ
+hundredths_text n = grouped (n / 100) ++ cents_text (n % 100)
 
 -- at the right end of a column: blanks before it, as many as the width leaves; none before a text that is wider
 abbrev pub right_in : ℕ → List ℕ → List ℕ

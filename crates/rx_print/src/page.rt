@@ -1,20 +1,24 @@
-ghost use Rattle.std.specs.Prelude.{◌≡◌, ◌++◌, [], ◌<◌, OnOk, replicate};
+ghost use Rattle.std.specs.Prelude.{◌≡◌, ◌++◌, [], OnOk, replicate};
 ghost use Rattle.std.specs.Fmt.{decimal};
-ghost use Rattle.rx_print.specs.Escape.{escaped};
 ghost use Rattle.rx_fields.specs.Digits.{digits_text};
-ghost use Rattle.rx_explain_text.specs.Dates.{dashed};
-ghost use Rattle.rx_explain_text.specs.Money.{cents_text, money_text, price_text, right_in, thousandths_text};
-ghost use Rattle.rx_explain_text.specs.Said.{said};
+ghost use Rattle.rx_print.specs.Dates.{dashed};
+ghost use Rattle.rx_print.specs.Escape.{escaped};
+ghost use Rattle.rx_print.specs.Money.{money_text, price_text, right_in, thousandths_text};
+ghost use Rattle.rx_print.specs.Said.{said};
 
-use rx_fields::{Authorization, Day, digits_write};
-use rx_print::{Style, put_escaped};
+use crate::date::dashed_digits;
+use crate::escape::put_escaped;
+use crate::number::{put_decimal, put_dollars};
+use crate::style::Style;
+use rx_fields::{Authorization, Day, date_write, digits_write};
 use std::alloc::{AllocError, Global};
 
 /// A text that is written from front to end.
 #[derive(Debug, Drop)]
 pub struct Page {
     alloc: Global,
-    bytes: Vec<u8>,
+    /// The bytes written so far.
+    pub bytes: Vec<u8>,
 }
 
 impl Page {
@@ -26,6 +30,11 @@ impl Page {
             alloc,
             bytes: Vec::new(alloc),
         }
+    }
+
+    /// The allocator of its bytes.
+    pub fn alloc(&self) -> Global {
+        self.alloc
     }
 
     /// The bytes written.
@@ -42,7 +51,7 @@ impl Page {
         self.bytes.extend_from_slice(bytes)
     }
 
-    /// Writes bytes as a terminal or a JSON string shows them.
+    /// Writes bytes of a file as this style has them.
     pub fn escaped(&mut self, style: Style, bytes: &[u8]) -> Result<(), AllocError>
         ensures { OnOk result (self.new.bytes.items ≡ self.old.bytes.items ++ escaped style bytes.now) }
     {
@@ -57,12 +66,18 @@ impl Page {
         self.bytes.extend_from_slice(words.as_bytes())
     }
 
+    /// Writes markup, which stands in the program.
+    pub fn markup(&mut self, markup: &'static str) -> Result<(), AllocError>
+        ensures { OnOk result (self.new.bytes.items ≡ self.old.bytes.items ++ markup.now) }
+    {
+        self.bytes.extend_from_slice(markup.as_bytes())
+    }
+
     /// Writes a number in decimal digits.
     pub fn number(&mut self, number: u128) -> Result<(), AllocError>
         ensures { OnOk result (self.new.bytes.items ≡ self.old.bytes.items ++ decimal number) }
     {
-        let digits = format!(in self.alloc; "{number}")?;
-        self.bytes.extend_from_slice(digits.as_str().as_bytes())
+        put_decimal(&mut self.bytes, number)
     }
 
     /// Writes an amount of cents as dollars and cents, as `$127.05`.
@@ -71,8 +86,7 @@ impl Page {
         ensures { OnOk result (self.new.bytes.items ≡ self.old.bytes.items ++ money_text cents) }
     {
         self.put(b"$")?;
-        self.number(cents / 100)?;
-        self.put(&cents_text((cents % 100) as u8))
+        put_dollars(&mut self.bytes, cents)
     }
 
     /// Writes an amount at the right end of a column of this width, in bytes.
@@ -87,7 +101,7 @@ impl Page {
         self.put(&amount)
     }
 
-    /// Writes so many blanks.
+    /// Writes this many blanks.
     pub fn blanks(&mut self, count: usize) -> Result<(), AllocError>
         ensures { OnOk result (self.new.bytes.items ≡ self.old.bytes.items ++ replicate count 32) }
     {
@@ -133,25 +147,9 @@ impl Page {
     }
 
     /// Writes a day as `2026-03-05`.
-    #[tactic(auto, using(std::proofs::Common::append_assoc))]
     pub fn day(&mut self, day: Day) -> Result<(), AllocError>
         ensures { OnOk result (self.new.bytes.items ≡ self.old.bytes.items ++ dashed day) }
     {
-        let year: [u8; 4] = digits_write(u64::from(day.year()));
-        let month: [u8; 2] = digits_write(u64::from(day.month()));
-        let date: [u8; 2] = digits_write(u64::from(day.day()));
-        self.put(&year)?;
-        self.put(b"-")?;
-        self.put(&month)?;
-        self.put(b"-")?;
-        self.put(&date)
+        self.put(&dashed_digits(date_write(day)))
     }
-}
-
-// A point and two digits.
-fn cents_text(cents: u8) -> [u8; 3]
-    requires { cents < 100 }
-    ensures { result ≡ cents_text cents }
-{
-    [b'.', b'0' + cents / 10, b'0' + cents % 10]
 }
