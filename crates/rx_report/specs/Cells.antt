@@ -1,6 +1,6 @@
 -- Meaning: what a report says of an answer, column by column. What isn't known stays blank.
-use Rattle.std.specs.Prelude.{ℕ, ◌==◌, Bool, true, false, if◌then◌else◌, List, [], ◌∷◌, Option, Some, None, codes}
-use Rattle.std.specs.Fmt.{decimal}
+use Rattle.std.specs.Prelude.{ℕ, ℤ, pos, neg_ℤ, Bool, true, false, List, [], ◌∷◌, Option, Some, None, codes}
+use Rattle.std.specs.Fmt.{decimal, signed_decimal}
 use Rattle.rx_d0_values.specs.Priced.{allowed, patient_pay, total_paid}
 use Rattle.rx_d0_values.specs.declared.pricing.Amounts.{Amounts}
 use Rattle.rx_d0_values.specs.declared.reply.Answer.{Answer}
@@ -85,20 +85,21 @@ cents_in column.Coinsurance a = a.coinsurance
 cents_in column.Member a = patient_pay a
 cents_in other a = total_paid a
 
--- what is given back: below zero, where it isn't zero
-abbrev pub given_back : ℕ → List ℕ
-given_back n = if n == 0 then decimal 0 else 45 ∷ decimal n
+-- what is given back stands in the last, below zero
+abbrev pub given_back : Column → ℕ → Option ℤ
+given_back column.Plan n = Some (neg_ℤ (pos n))
+given_back other n = None
 
-abbrev pub back_cell : Column → ℕ → List ℕ
-back_cell column.Plan n = given_back n
-back_cell other n = []
+-- the cents of an answer in a column of amounts; a claim that stands already has its amounts too
+abbrev pub cents_of : Column → Answer → Option ℤ
+cents_of c (Paid p) = Some (pos (cents_in c p.pricing))
+cents_of c (Twice p) = Some (pos (cents_in c p.pricing))
+cents_of c (Approved a) = given_back c a.total_paid
+cents_of c (Refused r) = None
 
--- a claim that stands already shows its amounts too
-abbrev pub cents_cell : Column → Answer → List ℕ
-cents_cell c (Paid p) = decimal (cents_in c p.pricing)
-cents_cell c (Twice p) = decimal (cents_in c p.pricing)
-cents_cell c (Approved a) = back_cell c a.total_paid
-cents_cell c (Refused r) = []
+abbrev pub cents_cell : Option ℤ → List ℕ
+cents_cell None = []
+cents_cell (Some cents) = signed_decimal cents
 
 abbrev pub cell : Column → Line → List ℕ
 cell column.Place l = decimal l.place
@@ -110,9 +111,9 @@ cell column.Prescription l = known_cell (reference_of l.answer)
 cell column.Date l = l.date
 cell column.Family l = family_cell l.member
 cell column.Person l = person_cell l.member
-cell column.Allowed l = cents_cell column.Allowed l.answer
-cell column.Deductible l = cents_cell column.Deductible l.answer
-cell column.Copay l = cents_cell column.Copay l.answer
-cell column.Coinsurance l = cents_cell column.Coinsurance l.answer
-cell column.Member l = cents_cell column.Member l.answer
-cell column.Plan l = cents_cell column.Plan l.answer
+cell column.Allowed l = cents_cell (cents_of column.Allowed l.answer)
+cell column.Deductible l = cents_cell (cents_of column.Deductible l.answer)
+cell column.Copay l = cents_cell (cents_of column.Copay l.answer)
+cell column.Coinsurance l = cents_cell (cents_of column.Coinsurance l.answer)
+cell column.Member l = cents_cell (cents_of column.Member l.answer)
+cell column.Plan l = cents_cell (cents_of column.Plan l.answer)

@@ -45,6 +45,6 @@ json_object l = 123 ∷ (json_member l column.Place ++ (flat_map (comma_member l
 abbrev pub comma_object : Line → List ℕ
 comma_object l = 44 ∷ 10 ∷ json_object l
 
-abbrev pub json_text : List Line → List ℕ
-json_text [] = codes "[]\n"
-json_text (l ∷ more) = 91 ∷ (json_object l ++ (flat_map comma_object more ++ codes "]\n"))
+abbrev pub lines_json : List Line → List ℕ
+lines_json [] = codes "[]\n"
+lines_json (l ∷ more) = 91 ∷ (json_object l ++ (flat_map comma_object more ++ codes "]\n"))

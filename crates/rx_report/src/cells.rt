@@ -1,6 +1,5 @@
 ghost use Rattle.std.specs.Prelude.{◌≡◌, ◌++◌, ◌∷◌, [], IfOk, OnOk};
-ghost use Rattle.std.specs.Fmt.{decimal};
-ghost use Rattle.rx_report.specs.Cells.{back_cell, cell, cents_cell, cents_in, codes_cell, family_cell, given_back, known_cell};
+ghost use Rattle.rx_report.specs.Cells.{cell, cents_cell, cents_in, cents_of, codes_cell, family_cell, given_back, known_cell};
 ghost use Rattle.rx_report.specs.Cells.{person_cell, reference_of, status_of};
 ghost use Rattle.rx_settle.specs.Providers.{named};
 
@@ -8,7 +7,7 @@ use crate::column::Column;
 use crate::line::Line;
 use rx_d0_values::{Answer, Pricing};
 use rx_fields::{Id, Person, Provider, Reference};
-use rx_print::put_codes;
+use rx_print::{put_codes, put_decimal, put_signed};
 use std::alloc::{AllocError, Global};
 
 /// What a report says of an answer in a column, as its bytes are; blank where it isn't known. Amounts are in cents.
@@ -16,26 +15,21 @@ pub fn cell_of(alloc: Global, column: Column, line: &Line) -> Result<Vec<u8>, Al
     ensures { IfOk result (λ text. text.items ≡ cell column line.now) }
 {
     let mut text = Vec::new(alloc);
-    put_cell(alloc, &mut text, column, line)?;
+    put_cell(&mut text, column, line)?;
     Ok(text)
 }
 
 // Puts it.
-pub(crate) fn put_cell(
-    alloc: Global,
-    text: &mut Vec<u8>,
-    column: Column,
-    line: &Line,
-) -> Result<(), AllocError>
+pub(crate) fn put_cell(text: &mut Vec<u8>, column: Column, line: &Line) -> Result<(), AllocError>
     ensures { OnOk result (text.new.items ≡ text.old.items ++ cell column line.now) }
 {
     match column {
-        Column::Place => put_number(alloc, text, line.place),
-        Column::Nth => put_number(alloc, text, line.nth),
+        Column::Place => put_decimal(text, u128::from(line.place)),
+        Column::Nth => put_decimal(text, u128::from(line.nth)),
         Column::Status => Ok(text.push(status_of(&line.answer))?),
         Column::Codes => put_code_list(text, &line.answer),
         Column::Provider => put_provider(text, &line.provider),
-        Column::Prescription => put_known(alloc, text, reference_of(&line.answer)),
+        Column::Prescription => put_known(text, reference_of(&line.answer)),
         Column::Date => text.extend_from_slice(&line.date),
         Column::Family => put_family(text, &line.member),
         Column::Person => put_person(text, &line.member),
@@ -44,7 +38,7 @@ pub(crate) fn put_cell(
         | Column::Copay
         | Column::Coinsurance
         | Column::Member
-        | Column::Plan => put_cents(alloc, text, column, &line.answer),
+        | Column::Plan => put_cents(text, cents_of(column, &line.answer)),
     }
 }
 
@@ -87,15 +81,11 @@ fn reference_of(answer: &Answer) -> Option<Reference>
     }
 }
 
-fn put_known(
-    alloc: Global,
-    text: &mut Vec<u8>,
-    reference: Option<Reference>,
-) -> Result<(), AllocError>
+fn put_known(text: &mut Vec<u8>, reference: Option<Reference>) -> Result<(), AllocError>
     ensures { OnOk result (text.new.items ≡ text.old.items ++ known_cell reference) }
 {
     match reference {
-        Some(reference) => put_number(alloc, text, reference.get()),
+        Some(reference) => put_decimal(text, u128::from(reference.get())),
         None => Ok(()),
     }
 }
@@ -118,19 +108,15 @@ fn put_person(text: &mut Vec<u8>, member: &Option<(Id, Person)>) -> Result<(), A
     }
 }
 
-fn put_cents(
-    alloc: Global,
-    text: &mut Vec<u8>,
-    column: Column,
-    answer: &Answer,
-) -> Result<(), AllocError>
-    ensures { OnOk result (text.new.items ≡ text.old.items ++ cents_cell column answer.now) }
+/// The cents of an answer in a column of amounts, below zero where they are given back; None where it has none.
+pub fn cents_of(column: Column, answer: &Answer) -> Option<i128>
+    ensures { result ≡ cents_of column answer.now }
 {
     match answer {
-        Answer::Paid(paid) => put_number(alloc, text, cents_in(column, &paid.pricing)),
-        Answer::Twice(paid) => put_number(alloc, text, cents_in(column, &paid.pricing)),
-        Answer::Approved(approved) => put_back(alloc, text, column, approved.total_paid.get()),
-        Answer::Refused(_) => Ok(()),
+        Answer::Paid(paid) => Some(i128::from(cents_in(column, &paid.pricing))),
+        Answer::Twice(paid) => Some(i128::from(cents_in(column, &paid.pricing))),
+        Answer::Approved(approved) => given_back(column, approved.total_paid.get()),
+        Answer::Refused(_) => None,
     }
 }
 
@@ -148,29 +134,20 @@ fn cents_in(column: Column, pricing: &Pricing) -> u64
     }
 }
 
-fn put_back(alloc: Global, text: &mut Vec<u8>, column: Column, cents: u64) -> Result<(), AllocError>
-    ensures { OnOk result (text.new.items ≡ text.old.items ++ back_cell column cents) }
+fn given_back(column: Column, cents: u64) -> Option<i128>
+    ensures { result ≡ given_back column cents }
 {
     match column {
-        Column::Plan => put_given_back(alloc, text, cents),
-        _ => Ok(()),
+        Column::Plan => Some(-i128::from(cents)),
+        _ => None,
     }
 }
 
-#[tactic(auto, using(std::proofs::Common::append_assoc))]
-fn put_given_back(alloc: Global, text: &mut Vec<u8>, cents: u64) -> Result<(), AllocError>
-    ensures { OnOk result (text.new.items ≡ text.old.items ++ given_back cents) }
+fn put_cents(text: &mut Vec<u8>, cents: Option<i128>) -> Result<(), AllocError>
+    ensures { OnOk result (text.new.items ≡ text.old.items ++ cents_cell cents) }
 {
-    if cents == 0 {
-        return put_number(alloc, text, 0);
+    match cents {
+        Some(cents) => put_signed(text, cents),
+        None => Ok(()),
     }
-    text.push(b'-')?;
-    put_number(alloc, text, cents)
-}
-
-fn put_number(alloc: Global, text: &mut Vec<u8>, number: u64) -> Result<(), AllocError>
-    ensures { OnOk result (text.new.items ≡ text.old.items ++ decimal number) }
-{
-    let digits = format!(in alloc; "{number}")?;
-    text.extend_from_slice(digits.as_str().as_bytes())
 }

@@ -34,12 +34,11 @@ mod tallying;
 mod texts;
 
 pub use accounting::account_of;
-pub use cells::cell_of;
+pub use cells::{cell_of, cents_of};
 pub use column::Column;
 pub use groups::Groups;
 pub use line::Line;
 pub use lines::report_lines;
 pub use portion::{Portion, kept_lines};
 pub use section::{Account, Section};
-pub use tallying::tally_lines;
-pub use texts::{json_text, tsv_text};
+pub use texts::{lines_json, tsv_text};

@@ -6,7 +6,7 @@ use crate::line::Line;
 use rx_settle::Tally;
 
 /// What the answers of some lines come to.
-pub fn tally_lines(lines: &[Line]) -> Tally
+pub(crate) fn tally_lines(lines: &[Line]) -> Tally
     ensures value { result ≡ tally (map answer_of lines.now) }
     ensures within { weight result ≤ 100_000_000 * length lines.now }
 {

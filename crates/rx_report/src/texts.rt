@@ -1,7 +1,7 @@
 ghost use Rattle.std.specs.Prelude.{◌≡◌, ◌++◌, IfOk, OnOk};
 ghost use Rattle.std.specs.List.{flat_map};
 ghost use Rattle.rx_report.specs.Cells.{cell};
-ghost use Rattle.rx_report.specs.Texts.{comma_member, comma_object, heading, json_member, json_object, json_text, json_value};
+ghost use Rattle.rx_report.specs.Texts.{comma_member, comma_object, heading, json_member, json_object, json_value, lines_json};
 ghost use Rattle.rx_report.specs.Texts.{row, tab_cell, tab_name, tsv_text};
 
 use crate::cells::{cell_of, put_cell};
@@ -18,7 +18,7 @@ pub fn tsv_text(alloc: Global, lines: &[Line]) -> Result<Vec<u8>, Memory>
 {
     let mut text = Vec::new(alloc);
     put_heading(&mut text)?;
-    put_rows(alloc, &mut text, lines)?;
+    put_rows(&mut text, lines)?;
     Ok(text)
 }
 
@@ -42,36 +42,31 @@ fn put_names(text: &mut Vec<u8>, columns: &[Column]) -> Result<(), AllocError>
     Ok(())
 }
 
-fn put_rows(alloc: Global, text: &mut Vec<u8>, lines: &[Line]) -> Result<(), AllocError>
+fn put_rows(text: &mut Vec<u8>, lines: &[Line]) -> Result<(), AllocError>
     ensures { OnOk result (text.new.items ≡ text.old.items ++ flat_map row lines.now) }
 {
     for line in lines {
-        put_row(alloc, text, line)?;
+        put_row(text, line)?;
     }
     Ok(())
 }
 
 #[tactic(auto, using(std::proofs::Common::append_assoc))]
-fn put_row(alloc: Global, text: &mut Vec<u8>, line: &Line) -> Result<(), AllocError>
+fn put_row(text: &mut Vec<u8>, line: &Line) -> Result<(), AllocError>
     ensures { OnOk result (text.new.items ≡ text.old.items ++ row line.now) }
 {
-    put_cell(alloc, text, Column::Place, line)?;
-    put_cells(alloc, text, line, &OTHERS)?;
+    put_cell(text, Column::Place, line)?;
+    put_cells(text, line, &OTHERS)?;
     text.extend_from_slice(b"\n")
 }
 
 // Each cell after a tab.
-fn put_cells(
-    alloc: Global,
-    text: &mut Vec<u8>,
-    line: &Line,
-    columns: &[Column],
-) -> Result<(), AllocError>
+fn put_cells(text: &mut Vec<u8>, line: &Line, columns: &[Column]) -> Result<(), AllocError>
     ensures { OnOk result (text.new.items ≡ text.old.items ++ flat_map (tab_cell line.now) columns.now) }
 {
     for column in columns {
         text.push(b'\t')?;
-        put_cell(alloc, text, *column, line)?;
+        put_cell(text, *column, line)?;
     }
     Ok(())
 }
@@ -79,8 +74,8 @@ fn put_cells(
 /// The lines as JSON: an array with an object for each, whose names are the columns'. What isn't known is `null`; amounts
 /// are in cents.
 #[tactic(auto, using(std::proofs::Common::append_assoc))]
-pub fn json_text(alloc: Global, lines: &[Line]) -> Result<Vec<u8>, Memory>
-    ensures { IfOk result (λ text. text.items ≡ json_text lines.now) }
+pub fn lines_json(alloc: Global, lines: &[Line]) -> Result<Vec<u8>, Memory>
+    ensures { IfOk result (λ text. text.items ≡ lines_json lines.now) }
 {
     let mut text = Vec::new(alloc);
     let [first, others @ ..] = lines else {

@@ -1,8 +1,9 @@
 -- Meaning: an account in aligned columns, for people.
 use Rattle.std.specs.Prelude.{ℕ, ◌-◌, Bool, true, if◌then◌else◌, List, [], ◌∷◌, ◌++◌, codes, length, map, max, replicate, take}
 use Rattle.std.specs.Char.{is_ascii_whitespace}
-use Rattle.std.specs.Fmt.{decimal, signed_decimal}
+use Rattle.std.specs.Fmt.{decimal}
 use Rattle.std.specs.List.{flat_map, fold, suffix_len}
+use Rattle.rx_print.specs.Money.{signed_dollars}
 use Rattle.rx_print.specs.Escape.{escaped}
 use Rattle.rx_print.specs.declared.style.Style.TheVariants.{Terminal}
 use Rattle.rx_report.specs.declared.line.Line.{Line}
@@ -13,7 +14,6 @@ use Rattle.rx_report.specs.declared.section.Section.{Section}
 use Rattle.rx_report_text.specs.declared.shown.Shown.{Shown}
 use Rattle.rx_report_text.specs.declared.shown.Shown.TheVariants as shown
 use Rattle.rx_report_text.specs.declared.wide.Wide.{Wide}
-use Rattle.rx_report_text.specs.Money.{dollars}
 use Rattle.rx_report_text.specs.Shown.{columns, heading_of, is_amount, shown_cell}
 use Rattle.rx_settle.specs.Providers.{named}
 use Rattle.rx_settle.specs.Settlement.{net}
@@ -81,7 +81,7 @@ tally_counts t =
     ++ (decimal t.approved ++ (codes " reversed, " ++ (decimal t.rejected ++ codes " rejected, net ")))))))
 
 unfoldable pub tally_line : Tally → List ℕ
-tally_line t = tally_counts t ++ (dollars (signed_decimal (net t)) ++ 10 ∷ [])
+tally_line t = tally_counts t ++ (signed_dollars (net t) ++ 10 ∷ [])
 
 -- a provider with what its answers come to, the headings, its lines, and an empty line
 unfoldable pub section_text : List Wide → Section → List ℕ

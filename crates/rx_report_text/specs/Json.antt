@@ -6,7 +6,7 @@ use Rattle.std.specs.Result.{result_ok}
 use Rattle.rx_print.specs.Escape.{escaped}
 use Rattle.rx_print.specs.declared.style.Style.TheVariants.{Json}
 use Rattle.rx_fields.specs.Text.{id_of}
-use Rattle.rx_report.specs.Texts.{json_text}
+use Rattle.rx_report.specs.Texts.{lines_json}
 use Rattle.rx_report.specs.declared.portion.Portion.{Portion}
 use Rattle.rx_report.specs.declared.portion.Portion.TheVariants as portion
 use Rattle.rx_report.specs.declared.section.Account.{Account}
@@ -47,7 +47,7 @@ tally_json t = counts_json t ++ signed_decimal (net t)
 unfoldable pub section_json : Section → List ℕ
 section_json s =
     codes "{\"provider\":" ++ (provider_json s.provider ++ (codes "," ++ (tally_json s.tally
-    ++ (codes ",\"lines\":" ++ (json_text s.lines.now ++ codes "}")))))
+    ++ (codes ",\"lines\":" ++ (lines_json s.lines.now ++ codes "}")))))
 
 -- each on a line of its own, a comma behind the one before it
 abbrev pub first_section : Section → List ℕ

@@ -3,7 +3,6 @@ pub mod Claims
 pub mod ClaimsShown
 pub mod Columns
 pub mod Json
-pub mod Money
 pub mod Pages
 pub mod Providers
 pub mod Shown

@@ -1,14 +1,14 @@
 -- Meaning: how a page has the table of providers.
 use Rattle.std.specs.Prelude.{ℕ, ◌*◌, ◌/◌, ◌^◌, ◌==◌, nat_lt, if◌then◌else◌, Bool, true, false}
 use Rattle.std.specs.Prelude.{List, [], ◌++◌, codes, max}
-use Rattle.std.specs.Fmt.{decimal, signed_decimal}
+use Rattle.std.specs.Fmt.{decimal}
 use Rattle.std.specs.Int.{abs_diff}
 use Rattle.std.specs.List.{enumerate_from, flat_map, fold}
 use Rattle.rx_report.specs.declared.portion.Portion.{Portion}
 use Rattle.rx_report.specs.declared.portion.Portion.TheVariants as portion
 use Rattle.rx_report.specs.declared.section.Account.{Account}
 use Rattle.rx_report.specs.declared.section.Section.{Section}
-use Rattle.rx_report_text.specs.Money.{dollars}
+use Rattle.rx_print.specs.Money.{signed_dollars}
 use Rattle.rx_report_text.specs.Pages.{provider_text}
 use Rattle.rx_settle.specs.Settlement.{net}
 use Rattle.rx_settle.specs.declared.tally.Tally.{Tally}
@@ -22,7 +22,7 @@ unfoldable pub tally_text : Tally → List ℕ
 tally_text t =
     count_text (codes "<td><i>Paid</i>") t.paid ++ (count_text (codes "<td><i>Duplicate</i>") t.duplicate
     ++ (count_text (codes "<td><i>Reversed</i>") t.approved ++ (count_text (codes "<td><i>Rejected</i>") t.rejected
-    ++ (codes "<td class=\"net\">" ++ (dollars (signed_decimal (net t)) ++ codes "</td>")))))
+    ++ (codes "<td class=\"net\">" ++ (signed_dollars (net t) ++ codes "</td>")))))
 
 -- ---- the bar of a net
 

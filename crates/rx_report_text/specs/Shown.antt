@@ -1,11 +1,12 @@
 -- Meaning: what a report for people says of an answer, column by column. What isn't known stays blank.
-use Rattle.std.specs.Prelude.{ℕ, Bool, true, false, List, [], ◌∷◌, ◌++◌, Option, Some, None, codes, drop, take}
-use Rattle.rx_report.specs.Cells.{cell}
+use Rattle.std.specs.Prelude.{ℕ, ℤ, Bool, true, false, List, [], ◌∷◌, ◌++◌, Option, Some, None, codes}
+use Rattle.rx_print.specs.Dates.{dashed_digits}
+use Rattle.rx_print.specs.Money.{signed_dollars}
+use Rattle.rx_report.specs.Cells.{cell, cents_of}
 use Rattle.rx_report.specs.declared.column.Column.TheVariants as column
 use Rattle.rx_report.specs.declared.line.Line.{Line}
 use Rattle.rx_report_text.specs.declared.shown.Shown.{Shown}
 use Rattle.rx_report_text.specs.declared.shown.Shown.TheVariants as shown
-use Rattle.rx_report_text.specs.Money.{dollars}
 
 -- the columns, in order
 abbrev pub columns : List Shown
@@ -36,25 +37,26 @@ is_amount shown.Date = false
 is_amount shown.Member = false
 is_amount other = true
 
--- a date of eight digits, as 2026-03-01
-abbrev pub dashed : List ℕ → List ℕ
-dashed date = take 4 date ++ (45 ∷ (take 2 (drop 4 date) ++ (45 ∷ drop 2 (drop 4 date))))
-
 -- the family and the person, as F1/02
 abbrev pub member_text : Option (List ℕ × List ℕ) → List ℕ
 member_text None = []
 member_text (Some m) = m.0 ++ (47 ∷ m.1)
+
+-- the amount, where there is one
+abbrev pub amount_text : Option ℤ → List ℕ
+amount_text None = []
+amount_text (Some cents) = signed_dollars cents
 
 abbrev pub shown_cell : Shown → Line → List ℕ
 shown_cell shown.Record l = cell column.Place l ++ (46 ∷ cell column.Nth l)
 shown_cell shown.Answer l = cell column.Status l
 shown_cell shown.Codes l = cell column.Codes l
 shown_cell shown.Prescription l = cell column.Prescription l
-shown_cell shown.Date l = dashed l.date
+shown_cell shown.Date l = dashed_digits l.date
 shown_cell shown.Member l = member_text l.member
-shown_cell shown.Allowed l = dollars (cell column.Allowed l)
-shown_cell shown.Deductible l = dollars (cell column.Deductible l)
-shown_cell shown.Copay l = dollars (cell column.Copay l)
-shown_cell shown.Coinsurance l = dollars (cell column.Coinsurance l)
-shown_cell shown.MemberPays l = dollars (cell column.Member l)
-shown_cell shown.PlanPays l = dollars (cell column.Plan l)
+shown_cell shown.Allowed l = amount_text (cents_of column.Allowed l.answer)
+shown_cell shown.Deductible l = amount_text (cents_of column.Deductible l.answer)
+shown_cell shown.Copay l = amount_text (cents_of column.Copay l.answer)
+shown_cell shown.Coinsurance l = amount_text (cents_of column.Coinsurance l.answer)
+shown_cell shown.MemberPays l = amount_text (cents_of column.Member l.answer)
+shown_cell shown.PlanPays l = amount_text (cents_of column.Plan l.answer)

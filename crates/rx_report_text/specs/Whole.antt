@@ -1,9 +1,9 @@
 -- Meaning: the whole page of an account.
 use Rattle.std.specs.Prelude.{ℕ, Bool, true, false, List, ◌++◌, codes}
 use Rattle.std.specs.List.{enumerate_from}
+use Rattle.rx_print.specs.Dates.{dashed}
 use Rattle.rx_print.specs.Escape.{escaped}
 use Rattle.rx_print.specs.declared.style.Style.TheVariants.{Html}
-use Rattle.rx_fields.specs.Calendar.{date_text}
 use Rattle.rx_fields.specs.Digits.{digits_text}
 use Rattle.rx_fields.specs.Numbered.{LotParts}
 use Rattle.rx_report.specs.declared.portion.Portion.{Portion}
@@ -14,7 +14,6 @@ use Rattle.rx_report_text.specs.declared.why.Why.{Why}
 use Rattle.rx_report_text.specs.Claims.{sections_text}
 use Rattle.rx_report_text.specs.ClaimsShown.{shows_claims}
 use Rattle.rx_report_text.specs.Providers.{table_text}
-use Rattle.rx_report_text.specs.Shown.{dashed}
 
 -- the batch number, as text
 abbrev pub lot_text : LotParts → List ℕ
@@ -42,7 +41,7 @@ portion_text (portion.Family id) =
 -- the batch, its date, and whose lines the page has
 unfoldable pub title_text : LotParts → Portion → List ℕ
 title_text lot p =
-    codes "<header>\n<h1>" ++ (lot_text lot ++ (codes "</h1>\n<p>created " ++ (escaped Html (dashed (date_text lot.created))
+    codes "<header>\n<h1>" ++ (lot_text lot ++ (codes "</h1>\n<p>created " ++ (escaped Html (dashed lot.created)
     ++ (portion_text p ++ codes "; amounts in dollars</p>\n</header>\n<main>\n"))))
 
 -- in place of so many claims, the command for those of one provider

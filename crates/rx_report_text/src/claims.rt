@@ -4,10 +4,11 @@ ghost use Rattle.rx_report_text.specs.declared.shown.Shown.TheVariants.{Codes};
 ghost use Rattle.rx_report_text.specs.Claims.{amounts_text, answer_front, claim_front, claim_text, figure_text};
 ghost use Rattle.rx_report_text.specs.Claims.{figures_of, section_text, span_text, summary_text};
 
-use crate::page::Page;
+use crate::html::{put_cell, put_provider_text, put_reason};
 use crate::shown::Shown;
 use crate::why::Whys;
 use rx_d0_values::Answer;
+use rx_print::Page;
 use rx_report::{Line, Section};
 use std::alloc::AllocError;
 
@@ -23,7 +24,7 @@ pub(crate) fn put_claims(
     page.markup("<section id=\"p")?;
     page.number(before as u128)?;
     page.markup("\">\n<h2>Provider ")?;
-    page.provider(&section.provider)?;
+    put_provider_text(page, &section.provider)?;
     page.markup(
         "</h2>\n<div class=\"names\"><b>Record</b><b>Answer</b><b>Rx</b><b>Date</b><b>Member</b>",
     )?;
@@ -49,7 +50,7 @@ fn put_claim(page: &mut Page, line: &Line, whys: &Whys) -> Result<(), AllocError
     page.markup("</summary>\n<dl>")?;
     put_figures(page, line)?;
     page.markup("</dl><pre>")?;
-    page.reason(whys, line)?;
+    put_reason(page, whys, line)?;
     page.markup("</pre></details>\n")
 }
 
@@ -88,7 +89,7 @@ fn put_span(
     ensures { OnOk result (page.new.bytes.items ≡ page.old.bytes.items ++ span_text front.now shown line.now) }
 {
     page.markup(front)?;
-    page.cell(shown, line)?;
+    put_cell(page, shown, line)?;
     page.markup("</span>")
 }
 
@@ -146,6 +147,6 @@ fn put_figure(
     page.markup("<dt>")?;
     page.markup(name)?;
     page.markup("</dt><dd>")?;
-    page.cell(shown, line)?;
+    put_cell(page, shown, line)?;
     page.markup("</dd>")
 }

@@ -115,7 +115,7 @@ fn put_tally(alloc: Global, text: &mut Vec<u8>, tally: &Tally) -> Result<(), All
 {
     let counts = counts(alloc, tally)?;
     text.extend_from_slice(counts.as_str().as_bytes())?;
-    put_net(alloc, text, tally)?;
+    put_net(text, tally)?;
     text.extend_from_slice(b"\n")
 }
 

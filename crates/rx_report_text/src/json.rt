@@ -4,17 +4,17 @@ ghost use Rattle.std.specs.String.{string_bytes};
 ghost use Rattle.rx_report_text.specs.Json.{account_json, comma_section, counts_json, first_section, portion_json};
 ghost use Rattle.rx_report_text.specs.Json.{provider_json, quoted, section_json, sections_json, tally_json};
 
-use crate::money::net_cents;
+use crate::money::put_net_cents;
 use rx_fields::{Memory, Provider};
 use rx_print::{Style, put_escaped};
-use rx_report::{Account, Portion, Section, json_text as lines_json};
+use rx_report::{Account, Portion, Section, lines_json};
 use rx_settle::{Field, Tally};
 use std::alloc::{AllocError, Global};
 
 /// The account as a JSON object: which portion it is, a section for each provider with its counts, its net in cents and
-/// its lines (`rx_report::json_text`), and the counts and the net of all.
+/// its lines (`rx_report::lines_json`), and the counts and the net of all.
 #[tactic(auto, using(std::proofs::Common::append_assoc))]
-pub fn json_text(
+pub fn account_json(
     alloc: Global,
     portion: Portion<'_>,
     account: &Account<'_>,
@@ -158,9 +158,8 @@ fn put_tally(alloc: Global, text: &mut Vec<u8>, tally: &Tally) -> Result<(), All
     ensures { OnOk result (text.new.items ≡ text.old.items ++ tally_json tally.now) }
 {
     let counts = counts(alloc, tally)?;
-    let net = net_cents(alloc, tally)?;
     text.extend_from_slice(counts.as_str().as_bytes())?;
-    text.extend_from_slice(net.as_str().as_bytes())
+    put_net_cents(text, tally)
 }
 
 fn counts(alloc: Global, tally: &Tally) -> Result<String, AllocError>

@@ -20,9 +20,9 @@
 
 mod claims;
 mod columns;
+mod html;
 mod json;
 mod money;
-mod page;
 mod providers;
 mod shown;
 mod style;
@@ -31,9 +31,7 @@ mod why;
 mod wide;
 
 pub use columns::columns_text;
-pub use json::json_text;
-pub use money::{net_cents, put_dollars, put_net};
-pub use page::Page;
+pub use json::account_json;
 pub use shown::{COLUMNS, Shown, shown_cell};
 pub use whole::{MOST_LINES, explained_page, report_page, shows_claims};
 pub use why::{AnswerSpot, Why, Whys, why_of};

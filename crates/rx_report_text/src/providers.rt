@@ -3,7 +3,8 @@ ghost use Rattle.std.specs.List.{enumerate_from};
 ghost use Rattle.rx_report_text.specs.Providers.{bar_text, count_text, length_text, link_text, longest, name_text, percent};
 ghost use Rattle.rx_report_text.specs.Providers.{row_text, rows_text, scope_text, sign_text, size, table_text, tally_text, total_text};
 
-use crate::page::Page;
+use crate::html::{put_net_text, put_provider_text};
+use rx_print::Page;
 use rx_report::{Account, Portion, Section};
 use rx_settle::{Field, Tally};
 use std::alloc::AllocError;
@@ -107,7 +108,7 @@ fn put_name(
     if unfolds {
         put_link(page, before, provider)
     } else {
-        page.provider(provider)
+        put_provider_text(page, provider)
     }
 }
 
@@ -117,7 +118,7 @@ fn put_link(page: &mut Page, before: usize, provider: &Field) -> Result<(), Allo
     page.markup("<a href=\"#p")?;
     page.number(before as u128)?;
     page.markup("\">")?;
-    page.provider(provider)?;
+    put_provider_text(page, provider)?;
     page.markup("</a>")
 }
 
@@ -130,7 +131,7 @@ fn put_tally(page: &mut Page, tally: &Tally) -> Result<(), AllocError>
     put_count(page, "<td><i>Reversed</i>", tally.approved)?;
     put_count(page, "<td><i>Rejected</i>", tally.rejected)?;
     page.markup("<td class=\"net\">")?;
-    page.net(tally)?;
+    put_net_text(page, tally)?;
     page.markup("</td>")
 }
 

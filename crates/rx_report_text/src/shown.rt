@@ -1,12 +1,12 @@
 ghost use Rattle.std.specs.Prelude.{◌≡◌, ◌++◌, ◌∷◌, IfOk, OnOk};
-ghost use Rattle.rx_report.specs.Cells.{cell};
+ghost use Rattle.rx_print.specs.Dates.{dashed_digits};
+ghost use Rattle.rx_report.specs.Cells.{cell, cents_of};
 ghost use Rattle.rx_report.specs.declared.column.Column.TheVariants.{Nth, Place};
-ghost use Rattle.rx_report_text.specs.Money.{dollars};
-ghost use Rattle.rx_report_text.specs.Shown.{dashed, heading_of, is_amount, member_text, shown_cell};
+ghost use Rattle.rx_report_text.specs.Shown.{amount_text, heading_of, is_amount, member_text, shown_cell};
 
-use crate::money::put_dollars;
 use rx_fields::{Id, Person};
-use rx_report::{Column, Line, cell_of};
+use rx_print::{dashed_digits, put_signed_dollars};
+use rx_report::{Column, Line, cell_of, cents_of};
 use std::alloc::{AllocError, Global};
 
 /// A column of a report for people. The provider stands above its lines.
@@ -122,18 +122,10 @@ fn record_cell(alloc: Global, line: &Line) -> Result<Vec<u8>, AllocError>
     Ok(text)
 }
 
-#[tactic(auto, using(std::proofs::Common::append_assoc))]
 fn date_cell(alloc: Global, date: [u8; 8]) -> Result<Vec<u8>, AllocError>
-    ensures { IfOk result (λ text. text.items ≡ dashed date) }
+    ensures { IfOk result (λ text. text.items ≡ dashed_digits date) }
 {
-    let (year, rest) = date.as_slice().split_at(4);
-    let (month, day) = rest.split_at(2);
-    let mut text = year.to_vec(alloc)?;
-    text.push(b'-')?;
-    text.extend_from_slice(month)?;
-    text.push(b'-')?;
-    text.extend_from_slice(day)?;
-    Ok(text)
+    Vec::from_slice(alloc, &dashed_digits(date))
 }
 
 fn member_cell(alloc: Global, line: &Line) -> Result<Vec<u8>, AllocError>
@@ -157,10 +149,11 @@ fn put_member(text: &mut Vec<u8>, family: &Id, person: &Person) -> Result<(), Al
 }
 
 fn amount_cell(alloc: Global, column: Column, line: &Line) -> Result<Vec<u8>, AllocError>
-    ensures { IfOk result (λ text. text.items ≡ dollars (cell column line.now)) }
+    ensures { IfOk result (λ text. text.items ≡ amount_text (cents_of column line.now.answer)) }
 {
-    let cents = cell_of(alloc, column, line)?;
     let mut text = Vec::new(alloc);
-    put_dollars(&mut text, &cents)?;
+    if let Some(cents) = cents_of(column, &line.answer) {
+        put_signed_dollars(&mut text, cents)?;
+    }
     Ok(text)
 }

@@ -1,20 +1,19 @@
 ghost use Rattle.std.specs.Prelude.{◌≡◌, ◌++◌, [], length, nat_le, sum_by, IfOk, OnOk};
 ghost use Rattle.std.specs.List.{enumerate_from};
+ghost use Rattle.rx_print.specs.Dates.{dashed};
 ghost use Rattle.rx_print.specs.Escape.{escaped};
 ghost use Rattle.rx_print.specs.declared.style.Style.TheVariants.{Html};
-ghost use Rattle.rx_fields.specs.Calendar.{date_text};
 ghost use Rattle.rx_report_text.specs.Claims.{sections_text};
 ghost use Rattle.rx_report_text.specs.ClaimsShown.{shows_claims};
-ghost use Rattle.rx_report_text.specs.Shown.{dashed};
 ghost use Rattle.rx_report_text.specs.Whole.{below_table, head_text, lot_text, page_text, parts_of_page};
 ghost use Rattle.rx_report_text.specs.Whole.{portion_text, title_text, too_many_text};
 
 use crate::claims::put_claims;
-use crate::page::Page;
 use crate::providers::put_providers;
 use crate::style::STYLE;
 use crate::why::Whys;
 use rx_fields::{Day, Lot, Memory, date_write, digits_write};
+use rx_print::{Page, Style, dashed_digits};
 use rx_report::{Account, Portion, Section};
 use rx_sorted::Ascending;
 use std::alloc::{AllocError, Global};
@@ -132,7 +131,7 @@ fn put_lot(page: &mut Page, lot: Lot) -> Result<(), AllocError>
 {
     let number: [u8; 7] = digits_write(u64::from(lot.number()));
     page.markup("Batch ")?;
-    page.text(&number)
+    page.escaped(Style::Html, &number)
 }
 
 // The batch, its date, and whose lines the page has.
@@ -149,16 +148,9 @@ fn put_title(page: &mut Page, lot: Lot, portion: Portion<'_>) -> Result<(), Allo
 
 // A day as `2026-03-05`.
 fn put_day(page: &mut Page, day: Day) -> Result<(), AllocError>
-    ensures { OnOk result (page.new.bytes.items ≡ page.old.bytes.items ++ escaped Html (dashed (date_text day))) }
+    ensures { OnOk result (page.new.bytes.items ≡ page.old.bytes.items ++ escaped Html (dashed day)) }
 {
-    page.text(&dashed(date_write(day)))
-}
-
-fn dashed(date: [u8; 8]) -> [u8; 10]
-    ensures { result ≡ dashed date }
-{
-    let [y0, y1, y2, y3, m0, m1, d0, d1] = date;
-    [y0, y1, y2, y3, b'-', m0, m1, b'-', d0, d1]
+    page.escaped(Style::Html, &dashed_digits(date_write(day)))
 }
 
 // Whose lines the page has.
@@ -188,7 +180,7 @@ fn put_within(
     ensures { OnOk result (page.new.bytes.items ≡ page.old.bytes.items ++ (front.now ++ (escaped Html id.now ++ back.now))) }
 {
     page.markup(front)?;
-    page.text(id)?;
+    page.escaped(Style::Html, id)?;
     page.markup(back)
 }
 

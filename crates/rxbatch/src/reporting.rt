@@ -8,7 +8,7 @@ use rx_cli::{Form, Inputs, Portion as PortionWords, ReportWords};
 use rx_commands::{Report, job_report, whys_of};
 use rx_fields::Memory;
 use rx_report::{Account, Groups, Line, Portion, account_of, kept_lines, tsv_text};
-use rx_report_text::{Whys, columns_text, explained_page, json_text, shows_claims};
+use rx_report_text::{Whys, account_json, columns_text, explained_page, shows_claims};
 use std::alloc::Global;
 use std::thread::Threads;
 
@@ -67,7 +67,7 @@ fn report_text(
     match form {
         Form::Tsv => tsv_text(alloc, &kept),
         Form::Columns => columns_text(alloc, portion, &account),
-        Form::Json => json_text(alloc, portion, &account),
+        Form::Json => account_json(alloc, portion, &account),
         Form::Html => page_text(alloc, portion, report, &kept, &account),
     }
 }

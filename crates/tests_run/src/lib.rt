@@ -13,6 +13,8 @@
 #[cfg(test)]
 mod adjudicate;
 #[cfg(test)]
+mod amounts;
+#[cfg(test)]
 mod decoding;
 #[cfg(test)]
 mod desk;
@@ -32,8 +34,6 @@ mod in_order;
 mod log;
 #[cfg(test)]
 mod one_billing;
-#[cfg(test)]
-mod report_text;
 #[cfg(test)]
 mod response;
 #[cfg(test)]

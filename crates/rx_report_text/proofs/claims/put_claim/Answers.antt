@@ -20,5 +20,5 @@ returns c =
     c.in_ok-markup.ensures
     c.in_ok-put_figures.ensures
     c.in_ok-markup-2.ensures
-    c.in_ok-reason.ensures
+    c.in_ok-put_reason.ensures
     c.markup-3.ensures

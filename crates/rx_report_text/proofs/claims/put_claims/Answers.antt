@@ -21,7 +21,7 @@ returns c =
     c.in_ok-markup.ensures
     c.in_ok-number.ensures
     c.in_ok-markup-2.ensures
-    c.in_ok-provider.ensures
+    c.in_ok-put_provider_text.ensures
     c.in_ok-markup-3.ensures
     c.in_ok-markup-4.ensures
     c.in_ok-put_each.ensures

@@ -17,5 +17,5 @@ returns c =
     c.in_ok-markup.ensures
     c.in_ok-number.ensures
     c.in_ok-markup-2.ensures
-    c.in_ok-provider.ensures
+    c.in_ok-put_provider_text.ensures
     c.markup-3.ensures

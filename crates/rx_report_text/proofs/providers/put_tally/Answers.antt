@@ -1,6 +1,5 @@
 use Rattle.std.proofs.Common.{codes}
-use Rattle.std.specs.Fmt.{signed_decimal}
-use Rattle.rx_report_text.specs.Money.{dollars}
+use Rattle.rx_print.specs.Money.{signed_dollars}
 use Rattle.rx_report_text.specs.Providers.{count_text, tally_text}
 use Rattle.rx_report_text.proofs.Written.{seven}
 use Rattle.rx_settle.specs.Settlement.{net}
@@ -15,12 +14,12 @@ returns c =
     (count_text (codes "<td><i>Reversed</i>") c.args.tally.now.approved)
     (count_text (codes "<td><i>Rejected</i>") c.args.tally.now.rejected)
     (codes "<td class=\"net\">")
-    (dollars (signed_decimal (net c.args.tally.now)))
+    (signed_dollars (net c.args.tally.now))
     (codes "</td>")
     c.in_ok-put_count.ensures
     c.in_ok-put_count-2.ensures
     c.in_ok-put_count-3.ensures
     c.in_ok-put_count-4.ensures
     c.in_ok-markup.ensures
-    c.in_ok-net.ensures
+    c.in_ok-put_net_text.ensures
     c.markup-2.ensures

@@ -1,8 +1,7 @@
 use Rattle.std.proofs.Common.{ap, codes, ◌++◌, ◌∙◌}
+use Rattle.rx_print.specs.Dates.{dashed}
 use Rattle.rx_print.specs.Escape.{escaped}
 use Rattle.rx_print.specs.declared.style.Style.TheVariants.{Html}
-use Rattle.rx_fields.specs.Calendar.{date_text}
-use Rattle.rx_report_text.specs.Shown.{dashed}
 use Rattle.rx_report_text.specs.Whole.{lot_text, portion_text, title_text}
 use Rattle.rx_report_text.proofs.Written.{six}
 use Rattle.rx_report_text.proofs.whole.put_title.Goals as goal
@@ -14,13 +13,13 @@ returns c =
     (codes "<header>\n<h1>")
     (lot_text c.args.lot)
     (codes "</h1>\n<p>created ")
-    (escaped Html (dashed (date_text c.args.lot.created)))
+    (escaped Html (dashed c.args.lot.created))
     (portion_text c.args.portion)
     (codes "; amounts in dollars</p>\n</header>\n<main>\n")
     c.in_ok-markup.ensures
     c.in_ok-put_lot.ensures
     c.in_ok-markup-2.ensures
     (c.in_ok-put_day.ensures
-    ∙ ap (λ day. c.markup-2.new.self.bytes.items ++ escaped Html (dashed (date_text day))) c.created.ensures)
+    ∙ ap (λ day. c.markup-2.new.self.bytes.items ++ escaped Html (dashed day)) c.created.ensures)
     c.in_ok-put_portion.ensures
     c.markup-3.ensures

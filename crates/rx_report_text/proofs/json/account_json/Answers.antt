@@ -1,6 +1,6 @@
 use Rattle.std.proofs.Common.{◌≡◌, ℕ, List, [], ◌∷◌, ◌++◌, codes, ap, ◌∙◌, append_assoc}
 use Rattle.rx_report_text.specs.Json.{portion_json, sections_json, tally_json}
-use Rattle.rx_report_text.proofs.json.json_text.Goals as goal
+use Rattle.rx_report_text.proofs.json.account_json.Goals as goal
 
 -- what is written one behind the other
 joined : (t0 t1 t2 t3 t4 a f s r : List ℕ) → t0 ≡ [] → t1 ≡ t0 ++ 123 ∷ [] → t2 ≡ t1 ++ a → t3 ≡ t2 ++ (f ++ s)

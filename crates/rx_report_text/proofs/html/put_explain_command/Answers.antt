@@ -2,11 +2,11 @@
 use Rattle.std.proofs.Common.{ℕ, ◌++◌, List, append_assoc, codes, ap, ◌∙◌}
 use Rattle.rx_report_text.specs.declared.shown.Shown.TheVariants.{Record}
 use Rattle.rx_report_text.specs.Pages.{cell_text}
-use Rattle.rx_report_text.proofs.page.Page.command.Goals as goal
+use Rattle.rx_report_text.proofs.html.put_explain_command.Goals as goal
 
 pub returns : goal.returns
 returns c =
-    c.in_ok-cell.ensures
+    c.in_ok-put_cell.ensures
     ∙ ap (λ (xs : List ℕ). xs ++ cell_text Record c.args.line.now) c.in_ok-markup.ensures
-    ∙ append_assoc c.args.self.now.bytes.items (codes "rxbatch explain --sheet F --books F --batch F --record ")
+    ∙ append_assoc c.args.page.now.bytes.items (codes "rxbatch explain --sheet F --books F --batch F --record ")
     (cell_text Record c.args.line.now)
