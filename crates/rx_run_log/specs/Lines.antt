@@ -7,7 +7,8 @@ use Rattle.rx_run_log.specs.declared.report.RunReport.{RunReport}
 use Rattle.rx_run_log.specs.declared.step.Step.{Step}
 use Rattle.rx_run_log.specs.declared.step.Step.TheVariants as step
 use Rattle.rx_run_log.specs.declared.report.StepReport.{StepReport}
-use Rattle.rx_run_log.specs.Numbers.{grouped, net_text, size_text, time_text}
+use Rattle.rx_print.specs.Decimal.{grouped}
+use Rattle.rx_run_log.specs.Numbers.{net_text, size_text, time_text}
 
 -- a step at the front of its line
 abbrev pub label_of : Step → List ℕ

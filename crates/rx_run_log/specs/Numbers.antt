@@ -1,32 +1,13 @@
 -- Meaning: numbers as people read them.
-use Rattle.std.specs.Prelude.{ℕ, ℤ, ◌+◌, ◌/◌, ◌%◌, ◌==◌, nat_lt, if◌then◌else◌, List, [], ◌∷◌, ◌++◌, codes, length, unsigned_abs}
-use Rattle.std.specs.Fmt.{decimal, sign_text}
+use Rattle.std.specs.Prelude.{ℕ, ℤ, ◌+◌, ◌/◌, ◌%◌, nat_lt, if◌then◌else◌, List, [], ◌∷◌, ◌++◌, codes, unsigned_abs}
+use Rattle.std.specs.Fmt.{sign_text}
 use Rattle.std.specs.Int.{is_negative}
+use Rattle.rx_print.specs.Decimal.{grouped}
+use Rattle.rx_print.specs.Money.{hundredths_text}
 
--- a comma before these digits, where they are some threes
-abbrev pub comma_before : List ℕ → List ℕ
-comma_before digits =
-    if length digits == 0 then [] else (if length digits % 3 == 0 then 44 ∷ [] else [])
-
--- digits with a comma before each three from their end
-abbrev pub in_threes : List ℕ → List ℕ
-in_threes [] = []
-in_threes (digit ∷ digits) = digit ∷ (comma_before digits ++ in_threes digits)
-
--- a number with such commas
-abbrev pub grouped : ℕ → List ℕ
-grouped n = in_threes (decimal n)
-
--- a point and two digits
-abbrev pub cents_text : ℕ → List ℕ
-cents_text cents = 46 ∷ (48 + cents / 10) ∷ (48 + cents % 10) ∷ []
-
--- tenths as a number with one digit behind the point, hundredths as one with two
+-- tenths as a number with one digit behind the point
 abbrev pub tenths_text : ℕ → List ℕ
 tenths_text n = grouped (n / 10) ++ (46 ∷ (48 + n % 10) ∷ [])
-
-abbrev pub hundredths_text : ℕ → List ℕ
-hundredths_text n = grouped (n / 100) ++ cents_text (n % 100)
 
 -- bytes in full below a million, else in millions with a tenth, cut off
 abbrev pub size_text : ℕ → List ℕ

@@ -1,11 +1,12 @@
 ghost use Rattle.std.specs.Prelude.{◌≡◌, ◌++◌, IfOk, OnOk};
+ghost use Rattle.rx_print.specs.Decimal.{grouped};
 ghost use Rattle.rx_run_log.specs.Lines.{totals_part, totals_text, counted_part, counted_text, done_text, ending, named};
 ghost use Rattle.rx_run_log.specs.Lines.{peak_part, progress_text, size_part, step_text, time_part};
-ghost use Rattle.rx_run_log.specs.Numbers.{grouped};
 
-use crate::numbers::{put_grouped, put_net, put_size, put_time};
+use crate::numbers::{put_net, put_size, put_time};
 use crate::report::{Counted, RunReport, StepReport};
 use crate::settlement::Totals;
+use rx_print::put_grouped;
 use std::alloc::{AllocError, Global};
 
 /// The line of a step: its name, what was counted, its bytes and its time.
@@ -19,9 +20,9 @@ pub fn step_line(alloc: Global, report: &StepReport) -> Result<Vec<u8>, AllocErr
 {
     let mut line = Vec::new(alloc);
     line.extend_from_slice(report.step.label().as_bytes())?;
-    put_counted(alloc, &mut line, report.counted)?;
-    put_size_part(alloc, &mut line, report.bytes)?;
-    put_time_part(alloc, &mut line, report.micros)?;
+    put_counted(&mut line, report.counted)?;
+    put_size_part(&mut line, report.bytes)?;
+    put_time_part(&mut line, report.micros)?;
     line.push(b'\n')?;
     Ok(line)
 }
@@ -37,9 +38,9 @@ pub fn progress_line(alloc: Global, adjudicated: u64, records: u64) -> Result<Ve
 {
     let mut line = Vec::new(alloc);
     line.extend_from_slice(b"adjudicated  ")?;
-    put_grouped(alloc, &mut line, adjudicated)?;
+    put_grouped(&mut line, adjudicated)?;
     line.extend_from_slice(b" of ")?;
-    put_grouped(alloc, &mut line, records)?;
+    put_grouped(&mut line, records)?;
     line.extend_from_slice(b" records\n")?;
     Ok(line)
 }
@@ -55,43 +56,39 @@ pub fn done_line(alloc: Global, run: &RunReport) -> Result<Vec<u8>, AllocError>
 {
     let mut line = Vec::new(alloc);
     line.extend_from_slice(b"done       ")?;
-    put_totals_part(alloc, &mut line, run.totals)?;
-    put_peak_part(alloc, &mut line, run.peak)?;
-    put_time_part(alloc, &mut line, run.micros)?;
+    put_totals_part(&mut line, run.totals)?;
+    put_peak_part(&mut line, run.peak)?;
+    put_time_part(&mut line, run.micros)?;
     line.push(b'\n')?;
     Ok(line)
 }
 
 #[tactic(auto, using(std::proofs::Common::append_assoc))]
-fn put_counted(
-    alloc: Global,
-    line: &mut Vec<u8>,
-    counted: Option<Counted>,
-) -> Result<(), AllocError>
+fn put_counted(line: &mut Vec<u8>, counted: Option<Counted>) -> Result<(), AllocError>
     ensures { OnOk result (line.new.items ≡ line.old.items ++ counted_part counted) }
 {
     let Some(counted) = counted else {
         return Ok(());
     };
     line.extend_from_slice(b"  ")?;
-    put_count(alloc, line, counted)
+    put_count(line, counted)
 }
 
-fn put_count(alloc: Global, line: &mut Vec<u8>, counted: Counted) -> Result<(), AllocError>
+fn put_count(line: &mut Vec<u8>, counted: Counted) -> Result<(), AllocError>
     ensures { OnOk result (line.new.items ≡ line.old.items ++ counted_text counted) }
 {
     match counted {
-        Counted::Lines(count) => put_numbered(alloc, line, count, " line"),
-        Counted::Records(count) => put_numbered(alloc, line, count, " record"),
+        Counted::Lines(count) => put_numbered(line, count, " line"),
+        Counted::Records(count) => put_numbered(line, count, " record"),
     }
 }
 
 // A count, and what is counted, with the ending of the plural.
 #[tactic(auto, using(std::proofs::Common::append_assoc))]
-fn put_numbered(alloc: Global, line: &mut Vec<u8>, count: u64, name: &str) -> Result<(), AllocError>
+fn put_numbered(line: &mut Vec<u8>, count: u64, name: &str) -> Result<(), AllocError>
     ensures { OnOk result (line.new.items ≡ line.old.items ++ (grouped count ++ (name.now ++ ending count))) }
 {
-    put_grouped(alloc, line, count)?;
+    put_grouped(line, count)?;
     line.extend_from_slice(name.as_bytes())?;
     put_ending(line, count)
 }
@@ -108,69 +105,65 @@ fn put_ending(line: &mut Vec<u8>, count: u64) -> Result<(), AllocError>
 }
 
 #[tactic(auto, using(std::proofs::Common::append_assoc))]
-fn put_size_part(alloc: Global, line: &mut Vec<u8>, bytes: Option<u64>) -> Result<(), AllocError>
+fn put_size_part(line: &mut Vec<u8>, bytes: Option<u64>) -> Result<(), AllocError>
     ensures { OnOk result (line.new.items ≡ line.old.items ++ size_part bytes) }
 {
     let Some(bytes) = bytes else {
         return Ok(());
     };
     line.extend_from_slice(b"  ")?;
-    put_size(alloc, line, bytes)
+    put_size(line, bytes)
 }
 
 #[tactic(auto, using(std::proofs::Common::append_assoc))]
-fn put_time_part(alloc: Global, line: &mut Vec<u8>, micros: Option<u64>) -> Result<(), AllocError>
+fn put_time_part(line: &mut Vec<u8>, micros: Option<u64>) -> Result<(), AllocError>
     ensures { OnOk result (line.new.items ≡ line.old.items ++ time_part micros) }
 {
     let Some(micros) = micros else {
         return Ok(());
     };
     line.extend_from_slice(b"  ")?;
-    put_time(alloc, line, micros)
+    put_time(line, micros)
 }
 
 #[tactic(auto, using(std::proofs::Common::append_assoc))]
-fn put_peak_part(alloc: Global, line: &mut Vec<u8>, peak: Option<u64>) -> Result<(), AllocError>
+fn put_peak_part(line: &mut Vec<u8>, peak: Option<u64>) -> Result<(), AllocError>
     ensures { OnOk result (line.new.items ≡ line.old.items ++ peak_part peak) }
 {
     let Some(peak) = peak else {
         return Ok(());
     };
     line.extend_from_slice(b"  peak ")?;
-    put_size(alloc, line, peak)
+    put_size(line, peak)
 }
 
 #[tactic(auto, using(std::proofs::Common::append_assoc))]
-fn put_totals_part(
-    alloc: Global,
-    line: &mut Vec<u8>,
-    totals: Option<Totals>,
-) -> Result<(), AllocError>
+fn put_totals_part(line: &mut Vec<u8>, totals: Option<Totals>) -> Result<(), AllocError>
     ensures { OnOk result (line.new.items ≡ line.old.items ++ totals_part totals) }
 {
     let Some(totals) = totals else {
         return Ok(());
     };
     line.extend_from_slice(b"  ")?;
-    put_totals(alloc, line, &totals)
+    put_totals(line, &totals)
 }
 
 #[tactic(auto, using(std::proofs::Common::append_assoc))]
-fn put_totals(alloc: Global, line: &mut Vec<u8>, totals: &Totals) -> Result<(), AllocError>
+fn put_totals(line: &mut Vec<u8>, totals: &Totals) -> Result<(), AllocError>
     ensures { OnOk result (line.new.items ≡ line.old.items ++ totals_text totals.now) }
 {
-    put_named(alloc, line, totals.paid, " paid, ")?;
-    put_named(alloc, line, totals.duplicate, " duplicate, ")?;
-    put_named(alloc, line, totals.approved, " approved, ")?;
-    put_named(alloc, line, totals.rejected, " rejected, net ")?;
-    put_net(alloc, line, totals.net)
+    put_named(line, totals.paid, " paid, ")?;
+    put_named(line, totals.duplicate, " duplicate, ")?;
+    put_named(line, totals.approved, " approved, ")?;
+    put_named(line, totals.rejected, " rejected, net ")?;
+    put_net(line, totals.net)
 }
 
 // A count, and what is counted.
 #[tactic(auto, using(std::proofs::Common::append_assoc), unfolding(crate::specs::Lines::named))]
-fn put_named(alloc: Global, line: &mut Vec<u8>, count: u64, name: &str) -> Result<(), AllocError>
+fn put_named(line: &mut Vec<u8>, count: u64, name: &str) -> Result<(), AllocError>
     ensures { OnOk result (line.new.items ≡ line.old.items ++ named count name.now) }
 {
-    put_grouped(alloc, line, count)?;
+    put_grouped(line, count)?;
     line.extend_from_slice(name.as_bytes())
 }
