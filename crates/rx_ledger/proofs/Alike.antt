@@ -1,5 +1,7 @@
 -- A record is answered alike under two plans with the same figures that say the same of the products which it bills.
 use Rattle.std.proofs.Common.{◌≡◌, ℕ, ◌+◌, List, [], ◌∷◌, refl, ap, ◌∙◌}
+use Rattle.std.specs.List.{All}
+use Rattle.std.proofs.lemmas.List.Elements.{All-cons, All-nil}
 use Rattle.rx_fields.specs.Calendar.{Civil}
 use Rattle.rx_fields.specs.Numbered.{LotParts}
 use Rattle.rx_d0_values.specs.declared.bill.BillParts.{BillParts}
@@ -13,9 +15,11 @@ use Rattle.rx_d0_values.specs.declared.transmission.Body.{Body}
 use Rattle.rx_d0_values.specs.declared.transmission.Body.TheVariants.{Rejected, Heard}
 use Rattle.rx_d0_values.specs.declared.transmission.Heard.{Heard as HeardRecord}
 use Rattle.rx_ledger.specs.declared.figures.Figures.{Figures}
+use Rattle.rx_ledger.specs.declared.occasion.Occasion.{Occasion}
 use Rattle.rx_ledger.specs.declared.sheet.Listed.{Listed}
-use Rattle.rx_ledger.specs.Answers.{after, after_bill, after_reversal, answer, answer_by}
-use Rattle.rx_ledger.specs.Decisions.{Asked, billing}
+use Rattle.rx_ledger.specs.Answers.{after, after_bill, after_reversal, answer, answer_to}
+use Rattle.rx_ledger.specs.Claims.{asked_on}
+use Rattle.rx_ledger.specs.Decisions.{Asked, billing, decision_of}
 use Rattle.rx_ledger.specs.Fold.{answers_from, asked, authorization, ledger_from, ledger_of_body, outcome_of}
 use Rattle.rx_ledger.specs.Ledger.{Ledger}
 use Rattle.rx_ledger.specs.Places.{transactions_of}
@@ -50,11 +54,15 @@ module _
       → billing one L b ≡ billing other L b
   billing_alike b L same = rw same refl
 
+  pub decision_alike : (L : Ledger) (t : Transaction) → SaysAlike one.plan other.plan t
+      → decision_of one L t ≡ decision_of other L t
+  decision_alike L (Bill b) same = billing_alike b L same
+  decision_alike L (Reverse v) same = refl
+  decision_alike L (Faulty f) same = refl
+
   pub answer_alike : (L : Ledger) (t : Transaction) → SaysAlike one.plan other.plan t
       → answer one L t ≡ answer other L t
-  answer_alike L (Bill b) same = ap (answer_by number b.reference) (billing_alike b L same)
-  answer_alike L (Reverse v) same = refl
-  answer_alike L (Faulty f) same = refl
+  answer_alike L t same = ap (answer_to number t) (decision_alike L t same)
 
   after_bill_alike : (L : Ledger) (b : BillParts) (given : Answer)
       → after_bill one L b given ≡ after_bill other L b given
@@ -116,6 +124,18 @@ module _ (figures : Figures) (ds es : List Listed) (lot : LotParts) (place : ℕ
   ledger_alike (t ∷ ts) nth L same =
       let after_a : Ledger = after (asked lot p place h nth) L t (answer (asked lot p place h nth) L t) in
       ledger_alike ts (nth + 1) after_a same.1 ∙ ap (ledger_from lot q place h (nth + 1) ts) (next_alike nth t L same.0)
+
+-- ---- the decisions on a list of transactions
+
+module _ (p : Plan) (ds : List Listed) (o : Occasion) (L : Ledger) where
+  abbrev IsDecidedAlike : Transaction → Type 0
+  IsDecidedAlike t = decision_of (asked_on o ds) L t ≡ decision_of (asked_on o p.drugs) L t
+
+  pub decisions_alike : (ts : List Transaction) → SayAlike (plan_with p.figures ds) p ts → All IsDecidedAlike ts
+  decisions_alike [] same = All-nil IsDecidedAlike
+  decisions_alike (t ∷ ts) same =
+      All-cons IsDecidedAlike t ts (decision_alike o.figures ds p.drugs o.lot o.provider o.date o.number L t same.0)
+      (decisions_alike ts same.1)
 
 -- ---- a header that is heard or rejected
 

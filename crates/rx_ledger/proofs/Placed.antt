@@ -19,7 +19,7 @@ use Rattle.rx_ledger.specs.Places.{billed, billed_at, listed_as, transactions_of
 use Rattle.rx_ledger.specs.Plan.{Plan, are_drugs, drug_of, is_drug, listed_product}
 use Rattle.rx_ledger.specs.SameTerms.{IsTermsOf}
 use Rattle.rx_ledger.specs.TermList.{drugs_in}
-use Rattle.rx_ledger.proofs.Alike.{SaysAlike, SayAlike, body_alike, outcome_alike}
+use Rattle.rx_ledger.proofs.Alike.{SaysAlike, SayAlike, body_alike, decisions_alike, outcome_alike}
 use Rattle.rx_ledger.proofs.Passed.{passed_next}
 
 -- ---- drugs within their ranges
@@ -159,6 +159,7 @@ module _ (plan : Plan) where
       record {
         same_lot = refl;
         same_figures = refl;
+        same_decisions = λ o L. decisions_alike plan drugs o L ts alike;
         same_reply = λ place L.
             let reply : Outcome → Reply = λ o. record { echo = t.echo; outcome = o } in
             ap reply (outcome_alike plan.figures drugs plan.drugs lot place L t.body alike);
