@@ -8,6 +8,7 @@ pub mod Linked
 pub mod Linking
 pub mod Longest
 pub mod MarkedNames
+pub mod Mentioned
 pub mod Noted
 pub mod Ors
 pub mod PartLedger
@@ -20,6 +21,7 @@ pub mod Shared
 pub mod Shares
 pub mod Spread
 pub mod Standing
+pub mod Tied
 pub mod Times
 pub mod Together
 pub mod WaveByWave

@@ -5,6 +5,7 @@ pub mod Jobs
 pub mod Links
 pub mod Machine
 pub mod Marked
+pub mod Mentions
 pub mod Queues
 pub mod Shards
 pub mod Shares

@@ -1,8 +1,9 @@
 //! Which records of a batch share books, and so have to keep the file's order.
 //!
 //! In come the opening books and a batch's transmissions; out come the footprint of each record, the books that it names;
-//! the waves, in which records that share no book go together; and queues, which hand out a record once every earlier one
-//! that it shares a book with was passed. The weight tells beforehand how large the named families are, up to a limit.
+//! the waves, in which records that share no book go together; queues, which hand out a record once every earlier one that
+//! it shares a book with was passed; and shards, sets of records of which no two share a book, so that each may be
+//! adjudicated apart. The weight tells beforehand how large the named families are, up to a limit.
 //!
 //! ```rust
 //! let footprints = rx_schedule::footprints(alloc, &books, &transmissions)?;
@@ -11,12 +12,13 @@
 //! ```
 //!
 //! What a footprint is stands in `specs/Footprints.antt`, what waves are in `specs/Waves.antt`, which records may go in
-//! `specs/Queues.antt`, and what a weight is in `specs/Weight.antt`; why an order that keeps sharers apart gives what the
-//! file's order gives stands in `specs/Machine.antt`.
+//! `specs/Queues.antt`, what shards are in `specs/Shards.antt`, and what a weight is in `specs/Weight.antt`; why an order
+//! that keeps sharers apart gives what the file's order gives stands in `specs/Machine.antt`.
 #![tactic(auto)]
 
 mod batch_weight;
 mod billers;
+mod deal;
 mod event;
 mod family_weights;
 mod followers;
@@ -24,9 +26,13 @@ mod law;
 mod links;
 mod marks;
 mod member_shares;
+mod mentions;
 mod naming;
 mod ordered;
 mod queues;
+mod shard_numbers;
+mod shard_plan;
+mod ties;
 mod uses;
 mod wave_numbers;
 mod wave_plan;
@@ -36,5 +42,7 @@ pub use event::Event;
 pub use law::{law_of_holder, law_of_shards, law_of_standing, law_of_waves};
 pub use naming::footprints;
 pub use queues::Queues;
+pub use shard_numbers::Shards;
+pub use shard_plan::shards;
 pub use wave_numbers::Waves;
 pub use wave_plan::waves;

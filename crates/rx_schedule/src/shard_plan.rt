@@ -1,0 +1,87 @@
+ghost use Rattle.std.specs.Prelude.{◌≡◌, ◌<◌, ◌≤◌, IfOk, IsTrue, length};
+ghost use Rattle.std.specs.List.{All, Contains};
+ghost use Rattle.rx_schedule.specs.declared.mentions.Mention.{Mention as MentionValue};
+ghost use Rattle.rx_schedule.specs.Footprints.{footprint_at};
+ghost use Rattle.rx_schedule.specs.Mentions.{AreTied};
+ghost use Rattle.rx_schedule.specs.Shards.{IsGrouping, closed_over};
+ghost use Rattle.rx_schedule.specs.Waves.{number_in};
+
+use crate::deal::{dealt, largest_of};
+use crate::mentions::{Mention, mentions_of};
+use crate::shard_numbers::Shards;
+use crate::ties::are_tied;
+use rx_books_store::Books;
+use rx_d0_values::Transmission;
+use rx_fields::Memory;
+use std::alloc::Global;
+
+/// Shards of a batch, `most` of them or fewer. Records are in one shard where a chain of records that share a book ties
+/// them; a fill key ties all its billers and reversals, and the family of the opening row under it, whichever comes first.
+/// The heaviest of these sets, by transactions, goes first, each to the shard that is the lightest by then.
+pub fn shards(
+    alloc: Global,
+    books: &Books,
+    transmissions: &[Transmission],
+    most: usize,
+) -> Result<Shards, Memory>
+    requires { 1 ≤ most }
+    ensures together { let L = books.now.ledger in
+        IfOk result (λ found. IsGrouping (λ place. closed_over L (footprint_at L transmissions.now place))
+        (length transmissions.now) (number_in found.numbers.items)) }
+    ensures one_each { IfOk result (λ found. length found.numbers.items ≡ length transmissions.now) }
+    ensures within { IfOk result (λ found. All (λ number. number < found.count) found.numbers.items) }
+    ensures few { IfOk result (λ found. found.count ≤ most) }
+{
+    let mentions = mentions_of(alloc, books, transmissions)?;
+    let dealt = dealt(alloc, &mentions, transmissions, most)?;
+    let numbers = compared(alloc, &mentions, dealt, transmissions.len(), most)?;
+    let count = count_of(&numbers, most);
+    let largest = largest_of(alloc, &numbers, transmissions)?;
+    Ok(Shards {
+        numbers,
+        count,
+        largest,
+    })
+}
+
+// The numbers, where there is one for each of `count` records, below `most`, and mentions of one name are of records with
+// one number; else 0 for each record.
+fn compared(
+    alloc: Global,
+    mentions: &[Mention],
+    numbers: Vec<usize>,
+    count: usize,
+    most: usize,
+) -> Result<Vec<usize>, Memory>
+    requires { 1 ≤ most }
+    ensures tied { IfOk result (λ kept. AreTied kept.items mentions.now) }
+    ensures one_each { IfOk result (λ kept. length kept.items ≡ count) }
+    ensures within { IfOk result (λ kept. All (λ number. number < most) kept.items) }
+{
+    if numbers.len() == count && are_below(&numbers, most) && are_tied(mentions, &numbers) {
+        return Ok(numbers);
+    }
+    Ok(vec![in alloc; 0; count]?)
+}
+
+// Whether all numbers are below a limit.
+fn are_below(numbers: &[usize], limit: usize) -> bool
+    ensures { IsTrue result → All (λ number. number < limit) numbers.now }
+{
+    numbers.iter().all(|number| *number < limit)
+}
+
+// One more than the highest of the numbers, which are below `most`; 0 where there are none.
+fn count_of(numbers: &[usize], most: usize) -> usize
+    requires { All (λ number. number < most) numbers.now }
+    ensures within { All (λ number. number < result) numbers.now }
+    ensures few { result ≤ most }
+{
+    let mut count = 0;
+    'numbers: for number in numbers {
+        if *number >= count {
+            count = *number + 1;
+        }
+    }
+    count
+}
