@@ -252,7 +252,7 @@ order_from lot plan place h nth (t ∷ ts) L order =
     order_from lot plan place h (nth + 1) ts (after a L t (answer a L t))
     (order_after lot plan place h nth (record { keys = []; families = [] }) L t (answer a L t) order)
 
-order_body : (lot : LotParts) (plan : Plan) (place : ℕ) (L : Ledger) (body : Body) → IsInOrder L
+pub order_body : (lot : LotParts) (plan : Plan) (place : ℕ) (L : Ledger) (body : Body) → IsInOrder L
     → IsInOrder (ledger_of_body lot plan place L body)
 order_body lot plan place L (Rejected r) order = order
 order_body lot plan place L (Heard h) order = order_from lot plan place h 1 h.list L order

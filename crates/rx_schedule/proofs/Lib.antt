@@ -24,5 +24,6 @@ pub mod Standing
 pub mod Tied
 pub mod Times
 pub mod Together
+pub mod Unparted
 pub mod WaveByWave
 pub mod Weighed

@@ -54,13 +54,13 @@ module _ (E F : FootprintParts) (more : (b : Book) → names E b ≡ true → na
 -- ---- with one record more at the end
 
 module _ (lot : LotParts) (plan : Plan) (records : List Transmission) where
-  ledger-snoc : (places : List ℕ) (i : ℕ) (L : Ledger)
+  pub ledger-snoc : (places : List ℕ) (i : ℕ) (L : Ledger)
       → ledger_of lot plan records (places ++ i ∷ []) L
       ≡ ledger_after lot plan i (record_at records i) (ledger_of lot plan records places L)
   ledger-snoc [] i L = refl
   ledger-snoc (j ∷ places) i L = ledger-snoc places i (ledger_after lot plan j (record_at records j) L)
 
-  replies-snoc : (places : List ℕ) (i : ℕ) (L : Ledger)
+  pub replies-snoc : (places : List ℕ) (i : ℕ) (L : Ledger)
       → replies_of lot plan records (places ++ i ∷ []) L
       ≡ replies_of lot plan records places L
       ++ reply_to lot plan i (record_at records i) (ledger_of lot plan records places L) ∷ []
@@ -91,14 +91,14 @@ module _ (lot : LotParts) (plan : Plan) (L : Ledger) (records : List Transmissio
 
   module _ (mine : ℕ → Bool) (F : FootprintParts) (apart : AreApart L records mine F) where
     -- one of the records fits their books
-    fits_ours : (i : ℕ) → 1 ≤ i → i ≤ length records → mine i ≡ true
+    pub fits_ours : (i : ℕ) → 1 ≤ i → i ≤ length records → mine i ≡ true
         → fits F (record_at records i) (ledger_before lot plan L records i) ≡ true
     fits_ours i one to is_mine =
         fits_wider (footprint_at L records i) F (apart.inside i one to is_mine) (record_at records i)
         (ledger_before lot plan L records i) (fits_at lot plan L records i one to)
 
     -- it does to their books alone what it does to all
-    own_step : (i : ℕ) → 1 ≤ i → i ≤ length records → mine i ≡ true
+    pub own_step : (i : ℕ) → 1 ≤ i → i ≤ length records → mine i ≡ true
         → ledger_after lot plan i (record_at records i) (sub F (cut F (ledger_before lot plan L records i)))
         ≡ sub F (cut F (ledger_before lot plan L records (suc i)))
     own_step i one to is_mine =
@@ -106,7 +106,7 @@ module _ (lot : LotParts) (plan : Plan) (L : Ledger) (records : List Transmissio
         (order_before lot plan L records order i) (fits_ours i one to is_mine)
         ∙ ap (λ M. sub F (cut F M)) (sym (next_ledger lot plan L records i one to))
 
-    own_reply : (i : ℕ) → 1 ≤ i → i ≤ length records → mine i ≡ true
+    pub own_reply : (i : ℕ) → 1 ≤ i → i ≤ length records → mine i ≡ true
         → reply_to lot plan i (record_at records i) (sub F (cut F (ledger_before lot plan L records i)))
         ≡ reply_at lot plan L records i
     own_reply i one to is_mine =
@@ -114,7 +114,7 @@ module _ (lot : LotParts) (plan : Plan) (L : Ledger) (records : List Transmissio
         (order_before lot plan L records order i) (fits_ours i one to is_mine)
 
     -- another record does nothing to them
-    other_step : (i : ℕ) → 1 ≤ i → i ≤ length records → mine i ≡ false
+    pub other_step : (i : ℕ) → 1 ≤ i → i ≤ length records → mine i ≡ false
         → sub F (cut F (ledger_before lot plan L records i)) ≡ sub F (cut F (ledger_before lot plan L records (suc i)))
     other_step i one to is_other = ap (sub F) (fun_ext (λ b. elim (cases_Bool (names F b)) [
       | inl theirs ↦ rw theirs (sym (step_outside i one to b (false_from_ne_true (names (footprint_at L records i) b)

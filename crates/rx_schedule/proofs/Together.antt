@@ -11,11 +11,12 @@ use Rattle.rx_books_family.specs.Books.{Book, IsInOrder, book}
 use Rattle.rx_books_parcel.specs.Footprints.{FootprintParts, names}
 use Rattle.rx_schedule.specs.Footprints.{footprint_at}
 use Rattle.rx_schedule.proofs.Holder.{ledger_end, order_before}
-use Rattle.rx_schedule.specs.Shards.{AreTogether, AreWide, IsGrouping, books_of_shard, is_of, places_of, union}
+use Rattle.rx_schedule.specs.Shards.{AreTogether, AreTogetherUnparted, AreWide, IsGrouping, books_of_shard, is_of, places_of, union}
 use Rattle.rx_schedule.proofs.Grouped.{named_here, named_whose, own_shard, shard_apart, whose}
 use Rattle.rx_books_parcel.proofs.OneLedger.{one_ledger}
 use Rattle.rx_schedule.proofs.Chosen.{IsChosen, places_have, places_chosen}
 use Rattle.rx_schedule.proofs.Sharded.{shard_books, shard_untouched}
+use Rattle.rx_schedule.proofs.Unparted.{unparted_books}
 
 module _ (lot : LotParts) (plan : Plan) (L : Ledger) (records : List Transmission) (order : IsInOrder L)
     (needs : ℕ → FootprintParts) (wide : AreWide L records needs) (shard : ℕ → ℕ)
@@ -51,3 +52,19 @@ module _ (lot : LotParts) (plan : Plan) (L : Ledger) (records : List Transmissio
   all_together = one_ledger M (fold_ledger lot plan 1 records L) m.in_order
       (subst IsInOrder (ledger_end lot plan L records) (order_before lot plan L records order (suc (length records))))
       book_together
+
+-- the same books, where the shards went on the whole opening ledger
+pub all_together_unparted : (lot : LotParts) (plan : Plan) (L : Ledger) (records : List Transmission) → IsInOrder L
+    → (needs : ℕ → FootprintParts) → AreWide L records needs → (shard : ℕ → ℕ) → IsGrouping needs (length records) shard
+    → (M : Ledger) → AreTogetherUnparted lot plan L records needs shard M → M ≡ fold_ledger lot plan 1 records L
+all_together_unparted lot plan L records order needs wide shard grouped M m =
+    all_together lot plan L records order needs wide shard grouped M record {
+      in_order = m.in_order;
+      shards = λ k b named.
+          let F = books_of_shard needs (length records) shard k in
+          let apart = shard_apart L records needs wide shard grouped k in
+          m.shards k b named
+          ∙ unparted_books lot plan L records order (is_of shard k) F apart b named
+          ∙ sym (shard_books lot plan L records order (is_of shard k) F apart b named);
+      others = m.others;
+    }

@@ -93,3 +93,11 @@ pub record AreTogether (lot : LotParts) (plan : Plan) (L : Ledger) (records : Li
       → book b M ≡ book b (ledger_of lot plan records (places_of (is_of shard k) (length records))
       (ledger_for_shard L needs (length records) shard k))
   pub others : (b : Book) → ((k : ℕ) → names (books_of_shard needs (length records) shard k) b ≡ false) → book b M ≡ book b L
+
+-- the same, where the records of each shard went on the whole opening ledger
+pub record AreTogetherUnparted (lot : LotParts) (plan : Plan) (L : Ledger) (records : List Transmission)
+    (needs : ℕ → FootprintParts) (shard : ℕ → ℕ) (M : Ledger) : Type 0 where
+  pub in_order : IsInOrder M
+  pub shards : (k : ℕ) → (b : Book) → names (books_of_shard needs (length records) shard k) b ≡ true
+      → book b M ≡ book b (ledger_of lot plan records (places_of (is_of shard k) (length records)) L)
+  pub others : (b : Book) → ((k : ℕ) → names (books_of_shard needs (length records) shard k) b ≡ false) → book b M ≡ book b L

@@ -1,4 +1,4 @@
-ghost use Rattle.std.specs.Prelude.{◌≡◌, ◌≤◌, ℕ, Bool, List, ◌∷◌, ◌++◌, Some, length, map, suc, true};
+ghost use Rattle.std.specs.Prelude.{◌≡◌, ◌≤◌, ℕ, Bool, List, ◌∷◌, ◌++◌, Some, length, map, suc, false, true};
 ghost use Rattle.rx_fields.specs.Numbered.{LotParts};
 ghost use Rattle.rx_d0_values.specs.declared.transmission.Transmission.{Transmission};
 ghost use Rattle.rx_ledger.specs.Fold.{fold_ledger};
@@ -10,7 +10,7 @@ ghost use Rattle.rx_schedule.specs.Footprints.{footprint_at, footprints_of, reco
 ghost use Rattle.rx_schedule.specs.Jobs.{IsHeld, job, ledger_before, reply_at};
 ghost use Rattle.rx_schedule.specs.Machine.{GoesByNumber, IsNumbering, IsOrder, IsPlace, KeepsFileOrder};
 ghost use Rattle.rx_schedule.specs.Machine.{one_by_one, replay};
-ghost use Rattle.rx_schedule.specs.Shards.{AreApart, AreTogether, AreWide, IsClosed, IsGrouping, IsUntouched};
+ghost use Rattle.rx_schedule.specs.Shards.{AreApart, AreTogether, AreTogetherUnparted, AreWide, IsClosed, IsGrouping, IsUntouched};
 ghost use Rattle.rx_schedule.specs.Shards.{books_of_shard, closed_over, is_of, ledger_of, places_of, replies_of, union};
 ghost use Rattle.rx_schedule.specs.Waves.{AreWaves, number_in};
 
@@ -61,7 +61,8 @@ pub fn law_of_waves()
 
 /// Records that have books of their own, adjudicated in file order on the ledger of these books alone, find there at each
 /// place what the fold has of these books, and nothing beside them; they get the fold's replies, and leave the fold's
-/// books. A book that no record names is as in the opening.
+/// books. So they do on the whole opening ledger (`unparted_..`), where every other book stays. A book that no record names
+/// is as in the opening.
 pub fn law_of_shards()
     ensures ledger { (lot : LotParts) → (plan : Plan) → (L : Ledger) → (records : List Transmission) → IsInOrder L
         → (mine : ℕ → Bool) → (F : FootprintParts) → AreApart L records mine F → (n : ℕ) → n ≤ length records
@@ -75,6 +76,20 @@ pub fn law_of_shards()
         → (mine : ℕ → Bool) → (F : FootprintParts) → AreApart L records mine F → (b : Book) → names F b ≡ true
         → book b (ledger_of lot plan records (places_of mine (length records)) (sub F (cut F L)))
         ≡ book b (fold_ledger lot plan 1 records L) }
+    ensures unparted_replies { (lot : LotParts) → (plan : Plan) → (L : Ledger) → (records : List Transmission) → IsInOrder L
+        → (mine : ℕ → Bool) → (F : FootprintParts) → AreApart L records mine F → (n : ℕ) → n ≤ length records
+        → replies_of lot plan records (places_of mine n) L ≡ map (reply_at lot plan L records) (places_of mine n) }
+    ensures unparted_books { (lot : LotParts) → (plan : Plan) → (L : Ledger) → (records : List Transmission) → IsInOrder L
+        → (mine : ℕ → Bool) → (F : FootprintParts) → AreApart L records mine F → (b : Book) → names F b ≡ true
+        → book b (ledger_of lot plan records (places_of mine (length records)) L)
+        ≡ book b (fold_ledger lot plan 1 records L) }
+    ensures unparted_others { (lot : LotParts) → (plan : Plan) → (L : Ledger) → (records : List Transmission) → IsInOrder L
+        → (mine : ℕ → Bool) → (F : FootprintParts) → AreApart L records mine F → (b : Book) → names F b ≡ false
+        → book b (ledger_of lot plan records (places_of mine (length records)) L) ≡ book b L }
+    ensures unparted_whole { (lot : LotParts) → (plan : Plan) → (L : Ledger) → (records : List Transmission) → IsInOrder L
+        → (needs : ℕ → FootprintParts) → AreWide L records needs
+        → (shard : ℕ → ℕ) → IsGrouping needs (length records) shard
+        → (M : Ledger) → AreTogetherUnparted lot plan L records needs shard M → M ≡ fold_ledger lot plan 1 records L }
     ensures apart { (L : Ledger) → (records : List Transmission) → (needs : ℕ → FootprintParts) → AreWide L records needs
         → (shard : ℕ → ℕ) → IsGrouping needs (length records) shard → (k : ℕ)
         → AreApart L records (is_of shard k) (books_of_shard needs (length records) shard k) }

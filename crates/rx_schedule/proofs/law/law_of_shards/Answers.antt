@@ -2,7 +2,8 @@ use Rattle.rx_schedule.proofs.Closed.{closed_wide, closing}
 use Rattle.rx_schedule.proofs.Grouped.{shard_apart, shard_closed, shard_once, union_rises}
 use Rattle.rx_schedule.proofs.Sharded.{shard_books, shard_ledger, shard_replies, shard_untouched}
 use Rattle.rx_schedule.proofs.PartLedger.{part_stands}
-use Rattle.rx_schedule.proofs.Together.{all_together}
+use Rattle.rx_schedule.proofs.Together.{all_together, all_together_unparted}
+use Rattle.rx_schedule.proofs.Unparted.{unparted_books, unparted_others, unparted_replies}
 use Rattle.rx_schedule.proofs.law.law_of_shards.Goals as goal
 
 pub returns-clause-ledger : goal.returns-clause-ledger
@@ -40,3 +41,15 @@ returns-clause-wide c = closed_wide
 
 pub returns-clause-closing : goal.returns-clause-closing
 returns-clause-closing c = closing
+
+pub returns-clause-unparted_replies : goal.returns-clause-unparted_replies
+returns-clause-unparted_replies c = unparted_replies
+
+pub returns-clause-unparted_books : goal.returns-clause-unparted_books
+returns-clause-unparted_books c = unparted_books
+
+pub returns-clause-unparted_others : goal.returns-clause-unparted_others
+returns-clause-unparted_others c = unparted_others
+
+pub returns-clause-unparted_whole : goal.returns-clause-unparted_whole
+returns-clause-unparted_whole c = all_together_unparted
