@@ -45,6 +45,8 @@ mod schedule;
 #[cfg(test)]
 mod settle;
 #[cfg(test)]
+mod shards;
+#[cfg(test)]
 mod shelf;
 #[cfg(test)]
 mod steps;
