@@ -23,7 +23,7 @@ use Rattle.rx_ledger.specs.declared.row.Row.{Row}
 use Rattle.rx_ledger.specs.Ledger.{Ledger, row_under}
 use Rattle.rx_ledger.specs.Named.{key_in}
 use Rattle.rx_ledger.proofs.Orders.{id_exact, id_total, key_exact, key_total}
-use Rattle.rx_books_parcel.specs.Books.{Book, OfFamily, OfKey}
+use Rattle.rx_books_family.specs.Books.{Book, OfFamily, OfKey}
 use Rattle.rx_books_parcel.specs.Footprints.{names}
 use Rattle.rx_schedule.specs.Footprints.{billed_by, billers, billers_in, families_in, families_named, family_of, footprint_at}
 use Rattle.rx_schedule.specs.Footprints.{in_order, key_named, keys_in, no_record, record_at}

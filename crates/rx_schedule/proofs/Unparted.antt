@@ -8,7 +8,7 @@ use Rattle.rx_d0_values.specs.declared.transmission.Transmission.{Transmission}
 use Rattle.rx_ledger.specs.Fold.{fold_ledger, ledger_after, reply_to}
 use Rattle.rx_ledger.specs.Ledger.{Ledger}
 use Rattle.rx_ledger.specs.Plan.{Plan}
-use Rattle.rx_books_parcel.specs.Books.{Book, IsInOrder, book}
+use Rattle.rx_books_family.specs.Books.{Book, IsInOrder, book}
 use Rattle.rx_books_parcel.specs.Footprints.{FootprintParts, cut, fits, names, sub}
 use Rattle.rx_books_parcel.proofs.Locality.{local_fits, local_outside, local_reply, local_whole}
 use Rattle.rx_books_parcel.proofs.Parts.{book_part, cut_part}
