@@ -7,7 +7,7 @@ ghost use Rattle.rx_schedule.specs.Mentions.{name_of_day, name_of_family, with_n
 
 use rx_books_store::Books;
 use rx_d0_values::{Body, Heard, Transaction, Transmission};
-use rx_fields::{Id, Key, Memory, Reference};
+use rx_fields::{Id, Memory, Reference};
 use std::alloc::Global;
 
 /// That the record at a place, counted from 0, names a book. Equal books have equal names; two books that differ have
@@ -127,11 +127,7 @@ fn put_key(
         name: with_number(day, reference.get()),
         at,
     })?;
-    let key = Key {
-        provider: heard.provider,
-        reference,
-        date: heard.date,
-    };
+    let key = heard.key(reference);
     if let Some(row) = books.row(&key) {
         mentions.push(Mention {
             name: name_of_family(&row.family),
