@@ -2,7 +2,7 @@
 //!
 //! In come a plan `Sheet`, a `Ledger` of members and standing claims, and a batch's transmissions; out come the
 //! ledger after them and a reply to each, as adjudicating one record after another in file order gives them. What
-//! that is stands in `specs/`: `Ledger`, `Sums`, `Price`, `Share`, `Answers` and `Fold`, a subject each.
+//! that is stands in `specs/`: `Ledger`, `Sums`, `Price`, `Share`, `Decisions`, `Answers` and `Fold`, a subject each.
 //!
 //! ```rust
 //! let (after, replies) = rx_ledger::plain_run(alloc, lot, &sheet, &before, &transmissions)?;
