@@ -1,5 +1,5 @@
 -- The end of a desk: where every record was given, its shelf closes with the fold's books.
-use Rattle.std.proofs.Common.{◌≡◌, ℕ, List, true, false, Bool, length, reverse, refl, sym, ap, subst, ◌∙◌, inl, inr}
+use Rattle.std.proofs.Common.{◌≡◌, ℕ, List, true, false, reverse, sym, subst, ◌∙◌, inl, inr}
 use Rattle.std.specs.List.{Contains}
 use Rattle.std.proofs.lemmas.Bool.{cases_Bool}
 use Rattle.rx_d0_values.specs.declared.reply.Reply.{Reply}

@@ -1,6 +1,6 @@
 -- What the counts of a desk tell: whether records are left, and whether all were given.
-use Rattle.std.proofs.Common.{◌≡◌, ◌≢◌, ℕ, zero, suc, ◌+◌, ◌-◌, ◌*◌, ◌<◌, ◌≤◌, List, [], ◌∷◌, true, false, Bool, length}
-use Rattle.std.proofs.Common.{get_or, reverse, set, Option, Some, None, refl, sym, ap, subst, ◌∙◌, arith, inl, inr}
+use Rattle.std.proofs.Common.{◌≡◌, ◌≢◌, ℕ, suc, ◌-◌, ◌*◌, ◌<◌, ◌≤◌, List, [], ◌∷◌, true, false, Bool, length}
+use Rattle.std.proofs.Common.{get_or, reverse, Option, Some, None, refl, sym, ap, subst, ◌∙◌, arith}
 use Rattle.std.specs.Prelude.{◌↔◌, IsTrue, is_some}
 use Rattle.std.specs.List.{sum_by}
 use Rattle.std.proofs.lemmas.List.Sums.{sum_by-cons, sum_by-set}
@@ -10,7 +10,7 @@ use Rattle.rx_books_family.specs.Shelves.{ShelfParts}
 use Rattle.rx_schedule.specs.declared.event.Event.{Event}
 use Rattle.rx_schedule.specs.declared.event.Event.TheVariants.{Give, Take}
 use Rattle.rx_schedule.specs.Machine.{IsComplete, IsPlace, MayTake, Was}
-use Rattle.rx_schedule.specs.Queues.{IsNext as IsNextOf, IsReady, QueueParts}
+use Rattle.rx_schedule.specs.Queues.{IsNext as IsNextOf, QueueParts}
 use Rattle.rx_schedule.proofs.Replayed.{taken}
 use Rattle.rx_desk.specs.declared.state.State.{State}
 use Rattle.rx_desk.specs.declared.state.State.TheVariants.{Given, Out, Waiting}

@@ -1,7 +1,7 @@
 -- A parcel is told by its period, its names and the values of its books.
-use Rattle.std.proofs.Common.{◌≡◌, List, Option, Some, None, refl, sym, ap, ◌∙◌}
+use Rattle.std.proofs.Common.{◌≡◌, Option, Some, None, refl, sym, ap, ◌∙◌}
 use mathlib.Core.Path.{fun_ext}
-use Rattle.std.specs.List.{All, Contains, slice_get}
+use Rattle.std.specs.List.{Contains, slice_get}
 use Rattle.std.specs.Option.{option_and_then, option_to_list}
 use Rattle.std.proofs.lemmas.List.Elements.{All-contains}
 use Rattle.rx_fields.specs.Numbered.{Span}
@@ -12,7 +12,7 @@ use Rattle.rx_ledger.specs.declared.row.Row.{Row}
 use Rattle.rx_ledger.specs.Ledger.{Ledger}
 use Rattle.rx_ledger.proofs.Orders.{id_total, key_total}
 use Rattle.rx_books_family.specs.declared.key_book.KeyBook.{KeyBook}
-use Rattle.rx_books_family.specs.Books.{Book, OfFamily, OfKey}
+use Rattle.rx_books_family.specs.Books.{Book}
 use Rattle.rx_books_family.specs.FamilyBook.{FamilyBook, family_of, ledger_of_family}
 use Rattle.rx_books_parcel.specs.Footprints.{FootprintParts}
 use Rattle.rx_books_parcel.specs.Parcels.{IsParcel, ParcelParts, family_at, key_of, named_in, row_at, values_of}

@@ -1,7 +1,7 @@
 -- What each event changes of what a desk keeps.
-use Rattle.std.proofs.Common.{◌≡◌, ◌≢◌, ℕ, suc, ◌+◌, ◌-◌, ◌*◌, ◌<◌, ◌≤◌, List, [], ◌∷◌, ◌++◌, true, false, Bool, cond, not, ◌&&◌}
-use Rattle.std.proofs.Common.{◌||◌, length, get_or, set, Option, Some, None, refl, sym, ap, subst, ◌∙◌, arith, inl, inr}
-use Rattle.std.specs.List.{slice_get, sum_by}
+use Rattle.std.proofs.Common.{◌≡◌, ◌≢◌, ℕ, ◌+◌, ◌-◌, ◌<◌, ◌≤◌, List, [], ◌∷◌, ◌++◌, true, false, Bool, cond}
+use Rattle.std.proofs.Common.{◌||◌, length, get_or, set, Some, refl, sym, ap, subst, ◌∙◌, arith, inl, inr}
+use Rattle.std.specs.List.{slice_get}
 use Rattle.std.proofs.lemmas.Bool.{both_ways, cases_Bool, cases_eq}
 use Rattle.std.proofs.lemmas.List.{get_or-set_other, get_or-set_same, length-append, length-set}
 use Rattle.std.proofs.lemmas.List.Sums.{sum_by-set}
@@ -16,10 +16,10 @@ use Rattle.rx_schedule.specs.Machine.{IsLegal, IsPlace, MayGive, MayTake, Was, c
 use Rattle.rx_schedule.proofs.Replayed.{in_range, taken}
 use Rattle.rx_desk.specs.declared.state.State.{State}
 use Rattle.rx_desk.specs.declared.state.State.TheVariants.{Given, Out, Waiting}
-use Rattle.rx_desk.specs.Desks.{DeskJob, footprint_in, machine_of, parcel_of}
-use Rattle.rx_desk.specs.Kept.{AreHanded, AreInPlace, AreNoted, AreStates, IsCounted, IsDesk, IsSetAside, IsState, events_left, one_waiting}
+use Rattle.rx_desk.specs.Desks.{DeskJob, footprint_in, machine_of}
+use Rattle.rx_desk.specs.Kept.{AreHanded, AreInPlace, AreNoted, AreStates, IsCounted, IsSetAside, IsState, events_left, one_waiting}
 use Rattle.rx_desk.proofs.Lists.{slice_get-set_other, slice_get-set_same}
-use Rattle.rx_desk.proofs.Passing.{alone, at_other, at_own, before_give, free, left_out, not_given, out_taken, still_out, was_out}
+use Rattle.rx_desk.proofs.Passing.{alone, at_other, at_own, before_give, left_out, not_given, out_taken, still_out, was_out}
 
 other_place : (i k : ℕ) → 1 ≤ i → 1 ≤ k → (i ≡ k → ⊥) → i - 1 ≢ k - 1
 other_place i k one first n e = n (omega arith)

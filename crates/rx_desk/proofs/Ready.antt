@@ -1,7 +1,5 @@
 -- A record that is ready in the queues is one that may be taken, and the other way round.
-use Rattle.std.proofs.Common.{◌≡◌, ℕ, suc, ◌+◌, ◌-◌, ◌<◌, ◌≤◌, List, ◌∷◌, true, length, get_or, refl, sym, ap, subst, ◌∙◌, arith, inl, inr}
-use Rattle.std.specs.Prelude.{◌⊎◌}
-use Rattle.std.specs.List.{range_with_len}
+use Rattle.std.proofs.Common.{◌≡◌, ℕ, suc, ◌-◌, ◌≤◌, List, ◌∷◌, true, length, get_or, sym, ap, ◌∙◌, arith, inl, inr}
 use Rattle.std.proofs.lemmas.List.{length-map}
 use Rattle.std.proofs.lemmas.List.FromFn.{get_or-map-range_with_len, length-range_with_len}
 use Rattle.rx_d0_values.specs.declared.transmission.Transmission.{Transmission}
@@ -9,11 +7,10 @@ use Rattle.rx_ledger.specs.Ledger.{Ledger}
 use Rattle.rx_books_family.specs.Books.{Book, OfFamily, OfKey}
 use Rattle.rx_books_parcel.specs.Footprints.{FootprintParts, names}
 use Rattle.rx_schedule.specs.declared.event.Event.{Event}
-use Rattle.rx_schedule.specs.declared.event.Event.TheVariants.{Give, Take}
 use Rattle.rx_schedule.specs.Footprints.{footprint_at, footprints_of}
-use Rattle.rx_schedule.specs.Machine.{IsPlace, MayTake, Share, Was}
+use Rattle.rx_schedule.specs.Machine.{MayTake}
 use Rattle.rx_schedule.specs.Queues.{IsReady, QueueParts}
-use Rattle.rx_schedule.specs.Waves.{footprint_in as read_in, meet, nothing, shares}
+use Rattle.rx_schedule.specs.Waves.{footprint_in as read_in, meet, nothing}
 use Rattle.rx_schedule.proofs.Scanned.{meet_by_family, meet_by_key, meet_in}
 use Rattle.rx_desk.specs.Desks.{DeskJob, machine_of}
 use Rattle.rx_desk.specs.Kept.{AreHanded}

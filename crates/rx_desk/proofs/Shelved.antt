@@ -1,6 +1,6 @@
 -- What holds of each book that a footprint names, and of each place of a shelf, told by the shelf's own tests.
-use Rattle.std.proofs.Common.{◌≡◌, ℕ, suc, ◌<◌, List, [], ◌∷◌, ◌++◌, map, true, false, Bool, not, ◌&&◌}
-use Rattle.std.proofs.Common.{length, Option, Some, None, refl, sym, ap, ◌∙◌, arith, inl, inr}
+use Rattle.std.proofs.Common.{◌≡◌, ℕ, suc, List, [], ◌∷◌, ◌++◌, map, true, false, Bool, not, ◌&&◌}
+use Rattle.std.proofs.Common.{Option, Some, None, refl, sym, ap, ◌∙◌, arith, inl, inr}
 use Rattle.std.specs.Cmp.{IsTotalOrder}
 use Rattle.std.specs.List.{Contains, flat_map, list_all}
 use Rattle.std.specs.Option.{is_some, option_and_then, option_to_list}

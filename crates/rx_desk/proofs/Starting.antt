@@ -1,7 +1,7 @@
 -- A desk without events.
-use Rattle.std.proofs.Common.{◌≡◌, ℕ, zero, suc, ◌+◌, ◌-◌, ◌*◌, ◌<◌, ◌≤◌, List, [], ◌∷◌, true, false, Bool, cond}
-use Rattle.std.proofs.Common.{◌||◌, length, get_or, replicate, refl, sym, ap, subst, ◌∙◌, arith, inl, inr}
-use Rattle.std.specs.List.{list_any, sum_by}
+use Rattle.std.proofs.Common.{◌≡◌, ℕ, zero, suc, ◌-◌, ◌*◌, ◌<◌, ◌≤◌, List, [], ◌∷◌, true, false, Bool}
+use Rattle.std.proofs.Common.{length, get_or, replicate, refl, sym, ap, subst, ◌∙◌, arith, inl, inr}
+use Rattle.std.specs.List.{sum_by}
 use Rattle.std.proofs.lemmas.Bool.{cases_Bool}
 use Rattle.std.proofs.lemmas.List.{length-replicate}
 use Rattle.std.proofs.lemmas.List.Folds.{sum_by-replicate}
@@ -14,16 +14,16 @@ use Rattle.rx_ledger.specs.TermList.{TermParts}
 use Rattle.rx_books_family.specs.Books.{Book, IsInOrder, book}
 use Rattle.rx_books_parcel.specs.Footprints.{FootprintParts, names}
 use Rattle.rx_books_shelf.specs.Opened.{is_named}
-use Rattle.rx_schedule.specs.Footprints.{footprint_at, footprints_of}
+use Rattle.rx_schedule.specs.Footprints.{footprints_of}
 use Rattle.rx_books_family.specs.Shelves.{ShelfParts, has_slot, is_out, value_of}
 use Rattle.rx_schedule.specs.declared.event.Event.{Event}
 use Rattle.rx_schedule.specs.Machine.{IsPlace}
 use Rattle.rx_schedule.specs.Queues.{QueueParts}
 use Rattle.rx_schedule.specs.Waves.{nothing}
 use Rattle.rx_desk.specs.declared.state.State.{State}
-use Rattle.rx_desk.specs.declared.state.State.TheVariants.{Given, Out, Waiting}
+use Rattle.rx_desk.specs.declared.state.State.TheVariants.{Waiting}
 use Rattle.rx_desk.specs.Desks.{AreTermsOf, DeskJob, footprint_in, machine_of}
-use Rattle.rx_desk.specs.Kept.{AreHanded, AreInPlace, AreNoted, AreStates, IsCounted, IsDesk}
+use Rattle.rx_desk.specs.Kept.{IsCounted, IsDesk}
 use Rattle.rx_desk.specs.Kept.{IsKept, IsKeptJob, IsState, events_left, one_waiting}
 use Rattle.rx_desk.proofs.Ready.{count_of, read_is}
 

@@ -1,8 +1,8 @@
 -- One event, over all that a desk keeps.
-use Rattle.std.proofs.Common.{◌≡◌, ℕ, suc, ◌+◌, ◌-◌, ◌*◌, ◌<◌, ◌≤◌, List, [], ◌∷◌, ◌++◌, true, false, Bool, cond, not, ◌&&◌, ◌||◌}
-use Rattle.std.proofs.Common.{length, get_or, reverse, set, Option, Some, None, refl, sym, ap, subst, ◌∙◌, arith, inl, inr}
+use Rattle.std.proofs.Common.{◌≡◌, ℕ, ◌-◌, ◌<◌, ◌≤◌, List, [], ◌∷◌, ◌++◌, true, false, cond}
+use Rattle.std.proofs.Common.{length, get_or, reverse, set, Some, refl, sym, ap, subst, ◌∙◌, arith, inl, inr}
 use mathlib.Core.Path.{fun_ext}
-use Rattle.std.specs.List.{slice_get, sum_by}
+use Rattle.std.specs.List.{slice_get}
 use Rattle.std.proofs.lemmas.Bool.{cases_Bool}
 use Rattle.std.proofs.lemmas.List.{get_or_read, reverse-append}
 use Rattle.std.proofs.lemmas.List.FromFn.{get_or-map-range_with_len}
@@ -10,7 +10,6 @@ use Rattle.std.proofs.lemmas.List.Sums.{sum_by-set}
 use Rattle.std.proofs.lemmas.Option.{same_Some, slice_get_read}
 use Rattle.rx_d0_values.specs.declared.reply.Reply.{Reply}
 use Rattle.rx_d0_values.specs.declared.transmission.Transmission.{Transmission}
-use Rattle.rx_ledger.specs.Fold.{ledger_after, reply_to}
 use Rattle.rx_ledger.specs.Ledger.{Ledger, empty}
 use Rattle.rx_ledger.specs.SameTerms.{IsTermsOf}
 use Rattle.rx_ledger.specs.TermList.{TermParts}
@@ -18,7 +17,7 @@ use Rattle.rx_books_family.specs.Books.{Book, book}
 use Rattle.rx_books_parcel.specs.Footprints.{FootprintParts, names, sub}
 use Rattle.rx_books_parcel.specs.Parcels.{ParcelParts, ledger_in, named_in, values_of}
 use Rattle.rx_adjudicate.specs.Orders.{DoneParts, Fits, IsDone, OrderParts}
-use Rattle.rx_books_family.specs.Shelves.{ShelfParts, has_slot, is_in, is_out, value_of}
+use Rattle.rx_books_family.specs.Shelves.{ShelfParts, has_slot, is_out, value_of}
 use Rattle.rx_schedule.specs.declared.event.Event.{Event}
 use Rattle.rx_schedule.specs.declared.event.Event.TheVariants.{Give, Take}
 use Rattle.rx_schedule.specs.Footprints.{footprint_at, no_record, record_at}
@@ -30,7 +29,7 @@ use Rattle.rx_schedule.proofs.Replayed.{in_range, taken}
 use Rattle.rx_desk.specs.declared.state.State.{State}
 use Rattle.rx_desk.specs.declared.state.State.TheVariants.{Given, Out, Waiting}
 use Rattle.rx_desk.specs.Desks.{DeskJob, DeskParts, IsOut, after_event, footprint_in, machine_of, parcel_of}
-use Rattle.rx_desk.specs.Kept.{IsCounted, IsDesk, IsKept, IsSetAside, IsState, events_left, one_waiting}
+use Rattle.rx_desk.specs.Kept.{IsDesk, IsKept, IsSetAside, IsState, events_left, one_waiting}
 use Rattle.rx_desk.specs.Moved.{IsGiven, IsSameShelf, IsTaken}
 use Rattle.rx_desk.proofs.Ended.{finds}
 use Rattle.rx_desk.proofs.Fitting.{fits_on}
@@ -38,7 +37,7 @@ use Rattle.rx_desk.proofs.OneParcel.{one_parcel}
 use Rattle.rx_desk.proofs.Passing.{at_own, free, out_taken}
 use Rattle.rx_desk.proofs.Placed.{books_give, books_stay, books_take, counted_give, counted_take, handed_give}
 use Rattle.rx_desk.proofs.Placed.{handed_take, noted_give, noted_take, room_for, states_give, states_take}
-use Rattle.rx_desk.proofs.Ready.{is_ready, may_take}
+use Rattle.rx_desk.proofs.Ready.{may_take}
 
 newest : (history : List Event) (e : Event) → reverse (history ++ e ∷ []) ≡ e ∷ reverse history
 newest history e = reverse-append history (e ∷ [])

@@ -1,6 +1,6 @@
 -- Meaning: a desk as its callers see it: its job, and the events so far. What may be asked of it is told by the machine of
 -- `rx_schedule`: which events are legal, and where they have led.
-use Rattle.std.specs.Prelude.{◌≡◌, ℕ, ◌-◌, ◌≤◌, ◌++◌, List, [], ◌∷◌, Option, Some, length, map, reverse, slice_get, slice_index_or}
+use Rattle.std.specs.Prelude.{◌≡◌, ℕ, ◌-◌, ◌++◌, List, [], ◌∷◌, Some, length, map, reverse, slice_get, slice_index_or}
 use Rattle.rx_fields.specs.Numbered.{LotParts, Span}
 use Rattle.rx_fields.specs.declared.key.Key.{Key}
 use Rattle.rx_d0_values.specs.declared.transmission.Transmission.{Transmission}
@@ -17,7 +17,7 @@ use Rattle.rx_books_parcel.specs.Parcels.{ParcelParts}
 use Rattle.rx_adjudicate.specs.Orders.{OrderParts}
 use Rattle.rx_books_store.specs.LedgerBooks.{LedgerBooks}
 use Rattle.rx_schedule.specs.declared.event.Event.{Event}
-use Rattle.rx_schedule.specs.declared.event.Event.TheVariants.{Give, Take}
+use Rattle.rx_schedule.specs.declared.event.Event.TheVariants.{Take}
 use Rattle.rx_schedule.specs.Footprints.{footprint_at, no_record, record_at}
 use Rattle.rx_schedule.specs.Jobs.{job}
 use Rattle.rx_schedule.specs.Machine.{Desk as Replayed, IsPlace, Job, MayGive, MayTake, Was, replay}

@@ -1,7 +1,7 @@
 -- Plumbing: what a desk keeps beside its job and its events: the books in place, the parcels that are out, the replies, and which
 -- records were handed out and passed are those that the events have led to.
-use Rattle.std.specs.Prelude.{◌≡◌, ℕ, ◌+◌, ◌-◌, ◌*◌, ◌≤◌, Bool, true, List, [], length, reverse}
-use Rattle.std.specs.Prelude.{Option, Some, slice_get, slice_index_or, sum_by}
+use Rattle.std.specs.Prelude.{◌≡◌, ℕ, ◌+◌, ◌-◌, ◌*◌, ◌≤◌, Bool, true, List, length, reverse}
+use Rattle.std.specs.Prelude.{slice_get, slice_index_or, sum_by}
 use Rattle.rx_fields.specs.declared.limits.TheConstants.{MOST_DETAILS}
 use Rattle.rx_fields.specs.Numbered.{LotParts}
 use Rattle.rx_d0_values.specs.declared.reply.Reply.{Reply}

@@ -1,4 +1,4 @@
-use Rattle.std.proofs.Common.{◌≡◌, ◌<◌, ◌≤◌, ◌-◌, false, true, refl, sym, ap, ◌∙◌, arith}
+use Rattle.std.proofs.Common.{◌≡◌, ◌≤◌, false, true, refl, sym, ap, ◌∙◌, arith}
 use Rattle.rx_desk.specs.declared.state.State.TheVariants.{Out}
 use Rattle.rx_desk.proofs.Steps.{is_out_of, record_read, state_read, terms_read}
 use Rattle.rx_desk.proofs.desk.Desk.has_out.Goals as goal

@@ -1,4 +1,4 @@
-use Rattle.std.proofs.Common.{◌≡◌, ◌<◌, ◌≤◌, ◌-◌, ◌∷◌, length, refl, sym, ap, ◌∙◌, arith}
+use Rattle.std.proofs.Common.{refl, arith}
 use Rattle.rx_desk.proofs.Left.{all_taken, none_ready, some_left}
 use Rattle.rx_desk.proofs.Steps.{fits_read, inside_read, kept_stay, may, one_more, one_waits, out_read}
 use Rattle.rx_desk.proofs.Steps.{placed_read, room_taken, state_there, took_read, within}
