@@ -1,9 +1,8 @@
 ghost use Rattle.std.specs.Prelude.{◌≡◌, ◌↔◌, false};
 ghost use Rattle.std.specs.List.{list_any};
-ghost use Rattle.rx_check.specs.Warned.{adjudicated, feeds, groups, has_none_under, is_of_batch, is_under, may_pass};
+ghost use Rattle.rx_check.specs.Warned.{adjudicated, feeds, groups, has_none_under, is_under, may_pass};
 
 use rx_batch::Detail;
-use rx_books_store::OpenBooks;
 use rx_d0_request::{BIN_LENGTH, PCN_AT, PCN_LENGTH};
 use rx_fields::{Door, Lot, MOST_LINES, NUMBERS_OF_A_BATCH, Period};
 use rx_ledger::Row;
@@ -47,27 +46,14 @@ fn is_under(door: &Door, detail: &Detail) -> bool
         && &text[PCN_AT..PCN_AT + PCN_LENGTH] == door.pcn.as_slice()
 }
 
-/// How many of the books' standing claims have a number of this lot: where there is one, the batch was adjudicated
-/// already.
-pub fn adjudicated(lot: Lot, books: &OpenBooks) -> usize
-    ensures { result ≡ adjudicated lot.number books.now.books.ledger.rows }
+/// How many standing claims have a number of this lot: where there is one, the batch was adjudicated already.
+pub fn adjudicated(lot: Lot, rows: &[Row]) -> usize
+    ensures { result ≡ adjudicated lot.number rows.now }
 {
     let number = u64::from(lot.number());
-    let mut count = 0;
-    let mut standing = books.standing();
-    'rows: while let Some((row, _)) = standing.next_row() {
-        if is_of_batch(number, row) {
-            count += 1;
-        }
-    }
-    count
-}
-
-// Whether a claim has a number of the batch.
-fn is_of_batch(number: u64, row: &Row) -> bool
-    ensures { result ≡ is_of_batch number row.now }
-{
-    row.number.get() / NUMBERS_OF_A_BATCH == number
+    rows.iter()
+        .filter(|row| row.number.get() / NUMBERS_OF_A_BATCH == number)
+        .count()
 }
 
 // How many claims a record can add at most.

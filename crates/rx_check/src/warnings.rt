@@ -152,8 +152,8 @@ fn adjudicated_in(
     let (Some(books), Some(batch)) = (books, batch) else {
         return Ok(0);
     };
-    let lent = books.lend(alloc)?;
-    Ok(adjudicated(batch.head.lot(), lent.books()))
+    let ledger = books.ledger(alloc)?;
+    Ok(adjudicated(batch.head.lot(), ledger.rows()))
 }
 
 // Whether the end books could have too many lines.
