@@ -1,7 +1,9 @@
 -- The transaction is asked under the occasion that the rules name, and the rows are those of the sheet's period.
-use Rattle.std.proofs.Common.{◌≡◌, ◌∙◌, refl, ap, map}
+use Rattle.std.proofs.Common.{◌≡◌, ◌∙◌, refl, ap, map, subst}
 use Rattle.rx_fields.specs.Numbered.{Span}
+use Rattle.rx_ledger.specs.Answers.{answer}
 use Rattle.rx_ledger.specs.Claims.{asked_on}
+use Rattle.rx_ledger.specs.Decisions.{Asked}
 use Rattle.rx_ledger.specs.Fold.{asked}
 use Rattle.rx_ledger.specs.declared.occasion.Occasion.{Occasion}
 use Rattle.rx_explain.specs.Shown.{counted_for}
@@ -22,7 +24,7 @@ returns g c =
       number_is = ap (λ (o : Occasion). o.number) c.new-occasion.ensures;
       transaction_is = refl;
       case_is = rw under at c.decide.ensures.decided;
-      answer_is = rw under at c.decide.ensures.answered;
+      answer_is = subst (λ (a : Asked). c.decide.result.answer ≡ answer a L c.args.transaction.now) under c.decide.ensures.answered;
       standing_is = c.standing.ensures;
       open_from_is = rw c.figures-2.ensures.value at (c.open_from.ensures L c.requires.rows);
       counted_are = c.in_ok-counted-2.ensures
