@@ -8,7 +8,7 @@
   a parameter that is told by its name alone (`workers`) by that name.
 - Each clause in docs/PROVED.md and docs/CARRIED.md, written `call` (clause), is a clause of that call, and each edit of
   docs/CARRIED.md is in the must-fail folder of its crate.
-- Each crate of crates.txt has one line in docs/MAP.md, with the libraries that it uses.
+- Each crate of crates.txt has one line in docs/MAP.md and one place in its drawing, and uses no crate of a storey above its own.
 - The headline stands in the README and in the code as docs/PRODUCT.md has it.
 - Each path in a page is there, and each heading, or term in bold, that a page or the code names stands in the page that it
   names.
@@ -208,20 +208,28 @@ def libraries(root):
     return found
 
 
+def storeys(page):
+    """The storey of each crate in the map's drawing, the lowest 0; crates beside the house stand on top."""
+    drawing = re.search(r"```\n(.*?)```", page, re.S)[1]
+    rows = [re.findall(r"\b(?:rx\w*|tests_\w+)\b", line) for line in drawing.splitlines()]
+    house = list(reversed([row for row in rows if row][:-1]))
+    beside = [row for row in rows if row][-1]
+    return {crate: height for height, row in enumerate([*house, beside]) for crate in row}
+
+
 def check_crates(root, checks):
+    """Each crate has one line and one place in the map, and stands on nothing above its own storey."""
     page = (root / "docs/MAP.md").read_text()
-    told = {}
-    for line in page.splitlines():
-        match = re.match(r"\| `(\w+)` \| .* \| ([^|]*) \|$", line)
-        if match:
-            told[match[1]] = [name.strip("`") for name in re.findall(r"`(\w+)`|(?<![`\w])(\w+)", match[2]) for name in name if name]
-    for crate, uses in libraries(root).items():
+    lines = re.findall(r"^\| `((?:rx|tests_)\w*)` \| ", page[page.index("## The crates"):], re.M)
+    height, crates = storeys(page), libraries(root)
+    for crate, uses in crates.items():
         checks.expect((root / "crates" / crate / "src").is_dir(), f"crates.txt: {crate}: no such crate")
-        checks.expect(crate in told, f"docs/MAP.md: {crate}: no line")
-        checks.expect(sorted(told.get(crate, [])) == sorted(uses),
-                      f"docs/MAP.md: {crate}: stands on {' '.join(uses)}, told {' '.join(told.get(crate, []))}")
-    for crate in told:
-        checks.expect(crate in libraries(root), f"docs/MAP.md: {crate}: crates.txt has no such crate")
+        checks.expect(lines.count(crate) == 1, f"docs/MAP.md: {crate}: {lines.count(crate)} lines")
+        checks.expect(crate in height, f"docs/MAP.md: {crate}: not in the drawing")
+        above = [it for it in uses if it in crates and height.get(it, 0) > height.get(crate, 0)]
+        checks.expect(not above, f"docs/MAP.md: {crate}: stands on {' '.join(above)}, which the drawing has above it")
+    for crate in {*lines, *height}:
+        checks.expect(crate in crates, f"docs/MAP.md: {crate}: crates.txt has no such crate")
 
 
 def check_headline(root, checks):
