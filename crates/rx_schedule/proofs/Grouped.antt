@@ -13,9 +13,9 @@ use Rattle.rx_fields.specs.Order.{id_cmp, key_cmp}
 use Rattle.rx_d0_values.specs.declared.transmission.Transmission.{Transmission}
 use Rattle.rx_ledger.specs.Ledger.{Ledger}
 use Rattle.rx_ledger.proofs.Orders.{id_exact, id_total, key_exact, key_total}
-use Rattle.rx_sorted.specs.Ascending.{contains_key}
+use Rattle.rx_sorted.specs.Ascending.{contains_key, itself}
 use Rattle.rx_books_family.specs.Books.{Book, OfFamily, OfKey}
-use Rattle.rx_books_parcel.specs.Footprints.{FootprintParts, IsFootprint, itself, names}
+use Rattle.rx_books_parcel.specs.Footprints.{FootprintParts, IsFootprint, names}
 use Rattle.rx_schedule.specs.Footprints.{in_order}
 use Rattle.rx_schedule.proofs.InOrder.{IsAscending-in_order, among-in_order, named_in}
 use Rattle.rx_schedule.specs.Shards.{AreApart, AreWide, IsClosed, IsGrouping, books_of_shard, is_of, places_of, union}

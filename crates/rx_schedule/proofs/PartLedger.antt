@@ -10,7 +10,7 @@ use Rattle.std.proofs.lemmas.List.Elements.{All-contains, All-contains_itself}
 use Rattle.std.proofs.lemmas.List.Sums.{AllPass-from_list_all, list_all-from_AllPass}
 use Rattle.rx_fields.specs.Order.{id_cmp, key_cmp}
 use Rattle.rx_fields.specs.declared.key.Key.{Key}
-use Rattle.rx_sorted.specs.Ascending.{contains_key, item_at}
+use Rattle.rx_sorted.specs.Ascending.{contains_key, item_at, itself}
 use Rattle.rx_sorted.proofs.Filters.{Contains-filter}
 use Rattle.rx_sorted.proofs.Keys.{Equal-from_is_eq}
 use Rattle.rx_sorted.proofs.Kept.{IsAscending-filter}
@@ -22,7 +22,7 @@ use Rattle.rx_ledger.specs.Members.{member_cmp, member_key}
 use Rattle.rx_ledger.specs.Rows.{member_of_row, row_key}
 use Rattle.rx_ledger.proofs.Orders.{id_exact, id_total, key_exact, key_total, member_exact, member_total}
 use Rattle.rx_books_family.specs.Books.{Book, IsInOrder, OfFamily, OfKey, has_member, has_row}
-use Rattle.rx_books_parcel.specs.Footprints.{FootprintParts, cut, itself, names, sub}
+use Rattle.rx_books_parcel.specs.Footprints.{FootprintParts, cut, names, sub}
 use Rattle.rx_books_parcel.proofs.Parts.{cut_part, keeps, named_keeps, part}
 use Rattle.rx_schedule.specs.Shards.{IsClosed}
 
