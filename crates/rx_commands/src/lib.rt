@@ -12,8 +12,8 @@
 //! ```
 //!
 //! `retrace` has the explanations of the transactions that are asked for, with the replies to the whole batch. What they are
-//! is in `specs/Retraced.antt`. The records are adjudicated once, in file order, and explained on the way where a
-//! transaction is likely to be asked for.
+//! is in `specs/Retraced.antt`. The records are adjudicated once, in file order, and explained on the way where the
+//! requests tell that a transaction is asked for.
 //!
 //! ```rust
 //! let retraced = rx_commands::retrace(rt, alloc, sheet, books, batch, &wanted)?;

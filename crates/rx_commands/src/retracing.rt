@@ -1,25 +1,25 @@
 //! The transactions of a job that are asked for, explained, for `explain`.
 
-ghost use Rattle.std.specs.Prelude.{◌≡◌, ◌≤◌, ◌==◌, [], IfErr, IfOk, length};
+ghost use Rattle.std.specs.Prelude.{◌≡◌, ◌≤◌, ◌==◌, IfErr, IfOk, length};
 ghost use Rattle.std.specs.List.{All, AllZip, find};
 ghost use Rattle.std.specs.Option.{option_copied};
-ghost use Rattle.rx_explain_replay.specs.Records.{AreAmong, IsAt};
+ghost use Rattle.rx_explain_replay.specs.Records.{AreDecided, IsAt};
 ghost use Rattle.rx_fields.specs.declared.limits.TheConstants.{MOST_DETAILS};
 ghost use Rattle.rx_ledger.specs.Fold.{fold_replies};
 ghost use Rattle.rx_switch.specs.Planned.{IsNotPlanned};
 ghost use Rattle.rx_commands.specs.Retraced.{AreExplained, IsRetraced};
 
-mod likely;
+mod asked;
 mod response;
 mod telling;
 
 use crate::inputs::{Inputs, read_inputs};
-use likely::likely_places;
+use asked::asked_in;
 use rx_batch::Details;
 use rx_books_store::Books;
 use rx_d0_values::{Reply, Transmission};
 use rx_explain::{At, Events, Explanation, Wanted, find, item, place_at};
-use rx_explain_replay::{Batch, Explained, Replayed, among, explain_each, replay};
+use rx_explain_replay::{Batch, Explained, Replayed, explain_each, replay, traced};
 use rx_fields::{Lot, Memory};
 use rx_ledger::{Figures, Sheet};
 use rx_switch::SwitchFault;
@@ -116,7 +116,7 @@ fn answer(
         opening: &opening,
         asked,
     };
-    let replayed = replay_likely(alloc, &batch, wanted)?;
+    let replayed = replay_asked(alloc, &batch, wanted)?;
     let explanations = explain_wanted(alloc, &batch, wanted, &replayed);
     drop(opening);
     let Replayed { replies, explained } = replayed;
@@ -127,15 +127,15 @@ fn answer(
     })
 }
 
-// The replies to the records, and explanations of those that are likely to be wanted.
-fn replay_likely(alloc: Global, batch: &Batch<'_>, wanted: &Wanted) -> Result<Replayed, Memory>
+// The replies to the records, and what decided those that are asked for, as far as the requests tell.
+fn replay_asked(alloc: Global, batch: &Batch<'_>, wanted: &Wanted) -> Result<Replayed, Memory>
     requires { length batch.now.asked.now ≤ MOST_DETAILS }
     ensures replies { IfOk result (λ r.
         r.replies.items ≡ fold_replies batch.now.lot batch.now.sheet.now 1 batch.now.asked.now batch.now.opening.now.ledger) }
-    ensures explained { IfOk result (λ r. All (λ k. AreAmong batch.now [] k.place k.explanations.items) r.explained.items) }
+    ensures explained { IfOk result (λ r. All (λ k. AreDecided batch.now k.place k.facts.items) r.explained.items) }
 {
-    let likely = likely_places(alloc, batch.lot, wanted, batch.asked)?;
-    replay(alloc, batch, &likely)
+    let places = asked_in(alloc, batch.lot, wanted, batch.asked)?;
+    replay(alloc, batch, &places)
 }
 
 // The explanations that are wanted, of a batch that was gone through.
@@ -149,7 +149,7 @@ fn explain_wanted(
     requires few { length batch.now.asked.now ≤ MOST_DETAILS }
     requires replies { replayed.now.replies.items
         ≡ fold_replies batch.now.lot batch.now.sheet.now 1 batch.now.asked.now batch.now.opening.now.ledger }
-    requires explained { All (λ k. AreAmong batch.now [] k.place k.explanations.items) replayed.now.explained.items }
+    requires explained { All (λ k. AreDecided batch.now k.place k.facts.items) replayed.now.explained.items }
     ensures { IfOk result (λ all. AreExplained batch.now.lot batch.now.sheet.now batch.now.asked.now
         batch.now.opening.now.ledger wanted.now replayed.now.replies.items all.items) }
 {
@@ -158,8 +158,8 @@ fn explain_wanted(
     explain_found(alloc, batch, &events, &replayed.explained, &found)
 }
 
-// An explanation of each of these transactions among what the batch changed: of those that were explained on the way, or
-// else of all by one more pass over the batch.
+// An explanation of each of these transactions among what the batch changed: by what was noted on the way, or else of all by
+// one more pass over the batch, which only an authorization number of the opening books takes.
 fn explain_found(
     alloc: Global,
     batch: &Batch<'_>,
@@ -168,7 +168,7 @@ fn explain_found(
     found: &[At],
 ) -> Result<Vec<Option<Explanation>>, Memory>
     requires few { length batch.now.asked.now ≤ MOST_DETAILS }
-    requires explained { All (λ k. AreAmong batch.now [] k.place k.explanations.items) explained.now }
+    requires explained { All (λ k. AreDecided batch.now k.place k.facts.items) explained.now }
     ensures { IfOk result (λ all. AllZip (IsAt batch.now events.now) found.now all.items) }
 {
     let mut explanations = Vec::with_capacity(alloc, found.len())?;
@@ -177,8 +177,8 @@ fn explain_found(
         let Some(record) = record_at(explained, at.place) else {
             return explain_each(alloc, batch, events, found);
         };
-        let explanation = item(&record.explanations, at.nth);
-        explanations.push(among(alloc, events, explanation)?)?;
+        let facts = item(&record.facts, at.nth);
+        explanations.push(traced(alloc, events, facts)?)?;
     }
     Ok(explanations)
 }

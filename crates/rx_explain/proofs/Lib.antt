@@ -5,5 +5,4 @@ pub mod Laws
 pub mod Nexts
 pub mod Opened
 pub mod Parted
-pub mod Retraced
 pub mod Sources

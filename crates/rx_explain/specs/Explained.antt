@@ -10,12 +10,27 @@ use Rattle.rx_ledger.specs.Plan.{Plan}
 use Rattle.rx_explain.specs.declared.at.At.{At}
 use Rattle.rx_explain.specs.declared.events.Event.{Event}
 use Rattle.rx_explain.specs.declared.explanation.Explanation.{Explanation}
+use Rattle.rx_explain.specs.declared.facts.Facts.{Facts}
 use Rattle.rx_explain.specs.Before.{ledger_before}
 use Rattle.rx_explain.specs.Cases.{case_of}
 use Rattle.rx_explain.specs.Opens.{IsOpenFrom}
 use Rattle.rx_explain.specs.Shown.{counted_for, row_in}
 use Rattle.rx_explain.specs.Spots.{Spot}
 use Rattle.rx_explain.specs.Traces.{events_of, traced}
+
+-- place, pharmacy, date and number; the case on the ledger and its answer; the rows that mattered; and the first date, from
+-- its own on, on which it isn't too soon
+pub record AreFacts (lot : LotParts) (plan : Plan) (L : Ledger) (at : At) (s : Spot) (x : Facts) : Type 0 where
+  pub at_is : x.at ≡ at
+  pub provider_is : x.provider ≡ s.heard.provider
+  pub date_is : x.date ≡ s.heard.date
+  pub number_is : x.number ≡ authorization lot at.place at.nth
+  pub transaction_is : x.transaction ≡ s.transaction
+  pub case_is : x.case ≡ case_of (asked lot plan at.place s.heard at.nth) L s.transaction
+  pub answer_is : x.answer ≡ answer (asked lot plan at.place s.heard at.nth) L s.transaction
+  pub standing_is : x.standing ≡ row_in x.case
+  pub open_from_is : IsOpenFrom plan.figures s.heard.date L s.transaction x.case x.open_from
+  pub counted_are : x.counted.items ≡ counted_for plan.figures.period L s.transaction x.case
 
 -- place, pharmacy, date and number; the case on the ledger and its answer; the rows that mattered, each with its source
 -- and its end among these events; and the first date, from its own on, on which it isn't too soon
@@ -33,7 +48,14 @@ pub record IsOnLedger (lot : LotParts) (plan : Plan) (L : Ledger) (events : List
   pub counted_are : x.counted.items ≡ map (traced events at) (counted_for plan.figures.period L s.transaction x.case)
 
 module _ (lot : LotParts) (plan : Plan) (ts : List Transmission) (opening : Ledger) where
-  -- on the ledger before the transaction, among these events; there is an explanation exactly where there is a transaction
+  -- on the ledger before the transaction; there are facts exactly where there is a transaction
+  abbrev pub AreFactsAt : At → Option Spot → Option Facts → Type 0
+  AreFactsAt at None None = Unit {0}
+  AreFactsAt at None (Some x) = ⊥
+  AreFactsAt at (Some s) None = ⊥
+  AreFactsAt at (Some s) (Some x) = AreFacts lot plan (ledger_before lot plan ts opening at.place s.heard at.nth) at s x
+
+  -- an explanation as well, among these events
   abbrev pub IsAmong : List Event → At → Option Spot → Option Explanation → Type 0
   IsAmong events at None None = Unit {0}
   IsAmong events at None (Some x) = ⊥

@@ -1,88 +1,76 @@
 ghost use Rattle.std.specs.Prelude.{◌≡◌, ◌≤◌, IfOk, OnOk};
 ghost use Rattle.rx_d0_values.specs.declared.transaction.Transaction.TheVariants as asks;
 ghost use Rattle.rx_explain.specs.Around.{HasRows};
-ghost use Rattle.rx_explain.specs.Explained.{IsOnLedger};
+ghost use Rattle.rx_explain.specs.Explained.{AreFacts};
 ghost use Rattle.rx_fields.specs.declared.limits.TheConstants.{MOST_DETAILS};
 ghost use Rattle.rx_ledger.specs.Answers.{after, answer};
 ghost use Rattle.rx_ledger.specs.Basis.{Holds, HoldsBill, HoldsReversal};
 ghost use Rattle.rx_ledger.specs.Fold.{asked};
 ghost use Rattle.rx_ledger.specs.Named.{key_in};
 
-use crate::at::At;
-use crate::events::Events;
-use crate::explanation::{Explanation, explain_on};
-use rx_d0_values::{Answer, Bill, Heard, Reversal, Transaction};
-use rx_fields::{Lot, Memory};
-use rx_ledger::{Basis, Occasion, Row, Sheet};
+use crate::facts::{Facts, facts_on};
+use crate::subject::Subject;
+use rx_d0_values::{Answer, Bill, Reversal, Transaction};
+use rx_fields::Memory;
+use rx_ledger::{Basis, Occasion, Row};
 use std::alloc::Global;
 
-/// The explanation of a transaction on what answers as the ledger before it, as `explain_on` gives it; the transaction is
-/// then adjudicated there: a claim that is paid stands from then on, and one that is reversed no longer (docs/MODEL.md,
-/// "Record and fold"). Without memory, nothing is promised of what it is adjudicated on.
+/// What decides a transaction on what answers as the ledger before it, where it is adjudicated then: a claim that is paid
+/// stands from then on, and one that is reversed no longer (docs/MODEL.md, "Record and fold"). `rows` are the claims that are
+/// gone through: those of a billing's family are all among them, in the order of their keys. Without memory, nothing is
+/// promised of what it is adjudicated on.
 pub fn explain_next<S: Basis>(
     alloc: Global,
-    lot: Lot,
-    sheet: &Sheet,
+    subject: &Subject<'_>,
     basis: &mut S,
     rows: &[Row],
-    events: &Events,
-    at: At,
-    heard: &Heard,
-    transaction: &Transaction,
-) -> Result<Explanation, Memory>
-    requires place { at.place ≤ MOST_DETAILS }
-    requires nth { at.nth ≤ 4 }
-    requires held { Holds (S.scope basis.old) (key_in heard.now) (S.ledger basis.old) transaction.now }
-    requires rows { HasRows (S.ledger basis.old) rows.now transaction.now }
-    ensures explained { IfOk result (IsOnLedger lot sheet.now (S.ledger basis.old) events.now at
-        (record { heard = heard.now; transaction = transaction.now })) }
-    ensures after { let a = asked lot sheet.now at.place heard.now at.nth in
-        OnOk result (S.ledger basis.new
-        ≡ after a (S.ledger basis.old) transaction.now (answer a (S.ledger basis.old) transaction.now)) }
+) -> Result<Facts, Memory>
+    requires place { subject.now.at.place ≤ MOST_DETAILS }
+    requires nth { subject.now.at.nth ≤ 4 }
+    requires held { Holds (S.scope basis.old) (key_in subject.now.heard.now) (S.ledger basis.old) subject.now.transaction.now }
+    requires rows { HasRows (S.ledger basis.old) rows.now subject.now.transaction.now }
+    ensures facts { IfOk result (AreFacts subject.now.lot subject.now.sheet.now (S.ledger basis.old) subject.now.at
+        (record { heard = subject.now.heard.now; transaction = subject.now.transaction.now })) }
+    ensures after { let a = asked subject.now.lot subject.now.sheet.now subject.now.at.place subject.now.heard.now
+        subject.now.at.nth in
+        let t = subject.now.transaction.now in
+        OnOk result (S.ledger basis.new ≡ after a (S.ledger basis.old) t (answer a (S.ledger basis.old) t)) }
     ensures scope { OnOk result (S.scope basis.new ≡ S.scope basis.old) }
 {
-    let explanation = explain_on(
-        alloc,
-        lot,
-        sheet,
-        &*basis,
-        rows,
-        events,
-        at,
-        heard,
-        transaction,
-    )?;
-    match transaction {
-        Transaction::Bill(bill) => {
-            let answer = &explanation.answer;
-            stand_where_paid(lot, sheet, basis, at, heard, bill, answer)?
-        }
-        Transaction::Reverse(reversal) => take_back(lot, sheet, basis, at, heard, reversal)?,
+    let facts = facts_on(alloc, subject, &*basis, rows)?;
+    match subject.transaction {
+        Transaction::Bill(bill) => stand_where_paid(subject, basis, bill, &facts.answer)?,
+        Transaction::Reverse(reversal) => take_back(subject, basis, reversal)?,
         Transaction::Faulty(_) => {}
     }
-    Ok(explanation)
+    Ok(facts)
 }
 
 // A billing that was answered so, adjudicated: a claim that is paid stands.
 fn stand_where_paid<S: Basis>(
-    lot: Lot,
-    sheet: &Sheet,
+    subject: &Subject<'_>,
     basis: &mut S,
-    at: At,
-    heard: &Heard,
     bill: &Bill,
     given: &Answer,
 ) -> Result<(), Memory>
-    requires place { at.place ≤ MOST_DETAILS }
-    requires nth { at.nth ≤ 4 }
-    requires held { HoldsBill (S.scope basis.old) (key_in heard.now) bill.now }
-    requires given { let a = asked lot sheet.now at.place heard.now at.nth in
+    requires place { subject.now.at.place ≤ MOST_DETAILS }
+    requires nth { subject.now.at.nth ≤ 4 }
+    requires held { HoldsBill (S.scope basis.old) (key_in subject.now.heard.now) bill.now }
+    requires given { let a = asked subject.now.lot subject.now.sheet.now subject.now.at.place subject.now.heard.now
+        subject.now.at.nth in
         given.now ≡ answer a (S.ledger basis.old) (asks.Bill bill.now) }
-    ensures after { let a = asked lot sheet.now at.place heard.now at.nth in
+    ensures after { let a = asked subject.now.lot subject.now.sheet.now subject.now.at.place subject.now.heard.now
+        subject.now.at.nth in
         OnOk result (S.ledger basis.new ≡ after a (S.ledger basis.old) (asks.Bill bill.now) given.now) }
     ensures scope { OnOk result (S.scope basis.new ≡ S.scope basis.old) }
 {
-    let occasion = Occasion::new(lot, sheet.figures(), at.place, heard, at.nth);
+    let occasion = Occasion::new(
+        subject.lot,
+        subject.sheet.figures(),
+        subject.at.place,
+        subject.heard,
+        subject.at.nth,
+    );
     if let Answer::Paid(paid) = given {
         basis.add(occasion.row(bill, paid))?;
     }
@@ -91,22 +79,26 @@ fn stand_where_paid<S: Basis>(
 
 // A reversal adjudicated: a claim that is taken back no longer stands.
 fn take_back<S: Basis>(
-    lot: Lot,
-    sheet: &Sheet,
+    subject: &Subject<'_>,
     basis: &mut S,
-    at: At,
-    heard: &Heard,
     reversal: &Reversal,
 ) -> Result<(), Memory>
-    requires place { at.place ≤ MOST_DETAILS }
-    requires nth { at.nth ≤ 4 }
-    requires held { HoldsReversal (S.scope basis.old) (key_in heard.now) (S.ledger basis.old) reversal.now }
-    ensures after { let a = asked lot sheet.now at.place heard.now at.nth in
-        OnOk result (S.ledger basis.new
-        ≡ after a (S.ledger basis.old) (asks.Reverse reversal.now) (answer a (S.ledger basis.old) (asks.Reverse reversal.now))) }
+    requires place { subject.now.at.place ≤ MOST_DETAILS }
+    requires nth { subject.now.at.nth ≤ 4 }
+    requires held { HoldsReversal (S.scope basis.old) (key_in subject.now.heard.now) (S.ledger basis.old) reversal.now }
+    ensures after { let a = asked subject.now.lot subject.now.sheet.now subject.now.at.place subject.now.heard.now
+        subject.now.at.nth in
+        let t = asks.Reverse reversal.now in
+        OnOk result (S.ledger basis.new ≡ after a (S.ledger basis.old) t (answer a (S.ledger basis.old) t)) }
     ensures scope { OnOk result (S.scope basis.new ≡ S.scope basis.old) }
 {
-    let occasion = Occasion::new(lot, sheet.figures(), at.place, heard, at.nth);
+    let occasion = Occasion::new(
+        subject.lot,
+        subject.sheet.figures(),
+        subject.at.place,
+        subject.heard,
+        subject.at.nth,
+    );
     let key = occasion.key(reversal.reference);
     if let Some(row) = basis.row_under(&key) {
         if row.product == reversal.product {

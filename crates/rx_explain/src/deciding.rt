@@ -226,9 +226,9 @@ pub(crate) fn is_early_fill(figures: &Figures, date: Day, bill: &Bill, row: &Row
     is_same(&row.family, &bill.parts().family) && is_too_soon(figures, date, bill, row)
 }
 
-// Whether these are one family.
+/// Whether these are one family.
 #[tactic(auto, using(rx_ledger::proofs::SameText::same_text))]
-fn is_same(a: &Id, b: &Id) -> bool
+pub(crate) fn is_same(a: &Id, b: &Id) -> bool
     ensures { result ≡ is_same a.now b.now }
 {
     a == b

@@ -58,22 +58,6 @@ pub(crate) fn trace_each(
     Ok(all)
 }
 
-/// The rows of these again, each with its source and its end among these events.
-pub(crate) fn trace_again(
-    alloc: Global,
-    events: &Events,
-    at: At,
-    claims: &[Traced],
-) -> Result<Vec<Traced>, Memory>
-    ensures { IfOk result (λ all. all.items ≡ map (λ c. traced events.now at c.row) claims.now) }
-{
-    let mut all = Vec::with_capacity(alloc, claims.len())?;
-    for claim in claims {
-        all.push(trace(events, at, claim.row))?;
-    }
-    Ok(all)
-}
-
 // The last payment under the key before the transaction.
 fn source_of(events: &[Event], key: &Key, at: At) -> Source
     ensures { result ≡ source_of events.now key.now at }

@@ -14,8 +14,9 @@ use Rattle.rx_d0_values.specs.declared.transmission.Transmission.{Transmission}
 use Rattle.rx_explain.specs.declared.at.At.{At}
 use Rattle.rx_explain.specs.declared.events.Event.{Event}
 use Rattle.rx_explain.specs.declared.explanation.Explanation.{Explanation}
+use Rattle.rx_explain.specs.declared.facts.Facts.{Facts}
 use Rattle.rx_explain.specs.Before.{ledger_at, ledger_before}
-use Rattle.rx_explain.specs.Explained.{IsAmong, IsOnLedger}
+use Rattle.rx_explain.specs.Explained.{AreFacts, AreFactsAt, IsAmong, IsOnLedger}
 use Rattle.rx_explain.specs.Spots.{Spot, item, spot_at, spot_in}
 use Rattle.rx_fields.specs.Numbered.{LotParts}
 use Rattle.rx_ledger.specs.Answers.{after, answer}
@@ -23,7 +24,7 @@ use Rattle.rx_ledger.specs.Fold.{asked, ledger_from}
 use Rattle.rx_ledger.specs.Ledger.{Ledger}
 use Rattle.rx_ledger.specs.Plan.{Plan}
 use Rattle.rx_explain_replay.specs.declared.batch.Batch.{Batch}
-use Rattle.rx_explain_replay.specs.Records.{AreAmong, AreOf, IsAt, IsOf}
+use Rattle.rx_explain_replay.specs.Records.{AreDecided, AreOf, IsOf}
 use Rattle.rx_explain_replay.proofs.Items.{item_at, item_end, item_more, item_past, no_item}
 
 one_more : (nth n : ℕ) → nth + 1 + n ≡ nth + suc n
@@ -58,50 +59,50 @@ module _ (lot : LotParts) (plan : Plan) (place : ℕ) (h : Heard) where
       ∙ sym (ledger_append (take at list) (t ∷ []) 1 L)
       ∙ ap (λ xs. ledger_from lot plan place h 1 xs L) (sym and_one)
 
-module _ (lot : LotParts) (plan : Plan) (events : List Event) (place : ℕ) (h : Heard) (L : Ledger) where
+module _ (lot : LotParts) (plan : Plan) (place : ℕ) (h : Heard) (L : Ledger) where
   -- one more transaction is explained
-  pub explained_next : (list : List Transaction) (xs : List Explanation) (at : ℕ) (t : Transaction) (x : Explanation)
+  pub explained_next : (list : List Transaction) (xs : List Facts) (at : ℕ) (t : Transaction) (x : Facts)
       → at < length list → t ≡ get_or list at t → length xs ≡ at
-      → ((nth : ℕ) → nth ≤ at → IsOf lot plan events place h L nth (item list nth) (item xs nth))
-      → IsOf lot plan events place h L (at + 1) (Some t) (Some x)
-      → (nth : ℕ) → nth ≤ at + 1 → IsOf lot plan events place h L nth (item list nth) (item (xs ++ x ∷ []) nth)
+      → ((nth : ℕ) → nth ≤ at → IsOf lot plan place h L nth (item list nth) (item xs nth))
+      → IsOf lot plan place h L (at + 1) (Some t) (Some x)
+      → (nth : ℕ) → nth ≤ at + 1 → IsOf lot plan place h L nth (item list nth) (item (xs ++ x ∷ []) nth)
   explained_next list xs at t x within is count so here nth le = elim (cases_lt at nth) [
     | inl past ↦
         let e : at + 1 ≡ nth = omega arith in
         let ours : item list (at + 1) ≡ Some t = item_at list at t within is in
         let theirs : item (xs ++ x ∷ []) (at + 1) ≡ Some x =
         ap (λ n. item (xs ++ x ∷ []) (n + 1)) (sym count) ∙ item_end xs x in
-        subst (λ (n : ℕ). IsOf lot plan events place h L n (item list n) (item (xs ++ x ∷ []) n)) e
-        (subst (λ (o : Option Transaction). IsOf lot plan events place h L (at + 1) o (item (xs ++ x ∷ []) (at + 1))) (sym ours)
-        (subst (λ (o : Option Explanation). IsOf lot plan events place h L (at + 1) (Some t) o) (sym theirs) here))
+        subst (λ (n : ℕ). IsOf lot plan place h L n (item list n) (item (xs ++ x ∷ []) n)) e
+        (subst (λ (o : Option Transaction). IsOf lot plan place h L (at + 1) o (item (xs ++ x ∷ []) (at + 1))) (sym ours)
+        (subst (λ (o : Option Facts). IsOf lot plan place h L (at + 1) (Some t) o) (sym theirs) here))
     | inr up_to ↦
-        subst (λ (o : Option Explanation). IsOf lot plan events place h L nth (item list nth) o)
+        subst (λ (o : Option Facts). IsOf lot plan place h L nth (item list nth) o)
         (sym (item_more xs x nth (omega arith))) (so nth up_to)
   ]
 
   -- at the end all of them are
-  pub all_explained : (list : List Transaction) (xs : List Explanation) → length xs ≡ length list
-      → ((nth : ℕ) → nth ≤ length list → IsOf lot plan events place h L nth (item list nth) (item xs nth))
-      → (nth : ℕ) → IsOf lot plan events place h L nth (item list nth) (item xs nth)
+  pub all_explained : (list : List Transaction) (xs : List Facts) → length xs ≡ length list
+      → ((nth : ℕ) → nth ≤ length list → IsOf lot plan place h L nth (item list nth) (item xs nth))
+      → (nth : ℕ) → IsOf lot plan place h L nth (item list nth) (item xs nth)
   all_explained list xs count so nth = elim (cases_lt (length list) nth) [
     | inl past ↦
-        subst (λ (o : Option Transaction). IsOf lot plan events place h L nth o (item xs nth)) (sym (item_past list nth past))
-        (subst (λ (o : Option Explanation). IsOf lot plan events place h L nth None o)
+        subst (λ (o : Option Transaction). IsOf lot plan place h L nth o (item xs nth)) (sym (item_past list nth past))
+        (subst (λ (o : Option Facts). IsOf lot plan place h L nth None o)
         (sym (item_past xs nth (omega arith))) tt)
     | inr within ↦ so nth within
   ]
 
-module _ (b : Batch) (events : List Event) (place : ℕ) where
+module _ (b : Batch) (place : ℕ) where
   of_each : (h : Heard) (L : Ledger) → ledger_at b.lot b.sheet.now b.asked.now b.opening.now.ledger place ≡ L
-      → (nth : ℕ) (o : Option Transaction) (x : Option Explanation) → IsOf b.lot b.sheet.now events place h L nth o x
-      → IsAmong b.lot b.sheet.now b.asked.now b.opening.now.ledger events (record { place = place; nth = nth })
+      → (nth : ℕ) (o : Option Transaction) (x : Option Facts) → IsOf b.lot b.sheet.now place h L nth o x
+      → AreFactsAt b.lot b.sheet.now b.asked.now b.opening.now.ledger (record { place = place; nth = nth })
       (option_map (λ t. record { heard = h; transaction = t }) o) x
   of_each h L is nth None None so = tt
   of_each h L is nth None (Some x) so = absurd so
   of_each h L is nth (Some t) None so = absurd so
   of_each h L is nth (Some t) (Some x) so =
-      subst (λ (M : Ledger). IsOnLedger b.lot b.sheet.now (ledger_from b.lot b.sheet.now place h 1 (take (nth - 1) h.list) M)
-      events (record { place = place; nth = nth }) (record { heard = h; transaction = t }) x) (sym is) so
+      subst (λ (M : Ledger). AreFacts b.lot b.sheet.now (ledger_from b.lot b.sheet.now place h 1 (take (nth - 1) h.list) M)
+      (record { place = place; nth = nth }) (record { heard = h; transaction = t }) x) (sym is) so
 
   spot_is : (t : Transmission) (inside : Body) (nth : ℕ) → item b.asked.now place ≡ Some t → t.body ≡ inside
       → spot_at b.asked.now (record { place = place; nth = nth }) ≡ spot_in nth inside
@@ -109,39 +110,46 @@ module _ (b : Batch) (events : List Event) (place : ℕ) where
       ap (option_and_then (λ (u : Transmission). spot_in nth u.body)) is ∙ ap (spot_in nth) has
 
   -- of the record at a place, on the ledger before it
-  pub among_heard : (t : Transmission) (h : Heard) (L : Ledger) (xs : List Explanation) → item b.asked.now place ≡ Some t
+  pub among_heard : (t : Transmission) (h : Heard) (L : Ledger) (xs : List Facts) → item b.asked.now place ≡ Some t
       → t.body ≡ body.Heard h → ledger_at b.lot b.sheet.now b.asked.now b.opening.now.ledger place ≡ L
-      → AreOf b.lot b.sheet.now events place h L xs → AreAmong b events place xs
+      → AreOf b.lot b.sheet.now place h L xs → AreDecided b place xs
   among_heard t h L xs is has ledger so nth =
-      subst (λ (o : Option Spot). IsAmong b.lot b.sheet.now b.asked.now b.opening.now.ledger events
+      subst (λ (o : Option Spot). AreFactsAt b.lot b.sheet.now b.asked.now b.opening.now.ledger
       (record { place = place; nth = nth }) o (item xs nth)) (sym (spot_is t (body.Heard h) nth is has))
       (of_each h L ledger nth (item h.list nth) (item xs nth) (so nth))
 
-  none_among : ((nth : ℕ) → spot_at b.asked.now (record { place = place; nth = nth }) ≡ None) → AreAmong b events place []
+  none_among : ((nth : ℕ) → spot_at b.asked.now (record { place = place; nth = nth }) ≡ None) → AreDecided b place []
   none_among none nth =
-      subst (λ (o : Option Spot). IsAmong b.lot b.sheet.now b.asked.now b.opening.now.ledger events
+      subst (λ (o : Option Spot). AreFactsAt b.lot b.sheet.now b.asked.now b.opening.now.ledger
       (record { place = place; nth = nth }) o (item [] nth)) (sym (none nth))
-      (subst (λ (x : Option Explanation). IsAmong b.lot b.sheet.now b.asked.now b.opening.now.ledger events
+      (subst (λ (x : Option Facts). AreFactsAt b.lot b.sheet.now b.asked.now b.opening.now.ledger
       (record { place = place; nth = nth }) None x) (sym (no_item nth)) tt)
 
   -- a record whose header is rejected has none
   pub among_rejected : (t : Transmission) (r : Rejected) → item b.asked.now place ≡ Some t → t.body ≡ body.Rejected r
-      → AreAmong b events place []
+      → AreDecided b place []
   among_rejected t r is has = none_among (λ nth. spot_is t (body.Rejected r) nth is has)
 
   -- nor has a place without a record
-  pub among_nothing : item b.asked.now place ≡ None → AreAmong b events place []
+  pub among_nothing : item b.asked.now place ≡ None → AreDecided b place []
   among_nothing none =
       none_among (λ nth. ap (option_and_then (λ (u : Transmission). spot_in nth u.body)) none)
 
 module _ (b : Batch) (events : List Event) where
-  -- explained again among other events
-  pub among_again : (others : List Event) (at : At) (o : Option Spot) (x y : Explanation)
-      → ((L : Ledger) (s : Spot) → IsOnLedger b.lot b.sheet.now L others x.at s x → IsOnLedger b.lot b.sheet.now L events x.at s y)
-      → IsAmong b.lot b.sheet.now b.asked.now b.opening.now.ledger others at o (Some x)
+  -- explained among events
+  pub facts_traced : (at : At) (o : Option Spot) (x : Facts) (y : Explanation)
+      → ((L : Ledger) (s : Spot) → AreFacts b.lot b.sheet.now L x.at s x → IsOnLedger b.lot b.sheet.now L events x.at s y)
+      → AreFactsAt b.lot b.sheet.now b.asked.now b.opening.now.ledger at o (Some x)
       → IsAmong b.lot b.sheet.now b.asked.now b.opening.now.ledger events at o (Some y)
-  among_again others at None x y again is = absurd is
-  among_again others at (Some s) x y again is =
+  facts_traced at None x y traced are = absurd are
+  facts_traced at (Some s) x y traced are =
       let L = ledger_before b.lot b.sheet.now b.asked.now b.opening.now.ledger at.place s.heard at.nth in
-      subst (λ (p : At). IsOnLedger b.lot b.sheet.now L events p s y) is.at_is
-      (again L s (subst (λ (p : At). IsOnLedger b.lot b.sheet.now L others p s x) (sym is.at_is) is))
+      subst (λ (p : At). IsOnLedger b.lot b.sheet.now L events p s y) are.at_is
+      (traced L s (subst (λ (p : At). AreFacts b.lot b.sheet.now L p s x) (sym are.at_is) are))
+
+  -- and where there is no transaction there is no explanation
+  pub nothing_traced : (at : At) (o : Option Spot)
+      → AreFactsAt b.lot b.sheet.now b.asked.now b.opening.now.ledger at o None
+      → IsAmong b.lot b.sheet.now b.asked.now b.opening.now.ledger events at o None
+  nothing_traced at None are = tt
+  nothing_traced at (Some s) are = absurd are

@@ -1,17 +1,16 @@
-ghost use Rattle.std.specs.Prelude.{◌≡◌, ◌≤◌, IfOk, List, OnOk, Option, length};
+ghost use Rattle.std.specs.Prelude.{◌≡◌, ◌≤◌, IfOk, OnOk, Option, length};
 ghost use Rattle.std.specs.List.{AllZip};
 ghost use Rattle.std.specs.Option.{option_copied};
 ghost use Rattle.rx_explain_replay.specs.Adjudicated.{AreExplained, IsAdjudicated};
 ghost use Rattle.rx_explain_replay.specs.Courses.{IsCourse};
-ghost use Rattle.rx_explain_replay.specs.Records.{AreAmong, IsAt};
+ghost use Rattle.rx_explain_replay.specs.Records.{AreDecided, IsAt, IsDecided};
 ghost use Rattle.rx_explain_replay.specs.declared.batch.Batch.{Batch as BatchRecord};
-ghost use Rattle.rx_explain.specs.declared.events.Event.{Event};
 ghost use Rattle.rx_fields.specs.declared.limits.TheConstants.{MOST_DETAILS};
 
 use crate::batch::{Adjudicated, Batch};
 use crate::course::{Course, begun, go_to};
 use crate::record::explain_record;
-use rx_explain::{At, Events, Explanation, item, place_at};
+use rx_explain::{At, Events, Explanation, Facts, item, place_at};
 use rx_fields::Memory;
 use std::alloc::Global;
 
@@ -61,46 +60,46 @@ fn explain_on(
     places: &[At],
 ) -> Result<Vec<Option<Explanation>>, Memory>
     requires course { IsCourse batch.now pass.old.course }
-    requires latest { AreAmong batch.now events.now pass.old.place pass.old.latest.items }
+    requires latest { AreDecided batch.now pass.old.place pass.old.latest.items }
     ensures { IfOk result (λ all. AllZip (IsAt batch.now events.now) places.now all.items) }
 {
     let mut explanations = Vec::with_capacity(alloc, places.len())?;
     for nth in 0..places.len() {
         let at = place_at(places, nth);
-        pass_to(alloc, batch, events, pass, at.place)?;
-        explanations.push(among(alloc, events, item(&pass.latest, at.nth))?)?;
+        pass_to(alloc, batch, pass, at.place)?;
+        explanations.push(traced(alloc, events, item(&pass.latest, at.nth))?)?;
     }
     Ok(explanations)
 }
 
-/// An explanation among these events, where there is one.
-pub fn among(
+/// The explanation among these events, where there are facts of a transaction.
+pub fn traced(
     alloc: Global,
     events: &Events,
-    explanation: Option<&Explanation>,
+    facts: Option<&Facts>,
 ) -> Result<Option<Explanation>, Memory>
-    ensures { (b : BatchRecord) → (others : List Event) → (at : At)
-        → IsAt b others at (option_copied explanation.entry) → IfOk result (IsAt b events.now at) }
+    ensures { (b : BatchRecord) → (at : At)
+        → IsDecided b at (option_copied facts.entry) → IfOk result (IsAt b events.now at) }
 {
-    match explanation {
-        Some(explanation) => Ok(Some(explanation.among(alloc, events)?)),
+    match facts {
+        Some(facts) => Ok(Some(facts.traced(alloc, events)?)),
         None => Ok(None),
     }
 }
 
-// A batch gone through, and the explanations of the transactions of the record at a place of it.
+// A batch gone through, and what decided the transactions of the record at a place of it.
 #[derive(Drop)]
 struct Pass {
     course: Course,
     place: u64,
-    latest: Vec<Explanation>,
+    latest: Vec<Facts>,
 }
 
 // A batch of which no record is done, nor explained.
 fn pass_begun(alloc: Global, batch: &Batch<'_>) -> Result<Pass, Memory>
     requires { length batch.now.asked.now ≤ MOST_DETAILS }
     ensures course { IfOk result (λ pass. IsCourse batch.now pass.course) }
-    ensures latest { (events : List Event) → IfOk result (λ pass. AreAmong batch.now events pass.place pass.latest.items) }
+    ensures latest { IfOk result (λ pass. AreDecided batch.now pass.place pass.latest.items) }
 {
     Ok(Pass {
         course: begun(alloc, batch)?,
@@ -110,17 +109,11 @@ fn pass_begun(alloc: Global, batch: &Batch<'_>) -> Result<Pass, Memory>
 }
 
 // The pass goes on to the record at a place, and explains it; where it is past it, it begins again.
-fn pass_to(
-    alloc: Global,
-    batch: &Batch<'_>,
-    events: &Events,
-    pass: &mut Pass,
-    place: u64,
-) -> Result<(), Memory>
+fn pass_to(alloc: Global, batch: &Batch<'_>, pass: &mut Pass, place: u64) -> Result<(), Memory>
     requires course { IsCourse batch.now pass.old.course }
-    requires latest { AreAmong batch.now events.now pass.old.place pass.old.latest.items }
+    requires latest { AreDecided batch.now pass.old.place pass.old.latest.items }
     ensures course { OnOk result (IsCourse batch.now pass.new.course) }
-    ensures latest { OnOk result (AreAmong batch.now events.now pass.new.place pass.new.latest.items) }
+    ensures latest { OnOk result (AreDecided batch.now pass.new.place pass.new.latest.items) }
     ensures place { OnOk result (pass.new.place ≡ place) }
 {
     if place == pass.place {
@@ -134,7 +127,7 @@ fn pass_to(
     let before = (place - 1) as usize;
     go_back(alloc, batch, &mut pass.course, before)?;
     go_to(alloc, batch, &mut pass.course, before)?;
-    pass.latest = explain_record(alloc, batch, events, &mut pass.course)?;
+    pass.latest = explain_record(alloc, batch, &mut pass.course)?;
     Ok(())
 }
 

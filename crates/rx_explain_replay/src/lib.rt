@@ -20,5 +20,5 @@ mod record;
 mod replaying;
 
 pub use batch::{Adjudicated, Batch};
-pub use explaining::{among, explain_each, explanations};
+pub use explaining::{explain_each, explanations, traced};
 pub use replaying::{Explained, Replayed, replay};

@@ -1,7 +1,7 @@
 ghost use Rattle.std.specs.Prelude.{◌≡◌, ◌+◌, ◌<◌, ◌≤◌, IfOk, OnOk, length, map, true};
 ghost use Rattle.rx_d0_values.specs.Listed.{is_few};
 ghost use Rattle.rx_explain_replay.specs.Courses.{IsCourse, IsHeardOf};
-ghost use Rattle.rx_explain_replay.specs.Records.{AreAmong, AreOf};
+ghost use Rattle.rx_explain_replay.specs.Records.{AreDecided, AreOf};
 ghost use Rattle.rx_explain.specs.Around.{HasRows};
 ghost use Rattle.rx_fields.specs.declared.limits.TheConstants.{MOST_DETAILS};
 ghost use Rattle.rx_serial.specs.Underway.{scope_of};
@@ -10,24 +10,23 @@ ghost use Rattle.rx_ledger.specs.Fold.{answers_from, ledger_from};
 use crate::batch::Batch;
 use crate::course::{Course, go_on};
 use rx_d0_values::{Answers, Body, Heard, Outcome, Reply, Transaction};
-use rx_explain::{At, Events, Explanation, explain_next};
+use rx_explain::{At, Facts, Subject, explain_next};
 use rx_fields::{Lot, Memory};
 use rx_ledger::{Row, Sheet};
 use rx_serial::InOrder;
 use std::alloc::Global;
 
-/// The next record, done, and an explanation of each of its transactions among these events.
+/// The next record, done, and what decided each of its transactions.
 pub(crate) fn explain_record(
     alloc: Global,
     batch: &Batch<'_>,
-    events: &Events,
     course: &mut Course,
-) -> Result<Vec<Explanation>, Memory>
+) -> Result<Vec<Facts>, Memory>
     requires ahead { course.old.done < length batch.now.asked.now }
     requires course { IsCourse batch.now course.old }
     ensures course { OnOk result (IsCourse batch.now course.new) }
     ensures done { OnOk result (course.new.done ≡ course.old.done + 1) }
-    ensures explained { IfOk result (λ xs. AreAmong batch.now events.now (course.old.done + 1) xs.items) }
+    ensures explained { IfOk result (λ xs. AreDecided batch.now (course.old.done + 1) xs.items) }
 {
     let transmission = &batch.asked[course.done];
     let Body::Heard(heard) = &transmission.body else {
@@ -36,28 +35,27 @@ pub(crate) fn explain_record(
     };
     let place = course.done as u64 + 1;
     let order = &mut course.order;
-    let explanations = explain_heard(alloc, batch.lot, batch.sheet, order, events, place, heard)?;
+    let facts = explain_heard(alloc, batch.lot, batch.sheet, order, place, heard)?;
     course.replies.push(Reply {
         echo: transmission.echo,
-        outcome: Outcome::Heard(answers_in(alloc, &explanations)?),
+        outcome: Outcome::Heard(answers_in(alloc, &facts)?),
     })?;
     course.done += 1;
-    Ok(explanations)
+    Ok(facts)
 }
 
-// The transactions of a record adjudicated one after another, each with its explanation.
+// The transactions of a record adjudicated one after another, each with what decided it.
 fn explain_heard(
     alloc: Global,
     lot: Lot,
     sheet: &Sheet,
     order: &mut InOrder,
-    events: &Events,
     place: u64,
     heard: &Heard,
-) -> Result<Vec<Explanation>, Memory>
+) -> Result<Vec<Facts>, Memory>
     requires place { place ≤ MOST_DETAILS }
     requires awaited { IsHeardOf order.old heard.now }
-    ensures explained { IfOk result (λ xs. AreOf lot sheet.now events.now place heard.now order.old.books.ledger xs.items) }
+    ensures explained { IfOk result (λ xs. AreOf lot sheet.now place heard.now order.old.books.ledger xs.items) }
     ensures few { IfOk result (λ xs. is_few (length xs.items) ≡ true) }
     ensures answers { IfOk result (λ xs. map (λ x. x.answer) xs.items
         ≡ answers_from lot sheet.now place heard.now 1 heard.now.list order.old.books.ledger) }
@@ -66,24 +64,20 @@ fn explain_heard(
     ensures scope { OnOk result (scope_of order.new ≡ scope_of order.old) }
 {
     let list = heard.list.as_slice();
-    let mut explanations = Vec::with_capacity(alloc, list.len())?;
+    let mut facts = Vec::with_capacity(alloc, list.len())?;
     for (before, transaction) in list.iter().enumerate() {
         let nth = before as u64 + 1;
         let rows = rows_for(alloc, order, transaction)?;
-        let at = At { place, nth };
-        explanations.push(explain_next(
-            alloc,
+        let subject = Subject {
             lot,
             sheet,
-            order,
-            &rows,
-            events,
-            at,
+            at: At { place, nth },
             heard,
             transaction,
-        )?)?;
+        };
+        facts.push(explain_next(alloc, &subject, order, &rows)?)?;
     }
-    Ok(explanations)
+    Ok(facts)
 }
 
 // The claims among which a transaction is explained: those of a billing's family.
@@ -96,14 +90,14 @@ fn rows_for(alloc: Global, order: &InOrder, transaction: &Transaction) -> Result
     }
 }
 
-// The answers that are explained.
-fn answers_in(alloc: Global, explanations: &[Explanation]) -> Result<Answers, Memory>
-    requires { is_few (length explanations.now) ≡ true }
-    ensures { IfOk result (λ answers. answers ≡ map (λ x. x.answer) explanations.now) }
+// The answers that were decided.
+fn answers_in(alloc: Global, facts: &[Facts]) -> Result<Answers, Memory>
+    requires { is_few (length facts.now) ≡ true }
+    ensures { IfOk result (λ answers. answers ≡ map (λ x. x.answer) facts.now) }
 {
-    let mut answers = Vec::with_capacity(alloc, explanations.len())?;
-    for explanation in explanations {
-        answers.push(explanation.answer)?;
+    let mut answers = Vec::with_capacity(alloc, facts.len())?;
+    for decided in facts {
+        answers.push(decided.answer)?;
     }
     match Answers::new(answers) {
         Ok(answers) => Ok(answers),

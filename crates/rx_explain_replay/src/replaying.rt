@@ -1,8 +1,8 @@
-ghost use Rattle.std.specs.Prelude.{◌≡◌, ◌≤◌, ℕ, List, [], ◌++◌, ◌∷◌, IfOk, OnOk, length, map};
+ghost use Rattle.std.specs.Prelude.{◌≡◌, ◌≤◌, ℕ, List, ◌++◌, ◌∷◌, IfOk, OnOk, length, map};
 ghost use Rattle.std.specs.List.{All};
 ghost use Rattle.rx_explain_replay.specs.Courses.{IsCourse};
 ghost use Rattle.rx_explain_replay.specs.Places.{places_ahead};
-ghost use Rattle.rx_explain_replay.specs.Records.{AreAmong};
+ghost use Rattle.rx_explain_replay.specs.Records.{AreDecided};
 ghost use Rattle.rx_fields.specs.declared.limits.TheConstants.{MOST_DETAILS};
 ghost use Rattle.rx_ledger.specs.Fold.{fold_replies};
 
@@ -10,7 +10,7 @@ use crate::batch::Batch;
 use crate::course::{Course, begun, go_to};
 use crate::record::explain_record;
 use rx_d0_values::Reply;
-use rx_explain::{Events, Explanation};
+use rx_explain::Facts;
 use rx_fields::Memory;
 use std::alloc::Global;
 
@@ -23,14 +23,13 @@ pub struct Replayed {
     pub explained: Vec<Explained>,
 }
 
-/// A record explained where it was met: of each claim it isn't known yet where it comes from and what becomes of it
-/// (`Explanation::among`).
+/// A record explained where it was met.
 #[derive(Debug, Drop)]
 pub struct Explained {
     /// The record's place in the batch, from 1.
     pub place: u64,
-    /// The explanations of its transactions, in order.
-    pub explanations: Vec<Explanation>,
+    /// What decided its transactions, in order.
+    pub facts: Vec<Facts>,
 }
 
 /// The replies to the records of a batch, one after another, and explanations of the records at these places, which
@@ -39,7 +38,7 @@ pub fn replay(alloc: Global, batch: &Batch<'_>, places: &[u64]) -> Result<Replay
     requires { length batch.now.asked.now ≤ MOST_DETAILS }
     ensures replies { IfOk result (λ r.
         r.replies.items ≡ fold_replies batch.now.lot batch.now.sheet.now 1 batch.now.asked.now batch.now.opening.now.ledger) }
-    ensures explained { IfOk result (λ r. All (λ k. AreAmong batch.now [] k.place k.explanations.items) r.explained.items) }
+    ensures explained { IfOk result (λ r. All (λ k. AreDecided batch.now k.place k.facts.items) r.explained.items) }
     ensures places { IfOk result (λ r.
         map (λ k. k.place) r.explained.items ≡ places_ahead 0 (length batch.now.asked.now) places.now) }
 {
@@ -63,34 +62,31 @@ fn explain_ahead(
     requires course { IsCourse batch.now course.old }
     ensures course { OnOk result (IsCourse batch.now course.new) }
     ensures done { OnOk result (course.new.done ≡ length batch.now.asked.now) }
-    ensures explained { IfOk result (λ ks. All (λ k. AreAmong batch.now [] k.place k.explanations.items) ks.items) }
+    ensures explained { IfOk result (λ ks. All (λ k. AreDecided batch.now k.place k.facts.items) ks.items) }
     ensures places { IfOk result (λ ks.
         map (λ k. k.place) ks.items ≡ places_ahead 0 (length batch.now.asked.now) places.now) }
 {
-    let none = Events::of(alloc, &[], &[])?;
     let mut explained = Vec::new(alloc);
     for place in places {
-        explain_at(alloc, batch, &none, course, &mut explained, *place)?;
+        explain_at(alloc, batch, course, &mut explained, *place)?;
     }
     go_to(alloc, batch, course, batch.asked.len())?;
     Ok(explained)
 }
 
-// The record at a place that is ahead, explained among no events.
+// The record at a place that is ahead, explained.
 #[tactic(auto, using(crate::proofs::Places::passed_by, crate::proofs::Places::past_the_last, crate::proofs::Places::explained_too))]
 fn explain_at(
     alloc: Global,
     batch: &Batch<'_>,
-    none: &Events,
     course: &mut Course,
     explained: &mut Vec<Explained>,
     place: u64,
 ) -> Result<(), Memory>
-    requires none { none.now ≡ [] }
     requires course { IsCourse batch.now course.old }
-    requires explained { All (λ k. AreAmong batch.now [] k.place k.explanations.items) explained.old.items }
+    requires explained { All (λ k. AreDecided batch.now k.place k.facts.items) explained.old.items }
     ensures course { OnOk result (IsCourse batch.now course.new) }
-    ensures explained { OnOk result (All (λ k. AreAmong batch.now [] k.place k.explanations.items) explained.new.items) }
+    ensures explained { OnOk result (All (λ k. AreDecided batch.now k.place k.facts.items) explained.new.items) }
     ensures places { (more : List ℕ) → OnOk result (
         map (λ k. k.place) explained.new.items ++ places_ahead course.new.done (length batch.now.asked.now) more
         ≡ map (λ k. k.place) explained.old.items
@@ -103,9 +99,6 @@ fn explain_at(
         return Ok(());
     }
     go_to(alloc, batch, course, (place - 1) as usize)?;
-    let explanations = explain_record(alloc, batch, none, course)?;
-    Ok(explained.push(Explained {
-        place,
-        explanations,
-    })?)
+    let facts = explain_record(alloc, batch, course)?;
+    Ok(explained.push(Explained { place, facts })?)
 }

@@ -9,14 +9,16 @@ use Rattle.rx_explain.proofs.advancing.stand_where_paid.Goals as goal
 
 pub add-requires-clause-listed : goal.add-requires-clause-listed
 add-requires-clause-listed g c =
-    let a = asked c.args.lot c.args.sheet.now c.args.at.place c.args.heard.now c.args.at.nth in
+    let s = c.args.subject.now in
+    let a = asked s.lot s.sheet.now s.at.place s.heard.now s.at.nth in
     let L = g.S.Basis.ledger c.args.basis.now in
     let paid : answer a L (Bill c.args.bill.now) ≡ Paid c.in-Paid.paid = sym c.requires.given ∙ c.in-Paid.is in
     rw c.row.ensures (paid-listed a L c.args.bill.now c.in-Paid.paid paid)
 
 pub add-requires-clause-free : goal.add-requires-clause-free
 add-requires-clause-free g c =
-    let a = asked c.args.lot c.args.sheet.now c.args.at.place c.args.heard.now c.args.at.nth in
+    let s = c.args.subject.now in
+    let a = asked s.lot s.sheet.now s.at.place s.heard.now s.at.nth in
     let L = g.S.Basis.ledger c.args.basis.now in
     let paid : answer a L (Bill c.args.bill.now) ≡ Paid c.in-Paid.paid = sym c.requires.given ∙ c.in-Paid.is in
     rw (c.row.ensures, c.new-occasion.ensures) (paid-free a L c.args.bill.now c.in-Paid.paid paid)

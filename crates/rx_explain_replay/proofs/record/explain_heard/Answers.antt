@@ -5,9 +5,9 @@ use Rattle.std.proofs.Common.{Some, sym, ap, subst, arith}
 use Rattle.std.specs.List.{All}
 use Rattle.rx_d0_values.specs.declared.reply.Answer.{Answer}
 use Rattle.rx_d0_values.specs.declared.transaction.Transaction.{Transaction}
-use Rattle.rx_explain.specs.Explained.{IsOnLedger}
+use Rattle.rx_explain.specs.Explained.{AreFacts}
 use Rattle.rx_explain.specs.Spots.{item}
-use Rattle.rx_explain.specs.declared.explanation.Explanation.{Explanation}
+use Rattle.rx_explain.specs.declared.facts.Facts.{Facts}
 use Rattle.rx_serial.specs.Underway.{scope_of}
 use Rattle.rx_ledger.specs.Answers.{after, answer}
 use Rattle.rx_ledger.specs.Basis.{Holds, Scope}
@@ -39,7 +39,6 @@ loop-before-preserved c =
     let lot = c.args.lot in
     let plan = c.args.sheet.now in
     let place = c.args.place in
-    let events = c.args.events.now in
     let h = c.args.heard.now in
     let first = c.args.order.now.books.ledger in
     let list = c.as_slice-list.result.now in
@@ -47,26 +46,26 @@ loop-before-preserved c =
     let t = c.index-list-before.result in
     let now = c.loop-before.order.books.ledger in
     let next = c.explain_next.new.basis.books.ledger in
-    let xs = c.loop-before.explanations.items in
+    let xs = c.loop-before.facts.items in
     let x = c.in_ok-explain_next.field-0 in
     let so = c.loop-before.invariant in
     let told = c.in_ok-explain_next.ensures in
     let a = asked lot plan place h (at + 1) in
-    let answer_in : Explanation → Answer = λ y. y.answer in
+    let answer_in : Facts → Answer = λ y. y.answer in
     let within : at < length list = omega arith in
-    let answered : x.answer ≡ answer a now t = told.explained.answer_is in
+    let answered : x.answer ≡ answer a now t = told.facts.answer_is in
     let changed : next ≡ after a now t x.answer = told.after ∙ ap (after a now t) (sym answered) in
     let pushed : c.push.new.self.items ≡ xs ++ x ∷ [] = c.in_ok-push.ensures.items in
     let to_come = answers_from lot plan place h (at + 1 + 1) (drop (at + 1) list) next in
     let before_it : now ≡ ledger_from lot plan place h 1 (take (at + 1 - 1) h.list) first =
     so.so_far ∙ ap (λ (ts : List Transaction). ledger_from lot plan place h 1 (take at ts) first) c.as_slice-list.ensures.value
     ∙ ap (λ (n : ℕ). ledger_from lot plan place h 1 (take n h.list) first) (let e : at ≡ at + 1 - 1 = omega arith in e) in
-    let here : IsOf lot plan events place h first (at + 1) (Some t) (Some x) =
-    subst (λ (L : Ledger). IsOnLedger lot plan L events (record { place = place; nth = at + 1 })
-    (record { heard = h; transaction = t }) x) before_it told.explained in
+    let here : IsOf lot plan place h first (at + 1) (Some t) (Some x) =
+    subst (λ (L : Ledger). AreFacts lot plan L (record { place = place; nth = at + 1 })
+    (record { heard = h; transaction = t }) x) before_it told.facts in
     record {
       count = ap length pushed ∙ length-append xs (x ∷ []) ∙ ap (λ n. n + 1) so.count;
-      answers = ap (λ (ys : List Explanation). map answer_in ys ++ to_come) pushed
+      answers = ap (λ (ys : List Facts). map answer_in ys ++ to_come) pushed
           ∙ ap (λ (ys : List Answer). ys ++ to_come) (map-append answer_in xs (x ∷ []))
           ∙ answers_next lot plan place h list at t now next x.answer within c.index-list-before.is answered changed
           (map answer_in xs)
@@ -76,8 +75,8 @@ loop-before-preserved c =
       so_far = ledger_up_to lot plan place h list at t first now next within c.index-list-before.is so.so_far told.after;
       scope = told.scope ∙ so.scope;
       explained = λ nth le.
-          subst (λ (ys : List Explanation). IsOf lot plan events place h first nth (item list nth) (item ys nth)) (sym pushed)
-          (explained_next lot plan events place h first list xs at t x within c.index-list-before.is so.count so.explained here
+          subst (λ (ys : List Facts). IsOf lot plan place h first nth (item list nth) (item ys nth)) (sym pushed)
+          (explained_next lot plan place h first list xs at t x within c.index-list-before.is so.count so.explained here
           nth le);
     }
 
@@ -86,13 +85,12 @@ returns-clause-explained c nth =
     let lot = c.args.lot in
     let plan = c.args.sheet.now in
     let place = c.args.place in
-    let events = c.args.events.now in
     let h = c.args.heard.now in
     let first = c.args.order.now.books.ledger in
     let list = c.as_slice-list.result.now in
-    let xs = c.loop-before.explanations.items in
+    let xs = c.loop-before.facts.items in
     let so = c.loop-before.invariant in
     let all : c.loop-before.before ≡ length list = omega (arith, c.loop-before-test.false, c.loop-before.auto) in
-    subst (λ (ts : List Transaction). IsOf lot plan events place h first nth (item ts nth) (item xs nth))
+    subst (λ (ts : List Transaction). IsOf lot plan place h first nth (item ts nth) (item xs nth))
     c.as_slice-list.ensures.value
-    (all_explained lot plan events place h first list xs (so.count ∙ all) (λ n le. so.explained n (omega (arith, le, all))) nth)
+    (all_explained lot plan place h first list xs (so.count ∙ all) (λ n le. so.explained n (omega (arith, le, all))) nth)

@@ -11,8 +11,8 @@ invariant-loop-before l =
     let now = l.order.books.ledger in
     let first = l.initial.order.books.ledger in
     record {
-      count : length l.explanations.items ≡ l.before;
-      answers : map (λ x. x.answer) l.explanations.items
+      count : length l.facts.items ≡ l.before;
+      answers : map (λ x. x.answer) l.facts.items
           ++ answers_from l.lot l.sheet l.place l.heard (l.before + 1) (drop l.before l.list) now
           ≡ answers_from l.lot l.sheet l.place l.heard 1 l.list first;
       ledger : ledger_from l.lot l.sheet l.place l.heard (l.before + 1) (drop l.before l.list) now
@@ -20,5 +20,5 @@ invariant-loop-before l =
       so_far : now ≡ ledger_from l.lot l.sheet l.place l.heard 1 (take l.before l.list) first;
       scope : scope_of l.order ≡ scope_of l.initial.order;
       explained : (nth : ℕ) → nth ≤ l.before
-          → IsOf l.lot l.sheet l.events l.place l.heard first nth (item l.list nth) (item l.explanations.items nth);
+          → IsOf l.lot l.sheet l.place l.heard first nth (item l.list nth) (item l.facts.items nth);
     }

@@ -6,7 +6,7 @@ use Rattle.rx_d0_values.specs.declared.reply.Outcome.TheVariants as outcome
 use Rattle.rx_d0_values.specs.declared.reply.Reply.{Reply}
 use Rattle.rx_d0_values.specs.declared.transmission.Body.{Body}
 use Rattle.rx_d0_values.specs.declared.transmission.Transmission.{Transmission}
-use Rattle.rx_explain.specs.declared.explanation.Explanation.{Explanation}
+use Rattle.rx_explain.specs.declared.facts.Facts.{Facts}
 use Rattle.rx_serial.specs.Underway.{scope_of}
 use Rattle.rx_ledger.specs.Basis.{HoldsRecord}
 use Rattle.rx_ledger.specs.Fold.{fold_ledger, ledger_of_body, outcome_of}
@@ -23,7 +23,7 @@ explain_heard-requires-clause-awaited c =
     (c.requires.course.awaited c.args.course.now.done c.index-batch-course.result c.requires.ahead L)
 
 pub answers_in-requires : goal.answers_in-requires
-answers_in-requires c = rw c.deref.ensures.value c.in_ok-explanations.ensures.few
+answers_in-requires c = rw c.deref.ensures.value c.in_ok-facts.ensures.few
 
 pub returns-clause-course : goal.returns-clause-course
 returns-clause-course c =
@@ -34,14 +34,14 @@ returns-clause-course c =
     let L = old.order.books.ledger in
     let t = get_or asked old.done c.index-batch-course.result in
     let answered = c.in_ok-answers_in.ensures
-    ∙ ap (map (λ (x : Explanation). x.answer)) c.deref.ensures.value ∙ c.in_ok-explanations.ensures.answers in
+    ∙ ap (map (λ (x : Facts). x.answer)) c.deref.ensures.value ∙ c.in_ok-facts.ensures.answers in
     course_more c.args.batch.now old _ t c.requires.course c.requires.ahead
     (ap (λ (u : Transmission). get_or asked old.done u) c.index-batch-course.is) refl
-    (c.in_ok-explanations.ensures.after ∙ ap (ledger_of_body lot plan (old.done + 1) L) (sym c.in-Heard.is))
+    (c.in_ok-facts.ensures.after ∙ ap (ledger_of_body lot plan (old.done + 1) L) (sym c.in-Heard.is))
     (c.in_ok-push.ensures.items
     ∙ ap (λ (o : Outcome). old.replies.items ++ record { echo = t.echo; outcome = o } ∷ [])
     (ap outcome.Heard answered ∙ ap (outcome_of lot plan (old.done + 1) L) (sym c.in-Heard.is)))
-    c.in_ok-explanations.ensures.scope
+    c.in_ok-facts.ensures.scope
 
 pub returns-clause-explained : goal.returns-clause-explained
 returns-clause-explained c =
@@ -53,7 +53,7 @@ returns-clause-explained c =
     let t = get_or asked old.done c.index-batch-course.result in
     let here : t ≡ get_or asked old.done t = ap (λ (u : Transmission). get_or asked old.done u) c.index-batch-course.is in
     let before : old.done + 1 - 1 ≡ old.done = omega arith in
-    among_heard c.args.batch.now c.args.events.now (old.done + 1) t c.in-Heard.heard old.order.books.ledger
-    c.in_ok-explanations.explanations.items (item_at asked old.done t c.requires.ahead here) c.in-Heard.is
+    among_heard c.args.batch.now (old.done + 1) t c.in-Heard.heard old.order.books.ledger
+    c.in_ok-facts.facts.items (item_at asked old.done t c.requires.ahead here) c.in-Heard.is
     (ap (λ (n : ℕ). fold_ledger lot plan 1 (take n asked) opening) before ∙ sym c.requires.course.ledger)
-    c.in_ok-explanations.ensures.explained
+    c.in_ok-facts.ensures.explained

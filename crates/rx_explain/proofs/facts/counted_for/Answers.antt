@@ -1,6 +1,6 @@
 -- The rows of the family that count are those of the ledger.
 use Rattle.rx_explain.proofs.Counted.{counted_among}
-use Rattle.rx_explain.proofs.explanation.counted_for.Goals as goal
+use Rattle.rx_explain.proofs.facts.counted_for.Goals as goal
 
 pub returns-in-Bill-Payable : goal.returns-in-Bill-Payable
 returns-in-Bill-Payable c L has =

@@ -2,8 +2,8 @@
 use Rattle.std.proofs.Common.{◌<◌, ◌∙◌, ◌++◌, ◌∷◌, [], length, sym, ap, arith}
 use Rattle.rx_explain.specs.Shown.{is_counted}
 use Rattle.rx_explain.proofs.Counted.{filter_no, filter_yes}
-use Rattle.rx_explain.proofs.explanation.counted_rows.Goals as goal
-use Rattle.rx_explain.proofs.explanation.counted_rows.Goals.{then-is_counted+in_ok-push, else-is_counted}
+use Rattle.rx_explain.proofs.facts.counted_rows.Goals as goal
+use Rattle.rx_explain.proofs.facts.counted_rows.Goals.{then-is_counted+in_ok-push, else-is_counted}
 
 pub loop-row-preserved : goal.loop-row-preserved
 loop-row-preserved c =

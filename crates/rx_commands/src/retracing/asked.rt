@@ -1,31 +1,29 @@
-use rx_d0_values::{Body, Heard, Transaction, Transmission};
+use rx_d0_values::{Body, Heard, Transmission};
 use rx_explain::Wanted;
 use rx_fields::{Authorization, Key, Lot, Memory, NUMBERS_OF_A_BATCH, Reference};
 use std::alloc::Global;
 
-// The most records that are explained on the way: for each billing of one all standing claims are gone over.
-const MOST: usize = 4;
-
-/// The places of records, ascending, at which a transaction is likely to be asked for: a guess from the requests alone.
-pub(crate) fn likely_places(
+/// The places of the records, ascending, of which a transaction is asked for, as far as the requests tell: exactly those,
+/// but where an authorization number is asked for. Then they are the records with the fill key of the transaction whose own
+/// number it is; that a claim of the opening books has it too, only the replies tell.
+pub(crate) fn asked_in(
     alloc: Global,
     lot: Lot,
     wanted: &Wanted,
-    asked: &[Transmission],
+    transmissions: &[Transmission],
 ) -> Result<Vec<u64>, Memory> {
     let mut places = Vec::new(alloc);
-    let key = key_with(lot, wanted, asked);
-    for (before, transmission) in asked.iter().enumerate() {
+    let key = numbered_key(lot, wanted, transmissions);
+    for (before, transmission) in transmissions.iter().enumerate() {
         let place = before as u64 + 1;
-        let likely = is_likely(wanted, &key, place, transmission);
-        if likely && places.len() < MOST {
+        if is_asked(wanted, &key, place, transmission) {
             places.push(place)?;
         }
     }
     Ok(places)
 }
 
-fn is_likely(wanted: &Wanted, key: &Option<Key>, place: u64, transmission: &Transmission) -> bool {
+fn is_asked(wanted: &Wanted, key: &Option<Key>, place: u64, transmission: &Transmission) -> bool {
     let Body::Heard(heard) = &transmission.body else {
         return false;
     };
@@ -33,7 +31,7 @@ fn is_likely(wanted: &Wanted, key: &Option<Key>, place: u64, transmission: &Tran
         Wanted::Place(one) => place == *one,
         Wanted::One(at) => place == at.place,
         Wanted::Number(_) => match key {
-            Some(key) => names(heard, key.reference) && key_of(heard, key.reference) == *key,
+            Some(key) => names(heard, key.reference) && heard.key(key.reference) == *key,
             None => false,
         },
         Wanted::Reference(reference) => names(heard, *reference),
@@ -44,16 +42,16 @@ fn is_likely(wanted: &Wanted, key: &Option<Key>, place: u64, transmission: &Tran
 }
 
 // The fill key of the transaction whose own authorization number is asked for.
-fn key_with(lot: Lot, wanted: &Wanted, asked: &[Transmission]) -> Option<Key> {
+fn numbered_key(lot: Lot, wanted: &Wanted, transmissions: &[Transmission]) -> Option<Key> {
     let Wanted::Number(number) = wanted else {
         return None;
     };
     let (place, nth) = place_in(lot, *number)?;
-    let Body::Heard(heard) = &asked.get(place.checked_sub(1)?)?.body else {
+    let Body::Heard(heard) = &transmissions.get(place.checked_sub(1)?)?.body else {
         return None;
     };
     let transaction = heard.list.as_slice().get(nth.checked_sub(1)?)?;
-    Some(key_of(heard, reference_of(transaction)?))
+    Some(heard.key(transaction.reference()?))
 }
 
 // Place and place in the record of an authorization number of the lot.
@@ -66,28 +64,11 @@ fn place_in(lot: Lot, number: Authorization) -> Option<(usize, usize)> {
     Some((place as usize, (number % 10) as usize))
 }
 
-fn key_of(heard: &Heard, reference: Reference) -> Key {
-    Key {
-        provider: heard.provider,
-        reference,
-        date: heard.date,
-    }
-}
-
 // Whether a transaction of the record has this prescription reference number.
 fn names(heard: &Heard, reference: Reference) -> bool {
-    for transaction in heard.list.as_slice() {
-        if reference_of(transaction) == Some(reference) {
-            return true;
-        }
-    }
-    false
-}
-
-fn reference_of(transaction: &Transaction) -> Option<Reference> {
-    match transaction {
-        Transaction::Bill(bill) => Some(bill.parts().reference),
-        Transaction::Reverse(reversal) => Some(reversal.reference),
-        Transaction::Faulty(faulty) => faulty.reference,
-    }
+    heard
+        .list
+        .as_slice()
+        .iter()
+        .any(|transaction| transaction.reference() == Some(reference))
 }

@@ -1,0 +1,141 @@
+ghost use Rattle.std.specs.Prelude.{◌≡◌, ◌≤◌, IfOk, filter};
+ghost use Rattle.rx_ledger.specs.Basis.{Holds};
+ghost use Rattle.rx_ledger.specs.Ledger.{Ledger as LedgerLists};
+ghost use Rattle.rx_ledger.specs.Named.{key_in};
+ghost use Rattle.rx_explain.specs.Around.{HasRows};
+ghost use Rattle.rx_explain.specs.Explained.{AreFacts};
+ghost use Rattle.rx_explain.specs.Shown.{counted_for, is_counted, row_in};
+ghost use Rattle.rx_fields.specs.declared.limits.TheConstants.{MOST_DETAILS};
+
+use crate::at::At;
+use crate::case::Case;
+use crate::deciding::{Decision, decide, is_same};
+use crate::open_from::open_from;
+use crate::subject::Subject;
+use rx_d0_values::{Answer, Transaction};
+use rx_fields::{Authorization, Day, Id, Memory, Period, Provider};
+use rx_ledger::{Basis, Occasion, Row};
+use std::alloc::Global;
+
+/// What decided a transaction: facts of the ledger before it. Where the claims come from and what becomes of them is known
+/// once the whole batch is adjudicated (`Facts::traced`).
+#[derive(Debug, Drop)]
+pub struct Facts {
+    /// Where the transaction stands.
+    pub at: At,
+    /// The pharmacy.
+    pub provider: Provider,
+    /// The date of service.
+    pub date: Day,
+    /// The transaction's own authorization number.
+    pub number: Authorization,
+    /// What it asks.
+    pub transaction: Transaction,
+    /// The case that decided, with what decided it.
+    pub case: Case,
+    /// The answer.
+    pub answer: Answer,
+    /// The standing claim that decided, where one did.
+    pub standing: Option<Row>,
+    /// Of a claim that is too soon: the first date, from its own on, on which none of the member's fills of the product that
+    /// stand before it is too soon any more; None where the calendar has no such date.
+    pub open_from: Option<Day>,
+    /// Of a claim that is paid: the family's claims that count in the benefit period, ascending by fill key.
+    pub counted: Vec<Row>,
+}
+
+/// The facts of a transaction on what answers as the ledger before it. `rows` are the claims that are gone through: those of
+/// a billing's family are all among them, in the order of their keys.
+pub(crate) fn facts_on<S: Basis>(
+    alloc: Global,
+    subject: &Subject<'_>,
+    basis: &S,
+    rows: &[Row],
+) -> Result<Facts, Memory>
+    requires place { subject.now.at.place ≤ MOST_DETAILS }
+    requires nth { subject.now.at.nth ≤ 4 }
+    requires held { Holds (S.scope basis.now) (key_in subject.now.heard.now) (S.ledger basis.now) subject.now.transaction.now }
+    requires rows { HasRows (S.ledger basis.now) rows.now subject.now.transaction.now }
+    ensures { IfOk result (AreFacts subject.now.lot subject.now.sheet.now (S.ledger basis.now) subject.now.at
+        (record { heard = subject.now.heard.now; transaction = subject.now.transaction.now })) }
+{
+    let Subject {
+        lot,
+        sheet,
+        at,
+        heard,
+        transaction,
+    } = *subject;
+    let occasion = Occasion::new(lot, sheet.figures(), at.place, heard, at.nth);
+    let Decision { case, answer } = decide(&occasion, sheet, basis, rows, transaction);
+    Ok(Facts {
+        at,
+        provider: heard.provider,
+        date: heard.date,
+        number: occasion.number,
+        transaction: *transaction,
+        case,
+        answer,
+        standing: standing(&case),
+        open_from: open_from(sheet.figures(), heard.date, rows, transaction, &case),
+        counted: counted_for(alloc, sheet.period(), rows, transaction, &case)?,
+    })
+}
+
+// The row that decided.
+fn standing(case: &Case) -> Option<Row>
+    ensures { result ≡ row_in case.now }
+{
+    match case {
+        Case::SameStands(row)
+        | Case::OtherStands(row)
+        | Case::TooSoon(row)
+        | Case::OtherProduct(row)
+        | Case::TakenBack(row) => Some(*row),
+        _ => None,
+    }
+}
+
+// The rows that are shown of a claim that is paid.
+fn counted_for(
+    alloc: Global,
+    period: Period,
+    rows: &[Row],
+    transaction: &Transaction,
+    case: &Case,
+) -> Result<Vec<Row>, Memory>
+    ensures { (L : LedgerLists) → HasRows L rows.now transaction.now
+        → IfOk result (λ counted. counted.items ≡ counted_for period L transaction.now case.now) }
+{
+    match (transaction, case) {
+        (Transaction::Bill(bill), Case::Payable(_)) => {
+            counted_rows(alloc, period, rows, &bill.parts().family)
+        }
+        _ => Ok(Vec::new(alloc)),
+    }
+}
+
+// The family's rows that are dated within the period.
+fn counted_rows(
+    alloc: Global,
+    period: Period,
+    rows: &[Row],
+    family: &Id,
+) -> Result<Vec<Row>, Memory>
+    ensures { IfOk result (λ counted. counted.items ≡ filter (is_counted period family.now) rows.now) }
+{
+    let mut counted = Vec::new(alloc);
+    for row in rows {
+        if is_counted(period, family, row) {
+            counted.push(*row)?;
+        }
+    }
+    Ok(counted)
+}
+
+// Whether the row is one of the family, and dated within the period.
+fn is_counted(period: Period, family: &Id, row: &Row) -> bool
+    ensures { result ≡ is_counted period family.now row.now }
+{
+    is_same(&row.family, family) && period.contains(row.key.date)
+}
