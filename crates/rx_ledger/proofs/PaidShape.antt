@@ -24,11 +24,12 @@ use Rattle.rx_ledger.specs.Plan.{drug_of}
 
 -- ---- the decision to pay
 
--- a billing is of a person among the family's members, no row stood under its key, and it is paid by a drug
+-- a billing is of a person among the family's members, no row stood under its key, and it is paid by a listed drug
 pub record IsPayable (a : Asked) (L : Ledger) (b : BillParts) (p : Payment) : Type 0 where
   pub person : IsSome (person_in (members_of L b.family) b.person)
   pub free : row_under L (key_of a b.reference) ≡ None
   pub drug : Drug
+  pub listed : drug_of a.plan b.product ≡ Some drug
   pub is : p ≡ payment a.plan.figures drug b (rows_of L b.family)
 
 -- a row that pays
@@ -73,7 +74,7 @@ payable a L b p is =
     let few = below p (nat_lt a.plan.figures.max_days b.days) decision.TooManyDays _ listed.1.1 refl in
     let soon : Bool = list_any (is_too_soon a.plan.figures a.date b) (rows_of L b.family) in
     let paid = below p soon decision.TooSoon (decision.Payable (payment a.plan.figures listed.0 b (rows_of L b.family))) few refl in
-    record { person = ap is_some person.1.0; free = free.0; drug = listed.0; is = cc }
+    record { person = ap is_some person.1.0; free = free.0; drug = listed.0; listed = listed.1.0; is = cc }
 
 -- ---- the answer
 

@@ -109,3 +109,13 @@ abbrev pub decision_of : Asked → Ledger → Transaction → Decision
 decision_of a L (Bill b) = billing a L b
 decision_of a L (Reverse v) = reversal a L v
 decision_of a L (Faulty f) = Unread f
+
+-- ---- what decided
+
+-- the standing claim that a decision names
+abbrev pub row_of : Decision → Option Row
+row_of (SameStands r) = Some r
+row_of (OtherStands r) = Some r
+row_of (OtherProduct r) = Some r
+row_of (TakenBack r) = Some r
+row_of other = None

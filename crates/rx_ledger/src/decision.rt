@@ -1,5 +1,6 @@
 ghost use Rattle.std.specs.Prelude.{◌≡◌};
 ghost use Rattle.rx_ledger.specs.Answers.{answer_by, answer_to, refused, unread};
+ghost use Rattle.rx_ledger.specs.Decisions.{row_of};
 
 use crate::drug::Drug;
 use crate::member::Member;
@@ -101,6 +102,19 @@ impl Decision {
             Transaction::Bill(bill) => self.answer(number, bill.parts().reference),
             Transaction::Reverse(reversal) => self.answer(number, reversal.reference),
             Transaction::Faulty(faulty) => unread(faulty),
+        }
+    }
+
+    /// The standing claim that the decision names. A fill that makes a billing too soon isn't named.
+    pub fn row(&self) -> Option<Row>
+        ensures { result ≡ row_of self.now }
+    {
+        match self {
+            Decision::SameStands(row)
+            | Decision::OtherStands(row)
+            | Decision::OtherProduct(row)
+            | Decision::TakenBack(row) => Some(*row),
+            _ => None,
         }
     }
 }
