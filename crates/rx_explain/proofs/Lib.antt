@@ -1,7 +1,7 @@
 -- Lemmas of a claim retraced.
-pub mod Answered
 pub mod Counted
 pub mod Laws
+pub mod ListedDrugs
 pub mod Nexts
 pub mod Opened
 pub mod Parted

@@ -4,6 +4,7 @@ use Rattle.std.specs.Option.{option_map}
 use Rattle.rx_fields.specs.Numbered.{LotParts}
 use Rattle.rx_d0_values.specs.declared.transmission.Transmission.{Transmission}
 use Rattle.rx_ledger.specs.Answers.{answer}
+use Rattle.rx_ledger.specs.Decisions.{decision_of}
 use Rattle.rx_ledger.specs.Fold.{asked, authorization, fold_replies}
 use Rattle.rx_ledger.specs.Ledger.{Ledger}
 use Rattle.rx_ledger.specs.Plan.{Plan}
@@ -12,28 +13,28 @@ use Rattle.rx_explain.specs.declared.events.Event.{Event}
 use Rattle.rx_explain.specs.declared.explanation.Explanation.{Explanation}
 use Rattle.rx_explain.specs.declared.facts.Facts.{Facts}
 use Rattle.rx_explain.specs.Before.{ledger_before}
-use Rattle.rx_explain.specs.Cases.{case_of}
 use Rattle.rx_explain.specs.Opens.{IsOpenFrom}
 use Rattle.rx_explain.specs.Shown.{counted_for, row_in}
 use Rattle.rx_explain.specs.Spots.{Spot}
 use Rattle.rx_explain.specs.Traces.{events_of, traced}
+use Rattle.rx_explain.specs.Workings.{workings_for}
 
--- place, pharmacy, date and number; the case on the ledger and its answer; the rows that mattered; and the first date, from
--- its own on, on which it isn't too soon
+-- place, pharmacy, date and number; the decision on the ledger and its answer; the rows that mattered; the first date, from
+-- its own on, on which it isn't too soon; and the steps to the amounts
 pub record AreFacts (lot : LotParts) (plan : Plan) (L : Ledger) (at : At) (s : Spot) (x : Facts) : Type 0 where
   pub at_is : x.at ≡ at
   pub provider_is : x.provider ≡ s.heard.provider
   pub date_is : x.date ≡ s.heard.date
   pub number_is : x.number ≡ authorization lot at.place at.nth
   pub transaction_is : x.transaction ≡ s.transaction
-  pub case_is : x.case ≡ case_of (asked lot plan at.place s.heard at.nth) L s.transaction
+  pub decision_is : x.decision ≡ decision_of (asked lot plan at.place s.heard at.nth) L s.transaction
   pub answer_is : x.answer ≡ answer (asked lot plan at.place s.heard at.nth) L s.transaction
-  pub standing_is : x.standing ≡ row_in x.case
-  pub open_from_is : IsOpenFrom plan.figures s.heard.date L s.transaction x.case x.open_from
-  pub counted_are : x.counted.items ≡ counted_for plan.figures.period L s.transaction x.case
+  pub standing_is : x.standing ≡ row_in plan.figures s.heard.date L s.transaction x.decision
+  pub open_from_is : IsOpenFrom plan.figures s.heard.date L s.transaction x.decision x.open_from
+  pub workings_are : x.workings ≡ workings_for plan.figures s.transaction x.decision
+  pub counted_are : x.counted.items ≡ counted_for plan.figures.period L s.transaction x.decision
 
--- place, pharmacy, date and number; the case on the ledger and its answer; the rows that mattered, each with its source
--- and its end among these events; and the first date, from its own on, on which it isn't too soon
+-- the same, each row with its source and its end among these events
 pub record IsOnLedger (lot : LotParts) (plan : Plan) (L : Ledger) (events : List Event) (at : At) (s : Spot) (x : Explanation)
     : Type 0 where
   pub at_is : x.at ≡ at
@@ -41,11 +42,13 @@ pub record IsOnLedger (lot : LotParts) (plan : Plan) (L : Ledger) (events : List
   pub date_is : x.date ≡ s.heard.date
   pub number_is : x.number ≡ authorization lot at.place at.nth
   pub transaction_is : x.transaction ≡ s.transaction
-  pub case_is : x.case ≡ case_of (asked lot plan at.place s.heard at.nth) L s.transaction
+  pub decision_is : x.decision ≡ decision_of (asked lot plan at.place s.heard at.nth) L s.transaction
   pub answer_is : x.answer ≡ answer (asked lot plan at.place s.heard at.nth) L s.transaction
-  pub standing_is : x.standing ≡ option_map (traced events at) (row_in x.case)
-  pub open_from_is : IsOpenFrom plan.figures s.heard.date L s.transaction x.case x.open_from
-  pub counted_are : x.counted.items ≡ map (traced events at) (counted_for plan.figures.period L s.transaction x.case)
+  pub standing_is : x.standing
+      ≡ option_map (traced events at) (row_in plan.figures s.heard.date L s.transaction x.decision)
+  pub open_from_is : IsOpenFrom plan.figures s.heard.date L s.transaction x.decision x.open_from
+  pub workings_are : x.workings ≡ workings_for plan.figures s.transaction x.decision
+  pub counted_are : x.counted.items ≡ map (traced events at) (counted_for plan.figures.period L s.transaction x.decision)
 
 module _ (lot : LotParts) (plan : Plan) (ts : List Transmission) (opening : Ledger) where
   -- on the ledger before the transaction; there are facts exactly where there is a transaction

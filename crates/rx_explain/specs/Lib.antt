@@ -1,7 +1,6 @@
 -- Plumbing: which files there are.
 pub mod Around
 pub mod Before
-pub mod Cases
 pub mod Explained
 pub mod Found
 pub mod Listed

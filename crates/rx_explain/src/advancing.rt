@@ -1,10 +1,10 @@
 ghost use Rattle.std.specs.Prelude.{◌≡◌, ◌≤◌, IfOk, OnOk};
 ghost use Rattle.rx_d0_values.specs.declared.transaction.Transaction.TheVariants as asks;
-ghost use Rattle.rx_explain.specs.Around.{HasRows};
+ghost use Rattle.rx_explain.specs.Around.{AreTermsFor, HasRows};
 ghost use Rattle.rx_explain.specs.Explained.{AreFacts};
 ghost use Rattle.rx_fields.specs.declared.limits.TheConstants.{MOST_DETAILS};
 ghost use Rattle.rx_ledger.specs.Answers.{after, answer};
-ghost use Rattle.rx_ledger.specs.Basis.{Holds, HoldsBill, HoldsReversal};
+ghost use Rattle.rx_ledger.specs.Basis.{HasPeriod, Holds, HoldsBill, HoldsReversal};
 ghost use Rattle.rx_ledger.specs.Fold.{asked};
 ghost use Rattle.rx_ledger.specs.Named.{key_in};
 
@@ -29,6 +29,8 @@ pub fn explain_next<S: Basis>(
     requires nth { subject.now.at.nth ≤ 4 }
     requires held { Holds (S.scope basis.old) (key_in subject.now.heard.now) (S.ledger basis.old) subject.now.transaction.now }
     requires rows { HasRows (S.ledger basis.old) rows.now subject.now.transaction.now }
+    requires terms { AreTermsFor subject.now.sheet.now subject.now.transaction.now subject.now.terms.now }
+    requires period { HasPeriod (S.scope basis.old).period subject.now.terms.now.figures.period }
     ensures facts { IfOk result (AreFacts subject.now.lot subject.now.sheet.now (S.ledger basis.old) subject.now.at
         (record { heard = subject.now.heard.now; transaction = subject.now.transaction.now })) }
     ensures after { let a = asked subject.now.lot subject.now.sheet.now subject.now.at.place subject.now.heard.now

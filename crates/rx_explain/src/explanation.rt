@@ -8,13 +8,13 @@ ghost use Rattle.rx_explain.specs.Spots.{Spot as SpotParts};
 ghost use Rattle.rx_explain.specs.Traces.{traced};
 
 use crate::at::At;
-use crate::case::Case;
 use crate::events::Events;
 use crate::facts::Facts;
 use crate::traced::{Traced, trace, trace_each};
+use crate::workings::Workings;
 use rx_d0_values::{Answer, Transaction};
 use rx_fields::{Authorization, Day, Memory, Provider};
-use rx_ledger::Row;
+use rx_ledger::{Decision, Row};
 use std::alloc::Global;
 
 /// Why a transaction was answered as it was.
@@ -30,8 +30,8 @@ pub struct Explanation {
     pub number: Authorization,
     /// What it asks.
     pub transaction: Transaction,
-    /// The case that decided, with what decided it.
-    pub case: Case,
+    /// The decision on it.
+    pub decision: Decision,
     /// The answer.
     pub answer: Answer,
     /// The standing claim that decided, where one did.
@@ -39,6 +39,8 @@ pub struct Explanation {
     /// Of a claim that is too soon: the first date, from its own on, on which none of the member's fills of the product that
     /// stand before it is too soon any more; None where the calendar has no such date.
     pub open_from: Option<Day>,
+    /// Of a claim that is paid: the steps to the amounts.
+    pub workings: Option<Workings>,
     /// Of a claim that is paid: the family's claims that count in the benefit period, ascending by fill key.
     pub counted: Vec<Traced>,
 }
@@ -56,10 +58,11 @@ impl Facts {
             date: self.date,
             number: self.number,
             transaction: self.transaction,
-            case: self.case,
+            decision: self.decision,
             answer: self.answer,
             standing: trace_any(events, self.at, &self.standing),
             open_from: self.open_from,
+            workings: self.workings,
             counted: trace_each(alloc, events, self.at, &self.counted)?,
         })
     }

@@ -1,20 +1,20 @@
 ghost use Rattle.std.specs.Prelude.{◌≡◌, ◌≤◌, IfOk, filter};
-ghost use Rattle.rx_ledger.specs.Basis.{Holds};
+ghost use Rattle.rx_ledger.specs.Basis.{HasPeriod, Holds};
 ghost use Rattle.rx_ledger.specs.Ledger.{Ledger as LedgerLists};
 ghost use Rattle.rx_ledger.specs.Named.{key_in};
-ghost use Rattle.rx_explain.specs.Around.{HasRows};
+ghost use Rattle.rx_explain.specs.Around.{AreTermsFor, HasRows};
 ghost use Rattle.rx_explain.specs.Explained.{AreFacts};
 ghost use Rattle.rx_explain.specs.Shown.{counted_for, is_counted, row_in};
 ghost use Rattle.rx_fields.specs.declared.limits.TheConstants.{MOST_DETAILS};
 
 use crate::at::At;
-use crate::case::Case;
-use crate::deciding::{Decision, decide, is_same};
+use crate::family::{earlier_fill, is_same};
 use crate::open_from::open_from;
 use crate::subject::Subject;
+use crate::workings::{Workings, workings_for};
 use rx_d0_values::{Answer, Transaction};
 use rx_fields::{Authorization, Day, Id, Memory, Period, Provider};
-use rx_ledger::{Basis, Occasion, Row};
+use rx_ledger::{Basis, Decision, Figures, Occasion, Row, decide};
 use std::alloc::Global;
 
 /// What decided a transaction: facts of the ledger before it. Where the claims come from and what becomes of them is known
@@ -31,8 +31,8 @@ pub struct Facts {
     pub number: Authorization,
     /// What it asks.
     pub transaction: Transaction,
-    /// The case that decided, with what decided it.
-    pub case: Case,
+    /// The decision on it.
+    pub decision: Decision,
     /// The answer.
     pub answer: Answer,
     /// The standing claim that decided, where one did.
@@ -40,6 +40,8 @@ pub struct Facts {
     /// Of a claim that is too soon: the first date, from its own on, on which none of the member's fills of the product that
     /// stand before it is too soon any more; None where the calendar has no such date.
     pub open_from: Option<Day>,
+    /// Of a claim that is paid: the steps to the amounts.
+    pub workings: Option<Workings>,
     /// Of a claim that is paid: the family's claims that count in the benefit period, ascending by fill key.
     pub counted: Vec<Row>,
 }
@@ -56,43 +58,52 @@ pub(crate) fn facts_on<S: Basis>(
     requires nth { subject.now.at.nth ≤ 4 }
     requires held { Holds (S.scope basis.now) (key_in subject.now.heard.now) (S.ledger basis.now) subject.now.transaction.now }
     requires rows { HasRows (S.ledger basis.now) rows.now subject.now.transaction.now }
+    requires terms { AreTermsFor subject.now.sheet.now subject.now.transaction.now subject.now.terms.now }
+    requires period { HasPeriod (S.scope basis.now).period subject.now.terms.now.figures.period }
     ensures { IfOk result (AreFacts subject.now.lot subject.now.sheet.now (S.ledger basis.now) subject.now.at
         (record { heard = subject.now.heard.now; transaction = subject.now.transaction.now })) }
 {
     let Subject {
         lot,
         sheet,
+        terms,
         at,
         heard,
         transaction,
     } = *subject;
+    let date = heard.date;
     let occasion = Occasion::new(lot, sheet.figures(), at.place, heard, at.nth);
-    let Decision { case, answer } = decide(&occasion, sheet, basis, rows, transaction);
+    let decision = decide(basis, &occasion, terms, transaction);
     Ok(Facts {
         at,
         provider: heard.provider,
-        date: heard.date,
+        date,
         number: occasion.number,
         transaction: *transaction,
-        case,
-        answer,
-        standing: standing(&case),
-        open_from: open_from(sheet.figures(), heard.date, rows, transaction, &case),
-        counted: counted_for(alloc, sheet.period(), rows, transaction, &case)?,
+        decision,
+        answer: decision.answer_to(occasion.number, transaction),
+        standing: standing(sheet.figures(), date, rows, transaction, &decision),
+        open_from: open_from(sheet.figures(), date, rows, transaction, &decision),
+        workings: workings_for(sheet, transaction, &decision),
+        counted: counted_for(alloc, sheet.period(), rows, transaction, &decision)?,
     })
 }
 
-// The row that decided.
-fn standing(case: &Case) -> Option<Row>
-    ensures { result ≡ row_in case.now }
+// The standing claim that decided: a fill that makes it too soon, else the one that the decision names.
+fn standing(
+    figures: &Figures,
+    date: Day,
+    rows: &[Row],
+    transaction: &Transaction,
+    decision: &Decision,
+) -> Option<Row>
+    requires { figures.now.refill_percent ≤ 100 }
+    ensures { (L : LedgerLists) → HasRows L rows.now transaction.now
+        → result ≡ row_in figures.now date L transaction.now decision.now }
 {
-    match case {
-        Case::SameStands(row)
-        | Case::OtherStands(row)
-        | Case::TooSoon(row)
-        | Case::OtherProduct(row)
-        | Case::TakenBack(row) => Some(*row),
-        _ => None,
+    match (transaction, decision) {
+        (Transaction::Bill(bill), Decision::TooSoon) => earlier_fill(figures, date, bill, rows),
+        _ => decision.row(),
     }
 }
 
@@ -102,13 +113,13 @@ fn counted_for(
     period: Period,
     rows: &[Row],
     transaction: &Transaction,
-    case: &Case,
+    decision: &Decision,
 ) -> Result<Vec<Row>, Memory>
     ensures { (L : LedgerLists) → HasRows L rows.now transaction.now
-        → IfOk result (λ counted. counted.items ≡ counted_for period L transaction.now case.now) }
+        → IfOk result (λ counted. counted.items ≡ counted_for period L transaction.now decision.now) }
 {
-    match (transaction, case) {
-        (Transaction::Bill(bill), Case::Payable(_)) => {
+    match (transaction, decision) {
+        (Transaction::Bill(bill), Decision::Payable(_)) => {
             counted_rows(alloc, period, rows, &bill.parts().family)
         }
         _ => Ok(Vec::new(alloc)),

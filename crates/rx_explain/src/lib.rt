@@ -1,7 +1,7 @@
 //! A claim retraced: why a transaction of a batch was answered as it was, as values.
 //!
 //! In come a transaction with its place and the plan sheet (`Subject`), and what answers as the ledger before it; out come
-//! the `Facts`: the case of the tables of adjudication that decided it, with what decided. Once the batch is adjudicated,
+//! the `Facts`: its decision by the tables of adjudication, with what decided. Once the batch is adjudicated,
 //! what it changed (`Events`) makes of them the `Explanation`: where each standing claim that mattered came from, and what
 //! became of it. What an explanation says is in `specs/Explained.antt`.
 //!
@@ -15,11 +15,10 @@
 
 mod advancing;
 mod at;
-mod case;
-mod deciding;
 mod events;
 mod explanation;
 mod facts;
+mod family;
 mod finding;
 mod law;
 mod open_from;
@@ -31,7 +30,6 @@ mod workings;
 
 pub use advancing::explain_next;
 pub use at::{At, place_at};
-pub use case::{Case, Payment};
 pub use events::{Change, Event, Events};
 pub use explanation::Explanation;
 pub use facts::Facts;

@@ -4,11 +4,10 @@ ghost use Rattle.rx_ledger.specs.Ledger.{Ledger};
 ghost use Rattle.rx_explain.specs.Around.{HasRows};
 ghost use Rattle.rx_explain.specs.Opens.{IsFirstOpen, IsOpenFrom, is_early_fill};
 
-use crate::case::Case;
-use crate::deciding::is_early_fill;
+use crate::family::is_early_fill;
 use rx_d0_values::{Bill, Transaction};
 use rx_fields::Day;
-use rx_ledger::{Figures, Row};
+use rx_ledger::{Decision, Figures, Row};
 
 /// Of a billing that is too soon: the first date, from its own on, on which none of the member's fills of the product is
 /// too soon any more, as they stand among these rows; None where the calendar ends before, and of every other transaction.
@@ -17,14 +16,14 @@ pub(crate) fn open_from(
     date: Day,
     rows: &[Row],
     transaction: &Transaction,
-    case: &Case,
+    decision: &Decision,
 ) -> Option<Day>
     requires { figures.now.refill_percent ≤ 100 }
     ensures { (L : Ledger) → HasRows L rows.now transaction.now
-        → IsOpenFrom figures.now date L transaction.now case.now result }
+        → IsOpenFrom figures.now date L transaction.now decision.now result }
 {
-    match (transaction, case) {
-        (Transaction::Bill(bill), Case::TooSoon(_)) => first_open(figures, date, bill, rows),
+    match (transaction, decision) {
+        (Transaction::Bill(bill), Decision::TooSoon) => first_open(figures, date, bill, rows),
         _ => None,
     }
 }

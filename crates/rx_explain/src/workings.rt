@@ -3,14 +3,18 @@ ghost use Rattle.std.specs.Option.{option_map};
 ghost use Rattle.rx_ledger.specs.Plan.{is_drug};
 ghost use Rattle.rx_fields.specs.declared.limits.TheConstants.{MOST_CENTS};
 ghost use Rattle.rx_ledger.specs.Share.{left};
-ghost use Rattle.rx_explain.specs.Workings.{share_of, workings_of};
+ghost use Rattle.rx_explain.specs.Workings.{IsListed, share_of, workings_for, workings_of};
 
-use rx_d0_values::Bill;
-use rx_ledger::{Allowance, Drug, Figures, Share, Used, cost_of, left, under_deductible};
+use rx_d0_values::{Bill, Transaction};
+use rx_ledger::{
+    Allowance, Decision, Figures, Payment, Share, Sheet, Used, cost_of, left, under_deductible,
+};
 
 /// The steps from a billing to its amounts, in cents (docs/PRODUCT.md, "Rules of adjudication").
 #[derive(Clone, Copy, Debug, PartialEq, Eq)]
 pub struct Workings {
+    /// What the claim is paid by.
+    pub payment: Payment,
     /// The quantity at the plan's price, rounded down.
     pub cost: u64,
     /// The lower of that and the ingredient cost submitted.
@@ -31,17 +35,38 @@ pub struct Workings {
     pub share: u64,
 }
 
-/// The steps to the amounts of a billing for a drug, where the plan has these figures and this much of them is used.
-pub(crate) fn workings_of(figures: &Figures, bill: &Bill, drug: Drug, used: Used) -> Workings
-    requires { is_drug drug ≡ true }
-    ensures { result ≡ workings_of figures.now bill.now drug used }
+/// The steps to the amounts of a billing that is paid, by a drug that the plan lists; None of another transaction.
+pub(crate) fn workings_for(
+    sheet: &Sheet,
+    transaction: &Transaction,
+    decision: &Decision,
+) -> Option<Workings>
+    requires { IsListed sheet.now transaction.now decision.now }
+    ensures { result ≡ workings_for sheet.now.figures transaction.now decision.now }
 {
+    match (transaction, decision) {
+        (Transaction::Bill(bill), Decision::Payable(payment)) => {
+            let drug = sheet.drug(bill.parts().product)?;
+            let payment = Payment { drug, ..*payment };
+            Some(workings_of(sheet.figures(), bill, payment))
+        }
+        _ => None,
+    }
+}
+
+// The steps to the amounts of a billing that is paid so.
+fn workings_of(figures: &Figures, bill: &Bill, payment: Payment) -> Workings
+    requires { is_drug payment.drug ≡ true }
+    ensures { result ≡ workings_of figures.now bill.now payment }
+{
+    let Payment { drug, used, .. } = payment;
     let parts = bill.parts();
     let cost = cost_of(parts.quantity, drug.price);
     let submitted_fee = parts.dispensing_fee.map_or(0, |fee| fee.get());
     let allowed = Allowance::new(drug.price, figures.fee, bill).total();
     let under = under_deductible(figures, used, allowed);
     Workings {
+        payment,
         cost,
         ingredient_cost: parts.ingredient_cost.get().min(cost),
         dispensing_fee: submitted_fee.min(figures.fee),

@@ -14,9 +14,10 @@ returns c lot plan L s is =
       date_is = is.date_is;
       number_is = is.number_is;
       transaction_is = is.transaction_is;
-      case_is = is.case_is;
+      decision_is = is.decision_is;
       answer_is = is.answer_is;
       standing_is = c.trace_any.ensures ∙ ap (option_map (traced events x.at)) is.standing_is;
       open_from_is = is.open_from_is;
+      workings_are = is.workings_are;
       counted_are = c.in_ok-trace_each.ensures ∙ ap (map (traced events x.at)) (c.deref.ensures.value ∙ is.counted_are);
     }
