@@ -1,8 +1,7 @@
 -- One more record of a batch.
 use Rattle.std.proofs.Common.{◌≡◌, ℕ, suc, ◌+◌, ◌<◌, ◌++◌, List, [], ◌∷◌, get_or, length, take}
-use Rattle.std.proofs.Common.{length-take-le, refl, sym, ap, ◌∙◌, arith}
+use Rattle.std.proofs.Common.{length-take-le, sym, ap, ◌∙◌, arith}
 use Rattle.std.proofs.lemmas.List.{take_more}
-use Rattle.rx_d0_values.specs.declared.reply.Reply.{Reply}
 use Rattle.rx_d0_values.specs.declared.transmission.Transmission.{Transmission}
 use Rattle.rx_fields.specs.Numbered.{LotParts}
 use Rattle.rx_ledger.specs.Fold.{fold_ledger, fold_replies, ledger_after, reply_to}

@@ -1,5 +1,5 @@
 -- One more of the places is gone to, or passed over.
-use Rattle.std.proofs.Common.{◌≡◌, ◌≤◌, ◌<◌, ◌++◌, ◌∷◌, [], ℕ, List, Bool, true, false, ap, map, refl, sym, arith}
+use Rattle.std.proofs.Common.{◌≡◌, ◌≤◌, ◌<◌, ◌++◌, ◌∷◌, [], ℕ, List, true, false, ap, map, refl, arith}
 use Rattle.rx_explain_replay.specs.Places.{is_ahead, places_ahead}
 use Rattle.rx_explain_replay.specs.declared.replaying.Explained.{Explained}
 

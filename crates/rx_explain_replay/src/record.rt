@@ -1,10 +1,12 @@
 ghost use Rattle.std.specs.Prelude.{◌≡◌, ◌+◌, ◌<◌, ◌≤◌, IfOk, OnOk, length, map, true};
+ghost use Rattle.std.specs.List.{All};
 ghost use Rattle.rx_d0_values.specs.Listed.{is_few};
 ghost use Rattle.rx_explain_replay.specs.Courses.{IsCourse, IsHeardOf};
 ghost use Rattle.rx_explain_replay.specs.Records.{AreDecided, AreOf};
-ghost use Rattle.rx_explain.specs.Around.{HasRows};
+ghost use Rattle.rx_explain.specs.Around.{AreTermsFor, HasRows};
 ghost use Rattle.rx_fields.specs.declared.limits.TheConstants.{MOST_DETAILS};
 ghost use Rattle.rx_serial.specs.Underway.{scope_of};
+ghost use Rattle.rx_ledger.specs.Basis.{HasPeriod};
 ghost use Rattle.rx_ledger.specs.Fold.{answers_from, ledger_from};
 
 use crate::batch::Batch;
@@ -12,7 +14,7 @@ use crate::course::{Course, go_on};
 use rx_d0_values::{Answers, Body, Heard, Outcome, Reply, Transaction};
 use rx_explain::{At, Facts, Subject, explain_next};
 use rx_fields::{Lot, Memory};
-use rx_ledger::{Row, Sheet};
+use rx_ledger::{Row, Sheet, Terms};
 use rx_serial::InOrder;
 use std::alloc::Global;
 
@@ -34,8 +36,9 @@ pub(crate) fn explain_record(
         return Ok(Vec::new(alloc));
     };
     let place = course.done as u64 + 1;
+    let terms = batch.sheet.terms(batch.lot, transmission);
     let order = &mut course.order;
-    let facts = explain_heard(alloc, batch.lot, batch.sheet, order, place, heard)?;
+    let facts = explain_heard(alloc, batch.lot, batch.sheet, &terms, order, place, heard)?;
     course.replies.push(Reply {
         echo: transmission.echo,
         outcome: Outcome::Heard(answers_in(alloc, &facts)?),
@@ -49,12 +52,15 @@ fn explain_heard(
     alloc: Global,
     lot: Lot,
     sheet: &Sheet,
+    terms: &Terms,
     order: &mut InOrder,
     place: u64,
     heard: &Heard,
 ) -> Result<Vec<Facts>, Memory>
     requires place { place ≤ MOST_DETAILS }
     requires awaited { IsHeardOf order.old heard.now }
+    requires terms { All (λ t. AreTermsFor sheet.now t terms.now) heard.now.list }
+    requires period { HasPeriod (scope_of order.old).period terms.now.figures.period }
     ensures explained { IfOk result (λ xs. AreOf lot sheet.now place heard.now order.old.books.ledger xs.items) }
     ensures few { IfOk result (λ xs. is_few (length xs.items) ≡ true) }
     ensures answers { IfOk result (λ xs. map (λ x. x.answer) xs.items
@@ -71,6 +77,7 @@ fn explain_heard(
         let subject = Subject {
             lot,
             sheet,
+            terms,
             at: At { place, nth },
             heard,
             transaction,

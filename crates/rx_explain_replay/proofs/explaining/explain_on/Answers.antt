@@ -1,5 +1,5 @@
 -- One more transaction is explained.
-use Rattle.std.proofs.Common.{◌≡◌, ◌<◌, ◌∙◌, ℕ, Option, ap, length, subst, sym, arith}
+use Rattle.std.proofs.Common.{◌<◌, ◌∙◌, ℕ, Option, ap, length, subst, sym, arith}
 use Rattle.rx_explain.specs.Spots.{item}
 use Rattle.rx_explain.specs.declared.facts.Facts.{Facts}
 use Rattle.rx_explain_replay.specs.Records.{IsAt, IsDecided}

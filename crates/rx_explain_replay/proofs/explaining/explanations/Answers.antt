@@ -2,7 +2,6 @@
 use Rattle.std.proofs.Common.{◌≡◌, ◌∙◌, List, ap, subst}
 use Rattle.std.specs.Prelude.{IfOk}
 use Rattle.std.specs.List.{AllZip}
-use Rattle.rx_d0_values.specs.declared.reply.Reply.{Reply}
 use Rattle.rx_d0_values.specs.declared.transmission.Transmission.{Transmission}
 use Rattle.rx_explain.specs.Explained.{IsAmong}
 use Rattle.rx_explain.specs.Spots.{spot_at}

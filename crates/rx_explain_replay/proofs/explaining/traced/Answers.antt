@@ -1,6 +1,6 @@
 -- The facts with what became of the claims.
 use Rattle.rx_explain.specs.Spots.{spot_at}
-use Rattle.rx_explain_replay.proofs.EachExplained.{facts_traced, nothing_traced}
+use Rattle.rx_explain_replay.proofs.EachExplained.{facts_traced}
 use Rattle.rx_explain_replay.proofs.explaining.traced.Goals as goal
 
 pub returns-in_ok-traced-in-Some : goal.returns-in_ok-traced-in-Some

@@ -1,16 +1,17 @@
 -- What the transactions ask for is held, and one more of them is explained.
-use Rattle.std.proofs.Common.{◌≡◌, ◌≤◌, ◌<◌, ◌+◌, ◌-◌, ◌++◌, ◌∷◌, ◌∙◌, ℕ, List, [], drop, get_or, length, length-append, map, take}
+use Rattle.std.proofs.Common.{◌≡◌, ◌<◌, ◌+◌, ◌-◌, ◌++◌, ◌∷◌, ◌∙◌, ℕ, List, [], drop, get_or, length, length-append, map, take}
 use Rattle.std.proofs.lemmas.List.{map-append}
 use Rattle.std.proofs.Common.{Some, sym, ap, subst, arith}
 use Rattle.std.specs.List.{All}
 use Rattle.rx_d0_values.specs.declared.reply.Answer.{Answer}
 use Rattle.rx_d0_values.specs.declared.transaction.Transaction.{Transaction}
+use Rattle.rx_explain.specs.Around.{AreTermsFor}
 use Rattle.rx_explain.specs.Explained.{AreFacts}
 use Rattle.rx_explain.specs.Spots.{item}
 use Rattle.rx_explain.specs.declared.facts.Facts.{Facts}
 use Rattle.rx_serial.specs.Underway.{scope_of}
 use Rattle.rx_ledger.specs.Answers.{after, answer}
-use Rattle.rx_ledger.specs.Basis.{Holds, Scope}
+use Rattle.rx_ledger.specs.Basis.{HasPeriod, Holds, Scope}
 use Rattle.rx_ledger.specs.Fold.{answers_from, asked, ledger_from}
 use Rattle.rx_ledger.specs.Ledger.{Ledger}
 use Rattle.rx_ledger.specs.Named.{key_in}
@@ -33,6 +34,24 @@ explain_next-requires-clause-held c =
     let is : get_or list c.loop-before.before t ≡ t = sym c.index-list-before.is in
     let one = subst (λ (u : Transaction). Holds scope (key_in h) L u) is (all c.loop-before.before t within) in
     subst (λ (s : Scope). Holds s (key_in h) L t) (sym c.loop-before.invariant.scope) one
+
+pub explain_next-requires-clause-terms : goal.explain_next-requires-clause-terms
+explain_next-requires-clause-terms c =
+    let list = c.as_slice-list.result.now in
+    let t = c.index-list-before.result in
+    let plan = c.args.sheet.now in
+    let terms = c.args.terms.now in
+    let within : c.loop-before.before < length list = omega arith in
+    let all : All (λ u. AreTermsFor plan u terms) list =
+    subst (λ (ts : List Transaction). All (λ u. AreTermsFor plan u terms) ts) (sym c.as_slice-list.ensures.value)
+    c.requires.terms in
+    subst (λ (u : Transaction). AreTermsFor plan u terms) (sym c.index-list-before.is)
+    (all c.loop-before.before t within)
+
+pub explain_next-requires-clause-period : goal.explain_next-requires-clause-period
+explain_next-requires-clause-period c =
+    subst (λ (s : Scope). HasPeriod s.period c.args.terms.now.figures.period) (sym c.loop-before.invariant.scope)
+    c.requires.period
 
 pub loop-before-preserved : goal.loop-before-preserved
 loop-before-preserved c =

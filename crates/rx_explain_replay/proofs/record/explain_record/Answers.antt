@@ -1,14 +1,16 @@
 -- The record is heard: its reply, its ledger and its explanations are those of its transactions.
-use Rattle.std.proofs.Common.{◌≡◌, ◌+◌, ◌-◌, ◌++◌, [], ◌∷◌, ◌∙◌, ℕ, List, ap, get_or, map, refl, subst, sym, take, arith}
-use Rattle.rx_d0_values.specs.declared.reply.Answer.{Answer}
+use Rattle.std.proofs.Common.{◌≡◌, ◌+◌, ◌-◌, ◌++◌, [], ◌∷◌, ◌∙◌, ℕ, ap, get_or, map, refl, subst, sym, take, arith}
 use Rattle.rx_d0_values.specs.declared.reply.Outcome.{Outcome}
 use Rattle.rx_d0_values.specs.declared.reply.Outcome.TheVariants as outcome
-use Rattle.rx_d0_values.specs.declared.reply.Reply.{Reply}
 use Rattle.rx_d0_values.specs.declared.transmission.Body.{Body}
 use Rattle.rx_d0_values.specs.declared.transmission.Transmission.{Transmission}
 use Rattle.rx_explain.specs.declared.facts.Facts.{Facts}
 use Rattle.rx_serial.specs.Underway.{scope_of}
+use Rattle.rx_explain.specs.Around.{AreTermsFor}
 use Rattle.rx_ledger.specs.Basis.{HoldsRecord}
+use Rattle.rx_ledger.specs.Places.{transactions_of}
+use Rattle.rx_ledger.specs.declared.figures.Figures.{Figures}
+use Rattle.std.specs.List.{All}
 use Rattle.rx_ledger.specs.Fold.{fold_ledger, ledger_of_body, outcome_of}
 use Rattle.rx_ledger.specs.Ledger.{Ledger}
 use Rattle.rx_explain_replay.proofs.Courses.{course_more}
@@ -21,6 +23,20 @@ explain_heard-requires-clause-awaited c =
     λ (L : Ledger).
     subst (λ (b : Body). HoldsRecord (scope_of c.args.course.now.order) L b) c.in-Heard.is
     (c.requires.course.awaited c.args.course.now.done c.index-batch-course.result c.requires.ahead L)
+
+pub explain_heard-requires-clause-terms : goal.explain_heard-requires-clause-terms
+explain_heard-requires-clause-terms c =
+    let terms = c.terms-terms.ensures in
+    let inside = λ (b : Body). All (λ u. AreTermsFor c.args.batch.now.sheet.now u c.terms-terms.result) (transactions_of b) in
+    subst inside c.in-Heard.is
+    (λ i d within. record {
+      same_figures = terms.same_figures;
+      same_decision = λ o L. terms.same_decisions o L i d within;
+    })
+
+pub explain_heard-requires-clause-period : goal.explain_heard-requires-clause-period
+explain_heard-requires-clause-period c =
+    c.requires.course.period ∙ ap (λ (f : Figures). f.period) (sym c.terms-terms.ensures.same_figures)
 
 pub answers_in-requires : goal.answers_in-requires
 answers_in-requires c = rw c.deref.ensures.value c.in_ok-facts.ensures.few
