@@ -5,8 +5,8 @@ use Rattle.rx_d0_values.specs.declared.reply.Answer.{Answer}
 use Rattle.rx_d0_values.specs.declared.reply.Answer.TheVariants.{Paid, Twice, Approved, Refused}
 use Rattle.rx_d0_values.specs.declared.transaction.Transaction.{Transaction}
 use Rattle.rx_d0_values.specs.declared.transaction.Transaction.TheVariants.{Bill, Reverse, Faulty}
-use Rattle.rx_explain.specs.declared.case.Case.{Case}
-use Rattle.rx_explain.specs.declared.case.Case.TheVariants as case
+use Rattle.rx_ledger.specs.declared.decision.Decision.{Decision}
+use Rattle.rx_ledger.specs.declared.decision.Decision.TheVariants as decision
 use Rattle.rx_explain.specs.declared.explanation.Explanation.{Explanation}
 use Rattle.rx_explain_text.specs.Claims.{at_text, whose_member}
 use Rattle.rx_explain_text.specs.Codes.{named_code, shown}
@@ -51,11 +51,11 @@ abbrev pub member_text : List ℕ → List ℕ → List ℕ
 member_text family person = whose_member (codes "  family ") (codes ", person ") family person
 
 -- the family and the person of a billing, or of the claim that is taken back
-abbrev pub taken_from : Case → List ℕ
-taken_from (case.TakenBack r) = member_text r.family r.person
+abbrev pub taken_from : Decision → List ℕ
+taken_from (decision.TakenBack r) = member_text r.family r.person
 taken_from other = []
 
-abbrev pub whose_text : Transaction → Case → List ℕ
+abbrev pub whose_text : Transaction → Decision → List ℕ
 whose_text (Bill b) c = member_text b.family b.person
 whose_text (Reverse v) c = taken_from c
 whose_text (Faulty f) c = taken_from c
@@ -63,5 +63,5 @@ whose_text (Faulty f) c = taken_from c
 unfoldable pub answered_line : Explanation → List ℕ
 answered_line e =
     say "record " ++ (at_text e.at ++ (say "  " ++ (answer_text e.answer ++ (say "  pharmacy " ++ (shown e.provider
-    ++ (rx_text (reference_of e.transaction) ++ (say "  " ++ (dashed e.date ++ (whose_text e.transaction e.case
+    ++ (rx_text (reference_of e.transaction) ++ (say "  " ++ (dashed e.date ++ (whose_text e.transaction e.decision
     ++ say "\n")))))))))

@@ -2,8 +2,8 @@
 use Rattle.std.specs.Prelude.{ℕ, List, [], ◌++◌, Option, Some, None, codes}
 use Rattle.std.specs.Fmt.{decimal}
 use Rattle.rx_explain.specs.declared.at.At.{At}
-use Rattle.rx_explain.specs.declared.case.Case.{Case}
-use Rattle.rx_explain.specs.declared.case.Case.TheVariants as case
+use Rattle.rx_ledger.specs.declared.decision.Decision.{Decision}
+use Rattle.rx_ledger.specs.declared.decision.Decision.TheVariants as decision
 use Rattle.rx_explain.specs.declared.traced.Source.{Source}
 use Rattle.rx_explain.specs.declared.traced.Source.TheVariants.{Opening, Record}
 use Rattle.rx_explain.specs.declared.traced.Traced.{Traced}
@@ -39,11 +39,11 @@ traced_text t =
     ++ (say " at " ++ (shown t.row.key.provider
     ++ (whose_member (codes " for ") (codes "/") t.row.family t.row.person ++ source_text t))))))
 
--- the claim that decided a case; one that this transaction takes back is taken back by no later one
-abbrev pub as_decided : Case → Traced → Traced
-as_decided (case.TakenBack r) t = record { row = t.row; source = t.source; taken_back = None }
+-- the claim that decided; one that this transaction takes back is taken back by no later one
+abbrev pub as_decided : Decision → Traced → Traced
+as_decided (decision.TakenBack r) t = record { row = t.row; source = t.source; taken_back = None }
 as_decided other t = t
 
-abbrev pub standing_text : Case → Option Traced → List ℕ
+abbrev pub standing_text : Decision → Option Traced → List ℕ
 standing_text c None = []
 standing_text c (Some t) = traced_text (as_decided c t)

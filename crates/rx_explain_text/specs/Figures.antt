@@ -7,10 +7,8 @@ use Rattle.std.specs.Option.{unwrap_or}
 use Rattle.rx_d0_values.specs.Priced.{patient_pay, total_paid}
 use Rattle.rx_d0_values.specs.declared.bill.BillParts.{BillParts}
 use Rattle.rx_d0_values.specs.declared.transaction.Transaction.{Transaction}
-use Rattle.rx_d0_values.specs.declared.transaction.Transaction.TheVariants.{Bill, Reverse, Faulty}
-use Rattle.rx_explain.specs.declared.case.Case.{Case}
-use Rattle.rx_explain.specs.declared.case.Case.TheVariants as case
-use Rattle.rx_explain.specs.declared.case.Payment.{Payment}
+use Rattle.rx_d0_values.specs.declared.transaction.Transaction.TheVariants.{Bill}
+use Rattle.rx_explain.specs.declared.workings.Workings.{Workings}
 use Rattle.rx_explain.specs.declared.explanation.Explanation.{Explanation}
 use Rattle.rx_explain.specs.declared.traced.Traced.{Traced}
 use Rattle.rx_explain_text.specs.Claims.{traced_text}
@@ -43,24 +41,24 @@ unfoldable pub submitted_text : ℕ → ℕ → List ℕ → List ℕ → List �
 submitted_text submitted plan lower higher = if nat_lt submitted plan then said lower else money_text submitted ++ said higher
 
 -- the quantity at the plan's price
-unfoldable pub priced_text : BillParts → Payment → List ℕ
-priced_text b p =
-    thousandths_text b.quantity ++ (say " x " ++ (price_text p.drug.price ++ (say " = " ++ (money_text p.workings.cost
+unfoldable pub priced_text : BillParts → Workings → List ℕ
+priced_text b w =
+    thousandths_text b.quantity ++ (say " x " ++ (price_text w.payment.drug.price ++ (say " = " ++ (money_text w.cost
     ++ say "\n"))))
 
 -- the ingredient cost: which of two is lower, and what the charge cuts off
-unfoldable pub cost_line : BillParts → Payment → List ℕ
-cost_line b p =
-    labelled (codes "ingredient cost F6") p.pricing.ingredient_cost
-    ++ (cut_text (codes "the charge") p.pricing.ingredient_cost p.workings.ingredient_cost ++ (say "  "
-    ++ (submitted_text b.ingredient_cost p.workings.cost (codes "as submitted; the plan's price is ")
-    (codes " submitted, paid by the plan's price: ") ++ priced_text b p)))
+unfoldable pub cost_line : BillParts → Workings → List ℕ
+cost_line b w =
+    labelled (codes "ingredient cost F6") w.payment.pricing.ingredient_cost
+    ++ (cut_text (codes "the charge") w.payment.pricing.ingredient_cost w.ingredient_cost ++ (say "  "
+    ++ (submitted_text b.ingredient_cost w.cost (codes "as submitted; the plan's price is ")
+    (codes " submitted, paid by the plan's price: ") ++ priced_text b w)))
 
 -- the dispensing fee: which of two is lower, and what the charge cuts off
-unfoldable pub fee_line : Figures → BillParts → Payment → List ℕ
-fee_line figures b p =
-    labelled (codes "dispensing fee F7") p.pricing.dispensing_fee
-    ++ (cut_text (codes "the charge") p.pricing.dispensing_fee p.workings.dispensing_fee ++ (say "  "
+unfoldable pub fee_line : Figures → BillParts → Workings → List ℕ
+fee_line figures b w =
+    labelled (codes "dispensing fee F7") w.payment.pricing.dispensing_fee
+    ++ (cut_text (codes "the charge") w.payment.pricing.dispensing_fee w.dispensing_fee ++ (say "  "
     ++ (submitted_text (unwrap_or b.dispensing_fee 0) figures.fee (codes "as submitted; the plan's fee is ")
     (codes " submitted, paid by the plan's fee of ") ++ (money_text figures.fee ++ say "\n"))))
 
@@ -70,12 +68,12 @@ charge_text None = say "  the gross amount due DU, for want of a usual charge, i
 charge_text (Some cents) = say "  the usual charge DQ is "
 
 -- what both come to, beside the charge
-unfoldable pub allowed_line : BillParts → Payment → List ℕ
-allowed_line b p =
-    labelled (codes "allowed") (p.pricing.ingredient_cost + p.pricing.dispensing_fee)
-    ++ (cut_text (codes "the charge") (p.pricing.ingredient_cost + p.pricing.dispensing_fee)
-    (p.workings.ingredient_cost + p.workings.dispensing_fee)
-    ++ (charge_text b.usual_charge ++ (money_text p.workings.cap ++ say "\n")))
+unfoldable pub allowed_line : BillParts → Workings → List ℕ
+allowed_line b w =
+    labelled (codes "allowed") (w.payment.pricing.ingredient_cost + w.payment.pricing.dispensing_fee)
+    ++ (cut_text (codes "the charge") (w.payment.pricing.ingredient_cost + w.payment.pricing.dispensing_fee)
+    (w.ingredient_cost + w.dispensing_fee)
+    ++ (charge_text b.usual_charge ++ (money_text w.cap ++ say "\n")))
 
 -- ---- what is left of the plan's figures, with the claims that used them
 
@@ -100,23 +98,23 @@ counted_lines counts b ts = flat_map (λ t. counted_line (counted_of counts b t)
 unfoldable pub left_lines : ℕ → ℕ → Counts → BillParts → List Traced → List ℕ
 left_lines figure used counts b ts = less_text figure used ++ counted_lines counts b ts
 
-unfoldable pub family_left_lines : ℕ → ℕ → List Traced → BillParts → Payment → List ℕ
-family_left_lines figure left ts b p =
-    labelled (codes "family's deductible left") left ++ left_lines figure p.used.family_deductible FamilyDeductible b ts
+unfoldable pub family_left_lines : ℕ → ℕ → List Traced → BillParts → Workings → List ℕ
+family_left_lines figure left ts b w =
+    labelled (codes "family's deductible left") left ++ left_lines figure w.payment.used.family_deductible FamilyDeductible b ts
 
 -- the family's deductible, where the plan has one
-abbrev pub family_lines : Option ℕ → Option ℕ → List Traced → BillParts → Payment → List ℕ
-family_lines (Some figure) (Some left) ts b p = family_left_lines figure left ts b p
-family_lines (Some figure) None ts b p = []
-family_lines None left ts b p = []
+abbrev pub family_lines : Option ℕ → Option ℕ → List Traced → BillParts → Workings → List ℕ
+family_lines (Some figure) (Some left) ts b w = family_left_lines figure left ts b w
+family_lines (Some figure) None ts b w = []
+family_lines None left ts b w = []
 
-unfoldable pub accumulator_lines : Figures → List Traced → BillParts → Payment → List ℕ
-accumulator_lines figures ts b p =
-    labelled (codes "member's deductible left") p.workings.deductible_left
-    ++ (left_lines figures.member_deductible p.used.deductible MemberDeductible b ts
-    ++ (family_lines figures.family_deductible p.workings.family_deductible_left ts b p
-    ++ (labelled (codes "family's maximum left") p.workings.room
-    ++ left_lines figures.family_maximum p.used.out_of_pocket OutOfPocket b ts)))
+unfoldable pub accumulator_lines : Figures → List Traced → BillParts → Workings → List ℕ
+accumulator_lines figures ts b w =
+    labelled (codes "member's deductible left") w.deductible_left
+    ++ (left_lines figures.member_deductible w.payment.used.deductible MemberDeductible b ts
+    ++ (family_lines figures.family_deductible w.family_deductible_left ts b w
+    ++ (labelled (codes "family's maximum left") w.room
+    ++ left_lines figures.family_maximum w.payment.used.out_of_pocket OutOfPocket b ts)))
 
 -- ---- who pays what
 
@@ -124,53 +122,48 @@ abbrev pub maximum_cut : ℕ → ℕ → List ℕ
 maximum_cut paid due = cut_text (codes "the family's maximum") paid due
 
 -- the copay or the coinsurance, and the tier's
-unfoldable pub copay_line : ℕ → Payment → List ℕ
-copay_line cents p =
-    labelled (codes "copay FI") p.pricing.copay ++ (maximum_cut p.pricing.copay p.workings.share
+unfoldable pub copay_line : ℕ → Workings → List ℕ
+copay_line cents w =
+    labelled (codes "copay FI") w.payment.pricing.copay ++ (maximum_cut w.payment.pricing.copay w.share
     ++ (say "  tier of " ++ money_text cents))
 
-unfoldable pub coinsurance_line : ℕ → Payment → List ℕ
-coinsurance_line percent p =
-    labelled (codes "coinsurance 4U") p.pricing.coinsurance ++ (maximum_cut p.pricing.coinsurance p.workings.share
+unfoldable pub coinsurance_line : ℕ → Workings → List ℕ
+coinsurance_line percent w =
+    labelled (codes "coinsurance 4U") w.payment.pricing.coinsurance ++ (maximum_cut w.payment.pricing.coinsurance w.share
     ++ (say "  tier of " ++ (decimal percent ++ say " percent")))
 
-abbrev pub share_line : Share → Payment → List ℕ
-share_line (Copay cents) p = copay_line cents p
-share_line (Percent percent) p = coinsurance_line percent p
+abbrev pub share_line : Share → Workings → List ℕ
+share_line (Copay cents) w = copay_line cents w
+share_line (Percent percent) w = coinsurance_line percent w
 
 unfoldable pub pays_line : List ℕ → ℕ → List ℕ
 pays_line label cents = labelled label cents ++ say "\n"
 
-unfoldable pub payer_lines : Payment → List ℕ
-payer_lines p =
-    pays_line (codes "member pays F5") (patient_pay p.pricing) ++ pays_line (codes "plan pays F9") (total_paid p.pricing)
+unfoldable pub payer_lines : Workings → List ℕ
+payer_lines w =
+    pays_line (codes "member pays F5") (patient_pay w.payment.pricing) ++ pays_line (codes "plan pays F9") (total_paid w.payment.pricing)
 
-unfoldable pub payment_lines : Payment → List ℕ
-payment_lines p =
-    labelled (codes "deductible FH") p.pricing.deductible ++ (maximum_cut p.pricing.deductible p.workings.under
-    ++ (say "\n" ++ (share_line p.drug.share p ++ (say "\n" ++ payer_lines p))))
+unfoldable pub payment_lines : Workings → List ℕ
+payment_lines w =
+    labelled (codes "deductible FH") w.payment.pricing.deductible ++ (maximum_cut w.payment.pricing.deductible w.under
+    ++ (say "\n" ++ (share_line w.payment.drug.share w ++ (say "\n" ++ payer_lines w))))
 
 -- ---- all of them
 
-unfoldable pub paid_lines : Figures → Explanation → BillParts → Payment → List ℕ
-paid_lines figures e b p =
-    cost_line b p ++ (fee_line figures b p ++ (allowed_line b p ++ (accumulator_lines figures e.counted.items b p
-    ++ payment_lines p)))
+unfoldable pub paid_lines : Figures → Explanation → BillParts → Workings → List ℕ
+paid_lines figures e b w =
+    cost_line b w ++ (fee_line figures b w ++ (allowed_line b w ++ (accumulator_lines figures e.counted.items b w
+    ++ payment_lines w)))
 
--- the billing that is paid, and its payment
-abbrev pub payment_in : BillParts → Case → Option (BillParts × Payment)
-payment_in b (case.Payable p) = Some (b, p)
-payment_in b other = None
-
-abbrev pub payment_of : Transaction → Case → Option (BillParts × Payment)
-payment_of (Bill b) c = payment_in b c
-payment_of (Reverse v) c = None
-payment_of (Faulty f) c = None
+-- the billing that is paid, and the steps to its amounts
+abbrev pub paid_of : Transaction → Option Workings → Option (BillParts × Workings)
+paid_of (Bill b) (Some w) = Some (b, w)
+paid_of t w = None
 
 -- what is told of a claim that is paid; nothing of another
-abbrev pub if_paid : (BillParts → Payment → List ℕ) → Option (BillParts × Payment) → List ℕ
+abbrev pub if_paid : (BillParts → Workings → List ℕ) → Option (BillParts × Workings) → List ℕ
 if_paid told None = []
 if_paid told (Some p) = told p.0 p.1
 
 abbrev pub figure_lines : Transaction → Figures → Explanation → List ℕ
-figure_lines t figures e = if_paid (paid_lines figures e) (payment_of t e.case)
+figure_lines t figures e = if_paid (paid_lines figures e) (paid_of t e.workings)

@@ -16,16 +16,16 @@ use Rattle.rx_d0_values.specs.declared.transmission.Rejected.{Rejected}
 use Rattle.rx_print.specs.Escape.{escaped}
 use Rattle.rx_print.specs.declared.style.Style.TheVariants.{Json}
 use Rattle.rx_explain.specs.declared.at.At.{At}
-use Rattle.rx_explain.specs.declared.case.Case.{Case}
-use Rattle.rx_explain.specs.declared.case.Case.TheVariants as case
-use Rattle.rx_explain.specs.declared.case.Payment.{Payment}
+use Rattle.rx_ledger.specs.declared.decision.Decision.{Decision}
+use Rattle.rx_ledger.specs.declared.decision.Decision.TheVariants as decision
+use Rattle.rx_explain.specs.declared.workings.Workings.{Workings}
 use Rattle.rx_explain.specs.declared.explanation.Explanation.{Explanation}
 use Rattle.rx_explain.specs.declared.traced.Source.{Source}
 use Rattle.rx_explain.specs.declared.traced.Source.TheVariants.{Opening, Record}
 use Rattle.rx_explain.specs.declared.traced.Traced.{Traced}
 use Rattle.rx_explain_text.specs.Claims.{as_decided}
 use Rattle.rx_print.specs.Dates.{dashed}
-use Rattle.rx_explain_text.specs.Figures.{if_paid, payment_of}
+use Rattle.rx_explain_text.specs.Figures.{if_paid, paid_of}
 use Rattle.rx_explain_text.specs.Reasons.{days_between}
 use Rattle.rx_explain_text.specs.RequestField.{field_bytes, field_number}
 use Rattle.rx_explain_text.specs.Said.{said, say}
@@ -166,7 +166,7 @@ paid_json answer p = numbered_json answer p.number ++ amounts_json p.pricing
 unfoldable pub approved_json : Approved → List ℕ
 approved_json a = numbered_json (codes "taken back") a.number ++ number_member (codes "total_paid") a.total_paid
 
--- the code of a case, or each code of a transaction that can't be read
+-- the code of a decision, or each code of a transaction that can't be read
 abbrev pub refusal_json : Transaction → ℕ → List ℕ → List Code → List ℕ
 refusal_json (Bill b) nth request cs = decided_json cs
 refusal_json (Reverse v) nth request cs = decided_json cs
@@ -186,7 +186,7 @@ unfoldable pub header_json : Explanation → List ℕ → List ℕ
 header_json e request =
     place_json e.at.place ++ (number_member (codes "nth") e.at.nth ++ (text_member (codes "pharmacy") e.provider
     ++ (day_member (codes "date") e.date ++ (asked_json e.transaction ++ (answer_json e.answer e request
-    ++ said_member (codes "case") (case_name_of e.case))))))
+    ++ said_member (codes "case") (case_name_of e.decision))))))
 
 -- ---- what decided a billing that isn't paid
 
@@ -199,17 +199,22 @@ abbrev pub open_json : Option Civil → List ℕ
 open_json None = say ",\"first_date\":null"
 open_json (Some day) = day_member (codes "first_date") day
 
-unfoldable pub soon_json : Figures → Explanation → Row → List ℕ
-soon_json figures e r =
-    number_member (codes "days_passed") (days_between e.date r.key.date)
+-- how few days of an earlier fill have passed
+unfoldable pub passed_json : Figures → Explanation → Traced → List ℕ
+passed_json figures e t =
+    number_member (codes "days_passed") (days_between e.date t.row.key.date)
     ++ (number_member (codes "refill_percent") figures.refill_percent ++ open_json e.open_from)
 
-abbrev pub case_json : Case → LotParts → Figures → Explanation → List ℕ
-case_json case.BeforePeriod lot figures e = day_member (codes "period_first") figures.period.first
-case_json case.AfterCreation lot figures e = day_member (codes "created") lot.created
-case_json (case.NotCovered m) lot figures e = coverage_json figures.period m.coverage
-case_json case.TooManyDays lot figures e = number_member (codes "most_days") figures.max_days
-case_json (case.TooSoon r) lot figures e = soon_json figures e r
+abbrev pub soon_json : Figures → Explanation → Option Traced → List ℕ
+soon_json figures e None = []
+soon_json figures e (Some t) = passed_json figures e t
+
+abbrev pub case_json : Decision → LotParts → Figures → Explanation → List ℕ
+case_json decision.BeforePeriod lot figures e = day_member (codes "period_first") figures.period.first
+case_json decision.AfterCreation lot figures e = day_member (codes "created") lot.created
+case_json (decision.NotCovered m) lot figures e = coverage_json figures.period m.coverage
+case_json decision.TooManyDays lot figures e = number_member (codes "most_days") figures.max_days
+case_json decision.TooSoon lot figures e = soon_json figures e e.standing
 case_json other lot figures e = []
 
 -- ---- a standing claim
@@ -236,7 +241,7 @@ traced_json t = row_json t.row ++ (from_json t.source ++ (end_json t.taken_back 
 unfoldable pub decider_json : Traced → List ℕ
 decider_json t = named (codes "standing") ++ traced_json t
 
-abbrev pub standing_json : Case → Option Traced → List ℕ
+abbrev pub standing_json : Decision → Option Traced → List ℕ
 standing_json c None = []
 standing_json c (Some t) = decider_json (as_decided c t)
 
@@ -247,9 +252,9 @@ abbrev pub charge_json : Option ℕ → List ℕ
 charge_json None = said_member (codes "charge_field") (codes "DU")
 charge_json (Some cents) = said_member (codes "charge_field") (codes "DQ")
 
-unfoldable pub price_json : Figures → BillParts → Payment → List ℕ
-price_json figures b p =
-    number_member (codes "submitted_cost") b.ingredient_cost ++ (number_member (codes "price_hundredths") p.drug.price
+unfoldable pub price_json : Figures → BillParts → Workings → List ℕ
+price_json figures b w =
+    number_member (codes "submitted_cost") b.ingredient_cost ++ (number_member (codes "price_hundredths") w.payment.drug.price
     ++ (number_member (codes "submitted_fee") (unwrap_or b.dispensing_fee 0) ++ (number_member (codes "plan_fee") figures.fee
     ++ charge_json b.usual_charge)))
 
@@ -259,52 +264,52 @@ family_left_json figure used left =
     ++ number_member (codes "family_deductible_left") left)
 
 -- the family's deductible, where the plan has one
-abbrev pub family_json : Option ℕ → Option ℕ → Payment → List ℕ
-family_json (Some figure) (Some left) p = family_left_json figure p.used.family_deductible left
-family_json (Some figure) None p = []
-family_json None left p = []
+abbrev pub family_json : Option ℕ → Option ℕ → Workings → List ℕ
+family_json (Some figure) (Some left) w = family_left_json figure w.payment.used.family_deductible left
+family_json (Some figure) None w = []
+family_json None left w = []
 
-unfoldable pub accumulators_json : Figures → Payment → List ℕ
-accumulators_json figures p =
+unfoldable pub accumulators_json : Figures → Workings → List ℕ
+accumulators_json figures w =
     number_member (codes "member_deductible") figures.member_deductible
-    ++ (number_member (codes "member_deductible_used") p.used.deductible
-    ++ (number_member (codes "deductible_left") p.workings.deductible_left
-    ++ (family_json figures.family_deductible p.workings.family_deductible_left p
+    ++ (number_member (codes "member_deductible_used") w.payment.used.deductible
+    ++ (number_member (codes "deductible_left") w.deductible_left
+    ++ (family_json figures.family_deductible w.family_deductible_left w
     ++ (number_member (codes "family_maximum") figures.family_maximum
-    ++ (number_member (codes "family_maximum_used") p.used.out_of_pocket
-    ++ number_member (codes "family_maximum_left") p.workings.room)))))
+    ++ (number_member (codes "family_maximum_used") w.payment.used.out_of_pocket
+    ++ number_member (codes "family_maximum_left") w.room)))))
 
 abbrev pub share_json : Share → List ℕ
 share_json (Copay cents) = number_member (codes "tier_copay") cents
 share_json (Percent percent) = number_member (codes "tier_percent") percent
 
 -- what falls under the deductible and what is shared, before the family's maximum cuts them; and the tier's share
-unfoldable pub due_json : Payment → List ℕ
-due_json p =
-    number_member (codes "deductible_due") p.workings.under ++ (number_member (codes "share_due") p.workings.share
-    ++ share_json p.drug.share)
+unfoldable pub due_json : Workings → List ℕ
+due_json w =
+    number_member (codes "deductible_due") w.under ++ (number_member (codes "share_due") w.share
+    ++ share_json w.payment.drug.share)
 
-unfoldable pub workings_json : Figures → Payment → List ℕ
-workings_json figures p =
-    number_member (codes "cost") p.workings.cost ++ (number_member (codes "cost_before_charge") p.workings.ingredient_cost
-    ++ (number_member (codes "fee_before_charge") p.workings.dispensing_fee
-    ++ (number_member (codes "charge") p.workings.cap ++ (accumulators_json figures p ++ due_json p))))
+unfoldable pub workings_json : Figures → Workings → List ℕ
+workings_json figures w =
+    number_member (codes "cost") w.cost ++ (number_member (codes "cost_before_charge") w.ingredient_cost
+    ++ (number_member (codes "fee_before_charge") w.dispensing_fee
+    ++ (number_member (codes "charge") w.cap ++ (accumulators_json figures w ++ due_json w))))
 
 unfoldable pub counted_json : List Traced → List ℕ
 counted_json ts = list_member (codes "counted") traced_json ts
 
-unfoldable pub payable_json : Figures → Explanation → BillParts → Payment → List ℕ
-payable_json figures e b p = price_json figures b p ++ (workings_json figures p ++ counted_json e.counted.items)
+unfoldable pub payable_json : Figures → Explanation → BillParts → Workings → List ℕ
+payable_json figures e b w = price_json figures b w ++ (workings_json figures w ++ counted_json e.counted.items)
 
 -- of a claim that is paid; nothing of another
 abbrev pub figures_json : Transaction → Figures → Explanation → List ℕ
-figures_json t figures e = if_paid (payable_json figures e) (payment_of t e.case)
+figures_json t figures e = if_paid (payable_json figures e) (paid_of t e.workings)
 
 -- ---- the object
 
 abbrev pub explanation_object : LotParts → Figures → Explanation → List ℕ → Option Compared → List ℕ
 explanation_object lot figures e request c =
-    header_json e request ++ (case_json e.case lot figures e ++ (standing_json e.case e.standing
+    header_json e request ++ (case_json e.decision lot figures e ++ (standing_json e.decision e.standing
     ++ (figures_json e.transaction figures e ++ (compared_json c ++ say "}\n"))))
 
 -- a record whose header is rejected

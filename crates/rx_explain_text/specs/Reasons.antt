@@ -1,4 +1,4 @@
--- Meaning: why a case holds, in words; nothing of a claim that is paid, whose figures say it.
+-- Meaning: why it was decided so, in words; nothing of a claim that is paid, whose figures say it.
 use Rattle.std.specs.Prelude.{ℕ, ◌*◌, ◌-ℤ◌, unsigned_abs, if◌then◌else◌, List, [], ◌++◌, Option, Some, None, codes}
 use Rattle.std.specs.Fmt.{decimal}
 use Rattle.rx_d0_values.specs.Priced.{patient_pay, total_paid}
@@ -6,8 +6,8 @@ use Rattle.rx_d0_values.specs.declared.bill.BillParts.{BillParts}
 use Rattle.rx_d0_values.specs.declared.pricing.Amounts.{Amounts}
 use Rattle.rx_d0_values.specs.declared.transaction.Transaction.{Transaction}
 use Rattle.rx_d0_values.specs.declared.transaction.Transaction.TheVariants.{Bill, Reverse, Faulty}
-use Rattle.rx_explain.specs.declared.case.Case.{Case}
-use Rattle.rx_explain.specs.declared.case.Case.TheVariants as case
+use Rattle.rx_ledger.specs.declared.decision.Decision.{Decision}
+use Rattle.rx_ledger.specs.declared.decision.Decision.TheVariants as decision
 use Rattle.rx_explain.specs.declared.explanation.Explanation.{Explanation}
 use Rattle.rx_explain.specs.declared.traced.Traced.{Traced}
 use Rattle.rx_explain_text.specs.Claims.{standing_text, traced_text}
@@ -78,12 +78,12 @@ person_text family person =
 
 -- the claim that stands, and that it isn't paid again
 unfoldable pub same_text : Explanation → Amounts → List ℕ
-same_text e a = say "  this claim stands already: " ++ (standing_text e.case e.standing ++ paid_text a)
+same_text e a = say "  this claim stands already: " ++ (standing_text e.decision e.standing ++ paid_text a)
 
 unfoldable pub other_text : Explanation → List ℕ
 other_text e =
     say "  another claim stands under this pharmacy, prescription and date: "
-    ++ (standing_text e.case e.standing ++ say "\n")
+    ++ (standing_text e.decision e.standing ++ say "\n")
 
 unfoldable pub unlisted_text : ℕ → List ℕ
 unlisted_text product = say "  the plan sheet doesn't list product " ++ (digits_text 11 product ++ say "\n")
@@ -92,17 +92,17 @@ unfoldable pub supply_text : ℕ → ℕ → List ℕ
 supply_text days most =
     say "  a supply for " ++ (decimal days ++ (say " days; the plan pays for at most " ++ (decimal most ++ say "\n")))
 
-abbrev pub bill_reason : Case → LotParts → Figures → Explanation → BillParts → List ℕ
-bill_reason case.NoFamily lot figures e b = family_text b.family
-bill_reason case.NoPerson lot figures e b = person_text b.family b.person
-bill_reason (case.SameStands r) lot figures e b = same_text e r.pricing
-bill_reason (case.OtherStands r) lot figures e b = other_text e
-bill_reason case.BeforePeriod lot figures e b = dated_text (codes "  the benefit period begins on ") figures.period.first
-bill_reason case.AfterCreation lot figures e b = dated_text (codes "  the batch was created on ") lot.created
-bill_reason (case.NotCovered m) lot figures e b = coverage_text figures.period m.coverage e.date
-bill_reason case.NotListed lot figures e b = unlisted_text b.product
-bill_reason case.TooManyDays lot figures e b = supply_text b.days figures.max_days
-bill_reason (case.TooSoon r) lot figures e b = soon_text figures e e.standing
+abbrev pub bill_reason : Decision → LotParts → Figures → Explanation → BillParts → List ℕ
+bill_reason decision.NoFamily lot figures e b = family_text b.family
+bill_reason decision.NoPerson lot figures e b = person_text b.family b.person
+bill_reason (decision.SameStands r) lot figures e b = same_text e r.pricing
+bill_reason (decision.OtherStands r) lot figures e b = other_text e
+bill_reason decision.BeforePeriod lot figures e b = dated_text (codes "  the benefit period begins on ") figures.period.first
+bill_reason decision.AfterCreation lot figures e b = dated_text (codes "  the batch was created on ") lot.created
+bill_reason (decision.NotCovered m) lot figures e b = coverage_text figures.period m.coverage e.date
+bill_reason decision.NotListed lot figures e b = unlisted_text b.product
+bill_reason decision.TooManyDays lot figures e b = supply_text b.days figures.max_days
+bill_reason decision.TooSoon lot figures e b = soon_text figures e e.standing
 bill_reason other lot figures e b = []
 
 -- ---- a reversal
@@ -110,23 +110,23 @@ bill_reason other lot figures e b = []
 unfoldable pub product_text : Explanation → ℕ → ℕ → List ℕ
 product_text e stands product =
     say "  the claim that stands is of product " ++ (digits_text 11 stands ++ (say ", not " ++ (digits_text 11 product
-    ++ (say "; it is " ++ (standing_text e.case e.standing ++ say "\n")))))
+    ++ (say "; it is " ++ (standing_text e.decision e.standing ++ say "\n")))))
 
 unfoldable pub taken_text : Explanation → Amounts → List ℕ
 taken_text e a =
-    say "  the claim " ++ (standing_text e.case e.standing ++ (say " stands no longer; the plan gets back "
+    say "  the claim " ++ (standing_text e.decision e.standing ++ (say " stands no longer; the plan gets back "
     ++ (money_text (total_paid a) ++ say "\n")))
 
-abbrev pub reversal_reason : Case → Explanation → ℕ → List ℕ
-reversal_reason case.NoneStands e product = say "  no claim stands under this pharmacy, prescription and date\n"
-reversal_reason (case.OtherProduct r) e product = product_text e r.product product
-reversal_reason (case.TakenBack r) e product = taken_text e r.pricing
+abbrev pub reversal_reason : Decision → Explanation → ℕ → List ℕ
+reversal_reason decision.NoneStands e product = say "  no claim stands under this pharmacy, prescription and date\n"
+reversal_reason (decision.OtherProduct r) e product = product_text e r.product product
+reversal_reason (decision.TakenBack r) e product = taken_text e r.pricing
 reversal_reason other e product = []
 
 -- ---- each
 
 -- of what can't be read a line for each code
 abbrev pub reason_text : Transaction → LotParts → Figures → Explanation → List ℕ → List ℕ
-reason_text (Bill b) lot figures e request = bill_reason e.case lot figures e b
-reason_text (Reverse v) lot figures e request = reversal_reason e.case e v.product
+reason_text (Bill b) lot figures e request = bill_reason e.decision lot figures e b
+reason_text (Reverse v) lot figures e request = reversal_reason e.decision e v.product
 reason_text (Faulty f) lot figures e request = code_lines figures.door request e.at.nth f.codes

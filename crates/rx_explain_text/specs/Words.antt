@@ -1,7 +1,7 @@
--- Meaning: the words for each reject code, and for each case.
+-- Meaning: the words for each reject code, and for each decision.
 use Rattle.std.specs.Prelude.{ℕ, List, codes}
-use Rattle.rx_explain.specs.declared.case.Case.{Case}
-use Rattle.rx_explain.specs.declared.case.Case.TheVariants as case
+use Rattle.rx_ledger.specs.declared.decision.Decision.{Decision}
+use Rattle.rx_ledger.specs.declared.decision.Decision.TheVariants as decision
 use Rattle.rx_fields.specs.declared.code.Code.{Code}
 use Rattle.rx_fields.specs.declared.code.Code.TheVariants as code
 
@@ -73,20 +73,20 @@ wanted_for code.Quantity = codes "1 to 10 digits that aren't all zero"
 wanted_for code.ReferenceQualifier = codes "1"
 wanted_for code.Syntax = codes "56 printable bytes of header, and parts, segments and fields as the separators cut them"
 
--- the name of a case, for programs
-abbrev pub case_name_of : Case → List ℕ
-case_name_of case.NoFamily = codes "no family"
-case_name_of case.NoPerson = codes "no person"
-case_name_of (case.SameStands x) = codes "same claim stands"
-case_name_of (case.OtherStands x) = codes "other claim stands"
-case_name_of case.BeforePeriod = codes "before period"
-case_name_of case.AfterCreation = codes "after creation"
-case_name_of (case.NotCovered x) = codes "not covered"
-case_name_of case.NotListed = codes "not listed"
-case_name_of case.TooManyDays = codes "too many days"
-case_name_of (case.TooSoon x) = codes "too soon"
-case_name_of (case.Payable x) = codes "payable"
-case_name_of case.NoneStands = codes "none stands"
-case_name_of (case.OtherProduct x) = codes "other product"
-case_name_of (case.TakenBack x) = codes "taken back"
-case_name_of (case.Unread x) = codes "unread"
+-- the name of a decision, for programs
+abbrev pub case_name_of : Decision → List ℕ
+case_name_of decision.NoFamily = codes "no family"
+case_name_of decision.NoPerson = codes "no person"
+case_name_of (decision.SameStands x) = codes "same claim stands"
+case_name_of (decision.OtherStands x) = codes "other claim stands"
+case_name_of decision.BeforePeriod = codes "before period"
+case_name_of decision.AfterCreation = codes "after creation"
+case_name_of (decision.NotCovered x) = codes "not covered"
+case_name_of decision.NotListed = codes "not listed"
+case_name_of decision.TooManyDays = codes "too many days"
+case_name_of decision.TooSoon = codes "too soon"
+case_name_of (decision.Payable x) = codes "payable"
+case_name_of decision.NoneStands = codes "none stands"
+case_name_of (decision.OtherProduct x) = codes "other product"
+case_name_of (decision.TakenBack x) = codes "taken back"
+case_name_of (decision.Unread x) = codes "unread"

@@ -1,8 +1,8 @@
 ghost use Rattle.std.specs.Prelude.{◌≡◌};
 ghost use Rattle.rx_explain_text.specs.Words.{case_name_of, name_of, wanted_for};
 
-use rx_explain::Case;
 use rx_fields::Code;
+use rx_ledger::Decision;
 
 /// The name of a reject code, in the standard's words.
 pub fn name(code: Code) -> &'static str
@@ -84,25 +84,25 @@ pub fn wanted(code: Code) -> &'static str
     }
 }
 
-/// The name of a case, for programs.
-pub(crate) fn case_name(case: &Case) -> &'static str
-    ensures { result.now ≡ case_name_of case.now }
+/// The name of a decision, for programs.
+pub(crate) fn case_name(decision: &Decision) -> &'static str
+    ensures { result.now ≡ case_name_of decision.now }
 {
-    match case {
-        Case::NoFamily => "no family",
-        Case::NoPerson => "no person",
-        Case::SameStands(_) => "same claim stands",
-        Case::OtherStands(_) => "other claim stands",
-        Case::BeforePeriod => "before period",
-        Case::AfterCreation => "after creation",
-        Case::NotCovered(_) => "not covered",
-        Case::NotListed => "not listed",
-        Case::TooManyDays => "too many days",
-        Case::TooSoon(_) => "too soon",
-        Case::Payable(_) => "payable",
-        Case::NoneStands => "none stands",
-        Case::OtherProduct(_) => "other product",
-        Case::TakenBack(_) => "taken back",
-        Case::Unread(_) => "unread",
+    match decision {
+        Decision::NoFamily => "no family",
+        Decision::NoPerson => "no person",
+        Decision::SameStands(_) => "same claim stands",
+        Decision::OtherStands(_) => "other claim stands",
+        Decision::BeforePeriod => "before period",
+        Decision::AfterCreation => "after creation",
+        Decision::NotCovered(_) => "not covered",
+        Decision::NotListed => "not listed",
+        Decision::TooManyDays => "too many days",
+        Decision::TooSoon => "too soon",
+        Decision::Payable(_) => "payable",
+        Decision::NoneStands => "none stands",
+        Decision::OtherProduct(_) => "other product",
+        Decision::TakenBack(_) => "taken back",
+        Decision::Unread(_) => "unread",
     }
 }

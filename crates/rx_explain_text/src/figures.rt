@@ -3,12 +3,12 @@ ghost use Rattle.std.specs.Option.{option_map, unwrap_or};
 ghost use Rattle.rx_explain_text.specs.Figures.{accumulator_lines, allowed_line, charge_text, coinsurance_line, copay_line};
 ghost use Rattle.rx_explain_text.specs.Figures.{cost_line, counted_line, counted_lines, counted_of, cut_text};
 ghost use Rattle.rx_explain_text.specs.Figures.{family_left_lines, family_lines, fee_line, figure_lines, labelled, left_lines};
-ghost use Rattle.rx_explain_text.specs.Figures.{less_text, paid_lines, payer_lines, payment_lines, payment_of, pays_line, priced_text};
+ghost use Rattle.rx_explain_text.specs.Figures.{less_text, paid_lines, payer_lines, payment_lines, paid_of, pays_line, priced_text};
 ghost use Rattle.rx_explain_text.specs.Figures.{share_line, submitted_text};
 
 use crate::reasons::put_traced;
 use rx_d0_values::{Bill, Transaction};
-use rx_explain::{Case, Explanation, Payment, Traced};
+use rx_explain::{Explanation, Traced, Workings};
 use rx_ledger::{Figures, Share};
 use rx_print::Page;
 use std::alloc::AllocError;
@@ -18,12 +18,12 @@ const LABEL: usize = 26;
 
 const AMOUNT: usize = 14;
 
-/// The billing that is paid, and its payment; None of another transaction.
-pub(crate) fn paid(explanation: &Explanation) -> Option<(&Bill, &Payment)>
-    ensures { option_map (λ p. (p.0.now, p.1.now)) result ≡ payment_of explanation.now.transaction explanation.now.case }
+/// The billing that is paid, and the steps to its amounts; None of another transaction.
+pub(crate) fn paid(explanation: &Explanation) -> Option<(&Bill, &Workings)>
+    ensures { option_map (λ p. (p.0.now, p.1.now)) result ≡ paid_of explanation.now.transaction explanation.now.workings }
 {
-    match (&explanation.transaction, &explanation.case) {
-        (Transaction::Bill(bill), Case::Payable(payment)) => Some((bill, payment)),
+    match (&explanation.transaction, &explanation.workings) {
+        (Transaction::Bill(bill), Some(workings)) => Some((bill, workings)),
         _ => None,
     }
 }
@@ -38,7 +38,7 @@ pub(crate) fn put_figures(
         ≡ page.old.bytes.items ++ figure_lines explanation.now.transaction figures.now explanation.now) }
 {
     match paid(explanation) {
-        Some((bill, payment)) => put_paid(page, figures, explanation, bill, payment),
+        Some((bill, workings)) => put_paid(page, figures, explanation, bill, workings),
         None => Ok(()),
     }
 }
@@ -49,16 +49,16 @@ fn put_paid(
     figures: &Figures,
     explanation: &Explanation,
     bill: &Bill,
-    payment: &Payment,
+    workings: &Workings,
 ) -> Result<(), AllocError>
     ensures { OnOk result (page.new.bytes.items
-        ≡ page.old.bytes.items ++ paid_lines figures.now explanation.now bill.now payment.now) }
+        ≡ page.old.bytes.items ++ paid_lines figures.now explanation.now bill.now workings.now) }
 {
-    put_cost(page, bill, payment)?;
-    put_fee(page, figures, bill, payment)?;
-    put_allowed(page, bill, payment)?;
-    put_accumulators(page, figures, explanation, bill, payment)?;
-    put_payment(page, payment)
+    put_cost(page, bill, workings)?;
+    put_fee(page, figures, bill, workings)?;
+    put_allowed(page, bill, workings)?;
+    put_accumulators(page, figures, explanation, bill, workings)?;
+    put_payment(page, workings)
 }
 
 // A label and an amount, each in its column.
@@ -106,12 +106,11 @@ fn put_submitted(
 
 // The ingredient cost: which of two is lower, and what the charge cuts off.
 #[tactic(auto, using(std::proofs::Common::append_assoc), unfolding(crate::specs::Figures::cost_line))]
-fn put_cost(page: &mut Page, bill: &Bill, payment: &Payment) -> Result<(), AllocError>
-    ensures { OnOk result (page.new.bytes.items ≡ page.old.bytes.items ++ cost_line bill.now payment.now) }
+fn put_cost(page: &mut Page, bill: &Bill, workings: &Workings) -> Result<(), AllocError>
+    ensures { OnOk result (page.new.bytes.items ≡ page.old.bytes.items ++ cost_line bill.now workings.now) }
 {
-    let workings = &payment.workings;
     let submitted = bill.parts().ingredient_cost.get();
-    let paid = u128::from(payment.pricing.amounts().ingredient_cost);
+    let paid = u128::from(workings.payment.pricing.amounts().ingredient_cost);
     line(page, "ingredient cost F6", paid)?;
     put_cut(
         page,
@@ -127,19 +126,19 @@ fn put_cost(page: &mut Page, bill: &Bill, payment: &Payment) -> Result<(), Alloc
         "as submitted; the plan's price is ",
         " submitted, paid by the plan's price: ",
     )?;
-    put_priced(page, bill, payment)
+    put_priced(page, bill, workings)
 }
 
 // The quantity at the plan's price.
 #[tactic(auto, using(std::proofs::Common::append_assoc), unfolding(crate::specs::Figures::priced_text))]
-fn put_priced(page: &mut Page, bill: &Bill, payment: &Payment) -> Result<(), AllocError>
-    ensures { OnOk result (page.new.bytes.items ≡ page.old.bytes.items ++ priced_text bill.now payment.now) }
+fn put_priced(page: &mut Page, bill: &Bill, workings: &Workings) -> Result<(), AllocError>
+    ensures { OnOk result (page.new.bytes.items ≡ page.old.bytes.items ++ priced_text bill.now workings.now) }
 {
     page.thousandths(bill.parts().quantity.get())?;
     page.say(" x ")?;
-    page.price(payment.drug.price)?;
+    page.price(workings.payment.drug.price)?;
     page.say(" = ")?;
-    page.money(u128::from(payment.workings.cost))?;
+    page.money(u128::from(workings.cost))?;
     page.say("\n")
 }
 
@@ -149,17 +148,17 @@ fn put_fee(
     page: &mut Page,
     figures: &Figures,
     bill: &Bill,
-    payment: &Payment,
+    workings: &Workings,
 ) -> Result<(), AllocError>
-    ensures { OnOk result (page.new.bytes.items ≡ page.old.bytes.items ++ fee_line figures.now bill.now payment.now) }
+    ensures { OnOk result (page.new.bytes.items ≡ page.old.bytes.items ++ fee_line figures.now bill.now workings.now) }
 {
-    let paid = u128::from(payment.pricing.amounts().dispensing_fee);
+    let paid = u128::from(workings.payment.pricing.amounts().dispensing_fee);
     line(page, "dispensing fee F7", paid)?;
     put_cut(
         page,
         "the charge",
         paid,
-        u128::from(payment.workings.dispensing_fee),
+        u128::from(workings.dispensing_fee),
     )?;
     page.say("  ")?;
     put_submitted(
@@ -185,11 +184,10 @@ fn submitted_fee(bill: &Bill) -> u64
 
 // What both come to, beside the charge.
 #[tactic(auto, using(std::proofs::Common::append_assoc), unfolding(crate::specs::Figures::allowed_line))]
-fn put_allowed(page: &mut Page, bill: &Bill, payment: &Payment) -> Result<(), AllocError>
-    ensures { OnOk result (page.new.bytes.items ≡ page.old.bytes.items ++ allowed_line bill.now payment.now) }
+fn put_allowed(page: &mut Page, bill: &Bill, workings: &Workings) -> Result<(), AllocError>
+    ensures { OnOk result (page.new.bytes.items ≡ page.old.bytes.items ++ allowed_line bill.now workings.now) }
 {
-    let amounts = payment.pricing.amounts();
-    let workings = &payment.workings;
+    let amounts = workings.payment.pricing.amounts();
     let allowed = both(amounts.ingredient_cost, amounts.dispensing_fee);
     let before = both(workings.ingredient_cost, workings.dispensing_fee);
     line(page, "allowed", allowed)?;
@@ -231,13 +229,12 @@ fn put_accumulators(
     figures: &Figures,
     explanation: &Explanation,
     bill: &Bill,
-    payment: &Payment,
+    workings: &Workings,
 ) -> Result<(), AllocError>
     ensures { OnOk result (page.new.bytes.items
-        ≡ page.old.bytes.items ++ accumulator_lines figures.now explanation.now.counted.items bill.now payment.now) }
+        ≡ page.old.bytes.items ++ accumulator_lines figures.now explanation.now.counted.items bill.now workings.now) }
 {
-    let used = &payment.used;
-    let workings = &payment.workings;
+    let used = &workings.payment.used;
     let counted = explanation.counted.as_slice();
     line(
         page,
@@ -252,7 +249,7 @@ fn put_accumulators(
         bill,
         Counts::MemberDeductible,
     )?;
-    put_family(page, figures.family_deductible, counted, bill, payment)?;
+    put_family(page, figures.family_deductible, counted, bill, workings)?;
     line(page, "family's maximum left", u128::from(workings.room))?;
     put_left(
         page,
@@ -271,14 +268,14 @@ fn put_family(
     figure: Option<u64>,
     counted: &[Traced],
     bill: &Bill,
-    payment: &Payment,
+    workings: &Workings,
 ) -> Result<(), AllocError>
     ensures { OnOk result (page.new.bytes.items ≡ page.old.bytes.items
-        ++ family_lines figure payment.now.workings.family_deductible_left counted.now bill.now payment.now) }
+        ++ family_lines figure workings.now.family_deductible_left counted.now bill.now workings.now) }
 {
-    match (figure, payment.workings.family_deductible_left) {
+    match (figure, workings.family_deductible_left) {
         (Some(figure), Some(left)) => {
-            put_family_left(page, figure, left, counted, bill, payment)
+            put_family_left(page, figure, left, counted, bill, workings)
         }
         _ => Ok(()),
     }
@@ -291,12 +288,12 @@ fn put_family_left(
     left: u64,
     counted: &[Traced],
     bill: &Bill,
-    payment: &Payment,
+    workings: &Workings,
 ) -> Result<(), AllocError>
     ensures { OnOk result (page.new.bytes.items ≡ page.old.bytes.items
-        ++ family_left_lines figure left counted.now bill.now payment.now) }
+        ++ family_left_lines figure left counted.now bill.now workings.now) }
 {
-    let used = payment.used.family_deductible;
+    let used = workings.payment.used.family_deductible;
     line(page, "family's deductible left", u128::from(left))?;
     put_left(page, figure, used, counted, bill, Counts::FamilyDeductible)
 }
@@ -373,62 +370,61 @@ fn counted_of(traced: &Traced, bill: &Bill, counts: Counts) -> u64
 
 // The deductible, the copay or coinsurance, and who pays what.
 #[tactic(auto, using(std::proofs::Common::append_assoc), unfolding(crate::specs::Figures::payment_lines))]
-fn put_payment(page: &mut Page, payment: &Payment) -> Result<(), AllocError>
-    ensures { OnOk result (page.new.bytes.items ≡ page.old.bytes.items ++ payment_lines payment.now) }
+fn put_payment(page: &mut Page, workings: &Workings) -> Result<(), AllocError>
+    ensures { OnOk result (page.new.bytes.items ≡ page.old.bytes.items ++ payment_lines workings.now) }
 {
-    let deductible = u128::from(payment.pricing.amounts().deductible);
+    let deductible = u128::from(workings.payment.pricing.amounts().deductible);
     line(page, "deductible FH", deductible)?;
-    put_cut(
-        page,
-        MAXIMUM,
-        deductible,
-        u128::from(payment.workings.under),
-    )?;
+    put_cut(page, MAXIMUM, deductible, u128::from(workings.under))?;
     page.say("\n")?;
-    put_share(page, payment)?;
+    put_share(page, workings)?;
     page.say("\n")?;
-    put_payers(page, payment)
+    put_payers(page, workings)
 }
 
 // The copay or the coinsurance, and the tier's.
-fn put_share(page: &mut Page, payment: &Payment) -> Result<(), AllocError>
-    ensures { OnOk result (page.new.bytes.items ≡ page.old.bytes.items ++ share_line payment.now.drug.share payment.now) }
+fn put_share(page: &mut Page, workings: &Workings) -> Result<(), AllocError>
+    ensures { OnOk result (page.new.bytes.items ≡ page.old.bytes.items ++ share_line workings.now.payment.drug.share workings.now) }
 {
-    match payment.drug.share {
-        Share::Copay(cents) => put_copay(page, payment, cents),
-        Share::Percent(percent) => put_coinsurance(page, payment, percent),
+    match workings.payment.drug.share {
+        Share::Copay(cents) => put_copay(page, workings, cents),
+        Share::Percent(percent) => put_coinsurance(page, workings, percent),
     }
 }
 
 #[tactic(auto, using(std::proofs::Common::append_assoc), unfolding(crate::specs::Figures::copay_line))]
-fn put_copay(page: &mut Page, payment: &Payment, cents: u64) -> Result<(), AllocError>
-    ensures { OnOk result (page.new.bytes.items ≡ page.old.bytes.items ++ copay_line cents payment.now) }
+fn put_copay(page: &mut Page, workings: &Workings, cents: u64) -> Result<(), AllocError>
+    ensures { OnOk result (page.new.bytes.items ≡ page.old.bytes.items ++ copay_line cents workings.now) }
 {
-    let paid = u128::from(payment.pricing.amounts().copay);
+    let paid = u128::from(workings.payment.pricing.amounts().copay);
     line(page, "copay FI", paid)?;
-    put_cut(page, MAXIMUM, paid, u128::from(payment.workings.share))?;
+    put_cut(page, MAXIMUM, paid, u128::from(workings.share))?;
     page.say("  tier of ")?;
     page.money(u128::from(cents))
 }
 
 #[tactic(auto, using(std::proofs::Common::append_assoc), unfolding(crate::specs::Figures::coinsurance_line))]
-fn put_coinsurance(page: &mut Page, payment: &Payment, percent: u8) -> Result<(), AllocError>
-    ensures { OnOk result (page.new.bytes.items ≡ page.old.bytes.items ++ coinsurance_line percent payment.now) }
+fn put_coinsurance(page: &mut Page, workings: &Workings, percent: u8) -> Result<(), AllocError>
+    ensures { OnOk result (page.new.bytes.items ≡ page.old.bytes.items ++ coinsurance_line percent workings.now) }
 {
-    let paid = u128::from(payment.pricing.amounts().coinsurance);
+    let paid = u128::from(workings.payment.pricing.amounts().coinsurance);
     line(page, "coinsurance 4U", paid)?;
-    put_cut(page, MAXIMUM, paid, u128::from(payment.workings.share))?;
+    put_cut(page, MAXIMUM, paid, u128::from(workings.share))?;
     page.say("  tier of ")?;
     page.number(u128::from(percent))?;
     page.say(" percent")
 }
 
 #[tactic(auto, using(std::proofs::Common::append_assoc), unfolding(crate::specs::Figures::payer_lines))]
-fn put_payers(page: &mut Page, payment: &Payment) -> Result<(), AllocError>
-    ensures { OnOk result (page.new.bytes.items ≡ page.old.bytes.items ++ payer_lines payment.now) }
+fn put_payers(page: &mut Page, workings: &Workings) -> Result<(), AllocError>
+    ensures { OnOk result (page.new.bytes.items ≡ page.old.bytes.items ++ payer_lines workings.now) }
 {
-    put_pays(page, "member pays F5", payment.pricing.patient_pay())?;
-    put_pays(page, "plan pays F9", payment.pricing.total_paid())
+    put_pays(
+        page,
+        "member pays F5",
+        workings.payment.pricing.patient_pay(),
+    )?;
+    put_pays(page, "plan pays F9", workings.payment.pricing.total_paid())
 }
 
 #[tactic(auto, using(std::proofs::Common::append_assoc), unfolding(crate::specs::Figures::pays_line))]

@@ -12,9 +12,9 @@ use crate::figures::put_figures;
 use crate::reasons::{put_member, put_reason};
 use crate::request_field::field_bytes;
 use rx_d0_values::{Answer, Bill, Rejected, Transaction};
-use rx_explain::{At, Case, Explanation};
+use rx_explain::{At, Explanation};
 use rx_fields::{Authorization, Code, Id, Lot, Memory, Person, Reference, trimmed};
-use rx_ledger::Figures;
+use rx_ledger::{Decision, Figures};
 use rx_print::{Page, Style};
 use std::alloc::{AllocError, Global};
 
@@ -104,7 +104,7 @@ fn put_header(page: &mut Page, explanation: &Explanation) -> Result<(), AllocErr
     put_reference(page, &explanation.transaction)?;
     page.say("  ")?;
     page.day(explanation.date)?;
-    put_whose(page, &explanation.transaction, &explanation.case)?;
+    put_whose(page, &explanation.transaction, &explanation.decision)?;
     page.say("\n")
 }
 
@@ -193,12 +193,16 @@ fn put_rx(page: &mut Page, reference: Reference) -> Result<(), AllocError>
 }
 
 // The family and person: of a claim that is taken back those of the claim.
-fn put_whose(page: &mut Page, transaction: &Transaction, case: &Case) -> Result<(), AllocError>
-    ensures { OnOk result (page.new.bytes.items ≡ page.old.bytes.items ++ whose_text transaction.now case.now) }
+fn put_whose(
+    page: &mut Page,
+    transaction: &Transaction,
+    decision: &Decision,
+) -> Result<(), AllocError>
+    ensures { OnOk result (page.new.bytes.items ≡ page.old.bytes.items ++ whose_text transaction.now decision.now) }
 {
-    match (transaction, case) {
+    match (transaction, decision) {
         (Transaction::Bill(bill), _) => put_billed(page, bill),
-        (_, Case::TakenBack(row)) => {
+        (_, Decision::TakenBack(row)) => {
             put_member(page, "  family ", ", person ", &row.family, &row.person)
         }
         _ => Ok(()),

@@ -6,7 +6,7 @@ ghost use Rattle.rx_explain_text.specs.Json.{case_json, charge_json, code_json, 
 ghost use Rattle.rx_explain_text.specs.Json.{coverage_json, day_member, decided_code, decided_json, decider_json, due_json};
 ghost use Rattle.rx_explain_text.specs.Json.{end_json, explanation_object, family_json, family_left_json, field_json};
 ghost use Rattle.rx_explain_text.specs.Json.{figures_json, from_json, front_json, header_json, named, number_member};
-ghost use Rattle.rx_explain_text.specs.Json.{numbered_json, open_json, paid_json, payable_json, place_json, price_json};
+ghost use Rattle.rx_explain_text.specs.Json.{numbered_json, open_json, paid_json, passed_json, payable_json, place_json, price_json};
 ghost use Rattle.rx_explain_text.specs.Json.{quoted, reference_json, refusal_json, refused_json, rejection_object, row_json};
 ghost use Rattle.rx_explain_text.specs.Json.{said_member, share_json, soon_json, spoken_field, standing_json, text_member};
 ghost use Rattle.rx_explain_text.specs.Json.{traced_json, whole_part, workings_json};
@@ -21,9 +21,9 @@ use crate::request_field::{field_bytes, field_name};
 use rx_d0_values::{
     Amounts, Answer, Approved, Bill, BillParts, Codes, Paid, Pricing, Rejected, Transaction,
 };
-use rx_explain::{At, Case, Explanation, Payment, Source, Traced};
+use rx_explain::{At, Explanation, Source, Traced, Workings};
 use rx_fields::{Authorization, Cents, Code, Day, Lot, Memory, Period, Reference};
-use rx_ledger::{Figures, Row, Share};
+use rx_ledger::{Decision, Figures, Row, Share};
 use rx_print::{Page, Style};
 use std::alloc::{AllocError, Global};
 
@@ -117,7 +117,7 @@ fn put_header(page: &mut Page, explanation: &Explanation, request: &[u8]) -> Res
     put_day(page, "date", explanation.date)?;
     put_asked(page, &explanation.transaction)?;
     put_answer(page, explanation, request)?;
-    put_said(page, "case", case_name(&explanation.case))
+    put_said(page, "case", case_name(&explanation.decision))
 }
 
 #[tactic(auto, using(std::proofs::Common::append_assoc))]
@@ -227,7 +227,7 @@ fn put_refused(
     put_refusal(page, explanation, codes, request)
 }
 
-// The code of a case, or each code of a transaction that can't be read.
+// The code of a decision, or each code of a transaction that can't be read.
 fn put_refusal(
     page: &mut Page,
     explanation: &Explanation,
@@ -341,14 +341,14 @@ fn put_case(
     figures: &Figures,
     explanation: &Explanation,
 ) -> Result<(), AllocError>
-    ensures { OnOk result (page.new.bytes.items ≡ page.old.bytes.items ++ case_json explanation.now.case lot figures.now explanation.now) }
+    ensures { OnOk result (page.new.bytes.items ≡ page.old.bytes.items ++ case_json explanation.now.decision lot figures.now explanation.now) }
 {
-    match &explanation.case {
-        Case::BeforePeriod => put_day(page, "period_first", figures.period.first()),
-        Case::AfterCreation => put_day(page, "created", lot.created()),
-        Case::NotCovered(member) => put_coverage(page, &figures.period, &member.coverage),
-        Case::TooManyDays => put_number(page, "most_days", figures.max_days),
-        Case::TooSoon(row) => put_soon(page, figures, explanation, row),
+    match &explanation.decision {
+        Decision::BeforePeriod => put_day(page, "period_first", figures.period.first()),
+        Decision::AfterCreation => put_day(page, "created", lot.created()),
+        Decision::NotCovered(member) => put_coverage(page, &figures.period, &member.coverage),
+        Decision::TooManyDays => put_number(page, "most_days", figures.max_days),
+        Decision::TooSoon => put_soon(page, figures, explanation),
         _ => Ok(()),
     }
 }
@@ -362,19 +362,29 @@ fn put_coverage(page: &mut Page, period: &Period, coverage: &Period) -> Result<(
     put_day(page, "period_last", period.last())
 }
 
-#[tactic(auto, using(std::proofs::Common::append_assoc), unfolding(crate::specs::Json::soon_json))]
-fn put_soon(
+// How few days of the earlier fill have passed.
+fn put_soon(page: &mut Page, figures: &Figures, explanation: &Explanation) -> Result<(), AllocError>
+    ensures { OnOk result (page.new.bytes.items ≡ page.old.bytes.items ++ soon_json figures.now explanation.now explanation.now.standing) }
+{
+    match &explanation.standing {
+        Some(earlier) => put_passed(page, figures, explanation, earlier),
+        None => Ok(()),
+    }
+}
+
+#[tactic(auto, using(std::proofs::Common::append_assoc), unfolding(crate::specs::Json::passed_json))]
+fn put_passed(
     page: &mut Page,
     figures: &Figures,
     explanation: &Explanation,
-    row: &Row,
+    earlier: &Traced,
 ) -> Result<(), AllocError>
-    ensures { OnOk result (page.new.bytes.items ≡ page.old.bytes.items ++ soon_json figures.now explanation.now row.now) }
+    ensures { OnOk result (page.new.bytes.items ≡ page.old.bytes.items ++ passed_json figures.now explanation.now earlier.now) }
 {
     put_number(
         page,
         "days_passed",
-        days_between(explanation.date, row.key.date),
+        days_between(explanation.date, earlier.row.key.date),
     )?;
     put_number(page, "refill_percent", figures.refill_percent)?;
     put_open(page, explanation.open_from)
@@ -391,10 +401,10 @@ fn put_open(page: &mut Page, open_from: Option<Day>) -> Result<(), AllocError>
 
 // The claim that decided, where one did.
 fn put_standing(page: &mut Page, explanation: &Explanation) -> Result<(), AllocError>
-    ensures { OnOk result (page.new.bytes.items ≡ page.old.bytes.items ++ standing_json explanation.now.case explanation.now.standing) }
+    ensures { OnOk result (page.new.bytes.items ≡ page.old.bytes.items ++ standing_json explanation.now.decision explanation.now.standing) }
 {
     match &explanation.standing {
-        Some(traced) => put_decider(page, &as_decided(&explanation.case, traced)),
+        Some(traced) => put_decider(page, &as_decided(&explanation.decision, traced)),
         None => Ok(()),
     }
 }
@@ -413,13 +423,13 @@ fn put_payable(
     figures: &Figures,
     explanation: &Explanation,
     bill: &Bill,
-    payment: &Payment,
+    workings: &Workings,
 ) -> Result<(), AllocError>
     ensures { OnOk result (page.new.bytes.items
-        ≡ page.old.bytes.items ++ payable_json figures.now explanation.now bill.now payment.now) }
+        ≡ page.old.bytes.items ++ payable_json figures.now explanation.now bill.now workings.now) }
 {
-    put_price(page, figures, bill, payment)?;
-    put_workings(page, figures, payment)?;
+    put_price(page, figures, bill, workings)?;
+    put_workings(page, figures, workings)?;
     put_counted(page, &explanation.counted)
 }
 
@@ -433,7 +443,7 @@ fn put_figures(
         ≡ page.old.bytes.items ++ figures_json explanation.now.transaction figures.now explanation.now) }
 {
     match paid(explanation) {
-        Some((bill, payment)) => put_payable(page, figures, explanation, bill, payment),
+        Some((bill, workings)) => put_payable(page, figures, explanation, bill, workings),
         None => Ok(()),
     }
 }
@@ -444,13 +454,13 @@ fn put_price(
     page: &mut Page,
     figures: &Figures,
     bill: &Bill,
-    payment: &Payment,
+    workings: &Workings,
 ) -> Result<(), AllocError>
-    ensures { OnOk result (page.new.bytes.items ≡ page.old.bytes.items ++ price_json figures.now bill.now payment.now) }
+    ensures { OnOk result (page.new.bytes.items ≡ page.old.bytes.items ++ price_json figures.now bill.now workings.now) }
 {
     let parts = bill.parts();
     put_number(page, "submitted_cost", parts.ingredient_cost.get())?;
-    put_number(page, "price_hundredths", payment.drug.price)?;
+    put_number(page, "price_hundredths", workings.payment.drug.price)?;
     put_number(
         page,
         "submitted_fee",
@@ -480,42 +490,52 @@ fn cents_or_nothing(cents: Option<Cents>) -> u64
 }
 
 #[tactic(auto, using(std::proofs::Common::append_assoc), unfolding(crate::specs::Json::workings_json))]
-fn put_workings(page: &mut Page, figures: &Figures, payment: &Payment) -> Result<(), AllocError>
-    ensures { OnOk result (page.new.bytes.items ≡ page.old.bytes.items ++ workings_json figures.now payment.now) }
+fn put_workings(page: &mut Page, figures: &Figures, workings: &Workings) -> Result<(), AllocError>
+    ensures { OnOk result (page.new.bytes.items ≡ page.old.bytes.items ++ workings_json figures.now workings.now) }
 {
-    let workings = &payment.workings;
     put_number(page, "cost", workings.cost)?;
     put_number(page, "cost_before_charge", workings.ingredient_cost)?;
     put_number(page, "fee_before_charge", workings.dispensing_fee)?;
     put_number(page, "charge", workings.cap)?;
-    put_accumulators(page, figures, payment)?;
-    put_due(page, payment)
+    put_accumulators(page, figures, workings)?;
+    put_due(page, workings)
 }
 
 // What was used of the plan's figures, and what is left of them.
 #[tactic(auto, using(std::proofs::Common::append_assoc), unfolding(crate::specs::Json::accumulators_json))]
-fn put_accumulators(page: &mut Page, figures: &Figures, payment: &Payment) -> Result<(), AllocError>
-    ensures { OnOk result (page.new.bytes.items ≡ page.old.bytes.items ++ accumulators_json figures.now payment.now) }
+fn put_accumulators(
+    page: &mut Page,
+    figures: &Figures,
+    workings: &Workings,
+) -> Result<(), AllocError>
+    ensures { OnOk result (page.new.bytes.items ≡ page.old.bytes.items ++ accumulators_json figures.now workings.now) }
 {
-    let workings = &payment.workings;
     put_number(page, "member_deductible", figures.member_deductible)?;
-    put_total(page, "member_deductible_used", payment.used.deductible)?;
+    put_total(
+        page,
+        "member_deductible_used",
+        workings.payment.used.deductible,
+    )?;
     put_number(page, "deductible_left", workings.deductible_left)?;
-    put_family(page, figures.family_deductible, payment)?;
+    put_family(page, figures.family_deductible, workings)?;
     put_number(page, "family_maximum", figures.family_maximum)?;
-    put_total(page, "family_maximum_used", payment.used.out_of_pocket)?;
+    put_total(
+        page,
+        "family_maximum_used",
+        workings.payment.used.out_of_pocket,
+    )?;
     put_number(page, "family_maximum_left", workings.room)
 }
 
 // The family's deductible, where the plan has one.
 #[tactic(auto, using(std::proofs::Common::append_assoc))]
-fn put_family(page: &mut Page, figure: Option<u64>, payment: &Payment) -> Result<(), AllocError>
+fn put_family(page: &mut Page, figure: Option<u64>, workings: &Workings) -> Result<(), AllocError>
     ensures { OnOk result (page.new.bytes.items
-        ≡ page.old.bytes.items ++ family_json figure payment.now.workings.family_deductible_left payment.now) }
+        ≡ page.old.bytes.items ++ family_json figure workings.now.family_deductible_left workings.now) }
 {
-    match (figure, payment.workings.family_deductible_left) {
+    match (figure, workings.family_deductible_left) {
         (Some(figure), Some(left)) => {
-            put_family_left(page, figure, payment.used.family_deductible, left)
+            put_family_left(page, figure, workings.payment.used.family_deductible, left)
         }
         _ => Ok(()),
     }
@@ -532,12 +552,12 @@ fn put_family_left(page: &mut Page, figure: u64, used: u128, left: u64) -> Resul
 
 // What falls under the deductible and what is shared, before the family's maximum cuts them; and the tier's share.
 #[tactic(auto, using(std::proofs::Common::append_assoc), unfolding(crate::specs::Json::due_json))]
-fn put_due(page: &mut Page, payment: &Payment) -> Result<(), AllocError>
-    ensures { OnOk result (page.new.bytes.items ≡ page.old.bytes.items ++ due_json payment.now) }
+fn put_due(page: &mut Page, workings: &Workings) -> Result<(), AllocError>
+    ensures { OnOk result (page.new.bytes.items ≡ page.old.bytes.items ++ due_json workings.now) }
 {
-    put_number(page, "deductible_due", payment.workings.under)?;
-    put_number(page, "share_due", payment.workings.share)?;
-    put_tier(page, payment.drug.share)
+    put_number(page, "deductible_due", workings.under)?;
+    put_number(page, "share_due", workings.share)?;
+    put_tier(page, workings.payment.drug.share)
 }
 
 fn put_tier(page: &mut Page, share: Share) -> Result<(), AllocError>

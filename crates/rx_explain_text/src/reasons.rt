@@ -9,13 +9,13 @@ ghost use Rattle.rx_explain_text.specs.Reasons.{sum_text, supply_text, taken_tex
 use crate::codes::put_codes;
 use crate::header::put_at;
 use rx_d0_values::{Bill, BillParts, Pricing, Transaction};
-use rx_explain::{At, Case, Explanation, Source, Traced};
+use rx_explain::{At, Explanation, Source, Traced};
 use rx_fields::{Day, Days, Id, Lot, Period, Person, Product};
-use rx_ledger::Figures;
+use rx_ledger::{Decision, Figures};
 use rx_print::{Page, Style};
 use std::alloc::AllocError;
 
-/// Why the case holds, on a line that is set in; nothing of a claim that is paid, whose figures say it.
+/// Why it was decided so, on a line that is set in; nothing of a claim that is paid, whose figures say it.
 pub(crate) fn put_reason(
     page: &mut Page,
     lot: Lot,
@@ -42,27 +42,27 @@ fn put_bill_reason(
     bill: &Bill,
 ) -> Result<(), AllocError>
     ensures { OnOk result (page.new.bytes.items
-        ≡ page.old.bytes.items ++ bill_reason explanation.now.case lot figures.now explanation.now bill.now) }
+        ≡ page.old.bytes.items ++ bill_reason explanation.now.decision lot figures.now explanation.now bill.now) }
 {
-    match &explanation.case {
-        Case::NoFamily => put_family(page, &bill.parts().family),
-        Case::NoPerson => put_person(page, bill.parts()),
-        Case::SameStands(row) => put_same(page, explanation, &row.pricing),
-        Case::OtherStands(_) => put_other(page, explanation),
-        Case::BeforePeriod => {
+    match &explanation.decision {
+        Decision::NoFamily => put_family(page, &bill.parts().family),
+        Decision::NoPerson => put_person(page, bill.parts()),
+        Decision::SameStands(row) => put_same(page, explanation, &row.pricing),
+        Decision::OtherStands(_) => put_other(page, explanation),
+        Decision::BeforePeriod => {
             put_dated(
                 page,
                 "  the benefit period begins on ",
                 figures.period.first(),
             )
         }
-        Case::AfterCreation => put_dated(page, "  the batch was created on ", lot.created()),
-        Case::NotCovered(member) => {
+        Decision::AfterCreation => put_dated(page, "  the batch was created on ", lot.created()),
+        Decision::NotCovered(member) => {
             put_coverage(page, &figures.period, &member.coverage, explanation.date)
         }
-        Case::NotListed => put_unlisted(page, bill.parts().product),
-        Case::TooManyDays => put_supply(page, bill.parts().days, figures.max_days),
-        Case::TooSoon(_) => put_too_soon(page, figures, explanation),
+        Decision::NotListed => put_unlisted(page, bill.parts().product),
+        Decision::TooManyDays => put_supply(page, bill.parts().days, figures.max_days),
+        Decision::TooSoon => put_too_soon(page, figures, explanation),
         _ => Ok(()),
     }
 }
@@ -127,14 +127,14 @@ fn put_reversal_reason(
     product: Product,
 ) -> Result<(), AllocError>
     ensures { OnOk result (page.new.bytes.items
-        ≡ page.old.bytes.items ++ reversal_reason explanation.now.case explanation.now product) }
+        ≡ page.old.bytes.items ++ reversal_reason explanation.now.decision explanation.now product) }
 {
-    match &explanation.case {
-        Case::NoneStands => {
+    match &explanation.decision {
+        Decision::NoneStands => {
             page.say("  no claim stands under this pharmacy, prescription and date\n")
         }
-        Case::OtherProduct(row) => put_product(page, explanation, row.product, product),
-        Case::TakenBack(row) => put_taken(page, explanation, &row.pricing),
+        Decision::OtherProduct(row) => put_product(page, explanation, row.product, product),
+        Decision::TakenBack(row) => put_taken(page, explanation, &row.pricing),
         _ => Ok(()),
     }
 }
@@ -306,20 +306,20 @@ fn put_sum(page: &mut Page, passed: u64, days: u64, percent: u64) -> Result<(), 
 
 // The claim that decided, where one did.
 fn put_standing(page: &mut Page, explanation: &Explanation) -> Result<(), AllocError>
-    ensures { OnOk result (page.new.bytes.items ≡ page.old.bytes.items ++ standing_text explanation.now.case explanation.now.standing) }
+    ensures { OnOk result (page.new.bytes.items ≡ page.old.bytes.items ++ standing_text explanation.now.decision explanation.now.standing) }
 {
     match &explanation.standing {
-        Some(traced) => put_traced(page, &as_decided(&explanation.case, traced)),
+        Some(traced) => put_traced(page, &as_decided(&explanation.decision, traced)),
         None => Ok(()),
     }
 }
 
-/// The claim that decided a case. One that this transaction takes back is taken back by no later one.
-pub(crate) fn as_decided(case: &Case, traced: &Traced) -> Traced
-    ensures { result ≡ as_decided case.now traced.now }
+/// The claim that decided. One that this transaction takes back is taken back by no later one.
+pub(crate) fn as_decided(decision: &Decision, traced: &Traced) -> Traced
+    ensures { result ≡ as_decided decision.now traced.now }
 {
-    match case {
-        Case::TakenBack(_) => Traced {
+    match decision {
+        Decision::TakenBack(_) => Traced {
             taken_back: None,
             ..*traced
         },

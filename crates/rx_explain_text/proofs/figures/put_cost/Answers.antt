@@ -8,17 +8,17 @@ pub returns : goal.returns
 unfolding cost_line
 returns c =
     joined_5 c.put_priced.result _ c.line.new.page.bytes.items c.put_cut.new.page.bytes.items c.say.new.self.bytes.items
-    c.put_submitted.new.page.bytes.items _ (labelled (codes "ingredient cost F6") c.args.payment.now.pricing.ingredient_cost)
-    (cut_text (codes "the charge") c.args.payment.now.pricing.ingredient_cost c.args.payment.now.workings.ingredient_cost)
+    c.put_submitted.new.page.bytes.items _ (labelled (codes "ingredient cost F6") c.args.workings.now.payment.pricing.ingredient_cost)
+    (cut_text (codes "the charge") c.args.workings.now.payment.pricing.ingredient_cost c.args.workings.now.ingredient_cost)
     (say "  ")
-    (submitted_text c.args.bill.now.ingredient_cost c.args.payment.now.workings.cost (codes
+    (submitted_text c.args.bill.now.ingredient_cost c.args.workings.now.cost (codes
     "as submitted; the plan's price is ") (codes " submitted, paid by the plan's price: "))
-    (priced_text c.args.bill.now c.args.payment.now)
+    (priced_text c.args.bill.now c.args.workings.now)
     (c.in_ok-line.ensures ∙ ap (λ n. c.args.page.now.bytes.items ++ labelled (codes "ingredient cost F6") n) (search rules))
     (c.in_ok-put_cut.ensures
     ∙ ap (λ n. c.line.new.page.bytes.items ++ cut_text (codes "the charge") n c.from.result) (search rules)
-    ∙ ap (λ n. c.line.new.page.bytes.items ++ cut_text (codes "the charge") c.args.payment.now.pricing.ingredient_cost n)
+    ∙ ap (λ n. c.line.new.page.bytes.items ++ cut_text (codes "the charge") c.args.workings.now.payment.pricing.ingredient_cost n)
     (search rules)) (search (rules, c.in_ok-say.ensures))
     (c.in_ok-put_submitted.ensures
-    ∙ ap (λ n. c.say.new.self.bytes.items ++ submitted_text n c.args.payment.now.workings.cost (codes
+    ∙ ap (λ n. c.say.new.self.bytes.items ++ submitted_text n c.args.workings.now.cost (codes
     "as submitted; the plan's price is ") (codes " submitted, paid by the plan's price: ")) (search rules)) (search rules)

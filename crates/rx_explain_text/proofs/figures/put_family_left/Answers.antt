@@ -8,6 +8,6 @@ pub returns : goal.returns
 unfolding family_left_lines
 returns c =
     joined_2 c.put_left.result _ c.line.new.page.bytes.items _ (labelled (codes "family's deductible left") c.args.left)
-    (left_lines c.args.figure c.args.payment.now.used.family_deductible FamilyDeductible c.args.bill.now c.args.counted.now)
+    (left_lines c.args.figure c.args.workings.now.payment.used.family_deductible FamilyDeductible c.args.bill.now c.args.counted.now)
     (c.in_ok-line.ensures
     ∙ ap (λ n. c.args.page.now.bytes.items ++ labelled (codes "family's deductible left") n) (search rules)) (search rules)

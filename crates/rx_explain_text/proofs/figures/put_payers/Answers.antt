@@ -8,8 +8,8 @@ pub returns : goal.returns
 unfolding payer_lines
 returns c =
     joined_2 c.put_pays-2.result _ c.put_pays.new.page.bytes.items _
-    (pays_line (codes "member pays F5") (patient_pay c.args.payment.now.pricing))
-    (pays_line (codes "plan pays F9") (total_paid c.args.payment.now.pricing))
+    (pays_line (codes "member pays F5") (patient_pay c.args.workings.now.payment.pricing))
+    (pays_line (codes "plan pays F9") (total_paid c.args.workings.now.payment.pricing))
     (c.in_ok-put_pays.ensures ∙ ap (λ n. c.args.page.now.bytes.items ++ pays_line (codes "member pays F5") n) (search rules))
     (told c.put_pays-2.result _ _ _ c.put_pays-2.ensures (ap (λ n. c.put_pays.new.page.bytes.items ++ pays_line (codes
     "plan pays F9") n) (search rules)))

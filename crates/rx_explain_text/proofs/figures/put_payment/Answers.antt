@@ -9,11 +9,11 @@ unfolding payment_lines
 returns c =
     joined_6 c.put_payers.result _ c.line.new.page.bytes.items c.put_cut.new.page.bytes.items c.say.new.self.bytes.items
     c.put_share.new.page.bytes.items c.say-2.new.self.bytes.items _
-    (labelled (codes "deductible FH") c.args.payment.now.pricing.deductible)
-    (maximum_cut c.args.payment.now.pricing.deductible c.args.payment.now.workings.under) (say "\n")
-    (share_line c.args.payment.now.drug.share c.args.payment.now) (say "\n") (payer_lines c.args.payment.now)
+    (labelled (codes "deductible FH") c.args.workings.now.payment.pricing.deductible)
+    (maximum_cut c.args.workings.now.payment.pricing.deductible c.args.workings.now.under) (say "\n")
+    (share_line c.args.workings.now.payment.drug.share c.args.workings.now) (say "\n") (payer_lines c.args.workings.now)
     (c.in_ok-line.ensures ∙ ap (λ n. c.args.page.now.bytes.items ++ labelled (codes "deductible FH") n) (search rules))
     (c.in_ok-put_cut.ensures ∙ ap (λ n. c.line.new.page.bytes.items ++ maximum_cut n c.from.result) (search rules)
-    ∙ ap (λ n. c.line.new.page.bytes.items ++ maximum_cut c.args.payment.now.pricing.deductible n) (search rules))
+    ∙ ap (λ n. c.line.new.page.bytes.items ++ maximum_cut c.args.workings.now.payment.pricing.deductible n) (search rules))
     (search (rules, c.in_ok-say.ensures)) (search (rules, c.in_ok-put_share.ensures)) (search (rules, c.in_ok-say-2.ensures))
     (search rules)

@@ -16,7 +16,7 @@ returns c =
     c.put_whose.new.page.bytes.items _ (say "record ") (at_text c.args.explanation.now.at) (say "  ")
     (answer_text c.args.explanation.now.answer) (say "  pharmacy ") (shown c.args.explanation.now.provider)
     (rx_text (reference_of c.args.explanation.now.transaction)) (say "  ") (dashed c.args.explanation.now.date)
-    (whose_text c.args.explanation.now.transaction c.args.explanation.now.case) (say "\n")
+    (whose_text c.args.explanation.now.transaction c.args.explanation.now.decision) (say "\n")
     (search (rules, c.in_ok-say.ensures)) (search (rules, c.in_ok-put_at.ensures)) (search (rules, c.in_ok-say-2.ensures))
     (search (rules, c.in_ok-put_answer.ensures)) (search (rules, c.in_ok-say-3.ensures))
     (search (rules, c.in_ok-escaped.ensures)) (search (rules, c.in_ok-put_reference.ensures))

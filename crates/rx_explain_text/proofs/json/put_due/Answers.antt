@@ -7,8 +7,8 @@ pub returns : goal.returns
 unfolding due_json
 returns c =
     joined_3 c.put_tier.result _ c.put_number.new.page.bytes.items c.put_number-2.new.page.bytes.items _
-    (number_member (codes "deductible_due") c.args.payment.now.workings.under)
-    (number_member (codes "share_due") c.args.payment.now.workings.share) (share_json c.args.payment.now.drug.share)
+    (number_member (codes "deductible_due") c.args.workings.now.under)
+    (number_member (codes "share_due") c.args.workings.now.share) (share_json c.args.workings.now.payment.drug.share)
     (c.in_ok-put_number.ensures
     ∙ ap (λ n. c.args.page.now.bytes.items ++ number_member (codes "deductible_due") n) (search rules))
     (c.in_ok-put_number-2.ensures

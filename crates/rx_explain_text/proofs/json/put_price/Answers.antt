@@ -10,7 +10,7 @@ returns c =
     joined_5 c.put_charge.result _ c.put_number.new.page.bytes.items c.put_number-2.new.page.bytes.items
     c.put_number-3.new.page.bytes.items c.put_number-4.new.page.bytes.items _
     (number_member (codes "submitted_cost") c.args.bill.now.ingredient_cost)
-    (number_member (codes "price_hundredths") c.args.payment.now.drug.price)
+    (number_member (codes "price_hundredths") c.args.workings.now.payment.drug.price)
     (number_member (codes "submitted_fee") (unwrap_or c.args.bill.now.dispensing_fee 0))
     (number_member (codes "plan_fee") c.args.figures.now.fee) (charge_json c.args.bill.now.usual_charge)
     (c.in_ok-put_number.ensures

@@ -10,5 +10,5 @@ unfolding other_text
 returns c =
     joined_3 c.say-2.result _ c.say.new.self.bytes.items c.put_standing.new.page.bytes.items _
     (say "  another claim stands under this pharmacy, prescription and date: ")
-    (standing_text c.args.explanation.now.case c.args.explanation.now.standing) (say "\n")
+    (standing_text c.args.explanation.now.decision c.args.explanation.now.standing) (say "\n")
     (search (rules, c.in_ok-say.ensures)) (search (rules, c.in_ok-put_standing.ensures)) (search rules)

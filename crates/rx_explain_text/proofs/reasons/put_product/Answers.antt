@@ -13,7 +13,7 @@ returns c =
     c.put-2.new.self.bytes.items c.say-3.new.self.bytes.items c.put_standing.new.page.bytes.items _
     (say "  the claim that stands is of product ") (digits_text 11 c.args.stands) (say ", not ")
     (digits_text 11 c.args.product) (say "; it is ")
-    (standing_text c.args.explanation.now.case c.args.explanation.now.standing) (say "\n")
+    (standing_text c.args.explanation.now.decision c.args.explanation.now.standing) (say "\n")
     (search (rules, c.in_ok-say.ensures)) (search (rules, c.in_ok-put.ensures)) (search (rules, c.in_ok-say-2.ensures))
     (search (rules, c.in_ok-put-2.ensures)) (search (rules, c.in_ok-say-3.ensures))
     (search (rules, c.in_ok-put_standing.ensures)) (search rules)

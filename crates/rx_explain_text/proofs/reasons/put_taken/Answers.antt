@@ -12,7 +12,7 @@ unfolding taken_text
 returns c =
     joined_5 c.say-3.result _ c.say.new.self.bytes.items c.put_standing.new.page.bytes.items c.say-2.new.self.bytes.items
     c.money.new.self.bytes.items _ (say "  the claim ")
-    (standing_text c.args.explanation.now.case c.args.explanation.now.standing)
+    (standing_text c.args.explanation.now.decision c.args.explanation.now.standing)
     (say " stands no longer; the plan gets back ") (money_text (total_paid c.args.pricing.now)) (say "\n")
     (search (rules, c.in_ok-say.ensures)) (search (rules, c.in_ok-put_standing.ensures))
     (search (rules, c.in_ok-say-2.ensures)) (search (rules, c.in_ok-money.ensures)) (search rules)
