@@ -32,7 +32,7 @@ all-edits: kit
 
 cases: kit
 	python3 tests/check_docs.py
-	python3 tests/find_doubles.py --allowed 57
+	python3 tests/find_doubles.py --allowed 56
 	test -x $(PROGRAM) || (cd crates/rxbatch && rt run -- sample)
 	python3 packaging/make_pages.py $(PROGRAM) --check
 	python3 tests/run_words.py $(PROGRAM)
