@@ -1,5 +1,6 @@
 -- Worked cases of the definitions: keys of a plan sheet that are ignored, and warnings.
 use Rattle.std.proofs.Common.{◌≡◌, [], ◌∷◌, Some, pos, true, refl, codes}
+use Rattle.std.specs.Fmt.{digits}
 use Rattle.std.specs.Str.{is_utf8, chars}
 use Rattle.toml.proofs.OnLiterals.{toml_on_literals}
 use Rattle.toml.specs.Data.{Data, integer, member, no_members, table}
@@ -55,5 +56,5 @@ not-adjudicated = refl
 
 too-long : may_pass_text (codes "books.txt") true
     ≡ codes "books.txt: warning: with this batch the end books could have more than 1000000 lines, which no run reads\n"
-unfolding may_pass_text
+unfolding digits may_pass_text
 too-long = refl
