@@ -47,7 +47,8 @@ fn bill(
     families: u64,
 ) {
     for key in keys {
-        let digits: [u8; 3] = digits_write(key.checked_rem(families).unwrap_or(0));
+        let family = key.checked_rem(families).unwrap_or(0);
+        let digits: [u8; 3] = digits_write(family % 1_000);
         put(rt, alloc, records, base(rt, key, &digits));
     }
 }
