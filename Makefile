@@ -1,5 +1,6 @@
-# make look: the first job without proof. make demo: proved, built, and the first job run. make test: the gate, then the worked
-# cases on the built program. make install PREFIX=..: the built program with its manual page and completions.
+# make look: the first job run without proof, or another one by JOB=FOLDER. make demo: proved, built, and the first job run.
+# make test: the gate, then the worked cases on the built program. make install PREFIX=..: the built program with its manual
+# page and completions.
 .PHONY: test all-edits cases demo look install kit
 PROGRAM = crates/rxbatch/out/rxbatch
 TRIALS = crates/rx_bench/out/rx_bench
@@ -12,14 +13,30 @@ LOGIC = dac8208d650f15bf
 
 # Without the kit nothing can be built.
 kit:
-	@command -v rt > /dev/null || { echo "make: the command rt of the kit $(KIT) isn't on the path: see \"Have it\" in README.md" >&2; exit 1; }
+	@command -v rt > /dev/null || { echo "make: the command rt of the kit $(KIT) isn't on the path: see \"Install\" in README.md" >&2; exit 1; }
 	@rt version | grep -q '^$(KIT)[a-z]* logic $(LOGIC)$$' || echo "make: this is proved with $(KIT) logic $(LOGIC), and rt is $$(rt version)" >&2
 
-FILES = --data sheet.toml=../../$(JOB)/sheet.toml --data books.txt=../../$(JOB)/books.txt --data batch.bin=../../$(JOB)/batch.bin
+# The stamp of that run, and the record that is explained.
+STAMP = 202603170600
+RECORD = 2
+LOOK = out/look
+INPUTS = --sheet sheet.toml --books books.txt --batch batch.bin
+OUTPUTS = --response $(CURDIR)/$(LOOK)/response.bin --books-out $(CURDIR)/$(LOOK)/books-out.txt \
+  --settlement $(CURDIR)/$(LOOK)/settlement.txt
+FILES = $(foreach file,sheet.toml books.txt batch.bin,--data $(file)=$(abspath $(JOB))/$(file))
 
-# One build; each file of look/ is a case, whose words stand in NAME.args.
+# One build; each file of the folder is a case, whose arguments stand in NAME.args, one a line.
 look: kit
-	cd crates/rxbatch && rt try $(FILES) --cases ../../$(JOB)/look
+	@rm -rf $(LOOK) && mkdir -p $(LOOK)/cases && touch $(addprefix $(LOOK)/cases/,1-check 2-run 3-report 4-explain)
+	@printf '%s\n' check $(INPUTS) > $(LOOK)/cases/1-check.args
+	@printf '%s\n' run $(INPUTS) --stamp $(STAMP) --workers 4 $(OUTPUTS) > $(LOOK)/cases/2-run.args
+	@printf '%s\n' report $(INPUTS) > $(LOOK)/cases/3-report.args
+	@printf '%s\n' explain $(INPUTS) --record $(RECORD) > $(LOOK)/cases/4-explain.args
+	@echo "make: building without proof, for about two minutes"
+	@cd crates/rxbatch && rt try $(FILES) --cases $(CURDIR)/$(LOOK)/cases
+	@echo "== $(LOOK)/settlement.txt" && cat $(LOOK)/settlement.txt
+	@echo "== $(LOOK)/books-out.txt, of which the first ten lines" && head -n 10 $(LOOK)/books-out.txt
+	@echo "== $(LOOK)/response.bin is the response file"
 
 test: kit
 	python3 tests/gate.py
@@ -32,9 +49,10 @@ all-edits: kit
 
 cases: kit
 	python3 tests/check_docs.py
-	python3 tests/find_doubles.py --allowed 56
+	python3 tests/find_doubles.py --allowed 53
 	test -x $(PROGRAM) || (cd crates/rxbatch && rt run -- sample)
 	python3 packaging/make_pages.py $(PROGRAM) --check
+	python3 tests/run_pages.py $(PROGRAM)
 	python3 tests/run_words.py $(PROGRAM)
 	python3 tests/run_paths.py $(PROGRAM)
 	python3 tests/run_safe.py $(PROGRAM)

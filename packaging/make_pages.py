@@ -18,12 +18,27 @@ OPTION = re.compile(r"^ +(?:(-\w), )? *(--[\w-]+)(?: <(\w+)>)? {2,}(.*)$")
 COMMAND = re.compile(r"^  (\w+) {2,}(.*)$")
 # What `--help` doesn't say.
 STATUSES = [
-    ("0", "It is done."),
-    ("1", "An input is refused: the line \"refused N M P\" on standard error."),
-    ("2", "The words aren't understood, or ask for help."),
+    ("0", "Success."),
+    ("1", "An input is refused: the line \"refused N M P\" on standard error, or \"response M P\" for a response file."),
+    ("2", "The arguments aren't understood or ask for help, or two options of run lead to one file."),
     ("3", "A file failed: the line \"file K\" on standard error."),
-    ("4", "check found warnings alone; explain found no such transaction."),
-    ("5", "verify: a file isn't what the run gives. explain: the response file hasn't this reply."),
+    ("4", "check: warnings, and no fault. explain: no such transaction."),
+    ("5", "verify: a file differs from the run's. explain: the response file doesn't have this reply."),
+]
+# The numbers of the lines on standard error.
+DIAGNOSTICS = [
+    ("refused N M P", "N: 1 workers, 2 stamp, 3 sheet, 4 books, 5 batch, 6 out of memory, 7 thread. M: the fault of that input. "
+                      "P: the sheet's key, the line of the books, or the byte of the batch. check and run -v print it in words."),
+    ("file K", "K: 1 sheet, 2 books, 3 batch, 4 response, 5 end books, 6 settlement, 7 log, 0 standard output."),
+]
+EXAMPLES = [
+    ("Check the inputs, adjudicate, and keep earlier outputs until all is done:",
+     "rxbatch check --sheet sheet.toml --books books.txt --batch batch.bin",
+     "rxbatch run --safe --sheet sheet.toml --books books.txt --batch batch.bin \\",
+     "    --stamp 202603170600 --workers 4 --response response.bin \\",
+     "    --books-out books-out.txt --settlement settlement.txt"),
+    ("Why was the second record answered so?",
+     "rxbatch explain --sheet sheet.toml --books books.txt --batch batch.bin --record 2"),
 ]
 
 
@@ -81,9 +96,14 @@ def manual(commands):
         for short, name, value, told in command.options:
             shown = "\\fB" + escaped(", ".join(filter(None, (short, name)))) + "\\fR"
             lines += [".TP", shown + (f" \\fI{value}\\fR" if value else ""), escaped(told) + "."]
-    lines.append(".SH EXIT STATUS")
-    for status, meaning in STATUSES:
-        lines += [".TP", status, escaped(meaning)]
+    for heading, items in (("EXIT STATUS", STATUSES), ("DIAGNOSTICS", DIAGNOSTICS)):
+        lines.append(".SH " + heading)
+        for name, meaning in items:
+            lines += [".TP", escaped(name), escaped(meaning)]
+    lines.append(".SH EXAMPLES")
+    for what, *given in EXAMPLES:
+        lines += [".PP", escaped(what), ".PP", ".nf", *map(escaped, given), ".fi"]
+    lines += [".SH SEE ALSO", "docs/CLI.md, docs/FORMATS.md and docs/RULES.md of the source."]
     return "\n".join(lines) + "\n"
 
 

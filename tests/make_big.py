@@ -8,7 +8,7 @@ Always these two:
     DIR/too-many-line-feeds      books of 1,000,001 line feeds
     DIR/too-many-details         a batch of 100,001 details without a transmission
 
-With `--cuts` DIR/cuts/000 to 325: one-billing's batch file (docs/CASES.md) cut to each number of bytes. With `--bytes`
+With `--cuts` DIR/cuts/000 to 325: one-billing's batch file (tests/cases/README.md) cut to each number of bytes. With `--bytes`
 DIR/bytes/000-STX and so on: each of its bytes in turn replaced by each of seven; these 2,282 have no wanted answer
 but that all their runs answer the same.
 """
@@ -22,7 +22,7 @@ REPLACEMENTS = {"STX": b"\x02", "ETX": b"\x03", "FS": b"\x1c", "GS": b"\x1d", "S
                 "FF": b"\xff"}
 HEADER = 75             # bytes of a batch header
 TRAILER = 56            # bytes of a batch trailer with a message of 35
-BOOKS, BATCH = 4, 5     # the faults of a run, as docs/CALLS.md numbers them
+BOOKS, BATCH = 4, 5     # the faults of a run, as docs/CLI.md numbers them
 BOOKS_TOO_MUCH = 6
 NO_HEADER, UNCLOSED, NO_TRAILER, BATCH_TOO_MUCH = 2, 4, 8, 12
 

@@ -77,7 +77,7 @@ def inputs_of(rng):
     options = SimpleNamespace(seed=rng.random(), records=rng.choice((0, 1, 2, 3, 5, 10, 30)),
                               families=rng.choice((1, 2, 3, 8)), members=rng.choice((1, 3)), providers=2,
                               claims=rng.choice((0, 1, 10)), drugs=3, transactions=rng.choice((1, 4)),
-                              reversals=rng.choice((0, 30)), hot=0)
+                              reversals=rng.choice((0, 30)), hot=0, billed=0, billed_claims=None, again=0)
     job = make_job.Job(options)
     first, *details, last = [text.encode("ascii") for text in make_job.batch_records(job)]
     sent = transmissions(rng, job, [detail[FRONT:-1] for detail in details])

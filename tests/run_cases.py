@@ -3,7 +3,7 @@
 
     tests/run_cases.py PROGRAM [--cases DIR] [--plan] [--only WORD] [--jobs J] [--seconds S]
 
-PROGRAM is a path or a command line. The cases are the folders below DIR (tests/cases beside this file); docs/CASES.md
+PROGRAM is a path or a command line. The cases are the folders below DIR (tests/cases beside this file); tests/cases/README.md
 names their files. Each case is copied to a temporary folder and run there: `run` with workers 1, 2 and 64 and with the
 number that the case names, each also with `--plain`; then `show` and `sample` where the case has their texts, and
 with `--plan` also `plan`. Compared are the exit status, standard output, standard error and the output files, and the

@@ -8,7 +8,7 @@ tests/cases, tests/explain/cases or examples: what `--json` is to say of each tr
 code in common with this one. Each transaction is asked for by its place, in words and as JSON, with the job's response
 file; then each authorization number and each prescription reference number is looked for. Response files with another
 byte and with a record less, what isn't there, damaged inputs and files that can't be read are tried; and each command
-that examples/first_job/README.md shows has to print what is shown.
+of examples/first_job/expected/explain has to print what stands below it.
 
 What differs has a line. The last line is `N passed, M failed`; the exit status is 0 where M is 0, else 1.
 """
@@ -192,11 +192,11 @@ def try_damage(explain):
 
 
 def try_shown(explain):
-    """Each command of the first job's page prints what stands below it."""
-    with open(os.path.join(FIRST_JOB, "README.md"), encoding="utf-8") as file:
-        blocks = re.findall(r"^```\n\$ rxbatch explain (.*?)\n(.*?)^```$", file.read(), re.M | re.S)
-    explain.expect(len(blocks) >= 10, f"{len(blocks)} commands in examples/first_job/README.md")
-    for words, shown in blocks:
+    """Each command of the first job's explanations prints what stands below it."""
+    with open(os.path.join(FIRST_JOB, "expected", "explain"), encoding="utf-8") as file:
+        kept = re.findall(r"^\$ rxbatch explain (.*)\n((?:(?!\$ ).*\n)*)", file.read(), re.M)
+    explain.expect(len(kept) >= 20, f"{len(kept)} commands in examples/first_job/expected/explain")
+    for words, shown in kept:
         ended = subprocess.run(explain.program + ["explain"] + shlex.split(words), cwd=FIRST_JOB, stdin=subprocess.DEVNULL,
                                capture_output=True, timeout=explain.seconds)
         explain.expect(ended.stdout.decode("ascii") == shown, f"{words}: {ended.stdout.decode('ascii')!r}")

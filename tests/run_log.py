@@ -1,7 +1,7 @@
 #!/usr/bin/env python3
 """Runs a program with rxbatch's words by `run --log`, reads the logs by a JSON reader, and compares what they tell with the
 files and with the answers; and compares the kit of `--version` with what `rt version` prints and
-the version with CHANGELOG.md's latest (docs/PRODUCT.md, "Log").
+the version with CHANGELOG.md's latest (docs/CLI.md, "Log").
 
     run_log.py PROGRAM
 """
@@ -17,7 +17,7 @@ import tempfile
 ROOT = pathlib.Path(__file__).resolve().parent.parent
 CASES = ROOT / "tests" / "cases"
 # The latest version of the changelog.
-CHANGES = re.compile(r"^## ([^ ,\n]+)", re.M)
+CHANGES = re.compile(r"^## v([^ ,\n]+)", re.M)
 # The letter of a kit's edition, which the program doesn't tell.
 EDITION = re.compile(r"^(rattle-kit-[0-9]+)[a-z]+")
 INPUTS = {"sheet": "sheet.toml", "books": "books.txt", "batch": "batch.bin"}

@@ -1,7 +1,7 @@
 #!/usr/bin/env python3
 """Runs a program with rxbatch's words where two of the six paths of `run` lead to one file: it has to end with 2 and a
 line that names both options (none for one text twice), write nothing to either output, make no file, and leave the
-files as they were (docs/PRODUCT.md, "The program").
+files as they were (docs/CLI.md, "Files").
 
     run_paths.py PROGRAM
 """

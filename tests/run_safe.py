@@ -1,7 +1,7 @@
 #!/usr/bin/env python3
 """Runs a program with rxbatch's words by `run --safe`, and looks at what is left: a refused run and one that can't be
 written leave the earlier outputs as they were and nothing beside them; a run that is done leaves the three outputs
-whole, with the rights that they had (docs/PRODUCT.md, "The program").
+whole, with the rights that they had (docs/CLI.md, "Safe runs").
 
     run_safe.py PROGRAM [--kills] [--disk] [--memory]
 

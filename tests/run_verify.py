@@ -4,7 +4,7 @@
     tests/run_verify.py PROGRAM [--cases DIR] [--only WORD] [--changes N] [--all-bytes WORD] [--brief] [--seed S]
         [--jobs J] [--seconds S]
 
-PROGRAM is a path or a command line. The cases are the folders below DIR (tests/cases beside this file); docs/CASES.md
+PROGRAM is a path or a command line. The cases are the folders below DIR (tests/cases beside this file); tests/cases/README.md
 names their files. A case whose run is done (status 0) has to be found the same with one worker, with 2 and 64, and
 with `--plain`; then its files are changed: N times one byte anywhere in each file, and each file cut, emptied and made
 longer, and all three at once. Each change has to be told, with status 5, by the line that this script makes of the

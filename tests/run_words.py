@@ -1,6 +1,6 @@
 #!/usr/bin/env python3
 """Runs a program with words that rxbatch doesn't understand: it has to end with 2, write nothing to standard output, and tell
-what is wrong on standard error, as `clap` words it (docs/PRODUCT.md, "Words").
+what is wrong on standard error, as `clap` words it (docs/CLI.md, "Exit statuses").
 
     run_words.py PROGRAM
 """

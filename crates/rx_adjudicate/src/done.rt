@@ -11,7 +11,7 @@ use std::alloc::Global;
 use std::marker::Model;
 
 /// An order that was adjudicated: the order as it was, the parcel after it, and the reply to it. These are what the
-/// rules make of the order (docs/MODEL.md, "Record and fold").
+/// rules make of the order (docs/GUARANTEES.md, "Record and fold").
 #[derive(Debug, Drop)]
 pub struct Done {
     order: Order,

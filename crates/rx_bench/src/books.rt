@@ -1,5 +1,5 @@
 //! Books: the lists of their lines and the books read on one thread and in parts, copied to the same period and to another,
-//! and written on one thread and in parts; and beside them a plain count of the lines.
+//! and written on one thread, in parts, and over the text that was read; and beside them a plain count of the lines.
 
 use crate::inputs::Inputs;
 use crate::timing::{Watch, length, one_if};
@@ -25,6 +25,7 @@ pub fn round<R: Clock + Threads + Sync>(watch: &mut Watch<R>, inputs: &Inputs) -
     copies(watch, &books);
     written(watch, &books);
     drop(books);
+    kept(watch, text);
     Some(())
 }
 
@@ -62,6 +63,20 @@ fn written<R: Clock + Threads + Sync>(watch: &mut Watch<R>, books: &Books) {
     watch.begin();
     let text = books.write(watch.alloc);
     watch.lap("bytes written", length(&text));
-    let pieces = books.write_pieces(watch.rt, watch.alloc, PARTS, Vec::new(watch.alloc));
+    let pieces = books.write_pieces(watch.rt, watch.alloc, PARTS);
     watch.lap("times written in 4 parts", one_if(pieces.ok()));
+}
+
+// Reads the books with their text, in parts, and writes them over it.
+fn kept<R: Clock + Threads + Sync>(watch: &mut Watch<R>, text: &[u8]) {
+    let Ok(own) = Vec::from_slice(watch.alloc, text) else {
+        return;
+    };
+    watch.begin();
+    if let Ok(books) = Books::read_kept(watch.rt, watch.alloc, PARTS, own) {
+        watch.lap("books read with their text", 1);
+        let pieces = books.write_pieces(watch.rt, watch.alloc, 1);
+        watch.lap("times written over their text", one_if(pieces.ok()));
+        drop(books);
+    }
 }

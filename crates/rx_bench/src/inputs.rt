@@ -60,7 +60,7 @@ impl Inputs {
         })
     }
 
-    /// One-billing (docs/CASES.md), with one member and one drug.
+    /// One-billing (tests/cases/README.md), with one member and one drug.
     pub fn of_one_billing(alloc: Global) -> io::Result<Inputs> {
         Ok(Inputs {
             sheet: SHEET.to_vec(alloc)?,

@@ -1,8 +1,9 @@
 //! Times single calls, a module for each: `rx_bench NAME [FOLDER [MICROS]]`, on the inputs of a folder as
-//! `bench/make_job.py` writes them, or on one-billing (docs/CASES.md); `bench/README.md` has the figures. Two further names are
-//! trials, which tests start and `tests/README.md` tells of: `rx_bench orders [COUNT]` drives desks in orders drawn at random,
-//! and `rx_bench held PLACE run ..` is `rxbatch run` at a gate that holds records up. Without a word each call is timed in a
-//! short round on one-billing, which says what it found, and the orders are driven.
+//! `bench/make_job.py` writes them, or on one-billing (tests/cases/README.md); `bench/README.md` has the figures. Two
+//! further names are trials, which tests start and `tests/README.md` tells of: `rx_bench orders [COUNT]` drives desks
+//! in orders drawn at random, and `rx_bench held PLACE run ..` is `rxbatch run` at a gate that holds records up.
+//! Without a word each call is timed in a short round on one-billing, which says what it found, and the orders are
+//! driven.
 #![tactic(auto)]
 
 mod adjudicate;

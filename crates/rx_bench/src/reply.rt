@@ -1,4 +1,4 @@
-//! The writing and the reading of one-billing's reply (docs/CASES.md), over and over on one thread.
+//! The writing and the reading of one-billing's reply (tests/cases/README.md), over and over on one thread.
 
 use crate::inputs::REPLY;
 use crate::timing::{Watch, found_in, length, one_if};

@@ -1,4 +1,4 @@
--- Meaning: the ledger that a shelf's books make together, where they agree (docs/MODEL.md, "Book values").
+-- Meaning: the ledger that a shelf's books make together, where they agree (docs/GUARANTEES.md, "Book values").
 use Rattle.std.specs.Prelude.{Bool, false, not, List, ◌∷◌, Option, Some, None, filter, map}
 use Rattle.rx_fields.specs.Order.{id_cmp, key_cmp}
 use Rattle.rx_sorted.specs.Ascending.{contains_key, item_at}

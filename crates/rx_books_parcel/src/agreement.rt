@@ -11,7 +11,7 @@ use rx_ledger::Row;
 
 impl Parcel {
     /// Whether its books agree: no two different rows have one fill key, and a row stands in each book held that it is
-    /// of (docs/MODEL.md, "Book values").
+    /// of (docs/GUARANTEES.md, "Book values").
     pub fn agrees(&self) -> bool
         ensures { IsTrue result ↔ Agrees self.now }
     {

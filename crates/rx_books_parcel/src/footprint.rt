@@ -9,7 +9,7 @@ use rx_sorted::Few;
 use std::alloc::Global;
 use std::marker::Model;
 
-/// The books that a record names: fill keys and families, each in order without repeats (docs/PRODUCT.md, "Words").
+/// The books that a record names: fill keys and families, each in order without repeats (docs/RULES.md, "Words").
 #[derive(Debug, Drop)]
 pub struct Footprint {
     keys: Few<Key>,

@@ -20,7 +20,7 @@ use std::alloc::Global;
 use std::marker::Model;
 
 /// The books that a footprint names, moved out of the ledger: of each fill key the row under it or none, of each family
-/// its book with the totals of one period (docs/PRODUCT.md, "Words").
+/// its book with the totals of one period (docs/RULES.md, "Words").
 #[derive(Debug, Drop)]
 pub struct Parcel {
     period: Period,

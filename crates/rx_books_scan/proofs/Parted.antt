@@ -21,7 +21,7 @@ or_cases false b e = inr e
 nil_of : {A : Type 0} (xs : List A) → is_none xs ≡ true → xs ≡ []
 nil_of xs e = nil_from_length xs (eqb-true (length xs) 0 e)
 
-member_lines-append : (ms ns : List Member) (ds es : List ℕ) → length ds ≡ length ms
+pub member_lines-append : (ms ns : List Member) (ds es : List ℕ) → length ds ≡ length ms
     → member_lines (ms ++ ns) (ds ++ es) ≡ member_lines ms ds ++ member_lines ns es
 member_lines-append [] ns [] es same = refl
 member_lines-append [] ns (d ∷ ds) es same = absurd (omega arith)

@@ -1,5 +1,5 @@
 -- Plumbing: the lists that a books text prints, before anything is looked up in them (docs/FORMATS.md, "Books file").
-use Rattle.std.specs.Prelude.{◌≡◌, ℕ, ◌≤◌, List, ◌++◌, length, map, All}
+use Rattle.std.specs.Prelude.{◌≡◌, ℕ, ◌+◌, ◌≤◌, List, ◌++◌, length, map, All}
 use Rattle.std.specs.List.{flat_map}
 use Rattle.rx_sorted.specs.Ascending.{IsAscending}
 use Rattle.rx_fields.specs.Order.{id_cmp, key_cmp}
@@ -13,12 +13,19 @@ use Rattle.rx_books_text.specs.declared.line.Line.TheVariants as line
 use Rattle.rx_books_text.specs.declared.line.TotalLine.{TotalLine}
 use Rattle.rx_books_text.specs.declared.version.Version.{Version}
 use Rattle.rx_books_text.specs.LineFits.{IsPeriod, IsLine}
-use Rattle.rx_books_text.specs.LineText.{line_text, ended}
+use Rattle.rx_books_text.specs.LineText.{line_text, ended, head_text}
 use Rattle.rx_books_text.specs.Printed.{PrintedParts, line_feeds, lines_of, member_lines, printed_text, total_family}
 
 -- the text of lines, each with its line feed
 abbrev pub lines_text : Version → List Line → List ℕ
 lines_text v ls = flat_map (λ l. ended (line_text v l)) ls
+
+-- how many bytes a claim's line has, with the line feed
+abbrev pub claim_length : Version → Row → ℕ
+claim_length v r = length (ended (line_text v (line.Claim r)))
+
+abbrev pub claim_lengths : Version → List Row → List ℕ
+claim_lengths v rows = map (claim_length v) rows
 
 -- the bytes begin with these lines, which the version can print, and go on with the rest
 pub record BeginWith (v : Version) (bytes : List ℕ) (ls : List Line) (rest : List ℕ) : Type 0 where
@@ -47,3 +54,9 @@ pub record AreLists (text : List ℕ) (p : PrintedParts) : Type 0 where
   pub totals_rise : IsAscending id_cmp total_family p.totals
   pub lines : All (IsLine p.head.version) (lines_of p)
   pub few : line_feeds text ≤ MOST_LINES
+
+-- so many bytes stand above the first claim line, those of the head line and of the member lines, and each claim line has so many
+pub record AreMeasured (p : PrintedParts) (above : ℕ) (lengths : List ℕ) : Type 0 where
+  pub begin : above ≡ length (ended (head_text p.head))
+      + length (lines_text p.head.version (member_lines p.ledger.members p.deductibles))
+  pub each : lengths ≡ claim_lengths p.head.version p.ledger.rows

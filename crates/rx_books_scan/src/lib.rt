@@ -1,7 +1,7 @@
 //! The lists that a books text prints, read quickly: no member is looked up, and no fault is named.
 //!
 //! In comes a text of version 1, 2 or 3; out come the head, the members with their deductibles, the claims and the
-//! totals, in order, as `specs/Lists.antt` has them, or nothing.
+//! totals, in order, as `specs/Lists.antt` has them, and how many bytes each claim's line has, or nothing.
 //!
 //! ```rust
 //! let lists = rx_books_scan::read_lists(alloc, bytes);
@@ -11,6 +11,7 @@
 //! a claim's member is listed is left to the caller too.
 #![tactic(auto)]
 
+mod claims;
 mod cut;
 mod field;
 mod lanes;

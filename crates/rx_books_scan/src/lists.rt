@@ -13,12 +13,19 @@ pub struct Lists {
     pub deductibles: Vec<u128>,
     /// The claims.
     pub rows: Runs<Row>,
+    /// How many bytes stand above the first claim line: those of the head and of the member lines.
+    pub above: usize,
+    /// For each claim how many bytes its line has, with the line feed.
+    pub lengths: Vec<u8>,
     /// The totals.
     pub totals: Ascending<TotalLine>,
 }
 
-ghost use Rattle.std.specs.Prelude.{IfSome};
-ghost use Rattle.rx_books_scan.specs.Parts.{IsMadeOf};
+ghost use Rattle.std.specs.Prelude.{◌≡◌, IfSome, length};
+ghost use Rattle.std.specs.List.{All};
+ghost use Rattle.rx_books_text.specs.LineText.{ended, head_text};
+ghost use Rattle.rx_books_scan.specs.Lists.{AreMeasured};
+ghost use Rattle.rx_books_scan.specs.Parts.{IsMadeOf, IsPartMeasured, printed_lists};
 
 use crate::members::Members;
 use crate::part::Part;
@@ -26,20 +33,31 @@ use crate::whole::{Whole, join_parts};
 use rx_fields::MOST_LINES;
 use std::alloc::Global;
 
-/// The lists of the parts of a text, under its head; None where they don't ascend, or are no lines in order, or are too
-/// many, or for want of memory.
-pub(crate) fn lists_of(alloc: Global, head: Head, parts: Vec<Part>) -> Option<Lists>
-    ensures { IfSome result (IsMadeOf head parts.items) }
+/// The lists of the parts of a text, under its head, whose line has so many bytes; None where they don't ascend, or are no
+/// lines in order, or are too many, or for want of memory.
+pub(crate) fn lists_of(
+    alloc: Global,
+    head: Head,
+    head_bytes: usize,
+    parts: Vec<Part>,
+) -> Option<Lists>
+    requires head { head_bytes ≡ length (ended (head_text head)) }
+    requires parts { All (IsPartMeasured head.version) parts.items }
+    ensures made { IfSome result (IsMadeOf head parts.items) }
+    ensures measured { IfSome result (λ lists. AreMeasured (printed_lists lists) lists.above lists.lengths.items) }
 {
     let Whole {
         members,
         runs,
+        lengths,
         totals,
     } = join_parts(alloc, parts)?;
     let Members {
         members,
         deductibles,
+        bytes,
     } = members;
+    let above = head_bytes.checked_add(bytes)?;
     let Ok(members) = Ascending::from_vec(members) else {
         return None;
     };
@@ -58,6 +76,8 @@ pub(crate) fn lists_of(alloc: Global, head: Head, parts: Vec<Part>) -> Option<Li
         members,
         deductibles,
         rows,
+        above,
+        lengths,
         totals,
     })
 }

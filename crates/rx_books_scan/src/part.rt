@@ -1,3 +1,4 @@
+use crate::claims::Claims;
 use crate::members::Members;
 use crate::run::{claims_at, members_at, totals_at};
 use rx_books_text::{TotalLine, Version};
@@ -9,21 +10,22 @@ use std::alloc::Global;
 pub(crate) struct Part {
     pub(crate) members: Members,
     pub(crate) rows: Vec<Row>,
+    // For each row how many bytes its line has, with the line feed.
+    pub(crate) lengths: Vec<u8>,
     pub(crate) totals: Vec<TotalLine>,
 }
 
-ghost use Rattle.std.specs.Prelude.{[], IfSome};
-ghost use Rattle.rx_books_scan.specs.Lists.{BeginWith};
-ghost use Rattle.rx_books_scan.specs.Parts.{part_lines};
+ghost use Rattle.std.specs.Prelude.{IfSome};
+ghost use Rattle.rx_books_scan.specs.Parts.{IsPart};
 
 /// What a part of the lines prints; None where it is none, or for want of memory.
 pub(crate) fn read_part(alloc: Global, version: Version, text: &[u8]) -> Option<Part>
-    ensures { IfSome result (λ part. BeginWith version text.now (part_lines part) []) }
+    ensures { IfSome result (IsPart version text.now) }
 {
     let Some((members, rest)) = members_at(alloc, version, text) else {
         return None;
     };
-    let Some((rows, rest)) = claims_at(alloc, version, rest) else {
+    let Some((claims, rest)) = claims_at(alloc, version, rest) else {
         return None;
     };
     let Some((totals, rest)) = totals_at(alloc, version, rest) else {
@@ -32,9 +34,11 @@ pub(crate) fn read_part(alloc: Global, version: Version, text: &[u8]) -> Option<
     if !rest.is_empty() {
         return None;
     }
+    let Claims { rows, lengths } = claims;
     Some(Part {
         members,
         rows,
+        lengths,
         totals,
     })
 }

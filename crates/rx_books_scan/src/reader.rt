@@ -1,9 +1,9 @@
-ghost use Rattle.std.specs.Prelude.{◌≡◌, ◌++◌, [], IfOk, IfSome};
+ghost use Rattle.std.specs.Prelude.{◌≡◌, ◌++◌, IfOk, IfSome};
 ghost use Rattle.std.specs.List.{AllZip};
 ghost use Rattle.rx_books_text.specs.LineFits.{IsPeriod};
 ghost use Rattle.rx_books_text.specs.LineText.{ended, head_text};
-ghost use Rattle.rx_books_scan.specs.Lists.{AreLists, BeginWith};
-ghost use Rattle.rx_books_scan.specs.Parts.{part_lines, printed_lists};
+ghost use Rattle.rx_books_scan.specs.Lists.{AreLists, AreMeasured};
+ghost use Rattle.rx_books_scan.specs.Parts.{IsPart, printed_lists};
 
 use crate::cut::{first_line, pieces, places};
 use crate::lists::{Lists, lists_of};
@@ -16,7 +16,8 @@ use std::thread::Threads;
 /// The lists that a books text prints (docs/FORMATS.md, "Books file"), read on the calling thread. None says nothing:
 /// memory was wanting, or it is no text of a books file.
 pub fn read_lists(alloc: Global, text: &[u8]) -> Option<Lists>
-    ensures { IfSome result (λ lists. AreLists text.now (printed_lists lists)) }
+    ensures lists { IfSome result (λ lists. AreLists text.now (printed_lists lists)) }
+    ensures measured { IfSome result (λ lists. AreMeasured (printed_lists lists) lists.above lists.lengths.items) }
 {
     let Some((head, lines)) = head_at(text) else {
         return None;
@@ -26,7 +27,7 @@ pub fn read_lists(alloc: Global, text: &[u8]) -> Option<Lists>
     let Ok(()) = parts.push(part) else {
         return None;
     };
-    lists_of(alloc, head, parts)
+    lists_of(alloc, head, text.len() - lines.len(), parts)
 }
 
 /// The same, where the lines behind the head line are cut into so many parts, and each is read by a thread of its own;
@@ -37,7 +38,8 @@ pub fn read_lists_in_parts<R: Threads + Sync>(
     parts: usize,
     text: &[u8],
 ) -> Option<Lists>
-    ensures { IfSome result (λ lists. AreLists text.now (printed_lists lists)) }
+    ensures lists { IfSome result (λ lists. AreLists text.now (printed_lists lists)) }
+    ensures measured { IfSome result (λ lists. AreMeasured (printed_lists lists) lists.above lists.lengths.items) }
 {
     if parts < 2 {
         return read_lists(alloc, text);
@@ -53,14 +55,15 @@ fn read_lists_cut<R: Threads + Sync>(
     places: &[usize],
     text: &[u8],
 ) -> Option<Lists>
-    ensures { IfSome result (λ lists. AreLists text.now (printed_lists lists)) }
+    ensures lists { IfSome result (λ lists. AreLists text.now (printed_lists lists)) }
+    ensures measured { IfSome result (λ lists. AreMeasured (printed_lists lists) lists.above lists.lengths.items) }
 {
     let Some((head, lines)) = head_at(text) else {
         return None;
     };
     let pieces = pieces(alloc, lines, places)?;
     let parts = read_parts(rt, alloc, head.version, &pieces)?;
-    lists_of(alloc, head, parts)
+    lists_of(alloc, head, text.len() - lines.len(), parts)
 }
 
 // The head, and what follows its line feed.
@@ -83,15 +86,14 @@ fn read_parts<R: Threads + Sync>(
     version: Version,
     pieces: &[&[u8]],
 ) -> Option<Vec<Part>>
-    ensures { IfSome result (λ parts.
-        AllZip (λ piece part. BeginWith version piece.now (part_lines part) []) pieces.now parts.items) }
+    ensures { IfSome result (λ parts. AllZip (λ piece part. IsPart version piece.now part) pieces.now parts.items) }
 {
     let Ok(read) = pieces
         .par_iter()
         .with_min_len(1)
         .map(
             move |piece: &&[u8]| -> Result<Part, Unread>
-                ensures { IfOk result (λ part. BeginWith version piece.now.now (part_lines part) []) }
+                ensures { IfOk result (IsPart version piece.now.now) }
             { read_part(alloc, version, piece).ok_or(Unread) },
         )
         .collect::<Result<Vec<Part>, Unread>>(rt, alloc)

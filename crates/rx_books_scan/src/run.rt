@@ -1,7 +1,8 @@
-ghost use Rattle.std.specs.Prelude.{IfSome};
-ghost use Rattle.rx_books_scan.specs.Lists.{BeginWith, claim_lines, total_lines};
+ghost use Rattle.std.specs.Prelude.{◌≡◌, ◌-◌, ◌≤◌, IfSome, length};
+ghost use Rattle.rx_books_scan.specs.Lists.{BeginWith, claim_lengths, claim_lines, lines_text, total_lines};
 ghost use Rattle.rx_books_text.specs.Printed.{member_lines};
 
+use crate::claims::Claims;
 use crate::line::line_at;
 use crate::members::Members;
 use rx_books_text::{MemberLine, TotalLine, Version};
@@ -13,8 +14,10 @@ const LEAST_CLAIM: usize = 59;
 
 /// The members whose lines the bytes begin with, and what follows. None for want of memory.
 pub(crate) fn members_at(alloc: Global, version: Version, bytes: &[u8]) -> Option<(Members, &[u8])>
-    ensures { IfSome result (λ x. BeginWith version bytes.now
+    ensures lines { IfSome result (λ x. BeginWith version bytes.now
         (member_lines x.0.members.items x.0.deductibles.items) x.1.now) }
+    ensures bytes { IfSome result (λ x.
+        x.0.bytes ≡ length (lines_text version (member_lines x.0.members.items x.0.deductibles.items))) }
 {
     let mut members = Vec::new(alloc);
     let mut deductibles = Vec::new(alloc);
@@ -31,23 +34,40 @@ pub(crate) fn members_at(alloc: Global, version: Version, bytes: &[u8]) -> Optio
     let members = Members {
         members,
         deductibles,
+        bytes: bytes.len() - rest.len(),
     };
     Some((members, rest))
 }
 
-/// The claims whose lines the bytes begin with, and what follows. None for want of memory.
-pub(crate) fn claims_at(alloc: Global, version: Version, bytes: &[u8]) -> Option<(Vec<Row>, &[u8])>
-    ensures { IfSome result (λ x. BeginWith version bytes.now (claim_lines x.0.items) x.1.now) }
+/// The claims whose lines the bytes begin with, and what follows. None where a line has more bytes than are kept, or for
+/// want of memory.
+pub(crate) fn claims_at(alloc: Global, version: Version, bytes: &[u8]) -> Option<(Claims, &[u8])>
+    ensures lines { IfSome result (λ x. BeginWith version bytes.now (claim_lines x.0.rows.items) x.1.now) }
+    ensures lengths { IfSome result (λ x. x.0.lengths.items ≡ claim_lengths version x.0.rows.items) }
 {
-    let mut rows = Vec::with_capacity(alloc, bytes.len() / LEAST_CLAIM).ok()?;
+    let most = bytes.len() / LEAST_CLAIM;
+    let mut rows = Vec::with_capacity(alloc, most).ok()?;
+    let mut lengths = Vec::with_capacity(alloc, most).ok()?;
     let mut rest = bytes;
     while let Some((row, behind)) = line_at::<Row>(version, rest) {
+        let length = length_before(rest, behind)?;
         let Ok(()) = rows.push(row) else {
+            return None;
+        };
+        let Ok(()) = lengths.push(length) else {
             return None;
         };
         rest = behind;
     }
-    Some((rows, rest))
+    Some((Claims { rows, lengths }, rest))
+}
+
+// How many bytes stand before those that are left; None where they are too many to be kept.
+fn length_before(bytes: &[u8], rest: &[u8]) -> Option<u8>
+    requires { length rest.now ≤ length bytes.now }
+    ensures { IfSome result (λ n. n ≡ length bytes.now - length rest.now) }
+{
+    u8::try_from(bytes.len() - rest.len()).ok()
 }
 
 /// The totals whose lines the bytes begin with, and what follows. None for want of memory.

@@ -9,25 +9,31 @@ use std::alloc::Global;
 pub(crate) struct Whole {
     pub(crate) members: Members,
     pub(crate) runs: Vec<Vec<Row>>,
+    // For each claim how many bytes its line has, with the line feed.
+    pub(crate) lengths: Vec<u8>,
     pub(crate) totals: Vec<TotalLine>,
 }
 
-ghost use Rattle.std.specs.Prelude.{◌≡◌, ◌++◌, [], IfSome};
-ghost use Rattle.std.specs.List.{flat_map};
+ghost use Rattle.std.specs.Prelude.{◌≡◌, ◌+◌, ◌++◌, [], IfSome};
+ghost use Rattle.std.specs.List.{All, flat_map};
 ghost use Rattle.std.specs.Vec.{vec_items};
-ghost use Rattle.rx_books_scan.specs.Parts.{whole_lines, may_follow, part_lines};
+ghost use Rattle.rx_books_text.specs.declared.version.Version.{Version};
+ghost use Rattle.rx_books_scan.specs.Parts.{IsPartMeasured, IsWholeMeasured, may_follow, part_lines, whole_lines};
 
 /// The parts, put behind one another; None where a kind of line stands before that of a line above, or for want of
 /// memory. Keys aren't compared.
 pub(crate) fn join_parts(alloc: Global, parts: Vec<Part>) -> Option<Whole>
-    ensures { IfSome result (λ whole. whole_lines whole ≡ flat_map part_lines parts.items) }
+    ensures lines { IfSome result (λ whole. whole_lines whole ≡ flat_map part_lines parts.items) }
+    ensures measured { (v : Version) → All (IsPartMeasured v) parts.items → IfSome result (IsWholeMeasured v) }
 {
     let mut whole = Whole {
         members: Members {
             members: Vec::new(alloc),
             deductibles: Vec::new(alloc),
+            bytes: 0,
         },
         runs: Vec::new(alloc),
+        lengths: Vec::new(alloc),
         totals: Vec::new(alloc),
     };
     for part in parts {
@@ -38,7 +44,9 @@ pub(crate) fn join_parts(alloc: Global, parts: Vec<Part>) -> Option<Whole>
 
 // The part behind the others.
 fn followed(whole: Whole, part: Part) -> Option<Whole>
-    ensures { IfSome result (λ all. whole_lines all ≡ whole_lines whole ++ part_lines part) }
+    ensures lines { IfSome result (λ all. whole_lines all ≡ whole_lines whole ++ part_lines part) }
+    ensures measured { (v : Version) → IsWholeMeasured v whole → IsPartMeasured v part
+        → IfSome result (IsWholeMeasured v) }
 {
     if !may_follow(&whole, &part) {
         return None;
@@ -46,19 +54,23 @@ fn followed(whole: Whole, part: Part) -> Option<Whole>
     let Whole {
         members,
         runs,
+        lengths,
         totals,
     } = whole;
     let Part {
         members: more_members,
         rows,
+        lengths: more_lengths,
         totals: more_totals,
     } = part;
     let members = all_members(members, more_members)?;
     let runs = all_runs(runs, rows)?;
+    let lengths = all_items(lengths, more_lengths)?;
     let totals = all_items(totals, more_totals)?;
     Some(Whole {
         members,
         runs,
+        lengths,
         totals,
     })
 }
@@ -75,20 +87,25 @@ fn may_follow(whole: &Whole, part: &Part) -> bool
 fn all_members(first: Members, more: Members) -> Option<Members>
     ensures members { IfSome result (λ all. all.members.items ≡ first.members.items ++ more.members.items) }
     ensures deductibles { IfSome result (λ all. all.deductibles.items ≡ first.deductibles.items ++ more.deductibles.items) }
+    ensures bytes { IfSome result (λ all. all.bytes ≡ first.bytes + more.bytes) }
 {
     let Members {
         members: first_members,
         deductibles: first_deductibles,
+        bytes: first_bytes,
     } = first;
     let Members {
         members: more_members,
         deductibles: more_deductibles,
+        bytes: more_bytes,
     } = more;
     let members = all_items(first_members, more_members)?;
     let deductibles = all_items(first_deductibles, more_deductibles)?;
+    let bytes = first_bytes.checked_add(more_bytes)?;
     Some(Members {
         members,
         deductibles,
+        bytes,
     })
 }
 

@@ -16,7 +16,7 @@ use rx_fields::{Id, Key};
 use rx_ledger::Row;
 
 impl Shelf {
-    /// Whether no book is out, and the values of all books agree (docs/MODEL.md, "Book values").
+    /// Whether no book is out, and the values of all books agree (docs/GUARANTEES.md, "Book values").
     pub fn agrees(&self) -> bool
         ensures { IsTrue result ↔ ((are_all_in self.now ≡ true) × AreAllAgreed (value_of self.now)) }
     {

@@ -1,5 +1,5 @@
 //! The shelf: the books, with a place for each book that a batch names, from which parcels are taken and to which they
-//! are given back (docs/CALLS.md, "Footprint and shelf").
+//! are given back (docs/ARCHITECTURE.md, "Desk and shelf").
 //!
 //! In come the books and the footprints of the records; out come parcels, and at the end the books again.
 //!

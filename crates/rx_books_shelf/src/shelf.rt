@@ -25,8 +25,8 @@ use std::alloc::Global;
 use std::marker::Model;
 
 /// The books of a batch, with a place for each book that it names: parcels are taken from there, and given back
-/// (docs/CALLS.md, "Footprint and shelf"). Contracts see the period, the ledger that the books were opened on, and each
-/// place with what it holds; `value_of` is what a book is worth.
+/// (docs/ARCHITECTURE.md, "Desk and shelf"). Contracts see the period, the ledger that the books were opened on, and
+/// each place with what it holds; `value_of` is what a book is worth.
 #[derive(Debug, Drop)]
 pub struct Shelf {
     // The books that the shelf was made of. They stay as they were.

@@ -1,7 +1,7 @@
 -- Books that were read quickly are those of the text.
 use Rattle.std.proofs.Common.{◌≡◌, ℕ, zero, suc, ◌+◌, Decides, add-one, ◌<◌, ◌≤◌, List, [], ◌∷◌, ◌++◌, length, get_or}
 use Rattle.std.proofs.Common.{take, map, true, Option, Some, None, Ok, refl, sym, subst, ap, ◌∙◌, arith}
-use Rattle.std.specs.Prelude.{IfSome, nat_eq}
+use Rattle.std.specs.Prelude.{nat_eq}
 use Rattle.std.specs.List.{All}
 use Rattle.std.specs.Option.{option_eq}
 use Rattle.std.specs.Cmp.Lexicographic.{bytes_decides}
@@ -21,7 +21,6 @@ use Rattle.rx_books_scan.specs.Lists.{AreLists}
 use Rattle.rx_books_store.specs.declared.opening.FamilyName.{FamilyName}
 use Rattle.rx_books_store.specs.BooksText.{families_of, from_three, total_of}
 use Rattle.rx_books_store.specs.Figures.{books_of, books_of_parts, unless_wrong, unsummed, wrong_line}
-use Rattle.rx_books_store.specs.LedgerBooks.{LedgerBooks}
 use Rattle.rx_books_store.specs.Lists.{AreSummed, totals_in}
 use Rattle.rx_books_store.specs.Opening.{names_of}
 use Rattle.rx_books_store.specs.Store.{AreFigures}
@@ -112,8 +111,3 @@ books-lists text p lists sums =
     let right : wrong_line p ≡ None = subst (λ (q : PrintedParts). wrong_line q ≡ None) (sym sums.sums)
     (parts_right v p.head.period p.ledger (subst IsPrinted sums.sums is)) in
     ap books_of lists.printed ∙ ap (λ r. r >>= books_of_parts) (printed_again p is) ∙ ap (unless_wrong (unsummed p)) right
-
-pub quick-books : (text : List ℕ) (p : PrintedParts) (r : Option LedgerBooks) → AreLists text p
-    → IfSome r (λ b. b ≡ unsummed p) → IfSome r (λ b. AreSummed p) → IfSome r (λ b. books_of text ≡ Ok b)
-quick-books text p None lists books sums = tt
-quick-books text p (Some b) lists books sums = books-lists text p lists sums ∙ ap Ok (sym books)

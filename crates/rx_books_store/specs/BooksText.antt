@@ -1,5 +1,5 @@
 -- Meaning: the text of the books: the one text of a ledger with its sums (docs/FORMATS.md, "Books file").
-use Rattle.std.specs.Prelude.{ℕ, not, List, [], ◌∷◌, Option, Some, None, filter, map}
+use Rattle.std.specs.Prelude.{ℕ, not, List, [], ◌∷◌, ◌++◌, Option, Some, None, filter, map}
 use Rattle.std.specs.List.{flat_map}
 use Rattle.rx_fields.specs.Numbered.{Span}
 use Rattle.rx_ledger.specs.declared.member.Member.{Member}
@@ -12,8 +12,8 @@ use Rattle.rx_books_text.specs.declared.line.Line.TheVariants as line
 use Rattle.rx_books_text.specs.declared.line.TotalLine.{TotalLine}
 use Rattle.rx_books_text.specs.declared.version.Version.{Version}
 use Rattle.rx_books_text.specs.declared.version.Version.TheVariants.{One, Two, Three}
-use Rattle.rx_books_text.specs.LineText.{ended, line_text}
-use Rattle.rx_books_text.specs.Printed.{PrintedParts, printed_text}
+use Rattle.rx_books_text.specs.LineText.{ended, head_text, line_text}
+use Rattle.rx_books_text.specs.Printed.{PrintedParts, member_lines, printed_text}
 
 -- the families of these members, each once, in the order in which they come
 abbrev pub families_of : List Member → List (List ℕ)
@@ -62,3 +62,11 @@ lines_text lines = flat_map (λ l. ended (line_text Three l)) lines
 -- the lines of the rows
 abbrev pub claims_text : List Row → List ℕ
 claims_text rows = flat_map (λ r. ended (line_text Three (line.Claim r))) rows
+
+-- the head line and the member lines, and the total lines
+unfoldable pub above_text : Span → Ledger → List ℕ
+above_text period L =
+    ended (head_text (record { version = Three; period = period })) ++ lines_text (member_lines L.members (deductibles_of period L))
+
+unfoldable pub below_text : Span → Ledger → List ℕ
+below_text period L = lines_text (map (λ t. line.Total t) (map (total_of Three period L) (families_of L.members)))

@@ -3,10 +3,13 @@ pub mod BooksFile
 pub mod BooksText
 pub mod Figures
 pub mod Form
+pub mod Kept
 pub mod LedgerBooks
 pub mod Lists
 pub mod OpenBooks
 pub mod Opening
+pub mod Patching
+pub mod Quick
 pub mod Standing
 pub mod Store
 pub mod WholeBooks

@@ -45,7 +45,7 @@ impl AmendedBooks {
 
 impl OpenBooks {
     /// The books, closed, with what these places hold instead of what stood under their fill keys and in the books of
-    /// their families; all values agree (docs/MODEL.md, "Book values"). It takes no memory.
+    /// their families; all values agree (docs/GUARANTEES.md, "Book values"). It takes no memory.
     pub fn close_with(self, keys: Hinted<KeyPlace>, families: Hinted<FamilyPlace>) -> Books
         requires { IsAmended (beside self.books keys families) }
         ensures books { result ≡ amended_books self.books keys families }

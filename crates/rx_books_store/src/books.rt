@@ -9,6 +9,7 @@ ghost use Rattle.rx_books_store.specs.LedgerBooks.{deductible_of_family, deducti
 
 use crate::amended::AmendedBooks;
 use crate::open_books::OpenBooks;
+use crate::reader::Quick;
 use crate::whole::Whole;
 use rx_books_text::{BooksFault, Version, read_printed};
 use rx_fields::{Id, Key, Memory, Period, Person};
@@ -17,7 +18,7 @@ use std::alloc::Global;
 use std::marker::Model;
 
 /// All books: the members and the standing claims, with the deductible of each member and the figures of each family
-/// stored beside them. Contracts see the plain ledger, and the period that the totals are of (docs/PRODUCT.md,
+/// stored beside them. Contracts see the plain ledger, and the period that the totals are of (docs/RULES.md,
 /// "Accumulators").
 #[derive(Debug, Drop)]
 pub struct Books {
@@ -62,7 +63,7 @@ impl Books {
         // The same, computed.
         ensures value { Gives result (books_of text.now) }
     {
-        let quick = Books::read_quickly(alloc, text);
+        let quick = Quick::read(alloc, text);
         Books::or_summed(alloc, text, quick)
     }
 
@@ -109,17 +110,16 @@ impl Books {
         }
     }
 
-    /// The text of the books, in version 3 (docs/FORMATS.md, "Books file").
+    /// The text of the books, in version 3 (docs/FORMATS.md, "Books file"). Lines of claims that stand unchanged are copied
+    /// from the text that they were read from, where the books keep it.
     pub fn write(&self, alloc: Global) -> Result<Vec<u8>, Memory>
         ensures { IfOk result (λ text. text.items ≡ books_text Version.Three self.now.period self.now.ledger) }
     {
         match &self.form {
-            Form::Plain(books) => books.write_over(Vec::new(alloc)),
+            Form::Plain(books) => books.write(alloc),
             Form::Amended(books) => {
                 let books = books.whole();
-                books
-                    .made_plain(alloc, books.period())?
-                    .write_over(Vec::new(alloc))
+                books.made_plain(alloc, books.period())?.write(alloc)
             }
         }
     }

@@ -1,5 +1,5 @@
 //! Books that keep their totals: a ledger, with the deductible of each member and the figures of each family stored
-//! beside the rows that they are the sums of (docs/PRODUCT.md, "Accumulators").
+//! beside the rows that they are the sums of (docs/RULES.md, "Accumulators").
 //!
 //! In comes the text of a books file, or a plain `Ledger` with the period that the totals are of; out come the row
 //! under a fill key and the totals of a member and a family, by look-ups that walk no rows, the plain ledger again, and
@@ -16,11 +16,14 @@
 //! these, its own places stand instead (`specs/WholeBooks.antt`).
 //!
 //! - `books`: `Books`, in one of two forms; `open_books`: `OpenBooks`, with the members, families and slots at their places
-//! - `plain`: books of the first form made of a ledger, copied, compared and written; `figures`, `amounts`, `sums`: their totals
-//! - `opening`: the lists that books were made from; `holders`, `hints`, `search`: where members and rows are in them
+//! - `plain`: books of the first form made of a ledger, copied and compared; `figures`, `amounts`, `sums`: their totals
+//! - `opening`: the lists that books were made from, and `kept`: the text that they were read from
+//! - `holders`, `hints`, `search`: where members and rows are in these lists
 //! - `slot`, `slots`: what stands under a fill key of the batch; `standing`: a pass over the rows that stand
+//! - `taking`: what stands under fill keys in other open books, taken over
 //! - `amended`, `whole`, `amended_lists`, `comparison`: books of the second form; `lent`: either form, opened for reading
-//! - `reader`, `writer`, `parts`: the text, on one thread and in parts; `law`: that it has one reading
+//! - `reader`, `writing`, `writer`, `patching`, `parts`: the text, on one thread and in parts
+//! - `law`: that a text has one reading, and that members and rows tell a ledger
 //!
 //! What a books file is, and which fault a text has that is none, stands in `specs/BooksFile.antt`; what a total is in
 //! `rx_ledger`'s `specs/Sums.antt`, what a line is in `rx_books_text`'s `specs/`. Which claims are added and taken out
@@ -35,11 +38,13 @@ mod comparison;
 mod figures;
 mod hints;
 mod holders;
+mod kept;
 mod law;
 mod lent;
 mod open_books;
 mod opening;
 mod parts;
+mod patching;
 mod plain;
 mod reader;
 mod search;
@@ -47,11 +52,13 @@ mod slot;
 mod slots;
 mod standing;
 mod sums;
+mod taking;
 mod whole;
 mod writer;
+mod writing;
 
 pub use books::Books;
-pub use law::one_reading;
+pub use law::{one_reading, told_by_rows};
 pub use lent::Lent;
 pub use open_books::OpenBooks;
 pub use standing::Standing;

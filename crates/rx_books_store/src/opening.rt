@@ -5,12 +5,15 @@ ghost use Rattle.rx_sorted.specs.Ascending.{IsAscending, IsAt, is_past};
 ghost use Rattle.rx_ledger.specs.Ledger.{IsLedger, is_listed, is_whole};
 ghost use Rattle.rx_ledger.specs.Members.{member_cmp, member_key};
 ghost use Rattle.rx_ledger.specs.Rows.{member_of_row};
+ghost use Rattle.std.specs.Arc.{arc_value};
 ghost use Rattle.rx_books_store.specs.BooksText.{families_of};
+ghost use Rattle.rx_books_store.specs.Kept.{IsKept};
 ghost use Rattle.rx_books_store.specs.LedgerBooks.{has_members};
 ghost use Rattle.rx_books_store.specs.Opening.{name_of, names_of};
 ghost use Rattle.rx_books_store.specs.Store.{AreHolders, AreHomes};
 
 use crate::hints::Places;
+use crate::kept::Kept;
 use rx_fields::{Id, Memory};
 use rx_ledger::{Member, MemberKey, Row};
 use rx_sorted::{Ascending, Keyed, Runs};
@@ -62,6 +65,8 @@ impl Model for Lists {
 #[derive(Debug, Drop)]
 pub(crate) struct Opening {
     lists: Arc<Lists, Global>,
+    // The text that they were read from, where it is one of version 3 and was given to be kept.
+    kept: Option<Arc<Kept, Global>>,
 }
 
 impl Model for Opening {
@@ -70,7 +75,12 @@ impl Model for Opening {
 
     ghost Value = { Ledger };
 
+    ghost use Rattle.std.specs.Prelude.{IfSome};
+    ghost use Rattle.rx_books_store.specs.Kept.{IsKept};
+
     ghost view = { λ o. arc_value o.lists };
+
+    ghost invariant = { λ o. IfSome o.kept (λ kept. IsKept (arc_value kept) (arc_value o.lists).rows) };
 }
 
 impl Opening {
@@ -89,7 +99,7 @@ impl Opening {
     {
         let lists = Lists::of(alloc, members, rows, holders, places)?;
         let lists = Arc::new(alloc, lists)?;
-        Ok(Opening { lists })
+        Ok(Opening { lists, kept: None })
     }
 
     /// The same lists, shared.
@@ -97,7 +107,36 @@ impl Opening {
         ensures { IfOk result (λ opening. opening ≡ self.now) }
     {
         let lists = Arc::try_clone(&self.lists)?;
-        Ok(Opening { lists })
+        let kept = match &self.kept {
+            Some(kept) => Some(Arc::try_clone(kept)?),
+            None => None,
+        };
+        Ok(Opening { lists, kept })
+    }
+
+    /// The same lists, with the text that they were read from.
+    pub(crate) fn keeping(self, kept: Arc<Kept, Global>) -> Opening
+        requires { IsKept (arc_value kept) self.rows }
+        ensures { result ≡ self }
+    {
+        let Opening { lists, kept: _ } = self;
+        Opening {
+            lists,
+            kept: Some(kept),
+        }
+    }
+
+    /// The text that they were read from, where it is kept.
+    pub(crate) fn kept(&self) -> Option<&Kept>
+        ensures { IfSome result (λ kept. IsKept kept.now self.now.rows) }
+    {
+        match &self.kept {
+            Some(kept) => {
+                let kept: &Kept = kept;
+                Some(kept)
+            }
+            None => None,
+        }
     }
 
     /// The members, in order.

@@ -1,15 +1,16 @@
 ghost use Rattle.std.specs.Prelude.{◌≡◌, IfOk};
-ghost use Rattle.std.specs.List.{flat_map};
-ghost use Rattle.std.specs.Vec.{vec_items};
+ghost use Rattle.rx_io.specs.Pieces.{text_of};
 ghost use Rattle.rx_books_store.specs.BooksFile.{NamesFirstFault, ReadsAllBooks, ReadsBooksAlone, ReadsWhatIsWritten};
 ghost use Rattle.rx_books_store.specs.BooksText.{books_text};
 ghost use Rattle.rx_books_store.specs.Figures.{books_of};
 ghost use Rattle.rx_books_text.specs.Fault.{Gives};
 
 use crate::books::Books;
-use crate::plain::in_one_piece;
+use crate::reader::Quick;
+use crate::writing::in_one_piece;
 use rx_books_text::{BooksFault, Version};
 use rx_fields::Memory;
+use rx_io::Pieces;
 use std::alloc::Global;
 use std::thread::Threads;
 
@@ -31,30 +32,50 @@ impl Books {
         // The same, computed.
         ensures value { Gives result (books_of text.now) }
     {
-        let quick = Books::read_quickly_in_parts(rt, alloc, parts, text);
+        let quick = Quick::read_in_parts(rt, alloc, parts, text);
         Books::or_summed(alloc, text, quick)
     }
 
-    /// The text of `write` in pieces, one after another, which no copy joins. The claims are written in `parts` parts, each by
-    /// a thread of its own; one part is written on the calling thread, and is one piece. Reuses the memory of `spent`, a text
-    /// that isn't needed any more.
+    /// The same of a text that the books keep, where it is one of version 3: `write_pieces` and `write` take the lines of
+    /// claims that stand unchanged from it.
+    pub fn read_kept<R: Threads + Sync>(
+        rt: &R,
+        alloc: Global,
+        parts: usize,
+        text: Vec<u8>,
+    ) -> Result<Books, BooksFault>
+        ensures ok { ReadsBooksAlone text.items result }
+        // The text of books is read as those books, unless memory was wanting.
+        ensures reads { ReadsAllBooks text.items result }
+        // What was read, written in version 3, is a text of the same books.
+        ensures again { ReadsWhatIsWritten result }
+        ensures refuses { NamesFirstFault text.items result }
+        // The same, computed.
+        ensures value { Gives result (books_of text.items) }
+    {
+        let quick = Quick::read_in_parts(rt, alloc, parts, &text);
+        Books::kept_or_summed(alloc, text, quick)
+    }
+
+    /// The text of `write` in pieces, one after another, which no copy joins. Lines of claims that stand unchanged are lent from
+    /// the text that they were read from, where the books keep it. Otherwise the claims are written in `parts` parts, each by a
+    /// thread of its own; one part is written on the calling thread, and is one piece.
     pub fn write_pieces<R: Threads + Sync>(
         &self,
         rt: &R,
         alloc: Global,
         parts: usize,
-        spent: Vec<u8>,
-    ) -> Result<Vec<Vec<u8>>, Memory>
+    ) -> Result<Pieces, Memory>
         ensures { IfOk result (λ pieces.
-            flat_map vec_items pieces.items ≡ books_text Version.Three self.now.period self.now.ledger) }
+            text_of pieces ≡ books_text Version.Three self.now.period self.now.ledger) }
     {
         let Some(books) = self.plain() else {
             return in_one_piece(alloc, self.write(alloc)?);
         };
-        match books.write_pieces(rt, alloc, parts, spent) {
+        match books.write_pieces(rt, alloc, parts) {
             Ok(pieces) => Ok(pieces),
             // Where threads or memory for parts are wanting, one part may do.
-            Err(Memory) => books.write_pieces(rt, alloc, 1, Vec::new(alloc)),
+            Err(Memory) => books.write_pieces(rt, alloc, 1),
         }
     }
 }

@@ -1,12 +1,11 @@
-ghost use Rattle.std.specs.Prelude.{◌≡◌, ◌≤◌, ◌↔◌, ◌++◌, IfOk, IsTrue, OnOk};
-ghost use Rattle.std.specs.List.{All, flat_map, list_all};
+ghost use Rattle.std.specs.Prelude.{◌≡◌, ◌↔◌, IfOk, IsTrue};
+ghost use Rattle.std.specs.List.{All, list_all};
 ghost use Rattle.std.specs.Option.{option_copied};
-ghost use Rattle.std.specs.Vec.{vec_items};
 ghost use Rattle.rx_fields.specs.Order.{id_cmp};
 ghost use Rattle.rx_sorted.specs.Ascending.{IsAscending};
 ghost use Rattle.rx_ledger.specs.Ledger.{IsLedger, row_under};
 ghost use Rattle.rx_books_text.specs.Printed.{total_family};
-ghost use Rattle.rx_books_store.specs.BooksText.{books_text, claims_text, families_of};
+ghost use Rattle.rx_books_store.specs.BooksText.{families_of};
 ghost use Rattle.rx_books_store.specs.Figures.{has_total};
 ghost use Rattle.rx_books_store.specs.Store.{IsSlot, slot_keys, standing};
 
@@ -18,16 +17,11 @@ use crate::opening::{FamilyName, Opening};
 use crate::slot::KeySlot;
 use crate::standing::Standing;
 use crate::sums::{Figures, summed};
-use crate::writer::{CLAIM, claims_in_parts, put_members, put_totals};
-use rx_books_text::{TotalLine, Version, put_claim, put_head};
+use rx_books_text::TotalLine;
 use rx_fields::{Key, Memory, Period};
 use rx_ledger::{Ledger, Row};
 use rx_sorted::Ascending;
 use std::alloc::Global;
-use std::thread::Threads;
-
-// About the bytes of a member line and a total line.
-const OTHER: usize = 64;
 
 impl OpenBooks {
     /// The books of a ledger, each total summed once over the rows of the period.
@@ -178,102 +172,6 @@ impl OpenBooks {
         theirs.next_row().is_none()
     }
 
-    /// The text of the books, in version 3 (docs/FORMATS.md, "Books file"), written over a text that isn't needed any more:
-    /// its memory is used again.
-    pub(crate) fn write_over(&self, spent: Vec<u8>) -> Result<Vec<u8>, Memory>
-        ensures { IfOk result (λ text. text.items ≡ books_text Version.Three self.now.books.period self.now.books.ledger) }
-    {
-        let mut text = spent;
-        text.clear();
-        text.reserve(self.room())?;
-        put_head(&mut text, self.period)?;
-        put_members(
-            &mut text,
-            self.opening.members().as_slice(),
-            &self.deductibles,
-        )?;
-        self.put_claims(&mut text)?;
-        put_totals(
-            &mut text,
-            self.opening.families(),
-            &self.out_of_pockets,
-            &self.family_deductibles,
-        )?;
-        Ok(text)
-    }
-
-    /// The same in pieces, one behind the other: so many parts of the claims are written by threads of their own, between
-    /// what stands above and below them. One part is written on the calling thread, and is one piece.
-    pub(crate) fn write_pieces<R: Threads + Sync>(
-        &self,
-        rt: &R,
-        alloc: Global,
-        parts: usize,
-        spent: Vec<u8>,
-    ) -> Result<Vec<Vec<u8>>, Memory>
-        ensures { IfOk result (λ pieces. flat_map vec_items pieces.items
-            ≡ books_text Version.Three self.now.books.period self.now.books.ledger) }
-    {
-        if parts < 2 {
-            return in_one_piece(alloc, self.write_over(spent)?);
-        }
-        let mut pieces = self.claims_in_parts(rt, alloc, parts)?;
-        let mut above = spent;
-        above.clear();
-        put_head(&mut above, self.period)?;
-        put_members(
-            &mut above,
-            self.opening.members().as_slice(),
-            &self.deductibles,
-        )?;
-        pieces.insert(0, above)?;
-        let mut below = Vec::new(alloc);
-        put_totals(
-            &mut below,
-            self.opening.families(),
-            &self.out_of_pockets,
-            &self.family_deductibles,
-        )?;
-        pieces.push(below)?;
-        Ok(pieces)
-    }
-
-    // The lines of the rows that stand, in so many texts.
-    fn claims_in_parts<R: Threads + Sync>(
-        &self,
-        rt: &R,
-        alloc: Global,
-        parts: usize,
-    ) -> Result<Vec<Vec<u8>>, Memory>
-        requires { 2 ≤ parts }
-        ensures { IfOk result (λ texts. flat_map vec_items texts.items ≡ claims_text self.now.books.ledger.rows) }
-    {
-        let mut rows = Vec::with_capacity(alloc, self.opening.rows().len())?;
-        let mut standing = self.standing();
-        'rows: while let Some((row, _)) = standing.next_row() {
-            rows.push(row)?;
-        }
-        claims_in_parts(rt, alloc, &rows, rows.len() / parts + 1)
-    }
-
-    // About the bytes of the text.
-    fn room(&self) -> usize {
-        let claims = self.opening.rows().len().saturating_mul(CLAIM);
-        let others = self.opening.members().len().saturating_mul(OTHER);
-        claims.saturating_add(others)
-    }
-
-    // Puts the lines of the rows that stand.
-    fn put_claims(&self, text: &mut Vec<u8>) -> Result<(), Memory>
-        ensures { OnOk result (text.new.items ≡ text.old.items ++ claims_text self.now.books.ledger.rows) }
-    {
-        let mut standing = self.standing();
-        'rows: while let Some((row, _)) = standing.next_row() {
-            put_claim(text, row)?;
-        }
-        Ok(())
-    }
-
     /// Whether each family has its total line among these, which ascend.
     pub(crate) fn all_have_totals(&self, totals: &[TotalLine]) -> bool
         requires { IsAscending id_cmp total_family totals.now }
@@ -281,15 +179,6 @@ impl OpenBooks {
     {
         have_totals(self.opening.families(), totals)
     }
-}
-
-/// A text as its one piece.
-pub(crate) fn in_one_piece(alloc: Global, text: Vec<u8>) -> Result<Vec<Vec<u8>>, Memory>
-    ensures { IfOk result (λ pieces. flat_map vec_items pieces.items ≡ text.items) }
-{
-    let mut pieces = Vec::new(alloc);
-    pieces.push(text)?;
-    Ok(pieces)
 }
 
 // Whether each of these families has its total line.

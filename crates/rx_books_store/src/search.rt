@@ -5,6 +5,7 @@ ghost use Rattle.rx_sorted.specs.Ascending.{IsAscending, IsAt, IsGap};
 ghost use Rattle.rx_ledger.specs.declared.row.Row.{Row};
 ghost use Rattle.rx_ledger.specs.Rows.{row_key};
 
+use crate::slot::KeySlot;
 use rx_fields::Key;
 use rx_ledger::Row;
 use rx_sorted::Runs;
@@ -12,16 +13,28 @@ use rx_sorted::Runs;
 /// About where the row with the key is, or where it would go: it is looked for from a place on, in steps that double, as
 /// if all rows before had lesser keys. It promises nothing: what is near is compared.
 pub(crate) fn guess_from(rows: &Runs<Row>, from: usize, key: &Key) -> usize {
+    guess(rows.len(), from, |place| is_before(rows, place, key))
+}
+
+/// The same of the slot that has the key.
+pub(crate) fn guess_slot(slots: &[KeySlot], from: usize, key: &Key) -> usize {
+    guess(slots.len(), from, |place| is_slot_before(slots, place, key))
+}
+
+// About where the first of so many items is that doesn't come before a key, looked for from a place on.
+fn guess<F: Fn(usize) -> bool>(len: usize, from: usize, is_before: F) -> usize
+    requires { F.IsAlwaysCallable is_before }
+{
     let mut low = from;
     let mut step = 1;
-    'steps: while is_before(rows, low.saturating_add(step - 1), key) {
+    'steps: while low.saturating_add(step - 1) < len && is_before(low.saturating_add(step - 1)) {
         low += step;
         step = step.saturating_mul(2);
     }
-    let mut high = low.saturating_add(step - 1).min(rows.len());
+    let mut high = low.saturating_add(step - 1).min(len);
     'halves: while low < high {
         let middle = low + (high - low) / 2;
-        if is_before(rows, middle, key) {
+        if is_before(middle) {
             low = middle + 1;
         } else {
             high = middle;
@@ -54,6 +67,14 @@ fn is_before(rows: &Runs<Row>, place: usize, key: &Key) -> bool
         return false;
     }
     rows.at(place).key.cmp(key).is_lt()
+}
+
+// Whether there is a slot at the place, with a lesser key.
+fn is_slot_before(slots: &[KeySlot], place: usize, key: &Key) -> bool {
+    match slots.get(place) {
+        Some(slot) => slot.key.cmp(key).is_lt(),
+        None => false,
+    }
 }
 
 // Whether the row at the place has the key.

@@ -34,8 +34,8 @@ pub(crate) fn fresh_slots(
     Ok(slots)
 }
 
-// The slot of a fill key, with the row of the opening lists, which is near a place or else searched for.
-fn fresh_slot(opening: &Opening, near: usize, key: &Key) -> KeySlot
+/// The slot of a fill key, with the row of the opening lists, which is near a place or else searched for.
+pub(crate) fn fresh_slot(opening: &Opening, near: usize, key: &Key) -> KeySlot
     ensures key { result.key ≡ key.now }
     ensures own { IsSlot opening.now.members result }
     ensures there { row_under opening.now key.now ≡ result.held }

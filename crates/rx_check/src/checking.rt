@@ -25,7 +25,7 @@ pub struct Files<'a> {
     pub batch: Option<&'a [u8]>,
 }
 
-/// Looks at the inputs of a run: the first fault of each, and warnings of what is taken (docs/PRODUCT.md, "The program").
+/// Looks at the inputs of a run: the first fault of each, and warnings of what is taken (docs/CLI.md, "check").
 ///
 /// # Errors
 ///

@@ -38,8 +38,8 @@ pub struct RunInputs<'a> {
     pub workers: u16,
 }
 
-/// The line of a refusal in words (docs/PRODUCT.md, "The program"): the file's name and the fault's place, what is there
-/// and what is expected. A fault of no file names the option at fault.
+/// The line of a refusal in words (docs/CLI.md, "Words of a fault"): the file's name and the fault's place, what is
+/// there and what is expected. A fault of no file names the option at fault.
 ///
 /// # Errors
 ///

@@ -1,4 +1,4 @@
--- Meaning: the command line: its subcommands and their options (docs/PRODUCT.md, "The program").
+-- Meaning: the command line: its subcommands and their options (docs/CLI.md, "Commands").
 use Rattle.std.specs.Prelude.{◌≡◌, true, false, pos, IfOk, Some, codes}
 use Rattle.clap.specs.Words.{App, Rule, Text, app_of, new_app, new_rule, with_rule, with_subcommand}
 use Rattle.clap.specs.declared.builder.command.Command.{Command}

@@ -5,7 +5,7 @@ ghost use Rattle.rx_cli.specs.Paths.{files_of, has_twice, paths_of};
 use crate::paths::has_one_twice;
 use crate::retrace::{ExplainWords, ReportWords, VerifyWords};
 
-/// The input files of a run (docs/PRODUCT.md, "The program").
+/// The input files of a run (docs/CLI.md, "Commands").
 #[derive(Clone, Copy, Debug, PartialEq, Eq)]
 pub struct Inputs<'a> {
     /// `--sheet`: the plan sheet.
@@ -96,7 +96,7 @@ pub struct CheckWords<'a> {
     pub batch: Option<&'a str>,
 }
 
-/// One of the subcommands, with the values of its options (docs/PRODUCT.md, "The program").
+/// One of the subcommands, with the values of its options (docs/CLI.md, "Commands").
 #[derive(Clone, Copy, Debug, PartialEq, Eq)]
 pub enum Command<'a> {
     /// `run`: adjudicates a batch file.

@@ -8,7 +8,7 @@ use std::alloc::AllocError;
 use std::fmt;
 use std::fmt::Write;
 
-/// Why the words give no command (docs/PRODUCT.md, "The program"). Its `Display` is the text for standard
+/// Why the words give no command (docs/CLI.md, "Exit statuses"). Its `Display` is the text for standard
 /// error.
 #[derive(Debug, Drop)]
 pub enum WordsFault {
@@ -20,7 +20,7 @@ pub enum WordsFault {
 }
 
 impl WordsFault {
-    /// The fault's number: 1 Words, 2 Memory (docs/CALLS.md, "rxbatch").
+    /// The fault's number: 1 Words, 2 Memory (docs/CLI.md, "Exit statuses").
     pub fn code(&self) -> u8
         ensures { result ≡ number_of self.now }
     {

@@ -113,7 +113,7 @@ fn named<'a>(alloc: Global, name: &str, found: &ArgMatches<'a>) -> Result<Comman
     }
 }
 
-/// What the words ask for, the program's name being the first (docs/PRODUCT.md, "The program").
+/// What the words ask for, the program's name being the first (docs/CLI.md, "Commands").
 ///
 /// At `Ok` `clap` finds no fault in the words, and the command holds the subcommand and the option values that `clap`'s
 /// matches of them hold; the workers are 0 to 65535, and the paths of `run` are different texts.

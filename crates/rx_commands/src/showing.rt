@@ -9,7 +9,7 @@ use rx_wave::decode_in_parts;
 use std::alloc::Global;
 use std::thread::Threads;
 
-/// The table that `show --tsv` prints of a batch file under a plan sheet (docs/PRODUCT.md, "The program"). It starts no
+/// The table that `show --tsv` prints of a batch file under a plan sheet (docs/CLI.md, "show"). It starts no
 /// thread.
 ///
 /// # Errors

@@ -26,7 +26,7 @@ use std::alloc::Global;
 use std::marker::Model;
 
 /// The records of a batch with all books: a record goes out with its books, and comes in again finished. Contracts see
-/// the job and the events so far (docs/PRODUCT.md, "The atomic step").
+/// the job and the events so far (docs/RULES.md, "The atomic step").
 #[derive(Drop)]
 pub struct Desk {
     pub(crate) lot: Lot,

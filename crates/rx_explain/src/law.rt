@@ -13,7 +13,7 @@ ghost use Rattle.rx_explain.specs.Shown.{counted_rows};
 
 /// The answer that an explanation shows is the one in the batch's replies: the reply to a record is that on the ledger
 /// which the records before it leave, and its answers are each that on the ledger which the transactions before it leave
-/// (docs/MODEL.md, "Record and fold").
+/// (docs/GUARANTEES.md, "Record and fold").
 pub fn reply_is_shown()
     ensures record_is { (lot : LotParts) → (plan : Plan) → (ts : List Transmission) → (L : Ledger) → (before : ℕ)
         → (t : Transmission) → slice_get ts before ≡ Some t

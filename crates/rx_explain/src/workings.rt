@@ -10,7 +10,7 @@ use rx_ledger::{
     Allowance, Decision, Figures, Payment, Share, Sheet, Used, cost_of, left, under_deductible,
 };
 
-/// The steps from a billing to its amounts, in cents (docs/PRODUCT.md, "Rules of adjudication").
+/// The steps from a billing to its amounts, in cents (docs/RULES.md, "Rules of adjudication").
 #[derive(Clone, Copy, Debug, PartialEq, Eq)]
 pub struct Workings {
     /// What the claim is paid by.

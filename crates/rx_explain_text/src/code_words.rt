@@ -44,7 +44,7 @@ pub fn name(code: Code) -> &'static str
 }
 
 /// What the tables of header codes and group codes want in place of what a request has (docs/FORMATS.md, "Request
-/// transmission"); of a code of adjudication what the rules want (docs/PRODUCT.md, "Billing").
+/// transmission"); of a code of adjudication what the rules want (docs/RULES.md, "Billing").
 pub fn wanted(code: Code) -> &'static str
     ensures { result.now ≡ wanted_for code }
 {

@@ -19,8 +19,8 @@ use rx_print::{Page, Style};
 use std::alloc::{AllocError, Global};
 
 /// An explanation in words: a line that says what was answered to whom, and below it, set in, why
-/// (docs/PRODUCT.md, "Rules of adjudication"). `request` is the text of the record's transmission; the last line says what
-/// a response file has there, where one was looked at.
+/// (docs/RULES.md, "Rules of adjudication"). `request` is the text of the record's transmission; the last line says
+/// what a response file has there, where one was looked at.
 #[tactic(auto, using(std::proofs::Common::append_assoc))]
 pub fn explanation_text(
     alloc: Global,

@@ -1,7 +1,7 @@
 ghost use Rattle.std.specs.Prelude.{◌≡◌, Some};
 ghost use Rattle.rx_fields.specs.Codes.{code_text, code_of};
 
-/// A reject code, in the order of its characters (docs/FORMATS.md, "Request transmission"; docs/PRODUCT.md, "Billing").
+/// A reject code, in the order of its characters (docs/FORMATS.md, "Request transmission"; docs/RULES.md, "Billing").
 #[derive(Clone, Copy, Debug, PartialEq, Eq)]
 pub enum Code {
     /// 01: the BIN isn't the plan's.

@@ -5,7 +5,7 @@ use crate::fault::FieldFault;
 use jiff_core::civil::Date;
 use std::marker::Model;
 
-/// A civil date of the years 0000 to 9999 that exists, ordered from earlier to later (docs/PRODUCT.md, "Words").
+/// A civil date of the years 0000 to 9999 that exists, ordered from earlier to later (docs/RULES.md, "Words").
 #[derive(Clone, Copy, Debug, PartialEq, Eq, PartialOrd, Ord)]
 pub struct Day {
     year: u16,

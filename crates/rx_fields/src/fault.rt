@@ -1,7 +1,7 @@
 ghost use Rattle.std.specs.Prelude.{◌≡◌};
 ghost use Rattle.rx_fields.specs.Fault.{field_fault_code, id_fault_code};
 
-/// Why a field has no value: the first of these that holds (docs/CALLS.md, "rx_fields").
+/// Why a field has no value: the first of these that holds (docs/ARCHITECTURE.md, "Public calls").
 #[derive(Clone, Copy, Debug, PartialEq, Eq)]
 pub enum FieldFault {
     /// There is no byte.
@@ -28,7 +28,7 @@ impl FieldFault {
     }
 }
 
-/// Why a text is no id: the first of these that holds (docs/PRODUCT.md, "Words").
+/// Why a text is no id: the first of these that holds (docs/RULES.md, "Words").
 #[derive(Clone, Copy, Debug, PartialEq, Eq)]
 pub enum IdFault {
     /// Nothing is left once the trailing blanks are taken off.

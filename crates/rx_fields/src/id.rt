@@ -12,7 +12,7 @@ use std::cmp::Ordering;
 use std::marker::Model;
 
 /// A text that names a provider, a family or a person: 1 to 20 printable ASCII bytes without `|` and without a
-/// trailing blank. Ids are ordered by their bytes, a prefix first (docs/PRODUCT.md, "Words").
+/// trailing blank. Ids are ordered by their bytes, a prefix first (docs/RULES.md, "Words").
 #[derive(Clone, Copy, Debug)]
 pub struct Id {
     bytes: [u8; 20],

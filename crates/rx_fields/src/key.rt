@@ -3,7 +3,7 @@ use crate::day::Day;
 use crate::short_id::Provider;
 
 /// A fill key: what a standing claim is known by. Ordered by provider, then reference, then date
-/// (docs/PRODUCT.md, "Words").
+/// (docs/RULES.md, "Words").
 #[derive(Clone, Copy, Debug, PartialEq, Eq, PartialOrd, Ord)]
 pub struct Key {
     /// The pharmacy's id.

@@ -3,7 +3,7 @@ ghost use Rattle.std.specs.Prelude.{◌≡◌};
 use crate::day::Day;
 use std::marker::Model;
 
-/// The batch number and the creation date of a batch header (docs/PRODUCT.md, "Words").
+/// The batch number and the creation date of a batch header (docs/RULES.md, "Words").
 #[derive(Clone, Copy, Debug, PartialEq, Eq)]
 pub struct Lot {
     number: u32,

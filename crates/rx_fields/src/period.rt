@@ -3,7 +3,7 @@ ghost use Rattle.std.specs.Prelude.{◌≡◌};
 use crate::day::Day;
 use std::marker::Model;
 
-/// A benefit period or a coverage: the days from a first to a last one, both included (docs/PRODUCT.md, "Rules of
+/// A benefit period or a coverage: the days from a first to a last one, both included (docs/RULES.md, "Rules of
 /// adjudication").
 #[derive(Clone, Copy, Debug, PartialEq, Eq)]
 pub struct Period {

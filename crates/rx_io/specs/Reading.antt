@@ -1,4 +1,4 @@
--- Meaning: what reading an input to its end means (docs/PRODUCT.md, "Limits").
+-- Meaning: what reading an input to its end means (docs/RULES.md, "Limits").
 use Rattle.std.specs.Prelude.{◌≡◌, ◌≤◌, ◌+◌, ℕ, Bool, true, false, List, [], ◌++◌, length, Option, Some, None, Result, Ok, Err, ⊤}
 use Rattle.std.specs.Io.KnownBytes.{Consumes}
 use Rattle.rx_io.specs.declared.fault.ReadFault.{ReadFault}

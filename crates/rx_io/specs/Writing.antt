@@ -1,5 +1,5 @@
 -- Meaning: what a write does to the bytes of a sink.
-use Rattle.std.specs.Prelude.{◌≤◌, ◌==◌, ◌&&◌, ℕ, Bool, true, nat_lt, List, length, take, Option, Result, Ok, Err}
+use Rattle.std.specs.Prelude.{◌≡◌, ◌≤◌, ◌==◌, ◌&&◌, ℕ, Bool, true, nat_lt, List, ◌++◌, length, take, Option, Result, Ok, Err}
 use Rattle.std.specs.Io.KnownBytes.{Appends}
 use Rattle.rx_io.specs.declared.fault.Failed.{Failed}
 
@@ -13,3 +13,9 @@ pub record AppendsFront (before after : Option (List ℕ)) (text : List ℕ) : T
   pub count : ℕ
   pub within : count ≤ length text
   pub appended : Appends before after (take count text)
+
+-- of the text a front was written, and the rest is gathered
+pub record Gathers (before after : Option (List ℕ)) (gathered text : List ℕ) : Type 0 where
+  pub front : List ℕ
+  pub appended : Appends before after front
+  pub whole : front ++ gathered ≡ text

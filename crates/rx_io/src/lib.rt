@@ -2,7 +2,8 @@
 //!
 //! In comes a device; out come all the bytes that it had left, at once or piece by piece to a consumer, or a text is
 //! written to its end, whole or in pieces. No failed call is taken for the end, and an endless input is refused. What an
-//! input may have is in `specs/Reading.antt`, what a write did in `specs/Writing.antt`.
+//! input may have is in `specs/Reading.antt`, what a write did in `specs/Writing.antt`. A text in pieces may be made of parts
+//! of another, which it shares (`specs/Patches.antt`).
 //!
 //! ```rust
 //! let text = rx_io::read_all(alloc, &mut ReaderSource::new(file))?;
@@ -22,7 +23,9 @@ mod consumer;
 mod device;
 mod fault;
 mod files;
+mod gathering;
 mod memory;
+mod patched;
 mod pieces;
 mod reading;
 mod sink;
@@ -34,7 +37,8 @@ pub use device::Device;
 pub use fault::{Failed, ReadFault};
 pub use files::{Inputs, Outputs};
 pub use memory::{SliceSource, VecSink};
-pub use pieces::one_text;
+pub use patched::Patched;
+pub use pieces::{Pieces, one_text};
 pub use reading::{read_all, read_each};
 pub use sink::{Sink, write_all, write_pieces};
 pub use source::Source;

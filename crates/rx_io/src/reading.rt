@@ -8,7 +8,7 @@ use crate::fault::ReadFault;
 use crate::source::Source;
 use std::alloc::{AllocError, Global};
 
-// The most bytes that an input may have (docs/PRODUCT.md, "Limits").
+// The most bytes that an input may have (docs/RULES.md, "Limits").
 const MOST_BYTES: usize = 268_435_456;
 
 // The most reads that an input may take; the read that finds the end counts.
@@ -17,7 +17,7 @@ const MOST_READS: usize = 4_194_304;
 // The room that each read is offered, in bytes.
 const ROOM: usize = 65_536;
 
-/// Reads an input to its end, whose bytes are then the text (docs/PRODUCT.md, "Limits").
+/// Reads an input to its end, whose bytes are then the text (docs/RULES.md, "Limits").
 ///
 /// # Errors
 ///

@@ -9,7 +9,7 @@ ghost use Rattle.rx_ledger.specs.Sums.{deductible, family_deductible, out_of_poc
 /// No accumulator passes its limit by adjudication, for every lot, plan, ledger and list of transmissions, all sums
 /// over the plan's period: a family's out of pocket is at most the plan's maximum, or what it was before where that is
 /// more; a member's deductible at most the plan's, or what it was; and so a family's, where the plan has one. The front
-/// of a batch is such a list, so it holds after each record (docs/PRODUCT.md, "Rules of adjudication").
+/// of a batch is such a list, so it holds after each record (docs/RULES.md, "Rules of adjudication").
 pub fn accumulators_stay_within()
     ensures family { (lot : LotParts) → (plan : Plan) → (place : ℕ) → (transmissions : List Transmission)
         → (L : Ledger) → IsLedger L → (family : List ℕ)

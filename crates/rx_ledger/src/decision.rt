@@ -21,7 +21,7 @@ pub struct Payment {
 }
 
 /// The decision on a transaction: the first row of the tables of adjudication that holds, with what it needs
-/// (docs/PRODUCT.md, "Rules of adjudication"). The variants stand in the order of the rows.
+/// (docs/RULES.md, "Rules of adjudication"). The variants stand in the order of the rows.
 #[derive(Clone, Copy, Debug, PartialEq, Eq)]
 pub enum Decision {
     /// R 52: the family has no member.

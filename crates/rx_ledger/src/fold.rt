@@ -10,7 +10,7 @@ use rx_fields::{Lot, Memory};
 use std::alloc::Global;
 
 /// Adjudicates a batch's records one after another in file order: the ledger after them, and a reply to each
-/// (docs/PRODUCT.md, "Rules of adjudication"). The ledger before stays as it is.
+/// (docs/RULES.md, "Rules of adjudication"). The ledger before stays as it is.
 pub fn plain_run(
     alloc: Global,
     lot: Lot,

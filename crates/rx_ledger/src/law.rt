@@ -9,7 +9,7 @@ ghost use Rattle.rx_ledger.specs.Plan.{Plan};
 
 /// What adjudicating a batch keeps, for every lot, plan, ledger and list of transmissions: all the members, and
 /// whatever stands under a fill key that no billing or reversal of the batch names, be it a row or none. So a batch
-/// touches no other claim than those that it bills or reverses (docs/MODEL.md, "Record and fold").
+/// touches no other claim than those that it bills or reverses (docs/GUARANTEES.md, "Record and fold").
 pub fn adjudication_keeps()
     ensures members { (lot : LotParts) → (plan : Plan) → (place : ℕ) → (transmissions : List Transmission)
         → (L : Ledger) → (fold_ledger lot plan place transmissions L).members ≡ L.members }

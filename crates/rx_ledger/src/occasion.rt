@@ -25,7 +25,7 @@ pub struct Occasion {
 
 impl Occasion {
     /// The occasion of the nth transaction, from 1, of the record at a place of the lot, from 1. Its authorization
-    /// number has seven digits of the batch number, seven of the place and one of n (docs/PRODUCT.md, "Words").
+    /// number has seven digits of the batch number, seven of the place and one of n (docs/RULES.md, "Words").
     pub fn new(lot: Lot, figures: &Figures, place: u64, heard: &Heard, nth: u64) -> Occasion
         requires place { place ≤ MOST_DETAILS }
         requires nth { nth ≤ 4 }

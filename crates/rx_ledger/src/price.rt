@@ -7,7 +7,7 @@ use rx_fields::Quantity;
 use std::marker::Model;
 
 /// What is allowed for a fill before the patient's share: cost and fee together at most 99,999,999 cents
-/// (docs/PRODUCT.md, "Rules of adjudication").
+/// (docs/RULES.md, "Rules of adjudication").
 #[derive(Clone, Copy, Debug, PartialEq, Eq)]
 pub struct Allowance {
     ingredient_cost: u64,
@@ -33,7 +33,7 @@ ghost use Rattle.rx_ledger.specs.Price.{allowance, capped, cost_of};
 
 impl Allowance {
     /// What is allowed for a billing at a price, in hundredths of a cent per unit, where the plan pays a fee of at
-    /// most `most_fee` cents (docs/PRODUCT.md, "Rules of adjudication").
+    /// most `most_fee` cents (docs/RULES.md, "Rules of adjudication").
     pub fn new(price: u64, most_fee: u64, bill: &Bill) -> Allowance
         requires { price ≤ MOST_PRICE }
         ensures { result ≡ allowance price most_fee bill.now }

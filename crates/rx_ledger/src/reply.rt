@@ -16,7 +16,7 @@ use rx_fields::Memory;
 use std::alloc::Global;
 
 /// The reply to the record at a place of the terms' lot; what it is adjudicated on then holds the ledger after the
-/// record (docs/MODEL.md, "Record and fold"). It has to hold what the record asks for, and answers for as much
+/// record (docs/GUARANTEES.md, "Record and fold"). It has to hold what the record asks for, and answers for as much
 /// afterwards. Without memory, nothing is promised of it.
 pub fn answer_record<S: Basis>(
     alloc: Global,

@@ -7,7 +7,7 @@ use rx_fields::{Authorization, Days, Id, Key, Person, Product, Quantity};
 use rx_sorted::Keyed;
 use std::mem::size_of;
 
-/// A standing claim (docs/PRODUCT.md, "Words"). Its fields stand in an order that leaves few gaps: a ledger has many.
+/// A standing claim (docs/RULES.md, "Words"). Its fields stand in an order that leaves few gaps: a ledger has many.
 #[derive(Clone, Copy, Debug, PartialEq, Eq)]
 pub struct Row {
     /// The fill key.

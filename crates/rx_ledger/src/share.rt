@@ -20,7 +20,7 @@ pub struct Used {
 }
 
 /// How a claim with this allowance is paid: what the member pays of it by deductible and by copay or coinsurance,
-/// given what was used before (docs/PRODUCT.md, "Rules of adjudication").
+/// given what was used before (docs/RULES.md, "Rules of adjudication").
 pub fn shared(figures: &Figures, share: Share, used: Used, allowance: Allowance) -> Pricing
     requires { is_share share ≡ true }
     ensures { result ≡ shared figures.now share used allowance }

@@ -25,7 +25,7 @@ use crate::terms::Terms;
 use rx_d0_values::{Bill, Reversal, Transaction};
 use rx_fields::Day;
 
-/// The decision on a transaction: the tables of adjudication from top to bottom (docs/PRODUCT.md, "Rules of
+/// The decision on a transaction: the tables of adjudication from top to bottom (docs/RULES.md, "Rules of
 /// adjudication"). Nothing is looked up before its row's turn comes.
 pub fn decide<S: Basis>(
     basis: &S,

@@ -27,7 +27,7 @@ const RECORD: usize = 192;
 
 /// The text of the response file: the batch's header with sender and receiver exchanged and the run's stamp as date and
 /// time, and each detail's reference with the reply at its place (docs/FORMATS.md, "Response file"). The batch is within
-/// the limits of docs/PRODUCT.md. Any number of processors gives the same bytes. Err only where memory ran out.
+/// the limits of docs/RULES.md. Any number of processors gives the same bytes. Err only where memory ran out.
 pub fn response_file<R: Threads + Sync>(
     rt: &R,
     alloc: Global,

@@ -15,10 +15,10 @@ use Rattle.rx_ledger.specs.Ledger.{Ledger}
 use Rattle.rx_ledger.proofs.Orders.{id_exact, id_total, key_exact, key_total}
 use Rattle.rx_sorted.specs.Ascending.{contains_key, itself}
 use Rattle.rx_books_family.specs.Books.{Book, OfFamily, OfKey}
-use Rattle.rx_books_parcel.specs.Footprints.{FootprintParts, IsFootprint, names}
-use Rattle.rx_schedule.specs.Footprints.{in_order}
-use Rattle.rx_schedule.proofs.InOrder.{IsAscending-in_order, among-in_order, named_in}
-use Rattle.rx_schedule.specs.Shards.{AreApart, AreWide, IsClosed, IsGrouping, books_of_shard, is_of, places_of, union}
+use Rattle.rx_books_parcel.specs.Footprints.{FootprintParts, names}
+use Rattle.rx_schedule.specs.Footprints.{footprint_at, in_order}
+use Rattle.rx_schedule.proofs.InOrder.{among-in_order, named_in}
+use Rattle.rx_schedule.specs.Shards.{AreApart, IsGrouping, books_of_shard, is_of, places_of, union}
 use Rattle.rx_schedule.proofs.Chosen.{IsChosen, places_have, places_chosen}
 
 -- a test that an item of one of the lists passes
@@ -58,27 +58,21 @@ module _ {K : Type 0} (cmp : K → K → Ordering) (order : IsTotalOrder cmp) (e
       let by = any_whose (eq_by_cmp cmp k) f is (sym in_union ∙ h) in
       (by.0, by.1, named_in cmp order exact (f by.0) k ∙ by.2)
 
-module _ (needs : ℕ → FootprintParts) where
-  pub named_here : (places : List ℕ) (i : ℕ) → Contains places i → (b : Book) → names (needs i) b ≡ true
-      → names (union needs places) b ≡ true
-  named_here places i w (OfKey k) h = name_here key_cmp key_total key_exact (λ i. (needs i).keys) places k i w h
-  named_here places i w (OfFamily f) h = name_here id_cmp id_total id_exact (λ i. (needs i).families) places f i w h
+module _ (footprint : ℕ → FootprintParts) where
+  pub named_here : (places : List ℕ) (i : ℕ) → Contains places i → (b : Book) → names (footprint i) b ≡ true
+      → names (union footprint places) b ≡ true
+  named_here places i w (OfKey k) h = name_here key_cmp key_total key_exact (λ i. (footprint i).keys) places k i w h
+  named_here places i w (OfFamily f) h = name_here id_cmp id_total id_exact (λ i. (footprint i).families) places f i w h
 
-  pub named_whose : (places : List ℕ) (b : Book) → names (union needs places) b ≡ true
-      → (i : ℕ) × Contains places i × (names (needs i) b ≡ true)
-  named_whose places (OfKey k) h = name_whose key_cmp key_total key_exact (λ i. (needs i).keys) places k h
-  named_whose places (OfFamily f) h = name_whose id_cmp id_total id_exact (λ i. (needs i).families) places f h
-
-  pub union_rises : (places : List ℕ) → IsFootprint (union needs places)
-  union_rises places = record {
-    keys_rise = IsAscending-in_order key_cmp key_total key_exact (flat_map (λ i. (needs i).keys) places);
-    families_rise = IsAscending-in_order id_cmp id_total id_exact (flat_map (λ i. (needs i).families) places);
-  }
+  pub named_whose : (places : List ℕ) (b : Book) → names (union footprint places) b ≡ true
+      → (i : ℕ) × Contains places i × (names (footprint i) b ≡ true)
+  named_whose places (OfKey k) h = name_whose key_cmp key_total key_exact (λ i. (footprint i).keys) places k h
+  named_whose places (OfFamily f) h = name_whose id_cmp id_total id_exact (λ i. (footprint i).families) places f h
 
   module _ (n : ℕ) (shard : ℕ → ℕ) where
-    -- whose need a book of the shard is
-    pub whose : (k : ℕ) (b : Book) → names (books_of_shard needs n shard k) b ≡ true
-        → (i : ℕ) × IsChosen (is_of shard k) n i × (names (needs i) b ≡ true)
+    -- whose footprint names a book of the shard
+    pub whose : (k : ℕ) (b : Book) → names (books_of_shard footprint n shard k) b ≡ true
+        → (i : ℕ) × IsChosen (is_of shard k) n i × (names (footprint i) b ≡ true)
     whose k b theirs =
         let by = named_whose (places_of (is_of shard k) n) b theirs in (
           by.0,
@@ -87,40 +81,28 @@ module _ (needs : ℕ → FootprintParts) where
           by.2,
         )
 
-    -- what a place needs is its shard's
-    pub own_shard : (i : ℕ) (b : Book) → 1 ≤ i → i ≤ n → names (needs i) b ≡ true
-        → names (books_of_shard needs n shard (shard i)) b ≡ true
+    -- what a place names is its shard's
+    pub own_shard : (i : ℕ) (b : Book) → 1 ≤ i → i ≤ n → names (footprint i) b ≡ true
+        → names (books_of_shard footprint n shard (shard i)) b ≡ true
     own_shard i b one to named = named_here (places_of (is_of shard (shard i)) n) i
         (places_have (is_of shard (shard i)) n i one to (eq-eqb (shard i) (shard i) refl)) b named
 
-    pub shard_closed : (L : Ledger) → ((i : ℕ) → 1 ≤ i → i ≤ n → IsClosed (needs i) L) → (k : ℕ)
-        → IsClosed (books_of_shard needs n shard k) L
-    shard_closed L closed k r among named =
-        let by = whose k (OfKey r.key) named in
-        named_here (places_of (is_of shard k) n) by.0
-        (places_have (is_of shard k) n by.0 by.1.from_one by.1.to by.1.is)
-        (OfFamily r.family) (closed by.0 by.1.from_one by.1.to r among by.2)
-
-    -- a place that needs a book of the shard is in it
-    pub is_in : IsGrouping needs n shard → (k i : ℕ) (b : Book) → 1 ≤ i → i ≤ n → names (needs i) b ≡ true
-        → names (books_of_shard needs n shard k) b ≡ true → shard i ≡ k
+    -- a place that names a book of the shard is in it
+    pub is_in : IsGrouping footprint n shard → (k i : ℕ) (b : Book) → 1 ≤ i → i ≤ n → names (footprint i) b ≡ true
+        → names (books_of_shard footprint n shard k) b ≡ true → shard i ≡ k
     is_in together k i b one to named theirs =
         let by = whose k b theirs in
         together i by.0 one to by.1.from_one by.1.to b named by.2 ∙ eqb-true (shard by.0) k by.1.is
 
-    pub shard_once : IsGrouping needs n shard → (k m : ℕ) (b : Book) → names (books_of_shard needs n shard k) b ≡ true
-        → names (books_of_shard needs n shard m) b ≡ true → k ≡ m
-    shard_once together k m b one two =
-        let by = whose k b one in
-        sym (eqb-true (shard by.0) k by.1.is) ∙ is_in together m by.0 b by.1.from_one by.1.to by.2 two
-
-pub shard_apart : (L : Ledger) (records : List Transmission) (needs : ℕ → FootprintParts) → AreWide L records needs
-    → (shard : ℕ → ℕ) → IsGrouping needs (length records) shard → (k : ℕ)
-    → AreApart L records (is_of shard k) (books_of_shard needs (length records) shard k)
-shard_apart L records needs wide shard together k = record {
-  inside = λ i one to mine b named. named_here needs (places_of (is_of shard k) (length records)) i
-      (places_have (is_of shard k) (length records) i one to mine) b (wide i one to b named);
-  outside = λ i one to other b named. false_from_ne_true (names (books_of_shard needs (length records) shard k) b)
-      (λ theirs. both_ways _ other (eq-eqb (shard i) k
-      (is_in needs (length records) shard together k i b one to (wide i one to b named) theirs)));
-}
+pub shard_apart : (L : Ledger) (records : List Transmission) (shard : ℕ → ℕ)
+    → IsGrouping (footprint_at L records) (length records) shard → (k : ℕ)
+    → AreApart L records (is_of shard k) (books_of_shard (footprint_at L records) (length records) shard k)
+shard_apart L records shard together k =
+    let footprint = footprint_at L records in
+    let n = length records in
+    record {
+      inside = λ i one to mine b named. named_here footprint (places_of (is_of shard k) n) i
+          (places_have (is_of shard k) n i one to mine) b named;
+      outside = λ i one to other b named. false_from_ne_true (names (books_of_shard footprint n shard k) b)
+          (λ theirs. both_ways _ other (eq-eqb (shard i) k (is_in footprint n shard together k i b one to named theirs)));
+    }

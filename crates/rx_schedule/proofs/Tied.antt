@@ -1,8 +1,8 @@
 -- Mentions of which each may follow the one before are tied: those of one name are of records with one number.
 use Rattle.std.proofs.Common.{◌≡◌, ℕ, zero, suc, ◌<◌, List, get_or, length, sym, subst, ap, ◌∙◌, arith, inl, inr}
-use Rattle.std.specs.List.{All, Contains}
+use Rattle.std.specs.List.{Contains}
 use Rattle.std.proofs.lemmas.Bool.{cases_lt}
-use Rattle.std.proofs.lemmas.List.{get_or_default, get_or_past}
+use Rattle.std.proofs.lemmas.List.{get_or_default}
 use Rattle.rx_schedule.specs.declared.mentions.Mention.{Mention}
 use Rattle.rx_schedule.specs.Mentions.{AreTied, MayFollow, number_of}
 
@@ -47,16 +47,6 @@ module _ (numbers : List ℕ) (ms : List Mention)
               ap (number_of numbers) (sym at_a ∙ ap (λ k. get_or ms k a) e ∙ at_b)
         ]
       ]
-
--- the number 0 for each
-zero_at : (numbers : List ℕ) (i : ℕ) → All (λ n. n ≡ 0) numbers → get_or numbers i 0 ≡ 0
-zero_at numbers i zeros = elim (cases_lt i (length numbers)) [
-  | inl within ↦ zeros i 0 within
-  | inr past ↦ get_or_past numbers i 0 past
-]
-
-pub zeros_tied : (numbers : List ℕ) (ms : List Mention) → All (λ n. n ≡ 0) numbers → AreTied numbers ms
-zeros_tied numbers ms zeros a b in_a in_b same = zero_at numbers a.at zeros ∙ sym (zero_at numbers b.at zeros)
 
 -- mentions in another order
 pub tied_among : (numbers : List ℕ) (ms ns : List Mention) → ((m : Mention) → Contains ms m → Contains ns m)

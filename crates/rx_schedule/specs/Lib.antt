@@ -8,7 +8,5 @@ pub mod Marked
 pub mod Mentions
 pub mod Queues
 pub mod Shards
-pub mod Shares
 pub mod Used
 pub mod Waves
-pub mod Weight

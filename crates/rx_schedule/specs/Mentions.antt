@@ -1,5 +1,7 @@
 -- Plumbing: the books that the records of a batch mention, by names: equal books have equal names.
-use Rattle.std.specs.Prelude.{◌≡◌, ◌≤◌, ℕ, zero, suc, ◌+◌, ◌*◌, ◌%◌, ◌^◌, List, [], ◌∷◌, ◌++◌, slice_index_or, Option, Some, None}
+use Rattle.std.specs.Prelude.{◌≡◌, ◌≤◌, ℕ, zero, suc, ◌+◌, ◌*◌, ◌/◌, ◌%◌, ◌^◌, List, [], ◌∷◌, ◌++◌, drop, length, slice_index_or, take}
+use Rattle.std.specs.Prelude.{Option, Some, None}
+use Rattle.std.specs.Int.{from_be_bytes, w64}
 use Rattle.std.specs.List.{Contains, flat_map, fold}
 use Rattle.rx_fields.specs.declared.key.Key.{Key}
 use Rattle.rx_fields.specs.Calendar.{Civil}
@@ -14,6 +16,7 @@ use Rattle.rx_ledger.specs.Ledger.{Ledger, row_under}
 use Rattle.rx_ledger.specs.Named.{key_in}
 use Rattle.rx_schedule.specs.Footprints.{record_at}
 use Rattle.rx_schedule.specs.declared.mentions.Mention.{Mention}
+use Rattle.rx_schedule.specs.declared.mentions.Reversed.{Reversed}
 
 -- ---- names
 
@@ -21,17 +24,29 @@ use Rattle.rx_schedule.specs.declared.mentions.Mention.{Mention}
 abbrev pub with_number : ℕ → ℕ → ℕ
 with_number name number = ((name * 11400714819323198485) % 2 ^ 64 + number) % 2 ^ 64
 
+-- the name with these bytes too: so many words of eight bytes, and the bytes after them
+abbrev pub with_words : ℕ → ℕ → List ℕ → ℕ
+with_words zero name bytes = fold with_number name bytes
+with_words (suc n) name bytes = with_words n (with_number name (from_be_bytes w64 (take 8 bytes))) (drop 8 bytes)
+
+abbrev pub with_bytes : ℕ → List ℕ → ℕ
+with_bytes name bytes = with_words (length bytes / 8) name bytes
+
+-- the upper half of a name, once more mixed
+abbrev pub half_of : ℕ → ℕ
+half_of name = with_number name 0 / 2 ^ 32
+
 -- the name of a family
 abbrev pub name_of_family : List ℕ → ℕ
-name_of_family family = fold with_number 0 family
+name_of_family family = half_of (with_bytes 0 family)
 
 -- the name of a fill key
 abbrev pub name_of_day : List ℕ → Civil → ℕ
 name_of_day provider date =
-    with_number (with_number (with_number (fold with_number 1 provider) date.year) date.month) date.day
+    with_number (with_number (with_number (with_bytes 1 provider) date.year) date.month) date.day
 
 abbrev pub name_of_key : Key → ℕ
-name_of_key key = with_number (name_of_day key.provider key.date) key.reference
+name_of_key key = half_of (with_number (name_of_day key.provider key.date) key.reference)
 
 -- ---- mentions
 
@@ -39,30 +54,49 @@ name_of_key key = with_number (name_of_day key.provider key.date) key.reference
 abbrev pub mention : ℕ → ℕ → Mention
 mention at name = record { name = name; at = at }
 
+-- what a transaction mentions without the books: its fill key, and the family that it bills
+abbrev pub named_by : ℕ → HeardRecord → Transaction → List Mention
+named_by at h (Bill b) =
+    mention at (name_of_family b.family) ∷ mention at (name_of_key (key_in h b.reference)) ∷ []
+named_by at h (Reverse v) = mention at (name_of_key (key_in h v.reference)) ∷ []
+named_by at h (Faulty f) = []
+
+-- the fill key that it reverses
+abbrev pub reversed_by : ℕ → HeardRecord → Transaction → List Reversed
+reversed_by at h (Bill b) = []
+reversed_by at h (Reverse v) = record { key = key_in h v.reference; at = at } ∷ []
+reversed_by at h (Faulty f) = []
+
+-- the same of a record
+abbrev pub named_in : ℕ → Body → List Mention
+named_in at (Rejected r) = []
+named_in at (Heard h) = flat_map (named_by at h) h.list
+
+abbrev pub reversed_in : ℕ → Body → List Reversed
+reversed_in at (Rejected r) = []
+reversed_in at (Heard h) = flat_map (reversed_by at h) h.list
+
+-- and of the first records
+abbrev pub named_of : List Transmission → ℕ → List Mention
+named_of records zero = []
+named_of records (suc n) = named_of records n ++ named_in n (record_at records (suc n)).body
+
+abbrev pub reversed_of : List Transmission → ℕ → List Reversed
+reversed_of records zero = []
+reversed_of records (suc n) = reversed_of records n ++ reversed_in n (record_at records (suc n)).body
+
 -- the family of a row, if there is one
 abbrev pub mentions_of_row : ℕ → Option Row → List Mention
 mentions_of_row at None = []
 mentions_of_row at (Some r) = mention at (name_of_family r.family) ∷ []
 
--- a fill key, and the family of the opening row under it
-abbrev pub mentions_under : Ledger → ℕ → Key → List Mention
-mentions_under L at key = mention at (name_of_key key) ∷ mentions_of_row at (row_under L key)
+-- those of the opening rows under reversed keys
+abbrev pub holders_of : Ledger → List Reversed → List Mention
+holders_of L reversed = flat_map (λ r. mentions_of_row r.at (row_under L r.key)) reversed
 
--- what a transaction mentions: its fill key, the family of the opening row there, and the family that it bills
-abbrev pub mentions_by : Ledger → ℕ → HeardRecord → Transaction → List Mention
-mentions_by L at h (Bill b) = mention at (name_of_family b.family) ∷ mentions_under L at (key_in h b.reference)
-mentions_by L at h (Reverse v) = mentions_under L at (key_in h v.reference)
-mentions_by L at h (Faulty f) = []
-
--- what a record does
-abbrev pub mentions_in : Ledger → ℕ → Body → List Mention
-mentions_in L at (Rejected r) = []
-mentions_in L at (Heard h) = flat_map (mentions_by L at h) h.list
-
--- what the first records do
+-- what the first records mention
 abbrev pub mentions_of : Ledger → List Transmission → ℕ → List Mention
-mentions_of L records zero = []
-mentions_of L records (suc n) = mentions_of L records n ++ mentions_in L n (record_at records (suc n)).body
+mentions_of L records n = named_of records n ++ holders_of L (reversed_of records n)
 
 -- ---- records that mention one book are together
 

@@ -1,131 +1,171 @@
 ghost use Rattle.std.specs.Prelude.{◌<◌, IfSome};
 
-use crate::mentions::Mention;
-use rx_d0_values::{Body, Transmission};
+use crate::mentions::{Mention, Mentions};
 use rx_fields::Memory;
 use std::alloc::Global;
 
 /// Numbers for records, from 0 and below `most`: records that mention one book have one number, and the transactions are
 /// spread as evenly as these sets of records let them. It promises nothing: the numbers are compared.
-pub(crate) fn dealt(
-    alloc: Global,
-    mentions: &[Mention],
-    transmissions: &[Transmission],
-    most: usize,
-) -> Result<Vec<usize>, Memory> {
-    let mut sets = Sets::of(alloc, mentions, transmissions.len())?;
-    let mut weights = vec![in alloc; 0u64; transmissions.len()]?;
-    for (at, transmission) in transmissions.iter().enumerate() {
-        let first = sets.first(at);
-        if let Some(weight) = weights.get_mut(first) {
-            *weight = weight.saturating_add(weight_of(transmission));
+pub(crate) fn dealt(alloc: Global, mentions: &Mentions, most: usize) -> Result<Vec<usize>, Memory> {
+    let count = mentions.weights.len();
+    let firsts = firsts_of(alloc, &mentions.list, count)?;
+    let mut weights = vec![in alloc; 0u32; count]?;
+    for (first, own) in firsts.iter().zip(&mentions.weights) {
+        if let Some(weight) = weights.get_mut(*first as usize) {
+            *weight = weight.saturating_add(*own);
         }
     }
-    let shards = shards_of(alloc, &weights, most)?;
-    let mut numbers = Vec::with_capacity(alloc, transmissions.len())?;
-    for at in 0..transmissions.len() {
-        numbers.push(shards.get(sets.first(at)).copied().unwrap_or(0))?;
+    let mut numbers = vec![in alloc; 0usize; count]?;
+    deal(alloc, &weights, most, &mut numbers)?;
+    for (at, first) in firsts.iter().enumerate() {
+        let number = numbers.get(*first as usize).copied().unwrap_or(0);
+        if let Some(own) = numbers.get_mut(at) {
+            *own = number;
+        }
     }
     Ok(numbers)
 }
 
-/// How many transactions the records of the largest shard have.
+/// How many transactions the records of the largest of so many shards have; each record has so many.
 pub(crate) fn largest_of(
     alloc: Global,
     numbers: &[usize],
-    transmissions: &[Transmission],
+    count: usize,
+    weights: &[u32],
 ) -> Result<u64, Memory> {
-    let mut loads = vec![in alloc; 0u64; numbers.len()]?;
-    for (number, transmission) in numbers.iter().zip(transmissions) {
+    let mut loads = vec![in alloc; 0u64; count]?;
+    for (number, weight) in numbers.iter().zip(weights) {
         if let Some(load) = loads.get_mut(*number) {
-            *load = load.saturating_add(weight_of(transmission));
+            *load = load.saturating_add(u64::from(*weight));
         }
     }
     Ok(loads.iter().copied().max().unwrap_or(0))
 }
 
-// How many transactions a record has.
-fn weight_of(transmission: &Transmission) -> u64 {
-    match &transmission.body {
-        Body::Rejected(_) => 0,
-        Body::Heard(heard) => heard.list.as_slice().len() as u64,
-    }
-}
-
-// The shard of each set, by its first record: the heaviest set first, each to the lightest shard.
-fn shards_of(alloc: Global, weights: &[u64], most: usize) -> Result<Vec<usize>, Memory> {
-    let mut sets = Vec::with_capacity(alloc, weights.len())?;
-    for (first, weight) in weights.iter().enumerate() {
-        if *weight > 0 {
-            sets.push((u64::MAX - *weight, first))?;
-        }
-    }
-    sets.sort_unstable();
-    let mut loads = vec![in alloc; 0u64; most.min(weights.len())]?;
-    let mut shards = vec![in alloc; 0usize; weights.len()]?;
-    for (lightness, first) in &sets {
-        let shard = lightest(&loads);
-        if let Some(load) = loads.get_mut(shard) {
-            *load = load.saturating_add(u64::MAX - *lightness);
-        }
-        if let Some(number) = shards.get_mut(*first) {
+// Writes the shard of each set at its first record: the heaviest set first, each to the lightest shard.
+fn deal(alloc: Global, weights: &[u32], most: usize, numbers: &mut [usize]) -> Result<(), Memory> {
+    let mut loads = Loads::of(alloc, most.min(weights.len()))?;
+    for set in &heaviest_first(alloc, weights)? {
+        let shard = loads.put(u64::from(u32::MAX).saturating_sub(*set >> 32));
+        if let Some(number) = numbers.get_mut((*set & u64::from(u32::MAX)) as usize) {
             *number = shard;
         }
     }
-    Ok(shards)
+    Ok(())
 }
 
-// The first of the shards with the fewest transactions.
-fn lightest(loads: &[u64]) -> usize {
-    let mut shard = 0;
-    let mut least = u64::MAX;
-    for (at, load) in loads.iter().enumerate() {
-        if *load < least {
-            least = *load;
-            shard = at;
+// The sets that have transactions, the heaviest first, each as one word, since words are sorted faster than pairs: its upper
+// half is 2^32 - 1 less the transactions, its lower half is the set's first record.
+fn heaviest_first(alloc: Global, weights: &[u32]) -> Result<Vec<u64>, Memory> {
+    let mut sets = Vec::with_capacity(alloc, weights.len())?;
+    for (first, weight) in weights.iter().enumerate() {
+        if *weight > 0 {
+            sets.push((u64::from(u32::MAX - *weight) << 32) | first as u64)?;
         }
     }
-    shard
+    sets.sort_unstable();
+    Ok(sets)
+}
+
+// How many transactions each shard has.
+#[derive(Drop)]
+struct Loads {
+    loads: Vec<u64>,
+    // The fewest that a shard has, and a shard before which all have more.
+    least: u64,
+    next: usize,
+}
+
+impl Loads {
+    // So many shards without transactions.
+    fn of(alloc: Global, shards: usize) -> Result<Loads, Memory> {
+        let loads = vec![in alloc; 0u64; shards]?;
+        Ok(Loads {
+            loads,
+            least: 0,
+            next: 0,
+        })
+    }
+
+    // Puts so many transactions to the lightest shard, and says which it is.
+    fn put(&mut self, transactions: u64) -> usize {
+        let shard = self.lightest();
+        if let Some(load) = self.loads.get_mut(shard) {
+            *load = load.saturating_add(transactions);
+        }
+        self.next = shard.saturating_add(1);
+        shard
+    }
+
+    // The first of the shards with the fewest transactions.
+    fn lightest(&mut self) -> usize {
+        if let Some(shard) = self.least_from(self.next) {
+            return shard;
+        }
+        self.least = self.loads.iter().copied().min().unwrap_or(0);
+        self.least_from(0).unwrap_or(0)
+    }
+
+    // The first shard from this one on that has no more than the fewest.
+    fn least_from(&self, from: usize) -> Option<usize> {
+        for at in from..self.loads.len() {
+            if self.loads[at] <= self.least {
+                return Some(at);
+            }
+        }
+        None
+    }
+}
+
+// The first record of each record's set, where those of so many records that mention one book are together. The mentions
+// are in the order of their names.
+fn firsts_of(alloc: Global, mentions: &[Mention], count: usize) -> Result<Vec<u32>, Memory> {
+    let mut sets = Sets::singles(alloc, count)?;
+    for at in 1..mentions.len() {
+        if mentions[at - 1].name == mentions[at].name {
+            sets.unite(mentions[at - 1].at, mentions[at].at);
+        }
+    }
+    let mut firsts = sets.earlier;
+    // An earlier record knows the first of its set by then.
+    for at in 0..firsts.len() {
+        let earlier = firsts[at] as usize;
+        firsts[at] = firsts.get(earlier).copied().unwrap_or(0);
+    }
+    Ok(firsts)
 }
 
 // Sets of records. Each record but the first of its set knows an earlier one of the set.
 #[derive(Drop)]
 struct Sets {
-    earlier: Vec<usize>,
+    earlier: Vec<u32>,
 }
 
 impl Sets {
-    // The sets of so many records, where those that mention one book are together. The mentions are in the order of their
-    // names.
-    fn of(alloc: Global, mentions: &[Mention], count: usize) -> Result<Sets, Memory> {
+    // A set for each of so many records.
+    fn singles(alloc: Global, count: usize) -> Result<Sets, Memory> {
         let mut earlier = Vec::with_capacity(alloc, count)?;
         for at in 0..count {
-            earlier.push(at)?;
+            earlier.push(u32::try_from(at).unwrap_or(u32::MAX))?;
         }
-        let mut sets = Sets { earlier };
-        for at in 1..mentions.len() {
-            if mentions[at - 1].name == mentions[at].name {
-                sets.unite(mentions[at - 1].at, mentions[at].at);
-            }
-        }
-        Ok(sets)
+        Ok(Sets { earlier })
     }
 
     // Makes one set of the sets of two records.
-    fn unite(&mut self, one: usize, other: usize) {
+    fn unite(&mut self, one: u32, other: u32) {
         let one = self.first(one);
         let other = self.first(other);
-        if let Some(earlier) = self.earlier.get_mut(one.max(other)) {
+        if let Some(earlier) = self.earlier.get_mut(one.max(other) as usize) {
             *earlier = one.min(other);
         }
     }
 
     // The first record of a record's set. On the way each record comes to know the one before the one that it knew.
-    fn first(&mut self, from: usize) -> usize {
+    fn first(&mut self, from: u32) -> u32 {
         let mut at = from;
         'back: while let Some(earlier) = self.before(at) {
             if let Some(first) = self.before(earlier)
-                && let Some(known) = self.earlier.get_mut(at)
+                && let Some(known) = self.earlier.get_mut(at as usize)
             {
                 *known = first;
             }
@@ -135,10 +175,10 @@ impl Sets {
     }
 
     // The earlier record of its set that a record knows.
-    fn before(&self, at: usize) -> Option<usize>
+    fn before(&self, at: u32) -> Option<u32>
         ensures { IfSome result (λ earlier. earlier < at) }
     {
-        match self.earlier.get(at) {
+        match self.earlier.get(at as usize) {
             Some(earlier) if *earlier < at => Some(*earlier),
             _ => None,
         }

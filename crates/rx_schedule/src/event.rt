@@ -1,5 +1,5 @@
 /// One atomic step of a desk, at the place of a record, from 1: its books are moved out, or in again
-/// (docs/PRODUCT.md, "The atomic step").
+/// (docs/RULES.md, "The atomic step").
 #[derive(Clone, Copy, Debug, PartialEq, Eq)]
 pub enum Event {
     /// The books of the record are moved out.

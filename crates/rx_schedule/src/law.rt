@@ -2,16 +2,16 @@ ghost use Rattle.std.specs.Prelude.{◌≡◌, ◌≤◌, ℕ, Bool, List, ◌�
 ghost use Rattle.rx_fields.specs.Numbered.{LotParts};
 ghost use Rattle.rx_d0_values.specs.declared.transmission.Transmission.{Transmission};
 ghost use Rattle.rx_ledger.specs.Fold.{fold_ledger};
-ghost use Rattle.rx_ledger.specs.Ledger.{IsLedger, Ledger};
+ghost use Rattle.rx_ledger.specs.Ledger.{Ledger};
 ghost use Rattle.rx_ledger.specs.Plan.{Plan};
 ghost use Rattle.rx_books_family.specs.Books.{Book, IsInOrder, book};
-ghost use Rattle.rx_books_parcel.specs.Footprints.{FootprintParts, IsFootprint, cut, fits, names, sub};
+ghost use Rattle.rx_books_parcel.specs.Footprints.{FootprintParts, cut, fits, names, sub};
 ghost use Rattle.rx_schedule.specs.Footprints.{footprint_at, footprints_of, record_at};
 ghost use Rattle.rx_schedule.specs.Jobs.{IsHeld, job, ledger_before, reply_at};
 ghost use Rattle.rx_schedule.specs.Machine.{GoesByNumber, IsNumbering, IsOrder, IsPlace, KeepsFileOrder};
 ghost use Rattle.rx_schedule.specs.Machine.{one_by_one, replay};
-ghost use Rattle.rx_schedule.specs.Shards.{AreApart, AreTogether, AreTogetherUnparted, AreWide, IsClosed, IsGrouping, IsUntouched};
-ghost use Rattle.rx_schedule.specs.Shards.{books_of_shard, closed_over, is_of, ledger_of, places_of, replies_of, union};
+ghost use Rattle.rx_schedule.specs.Shards.{AreApart, AreJoined, IsGrouping, IsUntouched};
+ghost use Rattle.rx_schedule.specs.Shards.{books_of_shard, is_of, ledger_of, places_of, replies_of};
 ghost use Rattle.rx_schedule.specs.Waves.{AreWaves, number_in};
 
 /// At each point of the fold, before a record and behind the last, the row under a fill key, if there is one, is of the
@@ -61,8 +61,9 @@ pub fn law_of_waves()
 
 /// Records that have books of their own, adjudicated in file order on the ledger of these books alone, find there at each
 /// place what the fold has of these books, and nothing beside them; they get the fold's replies, and leave the fold's
-/// books. So they do on the whole opening ledger (`unparted_..`), where every other book stays. A book that no record names
-/// is as in the opening.
+/// books. So they do on the whole opening ledger (`unparted_..`), where every other book stays. The records of a shard have
+/// such books; and the rows that the shards leave under the keys which their records name, put together with the opening's
+/// others, are the fold's. A book that no record names is as in the opening.
 pub fn law_of_shards()
     ensures ledger { (lot : LotParts) → (plan : Plan) → (L : Ledger) → (records : List Transmission) → IsInOrder L
         → (mine : ℕ → Bool) → (F : FootprintParts) → AreApart L records mine F → (n : ℕ) → n ≤ length records
@@ -86,27 +87,12 @@ pub fn law_of_shards()
     ensures unparted_others { (lot : LotParts) → (plan : Plan) → (L : Ledger) → (records : List Transmission) → IsInOrder L
         → (mine : ℕ → Bool) → (F : FootprintParts) → AreApart L records mine F → (b : Book) → names F b ≡ false
         → book b (ledger_of lot plan records (places_of mine (length records)) L) ≡ book b L }
-    ensures unparted_whole { (lot : LotParts) → (plan : Plan) → (L : Ledger) → (records : List Transmission) → IsInOrder L
-        → (needs : ℕ → FootprintParts) → AreWide L records needs
-        → (shard : ℕ → ℕ) → IsGrouping needs (length records) shard
-        → (M : Ledger) → AreTogetherUnparted lot plan L records needs shard M → M ≡ fold_ledger lot plan 1 records L }
-    ensures apart { (L : Ledger) → (records : List Transmission) → (needs : ℕ → FootprintParts) → AreWide L records needs
-        → (shard : ℕ → ℕ) → IsGrouping needs (length records) shard → (k : ℕ)
-        → AreApart L records (is_of shard k) (books_of_shard needs (length records) shard k) }
-    ensures once { (needs : ℕ → FootprintParts) → (n : ℕ) → (shard : ℕ → ℕ) → IsGrouping needs n shard → (k m : ℕ)
-        → (b : Book) → names (books_of_shard needs n shard k) b ≡ true → names (books_of_shard needs n shard m) b ≡ true
-        → k ≡ m }
-    ensures footprint { (needs : ℕ → FootprintParts) → (places : List ℕ) → IsFootprint (union needs places) }
-    ensures whole { (lot : LotParts) → (plan : Plan) → (L : Ledger) → (records : List Transmission) → IsInOrder L
-        → (needs : ℕ → FootprintParts) → AreWide L records needs
-        → (shard : ℕ → ℕ) → IsGrouping needs (length records) shard
-        → (M : Ledger) → AreTogether lot plan L records needs shard M → M ≡ fold_ledger lot plan 1 records L }
-    ensures wide { (L : Ledger) → (records : List Transmission)
-        → AreWide L records (λ place. closed_over L (footprint_at L records place)) }
-    ensures closing { (L : Ledger) → (F : FootprintParts) → IsInOrder L → IsClosed (closed_over L F) L }
-    ensures closed { (L : Ledger) → (needs : ℕ → FootprintParts) → (n : ℕ) → (shard : ℕ → ℕ)
-        → ((i : ℕ) → 1 ≤ i → i ≤ n → IsClosed (needs i) L) → (k : ℕ) → IsClosed (books_of_shard needs n shard k) L }
-    ensures stands { (L : Ledger) → (F : FootprintParts) → IsLedger L → IsClosed F L → IsLedger (sub F (cut F L)) }
+    ensures apart { (L : Ledger) → (records : List Transmission) → (shard : ℕ → ℕ)
+        → IsGrouping (footprint_at L records) (length records) shard → (k : ℕ)
+        → AreApart L records (is_of shard k) (books_of_shard (footprint_at L records) (length records) shard k) }
+    ensures joined { (lot : LotParts) → (plan : Plan) → (L : Ledger) → (records : List Transmission) → IsInOrder L
+        → (shard : ℕ → ℕ) → IsGrouping (footprint_at L records) (length records) shard
+        → (M : Ledger) → AreJoined lot plan L records shard M → M ≡ fold_ledger lot plan 1 records L }
     ensures untouched { (lot : LotParts) → (plan : Plan) → (L : Ledger) → (records : List Transmission) → IsInOrder L
         → (b : Book) → IsUntouched L records b → book b (fold_ledger lot plan 1 records L) ≡ book b L }
 {}

@@ -3,7 +3,7 @@
 //! In come the opening books and a batch's transmissions; out come the footprint of each record, the books that it names;
 //! the waves, in which records that share no book go together; queues, which hand out a record once every earlier one that
 //! it shares a book with was passed; and shards, sets of records of which no two share a book, so that each may be
-//! adjudicated apart. The weight tells beforehand how large the named families are, up to a limit.
+//! adjudicated apart.
 //!
 //! ```rust
 //! let footprints = rx_schedule::footprints(alloc, &books, &transmissions)?;
@@ -12,20 +12,18 @@
 //! ```
 //!
 //! What a footprint is stands in `specs/Footprints.antt`, what waves are in `specs/Waves.antt`, which records may go in
-//! `specs/Queues.antt`, what shards are in `specs/Shards.antt`, and what a weight is in `specs/Weight.antt`; why an order
-//! that keeps sharers apart gives what the file's order gives stands in `specs/Machine.antt`.
+//! `specs/Queues.antt`, and what shards are in `specs/Shards.antt`; why an order that keeps sharers apart gives what the
+//! file's order gives stands in `specs/Machine.antt`.
 #![tactic(auto)]
 
-mod batch_weight;
 mod billers;
+mod book_names;
 mod deal;
 mod event;
-mod family_weights;
 mod followers;
 mod law;
 mod links;
 mod marks;
-mod member_shares;
 mod mentions;
 mod naming;
 mod ordered;
@@ -37,7 +35,6 @@ mod uses;
 mod wave_numbers;
 mod wave_plan;
 
-pub use batch_weight::weight;
 pub use event::Event;
 pub use law::{law_of_holder, law_of_shards, law_of_standing, law_of_waves};
 pub use naming::footprints;

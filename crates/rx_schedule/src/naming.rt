@@ -15,7 +15,7 @@ use rx_fields::{Id, Key, Memory};
 use std::alloc::Global;
 
 /// The footprint of each record, in file order: the books that it names, read off the opening books and the records
-/// before it (docs/PRODUCT.md, "Footprint").
+/// before it (docs/RULES.md, "Footprint").
 pub fn footprints(
     alloc: Global,
     books: &Books,
@@ -32,7 +32,7 @@ pub fn footprints(
     Ok(list)
 }
 
-pub(crate) fn footprint(
+fn footprint(
     alloc: Global,
     books: &Books,
     billers: &Billers,

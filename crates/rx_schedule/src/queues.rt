@@ -11,7 +11,7 @@ use std::marker::Model;
 use std::snapshot::Snapshot;
 
 /// Which records of a batch may go: a record is ready once every earlier record that it shares a book with was passed
-/// (docs/PRODUCT.md, "Footprint" and "The atomic step"). Places count from 1.
+/// (docs/RULES.md, "Footprint" and "The atomic step"). Places count from 1.
 #[derive(Drop)]
 pub struct Queues {
     footprints: Snapshot<Uses>,

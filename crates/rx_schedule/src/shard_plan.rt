@@ -1,13 +1,12 @@
-ghost use Rattle.std.specs.Prelude.{◌≡◌, ◌<◌, ◌≤◌, IfOk, IsTrue, length};
-ghost use Rattle.std.specs.List.{All, Contains};
-ghost use Rattle.rx_schedule.specs.declared.mentions.Mention.{Mention as MentionValue};
+ghost use Rattle.std.specs.Prelude.{◌≡◌, ◌<◌, ◌≤◌, IfOk, IsTrue, length, replicate};
+ghost use Rattle.std.specs.List.{All};
 ghost use Rattle.rx_schedule.specs.Footprints.{footprint_at};
 ghost use Rattle.rx_schedule.specs.Mentions.{AreTied};
-ghost use Rattle.rx_schedule.specs.Shards.{IsGrouping, closed_over};
+ghost use Rattle.rx_schedule.specs.Shards.{IsGrouping};
 ghost use Rattle.rx_schedule.specs.Waves.{number_in};
 
 use crate::deal::{dealt, largest_of};
-use crate::mentions::{Mention, mentions_of};
+use crate::mentions::{Mention, mentions_of, weight_of};
 use crate::shard_numbers::Shards;
 use crate::ties::are_tied;
 use rx_books_store::Books;
@@ -16,7 +15,7 @@ use rx_fields::Memory;
 use std::alloc::Global;
 
 /// Shards of a batch, `most` of them or fewer. Records are in one shard where a chain of records that share a book ties
-/// them; a fill key ties all its billers and reversals, and the family of the opening row under it, whichever comes first.
+/// them; a fill key ties all its billers and reversals, whichever comes first, and a reversal the family of the opening row.
 /// The heaviest of these sets, by transactions, goes first, each to the shard that is the lightest by then.
 pub fn shards(
     alloc: Global,
@@ -26,20 +25,40 @@ pub fn shards(
 ) -> Result<Shards, Memory>
     requires { 1 ≤ most }
     ensures together { let L = books.now.ledger in
-        IfOk result (λ found. IsGrouping (λ place. closed_over L (footprint_at L transmissions.now place))
-        (length transmissions.now) (number_in found.numbers.items)) }
+        IfOk result (λ found. IsGrouping (footprint_at L transmissions.now) (length transmissions.now)
+        (number_in found.numbers.items)) }
     ensures one_each { IfOk result (λ found. length found.numbers.items ≡ length transmissions.now) }
     ensures within { IfOk result (λ found. All (λ number. number < found.count) found.numbers.items) }
     ensures few { IfOk result (λ found. found.count ≤ most) }
 {
+    if transmissions.len() >= 1 << 32 {
+        return in_one(alloc, transmissions);
+    }
     let mentions = mentions_of(alloc, books, transmissions)?;
-    let dealt = dealt(alloc, &mentions, transmissions, most)?;
-    let numbers = compared(alloc, &mentions, dealt, transmissions.len(), most)?;
+    let dealt = dealt(alloc, &mentions, most)?;
+    let numbers = compared(alloc, &mentions.list, dealt, transmissions.len(), most)?;
     let count = count_of(&numbers, most);
-    let largest = largest_of(alloc, &numbers, transmissions)?;
+    let largest = largest_of(alloc, &numbers, count, &mentions.weights)?;
     Ok(Shards {
         numbers,
         count,
+        largest,
+    })
+}
+
+// One shard of all records, where they are too many to be counted in 32 bits.
+fn in_one(alloc: Global, transmissions: &[Transmission]) -> Result<Shards, Memory>
+    ensures numbers { IfOk result (λ found. found.numbers.items ≡ replicate (length transmissions.now) 0) }
+    ensures count { IfOk result (λ found. found.count ≡ 1) }
+{
+    let numbers = vec![in alloc; 0; transmissions.len()]?;
+    let mut largest = 0u64;
+    for transmission in transmissions {
+        largest = largest.saturating_add(u64::from(weight_of(transmission)));
+    }
+    Ok(Shards {
+        numbers,
+        count: 1,
         largest,
     })
 }

@@ -29,5 +29,5 @@ fn may_follow(numbers: &[usize], before: &Mention, next: &Mention) -> bool
 fn number_of(numbers: &[usize], mention: &Mention) -> usize
     ensures { result ≡ number_of numbers.now mention.now }
 {
-    numbers.get(mention.at).copied().unwrap_or(0)
+    numbers.get(mention.at as usize).copied().unwrap_or(0)
 }

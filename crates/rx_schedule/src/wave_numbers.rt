@@ -1,4 +1,4 @@
-/// The waves of a batch: records of one wave share no book, and may go in any order (docs/PRODUCT.md, "Waves").
+/// The waves of a batch: records of one wave share no book, and may go in any order (docs/RULES.md, "Waves").
 #[derive(Debug, Drop)]
 pub struct Waves {
     /// The wave of each record, in file order, from 1.

@@ -1,11 +1,11 @@
 -- Fills are counted as the rows change, and some fill is too soon exactly where some row is.
-use Rattle.std.specs.Prelude.{nat_lt, ◌&&◌, ◌||◌, Result, OnErr, OnOk, is_some, sum_by, if◌then◌else◌, unwrap_or}
+use Rattle.std.specs.Prelude.{nat_lt, ◌&&◌, Result, OnErr, OnOk, is_some, if◌then◌else◌, unwrap_or}
 use Rattle.std.proofs.Common.{◌≡◌, ℕ, zero, suc, ◌+◌, ◌-◌, ◌<◌, ◌++◌, Bool, true, false, List, [], ◌∷◌, Option}
 use Rattle.std.proofs.Common.{Some, None, refl, sym, ap, ◌∙◌, inl, inr, arith, add-zero, get_or}
 use Rattle.std.specs.Option.{ok_or, option_map}
 use Rattle.std.specs.List.{All, Contains, list_any}
 use Rattle.std.specs.Cmp.{IsTotalOrder}
-use Rattle.std.specs.Ordering.{is_eq, is_lt}
+use Rattle.std.specs.Ordering.{is_eq}
 use Rattle.std.proofs.lemmas.Bool.{cases_Bool, and_parts}
 use Rattle.std.proofs.lemmas.Bool.Decides.{nat_tests}
 use Rattle.std.proofs.lemmas.List.Elements.{All-tail}

@@ -18,18 +18,18 @@ use Rattle.rx_ledger.specs.Ledger.{Ledger, is_listed}
 use Rattle.rx_ledger.specs.Members.{is_same, member_cmp, member_key, of_family}
 use Rattle.rx_books_store.specs.LedgerBooks.{has_members}
 use Rattle.rx_ledger.proofs.Orders.{id_total, key_exact, key_total, member_exact, member_total}
-use Rattle.rx_serial.specs.Underway.{is_slot}
+use Rattle.rx_serial.specs.Underway.{is_named}
 
--- a key that is a slot's is among the slots' keys
-found_key : (slots : List Key) (k : Key) (o : Option Key) → item_at key_cmp (λ x. x) slots k ≡ o → is_some o ≡ true
-    → Contains slots k
-found_key slots k None is there = absurd (let e = there in cc)
-found_key slots k (Some x) is there =
-    let found = item_at-found key_cmp key_total (λ (y : Key). y) slots k x is in
-    subst (Contains slots) (key_exact x k found.1) found.0
+-- a key that is named is among the keys
+found_key : (keys : List Key) (k : Key) (o : Option Key) → item_at key_cmp (λ x. x) keys k ≡ o → is_some o ≡ true
+    → Contains keys k
+found_key keys k None is there = absurd (let e = there in cc)
+found_key keys k (Some x) is there =
+    let found = item_at-found key_cmp key_total (λ (y : Key). y) keys k x is in
+    subst (Contains keys) (key_exact x k found.1) found.0
 
-pub slot_there : (slots : List Key) (k : Key) → is_slot slots k ≡ true → Contains slots k
-slot_there slots k there = found_key slots k (item_at key_cmp (λ x. x) slots k) refl there
+pub named_there : (keys : List Key) (k : Key) → is_named keys k ≡ true → Contains keys k
+named_there keys k there = found_key keys k (item_at key_cmp (λ x. x) keys k) refl there
 
 -- the member at the place of a key
 pub record IsMemberAt (members : List Member) (k : MemberKey) (i : ℕ) : Type 0 where

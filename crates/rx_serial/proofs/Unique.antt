@@ -1,5 +1,6 @@
 -- A list that was sorted, with what is there twice left out.
 use Rattle.std.proofs.Common.{◌≡◌, Bool, List, [], ◌∷◌, Decides, refl, sym, ap, ◌∙◌}
+use Rattle.std.specs.Prelude.{◌↔◌}
 use Rattle.std.specs.List.{AllByRecursion, Contains, dedup}
 use Rattle.std.specs.List.Sorted.{IsPermutation, IsSorted, IsStrictlySortedBy}
 use Rattle.std.specs.List.Retain.{DiffersFromLast, IsFiltered}
@@ -10,8 +11,8 @@ use Rattle.std.specs.declared.cmp.Ordering.TheVariants.{Less}
 use Rattle.std.proofs.lemmas.Bool.Decides.{same_from_decides}
 use Rattle.std.proofs.lemmas.Cmp.{tied_itself}
 use Rattle.std.proofs.lemmas.List.Filters.{dedup_is}
-use Rattle.std.proofs.lemmas.List.Kept.{Contains-dedup, IsStrictlySortedBy-dedup}
-use Rattle.std.proofs.lemmas.List.Sorted.{Contains-permutation}
+use Rattle.std.proofs.lemmas.List.Kept.{Contains-dedup, Contains-from_dedup, IsStrictlySortedBy-dedup}
+use Rattle.std.proofs.lemmas.List.Sorted.{Contains-permutation, IsPermutation-sym}
 use Rattle.std.proofs.lemmas.Map.Lookups.{CmpEqualImpliesEq}
 use Rattle.rx_sorted.specs.Ascending.{IsAscending, IsBelow}
 use Rattle.rx_sorted.proofs.Keys.{Equal-from_is_eq}
@@ -54,6 +55,8 @@ module _ {K : Type 0} (cmp : K → K → Ordering) (order : IsTotalOrder cmp) (e
     unique_rise = rw (dedup_is same xs ys filtered)
         (rising (dedup same xs) (IsStrictlySortedBy-dedup order ties xs sorted))
 
-    pub unique_keeps : (k : K) → Contains given k → Contains ys k
-    unique_keeps k there = rw (dedup_is same xs ys filtered)
-        (Contains-dedup equivalence (λ x y. (decides x y).0) xs k (Contains-permutation given xs k moved there))
+    pub unique_keys : (k : K) → Contains ys k ↔ Contains given k
+    unique_keys k = rw (dedup_is same xs ys filtered) (
+      λ there. Contains-permutation xs given k (IsPermutation-sym given xs moved) (Contains-from_dedup same xs k there),
+      λ there. Contains-dedup equivalence (λ x y. (decides x y).0) xs k (Contains-permutation given xs k moved there),
+    )

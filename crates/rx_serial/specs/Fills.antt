@@ -19,6 +19,7 @@ use Rattle.rx_serial.specs.declared.fill.Fill.{Fill}
 use Rattle.rx_serial.specs.declared.fill.FillKey.{FillKey}
 use Rattle.rx_serial.specs.declared.fill.FirstDay.{FirstDay}
 use Rattle.rx_serial.specs.declared.fill.When.{When}
+use Rattle.rx_serial.specs.declared.marks.Marks.{Marks}
 use Rattle.rx_serial.specs.declared.refill.Refill.{Refill}
 
 -- by member, then product
@@ -95,8 +96,16 @@ abbrev pub mark_of : ℕ → Course → ℕ
 mark_of marks c = ((c.holder * 11400714819323198485) % 2 ^ 64 + c.product) % 2 ^ 64 % marks
 
 -- the course has a mark; others can have the same
-abbrev pub has_mark : List Bool → Course → Bool
-has_mark marks c = slice_index_or marks (mark_of (length marks) c) false
+abbrev pub has_course_mark : List Bool → Course → Bool
+has_course_mark marks c = slice_index_or marks (mark_of (length marks) c) false
+
+-- the member at a place has a mark
+abbrev pub has_member_mark : List Bool → ℕ → Bool
+has_member_mark marks holder = slice_index_or marks holder false
+
+-- the course and its member have a mark
+abbrev pub has_mark : Marks → Course → Bool
+has_mark m c = has_member_mark m.members.items c.holder && has_course_mark m.courses.items c
 
 -- ---- what is counted
 
@@ -105,7 +114,7 @@ abbrev pub lasts : FirstDay → When → Bool
 lasts first w = int_lt ((first.number -ℤ w.number) *ℤ pos 100) (pos (w.days * 100))
 
 -- the fill is of a course that has a mark, and some of its days are left on the first day
-abbrev pub is_counted : List Bool → FirstDay → FillKey → Bool
+abbrev pub is_counted : Marks → FirstDay → FillKey → Bool
 is_counted marks first k = lasts first k.when && has_mark marks k.course
 
 -- ---- a refill

@@ -1,4 +1,4 @@
--- Plumbing: the fill keys that a batch names.
+-- Plumbing: the fill keys that records name.
 use Rattle.std.specs.Prelude.{List, [], ◌∷◌}
 use Rattle.std.specs.List.{flat_map}
 use Rattle.rx_fields.specs.declared.key.Key.{Key}
@@ -22,9 +22,9 @@ abbrev pub keys_in : Body → List Key
 keys_in (Rejected r) = []
 keys_in (Heard h) = flat_map (keys_of h) h.list
 
--- those of a batch
+-- those of some records
 abbrev pub keys_named : List Transmission → List Key
-keys_named transmissions = flat_map (λ t. keys_in t.body) transmissions
+keys_named records = flat_map (λ t. keys_in t.body) records
 
 -- a key that is named
 abbrev pub named_key : Named → Key

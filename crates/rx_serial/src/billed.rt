@@ -8,8 +8,8 @@ use rx_d0_values::{Body, Heard, Transaction, Transmission};
 use rx_fields::{Days, Id, Memory, Person};
 use std::alloc::Global;
 
-/// Where the members of a batch's transactions are listed, in order, with None where there is none; where those of each
-/// record begin; and an entry that counts nothing for each fill that the batch bills.
+/// Where the members of some records' transactions are listed, in order, with None where there is none; where those of
+/// each record begin; and an entry that counts nothing for each fill that the records bill.
 #[derive(Debug, Drop)]
 pub(crate) struct Billed {
     pub(crate) holders: Vec<Option<usize>>,
@@ -17,17 +17,17 @@ pub(crate) struct Billed {
     pub(crate) own: Vec<Entry>,
 }
 
-/// What a batch bills of the members in books.
+/// What some records bill of the members in books.
 pub(crate) fn billed_by(
     alloc: Global,
     books: &OpenBooks,
-    transmissions: &[Transmission],
+    records: &[&Transmission],
 ) -> Result<Billed, Memory>
     ensures holders { IfOk result (λ found. All (IsHolder books.now.books.ledger.members) found.holders.items) }
     ensures own { IfOk result (λ found. All (λ e. e.fill.count ≡ 0) found.own.items) }
 {
-    let mut found = none_billed(alloc, transmissions.len())?;
-    for transmission in transmissions {
+    let mut found = none_billed(alloc, records.len())?;
+    for transmission in records {
         put_record(&mut found, books, transmission)?;
     }
     Ok(found)

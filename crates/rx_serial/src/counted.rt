@@ -1,18 +1,19 @@
-ghost use Rattle.std.specs.Prelude.{◌≡◌, ◌≤◌, IfOk, IsTrue, true};
+ghost use Rattle.std.specs.Prelude.{◌≡◌, ◌≤◌, IfNone, IfOk, IfSome, IsTrue, false, true};
 ghost use Rattle.std.specs.List.{All};
 ghost use Rattle.rx_serial.specs.declared.fill.FillKey.{FillKey};
-ghost use Rattle.rx_serial.specs.Fills.{AreCounted, concerns, count_among, count_at, fills_in, is_counted};
+ghost use Rattle.rx_serial.specs.Fills.{AreCounted, concerns, count_among, count_at, fill_at, fills_in, is_counted};
 
 use crate::billed::longest_of;
 use crate::fill::{Entry, Fill, FillKey, FirstDay, fill_at, tally_near};
-use crate::marks::{has_mark, marks_of};
+use crate::marks::{Marks, marks_of};
 use crate::refill::{Refill, are_left};
 use rx_books_store::OpenBooks;
 use rx_fields::{Days, Memory};
+use rx_ledger::Row;
 use rx_sorted::Ascending;
 use std::alloc::Global;
 
-/// The counts of fills; and for each transaction of the batch, where the entry of its own fill is among them, if it has
+/// The counts of fills; and for each transaction of the records, where the entry of its own fill is among them, if it has
 /// one. What is looked up there is compared.
 #[derive(Debug, Drop)]
 pub(crate) struct Counts {
@@ -23,14 +24,14 @@ pub(crate) struct Counts {
 /// The counts; the marks and the first day by which they were made; and the longest days supply of all that is counted.
 #[derive(Drop)]
 pub(crate) struct Tally {
-    pub(crate) marks: Vec<bool>,
+    pub(crate) marks: Marks,
     pub(crate) first_day: FirstDay,
     pub(crate) fills: Ascending<Fill>,
     pub(crate) places: Vec<usize>,
     pub(crate) longest: Days,
 }
 
-/// The counts for so many transactions, with marks for the courses of these entries.
+/// The counts for so many transactions, with marks for the members and courses of these entries.
 pub(crate) fn tally_of(
     alloc: Global,
     books: &OpenBooks,
@@ -39,10 +40,10 @@ pub(crate) fn tally_of(
 ) -> Result<Tally, Memory>
     requires { All (λ e. e.fill.count ≡ 0) own.items }
     ensures counted { let L = books.now.books.ledger in
-        IfOk result (λ t. AreCounted (is_counted t.marks.items t.first_day) L.members L.rows t.fills) }
+        IfOk result (λ t. AreCounted (is_counted t.marks t.first_day) L.members L.rows t.fills) }
     ensures longest { IfOk result (λ t. All (λ f. f.key.when.days ≤ t.longest) t.fills) }
 {
-    let marks = marks_of(alloc, &own)?;
+    let marks = marks_of(alloc, books.members().len(), &own)?;
     let first_day = first_day_of(&own);
     let Counts { fills, places } = counted(alloc, books, &marks, first_day, own, transactions)?;
     let longest = longest_of(fills.as_slice());
@@ -56,11 +57,11 @@ pub(crate) fn tally_of(
 }
 
 // The counts for so many transactions, of the fills of courses that have a mark, as far as days of them are left on the
-// first day. There is an entry for each of the batch's own fills, so that counting these asks for no memory later on.
+// first day. There is an entry for each of the records' own fills, so that counting these asks for no memory later on.
 fn counted(
     alloc: Global,
     books: &OpenBooks,
-    marks: &[bool],
+    marks: &Marks,
     first_day: FirstDay,
     own: Vec<Entry>,
     transactions: usize,
@@ -92,27 +93,44 @@ fn first_day_of(entries: &[Entry]) -> FirstDay {
 }
 
 /// Whether all fills that concern a refill are counted.
-pub(crate) fn are_counted_for(marks: &[bool], first_day: FirstDay, refill: &Refill) -> bool
+pub(crate) fn are_counted_for(marks: &Marks, first_day: FirstDay, refill: &Refill) -> bool
     requires { refill.now.percent ≤ 100 }
     ensures { IsTrue result → (k : FillKey) → concerns refill.now k ≡ true → is_counted marks.now first_day k ≡ true }
 {
     if refill.number < first_day.number {
         return false;
     }
-    has_mark(marks, &refill.course)
+    marks.has(&refill.course)
 }
 
 // Whether the fill is counted: one of a course that has a mark, of which days are left on the first day.
-fn is_counted(marks: &[bool], first_day: FirstDay, key: &FillKey) -> bool
+fn is_counted(marks: &Marks, first_day: FirstDay, key: &FillKey) -> bool
     ensures { result ≡ is_counted marks.now first_day key.now }
 {
-    are_left(first_day.number, key.when.number, key.when.days, 100) && has_mark(marks, &key.course)
+    are_left(first_day.number, key.when.number, key.when.days, 100) && marks.has(&key.course)
+}
+
+// The fill of a row, by the place of its member, where it is counted. Most rows are of members who have no mark, and are
+// passed at once.
+fn counted_fill(marks: &Marks, first_day: FirstDay, holder: usize, row: &Row) -> Option<FillKey>
+    ensures some { IfSome result (λ key. key ≡ fill_at holder row.now) }
+    ensures none { IfNone result (is_counted marks.now first_day (fill_at holder row.now) ≡ false) }
+{
+    if !marks.has_member(holder) {
+        return None;
+    }
+    let key = fill_at(holder, row);
+    if is_counted(marks, first_day, &key) {
+        Some(key)
+    } else {
+        None
+    }
 }
 
 // These entries, and one for each standing claim whose fill is counted.
 fn found(
     books: &OpenBooks,
-    marks: &[bool],
+    marks: &Marks,
     first_day: FirstDay,
     own: Vec<Entry>,
 ) -> Result<Vec<Entry>, Memory>
@@ -124,8 +142,7 @@ fn found(
     let mut found = own;
     let mut standing = books.standing();
     while let Some((row, holder)) = standing.next_row() {
-        let key = fill_at(holder, row);
-        if is_counted(marks, first_day, &key) {
+        if let Some(key) = counted_fill(marks, first_day, holder, row) {
             found.push(Entry {
                 fill: Fill { key, count: 1 },
                 transaction: usize::MAX,

@@ -35,7 +35,7 @@ pub(crate) struct Fill {
     pub(crate) count: u64,
 }
 
-/// The first day on which a batch bills, as a number. No fill that is over by then makes one of its own too soon.
+/// The first day on which the records bill, as a number. No fill that is over by then makes one of theirs too soon.
 #[derive(Clone, Copy, Debug)]
 pub(crate) struct FirstDay {
     pub(crate) number: i32,

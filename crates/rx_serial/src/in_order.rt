@@ -1,6 +1,8 @@
-ghost use Rattle.std.specs.Prelude.{◌≡◌, ◌≤◌, IfOk, OnOk};
-ghost use Rattle.std.specs.List.{All, list_any};
+ghost use Rattle.std.specs.Prelude.{◌≡◌, ◌≤◌, ◌↔◌, IfOk, OnOk, map};
+ghost use Rattle.std.specs.List.{All, Contains, list_any};
 ghost use Rattle.rx_fields.specs.declared.limits.TheConstants.{MOST_DETAILS};
+ghost use Rattle.rx_fields.specs.Order.{key_cmp};
+ghost use Rattle.rx_fields.specs.declared.key.Key.{Key};
 ghost use Rattle.rx_ledger.specs.Answers.{is_too_soon};
 ghost use Rattle.rx_ledger.specs.Fold.{ledger_after, reply_to};
 ghost use Rattle.rx_ledger.specs.Ledger.{rows_of};
@@ -8,10 +10,14 @@ ghost use Rattle.rx_ledger.specs.Members.{is_same};
 ghost use Rattle.rx_ledger.specs.TermList.{plan_of};
 ghost use Rattle.rx_serial.specs.Underway.{IsAwaited, IsHolder, scope_of};
 ghost use Rattle.rx_serial.specs.Fills.{AreCounted, is_counted};
+ghost use Rattle.rx_serial.specs.Named.{keys_named};
+ghost use Rattle.rx_sorted.specs.Ascending.{IsAscending};
 
 use crate::billed::{Billed, billed_by, longer};
 use crate::counted::{Tally, are_counted_for, tally_of};
+use crate::ended::Ended;
 use crate::fill::{Fill, FirstDay, fill_at, lower, tally_near};
+use crate::marks::Marks;
 use crate::names::{Names, names_of, slots_of};
 use crate::near::near_of;
 use crate::refill::Refill;
@@ -24,15 +30,19 @@ use rx_sorted::Ascending;
 use std::alloc::Global;
 use std::marker::Model;
 
-/// Books on which the records of a batch are adjudicated one after another. Contracts see the books so far, and the fill
-/// keys that the batch names.
+/// Books on which records of a batch are adjudicated one after another: all of them, or some in file order. Contracts see
+/// the books so far, the fill keys that have a slot, and those that the records name.
 #[derive(Debug, Drop)]
 pub struct InOrder {
     pub(crate) books: OpenBooks,
-    // Where the members of the batch's transactions are listed, in order; where those of each record begin; and where
-    // those of the record begin that is adjudicated. Who is found there is compared with who is looked for.
+    // The fill keys that the records name, each once, in order. All of them have a slot.
+    pub(crate) keys: Vec<Key>,
+    // Where the members of the records' transactions are listed, in order; where those of each record begin; which record
+    // is the next; and where those of the record begin that is adjudicated. Who is found there is compared with who is
+    // looked for.
     pub(crate) holders: Vec<Option<usize>>,
     pub(crate) firsts: Vec<usize>,
+    pub(crate) next: usize,
     pub(crate) at: usize,
     // Where the slots of the transactions' fill keys probably are, and the entries of their own fills, in the same order.
     // They are compared too.
@@ -40,7 +50,7 @@ pub struct InOrder {
     pub(crate) own: Vec<usize>,
     // The fills of the courses that have a mark, as far as days of them are left on the first day, each with how many
     // standing claims are such fills, and the longest days supply of all.
-    pub(crate) marks: Vec<bool>,
+    pub(crate) marks: Marks,
     pub(crate) first_day: FirstDay,
     pub(crate) fills: Ascending<Fill>,
     pub(crate) longest: Days,
@@ -51,14 +61,13 @@ impl Model for InOrder {
 
     ghost Value = { Underway };
 
-    ghost view = { λ o. record { books = o.books.books; slots = o.books.slots } };
+    ghost view = { λ o. record { books = o.books.books; slots = o.books.slots; keys = o.keys.items } };
 
-    ghost invariant = { λ o. IsUnderway o.books o.marks.items o.first_day o.fills o.longest o.holders.items };
+    ghost invariant = { λ o. IsUnderway o.books o.keys.items o.marks o.first_day o.fills o.longest o.holders.items };
 }
 
 impl InOrder {
-    /// The books for a batch: a slot for each fill key that it names, and the fills of what it bills, counted. Without
-    /// memory the books are dropped.
+    /// The books for a whole batch, whose records are adjudicated in file order. Without memory the books are dropped.
     pub fn new(
         alloc: Global,
         books: Books,
@@ -67,23 +76,42 @@ impl InOrder {
         ensures same { IfOk result (λ order. order.books ≡ books) }
         ensures awaited { IfOk result (λ order. All (IsAwaited order) transmissions.now) }
     {
-        let names = names_of(alloc, transmissions)?;
-        let books = books.open(alloc, &names.keys)?;
-        InOrder::over(alloc, books, &names, transmissions)
+        let records = borrowed(alloc, transmissions)?;
+        InOrder::of_records(alloc, books, &records)
     }
 
-    // The same over opened books, which have a slot for each of the batch's fill keys.
+    /// The books for some records of a batch, which are adjudicated in this order: a slot for each fill key that they name,
+    /// and the fills of what they bill, counted. Without memory the books are dropped.
+    pub fn of_records(
+        alloc: Global,
+        books: Books,
+        records: &[&Transmission],
+    ) -> Result<InOrder, Memory>
+        ensures same { IfOk result (λ order. order.books ≡ books) }
+        ensures awaited { IfOk result (λ order. All (λ t. IsAwaited order t.now) records.now) }
+        ensures keys { IfOk result (λ order. (key : Key)
+            → Contains order.keys key ↔ Contains (keys_named (map (λ t. t.now) records.now)) key) }
+    {
+        let names = names_of(alloc, records)?;
+        let books = books.open(alloc, &names.keys)?;
+        InOrder::over(alloc, books, names, records)
+    }
+
+    // The same over opened books, which have a slot for each of the records' fill keys.
     fn over(
         alloc: Global,
         books: OpenBooks,
-        names: &Names,
-        transmissions: &[Transmission],
+        names: Names,
+        records: &[&Transmission],
     ) -> Result<InOrder, Memory>
+        requires rise { IsAscending key_cmp (λ key. key) names.keys.items }
+        requires slots { All (Contains books.slots) names.keys.items }
         ensures same { IfOk result (λ order. order.books ≡ books.books) }
-        ensures slots { IfOk result (λ order. order.slots ≡ books.slots) }
+        ensures keys { IfOk result (λ order. order.keys ≡ names.keys.items) }
     {
-        let found = found_in(alloc, &books, names, transmissions)?;
+        let found = found_in(alloc, &books, &names, records)?;
         let _in_order = books.standing();
+        let Names { keys, .. } = names;
         let Found {
             holders,
             firsts,
@@ -99,8 +127,10 @@ impl InOrder {
         } = tally;
         Ok(InOrder {
             books,
+            keys,
             holders,
             firsts,
+            next: 0,
             at: 0,
             slots,
             own: places,
@@ -111,8 +141,8 @@ impl InOrder {
         })
     }
 
-    /// The reply to a record of the batch at its place; the books are then those after it (docs/MODEL.md, "Record and
-    /// fold"). Without memory, nothing is promised of the books.
+    /// The reply to the next record, which has this place in the batch; the books are then those after it
+    /// (docs/GUARANTEES.md, "Record and fold"). Without memory, nothing is promised of the books.
     pub fn record(
         &mut self,
         alloc: Global,
@@ -128,19 +158,22 @@ impl InOrder {
         ensures after { OnOk result (self.new.books.ledger
             ≡ ledger_after terms.now.lot (plan_of terms.now) place transmission.now self.old.books.ledger) }
         ensures scope { OnOk result (scope_of self.new ≡ scope_of self.old) }
+        ensures keys { OnOk result (self.new.keys ≡ self.old.keys) }
     {
-        self.begin(place);
-        answer_record(alloc, self, terms, place, transmission)
+        self.begin();
+        let reply = answer_record(alloc, self, terms, place, transmission)?;
+        let _keys = &self.keys;
+        Ok(reply)
     }
 
-    // Turns to the members of the record at a place.
-    fn begin(&mut self, place: u64)
-        ensures { self.new ≡ self.old }
+    // Turns to the members of the next record.
+    fn begin(&mut self)
+        ensures same { self.new ≡ self.old }
+        ensures rise { IsAscending key_cmp (λ key. key) self.new.keys }
     {
-        if place > 0 {
-            if let Some(first) = self.firsts.get((place - 1) as usize) {
-                self.at = *first;
-            }
+        if let Some(first) = self.firsts.get(self.next) {
+            self.at = *first;
+            self.next += 1;
         }
     }
 
@@ -157,6 +190,17 @@ impl InOrder {
     {
         let InOrder { books, .. } = self;
         books.close()
+    }
+
+    /// The books so far, still open, with the fill keys that the records name. It takes no memory.
+    pub fn into_parts(self) -> Ended
+        ensures books { result.books.books ≡ self.books }
+        ensures keys { result.keys.items ≡ self.keys }
+        ensures rise { IsAscending key_cmp (λ key. key) result.keys.items }
+        ensures slots { All (Contains result.books.slots) result.keys.items }
+    {
+        let InOrder { books, keys, .. } = self;
+        Ended { books, keys }
     }
 }
 
@@ -233,7 +277,14 @@ impl Basis for InOrder {
     }
 }
 
-// What is looked up of a batch in its books.
+// The records of a whole batch.
+fn borrowed(alloc: Global, transmissions: &[Transmission]) -> Result<Vec<&Transmission>, Memory>
+    ensures { IfOk result (λ records. map (λ t. t.now) records.items ≡ transmissions.now) }
+{
+    Ok(transmissions.iter().collect(alloc)?)
+}
+
+// What is looked up of some records in their books.
 #[derive(Drop)]
 struct Found {
     holders: Vec<Option<usize>>,
@@ -242,23 +293,23 @@ struct Found {
     tally: Tally,
 }
 
-// Looks up what a batch names and bills.
+// Looks up what some records name and bill.
 fn found_in(
     alloc: Global,
     books: &OpenBooks,
     names: &Names,
-    transmissions: &[Transmission],
+    records: &[&Transmission],
 ) -> Result<Found, Memory>
     ensures holders { IfOk result (λ found. All (IsHolder books.now.books.ledger.members) found.holders.items) }
     ensures counted { let L = books.now.books.ledger in
-        IfOk result (λ found. let t = found.tally in AreCounted (is_counted t.marks.items t.first_day) L.members L.rows t.fills) }
+        IfOk result (λ found. let t = found.tally in AreCounted (is_counted t.marks t.first_day) L.members L.rows t.fills) }
     ensures longest { IfOk result (λ found. All (λ f. f.key.when.days ≤ found.tally.longest) found.tally.fills) }
 {
     let Billed {
         holders,
         firsts,
         own,
-    } = billed_by(alloc, books, transmissions)?;
+    } = billed_by(alloc, books, records)?;
     let tally = tally_of(alloc, books, own, holders.len())?;
     let slots = slots_of(alloc, &names.named, &names.keys, holders.len())?;
     Ok(Found {
@@ -269,7 +320,7 @@ fn found_in(
     })
 }
 
-// Whether some row that stands makes a billing too soon. All rows are gone over: no record of the batch asks for it.
+// Whether some row that stands makes a billing too soon. All rows are gone over: none of the records asks for it.
 fn is_any_row_too_soon(books: &OpenBooks, figures: &Figures, date: Day, bill: &Bill) -> bool
     requires { figures.now.refill_percent ≤ 100 }
     ensures { result ≡ list_any (is_too_soon figures.now date bill.now) (rows_of books.now.books.ledger bill.now.family) }

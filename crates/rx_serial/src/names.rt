@@ -1,4 +1,4 @@
-ghost use Rattle.std.specs.Prelude.{◌≡◌, ◌++◌, IfOk, OnOk, map};
+ghost use Rattle.std.specs.Prelude.{◌≡◌, ◌++◌, ◌↔◌, IfOk, OnOk, map};
 ghost use Rattle.std.specs.List.{Contains, flat_map};
 ghost use Rattle.rx_fields.specs.Order.{key_cmp};
 ghost use Rattle.rx_fields.specs.declared.key.Key.{Key};
@@ -9,8 +9,8 @@ use rx_d0_values::{Body, Heard, Transaction, Transmission};
 use rx_fields::{Key, Memory};
 use std::alloc::Global;
 
-/// A fill key that a batch names, and which of its transactions does, counted over all records. By their ranks most keys
-/// are in order.
+/// A fill key that some records name, and which of their transactions does, counted over all of them. By their ranks most
+/// keys are in order.
 #[derive(Clone, Copy, Debug)]
 pub(crate) struct Named {
     pub(crate) rank: u128,
@@ -18,30 +18,31 @@ pub(crate) struct Named {
     pub(crate) transaction: usize,
 }
 
-/// The fill keys that a batch names: as its transactions do, and each once, in order.
+/// The fill keys that some records name: as their transactions do, and each once, in order.
 #[derive(Debug, Drop)]
 pub(crate) struct Names {
     pub(crate) named: Vec<Named>,
     pub(crate) keys: Vec<Key>,
 }
 
-/// The fill keys that a batch names.
-pub(crate) fn names_of(alloc: Global, transmissions: &[Transmission]) -> Result<Names, Memory>
+/// The fill keys that some records name.
+pub(crate) fn names_of(alloc: Global, records: &[&Transmission]) -> Result<Names, Memory>
     ensures rise { IfOk result (λ names. IsAscending key_cmp (λ key. key) names.keys.items) }
-    ensures keeps { IfOk result (λ names. (key : Key) → Contains (keys_named transmissions.now) key → Contains names.keys.items key) }
+    ensures keys { IfOk result (λ names. (key : Key)
+        → Contains names.keys.items key ↔ Contains (keys_named (map (λ t. t.now) records.now)) key) }
 {
-    let mut named = keys_named(alloc, transmissions)?;
+    let mut named = keys_named(alloc, records)?;
     let keys = unique_keys(alloc, &mut named)?;
     Ok(Names { named, keys })
 }
 
-// The fill keys that a batch names, in the order in which it does.
-fn keys_named(alloc: Global, transmissions: &[Transmission]) -> Result<Vec<Named>, Memory>
-    ensures { IfOk result (λ named. map named_key named.items ≡ keys_named transmissions.now) }
+// The fill keys that some records name, in the order in which they do.
+fn keys_named(alloc: Global, records: &[&Transmission]) -> Result<Vec<Named>, Memory>
+    ensures { IfOk result (λ named. map named_key named.items ≡ keys_named (map (λ t. t.now) records.now)) }
 {
-    let mut named = Vec::with_capacity(alloc, transmissions.len())?;
+    let mut named = Vec::with_capacity(alloc, records.len())?;
     let mut before = 0;
-    for transmission in transmissions {
+    for transmission in records {
         if let Body::Heard(heard) = &transmission.body {
             before = put_keys(&mut named, heard, before)?;
         }
@@ -101,7 +102,8 @@ fn rank_of(key: &Key) -> u128 {
 // The fill keys in order, each once. From then on most of those that are named are in this order too.
 fn unique_keys(alloc: Global, named: &mut Vec<Named>) -> Result<Vec<Key>, Memory>
     ensures rise { IfOk result (λ unique. IsAscending key_cmp (λ key. key) unique.items) }
-    ensures keeps { IfOk result (λ unique. (key : Key) → Contains (map named_key named.old.items) key → Contains unique.items key) }
+    ensures keys { IfOk result (λ unique. (key : Key)
+        → Contains unique.items key ↔ Contains (map named_key named.old.items) key) }
 {
     named.sort_unstable_by_key(|name| name.rank);
     let mut keys = only_keys(alloc, named)?;

@@ -14,10 +14,10 @@ const MOST: usize = 4;
 
 // What a record asks for is mostly near: it was found for the record's own transactions.
 impl InOrder {
-    /// The place of a fill key's slot: near, or else it is looked up.
+    /// The place of a fill key's slot: near, or else it is looked up. Each key that the records name has one.
     pub(crate) fn slot_of(&self, key: &Key) -> Option<usize>
         ensures found { IfSome result (λ at. slice_get self.now.slots at ≡ Some key.now) }
-        ensures absent { IfNone result (¬ Contains self.now.slots key.now) }
+        ensures absent { IfNone result (¬ Contains self.now.keys key.now) }
     {
         for slot in near_of(&self.slots, self.at) {
             if self.books.is_slot(*slot, key) {

@@ -1,4 +1,4 @@
--- The sheets of docs/FORMATS.md and of docs/CASES.md, "damaged-sheets", as the definition reads their trees.
+-- The sheets of docs/FORMATS.md and of tests/cases/README.md, "damaged-sheets", as the definition reads their trees.
 use Rattle.std.proofs.Common.{◌≡◌, ℕ, ℤ, List, [], ◌∷◌, Option, Some, None, Ok, Err, refl}
 use Rattle.std.specs.Prelude.{codes, pos, negsuc}
 use Rattle.toml.specs.Data.{Data, string, integer, table, Members, no_members, member}

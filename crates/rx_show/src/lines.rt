@@ -11,8 +11,8 @@ use rx_fields::{Memory, Reference, date_write};
 use rx_print::put_codes;
 use std::alloc::{AllocError, Global};
 
-/// A line for each transaction, and one for each rejected header, of transmissions in file order (docs/PRODUCT.md,
-/// "The program").
+/// A line for each transaction, and one for each rejected header, of transmissions in file order (docs/CLI.md,
+/// "show").
 pub fn show_lines(alloc: Global, transmissions: &[Transmission]) -> Result<Vec<u8>, Memory>
     ensures { IfOk result (λ text. text.items ≡ shown_lines transmissions.now) }
 {

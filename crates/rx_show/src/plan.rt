@@ -8,7 +8,7 @@ use rx_fields::Memory;
 use std::alloc::{AllocError, Global};
 
 /// A line for each record with its place and its wave, then the number of waves, then the places of the chain
-/// (docs/PRODUCT.md, "The program"). Places and waves count from 1.
+/// (docs/CLI.md, "plan"). Places and waves count from 1.
 pub fn plan_lines(
     alloc: Global,
     numbers: &[usize],

@@ -14,7 +14,7 @@ use rx_batch::BatchFault;
 use std::alloc::Global;
 
 /// What `replies` prints of a response file: a line for each answer, one for a rejected header, and one for a detail
-/// that holds no reply (docs/PRODUCT.md, "The program").
+/// that holds no reply (docs/CLI.md, "replies").
 ///
 /// # Errors
 ///

@@ -13,7 +13,7 @@ use rx_print::put_codes;
 use std::alloc::{AllocError, Global};
 
 /// A table of the transactions and rejected headers of transmissions in file order, with a tab between each two cells
-/// (docs/PRODUCT.md, "The program"). Quantities are in thousandths, amounts in cents.
+/// (docs/CLI.md, "show"). Quantities are in thousandths, amounts in cents.
 pub fn show_table(alloc: Global, transmissions: &[Transmission]) -> Result<Vec<u8>, Memory>
     ensures { IfOk result (λ text. text.items ≡ shown_table transmissions.now) }
 {

@@ -3,9 +3,12 @@ use Rattle.std.specs.Prelude.{◌≡◌, ℕ, List}
 use Rattle.std.specs.List.{flat_map}
 use Rattle.std.specs.Vec.{vec_items}
 use Rattle.rx_batch.specs.Pieces.{StandsFor}
+use Rattle.rx_io.specs.Pieces.{text_of}
 use Rattle.rx_switch.specs.declared.accepting.Accepted.{Accepted as AcceptedInputs}
 use Rattle.rx_switch.specs.declared.accepting.BatchFile.{BatchFile}
 use Rattle.rx_switch.specs.declared.accepting.BatchFile.TheVariants as file
+use Rattle.rx_switch.specs.declared.accepting.BooksFile.{BooksFile}
+use Rattle.rx_switch.specs.declared.accepting.BooksFile.TheVariants as opening
 use Rattle.rx_switch.specs.declared.job.Job.{Job}
 use Rattle.rx_switch.specs.declared.job.Output.{Output}
 use Rattle.rx_switch.specs.declared.job.OutputPieces.{OutputPieces}
@@ -39,7 +42,7 @@ abbrev pub texts_in_pieces : OutputPieces → Texts
 texts_in_pieces output =
     record {
       response = flat_map vec_items output.response.items;
-      books = flat_map vec_items output.books.items;
+      books = text_of output.books;
       settlement = output.settlement.items;
     }
 
@@ -47,6 +50,11 @@ texts_in_pieces output =
 abbrev pub HasBytes : BatchFile → List ℕ → Type 0
 HasBytes (file.Bytes bytes) text = bytes.now ≡ text
 HasBytes (file.Fed pieces) text = StandsFor pieces text
+
+-- the bytes of the opening books, which are lent or given away
+abbrev pub books_bytes : BooksFile → List ℕ
+books_bytes (opening.Lent text) = text.now
+books_bytes (opening.Given text) = text.items
 
 -- what the inputs stand for, once they are read
 abbrev pub accepted_of : AcceptedInputs → Accepted

@@ -48,14 +48,13 @@ pub(crate) struct Manner<'a, G> {
 }
 
 /// The texts of adjudicating the details, as if one after another in file order. Decoding, rendering and writing go in so
-/// many parts beside one another; one part starts no thread. The memory of the spent text is used again.
+/// many parts beside one another; one part starts no thread.
 pub(crate) fn adjudicate<R: Threads + Wait + Sync, G: Gate + Sync>(
     rt: &R,
     alloc: Global,
     manner: &Manner<'_, G>,
     parts: usize,
     accepted: Accepted,
-    spent: Vec<u8>,
 ) -> Result<OutputPieces, SwitchFault>
     requires few { length accepted.batch.details ≤ MOST_DETAILS }
     requires workers { are_workers manner.now.workers ≡ true }
@@ -70,7 +69,7 @@ pub(crate) fn adjudicate<R: Threads + Wait + Sync, G: Gate + Sync>(
         batch,
     } = accepted;
     let finished = finish_batch(rt, alloc, manner, parts, &sheet, books, &batch)?;
-    let pieces = render(rt, alloc, parts, &batch, &stamp, &finished, spent);
+    let pieces = render(rt, alloc, parts, &batch, &stamp, &finished);
     drop((sheet, batch, finished));
     Ok(pieces?)
 }
@@ -83,7 +82,6 @@ fn render<R: Threads + Sync>(
     batch: &Batch,
     stamp: &Stamp,
     finished: &Finished,
-    spent: Vec<u8>,
 ) -> Result<OutputPieces, Memory>
     requires equally_many { length batch.now.details ≡ length finished.now.replies.items }
     requires few { length batch.now.details ≤ MOST_DETAILS }
@@ -95,7 +93,7 @@ fn render<R: Threads + Sync>(
 {
     let (details, replies) = (batch.details.as_slice(), finished.replies.as_slice());
     let response = response_pieces(rt, alloc, parts, &batch.head, *stamp, details, replies)?;
-    let books = finished.books.write_pieces(rt, alloc, parts, spent)?;
+    let books = finished.books.write_pieces(rt, alloc, parts)?;
     let settlement = settle(alloc, batch.head.lot(), *stamp, replies)?;
     Ok(OutputPieces {
         response,

@@ -7,7 +7,7 @@ use rx_fields::Memory;
 use rx_sheet::SheetFault;
 use rx_wave::RunFault;
 
-/// Why a run is refused: the first of these that holds (docs/PRODUCT.md, "The program").
+/// Why a run is refused: the first of these that holds (docs/CLI.md, "Refusals").
 #[derive(Clone, Copy, Debug, PartialEq, Eq)]
 pub enum SwitchFault {
     /// The number of workers isn't 1 to 64.
@@ -144,7 +144,7 @@ impl Device {
     }
 }
 
-/// Why a run on devices was refused or broke off (docs/PRODUCT.md, "The program").
+/// Why a run on devices was refused or broke off (docs/CLI.md, "Refusals").
 #[derive(Clone, Copy, Debug, PartialEq, Eq)]
 pub enum IoFault {
     /// The run is refused.
@@ -182,8 +182,7 @@ impl From<SwitchFault> for IoFault {
     }
 }
 
-/// What a fault is told as: an exit status, and the numbers of the line on standard error (docs/PRODUCT.md, "The
-/// program").
+/// What a fault is told as: an exit status, and the numbers of the line on standard error (docs/CLI.md, "Refusals").
 #[derive(Clone, Copy, Debug, PartialEq, Eq)]
 pub struct Told {
     /// 1 for a refused run, whose line is `refused N M P`; 3 for a file fault, whose line is `file K`.

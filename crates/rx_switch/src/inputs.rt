@@ -9,7 +9,7 @@ use rx_fields::Memory;
 use rx_io::{Consumer, ReadFault, Source, read_each};
 use std::alloc::Global;
 
-/// Reads an input of a run to its end (docs/PRODUCT.md, "Limits").
+/// Reads an input of a run to its end (docs/RULES.md, "Limits").
 ///
 /// # Errors
 ///

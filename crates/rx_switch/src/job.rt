@@ -2,10 +2,10 @@ ghost use Rattle.std.specs.Prelude.{◌≡◌, IfOk};
 ghost use Rattle.rx_switch.specs.Job.{texts_in, texts_in_pieces};
 
 use rx_fields::Memory;
-use rx_io::one_text;
+use rx_io::{Pieces, one_text};
 use std::alloc::Global;
 
-/// What a run is given (docs/PRODUCT.md, "The program").
+/// What a run is given (docs/CLI.md, "run").
 #[derive(Clone, Copy, Debug)]
 pub struct Job<'a> {
     /// The plan sheet's text.
@@ -37,7 +37,7 @@ pub struct Output {
 #[derive(Debug, Drop)]
 pub(crate) struct OutputPieces {
     pub(crate) response: Vec<Vec<u8>>,
-    pub(crate) books: Vec<Vec<u8>>,
+    pub(crate) books: Pieces,
     pub(crate) settlement: Vec<u8>,
 }
 
@@ -53,7 +53,7 @@ impl OutputPieces {
         } = self;
         Ok(Output {
             response: one_text(alloc, response)?,
-            books: one_text(alloc, books)?,
+            books: books.joined(alloc)?,
             settlement,
         })
     }

@@ -7,7 +7,7 @@ ghost use Rattle.rx_switch.specs.Output.{IsOutput, IsRefused, RefusesOne};
 ghost use Rattle.rx_switch.specs.declared.fault.Device.TheVariants as device;
 ghost use Rattle.rx_switch.specs.declared.fault.IoFault.TheVariants as io;
 
-use crate::accepting::{BatchFile, accept};
+use crate::accepting::{BatchFile, BooksFile, accept};
 use crate::adjudicating::{Manner, adjudicate, parts_of};
 use crate::devices::{Inputs, Outputs};
 use crate::fault::{IoFault, SwitchFault};
@@ -23,7 +23,7 @@ use std::thread::Threads;
 // About as many bytes has a detail with one billing.
 const DETAIL_BYTES: usize = 200;
 
-/// Adjudicates the batch of three inputs, and writes the three outputs (docs/PRODUCT.md, "The program").
+/// Adjudicates the batch of three inputs, and writes the three outputs (docs/CLI.md, "run").
 ///
 /// The inputs are read to their ends, in the order sheet, books and batch, before anything else is looked at, and all
 /// three texts are made before the first byte is written. None of the devices has failed.
@@ -82,7 +82,7 @@ pub fn run_io<
     };
     let read = read_inputs(alloc, inputs)?;
     let output = output_of(rt, alloc, &manner, stamp, read)?;
-    write_outputs(&output, outputs)
+    write_outputs(alloc, &output, outputs)
 }
 
 // What a run gives of the inputs that were read.
@@ -106,16 +106,10 @@ fn output_of<R: Threads + Wait + Sync, G: Gate + Sync>(
         books,
         batch,
     } = read;
-    let batch = BatchFile::Fed(batch);
-    let accepted = accept(rt, alloc, manner.workers, stamp, &sheet, &books, batch)?;
+    let len = books.len();
+    let (books, batch) = (BooksFile::Given(books), BatchFile::Fed(batch));
+    let accepted = accept(rt, alloc, manner.workers, stamp, &sheet, books, batch)?;
     let bytes = accepted.batch.details.len().saturating_mul(DETAIL_BYTES);
-    let parts = parts_of(manner.workers, books.len().max(bytes));
-    let spent = spent_for(alloc, parts, books);
-    adjudicate(rt, alloc, manner, parts, accepted, spent)
-}
-
-// The text whose memory the end books are written over: the opening books' for one part. Several parts are written at
-// once, each into memory of its own, and there the text goes at once.
-fn spent_for(alloc: Global, parts: usize, text: Vec<u8>) -> Vec<u8> {
-    if parts < 2 { text } else { Vec::new(alloc) }
+    let parts = parts_of(manner.workers, len.max(bytes));
+    adjudicate(rt, alloc, manner, parts, accepted)
 }

@@ -2,6 +2,7 @@ ghost use Rattle.std.specs.Prelude.{◌≡◌, IfErr, OnOk, false};
 ghost use Rattle.std.specs.Io.KnownBytes.{Appends};
 ghost use Rattle.std.specs.List.{flat_map};
 ghost use Rattle.std.specs.Vec.{vec_items};
+ghost use Rattle.rx_io.specs.Pieces.{text_of};
 ghost use Rattle.rx_io.specs.Writing.{AppendsFront};
 ghost use Rattle.rx_switch.specs.Devices.{AreWritten, IsUnwritten, has_failed, written_of};
 ghost use Rattle.rx_switch.specs.Job.{texts_in_pieces};
@@ -10,11 +11,13 @@ ghost use Rattle.rx_switch.specs.declared.fault.IoFault.TheVariants as io;
 use crate::devices::Outputs;
 use crate::fault::{Device, IoFault};
 use crate::job::OutputPieces;
-use rx_io::{Sink, write_pieces};
+use rx_io::{Pieces, Sink, write_pieces};
+use std::alloc::Global;
 use std::slice;
 
 // Writes the three texts to their ends, in this order.
 pub(crate) fn write_outputs<D: Sink, E: Sink, F: Sink>(
+    alloc: Global,
     output: &OutputPieces,
     outputs: &mut Outputs<D, E, F>,
 ) -> Result<(), IoFault>
@@ -30,7 +33,7 @@ pub(crate) fn write_outputs<D: Sink, E: Sink, F: Sink>(
     ensures settlement { F.failed outputs.new.settlement ≡ has_failed Device.Settlement result }
 {
     write_text(&mut outputs.response, &output.response, Device::Response)?;
-    write_text(&mut outputs.end_books, &output.books, Device::EndBooks)?;
+    write_books(alloc, &mut outputs.end_books, &output.books)?;
     write_text(
         &mut outputs.settlement,
         slice::from_ref(&output.settlement),
@@ -49,5 +52,19 @@ fn write_text<S: Sink>(sink: &mut S, pieces: &[Vec<u8>], device: Device) -> Resu
     match write_pieces(sink, pieces) {
         Ok(()) => Ok(()),
         Err(_) => Err(IoFault::Write(device)),
+    }
+}
+
+// Writes the text of the end books to its end.
+fn write_books<S: Sink>(alloc: Global, sink: &mut S, pieces: &Pieces) -> Result<(), IoFault>
+    requires { S.failed sink.old ≡ false }
+    ensures whole { OnOk result (Appends (S.written sink.old) (S.written sink.new) (text_of pieces.now)) }
+    ensures front { AppendsFront (S.written sink.old) (S.written sink.new) (text_of pieces.now) }
+    ensures fault { IfErr result (λ fault. fault ≡ io.Write Device.EndBooks) }
+    ensures failed { S.failed sink.new ≡ has_failed Device.EndBooks result }
+{
+    match pieces.write_to(alloc, sink) {
+        Ok(()) => Ok(()),
+        Err(_) => Err(IoFault::Write(Device::EndBooks)),
     }
 }

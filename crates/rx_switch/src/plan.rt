@@ -15,7 +15,7 @@ use rx_show::plan_lines;
 use std::alloc::Global;
 
 /// What `plan` prints of a batch file under a plan sheet and opening books: a line for each record with its place and
-/// its wave, the number of waves, and the chain, each ended by a line feed (docs/PRODUCT.md, "The program").
+/// its wave, the number of waves, and the chain, each ended by a line feed (docs/CLI.md, "plan").
 ///
 /// # Errors
 ///

@@ -2,7 +2,7 @@ ghost use Rattle.std.specs.Prelude.{◌≡◌, IfErr, IfOk, Err};
 ghost use Rattle.rx_switch.specs.Job.{given_by, texts_in};
 ghost use Rattle.rx_switch.specs.Output.{IsOutput, IsRefused, RefusesOne, stamp_for};
 
-use crate::accepting::{BatchFile, accept};
+use crate::accepting::{BatchFile, BooksFile, accept};
 use crate::adjudicating::{Manner, adjudicate, parts_of};
 use crate::fault::SwitchFault;
 use crate::job::{Job, Output};
@@ -34,14 +34,14 @@ pub fn run<R: Threads + Wait + Sync, G: Gate + Sync>(
     ensures words { (fault : SwitchFault) → stamp_for job.now.workers job.now.stamp.now ≡ Err fault → result ≡ Err fault }
     ensures thread { result ≡ Err SwitchFault.Thread → RefusesOne job.now.plain (G.starts gate.now) job.now.workers }
 {
-    let (stamp, batch) = (job.stamp, BatchFile::Bytes(job.batch));
-    let accepted = accept(rt, alloc, job.workers, stamp, job.sheet, job.books, batch)?;
+    let (books, batch) = (BooksFile::Lent(job.books), BatchFile::Bytes(job.batch));
+    let accepted = accept(rt, alloc, job.workers, job.stamp, job.sheet, books, batch)?;
     let manner = Manner {
         gate,
         workers: job.workers,
         plain: job.plain,
     };
     let parts = parts_of(job.workers, job.books.len().max(job.batch.len()));
-    let pieces = adjudicate(rt, alloc, &manner, parts, accepted, Vec::new(alloc))?;
+    let pieces = adjudicate(rt, alloc, &manner, parts, accepted)?;
     Ok(pieces.joined(alloc)?)
 }

@@ -13,7 +13,7 @@ use rx_show::show_lines;
 use std::alloc::Global;
 
 /// What `show` prints of a batch file under a plan sheet: a line for each transaction and each rejected header, each
-/// ended by a line feed (docs/PRODUCT.md, "The program").
+/// ended by a line feed (docs/CLI.md, "show").
 ///
 /// # Errors
 ///

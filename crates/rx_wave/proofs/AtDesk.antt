@@ -1,7 +1,6 @@
 -- Where the desk's job is the one that was asked for, its books and replies at the end are that job's.
-use Rattle.std.proofs.Common.{◌≡◌, refl, sym}
+use Rattle.std.proofs.Common.{◌≡◌, refl}
 use Rattle.rx_books_store.specs.LedgerBooks.{LedgerBooks}
-use Rattle.rx_d0_values.specs.declared.reply.Reply.{Reply}
 use Rattle.rx_d0_values.specs.declared.transmission.Transmission.{Transmission}
 use Rattle.rx_desk.specs.Desks.{DeskJob, IsJob, final_books}
 use Rattle.rx_fields.specs.Numbered.{LotParts}

@@ -15,12 +15,32 @@ pub trait Gate {
     /// Passed after a record's adjudication, and before its parcel is given.
     fn leave(&self, place: usize);
 
-    /// Whether records may take their time here, because `enter` or `leave` waits, or works for longer than handing a record
-    /// to a worker takes (some 10 us; bench/README.md, "Workers at a gate"). Then several workers share the records; where it
-    /// is false they go in file order, as adjudicating one takes about 2 us. No answer of a run rests on it.
+    /// Passed once where the records are dealt out in shards, which share no book: how many shards there are, and how many
+    /// transactions the largest has.
+    fn deal(&self, _shards: usize, _largest: u64) {}
+
+    /// Whether records may take their time here, because `enter` or `leave` waits, for another record perhaps. Then workers
+    /// share the records one by one, at a desk; where it is false each worker adjudicates a shard, as a record takes less
+    /// time than handing it out does (some 10 us; bench/README.md, "Workers at a gate"). No answer of a run rests on it.
     fn holds_up(&self) -> bool {
         true
     }
+}
+
+/// The gate that starts every worker and does nothing, and at which workers share the records at a desk.
+#[derive(Clone, Copy, Debug, PartialEq, Eq)]
+pub struct DeskGate;
+
+impl Gate for DeskGate {
+    ghost starts = { λ _ _. true };
+
+    fn start(&self, _worker: usize) -> bool {
+        true
+    }
+
+    fn enter(&self, _place: usize) {}
+
+    fn leave(&self, _place: usize) {}
 }
 
 /// The gate that starts every worker, does nothing, and holds no record up.

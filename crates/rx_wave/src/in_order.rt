@@ -13,7 +13,7 @@ use rx_serial::{Finished, InOrder};
 use std::alloc::Global;
 
 /// Adjudicates a batch's records one after another in file order, on a copy of the books: the books after them, and a
-/// reply to each (docs/PRODUCT.md, "Rules of adjudication"). The gate is passed before and after each record; no worker
+/// reply to each (docs/RULES.md, "Rules of adjudication"). The gate is passed before and after each record; no worker
 /// is started.
 pub fn run_one<G: Gate>(
     gate: &G,

@@ -15,15 +15,17 @@
 
 mod counter;
 mod decoding;
-mod gain;
 mod gate;
 mod in_order;
-mod rough;
+mod job;
+mod joined;
 mod run_fault;
+mod shard;
+mod spread;
 mod workers;
 
 pub use decoding::{decode_all, decode_in_parts};
-pub use gate::{Gate, NoGate};
+pub use gate::{DeskGate, Gate, NoGate};
 pub use in_order::{run_one, run_one_on};
 pub use run_fault::RunFault;
 pub use rx_serial::Finished;

@@ -3,7 +3,7 @@ ghost use Rattle.rx_wave.specs.Workers.{number_of};
 
 use rx_fields::Memory;
 
-/// Why several workers gave no answer (docs/CALLS.md, "rx_wave").
+/// Why several workers gave no answer (docs/ARCHITECTURE.md, "Several workers").
 #[derive(Clone, Copy, Debug, PartialEq, Eq)]
 pub enum RunFault {
     /// Their number isn't 1 to 64.

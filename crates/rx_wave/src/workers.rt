@@ -1,13 +1,15 @@
 ghost use Rattle.std.specs.Prelude.{◌≡◌, ◌<◌, ◌≤◌, ◌↔◌, Err, IfOk, IfSome, IsTrue, false, length};
 ghost use Rattle.rx_fields.specs.declared.limits.TheConstants.{MOST_DETAILS};
 ghost use Rattle.rx_ledger.specs.Fold.{fold_ledger, fold_replies};
+ghost use Rattle.rx_wave.specs.Jobs.{IsFinished, IsJob};
 ghost use Rattle.rx_wave.specs.Workers.{RefusesOne, are_workers};
 
 use crate::counter::{Counter, DeskCounter, Turn};
-use crate::gain::may_gain;
 use crate::gate::Gate;
 use crate::in_order::run_one;
+use crate::job::Job;
 use crate::run_fault::RunFault;
+use crate::spread::run_in_shards;
 use rx_adjudicate::{Done, Order, adjudicate};
 use rx_books_store::Books;
 use rx_d0_values::{Transmission, copies};
@@ -29,7 +31,7 @@ const TRIES: u32 = 256;
 const PAUSES: u32 = 4;
 
 /// Adjudicates a batch with so many workers: the books after its records, and a reply to each, as if they had been
-/// adjudicated one after another in file order (docs/PRODUCT.md, "Rules of adjudication").
+/// adjudicated one after another in file order (docs/RULES.md, "Rules of adjudication").
 ///
 /// One worker is `run_one`. More share one desk under one lock, and each adjudicates outside of it, between `enter` and
 /// `leave` of the gate. Where no answer comes of the desk, `run_one` gives it. Where sharing can't gain, the gate is asked
@@ -65,65 +67,68 @@ pub fn run_waves<R: Threads + Wait + Sync, G: Gate + Sync>(
         return Err(RunFault::Workers);
     }
     if workers > 1 {
-        let shared = run_shared(rt, alloc, gate, workers, lot, sheet, books, transmissions)?;
-        if let Some(finished) = shared {
+        let job = Job {
+            lot,
+            sheet,
+            books,
+            transmissions,
+        };
+        if let Some(finished) = run_by_several(rt, alloc, gate, workers, &job)? {
             return Ok(finished);
         }
     }
     Ok(run_one(gate, alloc, lot, sheet, books, transmissions)?)
 }
 
-// What several workers answer who share a desk; none where sharing can't gain, and where no answer comes of the desk.
-fn run_shared<R: Threads + Wait + Sync, G: Gate + Sync>(
+// What several workers give: at a gate that holds records up they share a desk, at any other each has a shard. None where
+// the records fall into one shard, and where no answer comes of the desk.
+fn run_by_several<R: Threads + Wait + Sync, G: Gate + Sync>(
     rt: &R,
     alloc: Global,
     gate: &G,
     workers: u16,
-    lot: Lot,
-    sheet: &Sheet,
-    books: &Books,
-    transmissions: &[Transmission],
+    job: &Job<'_>,
 ) -> Result<Option<Finished>, RunFault>
     requires several { 2 ≤ workers }
-    requires period { books.now.period ≡ sheet.now.figures.period }
-    requires few { length transmissions.now ≤ MOST_DETAILS }
-    ensures books { IfOk result (λ answer. IfSome answer (λ finished. finished.books ≡ record {
-      period = sheet.now.figures.period;
-      ledger = fold_ledger lot sheet.now 1 transmissions.now books.now.ledger;
-    })) }
-    ensures replies { IfOk result (λ answer. IfSome answer (λ finished.
-        finished.replies.items ≡ fold_replies lot sheet.now 1 transmissions.now books.now.ledger)) }
+    requires job { IsJob job.now }
+    ensures finished { IfOk result (λ answer. IfSome answer (IsFinished job.now)) }
     ensures workers { result ≡ Err RunFault.Workers → ⊥ }
     ensures thread { result ≡ Err RunFault.Thread → RefusesOne (G.starts gate.now) workers }
 {
-    if !gate.holds_up() || !may_gain(alloc, books, transmissions)? {
-        if refuses_one(gate, workers as usize) {
-            return Err(RunFault::Thread);
-        }
-        return Ok(None);
+    if gate.holds_up() {
+        return run_at_desk(rt, alloc, gate, workers, job);
     }
-    let desk = desk_of(alloc, lot, sheet, books, transmissions)?;
+    if refuses_one(gate, workers as usize) {
+        return Err(RunFault::Thread);
+    }
+    Ok(run_in_shards(rt, alloc, gate, workers, job)?)
+}
+
+// What several workers give who share a desk; none where no answer comes of it.
+fn run_at_desk<R: Threads + Wait + Sync, G: Gate + Sync>(
+    rt: &R,
+    alloc: Global,
+    gate: &G,
+    workers: u16,
+    job: &Job<'_>,
+) -> Result<Option<Finished>, RunFault>
+    requires several { 2 ≤ workers }
+    requires job { IsJob job.now }
+    ensures finished { IfOk result (λ answer. IfSome answer (IsFinished job.now)) }
+    ensures workers { result ≡ Err RunFault.Workers → ⊥ }
+    ensures thread { result ≡ Err RunFault.Thread → RefusesOne (G.starts gate.now) workers }
+{
+    let desk = desk_of(alloc, job)?;
     let desk = worked_off(rt, alloc, gate, workers, desk)?;
-    Ok(closed_for(desk, lot, sheet, books, transmissions))
+    Ok(closed_for(desk, job))
 }
 
 // What a desk answers at its end, where it is for this job and all records came back.
-fn closed_for(
-    desk: Desk,
-    lot: Lot,
-    sheet: &Sheet,
-    books: &Books,
-    transmissions: &[Transmission],
-) -> Option<Finished>
-    requires { books.now.period ≡ sheet.now.figures.period }
-    ensures books { IfSome result (λ finished. finished.books ≡ record {
-      period = sheet.now.figures.period;
-      ledger = fold_ledger lot sheet.now 1 transmissions.now books.now.ledger;
-    }) }
-    ensures replies { IfSome result (λ finished.
-        finished.replies.items ≡ fold_replies lot sheet.now 1 transmissions.now books.now.ledger) }
+fn closed_for(desk: Desk, job: &Job<'_>) -> Option<Finished>
+    requires { IsJob job.now }
+    ensures { IfSome result (IsFinished job.now) }
 {
-    if !desk.job_is(lot, sheet, books, transmissions) {
+    if !desk.job_is(job.lot, job.sheet, job.books, job.transmissions) {
         drop(desk);
         return None;
     }
@@ -146,19 +151,12 @@ fn refuses_one<G: Gate>(gate: &G, workers: usize) -> bool
 }
 
 // A desk of its own copies.
-fn desk_of(
-    alloc: Global,
-    lot: Lot,
-    sheet: &Sheet,
-    books: &Books,
-    transmissions: &[Transmission],
-) -> Result<Desk, Memory>
-    requires period { books.now.period ≡ sheet.now.figures.period }
-    requires few { length transmissions.now ≤ MOST_DETAILS }
+fn desk_of(alloc: Global, job: &Job<'_>) -> Result<Desk, Memory>
+    requires job { IsJob job.now }
 {
-    let books = books.copy(alloc, sheet.period())?;
-    let transmissions = copies(alloc, transmissions)?;
-    Desk::new(alloc, lot, sheet, books, transmissions)
+    let books = job.books.copy(alloc, job.sheet.period())?;
+    let transmissions = copies(alloc, job.transmissions)?;
+    Desk::new(alloc, job.lot, job.sheet, books, transmissions)
 }
 
 // The desk, after so many workers took what it handed out and gave it back.

@@ -4,7 +4,7 @@ use rx_fields::Memory;
 use rx_switch::{IoFault, SwitchFault, told};
 use std::io;
 
-/// How the program ends where its work isn't done (docs/PRODUCT.md, "The program").
+/// How the program ends where its work isn't done (docs/CLI.md, "Exit statuses").
 #[derive(Drop)]
 pub enum Ending {
     /// A word of the command line is no text.

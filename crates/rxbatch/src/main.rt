@@ -1,4 +1,4 @@
-//! The program `rxbatch`: a pharmacy batch adjudicator (docs/PRODUCT.md, "The program").
+//! The program `rxbatch`: a pharmacy batch adjudicator (docs/CLI.md, "Commands").
 //!
 //! ```text
 //! rxbatch run --sheet F --books F --batch F --stamp S --workers N --response F --books-out F --settlement F [--plain]

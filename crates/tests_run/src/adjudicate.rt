@@ -1,4 +1,4 @@
-// What no clause says: that an order is made and answered, as the worked cases have it (docs/CASES.md).
+// What no clause says: that an order is made and answered, as the worked cases have it (tests/cases/README.md).
 use crate::same::{differ, same};
 use crate::worked::{
     authorization, base, four, id, key, lot, period, person, plain_sheet, product, quantity,

@@ -1,5 +1,5 @@
-//! The worked case failing-devices (docs/CASES.md): the run of one-billing on devices that fail at their nth call, and on a sheet
-//! without an end; and the same run over the bytes themselves.
+//! The worked case failing-devices (tests/cases/README.md): the run of one-billing on devices that fail at their nth
+//! call, and on a sheet without an end; and the same run over the bytes themselves.
 ghost use Rattle.std.specs.Prelude.{◌≡◌, ◌≤◌, false};
 
 use crate::one_billing::{BATCH, BOOKS, END_BOOKS, RESPONSE, SETTLEMENT, SHEET, STAMP};

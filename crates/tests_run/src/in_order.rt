@@ -1,5 +1,5 @@
-// What no clause says: that records are answered, and not want of memory. Values are those of docs/CASES.md, or counted by
-// hand.
+// What no clause says: that records are answered, and not want of memory. Values are those of tests/cases/README.md, or
+// counted by hand.
 ghost use Rattle.std.specs.Prelude.{◌≡◌, ◌≤◌, length};
 ghost use Rattle.std.specs.List.{All};
 ghost use Rattle.rx_serial.specs.Underway.{IsAwaited};

@@ -1,4 +1,4 @@
-//! The worked case one-billing (docs/CASES.md): the texts that come in, and those that have to come out.
+//! The worked case one-billing (tests/cases/README.md): the texts that come in, and those that have to come out.
 
 /// The stamp of its run.
 pub const STAMP: &[u8] = b"202603020600";

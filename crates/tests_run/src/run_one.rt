@@ -1,4 +1,4 @@
-// What no clause says: that records are answered, and not want of memory. Cases are those of docs/CASES.md.
+// What no clause says: that records are answered, and not want of memory. Cases are those of tests/cases/README.md.
 ghost use Rattle.std.specs.Prelude.{true};
 
 use crate::same::same;

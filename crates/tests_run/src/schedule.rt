@@ -1,4 +1,4 @@
-// The footprints, waves and queues of the worked cases (docs/CASES.md), counted by hand.
+// The footprints, waves and queues of the worked cases (tests/cases/README.md), counted by hand.
 ghost use Rattle.std.specs.Prelude.{◌≤◌, ℕ};
 ghost use Rattle.rx_schedule.specs.Machine.{Was};
 
@@ -8,7 +8,7 @@ use rx_books_parcel::Footprint;
 use rx_books_store::Books;
 use rx_d0_values::{Transaction, Transmission};
 use rx_fields::{Id, Key, digits_write};
-use rx_schedule::{Queues, footprints, waves, weight};
+use rx_schedule::{Queues, footprints, waves};
 use std::alloc::Global;
 use std::process::Abort;
 
@@ -132,38 +132,6 @@ fn reversal_frees_a_key(rt: HostRuntime) {
     names(&rt, &list, 2, &[key(&rt, 123)], &[c100, c200]);
     names(&rt, &list, 3, &[key(&rt, 125)], &[c100]);
     waves_are(&rt, rt.alloc(), &list, &[1, 2, 3, 4], &[1, 2, 3, 4]);
-}
-
-// What the records weigh on the books of this text, up to a bound.
-fn weight_on(
-    rt: &impl Abort,
-    alloc: Global,
-    text: &[u8],
-    records: &[Transmission],
-    most: u64,
-) -> u64 {
-    let opening = books(rt, alloc, text);
-    let weight = weight(alloc, &opening, records, most);
-    drop(opening);
-    weight.expect(rt, "memory")
-}
-
-// C100 has three members and a claim, C200 one member: each earlier billing of the family adds one.
-#[test]
-fn weights_counted_by_hand(rt: HostRuntime) {
-    let alloc = rt.alloc();
-    let fills = three_fills(&rt, alloc);
-    same(&rt, weight_on(&rt, alloc, BILLED, &fills, 1000), 4 + 5 + 6);
-    same(&rt, weight_on(&rt, alloc, OPENING, &fills, 1000), 1 + 2);
-    same(&rt, weight_on(&rt, alloc, BILLED, &fills, 9), 9);
-    same(&rt, weight_on(&rt, alloc, BILLED, &fills, 8), 8);
-}
-
-#[test]
-fn weight_of_a_fill_taken_back_and_billed_for_another_family(rt: HostRuntime) {
-    let records = billed_for_another_family(&rt, rt.alloc());
-    let weight = weight_on(&rt, rt.alloc(), BILLED, &records, 1000);
-    same(&rt, weight, 4 + 1 + (4 + 2));
 }
 
 // Two records of each of five hundred families, the second ones after the first.

@@ -100,6 +100,12 @@ fn heavy_set_has_a_shard_of_its_own(rt: HostRuntime) {
     same(&rt, size_of(&found, found.of(3)), 19);
 }
 
+// The places of the shard are these.
+fn places_are(rt: &impl Abort, places: &[Vec<usize>], shard: usize, expected: &[usize]) {
+    let list = places.get(shard).expect(rt, "a shard");
+    same(rt, list.as_slice(), expected);
+}
+
 #[test]
 fn reversal_is_with_all_billers_of_its_key(rt: HostRuntime) {
     let alloc = rt.alloc();
@@ -112,19 +118,33 @@ fn reversal_is_with_all_billers_of_its_key(rt: HostRuntime) {
     let found = shards_on(&rt, alloc, OPENING, &records, 5);
     same(&rt, found.numbers.as_slice(), [0, 0, 0, 0, 1].as_slice());
     same(&rt, found.count, 2);
+    let places = found.places(alloc).expect(&rt, "memory");
+    same(&rt, places.len(), 2);
+    places_are(&rt, &places, 0, &[1, 2, 3, 4]);
+    places_are(&rt, &places, 1, &[5]);
 }
 
 #[test]
-fn key_ties_the_family_that_stands_there(rt: HostRuntime) {
+fn reversal_is_with_the_family_that_stands_under_its_key(rt: HostRuntime) {
     let alloc = rt.alloc();
     let mut records = Vec::new(alloc);
-    put(&rt, alloc, &mut records, base(&rt, 123, b"C200"));
+    put(&rt, alloc, &mut records, reversal(&rt, 123));
     put(&rt, alloc, &mut records, base(&rt, 124, b"C100"));
     put(&rt, alloc, &mut records, base(&rt, 125, b"C300"));
     let found = shards_on(&rt, alloc, BILLED, &records, 9);
     same(&rt, found.numbers.as_slice(), [0, 0, 1].as_slice());
     let apart = shards_on(&rt, alloc, OPENING, &records, 9);
     same(&rt, apart.numbers.as_slice(), [0, 1, 2].as_slice());
+}
+
+#[test]
+fn billing_is_apart_from_the_family_that_stands_under_its_key(rt: HostRuntime) {
+    let alloc = rt.alloc();
+    let mut records = Vec::new(alloc);
+    put(&rt, alloc, &mut records, base(&rt, 123, b"C200"));
+    put(&rt, alloc, &mut records, base(&rt, 124, b"C100"));
+    let found = shards_on(&rt, alloc, BILLED, &records, 9);
+    same(&rt, found.numbers.as_slice(), [0, 1].as_slice());
 }
 
 #[test]

@@ -1,4 +1,4 @@
-//! What the worked cases (docs/CASES.md) are made of: small values, the plain sheet, and records.
+//! What the worked cases (tests/cases/README.md) are made of: small values, the plain sheet, and records.
 
 use rx_d0_values::{
     Bill, BillParts, Body, Codes, Echo, EchoParts, Heard, Rejected, Reversal, Transaction,

@@ -1,5 +1,5 @@
 // What no clause says: that records go beside one another, each once, and that a run ends where a thread is refused. Cases are
-// those of docs/CASES.md.
+// those of tests/cases/README.md.
 ghost use Rattle.std.specs.Prelude.{◌≡◌, ◌≤◌, length, true};
 
 use crate::run_one::{add_last_years_claim, books_of, claim, enroll, status};
@@ -129,10 +129,11 @@ enum Holds {
 }
 
 // It notes whose start it is asked for, counts how often each place is passed, and holds records back, for so many turns
-// at most.
+// at most. Records share a desk at it, or go in shards.
 #[derive(Drop)]
 struct Passed {
     holds: Holds,
+    has_desk: bool,
     // The workers' numbers as digits, in the order of asking.
     asked: AtomicU64,
     entered: AtomicU64,
@@ -155,10 +156,19 @@ impl Passed {
     fn new(holds: Holds) -> Passed {
         Passed {
             holds,
+            has_desk: true,
             asked: AtomicU64::new(0),
             entered: AtomicU64::new(0),
             left: AtomicU64::new(0),
             gave_up: AtomicU64::new(0),
+        }
+    }
+
+    // The same, where records go in shards.
+    fn in_shards(holds: Holds) -> Passed {
+        Passed {
+            has_desk: false,
+            ..Passed::new(holds)
         }
     }
 
@@ -206,6 +216,10 @@ impl Gate for Passed {
     fn leave(&self, place: usize) {
         self.left.fetch_add(digit(place), Ordering::SeqCst);
     }
+
+    fn holds_up(&self) -> bool {
+        self.has_desk
+    }
 }
 
 // The records are answered where the gate holds them back so, and each of these places is passed once.
@@ -220,6 +234,37 @@ fn goes_well<R: Threads + Wait + Sync + Abort>(
     let gate = Passed::new(holds);
     is_right(rt, alloc, &gate, workers, asked);
     same(rt, gate.is_once(places), true);
+}
+
+// The records are answered in shards, where the gate holds them back so, and each of these places is passed once.
+fn goes_well_in_shards<R: Threads + Wait + Sync + Abort>(
+    rt: &R,
+    alloc: Global,
+    workers: u16,
+    holds: Holds,
+    asked: &[Transmission],
+    places: u64,
+) {
+    let gate = Passed::in_shards(holds);
+    is_right(rt, alloc, &gate, workers, asked);
+    same(rt, gate.is_once(places), true);
+}
+
+// Two records that share nothing are out at once at a gate that has no desk: each waits there for the other.
+#[test]
+fn shards_go_side_by_side(rt: HostRuntime) {
+    let asked = two_records(&rt, rt.alloc());
+    for &workers in &[2, 3, 64] {
+        goes_well_in_shards(&rt, rt.alloc(), workers, Holds::Both, &asked, 11);
+    }
+}
+
+#[test]
+fn each_place_of_a_shard_is_passed_once(rt: HostRuntime) {
+    let asked = four_records(&rt, rt.alloc());
+    for &workers in &[1, 2, 3, 64] {
+        goes_well_in_shards(&rt, rt.alloc(), workers, Holds::Nobody, &asked, 1_111);
+    }
 }
 
 #[test]
@@ -296,8 +341,8 @@ fn workers_are_1_to_64(rt: HostRuntime) {
     }
 }
 
-// So many claims of one family that copying them costs more than adjudicating two records.
-const TOO_MANY_CLAIMS: u64 = 1_000;
+// The claims of a large family.
+const MANY_CLAIMS: u64 = 1_000;
 
 // One member with so many claims.
 fn large_family(rt: &impl Abort, alloc: Global, claims: u64) -> Ledger {
@@ -317,16 +362,16 @@ fn fill_and_refill(rt: &impl Abort, alloc: Global) -> [Transmission; 2] {
     ]
 }
 
-// The answers to the fill and the refill, and the starts that so many workers' gate was asked for.
+// The answers to the fill and the refill, and the starts that the gate was asked for.
 fn starts_asked<R: Threads + Wait + Sync + Abort>(
     rt: &R,
     alloc: Global,
+    gate: &Passed,
     workers: u16,
     ledger: &Ledger,
     asked: &[Transmission],
 ) -> u64 {
-    let gate = Passed::new(Holds::Nobody);
-    let finished = run_on(rt, alloc, &gate, workers, ledger, asked).expect(rt, "an answer");
+    let finished = run_on(rt, alloc, gate, workers, ledger, asked).expect(rt, "an answer");
     same(
         rt,
         (status(&finished, 0), status(&finished, 1)),
@@ -336,21 +381,40 @@ fn starts_asked<R: Threads + Wait + Sync + Abort>(
     gate.asked.load(Ordering::SeqCst)
 }
 
-// In a family so large that sharing can't gain each start is asked for, and a refused one is Thread, as where the desk
-// answers.
+// Records that share nothing are out at once at a desk, however many claims a family has.
 #[test]
-fn a_job_that_cannot_gain_asks_for_each_start(rt: HostRuntime) {
+fn records_of_a_large_family_are_out_at_once(rt: HostRuntime) {
     let alloc = rt.alloc();
-    let ledger = large_family(&rt, alloc, TOO_MANY_CLAIMS);
+    let mut ledger = large_family(&rt, alloc, MANY_CLAIMS);
+    enroll(&rt, &mut ledger, b"C200", b"01");
+    let asked = two_records(&rt, alloc);
+    let gate = Passed::new(Holds::Both);
+    let finished = run_on(&rt, alloc, &gate, 2, &ledger, &asked).expect(&rt, "an answer");
+    is_billed_once(&rt, &finished);
+    same(&rt, gate.is_once(11), true);
+}
+
+// Where all records are of one family each start is asked for too, with a desk or without one, and a refused one is Thread.
+#[test]
+fn records_that_are_tied_ask_for_each_start(rt: HostRuntime) {
+    let alloc = rt.alloc();
+    let ledger = large_family(&rt, alloc, MANY_CLAIMS);
     let asked = fill_and_refill(&rt, alloc);
     for worker in 1..5 {
         let refused = run_on(&rt, alloc, &Without(worker), 4, &ledger, &asked);
         same(&rt, refused.err(), Some(RunFault::Thread));
     }
     for &(workers, starts) in &[(1, 0), (2, 12), (4, 1_234)] {
+        let gate = Passed::new(Holds::Nobody);
         same(
             &rt,
-            starts_asked(&rt, alloc, workers, &ledger, &asked),
+            starts_asked(&rt, alloc, &gate, workers, &ledger, &asked),
+            starts,
+        );
+        let gate = Passed::in_shards(Holds::Nobody);
+        same(
+            &rt,
+            starts_asked(&rt, alloc, &gate, workers, &ledger, &asked),
             starts,
         );
     }

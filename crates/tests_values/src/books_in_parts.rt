@@ -118,12 +118,8 @@ fn written<R: Threads + Sync + Abort>(
     parts: usize,
     books: &Books,
 ) -> Vec<u8> {
-    let pieces = books.write_pieces(rt, alloc, parts, Vec::new(alloc));
-    let mut text = Vec::new(alloc);
-    for piece in pieces.expect(rt, "memory").as_slice() {
-        text.extend_from_slice(piece).expect(rt, "memory");
-    }
-    text
+    let pieces = books.write_pieces(rt, alloc, parts).expect(rt, "memory");
+    pieces.joined(alloc).expect(rt, "memory")
 }
 
 // What is written of a text that is read, both in so many parts.
@@ -178,40 +174,5 @@ fn claims_are_counted_in_any_parts(rt: HostRuntime) {
     for parts in 1..MOST {
         let books = read(&rt, rt.alloc(), parts, BOOKS);
         same(&rt, figures(&rt, &books), (Some(10_000), Some(13_000)));
-    }
-}
-
-// The pieces of the text of books, so many parts of which are written apart; the memory of another text is used again.
-fn pieces<R: Threads + Sync + Abort>(
-    rt: &R,
-    alloc: Global,
-    parts: usize,
-    books: &Books,
-) -> Vec<Vec<u8>> {
-    let spent = MEMBERS.to_vec(alloc).expect(rt, "memory");
-    let pieces = books.write_pieces(rt, alloc, parts, spent);
-    pieces.expect(rt, "memory")
-}
-
-// The pieces, one behind the other.
-fn joined(rt: &impl Abort, alloc: Global, pieces: &[Vec<u8>]) -> Vec<u8> {
-    let mut all = Vec::new(alloc);
-    for piece in pieces {
-        all.extend_from_slice(piece).expect(rt, "memory");
-    }
-    all
-}
-
-// What is written in pieces of the text that is read, both in so many parts.
-fn in_pieces<R: Threads + Sync + Abort>(rt: &R, alloc: Global, parts: usize) -> Vec<u8> {
-    let books = read(rt, alloc, parts, BOOKS);
-    joined(rt, alloc, &pieces(rt, alloc, parts, &books))
-}
-
-#[test]
-fn claims_are_written_in_pieces(rt: HostRuntime) {
-    for parts in 1..MOST {
-        let written = in_pieces(&rt, rt.alloc(), parts);
-        same(&rt, written.as_slice(), BOOKS);
     }
 }

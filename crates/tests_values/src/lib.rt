@@ -13,6 +13,8 @@ mod books_in_parts;
 #[cfg(test)]
 mod books_kept;
 #[cfg(test)]
+mod books_lines;
+#[cfg(test)]
 mod books_quick;
 #[cfg(test)]
 mod books_text;

@@ -1,4 +1,4 @@
-// The replies of the worked cases (docs/CASES.md), to the byte, and damaged ones.
+// The replies of the worked cases (tests/cases/README.md), to the byte, and damaged ones.
 
 use crate::table::{same, same_at};
 use rx_d0_reply::{ReplyFault, decode_reply, encode, put_reply, read_back};

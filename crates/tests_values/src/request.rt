@@ -1,4 +1,5 @@
-// Worked cases: transmissions and what docs/FORMATS.md makes of them (docs/CASES.md has those with a name there).
+// Worked cases: transmissions and what docs/FORMATS.md makes of them (tests/cases/README.md has those with a name
+// there).
 use crate::table::{same, same_at};
 use rx_d0_request::{decode, written_is_heard};
 use rx_d0_values::{BillParts, Body, Codes, EchoParts, Transaction, Transmission};

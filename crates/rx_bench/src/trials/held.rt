@@ -1,5 +1,5 @@
-//! `rxbatch run` at a gate that holds records up, so that several workers share them. The gate of `rxbatch` itself holds
-//! no record up, and its records go in file order (docs/DECISIONS.md, "Jobs that can't gain by several workers").
+//! `rxbatch run` at a gate that holds records up, so that several workers share them at a desk. The gate of `rxbatch` itself
+//! holds no record up, and its records go in shards (docs/ARCHITECTURE.md, "Several workers").
 
 use crate::trials::gate::Meeting;
 use rx_cli::{Command, RunWords, WordsFault, command};

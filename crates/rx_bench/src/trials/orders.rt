@@ -1,4 +1,4 @@
-//! Small jobs on a desk, in lawful orders drawn at random (docs/PRODUCT.md, "The atomic step").
+//! Small jobs on a desk, in lawful orders drawn at random (docs/RULES.md, "The atomic step").
 //!
 //! Several records are out at once, and each comes back when it is drawn. The replies and the books at the end are
 //! compared with those of `plain_run`, one record after another in file order; the first job that differs ends the

@@ -55,7 +55,7 @@ impl Cut {
 
 /// What `verify` prints: that the files are the same, with the sizes of all three, or a line for each file that isn't,
 /// with the first line or record that differs and what stands there from the first byte on that does
-/// (docs/PRODUCT.md, "The program"). Records count from 0, the header, and bytes from 0.
+/// (docs/CLI.md, "verify"). Records count from 0, the header, and bytes from 0.
 pub fn verdict_text(
     alloc: Global,
     verified: &Verified,

@@ -18,7 +18,7 @@ use rx_fields::{Authorization, Memory, Provider, Reference, digits_write};
 use rx_print::put_codes;
 use std::alloc::{AllocError, Global};
 
-/// The lines of what the details of a response file hold, in file order (docs/PRODUCT.md, "The program"). Amounts are in
+/// The lines of what the details of a response file hold, in file order (docs/CLI.md, "replies"). Amounts are in
 /// cents.
 pub fn reply_lines(alloc: Global, found: &[Found]) -> Result<Vec<u8>, Memory>
     ensures { IfOk result (λ text. text.items ≡ reply_lines found.now) }

@@ -1,8 +1,8 @@
 -- The next entry is counted.
-use Rattle.std.proofs.Common.{◌≡◌, ◌+◌, ◌<◌, length, take, sym, ap, ◌∙◌, arith}
+use Rattle.std.proofs.Common.{◌+◌, ◌<◌, length, take, sym, ap, ◌∙◌, arith}
 use Rattle.std.proofs.lemmas.List.Sums.{sum_by_more}
 use Rattle.rx_serial.specs.declared.fill.Entry.{Entry}
-use Rattle.rx_serial.specs.Fills.{count_among, count_at, count_of}
+use Rattle.rx_serial.specs.Fills.{count_among, count_of}
 use Rattle.rx_serial.proofs.Counting.{count_at-tallied}
 use Rattle.rx_serial.proofs.counted.all_tallied.Goals as goal
 

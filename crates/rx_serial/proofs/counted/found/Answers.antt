@@ -1,5 +1,5 @@
 -- The next row is found where its fill is counted, and is none that matters where not.
-use Rattle.std.proofs.Common.{◌≡◌, ◌+◌, false, subst, sym, ap, ◌∙◌, List, [], ◌∷◌, ◌++◌, arith}
+use Rattle.std.proofs.Common.{◌≡◌, ◌+◌, false, subst, sym, ap, ◌∙◌, List, arith}
 use Rattle.std.proofs.lemmas.List.Sums.{sum_by_push}
 use Rattle.rx_sorted.specs.Ascending.{IsAt}
 use Rattle.rx_ledger.specs.declared.member.Member.{Member}
@@ -31,14 +31,15 @@ loop-row-preserved-in-Continue-1 c =
     let all = λ (k : FillKey). fills_in L.members L.rows k in
     let at = subst (λ (ms : List Member). IsAt member_cmp member_key ms (member_of_row r) c.in-Some.holder)
     c.loop-row.invariant.members c.in-Some.ensures.holder in
-    let key : c.fill_at-key.result ≡ fill_of L.members r =
-    c.fill_at-key.ensures ∙ at_row L.members r c.in-Some.holder c.standing-standing.ensures.within.members_rise at in
+    let key : c.in-Some-counted_fill.key ≡ fill_of L.members r =
+    c.in-Some-counted_fill.ensures.some
+    ∙ at_row L.members r c.in-Some.holder c.standing-standing.ensures.within.members_rise at in
     let made : FillKey → Entry = λ k. record { fill = record { key = k; count = 1 }; transaction = 18446744073709551615 } in
     record {
       finding = finding-pushed L.members (is_counted c.args.marks.now c.args.first_day) c.loop-row.found.items all c.loop-row.standing.rows
           c.next_row.new.self.rows r c.in-Some.ensures.row c.loop-row.invariant.finding c.push.new.self.items
           (λ k. ap (λ fills. count_among fills k) c.in_ok-push.ensures.items
-          ∙ sum_by_push (λ (e : Entry). count_of k e.fill) c.loop-row.found.items (made c.fill_at-key.result)
+          ∙ sum_by_push (λ (e : Entry). count_of k e.fill) c.loop-row.found.items (made c.in-Some-counted_fill.key)
           ∙ ap (λ j. count_among c.loop-row.found.items k + count_of k (made j).fill) key);
       members = c.next_row.ensures.members ∙ c.loop-row.invariant.members;
     }
@@ -50,10 +51,9 @@ loop-row-preserved c =
     let all = λ (k : FillKey). fills_in L.members L.rows k in
     let at = subst (λ (ms : List Member). IsAt member_cmp member_key ms (member_of_row r) c.in-Some.holder)
     c.loop-row.invariant.members c.in-Some.ensures.holder in
-    let key : c.fill_at-key.result ≡ fill_of L.members r =
-    c.fill_at-key.ensures ∙ at_row L.members r c.in-Some.holder c.standing-standing.ensures.within.members_rise at in
+    let key = at_row L.members r c.in-Some.holder c.standing-standing.ensures.within.members_rise at in
     let stranger : is_counted c.args.marks.now c.args.first_day (fill_of L.members r) ≡ false =
-    ap (is_counted c.args.marks.now c.args.first_day) (sym key) ∙ sym c.is_counted.ensures ∙ c.if-is_counted.false in
+    ap (is_counted c.args.marks.now c.args.first_day) (sym key) ∙ c.in_default-counted_fill.ensures.none in
     record {
       finding = finding-skipped L.members (is_counted c.args.marks.now c.args.first_day) c.loop-row.found.items all c.loop-row.standing.rows
           c.next_row.new.self.rows r c.in-Some.ensures.row c.loop-row.invariant.finding stranger;

@@ -1,5 +1,5 @@
-use Rattle.std.proofs.Common.{◌≡◌, ◌+◌, List, ap, subst, sym, ◌∙◌}
-use Rattle.rx_sorted.specs.Ascending.{IsAscending, put}
+use Rattle.std.proofs.Common.{◌≡◌, ◌+◌, ap, sym, ◌∙◌}
+use Rattle.rx_sorted.specs.Ascending.{put}
 use Rattle.rx_serial.specs.declared.fill.Fill.{Fill}
 use Rattle.rx_serial.specs.Fills.{count_at, fill_cmp, fill_key}
 use Rattle.rx_serial.proofs.Counting.{count_there}

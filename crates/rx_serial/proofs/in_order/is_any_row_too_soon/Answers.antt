@@ -1,5 +1,5 @@
 -- Rows of the family that are too soon are found among all rows.
-use Rattle.std.proofs.Common.{◌≡◌, Bool, List, [], true, false, refl, sym, ap, ◌∙◌}
+use Rattle.std.proofs.Common.{◌≡◌, Bool, true, false, refl, sym, ap, ◌∙◌}
 use Rattle.std.specs.Prelude.{◌&&◌}
 use Rattle.std.specs.List.{list_any}
 use Rattle.rx_d0_values.specs.declared.bill.BillParts.{BillParts}

@@ -1,6 +1,10 @@
-use Rattle.std.proofs.Common.{sym, subst}
+use Rattle.std.proofs.Common.{List, subst}
+use Rattle.std.specs.Prelude.{◌↔◌}
 use Rattle.std.specs.List.{Contains}
+use Rattle.rx_fields.specs.declared.key.Key.{Key}
 use Rattle.rx_serial.proofs.names.names_of.Goals as goal
 
-pub returns-clause-keeps : goal.returns-clause-keeps
-returns-clause-keeps c = λ k there. c.in_ok-keys.ensures.keeps k (subst (λ ks. Contains ks k) (sym c.in_ok-named.ensures) there)
+pub returns-clause-keys : goal.returns-clause-keys
+returns-clause-keys c = λ key.
+    subst (λ (ks : List Key). Contains c.in_ok-keys.keys.items key ↔ Contains ks key) c.in_ok-named.ensures
+    (c.in_ok-keys.ensures.keys key)

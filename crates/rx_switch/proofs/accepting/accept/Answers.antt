@@ -1,7 +1,7 @@
 use Rattle.std.proofs.Common.{◌≡◌, refl, sym, Err, IfErr}
 use Rattle.std.proofs.lemmas.Result.{IfErr-at_err, err_from_is_err_and}
 use Rattle.rx_switch.specs.Fault.{of_batch}
-use Rattle.rx_switch.specs.Job.{given_read}
+use Rattle.rx_switch.specs.Job.{books_bytes, given_read}
 use Rattle.rx_switch.specs.Output.{stamp_for}
 use Rattle.rx_switch.specs.Output.IsRefused.{words}
 use Rattle.rx_switch.proofs.NoThread.{never_thread, no_batch_thread}
@@ -17,7 +17,7 @@ pub returns-in_err-sheet-clause-refused : goal.returns-in_err-sheet-clause-refus
 returns-in_err-sheet-clause-refused g c bytes has =
     let p = err_from_is_err_and c.from_residual-in_err-sheet.result c.from_residual-in_err-sheet.ensures.1 in
     rw (p.1, p.2)
-    (sheet_refused (given_read c.args.stamp.now c.args.workers c.args.sheet.now c.args.books.now bytes)
+    (sheet_refused (given_read c.args.stamp.now c.args.workers c.args.sheet.now (books_bytes c.args.books) bytes)
     c.in_ok-stamp.stamp (sym c.in_ok-stamp.ensures)
     c.in_err-sheet.field-0.0 c.in_err-sheet.ensures)
 
@@ -25,7 +25,7 @@ pub returns-in_err-books-clause-refused : goal.returns-in_err-books-clause-refus
 returns-in_err-books-clause-refused g c bytes has =
     let p = err_from_is_err_and c.from_residual-in_err-books.result c.from_residual-in_err-books.ensures.1 in
     rw (p.1, p.2)
-    (books_refused (given_read c.args.stamp.now c.args.workers c.args.sheet.now c.args.books.now bytes)
+    (books_refused (given_read c.args.stamp.now c.args.workers c.args.sheet.now (books_bytes c.args.books) bytes)
     c.in_ok-stamp.stamp (sym c.in_ok-stamp.ensures)
     c.in_ok-sheet.sheet c.in_ok-sheet.ensures c.in_err-books.field-0.0 c.in_err-books.ensures.refuses)
 
@@ -33,7 +33,7 @@ pub returns-in_err-batch-clause-refused : goal.returns-in_err-batch-clause-refus
 returns-in_err-batch-clause-refused g c bytes has =
     let p = err_from_is_err_and c.from_residual-in_err-batch.result c.from_residual-in_err-batch.ensures.1 in
     rw (p.1, p.2)
-    (batch_refused (given_read c.args.stamp.now c.args.workers c.args.sheet.now c.args.books.now bytes)
+    (batch_refused (given_read c.args.stamp.now c.args.workers c.args.sheet.now (books_bytes c.args.books) bytes)
     c.in_ok-stamp.stamp (sym c.in_ok-stamp.ensures)
     c.in_ok-sheet.sheet c.in_ok-sheet.ensures c.in_ok-books.books.period c.in_ok-books.books.ledger
     c.in_ok-books.ensures.ok c.in_err-batch.field-0.0 (c.in_err-batch.ensures.refuses bytes has))

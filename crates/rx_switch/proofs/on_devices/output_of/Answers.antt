@@ -8,7 +8,7 @@ use Rattle.rx_switch.proofs.on_devices.output_of.Goals as goal
 pub returns-in_err-accepted-clause-refused : goal.returns-in_err-accepted-clause-refused
 returns-in_err-accepted-clause-refused g c batch stands =
     let p = err_from_is_err_and c.from_residual.result c.from_residual.ensures.1 in
-    let refused = rw (c.deref.ensures.value, c.deref-2.ensures.value) at c.in_err-accepted.ensures.refused batch stands in
+    let refused = rw c.deref.ensures.value at c.in_err-accepted.ensures.refused batch stands in
     rw (p.1, p.2) refused
 
 pub returns-in_err-accepted-clause-thread : goal.returns-in_err-accepted-clause-thread
@@ -40,6 +40,6 @@ returns-clause-thread g c =
 
 pub returns-clause-output : goal.returns-clause-output
 returns-clause-output g c batch stands =
-    let accepted = rw (c.deref.ensures.value, c.deref-2.ensures.value) at c.in_ok-accepted.ensures.accepted batch stands in
+    let accepted = rw c.deref.ensures.value at c.in_ok-accepted.ensures.accepted batch stands in
     if_output (given_read c.args.stamp.now c.args.manner.now.workers c.args.read.sheet.items c.args.read.books.items batch)
     (accepted_of c.in_ok-accepted.accepted) accepted c.adjudicate.result c.adjudicate.ensures.output

@@ -1,6 +1,5 @@
 -- The member who is near has the key.
 use Rattle.std.proofs.Common.{◌≡◌, sym, ◌∙◌}
-use Rattle.rx_ledger.specs.contracts.member.MemberKeyPartialEq.TheImpl.{ghosts as same}
 use Rattle.rx_ledger.proofs.Decided.{member_key_decides}
 use Rattle.rx_serial.proofs.Places.{is_listed_there, is_place}
 use Rattle.rx_serial.proofs.in_order.InOrder.holder_of.Goals as goal

@@ -1,5 +1,5 @@
 -- The fill of the row that is added is counted.
-use Rattle.std.proofs.Common.{◌≡◌, Some, refl, sym, ap, ◌∙◌}
+use Rattle.std.proofs.Common.{Some, refl, ap, ◌∙◌}
 use Rattle.rx_fields.specs.Order.{key_cmp}
 use Rattle.rx_sorted.proofs.LookUps.{item_at-free}
 use Rattle.rx_sorted.proofs.Totals.{sum_by-put_free}
@@ -14,12 +14,12 @@ use Rattle.rx_serial.specs.Fills.{fill_of, is_counted, one_of, tallied}
 use Rattle.rx_serial.proofs.Counting.{AreCounted-tallied}
 use Rattle.rx_serial.proofs.Holders.{at_row}
 use Rattle.rx_serial.proofs.Longest.{within_longer, within_tallied}
-use Rattle.rx_serial.proofs.Places.{member_at_key, slot_there}
+use Rattle.rx_serial.proofs.Places.{member_at_key, named_there}
 use Rattle.rx_serial.proofs.in_order.InOrderBasis.add.Goals as goal
 
 pub unreachable-requires : goal.unreachable-requires
 unreachable-requires c =
-    c.in_default.ensures.absent (slot_there c.args.self.now.slots c.args.row.key c.requires.key)
+    c.in_default.ensures.absent (named_there c.args.self.now.keys c.args.row.key c.requires.key)
 
 pub add-requires-clause-family : goal.add-requires-clause-family
 add-requires-clause-family c =
@@ -42,7 +42,7 @@ invariant_of-self-2 c =
     let tallied_is = c.in_ok-tally_near.ensures.ok ∙ ap (λ k. tallied o.fills (made k)) key in
     let longer = within_longer o.longest c.longer-self-inside.result o.fills c.longer-self-inside.ensures.first
     c.self.invariant.within in
-    let counted = AreCounted-tallied (is_counted o.marks.items o.first_day) L.members L.rows (with_row L r).rows o.fills r
+    let counted = AreCounted-tallied (is_counted o.marks o.first_day) L.members L.rows (with_row L r).rows o.fills r
     c.self.invariant.counted
     (λ k. sum_by-put_free key_cmp key_total row_key (one_of L.members k) L.rows r none) in
     rw (c.add.ensures, tallied_is)
@@ -52,6 +52,8 @@ invariant_of-self-2 c =
       within = within_tallied c.longer-self-inside.result o.fills (made (fill_of L.members r)) longer
           c.longer-self-inside.ensures.second;
       near = c.self.invariant.near;
+      rise = c.self.invariant.rise;
+      opened = c.self.invariant.opened;
     })
 
 pub returns-clause-added : goal.returns-clause-added

@@ -1,5 +1,5 @@
 -- Some fill that is counted is too soon exactly where some row of the family is.
-use Rattle.std.proofs.Common.{◌≡◌, Bool, true, sym, ap, ◌∙◌}
+use Rattle.std.proofs.Common.{◌≡◌, Bool, ap, ◌∙◌}
 use Rattle.std.specs.Prelude.{◌&&◌}
 use Rattle.std.specs.List.{list_any}
 use Rattle.rx_ledger.specs.declared.row.Row.{Row}
@@ -21,8 +21,8 @@ returns-then-are_counted_for c =
     let i = c.in-Some.holder in
     let f : Refill = refill_of figures date b i in
     let found = rw (← c.self.view_is, c.of.ensures) at c.in-Some.ensures.found in
-    let covers = rw (c.deref.ensures.value, c.of-refill.ensures) at c.are_counted_for.ensures in
-    let filled = any_filled (is_counted c.self.inside.marks.items c.self.inside.first_day) L.members L.rows
+    let covers = rw c.of-refill.ensures at c.are_counted_for.ensures in
+    let filled = any_filled (is_counted c.self.inside.marks c.self.inside.first_day) L.members L.rows
     c.self.inside.fills (concerns f) c.as_slice-in_order.ensures.ascending c.self.invariant.counted
     (covers c.if-are_counted_for.true) in
     let of_fill : Row → Bool = λ r. concerns f (fill_of L.members r) in

@@ -1,7 +1,6 @@
 -- The fill of the row that is taken out counts no more.
 use Rattle.std.proofs.Common.{◌≡◌, false, true, sym, ap, ◌∙◌}
 use Rattle.std.specs.Prelude.{is_some}
-use Rattle.std.proofs.lemmas.Option.{slice_get_within}
 use Rattle.rx_fields.specs.Order.{key_cmp}
 use Rattle.rx_sorted.proofs.Totals.{sum_by-without}
 use Rattle.rx_ledger.specs.Ledger.{is_listed, without_row}
@@ -13,12 +12,12 @@ use Rattle.rx_serial.specs.Fills.{fill_of, is_counted, lowered, one_of}
 use Rattle.rx_serial.proofs.Counting.{AreCounted-lowered}
 use Rattle.rx_serial.proofs.Holders.{at_row}
 use Rattle.rx_serial.proofs.Longest.{within_lowered}
-use Rattle.rx_serial.proofs.Places.{slot_there}
+use Rattle.rx_serial.proofs.Places.{named_there}
 use Rattle.rx_serial.proofs.in_order.InOrderBasis.remove.Goals as goal
 
 pub unreachable-requires : goal.unreachable-requires
 unreachable-requires c =
-    c.in_default.ensures.absent (slot_there c.args.self.now.slots c.args.key.now c.requires.key)
+    c.in_default.ensures.absent (named_there c.args.self.now.keys c.args.key.now c.requires.key)
 
 pub unreachable-requires-in_default-member_of : goal.unreachable-requires-in_default-member_of
 unreachable-requires-in_default-member_of c =
@@ -40,7 +39,7 @@ invariant_of-self c =
     let at = rw c.remove-row.ensures.books at c.in-Some-member_of.ensures.found in
     let key = c.fill_at.ensures ∙ at_row L.members r c.in-Some-member_of.holder c.self.invariant.in_order.members_rise at in
     let lowered_is = c.lower.ensures ∙ ap (λ k. lowered o.fills k) key in
-    let counted = AreCounted-lowered (is_counted o.marks.items o.first_day) L.members L.rows (without_row L r.key).rows o.fills r
+    let counted = AreCounted-lowered (is_counted o.marks o.first_day) L.members L.rows (without_row L r.key).rows o.fills r
     c.self.invariant.counted
     (λ k. sum_by-without key_cmp key_total row_key (one_of L.members k) L.rows r.key r c.self.invariant.in_order.rows_rise
     c.remove-row.ensures.row) in
@@ -50,4 +49,6 @@ invariant_of-self c =
       counted = counted;
       within = within_lowered o.longest o.fills (fill_of L.members r) c.self.invariant.within;
       near = c.self.invariant.near;
+      rise = c.self.invariant.rise;
+      opened = c.self.invariant.opened;
     })

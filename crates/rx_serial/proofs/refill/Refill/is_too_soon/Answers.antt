@@ -1,5 +1,5 @@
 -- What is past the course doesn't count, nor does what stands before an early fill.
-use Rattle.std.proofs.Common.{◌≡◌, ◌+◌, ◌-◌, ◌<◌, ◌≤◌, List, length, take, true, false, sym, ap, subst, ◌∙◌, arith}
+use Rattle.std.proofs.Common.{◌≡◌, ◌+◌, ◌-◌, ◌<◌, ◌≤◌, List, length, take, true, sym, ap, subst, ◌∙◌, arith}
 use Rattle.std.specs.List.{All, list_any}
 use Rattle.rx_sorted.specs.Ascending.{IsAscending}
 use Rattle.rx_serial.specs.declared.fill.Fill.{Fill}

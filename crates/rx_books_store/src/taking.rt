@@ -1,0 +1,94 @@
+ghost use Rattle.std.specs.Prelude.{◌≡◌, Some, false, slice_get};
+ghost use Rattle.std.specs.List.{All, Contains};
+ghost use Rattle.rx_ledger.specs.Ledger.{is_taken, row_under};
+ghost use Rattle.rx_books_store.specs.OpenBooks.{HasTaken, open_over, open_without};
+ghost use Rattle.rx_books_store.specs.Store.{IsSlot};
+
+use crate::open_books::OpenBooks;
+use crate::search::guess_slot;
+use crate::slot::{KeySlot, slot_at};
+use crate::slots::fresh_slot;
+use rx_fields::Key;
+use rx_sorted::place_near;
+
+impl OpenBooks {
+    /// Takes over what stands under these fill keys in other books of the same members: the row there, or none. Each key
+    /// has a slot here. Keys that ascend are found in one pass. It takes no memory.
+    pub fn take_over(&mut self, from: &OpenBooks, keys: &[Key])
+        requires members { from.now.books.ledger.members ≡ self.old.books.ledger.members }
+        requires slots { All (Contains self.old.slots) keys.now }
+        ensures { HasTaken self.old from.now.books.ledger keys.now self.new }
+    {
+        let (mut ours, mut theirs) = (0, 0);
+        for key in keys {
+            ours = self.slot_guess(ours, key);
+            theirs = from.slot_guess(theirs, key);
+            self.take_slot(ours, from.slot_under(theirs, key));
+        }
+    }
+
+    // About where the slot of a fill key is, looked for from a place on. It promises nothing.
+    fn slot_guess(&self, from: usize, key: &Key) -> usize {
+        guess_slot(self.changed.as_slice(), from, key)
+    }
+
+    // What stands under a fill key: its slot, which is looked for at `near`, or the one that would be opened for it.
+    fn slot_under(&self, near: usize, key: &Key) -> KeySlot
+        ensures key { result.key ≡ key.now }
+        ensures own { IsSlot self.now.books.ledger.members result }
+        ensures there { row_under self.now.books.ledger key.now ≡ result.held }
+    {
+        match place_near(self.changed.as_slice(), near, key) {
+            Ok(slot) => slot_at(&self.changed, slot),
+            Err(_) => fresh_slot(&self.opening, 0, key),
+        }
+    }
+
+    // Writes what a slot of other books holds into the slot of its fill key, which is looked for at `near`.
+    fn take_slot(&mut self, near: usize, theirs: KeySlot)
+        requires own { IsSlot self.old.books.ledger.members theirs }
+        requires slot { Contains self.old.slots theirs.key }
+        ensures { self.new ≡ open_over self.old theirs }
+    {
+        match place_near(self.changed.as_slice(), near, &theirs.key) {
+            Ok(slot) => self.write_slot(slot, theirs),
+            Err(_) => unreachable!(),
+        }
+    }
+
+    // Writes what a slot of other books holds into this slot, unless it holds the same.
+    fn write_slot(&mut self, slot: usize, theirs: KeySlot)
+        requires own { IsSlot self.old.books.ledger.members theirs }
+        requires slot { slice_get self.old.slots slot ≡ Some theirs.key }
+        ensures { self.new ≡ open_over self.old theirs }
+    {
+        if slot_at(&self.changed, slot).held != theirs.held {
+            self.clear_slot(slot, &theirs.key);
+            self.fill_slot(slot, theirs);
+        }
+    }
+
+    // Takes out the row under a slot's fill key, if there is one.
+    fn clear_slot(&mut self, slot: usize, key: &Key)
+        requires { slice_get self.old.slots slot ≡ Some key.now }
+        ensures { self.new ≡ open_without self.old key.now }
+    {
+        if self.row_at(slot).is_some() {
+            self.remove(slot);
+        }
+    }
+
+    // Adds the row that a slot of other books holds, if there is one, under its fill key, which is free.
+    fn fill_slot(&mut self, slot: usize, theirs: KeySlot)
+        requires own { IsSlot self.old.books.ledger.members theirs }
+        requires slot { slice_get self.old.slots slot ≡ Some theirs.key }
+        requires free { is_taken self.old.books.ledger theirs.key ≡ false }
+        ensures { self.new ≡ open_over self.old theirs }
+    {
+        let held = theirs.held;
+        if let Some(row) = held {
+            let member = theirs.holder as usize;
+            self.add(slot, self.home_of(member), member, row);
+        }
+    }
+}

@@ -1,0 +1,22 @@
+-- What stands under the keys of the shards so far is what these left there, and all else is as in the opening.
+use Rattle.std.proofs.Common.{◌≡◌, ℕ, ◌<◌, Some}
+use Rattle.std.specs.List.{All, Contains, slice_get}
+use Rattle.rx_fields.specs.declared.key.Key.{Key}
+use Rattle.rx_ledger.specs.Ledger.{row_under}
+use Rattle.rx_wave.specs.declared.shard.Ended.{Ended}
+use Rattle.rx_wave.proofs.joined.joined_books.Given as goal
+
+abbrev pub invariant-loop-end : goal.invariant-loop-end
+invariant-loop-end l =
+    let M = l.books.books.ledger in
+    let L = l.job.books.now.ledger in
+    record {
+      period : l.books.books.period ≡ l.job.sheet.now.figures.period;
+      slots : All (Contains l.books.slots) l.keys.items;
+      members : M.members ≡ L.members;
+      taken : (k : ℕ) (end : Ended) → k < l.end-index → slice_get l.ended k ≡ Some end → (key : Key)
+          → Contains end.keys.items key → row_under M key ≡ row_under end.books.books.ledger key;
+      kept : (key : Key)
+          → ((k : ℕ) (end : Ended) → k < l.end-index → slice_get l.ended k ≡ Some end → ¬ Contains end.keys.items key)
+          → row_under M key ≡ row_under L key;
+    }

@@ -1,0 +1,149 @@
+ghost use Rattle.std.specs.Prelude.{◌≡◌, ◌<◌, ◌∷◌, ℕ, List, IfOk, length, map, set, slice_index_or, []};
+ghost use Rattle.std.specs.List.{Contains, flat_map, range_with_len};
+ghost use Rattle.rx_d0_values.specs.declared.reply.Reply.{Reply as ReplyValue};
+ghost use Rattle.rx_fields.specs.Order.{key_cmp};
+ghost use Rattle.rx_fields.specs.declared.key.Key.{Key as KeyValue};
+ghost use Rattle.rx_ledger.specs.Fold.{fold_ledger};
+ghost use Rattle.rx_sorted.specs.Ascending.{IsAscending};
+ghost use Rattle.rx_wave.specs.Jobs.{AreReplies, HaveRun, IsFinished};
+
+use crate::job::Job;
+use crate::shard::Ended;
+use rx_books_store::Books;
+use rx_d0_values::Reply;
+use rx_fields::{Key, Memory};
+use rx_schedule::Shards;
+use rx_serial::Finished;
+use std::alloc::Global;
+use std::marker::Model;
+use std::vec;
+
+/// What the shards of a batch leave together: the books after all records, and the replies in file order.
+pub(crate) fn joined(
+    alloc: Global,
+    job: &Job<'_>,
+    shards: &Shards,
+    ended: Vec<Ended>,
+) -> Result<Finished, Memory>
+    requires { HaveRun job.now shards.now.numbers.items ended.items }
+    ensures { IfOk result (IsFinished job.now) }
+{
+    let books = joined_books(alloc, job, &ended)?;
+    let replies = joined_replies(alloc, &shards.numbers, ended)?;
+    Ok(Finished { books, replies })
+}
+
+// The opening books, with what each shard leaves under the fill keys that it names.
+fn joined_books(alloc: Global, job: &Job<'_>, ended: &[Ended]) -> Result<Books, Memory>
+    requires { (numbers : List ℕ) × HaveRun job.now numbers ended.now }
+    ensures { IfOk result (λ joined. joined ≡ record {
+      period = job.now.sheet.now.figures.period;
+      ledger = fold_ledger job.now.lot job.now.sheet.now 1 job.now.transmissions.now job.now.books.now.ledger;
+    }) }
+{
+    let keys = all_keys(alloc, ended)?;
+    let books = job.books.copy(alloc, job.sheet.period())?;
+    let mut books = books.open(alloc, &keys)?;
+    for end in ended {
+        books.take_over(&end.books, &end.keys);
+    }
+    let books = books.close();
+    let _in_order = books.period();
+    Ok(books)
+}
+
+// The fill keys that the shards name, in order, each once.
+fn all_keys(alloc: Global, ended: &[Ended]) -> Result<Vec<Key>, Memory>
+    ensures rise { IfOk result (λ keys. IsAscending key_cmp (λ key. key) keys.items) }
+    ensures keeps { IfOk result (λ keys. (key : KeyValue) → Contains (flat_map (λ end. end.keys.items) ended.now) key → Contains keys.items key) }
+{
+    let mut keys = Vec::new(alloc);
+    for end in ended {
+        keys.extend_from_slice(&end.keys)?;
+    }
+    keys.sort()?;
+    keys.dedup();
+    Ok(keys)
+}
+
+// The replies of the shards, in file order, by the shard of each record.
+fn joined_replies(alloc: Global, numbers: &[usize], ended: Vec<Ended>) -> Result<Vec<Reply>, Memory>
+    requires { (reply : ℕ → ReplyValue) × AreReplies reply numbers.now (map (λ end. end.replies.items) ended.items) }
+    ensures { (reply : ℕ → ReplyValue) → AreReplies reply numbers.now (map (λ end. end.replies.items) ended.items)
+        → IfOk result (λ replies. replies.items ≡ map reply (range_with_len 1 (length numbers.now))) }
+{
+    let mut coming = all_coming(alloc, ended)?;
+    in_file_order(alloc, numbers, &mut coming)
+}
+
+// The same of the replies that are to come.
+fn in_file_order(
+    alloc: Global,
+    numbers: &[usize],
+    coming: &mut [Coming],
+) -> Result<Vec<Reply>, Memory>
+    requires { (reply : ℕ → ReplyValue) × AreReplies reply numbers.now coming.old }
+    ensures { (reply : ℕ → ReplyValue) → AreReplies reply numbers.now coming.old
+        → IfOk result (λ replies. replies.items ≡ map reply (range_with_len 1 (length numbers.now))) }
+{
+    let mut replies = Vec::with_capacity(alloc, numbers.len())?;
+    for number in numbers {
+        replies.push(next_reply(coming, *number))?;
+    }
+    Ok(replies)
+}
+
+// The replies of a shard that are still to come.
+#[derive(Drop)]
+struct Coming {
+    replies: vec::IntoIter<Reply>,
+}
+
+impl Model for Coming {
+    ghost use Rattle.std.specs.Prelude.{◌≡◌, List, length};
+    ghost use Rattle.std.specs.Vec.Iter.{into_iter_items, into_iter_len};
+    ghost use Rattle.rx_d0_values.specs.declared.reply.Reply.{Reply as ReplyValue};
+
+    ghost Value = { List ReplyValue };
+
+    ghost view = { λ coming. into_iter_items coming.replies };
+
+    ghost invariant = { λ coming. into_iter_len coming.replies ≡ length (into_iter_items coming.replies) };
+}
+
+impl Coming {
+    // The next one.
+    fn next(&mut self) -> Reply
+        requires { 0 < length self.old }
+        ensures { self.old ≡ result ∷ self.new }
+    {
+        match self.replies.next() {
+            Some(reply) => reply,
+            None => unreachable!(),
+        }
+    }
+}
+
+// The replies of each shard.
+fn all_coming(alloc: Global, ended: Vec<Ended>) -> Result<Vec<Coming>, Memory>
+    ensures { IfOk result (λ coming. coming.items ≡ map (λ end. end.replies.items) ended.items) }
+{
+    let mut coming = Vec::with_capacity(alloc, ended.len())?;
+    for end in ended {
+        let Ended { replies, .. } = end;
+        coming.push(Coming {
+            replies: replies.into_iter(),
+        })?;
+    }
+    Ok(coming)
+}
+
+// The next reply of a shard.
+fn next_reply(coming: &mut [Coming], shard: usize) -> Reply
+    requires within { shard < length coming.old }
+    requires more { 0 < length (slice_index_or coming.old shard []) }
+    ensures next { slice_index_or coming.old shard [] ≡ result ∷ slice_index_or coming.new shard [] }
+    ensures others { coming.new ≡ set coming.old shard (slice_index_or coming.new shard []) }
+{
+    coming[shard].next()
+}

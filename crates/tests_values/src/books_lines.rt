@@ -1,0 +1,298 @@
+// What no clause says: that lines of claims are lent from the text that was read, and that the text of touched books is the
+// one that is written anew, whichever claims were touched.
+use crate::lines::text;
+use crate::same::same;
+use rx_books_store::{Books, OpenBooks};
+use rx_d0_values::Amounts;
+use rx_fields::{
+    Authorization, Days, Id, Key, Period, Person, Product, Provider, Quantity, Reference, date_read,
+};
+use rx_io::{Pieces, VecSink};
+use rx_ledger::{Ledger, Member, Row};
+use std::alloc::Global;
+use std::process::Abort;
+use std::thread::Threads;
+
+// The most parts that a text is read and written in here.
+const MOST: usize = 4;
+
+// What is done to the claim under a reference number.
+#[derive(Clone, Copy, Debug)]
+enum Touch {
+    // A slot is kept for it, and nothing else.
+    Opened,
+    // One is added.
+    Added,
+    // It is taken out.
+    TakenOut,
+    // It is taken out, and added again.
+    PutBack,
+    // It is taken out, and one of another fee added.
+    Replaced,
+}
+
+use Touch::{Added, Opened, PutBack, Replaced, TakenOut};
+
+// How many claims there are, under the reference numbers 10, 20 and so on, and which are touched.
+const CASES: &[(u64, &[(u64, Touch)])] = &[
+    (5, &[]),
+    (5, &[(10, Replaced)]),
+    (5, &[(50, Replaced)]),
+    (1, &[(10, Replaced)]),
+    (1, &[(10, TakenOut)]),
+    (6, &[(10, Replaced), (30, TakenOut), (50, Replaced)]),
+    (6, &[(20, TakenOut), (40, Replaced), (60, TakenOut)]),
+    (
+        4,
+        &[
+            (10, Replaced),
+            (20, Replaced),
+            (30, Replaced),
+            (40, Replaced),
+        ],
+    ),
+    (3, &[(10, TakenOut), (20, TakenOut), (30, TakenOut)]),
+    (3, &[(5, Added), (15, Added), (25, Added), (35, Added)]),
+    (3, &[(5, Added), (6, Added), (31, Added), (32, Added)]),
+    (0, &[(10, Added)]),
+    (4, &[(10, Opened), (25, Opened), (40, Opened)]),
+    (4, &[(20, PutBack), (30, Opened), (40, PutBack)]),
+    (9, &[(45, Added), (50, TakenOut)]),
+    (9, &[(50, Replaced), (55, Added)]),
+];
+
+fn day(rt: &impl Abort, text: &[u8]) -> rx_fields::Day {
+    date_read(text).expect(rt, "a date")
+}
+
+fn this_year(rt: &impl Abort) -> Period {
+    Period::new(day(rt, b"20260101"), day(rt, b"20261231")).expect(rt, "a period")
+}
+
+fn key(rt: &impl Abort, reference: u64) -> Key {
+    Key {
+        provider: Provider::new(b"1234567893").expect(rt, "a provider"),
+        reference: Reference::new(reference).expect(rt, "a reference"),
+        date: day(rt, b"20260228"),
+    }
+}
+
+fn family(rt: &impl Abort) -> Id {
+    Id::new(b"C100", 20).expect(rt, "an id")
+}
+
+fn person(rt: &impl Abort) -> Person {
+    Person::new(b"01").expect(rt, "a person")
+}
+
+// The claim under a reference number, of this fee.
+fn claim(rt: &impl Abort, reference: u64, dispensing_fee: u64) -> Row {
+    let amounts = Amounts {
+        ingredient_cost: 30_000,
+        dispensing_fee,
+        deductible: 100,
+        copay: 30,
+        coinsurance: 0,
+    };
+    let product = Product::new(b"00002000202").expect(rt, "a product");
+    let quantity = Quantity::new(30_000).expect(rt, "a quantity");
+    let days = Days::new(30).expect(rt, "days");
+    let number = Authorization::new(reference).expect(rt, "a number");
+    let row = Row::new(
+        key(rt, reference),
+        family(rt),
+        person(rt),
+        product,
+        quantity,
+        days,
+        amounts,
+        number,
+    );
+    row.expect(rt, "within the limits")
+}
+
+// The ledger of one member with so many claims.
+fn ledger_of(rt: &impl Abort, alloc: Global, claims: u64) -> Ledger {
+    let mut ledger = Ledger::new(alloc);
+    let member = Member::new(
+        family(rt),
+        person(rt),
+        day(rt, b"20260101"),
+        day(rt, b"20261231"),
+    );
+    let added = ledger.add_member(member.expect(rt, "a member"));
+    added.expect(rt, "a new member");
+    for place in 0..claims {
+        let reference = place.saturating_add(1).saturating_mul(10);
+        let added = ledger.add_row(claim(rt, reference, 175));
+        added.expect(rt, "a new row");
+    }
+    ledger
+}
+
+// The text of the books of a ledger, written anew.
+fn written_anew(rt: &impl Abort, alloc: Global, ledger: &Ledger) -> Vec<u8> {
+    let books = Books::from_ledger(alloc, ledger, this_year(rt)).expect(rt, "memory");
+    books.write(alloc).expect(rt, "memory")
+}
+
+// Books that keep the text of so many claims, which they read in so many parts.
+fn kept<R: Threads + Sync + Abort>(rt: &R, alloc: Global, parts: usize, claims: u64) -> Books {
+    let text = written_anew(rt, alloc, &ledger_of(rt, alloc, claims));
+    Books::read_kept(rt, alloc, parts, text).expect(rt, "books")
+}
+
+// Adds a claim.
+fn add(rt: &impl Abort, books: &mut OpenBooks, row: Row) {
+    let slot = books.slot_of(&row.key).expect(rt, "a slot");
+    let is_free = books.row_at(slot).is_none();
+    assert!(rt; is_free);
+    let member = books.member_of(&row.family, &row.person);
+    let family = books.family_of(&row.family).expect(rt, "a family");
+    books.add(slot, family, member.expect(rt, "a member"), row);
+}
+
+// Takes out a claim.
+fn take_out(rt: &impl Abort, books: &mut OpenBooks, key: &Key) {
+    let slot = books.slot_of(key).expect(rt, "a slot");
+    let is_taken = books.row_at(slot).is_some();
+    assert!(rt; is_taken);
+    let _row = books.remove(slot);
+}
+
+// Touches a claim.
+fn make_touch(rt: &impl Abort, books: &mut OpenBooks, reference: u64, touch: Touch) {
+    let key = key(rt, reference);
+    match touch {
+        Opened => {}
+        Added => add(rt, books, claim(rt, reference, 175)),
+        TakenOut => take_out(rt, books, &key),
+        PutBack => {
+            take_out(rt, books, &key);
+            add(rt, books, claim(rt, reference, 175));
+        }
+        Replaced => {
+            take_out(rt, books, &key);
+            add(rt, books, claim(rt, reference, 275));
+        }
+    }
+}
+
+// The books, in which a claim is touched.
+fn touched_once(rt: &impl Abort, alloc: Global, books: Books, reference: u64, how: Touch) -> Books {
+    let keys = [key(rt, reference)];
+    let mut books = books.open(alloc, &keys).expect(rt, "memory");
+    make_touch(rt, &mut books, reference, how);
+    books.close()
+}
+
+// The books, in which these claims are touched.
+fn touched(rt: &impl Abort, alloc: Global, books: Books, touches: &[(u64, Touch)]) -> Books {
+    let mut books = books;
+    for (reference, how) in touches {
+        books = touched_once(rt, alloc, books, *reference, *how);
+    }
+    books
+}
+
+// What a sink takes of pieces, so many bytes a call.
+fn taken(rt: &impl Abort, alloc: Global, pieces: &Pieces, most: usize) -> Vec<u8> {
+    let mut sink = VecSink::new(alloc, most);
+    pieces.write_to(alloc, &mut sink).expect(rt, "written");
+    sink.bytes().to_vec(alloc).expect(rt, "memory")
+}
+
+// The text of the books is this one, however it is written.
+fn is_written<R: Threads + Sync + Abort>(rt: &R, alloc: Global, books: &Books, wanted: &[u8]) {
+    let text = books.write(alloc).expect(rt, "memory");
+    same(rt, text.as_slice(), wanted);
+    for parts in 1..MOST {
+        let pieces = books.write_pieces(rt, alloc, parts).expect(rt, "memory");
+        same(rt, taken(rt, alloc, &pieces, 7).as_slice(), wanted);
+        same(rt, taken(rt, alloc, &pieces, 9999).as_slice(), wanted);
+        let text = pieces.joined(alloc).expect(rt, "memory");
+        same(rt, text.as_slice(), wanted);
+    }
+}
+
+#[test]
+fn touched_claims_are_written(rt: HostRuntime) {
+    let alloc = rt.alloc();
+    for (claims, touches) in CASES {
+        for parts in 1..MOST {
+            let books = touched(&rt, alloc, kept(&rt, alloc, parts, *claims), touches);
+            let ledger = books.ledger(alloc).expect(&rt, "memory");
+            let wanted = written_anew(&rt, alloc, &ledger);
+            is_written(&rt, alloc, &books, &wanted);
+        }
+    }
+}
+
+// Whether parts of another text are among the pieces of the text of books.
+fn are_lent<R: Threads + Sync + Abort>(rt: &R, alloc: Global, books: &Books, parts: usize) -> bool {
+    let pieces = books.write_pieces(rt, alloc, parts).expect(rt, "memory");
+    match pieces {
+        Pieces::Patched(_) => true,
+        Pieces::Texts(_) => false,
+    }
+}
+
+// Few claims are touched; all are, which one thread lends, and several write anew.
+#[test]
+fn lines_of_a_text_that_is_kept_are_lent(rt: HostRuntime) {
+    let alloc = rt.alloc();
+    let few: &[(u64, Touch)] = &[(50, Replaced)];
+    let all: &[(u64, Touch)] = &[(10, Replaced), (20, Replaced)];
+    let books = touched(&rt, alloc, kept(&rt, alloc, 1, 9), few);
+    same(&rt, are_lent(&rt, alloc, &books, 1), true);
+    same(&rt, are_lent(&rt, alloc, &books, 3), true);
+    let books = touched(&rt, alloc, kept(&rt, alloc, 1, 2), all);
+    same(&rt, are_lent(&rt, alloc, &books, 1), true);
+    same(&rt, are_lent(&rt, alloc, &books, 3), false);
+}
+
+// The members of the worked cases, and the lines of a claim in each version, with the total lines.
+const MEMBERS: &[u8] = b"M|C100|01|20260101|20261231|0\nM|C200|01|20260101|20261231|0\n";
+
+const CLAIM: &[u8] = b"C|1234567893|90|20251230|C100|01|00002000202|30000|30|30000|175|10000|3000|";
+
+const OLDER: &[&[&[u8]]] = &[
+    &[
+        b"BOOKS|1|20260101|20261231\n",
+        MEMBERS,
+        CLAIM,
+        b"000003100000051\nT|C100|0\nT|C200|0\n",
+    ],
+    &[
+        b"BOOKS|2|20260101|20261231\n",
+        MEMBERS,
+        CLAIM,
+        b"12|000003100000051\nT|C100|0\nT|C200|0\n",
+    ],
+];
+
+// Books of older versions keep no text, and are written in version 3.
+#[test]
+fn older_books_are_written_anew(rt: HostRuntime) {
+    let alloc = rt.alloc();
+    for lines in OLDER {
+        for parts in 1..MOST {
+            let older = text(&rt, alloc, lines);
+            let books = Books::read_kept(&rt, alloc, parts, older).expect(&rt, "books");
+            same(&rt, are_lent(&rt, alloc, &books, 1), false);
+            let ledger = books.ledger(alloc).expect(&rt, "memory");
+            let wanted = written_anew(&rt, alloc, &ledger);
+            is_written(&rt, alloc, &books, &wanted);
+        }
+    }
+}
+
+// A text that is only lent isn't kept.
+#[test]
+fn books_of_a_text_that_is_lent_are_written_anew(rt: HostRuntime) {
+    let alloc = rt.alloc();
+    let wanted = written_anew(&rt, alloc, &ledger_of(&rt, alloc, 3));
+    let books = Books::read(alloc, &wanted).expect(&rt, "books");
+    same(&rt, are_lent(&rt, alloc, &books, 1), false);
+    is_written(&rt, alloc, &books, &wanted);
+}
