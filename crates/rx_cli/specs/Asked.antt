@@ -5,12 +5,11 @@ use Rattle.std.specs.Str.{bytes_eq}
 use Rattle.std.specs.Borrow.{Bor}
 use Rattle.std.specs.Str.Parse.{IsNumeral, digits_value}
 use Rattle.clap.specs.Words.{Row, Text, first_of}
+use Rattle.rx_io.specs.declared.files.Inputs.{Inputs}
+use Rattle.rx_io.specs.declared.files.Outputs.{Outputs}
 use Rattle.rx_cli.specs.Paths.{has_twice, paths_of}
-use Rattle.rx_cli.specs.declared.asked.CheckWords.{CheckWords}
 use Rattle.rx_cli.specs.declared.asked.Command.{Command}
 use Rattle.rx_cli.specs.declared.asked.Command.TheVariants.{Run, Show, Plan, Sample, Check, Explain, Verify, Report, Replies}
-use Rattle.rx_cli.specs.declared.asked.Inputs.{Inputs}
-use Rattle.rx_cli.specs.declared.asked.Outputs.{Outputs}
 use Rattle.rx_cli.specs.declared.asked.RunWords.{RunWords}
 use Rattle.rx_cli.specs.declared.asked.ShowWords.{ShowWords}
 use Rattle.rx_cli.specs.declared.retrace.Asked.{Asked}
@@ -48,13 +47,24 @@ HasNumber rows name n = (text : Text) × HasText rows name text × IsNumeral 10 
 abbrev pub HasNumberOr : List Row → Text → ℕ → ℕ → Type 0
 HasNumberOr rows name other n = (IsAbsent rows name × (n ≡ other)) ⊎ HasNumber rows name n
 
+-- the paths of the input files, and of the output files
+abbrev pub InputPaths : Type 0
+InputPaths = Inputs (Bor Text) (Bor Text) (Bor Text)
+
+abbrev pub OutputPaths : Type 0
+OutputPaths = Outputs (Bor Text) (Bor Text) (Bor Text)
+
+-- those of `check`, of which two may be left out
+abbrev pub CheckWords : Type 0
+CheckWords = Inputs (Bor Text) (Option (Bor Text)) (Option (Bor Text))
+
 -- the input files are the values of their options
-abbrev pub HoldsInputs : List Row → Inputs → Type 0
+abbrev pub HoldsInputs : List Row → InputPaths → Type 0
 HoldsInputs rows i = HasText rows (codes "sheet") i.sheet.now × HasText rows (codes "books") i.books.now
     × HasText rows (codes "batch") i.batch.now
 
 -- the output files are the values of their options
-abbrev pub HoldsOutputs : List Row → Outputs → Type 0
+abbrev pub HoldsOutputs : List Row → OutputPaths → Type 0
 HoldsOutputs rows o = HasText rows (codes "response") o.response.now × HasText rows (codes "books-out") o.books.now
     × HasText rows (codes "settlement") o.settlement.now
 

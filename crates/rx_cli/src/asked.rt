@@ -4,34 +4,13 @@ ghost use Rattle.rx_cli.specs.Paths.{files_of, has_twice, paths_of};
 
 use crate::paths::has_one_twice;
 use crate::retrace::{ExplainWords, ReportWords, VerifyWords};
-
-/// The input files of a run (docs/CLI.md, "Commands").
-#[derive(Clone, Copy, Debug, PartialEq, Eq)]
-pub struct Inputs<'a> {
-    /// `--sheet`: the plan sheet.
-    pub sheet: &'a str,
-    /// `--books`: the opening books.
-    pub books: &'a str,
-    /// `--batch`: the batch file.
-    pub batch: &'a str,
-}
-
-/// The output files of a run.
-#[derive(Clone, Copy, Debug, PartialEq, Eq)]
-pub struct Outputs<'a> {
-    /// `--response`: the response file.
-    pub response: &'a str,
-    /// `--books-out`: the end books.
-    pub books: &'a str,
-    /// `--settlement`: the settlement.
-    pub settlement: &'a str,
-}
+use rx_io::{Inputs, Outputs};
 
 /// The words of `run`. Its six files and its log are different texts.
 #[derive(Clone, Copy, Debug, PartialEq, Eq)]
 pub struct RunWords<'a> {
-    pub inputs: Inputs<'a>,
-    pub outputs: Outputs<'a>,
+    pub inputs: Inputs<&'a str>,
+    pub outputs: Outputs<&'a str>,
     /// `--stamp`, as it was written; whether it is a stamp is the run's to say.
     pub stamp: &'a str,
     /// `--workers`, 0 to 65535; whether so many can work is the run's to say.
@@ -85,16 +64,8 @@ pub struct ShowWords<'a> {
     pub tsv: bool,
 }
 
-/// The words of `check`.
-#[derive(Clone, Copy, Debug, PartialEq, Eq)]
-pub struct CheckWords<'a> {
-    /// `--sheet`: the plan sheet.
-    pub sheet: &'a str,
-    /// `--books`: the books, where they are to be checked too.
-    pub books: Option<&'a str>,
-    /// `--batch`: the batch file, where it is to be checked too.
-    pub batch: Option<&'a str>,
-}
+/// The words of `check`: the plan sheet, and books and batch file where they are to be checked too.
+pub type CheckWords<'a> = Inputs<&'a str, Option<&'a str>, Option<&'a str>>;
 
 /// One of the subcommands, with the values of its options (docs/CLI.md, "Commands").
 #[derive(Clone, Copy, Debug, PartialEq, Eq)]
@@ -104,7 +75,7 @@ pub enum Command<'a> {
     /// `show`: one line per transaction.
     Show(ShowWords<'a>),
     /// `plan`: the waves and the chain.
-    Plan(Inputs<'a>),
+    Plan(Inputs<&'a str>),
     /// `sample`: the reply to the base claim.
     Sample,
     /// `check`: the faults of the inputs, in words.

@@ -14,7 +14,8 @@
 //! }
 //! ```
 //!
-//! No file is opened here, and what a path names isn't looked at: paths are compared as texts.
+//! The files of a command stand in `rx_io`'s `Inputs` and `Outputs`, each by its path. No file is opened here, and what a
+//! path names isn't looked at: paths are compared as texts.
 #![tactic(auto)]
 
 mod asked;
@@ -28,7 +29,7 @@ mod retracing;
 mod syntax;
 mod words;
 
-pub use asked::{CheckWords, Command, Inputs, Outputs, RunWords, ShowWords};
+pub use asked::{CheckWords, Command, RunWords, ShowWords};
 pub use fault::WordsFault;
 pub use retrace::{Asked, ExplainWords, Form, Portion, ReportWords, VerifyWords};
 pub use syntax::VERSION;

@@ -3,8 +3,8 @@ ghost use Rattle.std.specs.Prelude.{◌≡◌, IfNone, IfSome, option_map};
 ghost use Rattle.clap.specs.Words.{first_of, found_of, rows_of};
 ghost use Rattle.rx_cli.specs.Asked.{HasNumber, HasNumberOr, HoldsInputs, HoldsOutputs, NoneHolds, is_set};
 
-use crate::asked::{Inputs, Outputs};
 use clap::ArgMatches;
+use rx_io::{Inputs, Outputs};
 
 /// The text of an option.
 pub(crate) fn text<'a>(found: &ArgMatches<'a>, name: &str) -> Option<&'a str>
@@ -44,7 +44,7 @@ pub(crate) fn number_or(found: &ArgMatches<'_>, name: &str, other: u16) -> Optio
 }
 
 /// The input files.
-pub(crate) fn inputs<'a>(found: &ArgMatches<'a>) -> Option<Inputs<'a>>
+pub(crate) fn inputs<'a>(found: &ArgMatches<'a>) -> Option<Inputs<&'a str>>
     ensures some { IfSome result (HoldsInputs (rows_of (found_of found.now))) }
     ensures none { IfNone result (NoneHolds (HoldsInputs (rows_of (found_of found.now)))) }
 {
@@ -59,7 +59,7 @@ pub(crate) fn inputs<'a>(found: &ArgMatches<'a>) -> Option<Inputs<'a>>
 }
 
 /// The output files.
-pub(crate) fn outputs<'a>(found: &ArgMatches<'a>) -> Option<Outputs<'a>>
+pub(crate) fn outputs<'a>(found: &ArgMatches<'a>) -> Option<Outputs<&'a str>>
     ensures some { IfSome result (HoldsOutputs (rows_of (found_of found.now))) }
     ensures none { IfNone result (NoneHolds (HoldsOutputs (rows_of (found_of found.now)))) }
 {

@@ -1,6 +1,6 @@
 //! What the commands that retrace a run are asked to do.
 
-use crate::asked::{Inputs, Outputs};
+use rx_io::{Inputs, Outputs};
 
 /// What `explain` is asked after.
 #[derive(Clone, Copy, Debug, PartialEq, Eq)]
@@ -19,7 +19,7 @@ pub enum Asked<'a> {
 /// The words of `explain`.
 #[derive(Clone, Copy, Debug, PartialEq, Eq)]
 pub struct ExplainWords<'a> {
-    pub inputs: Inputs<'a>,
+    pub inputs: Inputs<&'a str>,
     /// `--record`, `--number` or `--rx`.
     pub asked: Asked<'a>,
     /// `--response`: the response file that is compared, where there is one.
@@ -31,9 +31,9 @@ pub struct ExplainWords<'a> {
 /// The words of `verify`.
 #[derive(Clone, Copy, Debug, PartialEq, Eq)]
 pub struct VerifyWords<'a> {
-    pub inputs: Inputs<'a>,
+    pub inputs: Inputs<&'a str>,
     /// The files that are compared.
-    pub outputs: Outputs<'a>,
+    pub outputs: Outputs<&'a str>,
     /// `--stamp`, as it was written.
     pub stamp: &'a str,
     /// `--workers`, 0 to 65535; 1 where it doesn't stand.
@@ -69,7 +69,7 @@ pub enum Form {
 /// The words of `report`.
 #[derive(Clone, Copy, Debug, PartialEq, Eq)]
 pub struct ReportWords<'a> {
-    pub inputs: Inputs<'a>,
+    pub inputs: Inputs<&'a str>,
     pub portion: Portion<'a>,
     pub form: Form,
 }

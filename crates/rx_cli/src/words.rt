@@ -12,6 +12,7 @@ use crate::options::{flag, inputs, number, outputs, text};
 use crate::retracing::{explain, report, verify};
 use crate::syntax::line;
 use clap::ArgMatches;
+use rx_io::Inputs;
 use std::alloc::Global;
 use std::convert::AsStr;
 
@@ -32,7 +33,7 @@ fn check<'a>(found: &ArgMatches<'a>) -> Option<CheckWords<'a>>
     let sheet = text(found, "sheet")?;
     let books = text(found, "books");
     let batch = text(found, "batch");
-    Some(CheckWords {
+    Some(Inputs {
         sheet,
         books,
         batch,
