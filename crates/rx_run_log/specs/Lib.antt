@@ -3,6 +3,8 @@ pub mod Header
 pub mod Lines
 pub mod Log
 pub mod Numbers
+pub mod RunTraffic
 pub mod Settlement
 pub mod Steps
+pub mod Times
 pub mod Traffic

@@ -3,6 +3,8 @@ use Rattle.std.specs.Prelude.{ℕ, List, Option, Some, None, codes, slice_index}
 use Rattle.std.specs.Borrow.{Bor}
 use Rattle.serde_json.specs.Data.{Data, null, boolean, number, unsigned, string, array, object, item, no_items, member, no_members}
 use Rattle.serde_json.specs.Find.{of_integer}
+use Rattle.rx_io.specs.declared.files.Inputs.{Inputs}
+use Rattle.rx_io.specs.declared.files.Outputs.{Outputs}
 use Rattle.rx_run_log.specs.declared.log.FileLog.{FileLog}
 use Rattle.rx_run_log.specs.declared.header.Lot.{Lot}
 use Rattle.rx_run_log.specs.declared.log.RunLog.{RunLog}
@@ -46,14 +48,14 @@ refused_data (Some numbers) = array (item (number (unsigned (slice_index numbers
     (item (number (unsigned (slice_index numbers 1))) (item (number (unsigned (slice_index numbers 2))) no_items)))
 
 -- the inputs
-abbrev pub inputs_data : RunLog → Data
-inputs_data r = object (member (codes "batch") (file_data r.batch) (member (codes "books") (file_data r.books)
-    (member (codes "sheet") (file_data r.sheet) no_members)))
+abbrev pub inputs_data : Inputs FileLog FileLog FileLog → Data
+inputs_data i = object (member (codes "batch") (file_data i.batch) (member (codes "books") (file_data i.books)
+    (member (codes "sheet") (file_data i.sheet) no_members)))
 
 -- the outputs
-abbrev pub outputs_data : RunLog → Data
-outputs_data r = object (member (codes "books_out") (file_data r.books_out) (member (codes "response") (file_data r.response)
-    (member (codes "settlement") (file_data r.settlement) no_members)))
+abbrev pub outputs_data : Outputs FileLog FileLog FileLog → Data
+outputs_data o = object (member (codes "books_out") (file_data o.books) (member (codes "response") (file_data o.response)
+    (member (codes "settlement") (file_data o.settlement) no_members)))
 
 -- the steps, in microseconds
 abbrev pub steps_data : StepTimes → Data
@@ -72,9 +74,9 @@ words_data r = object (member (codes "plain") (boolean r.plain) (member (codes "
 
 -- the whole
 abbrev pub log_data : RunLog → Data
-log_data r = object (member (codes "file") (number_data r.file) (member (codes "inputs") (inputs_data r)
+log_data r = object (member (codes "file") (number_data r.file) (member (codes "inputs") (inputs_data r.inputs)
     (member (codes "lot") (lot_data r.lot) (member (codes "microseconds") (steps_data r.steps)
-    (member (codes "outputs") (outputs_data r) (member (codes "peak_kilobytes") (number_data r.peak)
+    (member (codes "outputs") (outputs_data r.outputs) (member (codes "peak_kilobytes") (number_data r.peak)
     (member (codes "refused") (refused_data r.refused) (member (codes "run") (words_data r)
     (member (codes "status") (number (unsigned r.status)) (member (codes "totals") (totals_data r.totals)
     (member (codes "version") (string r.version.now) no_members)))))))))))

@@ -8,6 +8,7 @@ use crate::header::Lot;
 use crate::log::{FileLog, RunLog};
 use crate::settlement::Totals;
 use crate::step::{Step, StepTimes};
+use rx_io::{Inputs, Outputs};
 use serde_json::{Value, json};
 use std::alloc::{AllocError, Global};
 
@@ -29,10 +30,10 @@ fn value(alloc: Global, log: &RunLog<'_>) -> Result<Value, AllocError>
 {
     json!(in alloc; {
         "file": number(log.file),
-        "inputs": inputs(alloc, log)?,
+        "inputs": inputs(alloc, &log.inputs)?,
         "lot": lot(alloc, log.lot)?,
         "microseconds": steps(alloc, &log.steps)?,
-        "outputs": outputs(alloc, log)?,
+        "outputs": outputs(alloc, &log.outputs)?,
         "peak_kilobytes": number(log.peak),
         "refused": refused(alloc, log.refused)?,
         "run": words(alloc, log)?,
@@ -70,23 +71,23 @@ fn file(alloc: Global, file: &FileLog<'_>) -> Result<Value, AllocError>
     })
 }
 
-fn inputs(alloc: Global, log: &RunLog<'_>) -> Result<Value, AllocError>
-    ensures { IfOk result (λ v. view v ≡ inputs_data log.now) }
+fn inputs(alloc: Global, files: &Inputs<FileLog<'_>>) -> Result<Value, AllocError>
+    ensures { IfOk result (λ v. view v ≡ inputs_data files.now) }
 {
     json!(in alloc; {
-        "batch": file(alloc, &log.batch)?,
-        "books": file(alloc, &log.books)?,
-        "sheet": file(alloc, &log.sheet)?
+        "batch": file(alloc, &files.batch)?,
+        "books": file(alloc, &files.books)?,
+        "sheet": file(alloc, &files.sheet)?
     })
 }
 
-fn outputs(alloc: Global, log: &RunLog<'_>) -> Result<Value, AllocError>
-    ensures { IfOk result (λ v. view v ≡ outputs_data log.now) }
+fn outputs(alloc: Global, files: &Outputs<FileLog<'_>>) -> Result<Value, AllocError>
+    ensures { IfOk result (λ v. view v ≡ outputs_data files.now) }
 {
     json!(in alloc; {
-        "books_out": file(alloc, &log.books_out)?,
-        "response": file(alloc, &log.response)?,
-        "settlement": file(alloc, &log.settlement)?
+        "books_out": file(alloc, &files.books)?,
+        "response": file(alloc, &files.response)?,
+        "settlement": file(alloc, &files.settlement)?
     })
 }
 

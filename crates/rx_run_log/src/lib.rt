@@ -1,7 +1,8 @@
 //! How a run goes: what passes through its files, the lines that report its steps, and its log.
 //!
 //! - A watched device (`Watched`) stays the device that it is. Beside it out come the number of bytes that went through,
-//!   their SHA-256, the first and the last of them, and the times of the first and the last call (`Traffic`).
+//!   their SHA-256, the first and the last of them, and the times of the first and the last call (`Traffic`). `RunTraffic`
+//!   has that of the six files of a run, and by it how long each step took.
 //! - `step_line`, `progress_line` and `done_line` spell numbers as people read them (`specs/Lines.antt`).
 //! - `log_line` is the log: one line of JSON, whose value is defined in `specs/Log.antt`. What it says of the batch and of
 //!   the answers is taken from the front of the batch file (`Lot`) and from the end of the settlement (`Totals`).
@@ -18,25 +19,31 @@
 #![tactic(auto)]
 
 mod digit_text;
+mod file_sum;
 mod header;
 mod json;
 mod lines;
 mod log;
 mod numbers;
 mod report;
+mod run_traffic;
 mod settlement;
 mod sink;
 mod source;
 mod step;
+mod times;
 mod traffic;
 mod watched;
 
+pub use file_sum::FileSum;
 pub use header::Lot;
 pub use json::log_line;
 pub use lines::{done_line, progress_line, step_line};
 pub use log::{FileLog, RunLog};
 pub use report::{Counted, RunReport, StepReport};
+pub use run_traffic::{RunTraffic, details_in, input_report};
 pub use settlement::Totals;
 pub use step::{Step, StepTimes};
+pub use times::{RunTimes, micros_between};
 pub use traffic::Traffic;
 pub use watched::Watched;

@@ -1,6 +1,7 @@
 use crate::header::Lot;
 use crate::settlement::Totals;
 use crate::step::StepTimes;
+use rx_io::{Inputs, Outputs};
 
 /// A file of a run. What isn't known is `None`.
 #[derive(Clone, Copy, Debug)]
@@ -30,12 +31,8 @@ pub struct RunLog<'a> {
     pub safe: bool,
     pub lot: Option<Lot<'a>>,
     pub totals: Option<Totals>,
-    pub sheet: FileLog<'a>,
-    pub books: FileLog<'a>,
-    pub batch: FileLog<'a>,
-    pub response: FileLog<'a>,
-    pub books_out: FileLog<'a>,
-    pub settlement: FileLog<'a>,
+    pub inputs: Inputs<FileLog<'a>>,
+    pub outputs: Outputs<FileLog<'a>>,
     pub steps: StepTimes,
     /// The most memory that the program had, in kilobytes of 1,024 bytes.
     pub peak: Option<u64>,

@@ -1,4 +1,5 @@
 use crate::same::same;
+use rx_io::{Inputs, Outputs};
 use rx_run_log::{FileLog, Lot, RunLog, StepTimes, Totals, log_line};
 
 const FILE: FileLog<'static> = FileLog {
@@ -59,12 +60,16 @@ const REFUSED: RunLog<'static> = RunLog {
     safe: true,
     lot: None,
     totals: None,
-    sheet: FILE,
-    books: FILE,
-    batch: FILE,
-    response: FILE,
-    books_out: FILE,
-    settlement: FILE,
+    inputs: Inputs {
+        sheet: FILE,
+        books: FILE,
+        batch: FILE,
+    },
+    outputs: Outputs {
+        response: FILE,
+        books: FILE,
+        settlement: FILE,
+    },
     steps: STEPS,
     peak: Some(4096),
 };

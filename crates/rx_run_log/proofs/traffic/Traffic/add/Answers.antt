@@ -1,5 +1,5 @@
-use Rattle.std.proofs.Common.{◌≡◌, ◌++◌, ◌∙◌, ap, take}
-use Rattle.rx_run_log.specs.Traffic.{IsTrafficOf, last_of}
+use Rattle.std.proofs.Common.{◌++◌, ◌∙◌, ap, take}
+use Rattle.rx_run_log.specs.Traffic.{last_of}
 use Rattle.rx_run_log.proofs.Kept.{last-on, take-on}
 use Rattle.rx_run_log.proofs.traffic.Traffic.add.Goals as goal
 

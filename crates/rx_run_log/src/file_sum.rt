@@ -1,0 +1,62 @@
+ghost use Rattle.std.specs.Prelude.{◌≡◌, IfSome, List, option_map, string_bytes, ℕ};
+ghost use Rattle.hex.specs.Hex.{encode_lower};
+ghost use Rattle.sha2.specs.Sha256.{sha256};
+ghost use Rattle.rx_run_log.specs.RunTraffic.{bytes_passed};
+ghost use Rattle.rx_run_log.specs.Traffic.{IsTrafficOf};
+
+use crate::log::FileLog;
+use crate::traffic::Traffic;
+use std::alloc::Global;
+
+/// The size and the sum of what passed through a file of a run, where it was read or written.
+#[derive(Debug, Drop)]
+pub struct FileSum {
+    bytes: Option<u64>,
+    sha256: Option<String>,
+}
+
+impl FileSum {
+    /// Of a file through which this passed. There is no sum where memory was wanting for it.
+    pub fn of(alloc: Global, traffic: &Traffic) -> FileSum
+        ensures bytes { result.bytes ≡ bytes_passed traffic.now }
+        ensures sha256 { (bytes : List ℕ) → IsTrafficOf traffic.now bytes
+            → IfSome result.sha256 (λ text. string_bytes text ≡ encode_lower (sha256 bytes)) }
+    {
+        if traffic.last().is_none() {
+            return FileSum {
+                bytes: None,
+                sha256: None,
+            };
+        }
+        FileSum {
+            bytes: Some(traffic.bytes()),
+            sha256: sum_of(alloc, traffic),
+        }
+    }
+
+    /// The same in a log, of the file at this path.
+    pub fn log<'a>(&'a self, path: &'a str) -> FileLog<'a>
+        ensures path { result.path ≡ path.entry }
+        ensures bytes { result.bytes ≡ self.entry.now.bytes }
+        ensures sha256 { option_map (λ t. t.now) result.sha256 ≡ option_map string_bytes self.entry.now.sha256 }
+    {
+        let sha256 = match &self.sha256 {
+            Some(text) => Some(text.as_str()),
+            None => None,
+        };
+        FileLog {
+            path,
+            bytes: self.bytes,
+            sha256,
+        }
+    }
+}
+
+// The sum of what passed, in 64 hexadecimal digits.
+fn sum_of(alloc: Global, traffic: &Traffic) -> Option<String>
+    ensures { (bytes : List ℕ) → IsTrafficOf traffic.now bytes
+        → IfSome result (λ text. string_bytes text ≡ encode_lower (sha256 bytes)) }
+{
+    let digest = traffic.digest().ok()?;
+    hex::encode(alloc, digest.as_slice()).ok()
+}
