@@ -3,7 +3,6 @@ use Rattle.std.proofs.Common.{◌≡◌, ℕ, List, Result, Ok, sym, ap, ◌∙�
 use Rattle.rx_batch.specs.declared.batch.Batch.{Batch}
 use Rattle.rx_batch.specs.declared.detail.Detail.{Detail}
 use Rattle.rx_batch.specs.declared.head.Head.{Head}
-use Rattle.rx_batch.specs.Grammar.{IsFile}
 use Rattle.rx_batch.proofs.Readings.{file_is_read}
 use Rattle.rx_books_store.specs.BooksFile.{IsBooksText}
 use Rattle.rx_books_store.specs.BooksText.{parts_of}
@@ -14,9 +13,7 @@ use Rattle.rx_text.specs.Results.{◌>>=◌}
 use Rattle.rx_books_text.specs.Printed.{PrintedParts}
 use Rattle.rx_books_text.proofs.Printing.{printed_again}
 use Rattle.rx_fields.specs.Numbered.{Span}
-use Rattle.rx_fields.specs.declared.stamp.Stamp.{Stamp}
 use Rattle.rx_ledger.specs.Ledger.{Ledger}
-use Rattle.rx_ledger.specs.Plan.{Plan}
 use Rattle.rx_switch.specs.Output.{Accepted, Given, IsOutput, StandFor, Texts, texts_of}
 
 abbrev good : {A E : Type 0} → A → Result A E

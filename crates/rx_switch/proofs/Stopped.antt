@@ -9,10 +9,8 @@ use Rattle.rx_wave.specs.declared.run_fault.RunFault.TheVariants as run
 use Rattle.rx_wave.specs.Workers.{RefusesOne as GateRefusesOne, are_workers}
 use Rattle.rx_switch.specs.declared.fault.SwitchFault.{SwitchFault}
 use Rattle.rx_switch.specs.declared.fault.SwitchFault.TheVariants as fault
-use Rattle.rx_switch.specs.declared.job.OutputPieces.{OutputPieces}
 use Rattle.rx_switch.specs.Fault.{of_run}
-use Rattle.rx_switch.specs.Job.{texts_in_pieces}
-use Rattle.rx_switch.specs.Output.{Accepted, Given, IsOutput, IsRefused, IsStopped, RefusesOne, StandFor, stamp_for, texts_of}
+use Rattle.rx_switch.specs.Output.{Accepted, Given, IsOutput, IsRefused, IsStopped, RefusesOne, StandFor, Texts, stamp_for, texts_of}
 use Rattle.rx_switch.specs.Output.IsRefused.{memory as refused_memory, thread as refused_thread}
 
 -- where the stamp is read, so are the workers
@@ -55,7 +53,7 @@ module _ (plain : Bool) (starts : ℕ → Bool) (workers : ℕ) where
   if_thread r h e = IfErr-at_err (λ f. IsStopped plain starts workers f) e h
 
 -- the texts are the output of what was given
-pub if_output : (g : Given) (x : Accepted) → StandFor g x → (r : Result OutputPieces SwitchFault)
-    → IfOk r (λ output. texts_in_pieces output ≡ texts_of x) → IfOk r (λ output. IsOutput g (texts_in_pieces output))
-if_output g x accepted (Ok output) h = record { inputs = x; accepted = accepted; texts_are = h }
-if_output g x accepted (Err f) h = tt
+pub if_output : {T : Type 0} (texts_in : T → Texts) (g : Given) (x : Accepted) → StandFor g x → (r : Result T SwitchFault)
+    → IfOk r (λ output. texts_in output ≡ texts_of x) → IfOk r (λ output. IsOutput g (texts_in output))
+if_output texts_in g x accepted (Ok output) h = record { inputs = x; accepted = accepted; texts_are = h }
+if_output texts_in g x accepted (Err f) h = tt

@@ -4,7 +4,7 @@ use Rattle.rx_batch.specs.Pieces.{Fed}
 use Rattle.rx_io.specs.Reading.{most_reads}
 use Rattle.rx_io.specs.declared.fault.ReadFault.{ReadFault}
 use Rattle.rx_io.specs.declared.fault.ReadFault.TheVariants as reading
-use Rattle.rx_switch.specs.declared.fault.Device.{Device}
+use Rattle.rx_io.specs.declared.device.Device.{Device}
 use Rattle.rx_switch.specs.declared.fault.IoFault.{IoFault}
 use Rattle.rx_switch.specs.declared.fault.IoFault.TheVariants as io
 use Rattle.rx_switch.specs.declared.fault.SwitchFault.TheVariants as fault

@@ -1,12 +1,12 @@
 -- How writing breaks off at a device, and which devices failed then.
 use Rattle.std.proofs.Common.{◌≡◌, ◌==◌, false, Result, Ok, Err, IfErr, refl, sym, subst}
-use Rattle.rx_switch.specs.declared.fault.Device.{Device}
+use Rattle.rx_io.specs.declared.device.Device.{Device}
 use Rattle.rx_switch.specs.declared.fault.IoFault.{IoFault}
 use Rattle.rx_switch.specs.declared.fault.IoFault.TheVariants as io
 use Rattle.rx_switch.specs.declared.fault.SwitchFault.TheVariants as fault
 use Rattle.rx_switch.specs.Devices.{IsUnwritten, Written, has_failed}
 use Rattle.rx_switch.specs.Devices.IsUnwritten.{response, books, settlement}
-use Rattle.rx_switch.specs.Fault.{device_number}
+use Rattle.rx_io.specs.Files.{device_number}
 use Rattle.rx_switch.specs.Output.{Texts}
 
 -- what holds of the only fault that an answer can have, holds where it has a fault

@@ -6,15 +6,15 @@ use Rattle.rx_io.specs.Reading.{IsRead, most_reads}
 use Rattle.rx_io.specs.Writing.{AppendsFront}
 use Rattle.rx_io.specs.declared.fault.ReadFault.{ReadFault}
 use Rattle.rx_io.specs.declared.fault.ReadFault.TheVariants as reading
-use Rattle.rx_switch.specs.declared.devices.Inputs.{Inputs}
-use Rattle.rx_switch.specs.declared.devices.Outputs.{Outputs}
-use Rattle.rx_switch.specs.declared.fault.Device.{Device}
-use Rattle.rx_switch.specs.declared.fault.Device.TheVariants as device
+use Rattle.rx_io.specs.declared.device.Device.{Device}
+use Rattle.rx_io.specs.declared.device.Device.TheVariants as device
+use Rattle.rx_io.specs.declared.files.Inputs.{Inputs}
+use Rattle.rx_io.specs.declared.files.Outputs.{Outputs}
+use Rattle.rx_io.specs.Files.{device_number}
 use Rattle.rx_switch.specs.declared.fault.IoFault.{IoFault}
 use Rattle.rx_switch.specs.declared.fault.IoFault.TheVariants as io
 use Rattle.rx_switch.specs.declared.fault.SwitchFault.{SwitchFault}
 use Rattle.rx_switch.specs.declared.fault.SwitchFault.TheVariants as fault
-use Rattle.rx_switch.specs.Fault.{device_number}
 use Rattle.rx_switch.specs.Output.{Given, IsOutput, IsRefused, Texts}
 
 -- ---- the devices
@@ -48,7 +48,7 @@ abbrev pub written_of : {D E F : Type 0} → (D → Option (List ℕ)) → (E �
 written_of of_response of_books of_settlement outputs =
     record {
       response = of_response outputs.response;
-      books = of_books outputs.end_books;
+      books = of_books outputs.books;
       settlement = of_settlement outputs.settlement;
     }
 

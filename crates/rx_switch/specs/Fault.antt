@@ -8,8 +8,6 @@ use Rattle.rx_sheet.specs.declared.fault.SheetFault.{SheetFault}
 use Rattle.rx_sheet.specs.declared.fault.SheetFault.TheVariants as sheet
 use Rattle.rx_wave.specs.declared.run_fault.RunFault.{RunFault}
 use Rattle.rx_wave.specs.declared.run_fault.RunFault.TheVariants as run
-use Rattle.rx_switch.specs.declared.fault.Device.{Device}
-use Rattle.rx_switch.specs.declared.fault.Device.TheVariants as device
 use Rattle.rx_switch.specs.declared.fault.IoFault.{IoFault}
 use Rattle.rx_switch.specs.declared.fault.IoFault.TheVariants as io
 use Rattle.rx_switch.specs.declared.fault.SwitchFault.{SwitchFault}
@@ -44,15 +42,7 @@ of_run run.Workers = fault.Workers
 of_run run.Memory = fault.Memory
 of_run run.Thread = fault.Thread
 
--- the number of a device, and of a fault of a run on devices
-abbrev pub device_number : Device → ℕ
-device_number device.Sheet = 1
-device_number device.Books = 2
-device_number device.Batch = 3
-device_number device.Response = 4
-device_number device.EndBooks = 5
-device_number device.Settlement = 6
-
+-- the number of a fault of a run on devices
 abbrev pub io_number : IoFault → ℕ
 io_number (io.Switch f) = 1
 io_number (io.Read d) = 2

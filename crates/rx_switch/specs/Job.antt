@@ -2,8 +2,11 @@
 use Rattle.std.specs.Prelude.{◌≡◌, ℕ, List}
 use Rattle.std.specs.List.{flat_map}
 use Rattle.std.specs.Vec.{vec_items}
+use Rattle.std.specs.declared.vec.Vec.{Vec}
 use Rattle.rx_batch.specs.Pieces.{StandsFor}
 use Rattle.rx_io.specs.Pieces.{text_of}
+use Rattle.rx_io.specs.declared.files.Outputs.{Outputs}
+use Rattle.rx_io.specs.declared.pieces.Pieces.{Pieces}
 use Rattle.rx_switch.specs.declared.accepting.Accepted.{Accepted as AcceptedInputs}
 use Rattle.rx_switch.specs.declared.accepting.BatchFile.{BatchFile}
 use Rattle.rx_switch.specs.declared.accepting.BatchFile.TheVariants as file
@@ -11,7 +14,6 @@ use Rattle.rx_switch.specs.declared.accepting.BooksFile.{BooksFile}
 use Rattle.rx_switch.specs.declared.accepting.BooksFile.TheVariants as opening
 use Rattle.rx_switch.specs.declared.job.Job.{Job}
 use Rattle.rx_switch.specs.declared.job.Output.{Output}
-use Rattle.rx_switch.specs.declared.job.OutputPieces.{OutputPieces}
 use Rattle.rx_switch.specs.Output.{Accepted, Given, Texts}
 
 abbrev pub given_by : Job → Given
@@ -38,7 +40,7 @@ texts_in output =
     }
 
 -- the same of an output in pieces
-abbrev pub texts_in_pieces : OutputPieces → Texts
+abbrev pub texts_in_pieces : {X Y Z : Type 0} → Outputs (Vec (Vec ℕ X) Y) Pieces (Vec ℕ Z) → Texts
 texts_in_pieces output =
     record {
       response = flat_map vec_items output.response.items;

@@ -5,13 +5,14 @@ use Rattle.rx_batch.specs.Fault.{code_of as batch_code, place_of}
 use Rattle.rx_books_text.specs.Fault.{code_of as books_code, line_of_fault}
 use Rattle.rx_ledger.specs.Keys.{sheet_key_number}
 use Rattle.rx_sheet.specs.Fault.{code_of as sheet_code, key_of}
-use Rattle.rx_switch.specs.declared.fault.Device.{Device}
+use Rattle.rx_io.specs.declared.device.Device.{Device}
+use Rattle.rx_io.specs.Files.{device_number}
 use Rattle.rx_switch.specs.declared.fault.IoFault.{IoFault}
 use Rattle.rx_switch.specs.declared.fault.IoFault.TheVariants as io
 use Rattle.rx_switch.specs.declared.fault.SwitchFault.{SwitchFault}
 use Rattle.rx_switch.specs.declared.fault.SwitchFault.TheVariants as fault
 use Rattle.rx_switch.specs.declared.fault.Told.{Told}
-use Rattle.rx_switch.specs.Fault.{device_number, number_of}
+use Rattle.rx_switch.specs.Fault.{number_of}
 
 -- the number of the fault inside a refusal, 0 where there is none
 abbrev pub fault_within : SwitchFault → ℕ

@@ -17,6 +17,7 @@ use rx_batch::Batch;
 use rx_books_store::Books;
 use rx_d0_values::Transmission;
 use rx_fields::{Lot, Memory, Stamp};
+use rx_io::Outputs;
 use rx_ledger::{Sheet, plain_run};
 use rx_response::response_pieces;
 use rx_serial::Finished;
@@ -95,7 +96,7 @@ fn render<R: Threads + Sync>(
     let response = response_pieces(rt, alloc, parts, &batch.head, *stamp, details, replies)?;
     let books = finished.books.write_pieces(rt, alloc, parts)?;
     let settlement = settle(alloc, batch.head.lot(), *stamp, replies)?;
-    Ok(OutputPieces {
+    Ok(Outputs {
         response,
         books,
         settlement,

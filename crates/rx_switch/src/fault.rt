@@ -1,9 +1,10 @@
 ghost use Rattle.std.specs.Prelude.{◌≡◌};
-ghost use Rattle.rx_switch.specs.Fault.{device_number, io_number, number_of};
+ghost use Rattle.rx_switch.specs.Fault.{io_number, number_of};
 
 use rx_batch::BatchFault;
 use rx_books_text::BooksFault;
 use rx_fields::Memory;
+use rx_io::Device;
 use rx_sheet::SheetFault;
 use rx_wave::RunFault;
 
@@ -107,39 +108,6 @@ impl From<RunFault> for SwitchFault {
             RunFault::Workers => SwitchFault::Workers,
             RunFault::Memory => SwitchFault::Memory,
             RunFault::Thread => SwitchFault::Thread,
-        }
-    }
-}
-
-/// The devices of a run, in the order of their numbers: inputs, which are read, and outputs, which are written.
-#[derive(Clone, Copy, Debug, PartialEq, Eq)]
-pub enum Device {
-    /// The plan sheet.
-    Sheet,
-    /// The opening books.
-    Books,
-    /// The batch file.
-    Batch,
-    /// The response file.
-    Response,
-    /// The end books.
-    EndBooks,
-    /// The settlement.
-    Settlement,
-}
-
-impl Device {
-    /// The device's number, 1 to 6.
-    pub fn number(self) -> u8
-        ensures { result ≡ device_number self }
-    {
-        match self {
-            Device::Sheet => 1,
-            Device::Books => 2,
-            Device::Batch => 3,
-            Device::Response => 4,
-            Device::EndBooks => 5,
-            Device::Settlement => 6,
         }
     }
 }

@@ -2,11 +2,10 @@ ghost use Rattle.std.specs.Prelude.{◌≡◌, IfErr, IfOk, false};
 ghost use Rattle.rx_io.specs.Reading.{AreFewReads, IsRead};
 ghost use Rattle.rx_switch.specs.Devices.{AreRead, IsFed, IsUnread, IsUnreadAt, has_failed, left_of, of_reading};
 
-use crate::devices::Inputs;
-use crate::fault::{Device, IoFault, SwitchFault};
+use crate::fault::{IoFault, SwitchFault};
 use rx_batch::Pieces;
 use rx_fields::Memory;
-use rx_io::{Consumer, ReadFault, Source, read_each};
+use rx_io::{Consumer, Device, Inputs, ReadFault, Source, read_each};
 use std::alloc::Global;
 
 /// Reads an input of a run to its end (docs/RULES.md, "Limits").
@@ -77,20 +76,12 @@ fn read_pieces<S: Source>(alloc: Global, source: &mut S) -> Result<Pieces, IoFau
     }
 }
 
-// What was read of the inputs.
-#[derive(Drop)]
-pub(crate) struct ReadInputs {
-    pub(crate) sheet: Vec<u8>,
-    pub(crate) books: Vec<u8>,
-    pub(crate) batch: Pieces,
-}
-
 // Reads the three inputs to their ends, in this order.
 #[tactic(auto, using(rx_io::proofs::Passing::none_made))]
 pub(crate) fn read_inputs<A: Source, B: Source, C: Source>(
     alloc: Global,
     inputs: &mut Inputs<A, B, C>,
-) -> Result<ReadInputs, IoFault>
+) -> Result<Inputs<Vec<u8>, Vec<u8>, Pieces>, IoFault>
     requires sheet { A.failed inputs.old.sheet ≡ false }
     requires books { B.failed inputs.old.books ≡ false }
     requires batch { C.failed inputs.old.batch ≡ false }
@@ -108,7 +99,7 @@ pub(crate) fn read_inputs<A: Source, B: Source, C: Source>(
     let sheet = read_all(alloc, &mut inputs.sheet, Device::Sheet)?;
     let books = read_all(alloc, &mut inputs.books, Device::Books)?;
     let batch = read_pieces(alloc, &mut inputs.batch)?;
-    Ok(ReadInputs {
+    Ok(Inputs {
         sheet,
         books,
         batch,

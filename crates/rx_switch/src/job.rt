@@ -2,7 +2,7 @@ ghost use Rattle.std.specs.Prelude.{◌≡◌, IfOk};
 ghost use Rattle.rx_switch.specs.Job.{texts_in, texts_in_pieces};
 
 use rx_fields::Memory;
-use rx_io::{Pieces, one_text};
+use rx_io::{Outputs, Pieces, one_text};
 use std::alloc::Global;
 
 /// What a run is given (docs/CLI.md, "run").
@@ -33,28 +33,21 @@ pub struct Output {
     pub settlement: Vec<u8>,
 }
 
-/// The same, where the response and the end books are in pieces, one behind the other.
-#[derive(Debug, Drop)]
-pub(crate) struct OutputPieces {
-    pub(crate) response: Vec<Vec<u8>>,
-    pub(crate) books: Pieces,
-    pub(crate) settlement: Vec<u8>,
-}
+/// The same, where the response and the end books are in pieces, one after another.
+pub(crate) type OutputPieces = Outputs<Vec<Vec<u8>>, Pieces, Vec<u8>>;
 
-impl OutputPieces {
-    /// The three texts, each whole.
-    pub(crate) fn joined(self, alloc: Global) -> Result<Output, Memory>
-        ensures { IfOk result (λ output. texts_in output ≡ texts_in_pieces self) }
-    {
-        let OutputPieces {
-            response,
-            books,
-            settlement,
-        } = self;
-        Ok(Output {
-            response: one_text(alloc, response)?,
-            books: books.joined(alloc)?,
-            settlement,
-        })
-    }
+/// The three texts, each whole.
+pub(crate) fn joined(alloc: Global, pieces: OutputPieces) -> Result<Output, Memory>
+    ensures { IfOk result (λ output. texts_in output ≡ texts_in_pieces pieces) }
+{
+    let Outputs {
+        response,
+        books,
+        settlement,
+    } = pieces;
+    Ok(Output {
+        response: one_text(alloc, response)?,
+        books: books.joined(alloc)?,
+        settlement,
+    })
 }

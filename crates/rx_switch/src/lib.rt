@@ -14,7 +14,6 @@
 
 mod accepting;
 mod adjudicating;
-mod devices;
 mod fault;
 mod inputs;
 mod job;
@@ -26,15 +25,14 @@ mod running;
 mod show;
 mod telling;
 
-pub use devices::{Inputs, Outputs};
-pub use fault::{Device, IoFault, SwitchFault, Told};
+pub use fault::{IoFault, SwitchFault, Told};
 pub use inputs::read_all;
 pub use job::{Job, Output};
 pub use law::one_output;
 pub use on_devices::run_io;
 pub use plan::plan_text;
 pub use running::run;
-pub use rx_io::{ReaderSource, Sink, Source, WriterSink};
+pub use rx_io::{Device, Inputs, Outputs, ReaderSource, Sink, Source, WriterSink};
 pub use rx_show::sample_line;
 pub use show::show_text;
 pub use telling::told;

@@ -4,17 +4,17 @@ ghost use Rattle.rx_io.specs.Reading.{AreFewReads};
 ghost use Rattle.rx_switch.specs.Devices.{IsBroken, IsDone, devices_of, has_failed};
 ghost use Rattle.rx_switch.specs.Job.{given_read, texts_in_pieces};
 ghost use Rattle.rx_switch.specs.Output.{IsOutput, IsRefused, RefusesOne};
-ghost use Rattle.rx_switch.specs.declared.fault.Device.TheVariants as device;
+ghost use Rattle.rx_io.specs.declared.device.Device.TheVariants as device;
 ghost use Rattle.rx_switch.specs.declared.fault.IoFault.TheVariants as io;
 
 use crate::accepting::{BatchFile, BooksFile, accept};
 use crate::adjudicating::{Manner, adjudicate, parts_of};
-use crate::devices::{Inputs, Outputs};
 use crate::fault::{IoFault, SwitchFault};
-use crate::inputs::{ReadInputs, read_inputs};
+use crate::inputs::read_inputs;
 use crate::job::OutputPieces;
 use crate::outputs::write_outputs;
-use rx_io::{Sink, Source};
+use rx_batch::Pieces;
+use rx_io::{Inputs, Outputs, Sink, Source};
 use rx_wave::Gate;
 use std::alloc::Global;
 use std::sync::Wait;
@@ -56,7 +56,7 @@ pub fn run_io<
     requires books { B.failed inputs.old.books ≡ false }
     requires batch { C.failed inputs.old.batch ≡ false }
     requires response { D.failed outputs.old.response ≡ false }
-    requires end_books { E.failed outputs.old.end_books ≡ false }
+    requires end_books { E.failed outputs.old.books ≡ false }
     requires settlement { F.failed outputs.old.settlement ≡ false }
     ensures done { let told = devices_of A.left B.left C.left D.written E.written F.written in
         OnOk result (IsDone stamp.now workers (told inputs.old outputs.old) (told inputs.new outputs.new)) }
@@ -67,7 +67,7 @@ pub fn run_io<
     ensures books { B.failed inputs.new.books ≡ has_failed device.Books result }
     ensures batch { C.failed inputs.new.batch ≡ has_failed device.Batch result }
     ensures response { D.failed outputs.new.response ≡ has_failed device.Response result }
-    ensures end_books { E.failed outputs.new.end_books ≡ has_failed device.EndBooks result }
+    ensures end_books { E.failed outputs.new.books ≡ has_failed device.EndBooks result }
     ensures settlement { F.failed outputs.new.settlement ≡ has_failed device.Settlement result }
     ensures thread { result ≡ Err (io.Switch SwitchFault.Thread) → RefusesOne plain (G.starts gate.now) workers }
     // Each input is read at most 4,194,304 times, with room for at least 4,096 bytes.
@@ -91,7 +91,7 @@ fn output_of<R: Threads + Wait + Sync, G: Gate + Sync>(
     alloc: Global,
     manner: &Manner<'_, G>,
     stamp: &[u8],
-    read: ReadInputs,
+    read: Inputs<Vec<u8>, Vec<u8>, Pieces>,
 ) -> Result<OutputPieces, SwitchFault>
     requires { (batch : List ℕ) × StandsFor read.batch batch }
     ensures output { (batch : List ℕ) → StandsFor read.batch batch → IfOk result (λ output.
@@ -101,7 +101,7 @@ fn output_of<R: Threads + Wait + Sync, G: Gate + Sync>(
     ensures thread { result ≡ Err SwitchFault.Thread
         → RefusesOne manner.now.plain (G.starts manner.now.gate.now) manner.now.workers }
 {
-    let ReadInputs {
+    let Inputs {
         sheet,
         books,
         batch,

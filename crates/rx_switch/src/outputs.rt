@@ -8,10 +8,9 @@ ghost use Rattle.rx_switch.specs.Devices.{AreWritten, IsUnwritten, has_failed, w
 ghost use Rattle.rx_switch.specs.Job.{texts_in_pieces};
 ghost use Rattle.rx_switch.specs.declared.fault.IoFault.TheVariants as io;
 
-use crate::devices::Outputs;
-use crate::fault::{Device, IoFault};
+use crate::fault::IoFault;
 use crate::job::OutputPieces;
-use rx_io::{Pieces, Sink, write_pieces};
+use rx_io::{Device, Outputs, Pieces, Sink, write_pieces};
 use std::alloc::Global;
 use std::slice;
 
@@ -22,18 +21,18 @@ pub(crate) fn write_outputs<D: Sink, E: Sink, F: Sink>(
     outputs: &mut Outputs<D, E, F>,
 ) -> Result<(), IoFault>
     requires response { D.failed outputs.old.response ≡ false }
-    requires end_books { E.failed outputs.old.end_books ≡ false }
+    requires end_books { E.failed outputs.old.books ≡ false }
     requires settlement { F.failed outputs.old.settlement ≡ false }
     ensures done { let written = written_of D.written E.written F.written in
         OnOk result (AreWritten (written outputs.old) (written outputs.new) (texts_in_pieces output.now)) }
     ensures unwritten { let written = written_of D.written E.written F.written in
         IfErr result (IsUnwritten (written outputs.old) (written outputs.new) (texts_in_pieces output.now)) }
     ensures response { D.failed outputs.new.response ≡ has_failed Device.Response result }
-    ensures end_books { E.failed outputs.new.end_books ≡ has_failed Device.EndBooks result }
+    ensures end_books { E.failed outputs.new.books ≡ has_failed Device.EndBooks result }
     ensures settlement { F.failed outputs.new.settlement ≡ has_failed Device.Settlement result }
 {
     write_text(&mut outputs.response, &output.response, Device::Response)?;
-    write_books(alloc, &mut outputs.end_books, &output.books)?;
+    write_books(alloc, &mut outputs.books, &output.books)?;
     write_text(
         &mut outputs.settlement,
         slice::from_ref(&output.settlement),

@@ -5,7 +5,7 @@ ghost use Rattle.rx_switch.specs.Output.{IsOutput, IsRefused, RefusesOne, stamp_
 use crate::accepting::{BatchFile, BooksFile, accept};
 use crate::adjudicating::{Manner, adjudicate, parts_of};
 use crate::fault::SwitchFault;
-use crate::job::{Job, Output};
+use crate::job::{Job, Output, joined};
 use rx_wave::Gate;
 use std::alloc::Global;
 use std::sync::Wait;
@@ -43,5 +43,5 @@ pub fn run<R: Threads + Wait + Sync, G: Gate + Sync>(
     };
     let parts = parts_of(job.workers, job.books.len().max(job.batch.len()));
     let pieces = adjudicate(rt, alloc, &manner, parts, accepted)?;
-    Ok(pieces.joined(alloc)?)
+    Ok(joined(alloc, pieces)?)
 }

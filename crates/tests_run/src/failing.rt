@@ -79,7 +79,7 @@ impl Source for Endless {
 #[derive(Drop)]
 struct Ran {
     answer: Result<(), IoFault>,
-    written: Outputs<VecSink, VecSink, VecSink>,
+    written: Outputs<VecSink>,
 }
 
 // The case on such devices, and this one for the sheet.
@@ -98,7 +98,7 @@ fn run_on<R: Threads + Wait + Sync, S: Source + Drop>(
     };
     let mut written = Outputs {
         response: devices.sink(alloc, Device::Response),
-        end_books: devices.sink(alloc, Device::EndBooks),
+        books: devices.sink(alloc, Device::EndBooks),
         settlement: devices.sink(alloc, Device::Settlement),
     };
     let answer = run_io(
@@ -127,7 +127,7 @@ fn writes<R: Threads + Wait + Sync + Abort>(
     same(rt, ran.answer, answer);
     let [response, end_books, settlement] = texts;
     same(rt, ran.written.response.bytes(), response);
-    same(rt, ran.written.end_books.bytes(), end_books);
+    same(rt, ran.written.books.bytes(), end_books);
     same(rt, ran.written.settlement.bytes(), settlement);
 }
 
@@ -243,7 +243,7 @@ fn a_sheet_without_an_end_is_too_long(rt: HostRuntime) {
     let ran = run_on(&rt, rt.alloc(), Devices { most: 1, flaw }, Endless);
     same(&rt, ran.answer, Err(IoFault::Long(Device::Sheet)));
     same(&rt, ran.written.response.bytes().len(), 0);
-    same(&rt, ran.written.end_books.bytes().len(), 0);
+    same(&rt, ran.written.books.bytes().len(), 0);
     same(&rt, ran.written.settlement.bytes().len(), 0);
 }
 

@@ -37,7 +37,7 @@ fn run_on<'a, R: Threads + Wait + Sync>(
     };
     let mut sinks = Outputs {
         response: VecSink::new(alloc, 7),
-        end_books: VecSink::new(alloc, 7),
+        books: VecSink::new(alloc, 7),
         settlement: VecSink::new(alloc, 7),
     };
     let answer = run_io(

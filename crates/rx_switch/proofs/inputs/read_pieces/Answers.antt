@@ -1,4 +1,4 @@
-use Rattle.rx_switch.specs.declared.fault.Device.TheVariants as device
+use Rattle.rx_io.specs.declared.device.Device.TheVariants as device
 use Rattle.rx_switch.proofs.Unread.{unread_at}
 use Rattle.rx_switch.proofs.inputs.read_pieces.Goals as goal
 

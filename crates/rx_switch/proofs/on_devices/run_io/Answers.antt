@@ -3,7 +3,7 @@ use Rattle.std.proofs.lemmas.Result.{IfErr-at_err, IfErr-weaker, on_ok_weaker, e
 use Rattle.rx_switch.specs.Devices.{IsUnread, IsUnwritten, left_of}
 use Rattle.rx_switch.specs.Devices.IsBroken.{unread, refused, unwritten}
 use Rattle.rx_switch.specs.Job.{given_read, texts_in_pieces}
-use Rattle.rx_switch.specs.declared.fault.Device.TheVariants as device
+use Rattle.rx_io.specs.declared.device.Device.TheVariants as device
 use Rattle.rx_switch.proofs.Unread.{given_is, unread_without_thread}
 use Rattle.rx_switch.proofs.Unwritten.{only_outputs, unwritten_without_thread}
 use Rattle.rx_switch.proofs.on_devices.run_io.Goals as goal

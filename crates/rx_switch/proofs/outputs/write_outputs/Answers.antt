@@ -4,7 +4,7 @@ use Rattle.std.specs.Vec.{vec_items}
 use Rattle.std.proofs.lemmas.List.{append-nil}
 use Rattle.std.proofs.lemmas.Result.{err_from_is_err_and, on_ok_weaker}
 use Rattle.rx_switch.specs.Devices.IsUnwritten.{response, books, settlement}
-use Rattle.rx_switch.specs.declared.fault.Device.TheVariants as device
+use Rattle.rx_io.specs.declared.device.Device.TheVariants as device
 use Rattle.rx_switch.specs.declared.fault.IoFault.TheVariants as io
 use Rattle.rx_switch.proofs.Unwritten.{at_only_fault}
 use Rattle.rx_switch.proofs.outputs.write_outputs.Goals as goal
