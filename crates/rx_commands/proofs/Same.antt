@@ -2,12 +2,11 @@
 use Rattle.std.proofs.Common.{◌≡◌, ◌↔◌, ℕ, Bool, true, false, not, ◌&&◌, List, Option, Some, None, length, get_or}
 use Rattle.std.proofs.Common.{refl, ap, subst, arith}
 use Rattle.std.specs.Option.{is_some}
-use Rattle.rx_differ.specs.Difference.{DiffersAt}
-use Rattle.rx_differ.specs.Difference.DiffersAt.{byte, ours_ends, theirs_ends}
+use Rattle.rx_commands.specs.Difference.{DiffersAt}
+use Rattle.rx_commands.specs.Difference.DiffersAt.{byte, ours_ends, theirs_ends}
 use Rattle.rx_switch.specs.Output.{Given, IsOutput, Texts}
 use Rattle.rx_switch.proofs.OneOutput.{same_texts}
-use Rattle.rx_commands.specs.declared.verifying.files.Differences.{Differences}
-use Rattle.rx_commands.specs.Verified.{AreDifferences, IsDifference, are_none}
+use Rattle.rx_commands.specs.Verified.{AreDifferences, Differences, IsDifference, are_none}
 
 -- ---- one file
 

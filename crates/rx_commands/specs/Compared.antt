@@ -1,5 +1,5 @@
 -- Meaning: the reply at a place of a response file, compared with the one of the replay.
-use Rattle.std.specs.Prelude.{ℕ, Bool, nat_eq, if◌then◌else◌, List, Option, Some, None}
+use Rattle.std.specs.Prelude.{ℕ, nat_eq, if◌then◌else◌, List, Option, Some, None}
 use Rattle.std.specs.Cmp.Lexicographic.{pointwise}
 use Rattle.rx_batch.specs.declared.detail.Detail.{Detail}
 use Rattle.rx_d0_values.specs.declared.reply.Reply.{Reply}

@@ -1,7 +1,12 @@
 -- Plumbing: which files there are.
+pub mod Asked
 pub mod Compared
+pub mod Difference
+pub mod ExplainFault
+pub mod Forms
 pub mod Lines
 pub mod Reported
 pub mod Retraced
 pub mod Told
+pub mod Verdict
 pub mod Verified

@@ -10,7 +10,7 @@ use Rattle.rx_d0_values.specs.declared.transmission.Transmission.{Transmission}
 use Rattle.rx_ledger.specs.Fold.{fold_replies}
 use Rattle.rx_ledger.specs.Plan.{Plan}
 use Rattle.rx_report.specs.Lines.{lines_of}
-use Rattle.rx_commands.specs.declared.report.Report.{Report}
+use Rattle.rx_commands.specs.declared.batch_report.Report.{Report}
 use Rattle.rx_settle.specs.Answers.{answers_of, tally}
 use Rattle.rx_settle.specs.Counting.{tallies_of}
 use Rattle.rx_sheet.specs.SheetText.{sheet_of_text}

@@ -17,7 +17,7 @@ use Rattle.rx_ledger.specs.Ledger.{Ledger}
 use Rattle.rx_ledger.specs.Plan.{Plan}
 use Rattle.rx_sheet.specs.SheetText.{sheet_of_text}
 use Rattle.rx_wave.specs.Decoding.{transmissions_of}
-use Rattle.rx_commands.specs.declared.retracing.Retraced.{Retraced}
+use Rattle.rx_commands.specs.declared.retraced.Retraced.{Retraced}
 
 -- of each transaction that is asked for, in order, its explanation
 abbrev pub AreExplained : LotParts → Plan → List Transmission → Ledger → Wanted → List Reply → List (Option Explanation)

@@ -1,15 +1,19 @@
 -- Meaning: a run done again, and where files differ from it.
 use Rattle.std.specs.Prelude.{◌≡◌, ℕ, Bool, ◌&&◌, not, List, Option, MatchOption}
 use Rattle.std.specs.Option.{is_some}
-use Rattle.rx_differ.specs.Difference.{IsFirstDifference}
+use Rattle.std.specs.Borrow.{Bor}
+use Rattle.rx_io.specs.declared.files.Outputs.{Outputs}
 use Rattle.rx_switch.specs.Output.{Given, IsOutput, Texts}
-use Rattle.rx_commands.specs.declared.verifying.files.Differences.{Differences}
-use Rattle.rx_commands.specs.declared.verifying.files.Files.{Files}
+use Rattle.rx_commands.specs.Difference.{IsFirstDifference}
+
+-- for each output the place where a file differs, if it does
+abbrev pub Differences : Type 0
+Differences = Outputs (Option ℕ) (Option ℕ) (Option ℕ)
 
 abbrev pub are_none : Differences → Bool
 are_none d = not (is_some d.response) && not (is_some d.books) && not (is_some d.settlement)
 
-abbrev pub texts_in_files : Files → Texts
+abbrev pub texts_in_files : Outputs (Bor (List ℕ)) (Bor (List ℕ)) (Bor (List ℕ)) → Texts
 texts_in_files files =
     record { response = files.response.now; books = files.books.now; settlement = files.settlement.now }
 

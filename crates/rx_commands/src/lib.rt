@@ -1,49 +1,51 @@
-//! What a run did, retraced from the inputs' bytes: the texts of `report` and `show --tsv`, of `explain` and of `verify`.
+//! The commands of the program beside `run`, each as one call: from the inputs' bytes to what is printed, and how it ends.
 //!
-//! In come the texts of plan sheet, opening books and batch file; out comes what is asked for, or the first refusal, as of
-//! a run.
+//! In come the texts of plan sheet, opening books and batch file (`rx_io::Inputs`); out comes what is asked for, or the first
+//! refusal, as of a run.
 //!
-//! `job_report` has the lines of the batch's answers with the tallies of its settlement, and `whys_of` why answers were
-//! given. What they are is in `specs/Reported.antt`.
-//!
-//! ```rust
-//! let report = rx_commands::job_report(rt, alloc, sheet, books, batch)?;
-//! let text = rx_report::tsv_text(alloc, &report.lines)?;
-//! ```
-//!
-//! `retrace` has the explanations of the transactions that are asked for, with the replies to the whole batch. What they are
-//! is in `specs/Retraced.antt`. The records are adjudicated once, in file order, and explained on the way where the
-//! requests tell that a transaction is asked for.
+//! - `report` has a line for each answer of the batch, in one of the forms of `Form` (`specs/Reported.antt` has the lines,
+//!   `specs/Forms.antt` the texts).
+//! - `explain` tells why the transactions that are asked for were answered as they were (`specs/Retraced.antt` has the
+//!   explanations, `specs/Told.antt` the text). The records are adjudicated once, in file order, and explained on the way
+//!   where the requests tell that a transaction is asked for. `record_asked`, `number_asked` and `reference_asked` read what
+//!   is asked for.
+//! - `verify` does the run again and compares the texts of an earlier one's three files with it: the files are found the same
+//!   exactly where they are what the rules of docs/ make of the inputs (`specs/Verified.antt`, `specs/Verdict.antt`).
+//! - `show_table` has the table of `show --tsv`.
 //!
 //! ```rust
-//! let retraced = rx_commands::retrace(rt, alloc, sheet, books, batch, &wanted)?;
-//! let told = rx_commands::tell(alloc, &retraced, &wanted, None, false)?;
+//! let text = rx_commands::report(rt, alloc, &inputs, Portion::Whole, Form::Json)?;
+//! let printed = rx_commands::explain(rt, alloc, &inputs, &record_asked("4.2"), None, false)?;
+//! let printed = rx_commands::verify(rt, alloc, &NoGate, &job, &files)?;
 //! ```
 //!
-//! `verify` does the run again and compares the texts of an earlier one's three files with it: it has the run's own output,
-//! and for each file the first place where it differs from that, if it does. `specs/Verified.antt` says what that means: the
-//! files are found the same exactly where they are what the rules of docs/ make of the inputs.
-//!
-//! ```rust
-//! let verified = rx_commands::verify(rt, alloc, &NoGate, &job, &files)?;
-//! let text = rx_commands::verdict_text(alloc, &verified, &files)?;
-//! ```
+//! Two texts are compared by `first_difference`; `pieces_before` and `rest_of_piece` tell in which line or record a place
+//! stands, and what stands there (`specs/Difference.antt`).
 //!
 //! The words of a command line and the files themselves are left to the program.
 #![tactic(auto)]
 
-mod explaining;
+mod asked_words;
+mod batch_report;
+mod difference;
+mod explain_fault;
+mod explanations;
 mod inputs;
-mod report;
-mod reporting;
-mod retracing;
-mod showing;
-mod telling;
-mod verifying;
+mod pieces;
+mod printed;
+mod record_words;
+mod report_forms;
+mod retraced;
+mod table;
+mod verdict;
+mod whys;
 
-pub use explaining::whys_of;
-pub use report::Report;
-pub use reporting::job_report;
-pub use retracing::{Retraced, Told, retrace, tell};
-pub use showing::show_table;
-pub use verifying::{Differences, Files, Verified, verdict_text, verify};
+pub use asked_words::{number_asked, record_asked, reference_asked};
+pub use difference::first_difference;
+pub use explain_fault::ExplainFault;
+pub use explanations::explain;
+pub use pieces::{pieces_before, rest_of_piece};
+pub use printed::{Outcome, Printed};
+pub use report_forms::{Form, report};
+pub use table::show_table;
+pub use verdict::verify;

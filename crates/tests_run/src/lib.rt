@@ -21,7 +21,7 @@ mod desk;
 #[cfg(test)]
 mod devices;
 #[cfg(test)]
-mod differ;
+mod difference;
 #[cfg(test)]
 mod escape;
 #[cfg(test)]

@@ -1,19 +1,20 @@
 // What is understood; what is refused, and how, is told of the built program (`tests/run_words.py`).
 use crate::same::same;
 use rx_cli::{
-    Asked, CheckWords, Command, ExplainWords, Form, Inputs, Outputs, Portion, ReportWords,
-    RunWords, ShowWords, VerifyWords, command,
+    Asked, Command, ExplainWords, Form, Portion, ReportWords, RunWords, ShowWords, VerifyWords,
+    command,
 };
+use rx_io::{Inputs, Outputs};
 use std::alloc::Global;
 use std::process::Abort;
 
-const INPUTS: Inputs<'static> = Inputs {
+const INPUTS: Inputs<&'static str> = Inputs {
     sheet: "s",
     books: "b",
     batch: "c",
 };
 
-const OUTPUTS: Outputs<'static> = Outputs {
+const OUTPUTS: Outputs<&'static str> = Outputs {
     response: "e",
     books: "f",
     settlement: "g",
@@ -59,7 +60,7 @@ const CHECK: &[&str] = &["rxbatch", "check", "--batch", "c", "--sheet", "s"];
 
 #[test]
 fn check_has_what_is_named(rt: HostRuntime) {
-    let wanted = CheckWords {
+    let wanted = Inputs {
         sheet: "s",
         books: None,
         batch: Some("c"),

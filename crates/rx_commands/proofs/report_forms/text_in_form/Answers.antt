@@ -1,0 +1,29 @@
+-- The text of the lines that are kept, with the account of just these.
+use Rattle.std.proofs.Common.{◌≡◌, ◌∙◌, List, ap, map, subst}
+use Rattle.std.specs.List.{filter}
+use Rattle.std.proofs.lemmas.Result.{IfOk-weaker}
+use Rattle.rx_report.specs.Accounts.{IsAccount, is_in, parts_of}
+use Rattle.rx_report.specs.Groups.{grouped}
+use Rattle.rx_report.specs.declared.line.Line.{Line}
+use Rattle.rx_commands.specs.Forms.{IsText, kept_of}
+use Rattle.rx_commands.proofs.report_forms.text_in_form.Goals as goal
+
+pub returns : goal.returns
+returns c =
+    let p = c.args.portion in
+    let r = c.args.report.now in
+    let account = c.in_ok-account.account in
+    let groups = c.in_ok-groups.groups in
+    let sections = map parts_of account.sections.items in
+    let lines : c.in_ok-kept.kept.items ≡ kept_of p r = c.in_ok-kept.ensures ∙ ap (filter (is_in p)) c.deref.ensures.value in
+    let grouped_so : groups ≡ grouped (kept_of p r) = c.in_ok-groups.ensures ∙ ap grouped (c.deref-2.ensures.value ∙ lines) in
+    let of_lines = subst (λ (ls : List Line). IsAccount p r.settled ls groups sections account.total)
+    (c.deref-3.ensures.value ∙ lines) c.in_ok-account.ensures in
+    let of_groups = subst (λ gs. IsAccount p r.settled (kept_of p r) gs sections account.total) grouped_so of_lines in
+    IfOk-weaker c.text_of_account.result _ _
+    (λ text is. record {
+      account = account;
+      account_is = of_groups;
+      text_is = subst (λ (ls : List Line). IsText p c.args.form r.batch.lot ls account text.items)
+          (c.deref-4.ensures.value ∙ lines) is;
+    }) c.text_of_account.ensures

@@ -1,8 +1,0 @@
-use Rattle.rx_switch.specs.Planned.IsNotPlanned.{memory}
-use Rattle.rx_commands.proofs.retracing.retrace.Goals as goal
-
-pub returns-in_default-clause-refused : goal.returns-in_default-clause-refused
-returns-in_default-clause-refused g c = memory
-
-pub returns-in_default-answered-clause-refused : goal.returns-in_default-answered-clause-refused
-returns-in_default-answered-clause-refused g c = memory

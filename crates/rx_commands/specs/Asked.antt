@@ -1,0 +1,30 @@
+-- Meaning: what the words of `explain` ask for. Words that aren't such numbers or ids ask for nothing: no record is at place 0.
+use Rattle.std.specs.Prelude.{◌≡◌, ℕ, List, ◌∷◌, ◌++◌, ◌⊎◌, Option, Some, None, Ok}
+use Rattle.std.specs.Str.Parse.{IsNumeral, digits_value}
+use Rattle.rx_fields.specs.Text.{id_of}
+use Rattle.rx_explain.specs.declared.finding.Wanted.{Wanted}
+use Rattle.rx_explain.specs.declared.finding.Wanted.TheVariants as wanted
+
+-- the number, in digits alone
+abbrev pub IsDigits : List ℕ → ℕ → Type 0
+IsDigits text n = IsNumeral 10 text × (n ≡ digits_value 10 text)
+
+-- a place, or a place and the transaction's number in the record with a point between them
+abbrev pub AsksRecord : List ℕ → Wanted → Type 0
+AsksRecord text (wanted.Place n) = (n ≡ 0) ⊎ IsDigits text n
+AsksRecord text (wanted.One at) =
+    (place : List ℕ) × (nth : List ℕ) × (text ≡ place ++ 46 ∷ nth) × IsDigits place at.place × IsDigits nth at.nth
+AsksRecord text other = ⊥
+
+-- an authorization number
+abbrev pub AsksNumber : List ℕ → Wanted → Type 0
+AsksNumber text (wanted.Place n) = n ≡ 0
+AsksNumber text (wanted.Number n) = IsDigits text n
+AsksNumber text other = ⊥
+
+-- a prescription reference number, and the pharmacy that is named, if one is
+abbrev pub AsksReference : List ℕ → Option (List ℕ) → Wanted → Type 0
+AsksReference text provider (wanted.Place n) = n ≡ 0
+AsksReference text None (wanted.Reference n) = IsDigits text n
+AsksReference text (Some id) (wanted.ReferenceAt n p) = IsDigits text n × (id_of 15 id ≡ Ok p)
+AsksReference text provider other = ⊥

@@ -1,0 +1,73 @@
+ghost use Rattle.std.specs.Prelude.{◌≡◌, IfSome};
+ghost use Rattle.std.specs.Option.{option_copied};
+ghost use Rattle.rx_commands.specs.Asked.{AsksNumber, AsksRecord, AsksReference, IsDigits};
+
+use rx_explain::{At, Wanted};
+use rx_fields::{Authorization, Provider, Reference};
+
+// Nothing: no record is at place 0.
+const NOTHING: Wanted = Wanted::Place(0);
+
+/// What `--record` asks for: the record at a place, as `4`, or one transaction of it, as `4.2`. A text that is neither asks
+/// for nothing.
+pub fn record_asked(text: &str) -> Wanted
+    ensures { AsksRecord text.now result }
+{
+    record_in(text).unwrap_or(NOTHING)
+}
+
+fn record_in(text: &str) -> Option<Wanted>
+    ensures { IfSome result (AsksRecord text.now) }
+{
+    match text.split_once('.') {
+        None => Some(Wanted::Place(digits(text)?)),
+        Some((place, nth)) => Some(Wanted::One(At {
+            place: digits(place)?,
+            nth: digits(nth)?,
+        })),
+    }
+}
+
+/// What `--number` asks for: an authorization number. A text that is none asks for nothing.
+pub fn number_asked(text: &str) -> Wanted
+    ensures { AsksNumber text.now result }
+{
+    number_in(text).unwrap_or(NOTHING)
+}
+
+fn number_in(text: &str) -> Option<Wanted>
+    ensures { IfSome result (AsksNumber text.now) }
+{
+    Some(Wanted::Number(Authorization::new(digits(text)?)?))
+}
+
+/// What `--rx` asks for: a prescription reference number, of one pharmacy where `--provider` names it. Texts that aren't
+/// such ask for nothing.
+pub fn reference_asked(text: &str, provider: Option<&str>) -> Wanted
+    ensures { AsksReference text.now (option_copied provider.entry) result }
+{
+    reference_in(text, provider).unwrap_or(NOTHING)
+}
+
+fn reference_in(text: &str, provider: Option<&str>) -> Option<Wanted>
+    ensures { IfSome result (AsksReference text.now (option_copied provider.entry)) }
+{
+    let reference = Reference::new(digits(text)?)?;
+    match provider {
+        None => Some(Wanted::Reference(reference)),
+        Some(id) => {
+            let provider = Provider::new(id.as_bytes()).ok()?;
+            Some(Wanted::ReferenceAt(reference, provider))
+        }
+    }
+}
+
+// A number that is written in digits alone.
+fn digits(text: &str) -> Option<u64>
+    ensures { IfSome result (IsDigits text.now) }
+{
+    if matches!(text.as_bytes(), [b'+', ..]) {
+        return None;
+    }
+    text.parse().ok()
+}

@@ -1,2 +1,0 @@
--- Plumbing: which files there are.
-pub mod Difference
