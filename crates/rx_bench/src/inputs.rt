@@ -42,32 +42,25 @@ pub const REPLY: &[u8] =
 \x1E\x1CAM22\x1CEM1\x1CD2000000000123\x1E\x1CAM23\x1CF50001300{\x1CF60003000{\x1CF70000017E\
 \x1CF90001717E\x1CFH0001000{\x1CFI0000300{";
 
-/// The inputs of a run.
-#[derive(Drop)]
-pub struct Inputs {
-    pub sheet: Vec<u8>,
-    pub books: Vec<u8>,
-    pub batch: Vec<u8>,
+/// The texts of the inputs of a run.
+pub type Inputs = rx_io::Inputs<Vec<u8>>;
+
+/// Those of the files of a folder.
+pub fn texts_in<R: Files>(rt: &R, alloc: Global, folder: &str) -> io::Result<Inputs> {
+    Ok(rx_io::Inputs {
+        sheet: file(rt, alloc, folder, "sheet.toml")?,
+        books: file(rt, alloc, folder, "books.txt")?,
+        batch: file(rt, alloc, folder, "batch.bin")?,
+    })
 }
 
-impl Inputs {
-    /// The files of a folder.
-    pub fn read<R: Files>(rt: &R, alloc: Global, folder: &str) -> io::Result<Inputs> {
-        Ok(Inputs {
-            sheet: file(rt, alloc, folder, "sheet.toml")?,
-            books: file(rt, alloc, folder, "books.txt")?,
-            batch: file(rt, alloc, folder, "batch.bin")?,
-        })
-    }
-
-    /// One-billing (tests/cases/README.md), with one member and one drug.
-    pub fn of_one_billing(alloc: Global) -> io::Result<Inputs> {
-        Ok(Inputs {
-            sheet: SHEET.to_vec(alloc)?,
-            books: BOOKS.to_vec(alloc)?,
-            batch: BATCH.to_vec(alloc)?,
-        })
-    }
+/// One-billing (tests/cases/README.md), with one member and one drug.
+pub fn one_billing(alloc: Global) -> io::Result<Inputs> {
+    Ok(rx_io::Inputs {
+        sheet: SHEET.to_vec(alloc)?,
+        books: BOOKS.to_vec(alloc)?,
+        batch: BATCH.to_vec(alloc)?,
+    })
 }
 
 fn file<R: Files>(rt: &R, alloc: Global, folder: &str, name: &str) -> io::Result<Vec<u8>> {

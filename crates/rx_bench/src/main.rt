@@ -21,7 +21,7 @@ mod timing;
 mod trials;
 mod waves;
 
-use inputs::Inputs;
+use inputs::{Inputs, one_billing, texts_in};
 use std::alloc::Global;
 use std::process::ExitCode;
 use std::rt::{Clock, Files};
@@ -113,7 +113,7 @@ fn told(rt: &HostRuntime, done: io::Result<()>) -> ExitCode {
 }
 
 fn short_rounds<R: Print + Clock + Threads + Wait + Sync>(rt: &R, alloc: Global) -> io::Result<()> {
-    let inputs = Inputs::of_one_billing(alloc)?;
+    let inputs = one_billing(alloc)?;
     for &name in NAMES {
         short_round(rt, alloc, name, &inputs)?;
     }
@@ -140,8 +140,8 @@ fn timed<R: Print + Clock + Files + Threads + Wait + Sync>(
 ) -> io::Result<()> {
     let micros = micros.and_then(|word| word.parse().ok()).unwrap_or(MICROS);
     let inputs = match folder {
-        Some(folder) => Inputs::read(rt, alloc, folder.as_str())?,
-        None => Inputs::of_one_billing(alloc)?,
+        Some(folder) => texts_in(rt, alloc, folder.as_str())?,
+        None => one_billing(alloc)?,
     };
     rounds(rt, alloc, name, &inputs, micros)?;
     peak(rt, alloc)

@@ -15,8 +15,8 @@ batch_place_in (Some text) f = batch_place text f
 
 -- the line begins at the fault's place in its file; a fault of no file names an option, or what there was too little of
 abbrev pub IsFaultLine : RunInputs → SwitchFault → List ℕ → Type 0
-IsFaultLine run (fault.Sheet f) line = (at : Place) × IsSheetPlace f at × BeginsAt run.sheet.name.now at line
-IsFaultLine run (fault.Books f) line = BeginsAt run.books.name.now (books_place f) line
+IsFaultLine run (fault.Sheet f) line = (at : Place) × IsSheetPlace f at × BeginsAt run.inputs.sheet.name.now at line
+IsFaultLine run (fault.Books f) line = BeginsAt run.inputs.books.name.now (books_place f) line
 IsFaultLine run (fault.Batch f) line =
-    BeginsAt run.batch.name.now (batch_place_in (option_copied run.batch.text) f) line
+    BeginsAt run.inputs.batch.name.now (batch_place_in (option_copied run.inputs.batch.text) f) line
 IsFaultLine run other line = Unit {0}

@@ -3,9 +3,8 @@ use Rattle.std.specs.Prelude.{◌≡◌, Option, Some, None, option_copied}
 use Rattle.rx_batch.specs.declared.fault.BatchFault.{BatchFault}
 use Rattle.rx_books_text.specs.declared.fault.BooksFault.{BooksFault}
 use Rattle.rx_sheet.specs.declared.fault.SheetFault.{SheetFault}
-pub use Rattle.rx_check.specs.Inputs.{batch_fault, books_fault, sheet_fault}
+pub use Rattle.rx_check.specs.Inputs.{Files, batch_fault, books_fault, sheet_fault}
 use Rattle.rx_check.specs.Warned.{AreWarnings}
-use Rattle.rx_check.specs.declared.checking.Files.{Files}
 use Rattle.rx_check.specs.declared.found.Found.{Found}
 use Rattle.rx_check.specs.declared.found.InputFault.{InputFault}
 use Rattle.rx_check.specs.declared.found.InputFault.TheVariants as fault

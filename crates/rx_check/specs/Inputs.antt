@@ -1,5 +1,6 @@
 -- Meaning: what the inputs of a run are read as: what each text stands for, where it is given and accepted, or else its fault.
 use Rattle.std.specs.Prelude.{ℕ, List, Option, Some, None}
+use Rattle.std.specs.Borrow.{Bor}
 use Rattle.std.specs.Result.{result_err, result_ok}
 use Rattle.rx_batch.specs.Reading.{batch_of}
 use Rattle.rx_batch.specs.declared.batch.Batch.{Batch}
@@ -7,9 +8,14 @@ use Rattle.rx_batch.specs.declared.fault.BatchFault.{BatchFault}
 use Rattle.rx_books_store.specs.Figures.{books_of}
 use Rattle.rx_books_store.specs.LedgerBooks.{LedgerBooks}
 use Rattle.rx_books_text.specs.declared.fault.BooksFault.{BooksFault}
+use Rattle.rx_io.specs.declared.files.Inputs.{Inputs}
 use Rattle.rx_ledger.specs.Plan.{Plan}
 use Rattle.rx_sheet.specs.SheetText.{sheet_of_text}
 use Rattle.rx_sheet.specs.declared.fault.SheetFault.{SheetFault}
+
+-- the texts of the inputs that are looked at
+abbrev pub Files : Type 0
+Files = Inputs (Bor (List ℕ)) (Option (Bor (List ℕ))) (Option (Bor (List ℕ)))
 
 -- the plan of a sheet that is accepted
 abbrev pub sheet_taken : List ℕ → Option Plan

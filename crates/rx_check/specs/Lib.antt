@@ -1,4 +1,5 @@
 -- Plumbing: which files there are.
+pub mod Checked
 pub mod Faults
 pub mod Found
 pub mod Ignored

@@ -7,7 +7,7 @@ use Rattle.rx_batch.specs.declared.head.Head.{Head}
 use Rattle.rx_books_store.specs.BooksFile.{IsBooksText}
 use Rattle.rx_books_text.specs.declared.fault.BooksFault.{BooksFault}
 use Rattle.rx_check.specs.Found.{first_of}
-use Rattle.rx_check.specs.declared.checking.Files.{Files}
+use Rattle.rx_check.specs.Inputs.{Files}
 use Rattle.rx_check.specs.declared.found.Found.{Found}
 use Rattle.rx_check.specs.declared.found.InputFault.{InputFault}
 use Rattle.rx_check.specs.declared.found.InputFault.TheVariants as input

@@ -5,6 +5,8 @@ use Rattle.std.specs.Fmt.{decimal}
 use Rattle.std.specs.List.{flat_map}
 use Rattle.rx_batch.specs.declared.fault.BatchFault.{BatchFault}
 use Rattle.rx_books_text.specs.declared.fault.BooksFault.{BooksFault}
+use Rattle.std.specs.Borrow.{Bor}
+use Rattle.rx_io.specs.declared.files.Inputs.{Inputs}
 use Rattle.rx_fields.specs.Calendar.{date_text}
 use Rattle.rx_fields.specs.Numbered.{Span}
 use Rattle.rx_fields.specs.declared.limits.TheConstants.{MOST_LINES}
@@ -14,10 +16,13 @@ use Rattle.rx_diagnostics.specs.Places.{IsSheetPlace, batch_place, books_place}
 use Rattle.rx_diagnostics.specs.declared.place.Place.{Place}
 use Rattle.rx_diagnostics.specs.declared.words.Words.{Words}
 use Rattle.rx_check.specs.Warned.{has_many_lines}
-use Rattle.rx_check.specs.declared.checking.Files.{Files}
+use Rattle.rx_check.specs.Inputs.{Files}
 use Rattle.rx_check.specs.declared.found.Found.{Found}
-use Rattle.rx_check.specs.declared.reporting.Names.{Names}
 use Rattle.rx_check.specs.declared.warnings.Warnings.{Warnings}
+
+-- the names of the files of a run; that of one that isn't given doesn't matter
+abbrev pub Names : Type 0
+Names = Inputs (Bor (List ℕ)) (Bor (List ℕ)) (Bor (List ℕ))
 
 -- ---- faults
 

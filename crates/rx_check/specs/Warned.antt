@@ -16,7 +16,7 @@ use Rattle.rx_ledger.specs.declared.row.Row.{Row}
 use Rattle.rx_text.specs.declared.separators.TheConstants.{GROUP}
 use Rattle.rx_check.specs.Ignored.{ignored_lines}
 use Rattle.rx_check.specs.Inputs.{batch_taken, books_taken, sheet_taken}
-use Rattle.rx_check.specs.declared.checking.Files.{Files}
+use Rattle.rx_check.specs.Inputs.{Files}
 use Rattle.rx_check.specs.declared.warnings.TheConstants.{MANY_LINES}
 use Rattle.rx_check.specs.declared.warnings.Warnings.{Warnings}
 

@@ -9,6 +9,7 @@ use rx_diagnostics::{
     unread_sheet_words,
 };
 use rx_fields::{MOST_WORKERS, Memory, date_read};
+use rx_io::Inputs;
 use rx_sheet::SheetFault;
 use rx_switch::SwitchFault;
 use rx_text::all_digits;
@@ -26,12 +27,8 @@ pub struct Input<'a> {
 /// The inputs of a run, its stamp and its number of workers.
 #[derive(Clone, Copy, Debug)]
 pub struct RunInputs<'a> {
-    /// The plan sheet.
-    pub sheet: Input<'a>,
-    /// The opening books.
-    pub books: Input<'a>,
-    /// The batch file.
-    pub batch: Input<'a>,
+    /// The three inputs.
+    pub inputs: Inputs<Input<'a>>,
     /// The stamp, as it was given.
     pub stamp: &'a str,
     /// The number of workers.
@@ -51,13 +48,13 @@ pub fn fault_words(alloc: Global, fault: SwitchFault, run: &RunInputs<'_>) -> Re
         SwitchFault::Workers => Ok(workers_words(alloc, run.workers)?),
         SwitchFault::Stamp => Ok(stamp_words(alloc, run.stamp)?),
         SwitchFault::Sheet(fault) => {
-            words_of_sheet(alloc, fault, run.sheet.text)?.line(alloc, run.sheet.name)
+            words_of_sheet(alloc, fault, run.inputs.sheet.text)?.line(alloc, run.inputs.sheet.name)
         }
         SwitchFault::Books(fault) => {
-            words_of_books(alloc, fault, run.books.text)?.line(alloc, run.books.name)
+            words_of_books(alloc, fault, run.inputs.books.text)?.line(alloc, run.inputs.books.name)
         }
         SwitchFault::Batch(fault) => {
-            words_of_batch(alloc, fault, run.batch.text)?.line(alloc, run.batch.name)
+            words_of_batch(alloc, fault, run.inputs.batch.text)?.line(alloc, run.inputs.batch.name)
         }
         SwitchFault::Memory => Ok(String::from_str(alloc, "more memory was wanted than there is")?),
         SwitchFault::Thread => Ok(String::from_str(alloc, "a thread could not be started")?),

@@ -10,27 +10,20 @@ use crate::warnings::Warnings;
 use rx_books_store::Books;
 use rx_books_text::BooksFault;
 use rx_fields::Memory;
+use rx_io::Inputs;
 use rx_ledger::Sheet;
 use rx_sheet::SheetFault;
 use std::alloc::Global;
 
-/// The inputs of a run that are looked at.
-#[derive(Clone, Copy, Debug)]
-pub struct Files<'a> {
-    /// The plan sheet's text.
-    pub sheet: &'a [u8],
-    /// The opening books' text.
-    pub books: Option<&'a [u8]>,
-    /// The batch file's bytes.
-    pub batch: Option<&'a [u8]>,
-}
+/// The texts of a run's inputs that are looked at: a plan sheet, and opening books and a batch file where they are given.
+pub type Files<'a> = Inputs<&'a [u8], Option<&'a [u8]>, Option<&'a [u8]>>;
 
 /// Looks at the inputs of a run: the first fault of each, and warnings of what is taken (docs/CLI.md, "check").
 ///
 /// # Errors
 ///
 /// Memory alone, which may stand in the place of any answer.
-pub fn check(alloc: Global, files: &Files<'_>) -> Result<Found, Memory>
+pub(crate) fn find(alloc: Global, files: &Files<'_>) -> Result<Found, Memory>
     ensures { IfOk result (IsFound files.now) }
 {
     let sheet = reading::sheet(alloc, files.sheet)?;

@@ -2,7 +2,7 @@ ghost use Rattle.std.specs.Prelude.{◌≡◌, Ok, MatchOption, option_copied};
 ghost use Rattle.rx_fields.specs.declared.stamp.Stamp.{Stamp};
 ghost use Rattle.rx_switch.specs.Output.{Accepted, Given, IsRefused, StandFor, stamp_for};
 ghost use Rattle.rx_check.specs.Found.{IsFound};
-ghost use Rattle.rx_check.specs.declared.checking.Files.{Files};
+ghost use Rattle.rx_check.specs.Inputs.{Files};
 ghost use Rattle.rx_check.specs.declared.found.Found.{Found};
 ghost use Rattle.rx_check.specs.Refusals.{AreAccepted, AreAmong, AreOf, IsRefusedUnless, refusal_of};
 

@@ -1,46 +1,45 @@
 //! The inputs of a run looked at beforehand: the first fault of each, and warnings of what a run would take and an
 //! operator would hardly mean.
 //!
-//! In come the texts of a plan sheet and, where they are there, of books and a batch file; out comes what is found
-//! (`specs/Found.antt`): each text is accepted, or this is its first fault. The warnings of books and batch are
-//! definitions of `specs/Warned.antt`.
+//! In come the texts of a plan sheet and, where they are given, of books and a batch file; out comes what `check` prints, the
+//! refusal and whether there are warnings (`specs/Checked.antt`): each text is accepted, or its first fault is told
+//! (`specs/Found.antt`). The warnings of books and batch are definitions of `specs/Warned.antt`. That the first fault found
+//! is the one by which a run refuses is a law (`first_fault_is_the_runs`).
 //!
 //! ```rust
-//! let found = rx_check::check(alloc, &files)?;
-//! let lines = rx_check::report(alloc, &files, &names, &found)?;
+//! let checked = rx_check::check(alloc, &files, &names)?;
 //! ```
 //!
 //! A refusal of a run, of these inputs or another, is put in words by `fault_words`: one line, which begins at the fault's
-//! place (`specs/Faults.antt`). That the first fault found is the one by which a run refuses is a law
-//! (`first_fault_is_the_runs`). What is said of an input is said in `rx_diagnostics`.
+//! place (`specs/Faults.antt`). What is said of an input is said in `rx_diagnostics`.
 //!
 //! ```rust
-//! let fault = rx_check::refusal(&found);
 //! let line = rx_check::fault_words(alloc, fault, &run)?;
 //! ```
 //!
 //! Nothing is adjudicated.
 #![tactic(auto)]
 
-mod checking;
+mod checked;
 mod fault_lines;
+mod findings;
 mod found;
 mod ignored;
 mod laws;
 mod likeness;
 mod reading;
 mod refusals;
-mod reporting;
+mod report_lines;
 mod warned;
 mod warnings;
 
-pub use checking::{Files, check};
+pub use checked::{Checked, check};
 pub use fault_lines::{Input, RunInputs, fault_words};
+pub use findings::Files;
 pub use found::{Found, InputFault};
 pub use ignored::ignored_keys;
 pub use laws::{faults_of_some_are_the_runs, first_fault_is_the_runs};
 pub use likeness::nearest;
-pub use refusals::refusal;
-pub use reporting::{Names, report};
+pub use report_lines::Names;
 pub use warned::{adjudicated, feeds, has_none_under, may_pass, period_apart};
 pub use warnings::Warnings;

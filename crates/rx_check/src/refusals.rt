@@ -5,7 +5,7 @@ use crate::found::{Found, InputFault};
 use rx_switch::SwitchFault;
 
 /// The refusal of the first fault found. That it is the run's own is the law `first_fault_is_the_runs`.
-pub fn refusal(found: &Found) -> Option<SwitchFault>
+pub(crate) fn refusal(found: &Found) -> Option<SwitchFault>
     ensures { result ≡ refusal_of found.now }
 {
     match found.first() {

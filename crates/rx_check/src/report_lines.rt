@@ -4,33 +4,26 @@ ghost use Rattle.rx_diagnostics.specs.Lines.{line_text};
 ghost use Rattle.rx_check.specs.Report.{IsReport, TellsBatch, TellsBooks, TellsSheet, adjudicated_text, ignored_text};
 ghost use Rattle.rx_check.specs.Report.{lines_text, may_pass_text, none_under_text, period_text, period_words, warning_line, warnings_text};
 
-use crate::checking::Files;
+use crate::findings::Files;
 use crate::found::Found;
 use crate::warnings::Warnings;
 use rx_batch::BatchFault;
 use rx_books_text::BooksFault;
 use rx_diagnostics::{Words, batch_words, books_words, sheet_words};
 use rx_fields::{Day, MOST_LINES, Memory, Period, date_write};
+use rx_io::Inputs;
 use rx_sheet::SheetFault;
 use std::alloc::{AllocError, Global};
 
-/// The names of the files of a run.
-#[derive(Clone, Copy, Debug)]
-pub struct Names<'a> {
-    /// The plan sheet's.
-    pub sheet: &'a str,
-    /// The books', where they are given.
-    pub books: &'a str,
-    /// The batch file's, where it is given.
-    pub batch: &'a str,
-}
+/// The names of the files of a run. That of a file that isn't given doesn't matter.
+pub type Names<'a> = Inputs<&'a str>;
 
 /// What was found, in words: a line for the first fault of each file, and then one for each warning.
 ///
 /// # Errors
 ///
 /// Memory alone.
-pub fn report(
+pub(crate) fn report(
     alloc: Global,
     files: &Files<'_>,
     names: &Names<'_>,

@@ -3,7 +3,7 @@ ghost use Rattle.std.specs.Option.{option_copied};
 ghost use Rattle.rx_check.specs.Warned.{AreWarningsBeside, AreWarningsOf, IsOtherPeriod, adjudicated_in, has_many_lines};
 ghost use Rattle.rx_check.specs.Warned.{lines_in, may_pass_in, none_under_in, warns_of_nothing};
 
-use crate::checking::Files;
+use crate::findings::Files;
 use crate::ignored::ignored_keys;
 use crate::warned::{adjudicated, feeds, has_none_under, may_pass, period_apart};
 use rx_batch::Batch;

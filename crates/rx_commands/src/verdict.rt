@@ -20,7 +20,7 @@ use std::thread::Threads;
 ///
 /// The files are found the same exactly where they are, byte for byte, what adjudicating the records one after another in
 /// file order gives; else the text has for each that isn't the first line or record that differs, and what stands there
-/// (docs/PRODUCT.md, "The program").
+/// (docs/CLI.md, "verify").
 ///
 /// # Errors
 ///

@@ -1,37 +1,32 @@
 use crate::ending::Ending;
-use crate::printing::print;
+use crate::fault_line::{long_words, read_words};
+use crate::standard_output::print;
 use crate::texts::text_of;
-use crate::verbose::{long_words, read_words};
-use rx_check::{Files, Found, Names, check as look_at, refusal, report};
+use rx_check::Checked;
 use rx_cli::CheckWords;
 use rx_fields::Memory;
-use rx_switch::{Device, IoFault};
+use rx_io::{Device, Inputs};
+use rx_switch::IoFault;
 
-// The bytes of the files that are given.
-#[derive(Drop)]
-struct Texts {
-    sheet: Vec<u8>,
-    books: Option<Vec<u8>>,
-    batch: Option<Vec<u8>>,
+/// Prints the first fault of each input file in words, and what a run would take and an operator would hardly mean. It
+/// ends with the first fault, as a run would, and where there are warnings alone with a status of its own.
+pub fn check(rt: &HostRuntime, words: &CheckWords<'_>) -> Result<(), Ending> {
+    match read_given(rt, words) {
+        Ok(texts) => check_texts(rt, words, &texts),
+        Err(ending) => Err(unread(rt, words, ending)),
+    }
 }
 
-impl Texts {
-    // Opens the files in the order of their numbers, and reads them.
-    fn read(rt: &HostRuntime, words: &CheckWords<'_>) -> Result<Texts, Ending> {
-        Ok(Texts {
-            sheet: text_of(rt, words.sheet, Device::Sheet)?,
-            books: text_if_given(rt, words.books, Device::Books)?,
-            batch: text_if_given(rt, words.batch, Device::Batch)?,
-        })
-    }
+// The texts of the files that are given.
+type Texts = Inputs<Vec<u8>, Option<Vec<u8>>, Option<Vec<u8>>>;
 
-    fn files(&self) -> Files<'_> {
-        Files {
-            sheet: self.sheet.as_slice(),
-            books: self.books.as_ref().map(|text| text.as_slice()),
-            batch: self.batch.as_ref().map(|text| text.as_slice()),
-        }
-    }
+// Opens the files in the order of their numbers, and reads them.
+fn read_given(rt: &HostRuntime, words: &CheckWords<'_>) -> Result<Texts, Ending> {
+    Ok(Inputs {
+        sheet: text_of(rt, words.sheet, Device::Sheet)?,
+        books: text_if_given(rt, words.books, Device::Books)?,
+        batch: text_if_given(rt, words.batch, Device::Batch)?,
+    })
 }
 
 fn text_if_given(
@@ -77,38 +72,27 @@ fn path_of<'a>(words: &CheckWords<'a>, device: Device) -> &'a str {
     }
 }
 
-/// Prints the first fault of each input file in words, and what a run would take and an operator would hardly mean. It
-/// ends with the first fault, as a run would, and where there are warnings alone with a status of its own.
-pub fn check(rt: &HostRuntime, words: &CheckWords<'_>) -> Result<(), Ending> {
-    match Texts::read(rt, words) {
-        Ok(texts) => check_files(rt, words, &texts.files()),
-        Err(ending) => Err(unread(rt, words, ending)),
-    }
-}
-
-// The same of files that were read.
-fn check_files(rt: &HostRuntime, words: &CheckWords<'_>, files: &Files<'_>) -> Result<(), Ending> {
-    let found = look_at(rt.alloc(), files)?;
-    print_report(rt, words, files, &found)?;
-    match refusal(&found) {
-        Some(fault) => Err(Ending::from(fault)),
-        None if found.warnings.is_empty() => Ok(()),
-        None => Err(Ending::Warned),
-    }
-}
-
-// Prints what was found.
-fn print_report(
-    rt: &HostRuntime,
-    words: &CheckWords<'_>,
-    files: &Files<'_>,
-    found: &Found,
-) -> Result<(), Ending> {
-    let names = Names {
+// The same of texts that were read.
+fn check_texts(rt: &HostRuntime, words: &CheckWords<'_>, texts: &Texts) -> Result<(), Ending> {
+    let files = Inputs {
+        sheet: texts.sheet.as_slice(),
+        books: texts.books.as_ref().map(|text| text.as_slice()),
+        batch: texts.batch.as_ref().map(|text| text.as_slice()),
+    };
+    let names = Inputs {
         sheet: words.sheet,
         books: words.books.unwrap_or(""),
         batch: words.batch.unwrap_or(""),
     };
-    let lines = report(rt.alloc(), files, &names, found)?;
-    print(rt, lines.as_str().as_bytes())
+    let Checked {
+        text,
+        refusal,
+        has_warnings,
+    } = rx_check::check(rt.alloc(), &files, &names)?;
+    print(rt, text.as_str().as_bytes())?;
+    match refusal {
+        Some(fault) => Err(Ending::from(fault)),
+        None if has_warnings => Err(Ending::Warned),
+        None => Ok(()),
+    }
 }

@@ -1,5 +1,6 @@
 use rx_batch::BatchFault;
 use rx_cli::WordsFault;
+use rx_commands::ExplainFault;
 use rx_fields::Memory;
 use rx_switch::{IoFault, SwitchFault, told};
 use std::io;
@@ -42,6 +43,15 @@ impl From<SwitchFault> for Ending {
 impl From<Memory> for Ending {
     fn from(_refused: Memory) -> Ending {
         Ending::Io(IoFault::Switch(SwitchFault::Memory))
+    }
+}
+
+impl From<ExplainFault> for Ending {
+    fn from(fault: ExplainFault) -> Ending {
+        match fault {
+            ExplainFault::Refused(fault) => Ending::from(fault),
+            ExplainFault::Response(fault) => Ending::of_response(fault),
+        }
     }
 }
 

@@ -3,7 +3,8 @@ use crate::files::source;
 use rx_check::{Input, RunInputs, fault_words};
 use rx_cli::RunWords;
 use rx_fields::Memory;
-use rx_switch::{Device, IoFault, SwitchFault, read_all};
+use rx_io::Device;
+use rx_switch::{IoFault, SwitchFault, read_all};
 use std::fs::OpenOptions;
 use std::io::Read;
 use std::{fs, io};
@@ -43,13 +44,8 @@ fn refused_words(
         Some(device) => again(rt, path_of(words, device), device),
         None => None,
     };
-    let sheet = given(words.inputs.sheet, &text);
-    let books = given(words.inputs.books, &text);
-    let batch = given(words.inputs.batch, &text);
     let run = RunInputs {
-        sheet,
-        books,
-        batch,
+        inputs: words.inputs.map(|name| given(name, &text)),
         stamp: words.stamp,
         workers: words.workers,
     };
@@ -89,7 +85,7 @@ fn again(rt: &HostRuntime, path: &str, device: Device) -> Option<Vec<u8>> {
 
 /// An input that is too long.
 pub fn long_words(rt: &HostRuntime, device: Device, path: &str) -> Result<String, Memory> {
-    let name = name_of(device);
+    let name = device.name();
     Ok(format!(in rt.alloc();
         "{name} {path}: more than 268435456 bytes, or more than 4194304 reads"
     )?)
@@ -97,7 +93,7 @@ pub fn long_words(rt: &HostRuntime, device: Device, path: &str) -> Result<String
 
 /// Why an input can't be had: what the system answers where it is opened and read again.
 pub fn read_words(rt: &HostRuntime, device: Device, path: &str) -> Result<String, Memory> {
-    let name = name_of(device);
+    let name = device.name();
     match read_again(rt, path) {
         Err(error) => Ok(format!(in rt.alloc(); "{name} {path}: {error}")?),
         Ok(()) => Ok(format!(in rt.alloc(); "{name} {path}: a read failed")?),
@@ -116,7 +112,7 @@ fn read_again(rt: &HostRuntime, path: &str) -> io::Result<()> {
 
 // Why an output can't be had: what the system answers where it is opened or made again.
 fn write_words(rt: &HostRuntime, device: Device, path: &str) -> Result<String, Memory> {
-    let name = name_of(device);
+    let name = device.name();
     match open_again(rt, path) {
         Err(error) => Ok(format!(in rt.alloc(); "{name} {path}: {error}")?),
         Ok(()) => Ok(format!(in rt.alloc(); "{name} {path}: a write failed")?),
@@ -143,24 +139,9 @@ fn open_again(rt: &HostRuntime, path: &str) -> io::Result<()> {
     }
 }
 
-fn name_of(device: Device) -> &'static str {
-    match device {
-        Device::Sheet => "sheet",
-        Device::Books => "books",
-        Device::Batch => "batch",
-        Device::Response => "response",
-        Device::EndBooks => "end books",
-        Device::Settlement => "settlement",
-    }
-}
-
 fn path_of<'a>(words: &RunWords<'a>, device: Device) -> &'a str {
-    match device {
-        Device::Sheet => words.inputs.sheet,
-        Device::Books => words.inputs.books,
-        Device::Batch => words.inputs.batch,
-        Device::Response => words.outputs.response,
-        Device::EndBooks => words.outputs.books,
-        Device::Settlement => words.outputs.settlement,
+    match (words.inputs.get(device), words.outputs.get(device)) {
+        (Some(path), _) | (None, Some(path)) => path,
+        (None, None) => "",
     }
 }

@@ -1,10 +1,8 @@
 ghost use Rattle.std.specs.Prelude.{◌≡◌, false, IfOk};
 
 use crate::ending::Ending;
-use crate::nodes::Node;
-use rx_cli::{Inputs, Outputs};
-use rx_io::{ReaderSource, Source};
-use rx_switch::{Device, IoFault};
+use rx_io::{Device, Inputs, Outputs, ReaderSource, Source};
+use rx_switch::IoFault;
 use std::fs::{File, OpenOptions};
 use std::{fs, io};
 
@@ -20,35 +18,9 @@ pub fn open_input(rt: &HostRuntime, path: &str, device: Device) -> Result<File, 
     fs::open(rt, path).map_err(|_error| Ending::Io(IoFault::Read(device)))
 }
 
-/// The inputs of a run, opened.
-#[derive(Drop)]
-pub struct InputFiles {
-    pub sheet: File,
-    pub books: File,
-    pub batch: File,
-}
-
-impl InputFiles {
-    /// Opens the inputs, in the order of their numbers.
-    pub fn open(rt: &HostRuntime, paths: &Inputs<'_>) -> Result<InputFiles, Ending> {
-        let sheet = open_input(rt, paths.sheet, Device::Sheet)?;
-        let books = open_input(rt, paths.books, Device::Books)?;
-        let batch = open_input(rt, paths.batch, Device::Batch)?;
-        Ok(InputFiles {
-            sheet,
-            books,
-            batch,
-        })
-    }
-
-    /// What the system tells of them, in the order of their numbers.
-    pub fn nodes(&self) -> [Node; 3] {
-        [
-            Node::of(&self.sheet),
-            Node::of(&self.books),
-            Node::of(&self.batch),
-        ]
-    }
+/// Opens the inputs, in the order of their numbers.
+pub fn open_inputs(rt: &HostRuntime, paths: &Inputs<&str>) -> Result<Inputs<File>, Ending> {
+    paths.try_map(|device, path| open_input(rt, path, device))
 }
 
 /// An output, opened for writing and not emptied yet.
@@ -114,47 +86,35 @@ impl OutputFile {
     }
 }
 
-/// The outputs of a run, opened.
-#[derive(Drop)]
-pub struct OutputFiles {
-    pub response: OutputFile,
-    pub books: OutputFile,
-    pub settlement: OutputFile,
+/// Opens the outputs, in the order of their numbers, and empties none.
+pub fn open_outputs(
+    rt: &HostRuntime,
+    paths: &Outputs<&str>,
+) -> Result<Outputs<OutputFile>, Ending> {
+    paths.try_map(|device, path| written(OutputFile::open(rt, path), device))
 }
 
-impl OutputFiles {
-    /// Opens the outputs, in the order of their numbers, and empties none.
-    pub fn open(rt: &HostRuntime, paths: &Outputs<'_>) -> Result<OutputFiles, Ending> {
-        let response = written(OutputFile::open(rt, paths.response), Device::Response)?;
-        let books = written(OutputFile::open(rt, paths.books), Device::EndBooks)?;
-        let settlement = written(OutputFile::open(rt, paths.settlement), Device::Settlement)?;
-        Ok(OutputFiles {
-            response,
-            books,
-            settlement,
-        })
-    }
+/// Empties those that are plain files.
+pub fn empty_each(files: &Outputs<OutputFile>) -> Result<(), Ending> {
+    files
+        .as_ref()
+        .try_map(|device, file| written(file.empty(), device))?;
+    Ok(())
+}
 
-    /// Empties those that are plain files.
-    pub fn empty(&self) -> Result<(), Ending> {
-        written(self.response.empty(), Device::Response)?;
-        written(self.books.empty(), Device::EndBooks)?;
-        written(self.settlement.empty(), Device::Settlement)
-    }
+/// Brings those that are plain files to the disk.
+pub fn keep_each(files: &Outputs<OutputFile>) -> Result<(), Ending> {
+    files
+        .as_ref()
+        .try_map(|device, file| written(file.keep(), device))?;
+    Ok(())
+}
 
-    /// Brings those that are plain files to the disk.
-    pub fn keep(&self) -> Result<(), Ending> {
-        written(self.response.keep(), Device::Response)?;
-        written(self.books.keep(), Device::EndBooks)?;
-        written(self.settlement.keep(), Device::Settlement)
-    }
-
-    /// Removes those again that this run made.
-    pub fn remove_made(self, rt: &HostRuntime, paths: &Outputs<'_>) {
-        self.response.remove_made(rt, paths.response);
-        self.books.remove_made(rt, paths.books);
-        self.settlement.remove_made(rt, paths.settlement);
-    }
+/// Removes those again that this run made.
+pub fn remove_made(rt: &HostRuntime, files: Outputs<OutputFile>, paths: &Outputs<&str>) {
+    files.response.remove_made(rt, paths.response);
+    files.books.remove_made(rt, paths.books);
+    files.settlement.remove_made(rt, paths.settlement);
 }
 
 // What was done to an output; a fault counts as a failed write of it.

@@ -1,9 +1,9 @@
 //! The file of a run's log.
 use crate::ending::Ending;
 use crate::files::OutputFile;
-use crate::nodes::{Node, option_of};
+use crate::nodes::Node;
 use rx_cli::RunWords;
-use rx_switch::Device;
+use rx_io::Device;
 use std::fs;
 use std::io::Write;
 
@@ -23,7 +23,7 @@ impl LogFile {
         let log = LogFile { output };
         if let Some(device) = log.is_one_of(rt, words) {
             log.output.remove_made(rt, path);
-            return Err(Ending::OneFile(option_of(device), "--log"));
+            return Err(Ending::OneFile(device.option(), "--log"));
         }
         match log.output.empty() {
             Ok(()) => Ok(log),

@@ -17,27 +17,25 @@
 //! rxbatch --version                                 the version, and the kit that proved it
 //! ```
 //!
-//! Words are read by `rx_cli`, batches adjudicated by `rx_switch`; here files are opened, and refusals told.
+//! Words are read by `rx_cli`; `run` is `rx_switch::run_io`, `check` one call of `rx_check`, and each other command one call of
+//! `rx_commands`, `rx_show` or `rx_switch`. Here files are opened and read, and texts, refusals and exit statuses written.
 #![tactic(auto)]
 
-mod checking;
+mod check_files;
+mod commands;
 mod ending;
-mod explaining;
+mod fault_line;
 mod files;
 mod log_file;
-mod logging;
 mod nodes;
 mod outputs;
-mod printing;
-mod replying;
-mod reporting;
-mod running;
-mod safe;
-mod telling;
+mod run_files;
+mod safe_files;
+mod standard_output;
+mod teller;
 mod texts;
 mod told_source;
-mod verbose;
-mod verifying;
+mod watched_run;
 
 use ending::Ending;
 use rx_cli::{Command, WordsFault, command};
@@ -61,18 +59,18 @@ fn perform<R: Threads + Wait + Sync>(rt: &HostRuntime, threads: &R) -> Result<()
     let words = words(rt)?;
     match command(rt.alloc(), words.as_slice()) {
         Ok(Command::Run(words)) if words.verbose => {
-            verbose::explained(rt, &words, running::run(rt, threads, &words))
+            fault_line::explained(rt, &words, run_files::run(rt, threads, &words))
         }
-        Ok(Command::Run(words)) => running::run(rt, threads, &words),
-        Ok(Command::Show(words)) => printing::show(rt, threads, &words),
-        Ok(Command::Sample) => printing::sample(rt),
-        Ok(Command::Plan(words)) => printing::plan(rt, &words),
-        Ok(Command::Check(words)) => checking::check(rt, &words),
-        Ok(Command::Explain(words)) => explaining::explain(rt, threads, &words),
-        Ok(Command::Verify(words)) => verifying::verify(rt, threads, &words),
-        Ok(Command::Report(words)) => reporting::report(rt, threads, &words),
-        Ok(Command::Replies(path)) => replying::replies(rt, path),
-        Err(fault) if fault.is_version() => printing::version(rt, &fault),
+        Ok(Command::Run(words)) => run_files::run(rt, threads, &words),
+        Ok(Command::Show(words)) => commands::show(rt, threads, &words),
+        Ok(Command::Sample) => commands::sample(rt),
+        Ok(Command::Plan(words)) => commands::plan(rt, &words),
+        Ok(Command::Check(words)) => check_files::check(rt, &words),
+        Ok(Command::Explain(words)) => commands::explain(rt, threads, &words),
+        Ok(Command::Verify(words)) => commands::verify(rt, threads, &words),
+        Ok(Command::Report(words)) => commands::report(rt, threads, &words),
+        Ok(Command::Replies(path)) => commands::replies(rt, path),
+        Err(fault) if fault.is_version() => commands::version(rt, &fault),
         Err(fault) => Err(Ending::Words(fault)),
     }
 }

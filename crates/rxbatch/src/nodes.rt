@@ -1,4 +1,4 @@
-use rx_switch::Device;
+use rx_io::{Device, Inputs, Outputs};
 use std::fs::{File, Metadata};
 use std::os::unix::fs::MetadataExt;
 
@@ -40,18 +40,6 @@ impl Node {
     }
 }
 
-/// The option that names the file of a run.
-pub fn option_of(device: Device) -> &'static str {
-    match device {
-        Device::Sheet => "--sheet",
-        Device::Books => "--books",
-        Device::Batch => "--batch",
-        Device::Response => "--response",
-        Device::EndBooks => "--books-out",
-        Device::Settlement => "--settlement",
-    }
-}
-
 // The files of a run, in the order of their numbers.
 const DEVICES: [Device; 6] = [
     Device::Sheet,
@@ -64,11 +52,22 @@ const DEVICES: [Device; 6] = [
 
 /// The options of an output and of another file that are one plain file, as far as the system tells. Writing that
 /// output would lose the other.
-pub fn one_file_twice(nodes: [Node; 6]) -> Option<(&'static str, &'static str)> {
+pub fn one_file_twice(
+    inputs: Inputs<Node>,
+    outputs: Outputs<Node>,
+) -> Option<(&'static str, &'static str)> {
+    let nodes = [
+        inputs.sheet,
+        inputs.books,
+        inputs.batch,
+        outputs.response,
+        outputs.books,
+        outputs.settlement,
+    ];
     for output in 3..6 {
         for other in 0..output {
             if nodes[output].may_be(nodes[other]) {
-                return Some((option_of(DEVICES[other]), option_of(DEVICES[output])));
+                return Some((DEVICES[other].option(), DEVICES[output].option()));
             }
         }
     }

@@ -1,43 +1,36 @@
 //! Where a run writes: to the outputs themselves, or beside them.
 use crate::ending::Ending;
-use crate::files::OutputFiles;
+use crate::files::{OutputFile, empty_each, keep_each, open_outputs, remove_made};
 use crate::nodes::Node;
-use crate::safe::SafeFiles;
-use rx_cli::{Outputs, RunWords};
+use crate::safe_files::{SafeFile, discard_each, finish_each, one_path_twice, open_safe_files};
+use rx_cli::RunWords;
+use rx_io::Outputs;
 use std::fs::File;
 
 /// The files that a run writes.
 #[derive(Drop)]
 pub enum RunOutputs {
     /// The outputs themselves, emptied before the run.
-    InPlace(OutputFiles),
+    InPlace(Outputs<OutputFile>),
     /// Files beside the outputs, which get their paths when the run is done.
-    Beside(SafeFiles),
+    Beside(Outputs<SafeFile>),
 }
 
 impl RunOutputs {
     /// Opens the files, in the order of their numbers. No earlier file changes.
     pub fn open(rt: &HostRuntime, words: &RunWords<'_>) -> Result<RunOutputs, Ending> {
         if words.safe {
-            Ok(RunOutputs::Beside(SafeFiles::open(rt, &words.outputs)?))
+            Ok(RunOutputs::Beside(open_safe_files(rt, &words.outputs)?))
         } else {
-            Ok(RunOutputs::InPlace(OutputFiles::open(rt, &words.outputs)?))
+            Ok(RunOutputs::InPlace(open_outputs(rt, &words.outputs)?))
         }
     }
 
     /// What the system tells of the files that have the outputs' paths so far.
-    pub fn nodes(&self) -> [Node; 3] {
+    pub fn nodes(&self) -> Outputs<Node> {
         match self {
-            RunOutputs::InPlace(files) => [
-                Node::of(&files.response.file),
-                Node::of(&files.books.file),
-                Node::of(&files.settlement.file),
-            ],
-            RunOutputs::Beside(files) => [
-                files.response.node(),
-                files.books.node(),
-                files.settlement.node(),
-            ],
+            RunOutputs::InPlace(files) => files.as_ref().map(|file| Node::of(&file.file)),
+            RunOutputs::Beside(files) => files.as_ref().map(|file| file.node()),
         }
     }
 
@@ -45,39 +38,31 @@ impl RunOutputs {
     pub fn one_path_twice(&self) -> Option<(&'static str, &'static str)> {
         match self {
             RunOutputs::InPlace(_) => None,
-            RunOutputs::Beside(files) => files.one_path_twice(),
+            RunOutputs::Beside(files) => one_path_twice(files),
         }
     }
 
-    /// The files that are written: response, end books and settlement.
-    pub fn files(&self) -> [&File; 3] {
+    /// The files that are written.
+    pub fn files(&self) -> Outputs<&File> {
         match self {
-            RunOutputs::InPlace(files) => [
-                &files.response.file,
-                &files.books.file,
-                &files.settlement.file,
-            ],
-            RunOutputs::Beside(files) => [
-                &files.response.file,
-                &files.books.file,
-                &files.settlement.file,
-            ],
+            RunOutputs::InPlace(files) => files.as_ref().map(|file| &file.file),
+            RunOutputs::Beside(files) => files.as_ref().map(|file| &file.file),
         }
     }
 
     /// Makes the files ready for the run.
     pub fn begin(&self) -> Result<(), Ending> {
         match self {
-            RunOutputs::InPlace(files) => files.empty(),
+            RunOutputs::InPlace(files) => empty_each(files),
             RunOutputs::Beside(_) => Ok(()),
         }
     }
 
     /// Removes what this run made, before it begins.
-    pub fn remove_made(self, rt: &HostRuntime, paths: &Outputs<'_>) {
+    pub fn remove_made(self, rt: &HostRuntime, paths: &Outputs<&str>) {
         match self {
-            RunOutputs::InPlace(files) => files.remove_made(rt, paths),
-            RunOutputs::Beside(files) => files.discard(rt),
+            RunOutputs::InPlace(files) => remove_made(rt, files, paths),
+            RunOutputs::Beside(files) => discard_each(rt, files),
         }
     }
 
@@ -85,11 +70,11 @@ impl RunOutputs {
     /// files beside the outputs are removed.
     pub fn end(self, rt: &HostRuntime, done: Result<(), Ending>) -> Result<(), Ending> {
         match (self, done) {
-            (RunOutputs::InPlace(files), Ok(())) => files.keep(),
-            (RunOutputs::Beside(files), Ok(())) => files.finish(rt),
+            (RunOutputs::InPlace(files), Ok(())) => keep_each(&files),
+            (RunOutputs::Beside(files), Ok(())) => finish_each(rt, files),
             (RunOutputs::InPlace(_), Err(ending)) => Err(ending),
             (RunOutputs::Beside(files), Err(ending)) => {
-                files.discard(rt);
+                discard_each(rt, files);
                 Err(ending)
             }
         }

@@ -1,12 +1,13 @@
 use crate::ending::Ending;
-use crate::files::InputFiles;
-use crate::logging;
-use crate::nodes::one_file_twice;
+use crate::files::open_inputs;
+use crate::nodes::{Node, one_file_twice};
 use crate::outputs::RunOutputs;
+use crate::watched_run;
 use rx_cli::RunWords;
-use rx_io::{ReaderSource, WriterSink};
-use rx_switch::{Inputs, Outputs, run_io};
+use rx_io::{Inputs, ReaderSource, WriterSink};
+use rx_switch::run_io;
 use rx_wave::NoGate;
+use std::fs::File;
 use std::sync::Wait;
 use std::thread::Threads;
 
@@ -17,10 +18,10 @@ pub fn run<R: Threads + Wait + Sync>(
     words: &RunWords<'_>,
 ) -> Result<(), Ending> {
     if let Some(path) = words.log {
-        return logging::run(rt, threads, words, path);
+        return watched_run::run(rt, threads, words, path);
     }
     if words.verbose {
-        return logging::watched(rt, threads, words).done;
+        return watched_run::watched(rt, threads, words).done;
     }
     let RunFiles { inputs, outputs } = RunFiles::open(rt, words)?;
     let done = on_files(rt, threads, words, &inputs, &outputs);
@@ -30,14 +31,14 @@ pub fn run<R: Threads + Wait + Sync>(
 /// The files of a run, opened.
 #[derive(Drop)]
 pub struct RunFiles {
-    pub inputs: InputFiles,
+    pub inputs: Inputs<File>,
     pub outputs: RunOutputs,
 }
 
 impl RunFiles {
     /// Opens the inputs, then the outputs, and makes them ready where no output is another of the six files.
     pub fn open(rt: &HostRuntime, words: &RunWords<'_>) -> Result<RunFiles, Ending> {
-        let inputs = InputFiles::open(rt, &words.inputs)?;
+        let inputs = open_inputs(rt, &words.inputs)?;
         let outputs = RunOutputs::open(rt, words)?;
         if let Some((one, other)) = one_twice(&inputs, &outputs) {
             outputs.remove_made(rt, &words.outputs);
@@ -49,10 +50,9 @@ impl RunFiles {
 }
 
 // The options of an output and of another of the six files that are one.
-fn one_twice(inputs: &InputFiles, outputs: &RunOutputs) -> Option<(&'static str, &'static str)> {
-    let [sheet, books, batch] = inputs.nodes();
-    let [response, end_books, settlement] = outputs.nodes();
-    match one_file_twice([sheet, books, batch, response, end_books, settlement]) {
+fn one_twice(inputs: &Inputs<File>, outputs: &RunOutputs) -> Option<(&'static str, &'static str)> {
+    let nodes = inputs.as_ref().map(|file| Node::of(file));
+    match one_file_twice(nodes, outputs.nodes()) {
         Some(options) => Some(options),
         None => outputs.one_path_twice(),
     }
@@ -63,20 +63,11 @@ fn on_files<R: Threads + Wait + Sync>(
     rt: &HostRuntime,
     threads: &R,
     words: &RunWords<'_>,
-    inputs: &InputFiles,
+    inputs: &Inputs<File>,
     outputs: &RunOutputs,
 ) -> Result<(), Ending> {
-    let [response, end_books, settlement] = outputs.files();
-    let mut sources = Inputs {
-        sheet: ReaderSource::new(&inputs.sheet),
-        books: ReaderSource::new(&inputs.books),
-        batch: ReaderSource::new(&inputs.batch),
-    };
-    let mut sinks = Outputs {
-        response: WriterSink::new(response),
-        end_books: WriterSink::new(end_books),
-        settlement: WriterSink::new(settlement),
-    };
+    let mut sources = inputs.as_ref().map(|file| ReaderSource::new(file));
+    let mut sinks = outputs.files().map(|file| WriterSink::new(file));
     let done = run_io(
         threads,
         rt.alloc(),

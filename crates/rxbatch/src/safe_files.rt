@@ -1,8 +1,8 @@
 //! The outputs of a run that is to leave each earlier file as it is until the whole run is done.
 use crate::ending::Ending;
-use crate::nodes::{Node, option_of};
-use rx_cli::Outputs;
-use rx_switch::{Device, IoFault, SwitchFault};
+use crate::nodes::Node;
+use rx_io::{Device, Outputs};
+use rx_switch::{IoFault, SwitchFault};
 use std::fs::{File, Metadata, OpenOptions, Permissions};
 use std::io::ErrorKind;
 use std::os::unix::fs::{MetadataExt, OpenOptionsExt, PermissionsExt, fchown};
@@ -42,10 +42,10 @@ impl SafeFile {
                 let path = fs::canonicalize(rt, path).map_err(failed)?;
                 SafeFile::over(rt, path, device)
             }
-            Ok(_) => Err(Ending::NotPlain(option_of(device))),
+            Ok(_) => Err(Ending::NotPlain(device.option())),
             Err(error) if error.kind() == ErrorKind::NotFound => {
                 if fs::symlink_metadata(rt, path).is_ok() {
-                    return Err(Ending::NotPlain(option_of(device)));
+                    return Err(Ending::NotPlain(device.option()));
                 }
                 let path = new_path(rt, path).map_err(failed)?;
                 SafeFile::beside(rt, path, device).map_err(failed)
@@ -130,81 +130,71 @@ impl SafeFile {
     }
 }
 
-/// The outputs of a run, each beside its path.
-#[derive(Drop)]
-pub struct SafeFiles {
-    pub response: SafeFile,
-    pub books: SafeFile,
-    pub settlement: SafeFile,
+/// Makes the files, in the order of their numbers; where one can't be made, none stays.
+pub fn open_safe_files(
+    rt: &HostRuntime,
+    paths: &Outputs<&str>,
+) -> Result<Outputs<SafeFile>, Ending> {
+    let response = SafeFile::open(rt, paths.response, Device::Response)?;
+    let books = match SafeFile::open(rt, paths.books, Device::EndBooks) {
+        Ok(books) => books,
+        Err(ending) => {
+            response.discard(rt);
+            return Err(ending);
+        }
+    };
+    match SafeFile::open(rt, paths.settlement, Device::Settlement) {
+        Ok(settlement) => Ok(Outputs {
+            response,
+            books,
+            settlement,
+        }),
+        Err(ending) => {
+            response.discard(rt);
+            books.discard(rt);
+            Err(ending)
+        }
+    }
 }
 
-impl SafeFiles {
-    /// Makes the files, in the order of their numbers; where one can't be made, none stays.
-    pub fn open(rt: &HostRuntime, paths: &Outputs<'_>) -> Result<SafeFiles, Ending> {
-        let response = SafeFile::open(rt, paths.response, Device::Response)?;
-        let books = match SafeFile::open(rt, paths.books, Device::EndBooks) {
-            Ok(books) => books,
-            Err(ending) => {
-                response.discard(rt);
-                return Err(ending);
-            }
-        };
-        match SafeFile::open(rt, paths.settlement, Device::Settlement) {
-            Ok(settlement) => Ok(SafeFiles {
-                response,
-                books,
-                settlement,
-            }),
-            Err(ending) => {
-                response.discard(rt);
-                books.discard(rt);
-                Err(ending)
+/// The options of two outputs that are to have one path.
+pub fn one_path_twice(files: &Outputs<SafeFile>) -> Option<(&'static str, &'static str)> {
+    let files = [&files.response, &files.books, &files.settlement];
+    for later in 1..3 {
+        for earlier in 0..later {
+            if files[later].path.as_str() == files[earlier].path.as_str() {
+                return Some((files[earlier].device.option(), files[later].device.option()));
             }
         }
     }
+    None
+}
 
-    /// The options of two outputs that are to have one path.
-    pub fn one_path_twice(&self) -> Option<(&'static str, &'static str)> {
-        let files = [&self.response, &self.books, &self.settlement];
-        for later in 1..3 {
-            for earlier in 0..later {
-                if files[later].path.as_str() == files[earlier].path.as_str() {
-                    return Some((
-                        option_of(files[earlier].device),
-                        option_of(files[later].device),
-                    ));
-                }
-            }
-        }
-        None
-    }
+/// Removes the files that haven't got their paths.
+pub fn discard_each(rt: &HostRuntime, files: Outputs<SafeFile>) {
+    files.response.discard(rt);
+    files.books.discard(rt);
+    files.settlement.discard(rt);
+}
 
-    /// Removes the files that haven't got their paths.
-    pub fn discard(self, rt: &HostRuntime) {
-        self.response.discard(rt);
-        self.books.discard(rt);
-        self.settlement.discard(rt);
-    }
+/// Gives each file its path, the end books last. Where that fails, the files that haven't got theirs are removed.
+pub fn finish_each(rt: &HostRuntime, mut files: Outputs<SafeFile>) -> Result<(), Ending> {
+    let done = rename_each(rt, &mut files);
+    discard_each(rt, files);
+    done
+}
 
-    /// Gives each file its path, the end books last. Where that fails, the files that haven't got theirs are removed.
-    pub fn finish(mut self, rt: &HostRuntime) -> Result<(), Ending> {
-        let done = self.rename(rt);
-        self.discard(rt);
-        done
-    }
-
-    // The names of the first two are on the disk before the end books get theirs.
-    fn rename(&mut self, rt: &HostRuntime) -> Result<(), Ending> {
-        self.response.keep()?;
-        self.books.keep()?;
-        self.settlement.keep()?;
-        self.response.rename(rt)?;
-        self.settlement.rename(rt)?;
-        self.response.keep_name()?;
-        self.settlement.keep_name()?;
-        self.books.rename(rt)?;
-        self.books.keep_name()
-    }
+// The names of the first two are on the disk before the end books get theirs.
+fn rename_each(rt: &HostRuntime, files: &mut Outputs<SafeFile>) -> Result<(), Ending> {
+    files.response.keep()?;
+    files.books.keep()?;
+    files.settlement.keep()?;
+    files.response.rename(rt)?;
+    files.settlement.rename(rt)?;
+    files.response.keep_name()?;
+    files.settlement.keep_name()?;
+    files.books.rename(rt)?;
+    files.books.keep_name()
 }
 
 // How a run ends whose output can't be written.

@@ -1,7 +1,8 @@
 //! What a run tells on standard error while it goes on.
-use crate::logging::{RunHeard, Times, micros, peak};
+use crate::watched_run::peak;
 use rx_run_log::{
-    Counted, RunReport, Step, StepReport, Totals, Traffic, done_line, progress_line, step_line,
+    RunReport, RunTimes, RunTraffic, Step, Totals, Traffic, details_in, done_line, input_report,
+    micros_between, progress_line, step_line,
 };
 use rx_wave::Gate;
 use std::alloc::AllocError;
@@ -13,9 +14,6 @@ use std::time::{Clock, Duration};
 const FIRST: u64 = 1_000;
 
 const BETWEEN: u64 = 200;
-
-// A batch file has two records more than details: header and trailer.
-const NO_DETAILS: u64 = 2;
 
 /// What tells of a run, where that is asked for: its steps, and how many of its records are adjudicated.
 #[derive(Drop)]
@@ -50,77 +48,29 @@ impl<'a> Teller<'a> {
     }
 
     /// Tells the step of an input that was read to its end.
-    pub fn tell_input(&self, step: Step, heard: &Traffic) {
-        let counted = match step {
-            Step::Batch => {
-                let records = heard.starts().saturating_sub(NO_DETAILS);
-                self.records.store(records, Ordering::SeqCst);
-                Counted::Records(records)
-            }
-            _ => lines(heard),
-        };
-        let micros = micros(heard.first(), heard.last());
-        self.tell_file(step, counted, heard, micros);
+    pub fn tell_input(&self, step: Step, input: &Traffic) {
+        if step == Step::Batch {
+            self.records.store(details_in(input), Ordering::SeqCst);
+        }
+        self.tell(step_line(self.rt.alloc(), &input_report(step, input)));
     }
 
     /// Tells the later steps of a run that is done, and its end.
-    pub fn tell_done(&self, heard: &RunHeard, times: Times) {
-        let steps = heard.steps(times);
-        let records = Counted::Records(self.records.load(Ordering::SeqCst));
-        self.tell_step(Step::Adjudicate, Some(records), steps.of(Step::Adjudicate));
-        self.tell_file(
-            Step::Response,
-            records,
-            &heard.response,
-            steps.of(Step::Response),
-        );
-        let (books, settlement) = (&heard.books_out, &heard.settlement);
-        self.tell_file(
-            Step::EndBooks,
-            lines(books),
-            books,
-            steps.of(Step::EndBooks),
-        );
-        self.tell_file(
-            Step::Settlement,
-            lines(settlement),
-            settlement,
-            steps.of(Step::Settlement),
-        );
-        self.tell_step(Step::Disk, None, steps.of(Step::Disk));
+    pub fn tell_done(&self, traffic: &RunTraffic, times: RunTimes) {
+        for report in &traffic.later_reports(times) {
+            self.tell(step_line(self.rt.alloc(), report));
+        }
         let run = RunReport {
-            totals: Totals::of_settlement(settlement.end()),
+            totals: Totals::of_settlement(traffic.outputs.settlement.end()),
             peak: peak(self.rt).and_then(|kilobytes| kilobytes.checked_mul(1_024)),
-            micros: micros(times.begin, times.end),
+            micros: micros_between(times.begin, times.end),
         };
         self.tell(done_line(self.rt.alloc(), &run));
     }
 
-    // Tells a step that reads or writes a file.
-    fn tell_file(&self, step: Step, counted: Counted, heard: &Traffic, micros: Option<u64>) {
-        let report = StepReport {
-            step,
-            counted: Some(counted),
-            bytes: Some(heard.bytes()),
-            micros,
-        };
-        self.tell(step_line(self.rt.alloc(), &report));
-    }
-
-    // Tells another step.
-    fn tell_step(&self, step: Step, counted: Option<Counted>, micros: Option<u64>) {
-        let report = StepReport {
-            step,
-            counted,
-            bytes: None,
-            micros,
-        };
-        self.tell(step_line(self.rt.alloc(), &report));
-    }
-
     // Tells how many records are adjudicated, where it is time for that.
     fn tell_progress(&self, adjudicated: u64) {
-        let Some(micros) = micros(self.begin, self.rt.monotonic().ok()) else {
+        let Some(micros) = micros_between(self.begin, self.rt.monotonic().ok()) else {
             return;
         };
         let now = micros / 1_000;
@@ -144,10 +94,6 @@ impl<'a> Teller<'a> {
             let _ = self.rt.stderr().write_all(line.as_slice());
         }
     }
-}
-
-fn lines(heard: &Traffic) -> Counted {
-    Counted::Lines(heard.line_feeds())
 }
 
 /// It starts every worker, and counts the records that leave.

@@ -1,7 +1,7 @@
 //! An input of a run that is watched.
 ghost use Rattle.std.specs.Prelude.{◌≡◌, false};
 
-use crate::telling::Teller;
+use crate::teller::Teller;
 use rx_io::{Failed, ReaderSource, Source};
 use rx_run_log::{Step, Traffic, Watched};
 use std::fs::File;

@@ -3,8 +3,8 @@
 
 use crate::trials::gate::Meeting;
 use rx_cli::{Command, RunWords, WordsFault, command};
-use rx_io::{ReaderSource, WriterSink};
-use rx_switch::{Device, Inputs, IoFault, Outputs, run_io, told};
+use rx_io::{Device, Inputs, Outputs, ReaderSource, WriterSink};
+use rx_switch::{IoFault, run_io, told};
 use std::fs;
 use std::fs::{File, OpenOptions};
 use std::process::ExitCode;
@@ -71,18 +71,14 @@ fn run_on_files<R: Threads + Wait + Sync>(
     gate: &Meeting,
     words: &RunWords<'_>,
 ) -> Result<(), IoFault> {
-    let inputs = opened(rt, &words.inputs)?;
-    let outputs = made(rt, &words.outputs)?;
-    let mut sources = Inputs {
-        sheet: ReaderSource::new(inputs.sheet),
-        books: ReaderSource::new(inputs.books),
-        batch: ReaderSource::new(inputs.batch),
-    };
-    let mut sinks = Outputs {
-        response: WriterSink::new(outputs.response),
-        end_books: WriterSink::new(outputs.end_books),
-        settlement: WriterSink::new(outputs.settlement),
-    };
+    let inputs = words
+        .inputs
+        .try_map(|device, path| input(rt, path, device))?;
+    let outputs = words
+        .outputs
+        .try_map(|device, path| output(rt, path, device))?;
+    let mut sources = inputs.map(|file| ReaderSource::new(file));
+    let mut sinks = outputs.map(|file| WriterSink::new(file));
     run_io(
         threads,
         rt.alloc(),
@@ -95,40 +91,12 @@ fn run_on_files<R: Threads + Wait + Sync>(
     )
 }
 
-// The inputs, opened.
-fn opened(
-    rt: &HostRuntime,
-    paths: &rx_cli::Inputs<'_>,
-) -> Result<Inputs<File, File, File>, IoFault> {
-    let sheet = input(rt, paths.sheet, Device::Sheet)?;
-    let books = input(rt, paths.books, Device::Books)?;
-    let batch = input(rt, paths.batch, Device::Batch)?;
-    Ok(Inputs {
-        sheet,
-        books,
-        batch,
-    })
-}
-
-// The outputs, each made where it isn't there, and emptied.
-fn made(
-    rt: &HostRuntime,
-    paths: &rx_cli::Outputs<'_>,
-) -> Result<Outputs<File, File, File>, IoFault> {
-    let response = output(rt, paths.response, Device::Response)?;
-    let end_books = output(rt, paths.books, Device::EndBooks)?;
-    let settlement = output(rt, paths.settlement, Device::Settlement)?;
-    Ok(Outputs {
-        response,
-        end_books,
-        settlement,
-    })
-}
-
+// An input, opened.
 fn input(rt: &HostRuntime, path: &str, device: Device) -> Result<File, IoFault> {
     fs::open(rt, path).map_err(|_error| IoFault::Read(device))
 }
 
+// An output, made where it isn't there, and emptied.
 fn output(rt: &HostRuntime, path: &str, device: Device) -> Result<File, IoFault> {
     OpenOptions::new()
         .write(true)

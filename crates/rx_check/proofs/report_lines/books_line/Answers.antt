@@ -1,7 +1,7 @@
 use Rattle.std.proofs.Common.{◌≡◌}
 use Rattle.rx_diagnostics.specs.Places.{books_place}
 use Rattle.rx_check.proofs.Reports.{tells}
-use Rattle.rx_check.proofs.reporting.books_line.Goals as goal
+use Rattle.rx_check.proofs.report_lines.books_line.Goals as goal
 
 pub returns-in_ok-books_words-in-Some-Some : goal.returns-in_ok-books_words-in-Some-Some
 returns-in_ok-books_words-in-Some-Some c =

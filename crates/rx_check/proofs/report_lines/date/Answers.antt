@@ -1,7 +1,7 @@
 use Rattle.std.proofs.Common.{sym, subst, ◌∙◌}
 use Rattle.std.specs.Str.{IsUtf8}
 use Rattle.rx_check.proofs.Dates.{date_is_text}
-use Rattle.rx_check.proofs.reporting.date.Goals as goal
+use Rattle.rx_check.proofs.report_lines.date.Goals as goal
 
 pub returns : goal.returns
 returns c =

@@ -1,6 +1,6 @@
 use Rattle.std.proofs.Common.{◌≡◌, ap, ◌∙◌, get_or, string_bytes}
 use Rattle.rx_check.proofs.Reports.{ignored_more}
-use Rattle.rx_check.proofs.reporting.put_ignored.Goals as goal
+use Rattle.rx_check.proofs.report_lines.put_ignored.Goals as goal
 
 pub loop-said-preserved : goal.loop-said-preserved
 loop-said-preserved c =

@@ -1,6 +1,6 @@
 use Rattle.std.proofs.Common.{◌≡◌, ◌++◌, map, string_bytes, take}
 use Rattle.rx_check.specs.Report.{ignored_text}
-use Rattle.rx_check.proofs.reporting.put_ignored.Given as goal
+use Rattle.rx_check.proofs.report_lines.put_ignored.Given as goal
 
 -- the warnings of the keys so far
 abbrev pub invariant-loop-said : goal.invariant-loop-said

@@ -1,5 +1,5 @@
 use Rattle.rx_check.specs.Report.{may_pass_text}
-use Rattle.rx_check.proofs.reporting.put_may_pass.Goals as goal
+use Rattle.rx_check.proofs.report_lines.put_may_pass.Goals as goal
 
 pub returns : goal.returns
 unfolding may_pass_text

@@ -1,4 +1,4 @@
-use Rattle.rx_check.proofs.reporting.put_period.Goals as goal
+use Rattle.rx_check.proofs.report_lines.put_period.Goals as goal
 
 pub returns : goal.returns
 returns c =

@@ -1,6 +1,6 @@
 use Rattle.std.proofs.Common.{◌≡◌, ◌++◌, string_bytes, ap, ◌∙◌}
 use Rattle.rx_check.proofs.Reports.{four_joined}
-use Rattle.rx_check.proofs.reporting.report.Goals as goal
+use Rattle.rx_check.proofs.report_lines.report.Goals as goal
 
 pub returns : goal.returns
 returns c =

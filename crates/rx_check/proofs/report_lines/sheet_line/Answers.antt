@@ -1,6 +1,6 @@
 use Rattle.rx_diagnostics.specs.Places.{IsSheetPlace}
 use Rattle.rx_check.proofs.Reports.{tells}
-use Rattle.rx_check.proofs.reporting.sheet_line.Goals as goal
+use Rattle.rx_check.proofs.report_lines.sheet_line.Goals as goal
 
 pub returns-in_ok-sheet_words-in-Some : goal.returns-in_ok-sheet_words-in-Some
 returns-in_ok-sheet_words-in-Some c =

@@ -1,0 +1,25 @@
+use crate::ending::Ending;
+use rx_commands::{Outcome, Printed};
+use std::io;
+use std::io::Write;
+
+/// Writes a text to standard output.
+pub fn print(rt: &HostRuntime, text: &[u8]) -> Result<(), Ending> {
+    let mut out = io::writer(rt);
+    if out.write_all(text).is_err() || out.flush().is_err() {
+        return Err(Ending::Output);
+    }
+    Ok(())
+}
+
+/// Writes what a command prints, and ends as the command does.
+pub fn print_outcome(rt: &HostRuntime, printed: &Printed) -> Result<(), Ending> {
+    match printed.outcome {
+        Outcome::Done => print(rt, &printed.text),
+        Outcome::NotFound => Err(Ending::NotFound),
+        Outcome::Differs => {
+            print(rt, &printed.text)?;
+            Err(Ending::Differs)
+        }
+    }
+}
