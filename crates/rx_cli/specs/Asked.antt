@@ -87,9 +87,11 @@ pub record HoldsRun (rows : List Row) (r : RunWords) : Type 0 where
   pub stamp : HasText rows (codes "stamp") r.stamp.now
   pub workers : HasNumber rows (codes "workers") r.workers
   pub plain : r.plain ≡ is_set (codes "plain") rows
+  pub desk : r.desk ≡ is_set (codes "desk") rows
   pub safe : r.safe ≡ is_set (codes "safe") rows
   pub verbose : r.verbose ≡ is_set (codes "verbose") rows
   pub log : MayHaveText rows (codes "log") r.log
+  pub sums : r.sums ≡ is_set (codes "sums") rows
 
 -- what `run` takes is the values of its options, and no path of its stands twice
 abbrev pub HoldsRunApart : List Row → RunWords → Type 0
@@ -118,6 +120,7 @@ pub record HoldsVerify (rows : List Row) (v : VerifyWords) : Type 0 where
   pub stamp : HasText rows (codes "stamp") v.stamp.now
   pub workers : HasNumberOr rows (codes "workers") 1 v.workers
   pub plain : v.plain ≡ is_set (codes "plain") rows
+  pub desk : v.desk ≡ is_set (codes "desk") rows
 
 -- at most one of `--provider` and `--family` stands
 abbrev pub HoldsPortion : List Row → Portion → Type 0

@@ -37,17 +37,21 @@ abbrev pub with_outputs : App → App
 with_outputs line = with_rule (with_rule (with_rule line (required_option (codes "response")))
     (required_option (codes "books-out"))) (required_option (codes "settlement"))
 
+-- the line with the other ways to adjudicate
+abbrev pub with_ways : App → App
+with_ways line = with_rule (with_rule line (flag (codes "plain"))) (flag (codes "desk"))
+
 -- the line with the options of `run` that are no files
 abbrev pub with_run_options : App → App
-with_run_options line = with_rule (with_rule (with_rule line (required_option (codes "stamp"))) workers_option)
-    (flag (codes "plain"))
+with_run_options line = with_ways (with_rule (with_rule line (required_option (codes "stamp"))) workers_option)
 
 -- the line with the options of `run` for a run that nobody watches
 abbrev pub with_watch : App → App
-with_watch line = with_rule (with_rule (with_rule line (flag (codes "safe"))) verbose_flag) (optional_option (codes "log"))
+with_watch line = with_rule (with_rule (with_rule (with_rule line (flag (codes "safe"))) verbose_flag)
+    (optional_option (codes "log"))) (flag (codes "sums"))
 
--- `run --sheet F --books F --batch F --response F --books-out F --settlement F --stamp S --workers N [--plain] [--safe]
--- [-v] [--log F]`
+-- `run --sheet F --books F --batch F --response F --books-out F --settlement F --stamp S --workers N [--plain] [--desk]
+-- [--safe] [-v] [--log F] [--sums]`
 abbrev pub run_line : App
 run_line = with_watch (with_run_options (with_outputs (with_inputs (new_app (codes "run")))))
 
@@ -82,10 +86,10 @@ explain_line = with_rule (with_rule (with_asked (with_inputs (new_app (codes "ex
 
 -- the line with the options of `verify` that are no files
 abbrev pub with_verify_options : App → App
-with_verify_options line = with_rule (with_rule (with_rule line (required_option (codes "stamp")))
-    (record workers_option { required = false })) (flag (codes "plain"))
+with_verify_options line = with_ways (with_rule (with_rule line (required_option (codes "stamp")))
+    (record workers_option { required = false }))
 
--- `verify --sheet F --books F --batch F --response F --books-out F --settlement F --stamp S [--workers N] [--plain]`
+-- `verify --sheet F --books F --batch F --response F --books-out F --settlement F --stamp S [--workers N] [--plain] [--desk]`
 abbrev pub verify_line : App
 verify_line = with_verify_options (with_outputs (with_inputs (new_app (codes "verify"))))
 

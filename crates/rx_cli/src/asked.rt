@@ -17,12 +17,16 @@ pub struct RunWords<'a> {
     pub workers: u16,
     /// `--plain`: adjudicate over plain lists, one record after another.
     pub plain: bool,
+    /// `--desk`: hand the records out to the workers one by one.
+    pub desk: bool,
     /// `--safe`: each output takes its path only where the whole run is done.
     pub safe: bool,
     /// `--verbose`: the steps of the run and its faults in words.
     pub verbose: bool,
     /// `--log`: the file for a line about the run.
     pub log: Option<&'a str>,
+    /// `--sums`: the SHA-256 of each file in that line.
+    pub sums: bool,
 }
 
 impl<'a> RunWords<'a> {

@@ -40,6 +40,8 @@ pub struct VerifyWords<'a> {
     pub workers: u16,
     /// `--plain`: adjudicate over plain lists, one record after another.
     pub plain: bool,
+    /// `--desk`: hand the records out to the workers one by one.
+    pub desk: bool,
 }
 
 /// Which lines a report has.

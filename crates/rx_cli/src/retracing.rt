@@ -51,13 +51,13 @@ pub(crate) fn verify<'a>(found: &ArgMatches<'a>) -> Option<VerifyWords<'a>>
     let outputs = outputs(found)?;
     let stamp = text(found, "stamp")?;
     let workers = number_or(found, "workers", 1)?;
-    let plain = flag(found, "plain");
     Some(VerifyWords {
         inputs,
         outputs,
         stamp,
         workers,
-        plain,
+        plain: flag(found, "plain"),
+        desk: flag(found, "desk"),
     })
 }
 

@@ -2,7 +2,7 @@
 ghost use Rattle.std.specs.Prelude.{◌≡◌, false, IfOk};
 ghost use Rattle.clap.specs.Words.{App, app_of, new_app, rule_of};
 ghost use Rattle.rx_cli.specs.Syntax.{Draws, IsLocal, flag, optional_option, required_option, verbose_flag, workers_option};
-ghost use Rattle.rx_cli.specs.Syntax.{with_inputs, with_outputs, with_run_options, with_watch};
+ghost use Rattle.rx_cli.specs.Syntax.{with_inputs, with_outputs, with_run_options, with_watch, with_ways};
 ghost use Rattle.rx_cli.specs.Syntax.{check_line, plan_line, run_line, show_line, with_adjudication};
 ghost use Rattle.rx_cli.specs.Syntax.{explain_line, replies_line, report_line, verify_line, with_retracing};
 ghost use Rattle.rx_cli.specs.Syntax.{whole_line, with_asked, with_forms, with_verify_options};
@@ -123,12 +123,24 @@ fn takes_run_options<'a>(alloc: Global, line: Draft<'a>) -> Draft<'a>
     ensures { (app : App) → Draws app line.entry → Draws (with_run_options app) result }
 {
     let stamp = option(alloc, "stamp", "STAMP", "Date and time, CCYYMMDDHHMM");
+    takes_ways(alloc, line.arg(stamp).arg(workers(alloc)))
+}
+
+/// A line with the other ways to adjudicate, which change no byte of an output.
+fn takes_ways<'a>(alloc: Global, line: Draft<'a>) -> Draft<'a>
+    ensures { (app : App) → Draws app line.entry → Draws (with_ways app) result }
+{
     let plain = flag(
         alloc,
         "plain",
         "Work over plain lists, one record after another",
     );
-    line.arg(stamp).arg(workers(alloc)).arg(plain)
+    let desk = flag(
+        alloc,
+        "desk",
+        "Hand the records out to the workers one by one",
+    );
+    line.arg(plain).arg(desk)
 }
 
 /// A line with the options of `run` for a run that nobody watches.
@@ -147,7 +159,8 @@ fn takes_watch<'a>(alloc: Global, line: Draft<'a>) -> Draft<'a>
         "FILE",
         "Log of the run, a line of JSON, to be written",
     );
-    line.arg(safe).arg(verbose).arg(log)
+    let sums = flag(alloc, "sums", "Write the SHA-256 of each file into the log");
+    line.arg(safe).arg(verbose).arg(log).arg(sums)
 }
 
 /// The subcommand `run`.
@@ -232,12 +245,7 @@ fn takes_verify_options<'a>(alloc: Global, line: Draft<'a>) -> Draft<'a>
 {
     let stamp = option(alloc, "stamp", "STAMP", "Date and time, CCYYMMDDHHMM");
     let workers = workers(alloc).required(false);
-    let plain = flag(
-        alloc,
-        "plain",
-        "Work over plain lists, one record after another",
-    );
-    line.arg(stamp).arg(workers).arg(plain)
+    takes_ways(alloc, line.arg(stamp).arg(workers))
 }
 
 /// The subcommand `verify`.

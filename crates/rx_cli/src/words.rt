@@ -54,9 +54,11 @@ fn run<'a>(found: &ArgMatches<'a>) -> Option<RunWords<'a>>
         stamp,
         workers,
         plain: flag(found, "plain"),
+        desk: flag(found, "desk"),
         safe: flag(found, "safe"),
         verbose: flag(found, "verbose"),
         log: text(found, "log"),
+        sums: flag(found, "sums"),
     })
 }
 

@@ -6,6 +6,7 @@ use Rattle.rx_run_log.specs.declared.report.Counted.TheVariants as counted
 use Rattle.rx_run_log.specs.declared.report.RunReport.{RunReport}
 use Rattle.rx_run_log.specs.declared.step.Step.{Step}
 use Rattle.rx_run_log.specs.declared.step.Step.TheVariants as step
+use Rattle.rx_run_log.specs.declared.report.Shards.{Shards}
 use Rattle.rx_run_log.specs.declared.report.StepReport.{StepReport}
 use Rattle.rx_print.specs.Decimal.{grouped}
 use Rattle.rx_run_log.specs.Numbers.{net_text, size_text, time_text}
@@ -63,6 +64,12 @@ totals_part (Some t) = codes "  " ++ totals_text t
 -- LABEL  COUNT lines  SIZE  TIME
 abbrev pub step_text : StepReport → List ℕ
 step_text r = label_of r.step ++ (counted_part r.counted ++ (size_part r.bytes ++ (time_part r.micros ++ 10 ∷ [])))
+
+-- shards  COUNT, the largest has COUNT of ALL transactions
+abbrev pub shards_text : Shards → List ℕ
+shards_text s =
+    codes "shards       " ++ (grouped s.count ++ (codes ", the largest has " ++ (grouped s.largest
+    ++ (codes " of " ++ (grouped s.transactions ++ (codes " transactions" ++ 10 ∷ []))))))
 
 -- adjudicated  COUNT of ALL records
 abbrev pub progress_text : ℕ → ℕ → List ℕ

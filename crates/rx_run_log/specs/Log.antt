@@ -8,6 +8,7 @@ use Rattle.rx_io.specs.declared.files.Outputs.{Outputs}
 use Rattle.rx_run_log.specs.declared.log.FileLog.{FileLog}
 use Rattle.rx_run_log.specs.declared.header.Lot.{Lot}
 use Rattle.rx_run_log.specs.declared.log.RunLog.{RunLog}
+use Rattle.rx_run_log.specs.declared.report.Shards.{Shards}
 use Rattle.rx_run_log.specs.declared.step.Step.TheVariants as step
 use Rattle.rx_run_log.specs.declared.step.StepTimes.{StepTimes}
 use Rattle.rx_run_log.specs.declared.settlement.Totals.{Totals}
@@ -69,8 +70,16 @@ steps_data s =
 
 -- the words of the run
 abbrev pub words_data : RunLog → Data
-words_data r = object (member (codes "plain") (boolean r.plain) (member (codes "safe") (boolean r.safe)
-    (member (codes "stamp") (string r.stamp.now) (member (codes "workers") (number (unsigned r.workers)) no_members))))
+words_data r = object (member (codes "desk") (boolean r.desk) (member (codes "plain") (boolean r.plain)
+    (member (codes "safe") (boolean r.safe) (member (codes "stamp") (string r.stamp.now)
+    (member (codes "workers") (number (unsigned r.workers)) no_members)))))
+
+-- how the batch was dealt out in shards, null where it wasn't
+abbrev pub shards_data : Option Shards → Data
+shards_data None = null
+shards_data (Some s) = object (member (codes "count") (number (unsigned s.count))
+    (member (codes "largest") (number (unsigned s.largest))
+    (member (codes "transactions") (number (unsigned s.transactions)) no_members)))
 
 -- the whole
 abbrev pub log_data : RunLog → Data
@@ -78,5 +87,6 @@ log_data r = object (member (codes "file") (number_data r.file) (member (codes "
     (member (codes "lot") (lot_data r.lot) (member (codes "microseconds") (steps_data r.steps)
     (member (codes "outputs") (outputs_data r.outputs) (member (codes "peak_kilobytes") (number_data r.peak)
     (member (codes "refused") (refused_data r.refused) (member (codes "run") (words_data r)
-    (member (codes "status") (number (unsigned r.status)) (member (codes "totals") (totals_data r.totals)
-    (member (codes "version") (string r.version.now) no_members)))))))))))
+    (member (codes "shards") (shards_data r.shards) (member (codes "status") (number (unsigned r.status))
+    (member (codes "totals") (totals_data r.totals)
+    (member (codes "version") (string r.version.now) no_members))))))))))))

@@ -10,9 +10,9 @@ use Rattle.rx_run_log.specs.declared.traffic.TheConstants.{KEPT}
 abbrev pub last_of : ℕ → List ℕ → List ℕ
 last_of n items = drop (length items - n) items
 
--- the sum is of these bytes, and the front and the end are theirs
+-- the sum, where one is made, is of these bytes, and the front and the end are theirs
 pub record IsTrafficOf (t : Traffic) (bytes : List ℕ) : Type 0 where
-  pub sum : Holds256 t.sum bytes
+  pub sum : IfSome t.sum (λ sum. Holds256 sum bytes)
   pub front : t.front.items ≡ take KEPT bytes
   pub end : t.end.items ≡ last_of KEPT bytes
 

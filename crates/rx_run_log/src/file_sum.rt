@@ -16,7 +16,7 @@ pub struct FileSum {
 }
 
 impl FileSum {
-    /// Of a file through which this passed. There is no sum where memory was wanting for it.
+    /// Of a file through which this passed. There is no sum where none was made, and where memory ran out for it.
     pub fn of(alloc: Global, traffic: &Traffic) -> FileSum
         ensures bytes { result.bytes ≡ bytes_passed traffic.now }
         ensures sha256 { (bytes : List ℕ) → IsTrafficOf traffic.now bytes
@@ -57,6 +57,6 @@ fn sum_of(alloc: Global, traffic: &Traffic) -> Option<String>
     ensures { (bytes : List ℕ) → IsTrafficOf traffic.now bytes
         → IfSome result (λ text. string_bytes text ≡ encode_lower (sha256 bytes)) }
 {
-    let digest = traffic.digest().ok()?;
+    let digest = traffic.digest().ok()??;
     hex::encode(alloc, digest.as_slice()).ok()
 }

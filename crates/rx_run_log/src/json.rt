@@ -2,10 +2,11 @@ ghost use Rattle.std.specs.Prelude.{◌≡◌, IfOk, string_bytes};
 ghost use Rattle.serde_json.specs.View.{view};
 ghost use Rattle.serde_json.specs.Written.{IsInOrder};
 ghost use Rattle.rx_run_log.specs.Log.{file_data, inputs_data, log_data, lot_data, number_data, outputs_data, refused_data};
-ghost use Rattle.rx_run_log.specs.Log.{steps_data, text_data, totals_data, words_data};
+ghost use Rattle.rx_run_log.specs.Log.{shards_data, steps_data, text_data, totals_data, words_data};
 
 use crate::header::Lot;
 use crate::log::{FileLog, RunLog};
+use crate::report::Shards;
 use crate::settlement::Totals;
 use crate::step::{Step, StepTimes};
 use rx_io::{Inputs, Outputs};
@@ -37,6 +38,7 @@ fn value(alloc: Global, log: &RunLog<'_>) -> Result<Value, AllocError>
         "peak_kilobytes": number(log.peak),
         "refused": refused(alloc, log.refused)?,
         "run": words(alloc, log)?,
+        "shards": shards(alloc, log.shards)?,
         "status": log.status,
         "totals": totals(alloc, log.totals)?,
         "version": log.version
@@ -128,11 +130,25 @@ fn words(alloc: Global, log: &RunLog<'_>) -> Result<Value, AllocError>
     ensures { IfOk result (λ v. view v ≡ words_data log.now) }
 {
     json!(in alloc; {
+        "desk": log.desk,
         "plain": log.plain,
         "safe": log.safe,
         "stamp": log.stamp,
         "workers": log.workers
     })
+}
+
+fn shards(alloc: Global, shards: Option<Shards>) -> Result<Value, AllocError>
+    ensures { IfOk result (λ v. view v ≡ shards_data shards) }
+{
+    match shards {
+        Some(shards) => json!(in alloc; {
+            "count": shards.count,
+            "largest": shards.largest,
+            "transactions": shards.transactions
+        }),
+        None => Ok(Value::Null),
+    }
 }
 
 fn totals(alloc: Global, totals: Option<Totals>) -> Result<Value, AllocError>

@@ -1,16 +1,16 @@
 //! How a run goes: what passes through its files, the lines that report its steps, and its log.
 //!
 //! - A watched device (`Watched`) stays the device that it is. Beside it out come the number of bytes that went through,
-//!   their SHA-256, the first and the last of them, and the times of the first and the last call (`Traffic`). `RunTraffic`
+//!   their SHA-256 where it is asked for, the first and the last of them, and the times of the first and the last call (`Traffic`). `RunTraffic`
 //!   has that of the six files of a run, and by it how long each step took.
-//! - `step_line`, `progress_line` and `done_line` spell numbers as people read them (`specs/Lines.antt`).
+//! - `step_line`, `shards_line`, `progress_line` and `done_line` spell numbers as people read them (`specs/Lines.antt`).
 //! - `log_line` is the log: one line of JSON, whose value is defined in `specs/Log.antt`. What it says of the batch and of
 //!   the answers is taken from the front of the batch file (`Lot`) and from the end of the settlement (`Totals`).
 //!
 //! ```rust
-//! let mut batch = Watched::new(ReaderSource::new(file), &rt);
+//! let mut batch = Watched::new(ReaderSource::new(file), &rt, true);
 //! let text = rx_io::read_all(alloc, &mut batch)?;
-//! let digest = batch.traffic().digest()?;
+//! let digest = batch.traffic().digest()?;             // Some
 //! let line = rx_run_log::step_line(alloc, &step)?;    // books        990,001 lines  78.0 MB  0.21 s
 //! let line = rx_run_log::log_line(alloc, &log)?;
 //! ```
@@ -38,9 +38,9 @@ mod watched;
 pub use file_sum::FileSum;
 pub use header::Lot;
 pub use json::log_line;
-pub use lines::{done_line, progress_line, step_line};
+pub use lines::{done_line, progress_line, shards_line, step_line};
 pub use log::{FileLog, RunLog};
-pub use report::{Counted, RunReport, StepReport};
+pub use report::{Counted, RunReport, Shards, StepReport};
 pub use run_traffic::{RunTraffic, details_in, input_report};
 pub use settlement::Totals;
 pub use step::{Step, StepTimes};

@@ -1,10 +1,10 @@
 ghost use Rattle.std.specs.Prelude.{◌≡◌, ◌++◌, IfOk, OnOk};
 ghost use Rattle.rx_print.specs.Decimal.{grouped};
 ghost use Rattle.rx_run_log.specs.Lines.{totals_part, totals_text, counted_part, counted_text, done_text, ending, named};
-ghost use Rattle.rx_run_log.specs.Lines.{peak_part, progress_text, size_part, step_text, time_part};
+ghost use Rattle.rx_run_log.specs.Lines.{peak_part, progress_text, shards_text, size_part, step_text, time_part};
 
 use crate::numbers::{put_net, put_size, put_time};
-use crate::report::{Counted, RunReport, StepReport};
+use crate::report::{Counted, RunReport, Shards, StepReport};
 use crate::settlement::Totals;
 use rx_print::put_grouped;
 use std::alloc::{AllocError, Global};
@@ -24,6 +24,26 @@ pub fn step_line(alloc: Global, report: &StepReport) -> Result<Vec<u8>, AllocErr
     put_size_part(&mut line, report.bytes)?;
     put_time_part(&mut line, report.micros)?;
     line.push(b'\n')?;
+    Ok(line)
+}
+
+/// The line of a run whose records are dealt out in shards.
+///
+/// # Errors
+///
+/// Out of memory.
+#[tactic(auto, using(std::proofs::Common::append_assoc))]
+pub fn shards_line(alloc: Global, shards: &Shards) -> Result<Vec<u8>, AllocError>
+    ensures { IfOk result (λ line. line.items ≡ shards_text shards.now) }
+{
+    let mut line = Vec::new(alloc);
+    line.extend_from_slice(b"shards       ")?;
+    put_grouped(&mut line, shards.count)?;
+    line.extend_from_slice(b", the largest has ")?;
+    put_grouped(&mut line, shards.largest)?;
+    line.extend_from_slice(b" of ")?;
+    put_grouped(&mut line, shards.transactions)?;
+    line.extend_from_slice(b" transactions\n")?;
     Ok(line)
 }
 

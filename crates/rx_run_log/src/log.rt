@@ -1,4 +1,5 @@
 use crate::header::Lot;
+use crate::report::Shards;
 use crate::settlement::Totals;
 use crate::step::StepTimes;
 use rx_io::{Inputs, Outputs};
@@ -28,7 +29,10 @@ pub struct RunLog<'a> {
     pub stamp: &'a str,
     pub workers: u16,
     pub plain: bool,
+    pub desk: bool,
     pub safe: bool,
+    /// How the batch was dealt out, where it was.
+    pub shards: Option<Shards>,
     pub lot: Option<Lot<'a>>,
     pub totals: Option<Totals>,
     pub inputs: Inputs<FileLog<'a>>,

@@ -21,6 +21,16 @@ pub struct StepReport {
     pub micros: Option<u64>,
 }
 
+/// How a batch was dealt out to several workers, in shards that share no book.
+#[derive(Clone, Copy, Debug, PartialEq, Eq)]
+pub struct Shards {
+    pub count: u64,
+    /// How many transactions the largest shard has.
+    pub largest: u64,
+    /// How many all shards have together.
+    pub transactions: u64,
+}
+
 /// What is reported of a run that is done. What isn't known is `None`.
 #[derive(Clone, Copy, Debug)]
 pub struct RunReport {

@@ -35,14 +35,14 @@ impl RunTraffic {
     {
         RunTraffic {
             inputs: Inputs {
-                sheet: Traffic::new(),
-                books: Traffic::new(),
-                batch: Traffic::new(),
+                sheet: Traffic::new(false),
+                books: Traffic::new(false),
+                batch: Traffic::new(false),
             },
             outputs: Outputs {
-                response: Traffic::new(),
-                books: Traffic::new(),
-                settlement: Traffic::new(),
+                response: Traffic::new(false),
+                books: Traffic::new(false),
+                settlement: Traffic::new(false),
             },
         }
     }

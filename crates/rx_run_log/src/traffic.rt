@@ -1,4 +1,5 @@
-ghost use Rattle.std.specs.Prelude.{◌≡◌, ◌+◌, ◌-◌, ◌^◌, ◌≤◌, ◌++◌, [], ℕ, IfOk, List, None, length, min, take};
+ghost use Rattle.std.specs.Prelude.{◌≡◌, ◌+◌, ◌-◌, ◌^◌, ◌≤◌, ◌++◌, [], ℕ, IfOk, IfSome, List, None};
+ghost use Rattle.std.specs.Prelude.{is_some, length, min, take};
 ghost use Rattle.std.specs.Option.{option_or};
 ghost use Rattle.rx_batch.specs.declared.layout.TheConstants.{STX};
 ghost use Rattle.sha2.specs.Sha256.{sha256};
@@ -19,7 +20,8 @@ pub struct Traffic {
     bytes: u64,
     line_feeds: u64,
     starts: u64,
-    sum: Sha256,
+    // The sum of the bytes, where one is made.
+    sum: Option<Sha256>,
     front: ArrayVec<u8, KEPT>,
     end: ArrayVec<u8, KEPT>,
     first: Option<Duration>,
@@ -27,9 +29,10 @@ pub struct Traffic {
 }
 
 impl Traffic {
-    /// Nothing passed yet.
-    pub fn new() -> Traffic
+    /// Nothing passed yet. A sum of what passes is made where `sums` says so.
+    pub fn new(sums: bool) -> Traffic
         ensures traffic { IsTrafficOf result [] }
+        ensures sum { is_some result.sum ≡ sums }
         ensures bytes { result.bytes ≡ 0 }
         ensures line_feeds { result.line_feeds ≡ 0 }
         ensures starts { result.starts ≡ 0 }
@@ -42,7 +45,7 @@ impl Traffic {
             bytes: 0,
             line_feeds: 0,
             starts: 0,
-            sum: Sha256::new(),
+            sum: sums.then(|| Sha256::new()),
             front: ArrayVec::new(),
             end: ArrayVec::new(),
             first: None,
@@ -53,13 +56,16 @@ impl Traffic {
     /// Adds a piece that passed.
     pub fn add(&mut self, piece: &[u8])
         ensures traffic { Adds self.old self.new piece.now }
+        ensures sum { is_some self.new.sum ≡ is_some self.old.sum }
         ensures bytes { self.new.bytes ≡ min (self.old.bytes + length piece.now) (2 ^ 64 - 1) }
         ensures line_feeds { self.new.line_feeds ≡ min (self.old.line_feeds + count_of 10 piece.now) (2 ^ 64 - 1) }
         ensures starts { self.new.starts ≡ min (self.old.starts + count_of STX piece.now) (2 ^ 64 - 1) }
         ensures first { self.new.first ≡ self.old.first }
         ensures last { self.new.last ≡ self.old.last }
     {
-        self.sum.update(piece);
+        if let Some(sum) = &mut self.sum {
+            sum.update(piece);
+        }
         self.bytes = self.bytes.saturating_add(piece.len() as u64);
         self.line_feeds = self.line_feeds.saturating_add(count_of(b'\n', piece));
         self.starts = self.starts.saturating_add(count_of(STX, piece));
@@ -133,15 +139,20 @@ impl Traffic {
         self.last
     }
 
-    /// The SHA-256 of the bytes that passed.
+    /// The SHA-256 of the bytes that passed; none where no sum is made.
     ///
     /// # Errors
     ///
     /// Out of memory.
-    pub fn digest(&self) -> Result<[u8; 32], AllocError>
-        ensures { (bytes : List ℕ) → IsTrafficOf self.now bytes → IfOk result (λ digest. digest ≡ sha256 bytes) }
+    pub fn digest(&self) -> Result<Option<[u8; 32]>, AllocError>
+        ensures made { IfOk result (λ digest. is_some digest ≡ is_some self.now.sum) }
+        ensures value { (bytes : List ℕ) → IsTrafficOf self.now bytes
+            → IfOk result (λ digest. IfSome digest (λ d. d ≡ sha256 bytes)) }
     {
-        Ok(self.sum.clone()?.finalize())
+        match &self.sum {
+            Some(sum) => Ok(Some(sum.clone()?.finalize())),
+            None => Ok(None),
+        }
     }
 }
 

@@ -1,4 +1,4 @@
-ghost use Rattle.std.specs.Prelude.{◌≡◌, [], IfSome, Some};
+ghost use Rattle.std.specs.Prelude.{◌≡◌, [], IfSome, Some, is_some};
 ghost use Rattle.rx_run_log.specs.Traffic.{Adds, IsTrafficOf};
 
 use crate::traffic::Traffic;
@@ -13,14 +13,16 @@ pub struct Watched<'c, D, C> {
 }
 
 impl<'c, D, C: Clock> Watched<'c, D, C> {
-    /// The device, through which nothing passed yet, with the clock for its times.
-    pub fn new(device: D, clock: &'c C) -> Watched<'c, D, C>
+    /// The device, through which nothing passed yet, with the clock for its times. A sum of what passes is made where
+    /// `sums` says so.
+    pub fn new(device: D, clock: &'c C, sums: bool) -> Watched<'c, D, C>
         ensures device { result.device ≡ device }
         ensures traffic { IsTrafficOf result.traffic [] }
+        ensures sum { is_some result.traffic.sum ≡ sums }
     {
         Watched {
             device,
-            traffic: Traffic::new(),
+            traffic: Traffic::new(sums),
             clock,
         }
     }

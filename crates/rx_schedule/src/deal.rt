@@ -26,20 +26,20 @@ pub(crate) fn dealt(alloc: Global, mentions: &Mentions, most: usize) -> Result<V
     Ok(numbers)
 }
 
-/// How many transactions the records of the largest of so many shards have; each record has so many.
-pub(crate) fn largest_of(
+/// How many transactions the records of each of `count` shards have; `weights` has those of each record.
+pub(crate) fn loads_of(
     alloc: Global,
     numbers: &[usize],
     count: usize,
     weights: &[u32],
-) -> Result<u64, Memory> {
+) -> Result<Vec<u64>, Memory> {
     let mut loads = vec![in alloc; 0u64; count]?;
     for (number, weight) in numbers.iter().zip(weights) {
         if let Some(load) = loads.get_mut(*number) {
             *load = load.saturating_add(u64::from(*weight));
         }
     }
-    Ok(loads.iter().copied().max().unwrap_or(0))
+    Ok(loads)
 }
 
 // Writes the shard of each set at its first record: the heaviest set first, each to the lightest shard.

@@ -15,6 +15,8 @@ pub struct Shards {
     pub count: usize,
     /// How many transactions the records of the largest shard have.
     pub largest: u64,
+    /// How many all records have.
+    pub transactions: u64,
 }
 
 impl Shards {

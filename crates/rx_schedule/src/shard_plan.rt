@@ -5,7 +5,7 @@ ghost use Rattle.rx_schedule.specs.Mentions.{AreTied};
 ghost use Rattle.rx_schedule.specs.Shards.{IsGrouping};
 ghost use Rattle.rx_schedule.specs.Waves.{number_in};
 
-use crate::deal::{dealt, largest_of};
+use crate::deal::{dealt, loads_of};
 use crate::mentions::{Mention, mentions_of, weight_of};
 use crate::shard_numbers::Shards;
 use crate::ties::are_tied;
@@ -38,11 +38,12 @@ pub fn shards(
     let dealt = dealt(alloc, &mentions, most)?;
     let numbers = compared(alloc, &mentions.list, dealt, transmissions.len(), most)?;
     let count = count_of(&numbers, most);
-    let largest = largest_of(alloc, &numbers, count, &mentions.weights)?;
+    let loads = loads_of(alloc, &numbers, count, &mentions.weights)?;
     Ok(Shards {
         numbers,
         count,
-        largest,
+        largest: loads.iter().copied().max().unwrap_or(0),
+        transactions: sum_of(&loads),
     })
 }
 
@@ -52,15 +53,24 @@ fn in_one(alloc: Global, transmissions: &[Transmission]) -> Result<Shards, Memor
     ensures count { IfOk result (λ found. found.count ≡ 1) }
 {
     let numbers = vec![in alloc; 0; transmissions.len()]?;
-    let mut largest = 0u64;
+    let mut transactions = 0u64;
     for transmission in transmissions {
-        largest = largest.saturating_add(u64::from(weight_of(transmission)));
+        transactions = transactions.saturating_add(u64::from(weight_of(transmission)));
     }
     Ok(Shards {
         numbers,
         count: 1,
-        largest,
+        largest: transactions,
+        transactions,
     })
+}
+
+fn sum_of(loads: &[u64]) -> u64 {
+    let mut sum = 0u64;
+    for load in loads {
+        sum = sum.saturating_add(*load);
+    }
+    sum
 }
 
 // The numbers, where there is one for each of `count` records, below `most`, and mentions of one name are of records with

@@ -1,5 +1,16 @@
 ghost use Rattle.std.specs.Prelude.{◌≡◌, ℕ, Bool, true};
 
+/// How a batch was dealt out in shards, which share no book.
+#[derive(Clone, Copy, Debug, PartialEq, Eq)]
+pub struct Deal {
+    /// How many shards there are; a batch of one goes on the calling thread.
+    pub shards: usize,
+    /// How many transactions the largest has.
+    pub largest: u64,
+    /// How many all have together.
+    pub transactions: u64,
+}
+
 /// What a run passes on its way. Several threads use it at once, and no lock is held while they do.
 pub trait Gate {
     /// Whether each worker may start; workers are numbered from 1.
@@ -15,9 +26,8 @@ pub trait Gate {
     /// Passed after a record's adjudication, and before its parcel is given.
     fn leave(&self, place: usize);
 
-    /// Passed once where the records are dealt out in shards, which share no book: how many shards there are, and how many
-    /// transactions the largest has.
-    fn deal(&self, _shards: usize, _largest: u64) {}
+    /// Passed once where several workers adjudicate shards of the batch, before any does.
+    fn deal(&self, _deal: &Deal) {}
 
     /// Whether records may take their time here, because `enter` or `leave` waits, for another record perhaps. Then workers
     /// share the records one by one, at a desk; where it is false each worker adjudicates a shard, as a record takes less

@@ -4,7 +4,7 @@ ghost use Rattle.rx_schedule.specs.Shards.{list_at};
 ghost use Rattle.rx_wave.specs.Jobs.{ArePlaces, HasRun, IsFinished, IsJob};
 ghost use Rattle.rx_wave.specs.declared.shard.Ended.{Ended as EndedValue};
 
-use crate::gate::Gate;
+use crate::gate::{Deal, Gate};
 use crate::job::Job;
 use crate::joined::joined;
 use crate::shard::{Ended, run_shard};
@@ -29,10 +29,14 @@ pub(crate) fn run_in_shards<R: Threads + Sync, G: Gate + Sync>(
     ensures { IfOk result (λ answer. IfSome answer (IsFinished job.now)) }
 {
     let shards = shards(alloc, job.books, job.transmissions, workers as usize)?;
+    gate.deal(&Deal {
+        shards: shards.count,
+        largest: shards.largest,
+        transactions: shards.transactions,
+    });
     if shards.count < 2 {
         return Ok(None);
     }
-    gate.deal(shards.count, shards.largest);
     let places = shards.places(alloc)?;
     let ended = run_all(rt, alloc, gate, job, places)?;
     let _in_order = job.books.period();

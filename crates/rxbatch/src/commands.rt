@@ -1,6 +1,7 @@
 //! The commands that print a text, each from the files that its words name.
 use crate::ending::Ending;
 use crate::files::open_input;
+use crate::run_gate::RunGate;
 use crate::standard_output::{print, print_outcome};
 use crate::texts::{open_and_read, read_each, slices, text_in, text_of};
 use rx_cli::{
@@ -14,7 +15,6 @@ use rx_io::{Device, Inputs};
 use rx_report::Portion;
 use rx_show::replies_text;
 use rx_switch::{Job, plan_text, sample_line, show_text};
-use rx_wave::NoGate;
 use std::sync::Wait;
 use std::thread::Threads;
 
@@ -152,7 +152,10 @@ pub fn verify<R: Threads + Wait + Sync>(
         workers: words.workers,
         plain: words.plain,
     };
+    let gate = RunGate {
+        at_desk: words.desk,
+    };
     let files = outputs.as_ref().map(|text| text.as_slice());
-    let printed = rx_commands::verify(threads, rt.alloc(), &NoGate, &job, &files)?;
+    let printed = rx_commands::verify(threads, rt.alloc(), &gate, &job, &files)?;
     print_outcome(rt, &printed)
 }

@@ -2,14 +2,14 @@
 //!
 //! ```text
 //! rxbatch run --sheet F --books F --batch F --stamp S --workers N --response F --books-out F --settlement F [--plain]
-//!     [--safe] [--log F] [-v]
+//!     [--desk] [--safe] [--log F [--sums]] [-v]
 //! rxbatch show --sheet F --batch F [--tsv]          a line for each transaction
 //! rxbatch plan --sheet F --books F --batch F        the waves of the records, and the chain
 //! rxbatch check --sheet F [--books F] [--batch F]   the faults of these files in words, and warnings
 //! rxbatch explain --sheet F --books F --batch F (--record P[.N] | --number A | --rx R [--provider ID])
 //!     [--response F] [--json]                       why a claim was answered as it was
 //! rxbatch verify --sheet F --books F --batch F --stamp S --response F --books-out F --settlement F [--plain]
-//!     [--workers N]                                 whether the files of a run are what it gives
+//!     [--desk] [--workers N]                        whether the files of a run are what it gives
 //! rxbatch report --sheet F --books F --batch F [--provider ID | --family ID] [--tsv | --json | --html]
 //!                                                   a line for each answer, by provider, with counts and net
 //! rxbatch replies --response F                      a line for each answer of a response file
@@ -30,6 +30,7 @@ mod log_file;
 mod nodes;
 mod outputs;
 mod run_files;
+mod run_gate;
 mod safe_files;
 mod standard_output;
 mod teller;

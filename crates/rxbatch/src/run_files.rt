@@ -2,11 +2,11 @@ use crate::ending::Ending;
 use crate::files::open_inputs;
 use crate::nodes::{Node, one_file_twice};
 use crate::outputs::RunOutputs;
+use crate::run_gate::RunGate;
 use crate::watched_run;
 use rx_cli::RunWords;
 use rx_io::{Inputs, ReaderSource, WriterSink};
 use rx_switch::run_io;
-use rx_wave::NoGate;
 use std::fs::File;
 use std::sync::Wait;
 use std::thread::Threads;
@@ -66,12 +66,15 @@ fn on_files<R: Threads + Wait + Sync>(
     inputs: &Inputs<File>,
     outputs: &RunOutputs,
 ) -> Result<(), Ending> {
+    let gate = RunGate {
+        at_desk: words.desk,
+    };
     let mut sources = inputs.as_ref().map(|file| ReaderSource::new(file));
     let mut sinks = outputs.files().map(|file| WriterSink::new(file));
     let done = run_io(
         threads,
         rt.alloc(),
-        &NoGate,
+        &gate,
         words.stamp.as_bytes(),
         words.workers,
         words.plain,

@@ -1,10 +1,11 @@
 //! What a run tells on standard error while it goes on.
 use crate::watched_run::peak;
+use rx_cli::RunWords;
 use rx_run_log::{
-    RunReport, RunTimes, RunTraffic, Step, Totals, Traffic, details_in, done_line, input_report,
-    micros_between, progress_line, step_line,
+    RunReport, RunTimes, RunTraffic, Shards, Step, Totals, Traffic, details_in, done_line,
+    input_report, micros_between, progress_line, shards_line, step_line,
 };
-use rx_wave::Gate;
+use rx_wave::{Deal, Gate};
 use std::alloc::AllocError;
 use std::io::Write;
 use std::sync::atomic::{AtomicU64, Ordering};
@@ -20,6 +21,7 @@ const BETWEEN: u64 = 200;
 pub struct Teller<'a> {
     rt: &'a HostRuntime,
     is_asked: bool,
+    at_desk: bool,
     begin: Option<Duration>,
     // The details of the batch file.
     records: AtomicU64,
@@ -27,18 +29,38 @@ pub struct Teller<'a> {
     adjudicated: AtomicU64,
     // When progress was told last, in milliseconds from the begin.
     told: AtomicU64,
+    // How many shards the batch was dealt out in, 0 where it wasn't, and the transactions of the largest and of all.
+    shards: AtomicU64,
+    largest: AtomicU64,
+    transactions: AtomicU64,
 }
 
 impl<'a> Teller<'a> {
     /// Of a run that begins now.
-    pub fn new(rt: &'a HostRuntime, is_asked: bool) -> Teller<'a> {
+    pub fn new(rt: &'a HostRuntime, words: &RunWords<'_>) -> Teller<'a> {
         Teller {
             rt,
-            is_asked,
+            is_asked: words.verbose,
+            at_desk: words.desk,
             begin: rt.monotonic().ok(),
             records: AtomicU64::new(0),
             adjudicated: AtomicU64::new(0),
             told: AtomicU64::new(0),
+            shards: AtomicU64::new(0),
+            largest: AtomicU64::new(0),
+            transactions: AtomicU64::new(0),
+        }
+    }
+
+    /// How the batch was dealt out, where it was.
+    pub fn shards(&self) -> Option<Shards> {
+        match self.shards.load(Ordering::SeqCst) {
+            0 => None,
+            count => Some(Shards {
+                count,
+                largest: self.largest.load(Ordering::SeqCst),
+                transactions: self.transactions.load(Ordering::SeqCst),
+            }),
         }
     }
 
@@ -115,8 +137,17 @@ impl Gate for Teller<'_> {
         }
     }
 
+    fn deal(&self, deal: &Deal) {
+        self.shards.store(deal.shards as u64, Ordering::SeqCst);
+        self.largest.store(deal.largest, Ordering::SeqCst);
+        self.transactions.store(deal.transactions, Ordering::SeqCst);
+        if let Some(shards) = self.shards() {
+            self.tell(shards_line(self.rt.alloc(), &shards));
+        }
+    }
+
     // It counts, which takes less time than the record.
     fn holds_up(&self) -> bool {
-        false
+        self.at_desk
     }
 }

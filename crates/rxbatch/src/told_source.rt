@@ -21,11 +21,12 @@ impl<'a> ToldSource<'a> {
         file: &'a File,
         step: Step,
         teller: &'a Teller<'a>,
+        sums: bool,
     ) -> ToldSource<'a>
         ensures { ⟦<ToldSource<'a> as Source>⟧.failed result ≡ false }
     {
         ToldSource {
-            source: Watched::new(ReaderSource::new(file), rt),
+            source: Watched::new(ReaderSource::new(file), rt, sums),
             step,
             teller,
         }

@@ -6,7 +6,9 @@ use crate::teller::Teller;
 use crate::told_source::ToldSource;
 use rx_cli::{RunWords, VERSION};
 use rx_io::{Inputs, Outputs, WriterSink};
-use rx_run_log::{FileSum, Lot, RunLog, RunTimes, RunTraffic, Step, Totals, Watched, log_line};
+use rx_run_log::{
+    FileSum, Lot, RunLog, RunTimes, RunTraffic, Shards, Step, Totals, Watched, log_line,
+};
 use rx_switch::run_io;
 use std::fs;
 use std::sync::Wait;
@@ -22,16 +24,12 @@ pub fn run<R: Threads + Wait + Sync>(
     path: &str,
 ) -> Result<(), Ending> {
     let log = LogFile::open(rt, path, words)?;
-    let WatchedRun {
-        done,
-        traffic,
-        times,
-    } = watched(rt, threads, words);
-    let written = match line(rt, words, &done, &traffic, times) {
+    let run = watched(rt, threads, words);
+    let written = match line(rt, words, &run) {
         Some(line) => log.write(line.as_str()),
         None => Err(Ending::Log),
     };
-    match done {
+    match run.done {
         Ok(()) => written,
         Err(ending) => Err(ending),
     }
@@ -42,6 +40,7 @@ pub fn run<R: Threads + Wait + Sync>(
 pub struct WatchedRun {
     pub done: Result<(), Ending>,
     pub traffic: RunTraffic,
+    pub shards: Option<Shards>,
     pub times: RunTimes,
 }
 
@@ -51,7 +50,7 @@ pub fn watched<R: Threads + Wait + Sync>(
     threads: &R,
     words: &RunWords<'_>,
 ) -> WatchedRun {
-    let teller = Teller::new(rt, words.verbose);
+    let teller = Teller::new(rt, words);
     let (done, traffic) = match RunFiles::open(rt, words) {
         Ok(files) => on_files(rt, threads, words, files, &teller),
         Err(ending) => (Err(ending), RunTraffic::nothing()),
@@ -66,6 +65,7 @@ pub fn watched<R: Threads + Wait + Sync>(
     WatchedRun {
         done,
         traffic,
+        shards: teller.shards(),
         times,
     }
 }
@@ -79,15 +79,17 @@ fn on_files<R: Threads + Wait + Sync>(
     teller: &Teller<'_>,
 ) -> (Result<(), Ending>, RunTraffic) {
     let alloc = rt.alloc();
+    // Only the log has sums.
+    let sums = words.sums && words.log.is_some();
     let RunFiles { inputs, outputs } = files;
     let mut sources = Inputs {
-        sheet: ToldSource::new(rt, &inputs.sheet, Step::Sheet, teller),
-        books: ToldSource::new(rt, &inputs.books, Step::Books, teller),
-        batch: ToldSource::new(rt, &inputs.batch, Step::Batch, teller),
+        sheet: ToldSource::new(rt, &inputs.sheet, Step::Sheet, teller, sums),
+        books: ToldSource::new(rt, &inputs.books, Step::Books, teller, sums),
+        batch: ToldSource::new(rt, &inputs.batch, Step::Batch, teller, sums),
     };
     let mut sinks = outputs
         .files()
-        .map(|file| Watched::new(WriterSink::new(file), rt));
+        .map(|file| Watched::new(WriterSink::new(file), rt, sums));
     let done = run_io(
         threads,
         alloc,
@@ -106,19 +108,13 @@ fn on_files<R: Threads + Wait + Sync>(
 }
 
 // The line of the log; none where memory is wanting for it.
-fn line(
-    rt: &HostRuntime,
-    words: &RunWords<'_>,
-    done: &Result<(), Ending>,
-    traffic: &RunTraffic,
-    times: RunTimes,
-) -> Option<String> {
+fn line(rt: &HostRuntime, words: &RunWords<'_>, run: &WatchedRun) -> Option<String> {
     let alloc = rt.alloc();
-    let (status, refused, file) = match done {
+    let (status, refused, file) = match &run.done {
         Ok(()) => (0, None, None),
         Err(ending) => (ending.status(), ending.refused(), ending.file()),
     };
-    let (inputs, outputs) = (&traffic.inputs, &traffic.outputs);
+    let (inputs, outputs) = (&run.traffic.inputs, &run.traffic.outputs);
     let read = inputs.as_ref().map(|file| FileSum::of(alloc, file));
     let written = outputs.as_ref().map(|file| FileSum::of(alloc, file));
     let log = RunLog {
@@ -129,7 +125,9 @@ fn line(
         stamp: words.stamp,
         workers: words.workers,
         plain: words.plain,
+        desk: words.desk,
         safe: words.safe,
+        shards: run.shards,
         lot: Lot::of_batch(inputs.batch.front()),
         totals: Totals::of_settlement(outputs.settlement.end()),
         inputs: Inputs {
@@ -142,7 +140,7 @@ fn line(
             books: written.books.log(words.outputs.books),
             settlement: written.settlement.log(words.outputs.settlement),
         },
-        steps: traffic.steps(times),
+        steps: run.traffic.steps(run.times),
         peak: peak(rt),
     };
     log_line(alloc, &log).ok()

@@ -1,6 +1,6 @@
 use crate::same::same;
 use rx_io::{Inputs, Outputs};
-use rx_run_log::{FileLog, Lot, RunLog, StepTimes, Totals, log_line};
+use rx_run_log::{FileLog, Lot, RunLog, Shards, StepTimes, Totals, log_line};
 
 const FILE: FileLog<'static> = FileLog {
     path: "a \"b\"",
@@ -57,7 +57,13 @@ const REFUSED: RunLog<'static> = RunLog {
     stamp: "202603170600",
     workers: 4,
     plain: false,
+    desk: false,
     safe: true,
+    shards: Some(Shards {
+        count: 4,
+        largest: 25_312,
+        transactions: 100_000,
+    }),
     lot: None,
     totals: None,
     inputs: Inputs {
@@ -80,8 +86,10 @@ fn a_refused_run_has_a_line(rt: HostRuntime) {
     let front = "{\"file\":null,\"inputs\":{\"batch\":{\"bytes\":null,\"path\":\"a \\\"b\\\"\"";
     same(&rt, line.starts_with(front), true);
     let inner =
-        "\"peak_kilobytes\":4096,\"refused\":[5,1,0],\"run\":{\"plain\":false,\"safe\":true,";
+        "\"peak_kilobytes\":4096,\"refused\":[5,1,0],\"run\":{\"desk\":false,\"plain\":false,";
     same(&rt, line.contains(inner), true);
+    let shards = "\"shards\":{\"count\":4,\"largest\":25312,\"transactions\":100000}";
+    same(&rt, line.contains(shards), true);
     let end = "\"status\":1,\"totals\":null,\"version\":\"1.0.0\"}";
     same(&rt, line.ends_with(end), true);
 }

@@ -74,6 +74,7 @@ fn eight_equal_sets_over_four_shards(rt: HostRuntime) {
     let found = of_eight_families(&rt, rt.alloc());
     same(&rt, found.count, 4);
     same(&rt, found.largest, 10);
+    same(&rt, found.transactions, 40);
     for shard in 0..4 {
         same(&rt, size_of(&found, shard), 10);
     }
@@ -95,6 +96,7 @@ fn heavy_set_has_a_shard_of_its_own(rt: HostRuntime) {
     let found = of_a_heavy_family(&rt, rt.alloc());
     same(&rt, found.count, 3);
     same(&rt, found.largest, 31);
+    same(&rt, found.transactions, 70);
     same(&rt, size_of(&found, found.of(1)), 31);
     same(&rt, size_of(&found, found.of(2)), 20);
     same(&rt, size_of(&found, found.of(3)), 19);

@@ -1,6 +1,7 @@
 use crate::same::same;
 use rx_run_log::{
-    Counted, RunReport, Step, StepReport, Totals, done_line, progress_line, step_line,
+    Counted, RunReport, Shards, Step, StepReport, Totals, done_line, progress_line, shards_line,
+    step_line,
 };
 
 #[test]
@@ -34,6 +35,18 @@ fn a_run_that_goes_on(rt: HostRuntime) {
     let line = progress_line(rt.alloc(), 45_120, 100_000).expect(&rt, "memory");
     let wanted = b"adjudicated  45,120 of 100,000 records\n";
     same(&rt, line.as_slice(), wanted.as_slice());
+}
+
+#[test]
+fn shards_have_a_line(rt: HostRuntime) {
+    let shards = Shards {
+        count: 4,
+        largest: 25_312,
+        transactions: 100_000,
+    };
+    let line = shards_line(rt.alloc(), &shards).expect(&rt, "memory");
+    let text = b"shards       4, the largest has 25,312 of 100,000 transactions\n";
+    same(&rt, line.as_slice(), text.as_slice());
 }
 
 #[test]

@@ -12,14 +12,14 @@ fn is_abc(rt: &impl Abort, traffic: &Traffic) {
     same(rt, traffic.bytes(), 3);
     same(rt, traffic.front(), b"abc".as_slice());
     same(rt, traffic.end(), b"abc".as_slice());
-    let digest = traffic.digest().expect(rt, "a digest");
+    let digest = traffic.digest().expect(rt, "memory").expect(rt, "a digest");
     same(rt, digest.starts_with(OF_ABC), true);
     same(rt, traffic.first() <= traffic.last(), true);
 }
 
 #[test]
 fn what_is_read_is_counted(rt: HostRuntime) {
-    let mut source = Watched::new(SliceSource::new(b"abc", 2), &rt);
+    let mut source = Watched::new(SliceSource::new(b"abc", 2), &rt, true);
     let text = read_all(rt.alloc(), &mut source).expect(&rt, "a text");
     same(&rt, text.as_slice(), b"abc".as_slice());
     is_abc(&rt, source.traffic());
@@ -27,14 +27,14 @@ fn what_is_read_is_counted(rt: HostRuntime) {
 
 #[test]
 fn what_is_written_is_counted(rt: HostRuntime) {
-    let mut sink = Watched::new(VecSink::new(rt.alloc(), 2), &rt);
+    let mut sink = Watched::new(VecSink::new(rt.alloc(), 2), &rt, true);
     same(&rt, write_all(&mut sink, b"abc"), Ok(()));
     is_abc(&rt, sink.traffic());
 }
 
 #[test]
 fn the_first_and_the_last_bytes_are_kept(rt: HostRuntime) {
-    let mut traffic = Traffic::new();
+    let mut traffic = Traffic::new(false);
     traffic.add(&[b'a'; 200]);
     traffic.add(&[b'b'; 200]);
     traffic.add(b"c");
@@ -47,17 +47,18 @@ fn the_first_and_the_last_bytes_are_kept(rt: HostRuntime) {
 
 #[test]
 fn lines_and_records_are_counted(rt: HostRuntime) {
-    let mut traffic = Traffic::new();
+    let mut traffic = Traffic::new(false);
     traffic.add(b"\x0200\x03\n\x02G1\x03");
     traffic.add(b"\x0299\x03\n");
     same(&rt, traffic.line_feeds(), 2);
     same(&rt, traffic.starts(), 3);
+    same(&rt, traffic.digest().expect(&rt, "memory"), None);
 }
 
 #[test]
 fn a_failed_write_is_not_counted(rt: HostRuntime) {
     let sink = VecSink::new(rt.alloc(), 8).failing_after(0);
-    let mut sink = Watched::new(sink, &rt);
+    let mut sink = Watched::new(sink, &rt, true);
     same(&rt, sink.write(b"abc").is_err(), true);
     same(&rt, sink.traffic().bytes(), 0);
     same(&rt, sink.traffic().last(), None::<Duration>);

@@ -37,8 +37,10 @@ const RUN: &[&str] = &[
     "--response=e",
     "--books-out=f",
     "--settlement=g",
+    "--desk",
     "--safe",
     "--log=h",
+    "--sums",
 ];
 
 #[test]
@@ -49,9 +51,11 @@ fn run_has_each_option(rt: HostRuntime) {
         stamp: "d",
         workers: 65_535,
         plain: false,
+        desk: true,
         safe: true,
         verbose: true,
         log: Some("h"),
+        sums: true,
     };
     same(&rt, understood(&rt, rt.alloc(), RUN), Command::Run(wanted));
 }
@@ -116,6 +120,7 @@ fn verify_has_one_worker_unless_told(rt: HostRuntime) {
         stamp: "d",
         workers: 1,
         plain: false,
+        desk: false,
     };
     let given = understood(&rt, rt.alloc(), VERIFY);
     same(&rt, given, Command::Verify(wanted));

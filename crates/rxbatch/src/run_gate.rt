@@ -1,0 +1,26 @@
+//! The gate of a run that nobody watches.
+use rx_wave::Gate;
+
+/// It starts every worker and does nothing. At a desk the records are handed out one by one, else they go in shards.
+#[derive(Clone, Copy)]
+pub struct RunGate {
+    pub at_desk: bool,
+}
+
+impl Gate for RunGate {
+    ghost use Rattle.std.specs.Prelude.{true};
+
+    ghost starts = { λ _ _. true };
+
+    fn start(&self, _worker: usize) -> bool {
+        true
+    }
+
+    fn enter(&self, _place: usize) {}
+
+    fn leave(&self, _place: usize) {}
+
+    fn holds_up(&self) -> bool {
+        self.at_desk
+    }
+}
