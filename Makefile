@@ -64,9 +64,8 @@ cases: kit
 	python3 tests/run_replies.py $(PROGRAM)
 	python3 tests/run_report.py $(PROGRAM)
 	test -x $(TRIALS) || (cd crates/rx_bench && rt run -- orders 1 > /dev/null)
-	python3 tests/run_held.py $(TRIALS)
-	if command -v cc > /dev/null; then python3 tests/refused_memory.py $(PROGRAM) && \
-	  python3 tests/refused_memory.py "$(TRIALS) held 0" --workers 2; fi
+	python3 tests/refused_memory.py $(PROGRAM)
+	python3 tests/refused_desk.py "$(TRIALS) orders" --jobs 3
 
 demo: kit
 	cd crates/rxbatch && rt run -- sample

@@ -1,10 +1,10 @@
 #!/usr/bin/env python3
 """Runs one contended job again and again with many workers, and compares every answer with that of one worker.
 
-    tests/contended_runs.py PROGRAM [--runs N] [--workers W] [--records R] [--families F] [--jobs J] [--seconds S]
+    tests/contended_runs.py PROGRAM [--desk] [--runs N] [--workers W] [--records R] [--families F] [--jobs J] [--seconds S]
 
 PROGRAM is a path or a command line. The job is made by bench/make_job.py: R records over F families, so that nearly
-every record waits for another. Each run has to end by itself within S seconds, with status 0 and the three outputs of
+every record waits for another; with `--desk` its runs share the records at a desk. Each run has to end by itself within S seconds, with status 0 and the three outputs of
 the run with one worker; the first that doesn't is told with what differs. The last line is `N passed, M failed`.
 """
 
@@ -32,10 +32,10 @@ def made_job(folder, records, families):
         return file.read()
 
 
-def answer_of(program, folder, stamp, workers, seconds):
+def answer_of(program, folder, stamp, workers, at_desk, seconds):
     """The status, what stood on standard error, and a digest of each output."""
     with tempfile.TemporaryDirectory(prefix="rxbatch-contended-") as into:
-        words = ["run", "--stamp", stamp, "--workers", str(workers)]
+        words = ["run", "--stamp", stamp, "--workers", str(workers)] + ["--desk"] * at_desk
         for files, place in ((INPUTS, folder), (OUTPUTS, into)):
             for option, name in files.items():
                 words += [option, os.path.join(place, name)]
@@ -53,6 +53,7 @@ def answer_of(program, folder, stamp, workers, seconds):
 def main(words):
     parser = argparse.ArgumentParser(description=__doc__, formatter_class=argparse.RawDescriptionHelpFormatter)
     parser.add_argument("program", metavar="PROGRAM")
+    parser.add_argument("--desk", action="store_true", help="run with --desk")
     parser.add_argument("--runs", type=int, default=10_000)
     parser.add_argument("--workers", type=int, default=64)
     parser.add_argument("--records", type=int, default=200)
@@ -64,11 +65,11 @@ def main(words):
     passed = failed = 0
     with tempfile.TemporaryDirectory(prefix="rxbatch-contended-") as folder:
         stamp = made_job(folder, options.records, options.families)
-        wanted = answer_of(program, folder, stamp, 1, options.seconds)
+        wanted = answer_of(program, folder, stamp, 1, False, options.seconds)
         if wanted[0] != 0:
             sys.exit(f"one worker answers {wanted[0]}: {wanted[1]!r}")
         with concurrent.futures.ThreadPoolExecutor(options.jobs) as pool:
-            runs = pool.map(lambda _: answer_of(program, folder, stamp, options.workers, options.seconds),
+            runs = pool.map(lambda _: answer_of(program, folder, stamp, options.workers, options.desk, options.seconds),
                             range(options.runs))
             for number, got in enumerate(runs, 1):
                 if got == wanted:

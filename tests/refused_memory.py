@@ -1,11 +1,11 @@
 #!/usr/bin/env python3
 """Runs a program with rxbatch's words on worked cases while its Nth request for memory is refused, for N = 1, 2 and on.
 
-    tests/refused_memory.py PROGRAM [--only WORD] [--workers N] [--all] [--step N] [--seconds S]
+    tests/refused_memory.py PROGRAM [--only WORD] [--all] [--step N] [--seconds S]
 
 PROGRAM is a path or a command line. A library is compiled with `cc` from refused_memory.c beside this file and preloaded
-into the program; without `cc` nothing can be tried. Each job runs plainly and with 1 and 2 workers; with `--workers N` by so
-many alone. With `--all` each later request is refused too; with `--step N` only each Nth is tried.
+into the program; without `cc` nothing can be tried. Each job runs with 1 worker, plainly too, and with 2 workers, at a desk
+too. With `--all` each later request is refused too; with `--step N` only each Nth is tried.
 
 A run has to end by itself. It answers what it answers with ample memory, or want of memory: status 1 with the line
 `refused 6 0 0` (or without a line, where no memory is left to write one), and then its outputs are empty; or, where a
@@ -30,7 +30,7 @@ from run_cases import HERE, OUTPUTS, read
 JOBS = ("one-billing", "three-fills-reach-the-family-maximum", "reverse-twice-and-bill-again",
         "four-transactions-in-one-record", "family-deductible")
 REFUSALS = ("damaged-books/01-", "damaged-sheets/1-", "cut-and-damaged-files/10-")
-WAYS = (("1", True), ("1", False), ("2", False))
+WAYS = (("1", "--plain"), ("1", None), ("2", None), ("2", "--desk"))
 MEMORY = b"refused 6 0 0\n"
 
 
@@ -73,9 +73,9 @@ def kind_of(wanted, got):
     return "a file" if got.status == 3 and got.stderr.startswith(b"file ") else None
 
 
-def sweep(settings, folder, number, plain, into):
+def sweep(settings, folder, number, way, into):
     """How often each kind was answered, and the first wrong answer, None where there is none."""
-    words, wanted = run_cases.run_words(folder, number, plain), run_cases.wanted_of_run(folder)
+    words, wanted = run_cases.run_words(folder, number, way), run_cases.wanted_of_run(folder)
     kinds = Counter()
     for request in itertools.count(1, settings.step):
         run_cases.fresh_copy(folder, into)
@@ -104,7 +104,6 @@ def main(words):
     parser = argparse.ArgumentParser(description=__doc__, formatter_class=argparse.RawDescriptionHelpFormatter)
     parser.add_argument("program", metavar="PROGRAM")
     parser.add_argument("--only", default="", help="only cases with this word in their path")
-    parser.add_argument("--workers", help="only runs with so many workers, and none plainly")
     parser.add_argument("--all", action="store_true", help="refuse all later requests too")
     parser.add_argument("--step", type=int, default=1)
     parser.add_argument("--seconds", type=float, default=60, help="for one run of the program; default: 60")
@@ -114,14 +113,13 @@ def main(words):
         parser.error(f"can't run {options.program}")
     if shutil.which("cc") is None:
         parser.error("there is no cc to compile refused_memory.c with")
-    ways = [(options.workers, False)] if options.workers else WAYS
     passed = failed = 0
     with tempfile.TemporaryDirectory(prefix="rxbatch-refused-") as top:
         settings = Settings(program, compiled(top), options.all, options.step, options.seconds)
         for folder in swept_folders(options.only):
-            for number, plain in ways:
-                kinds, found = sweep(settings, folder, number, plain, os.path.join(top, "case"))
-                name = f"{os.path.relpath(folder, os.path.join(HERE, 'cases'))}, workers {number}{', plain' * plain}"
+            for number, way in WAYS:
+                kinds, found = sweep(settings, folder, number, way, os.path.join(top, "case"))
+                name = f"{os.path.relpath(folder, os.path.join(HERE, 'cases'))}, workers {number}{', ' + way if way else ''}"
                 counts = ", ".join(f"{count} times {kind}" for kind, count in sorted(kinds.items()))
                 print(f"{name}: {counts or 'no request refused'}" + (f"; {found}" if found else ""), flush=True)
                 passed, failed = passed + (found is None), failed + (found is not None)

@@ -5,8 +5,8 @@
 
 PROGRAM is a path or a command line. The cases are the folders below DIR (tests/cases beside this file); tests/cases/README.md
 names their files. Each case is copied to a temporary folder and run there: `run` with workers 1, 2 and 64 and with the
-number that the case names, each also with `--plain`; then `show` and `sample` where the case has their texts, and
-with `--plan` also `plan`. Compared are the exit status, standard output, standard error and the output files, and the
+number that the case names, each also with `--plain`, and with `--desk` and workers 2, 3 and 64; then `show` and `sample`
+where the case has their texts, and with `--plan` also `plan`. Compared are the exit status, standard output, standard error and the output files, and the
 inputs have to stay as they were. A folder without `status` has no wanted answer: there all runs have to answer the
 same.
 
@@ -29,6 +29,7 @@ INPUTS = {"--sheet": "sheet.toml", "--books": "books.txt", "--batch": "batch.bin
 OUTPUTS = {"--response": "response.bin", "--books-out": "books-out.txt", "--settlement": "settlement.txt"}
 TEXTS = {"show": ("--sheet", "--batch"), "plan": ("--sheet", "--books", "--batch"), "sample": ()}
 NUMBERS_OF_WORKERS = ("1", "2", "64")
+WORKERS_AT_A_DESK = ("2", "3", "64")
 ANSWERS = ("status", "show", "show-refused", "plan", "plan-refused", "sample")
 
 
@@ -64,21 +65,24 @@ def case_folders(top):
 
 # ---------------------------------------------------------------- what is run
 
-def run_words(folder, number, plain):
+def run_words(folder, number, way=None):
     paths = {**INPUTS, **OUTPUTS}
     words = ["run"] + [word for pair in paths.items() for word in pair]
     stamp = os.fsdecode(read(folder, "stamp"))
-    return words + ["--stamp", stamp, "--workers", number] + ["--plain"] * plain
+    return words + ["--stamp", stamp, "--workers", number] + ([way] if way else [])
 
 
 def text_words(name):
     return [name] + [word for option in TEXTS[name] for word in (option, INPUTS[option])]
 
 
-def numbers_of_workers(folder):
-    """The case's own number and the usual ones; its own alone where that is no lawful number."""
+def ways_of(folder):
+    """The numbers of workers, each with an option or none: the case's own and the usual ones; its own only where that is no
+    lawful number."""
     own = read(folder, "workers").decode()
-    return list(dict.fromkeys((own,) + NUMBERS_OF_WORKERS)) if 1 <= int(own) <= 64 else [own]
+    numbers = list(dict.fromkeys((own,) + NUMBERS_OF_WORKERS)) if 1 <= int(own) <= 64 else [own]
+    at_a_desk = WORKERS_AT_A_DESK if len(numbers) > 1 else numbers
+    return [(number, way) for number in numbers for way in (None, "--plain")] + [(number, "--desk") for number in at_a_desk]
 
 
 def wanted_of_run(folder):
@@ -106,9 +110,9 @@ def runs_of(folder, settings):
     runs = []
     if read(folder, "workers") is not None and read(folder, "stamp") is not None:
         wanted = wanted_of_run(folder)
-        for number in numbers_of_workers(folder):
-            runs.append((f"run, {number} workers", run_words(folder, number, False), wanted))
-            runs.append((f"run, {number} workers, plain", run_words(folder, number, True), wanted))
+        for number, way in ways_of(folder):
+            name = f"run, {number} workers" + (f", {way}" if way else "")
+            runs.append((name, run_words(folder, number, way), wanted))
     for name in TEXTS:
         has = read(folder, name) is not None or read(folder, name + "-refused") is not None
         if has and (name != "plan" or settings.plan):

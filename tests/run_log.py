@@ -37,9 +37,10 @@ def logged(program, folder, stamp, more=(), changed=None):
     return ended, json.loads(text) if text.endswith(b"\n") and text.count(b"\n") == 1 else None
 
 
-def told_of(path):
+def log_of(path, more):
+    """What the log says of a file."""
     text = path.read_bytes()
-    return {"path": path.name, "bytes": len(text), "sha256": hashlib.sha256(text).hexdigest()}
+    return {"path": path.name, "bytes": len(text), "sha256": hashlib.sha256(text).hexdigest() if "--sums" in more else None}
 
 
 def unknown(name):
@@ -53,6 +54,17 @@ def differs(wanted, log):
     return None
 
 
+def shards_fault(log, more):
+    """What is wrong with the shards of a log: the transactions are those of the totals, since no header is rejected here."""
+    shards = log["shards"]
+    if "--plain" in more or "--desk" in more:
+        return None if shards is None else f"shards is {shards}"
+    transactions = sum(log["totals"][name] for name in ("paid", "duplicate", "approved", "rejected"))
+    holds = (shards is not None and shards["transactions"] == transactions and 1 <= shards["count"] <= 2
+             and transactions <= shards["count"] * shards["largest"] and shards["largest"] <= transactions)
+    return None if holds else f"shards is {shards}, of {transactions} transactions"
+
+
 def done(program, folder, case, more):
     stamp = (case / "stamp").read_text()
     ended, log = logged(program, folder, stamp, more)
@@ -63,13 +75,13 @@ def done(program, folder, case, more):
     header = header[header.index(b"\x02"):]
     wanted = {
         "status": 0, "refused": None, "file": None,
-        "run": {"stamp": stamp, "workers": 2, "plain": "--plain" in more, "safe": "--safe" in more},
+        "run": {"stamp": stamp, "workers": 2, "plain": "--plain" in more, "desk": "--desk" in more, "safe": "--safe" in more},
         "lot": {"number": header[28:35].decode(), "created": header[35:43].decode()},
         "totals": dict(zip(("paid", "duplicate", "approved", "rejected", "net"), map(int, total[1:]))),
-        "inputs": {name: told_of(folder / path) for name, path in INPUTS.items()},
-        "outputs": {name: told_of(case / path) for name, path in OUTPUTS.items()},
+        "inputs": {name: log_of(folder / path, more) for name, path in INPUTS.items()},
+        "outputs": {name: log_of(case / path, more) for name, path in OUTPUTS.items()},
     }
-    fault = differs(wanted, log)
+    fault = differs(wanted, log) or shards_fault(log, more)
     if fault:
         return fault
     if set(log["microseconds"]) != STEPS or any(not isinstance(step, int) for step in log["microseconds"].values()):
@@ -84,8 +96,8 @@ def refused(program, folder, case, more):
     if ended.returncode != 1 or len(numbers) != 3:
         return f"status {ended.returncode}, {ended.stderr!r}"
     wanted = {"status": 1, "refused": numbers, "file": None, "totals": None,
-              "inputs": {name: told_of(folder / path) for name, path in INPUTS.items()},
-              "outputs": {name: unknown(path) for name, path in OUTPUTS.items()}}
+              "inputs": {name: log_of(folder / path, more) for name, path in INPUTS.items()},
+              "outputs": {name: unknown(path) for name, path in OUTPUTS.items()}, "shards": None}
     return differs(wanted, log)
 
 
@@ -165,7 +177,7 @@ def main(words):
     faults = [version_fault(program)]
     for case in (CASES / "one-billing", CASES / "family-deductible-after-a-reversal"):
         for way in WAYS:
-            for more in ([], ["--safe"], ["--plain"]):
+            for more in ([], ["--safe", "--sums"], ["--plain"], ["--desk", "--sums"]):
                 with tempfile.TemporaryDirectory(prefix="rxbatch-log-") as name:
                     folder = pathlib.Path(name)
                     for path in INPUTS.values():

@@ -500,6 +500,7 @@ def with_words(words, **changes):
 
 
 STEPS = input_steps(PLAIN)
+SHARDS = "shards       1, the largest has 1 of 1 transaction\n"
 ENDINGS = (
     Ending("check without a batch file", with_words(("check",) + INPUTS, batch="none.bin"), 3,
            "batch none.bin: No such file or directory (os error 2)\n", "file 3\n"),
@@ -551,10 +552,10 @@ def pipe_differences(program, seconds):
                   "/dev/stdin:5: no line of the head's version, or no line feed at its end\n")
         if got != wanted:
             found.append(f"books through a pipe: wanted {wanted!r}, got {got!r}")
-        words = ("run", "-v", "--log", "log.json") + INPUTS + RUN
+        words = with_words(("run", "-v", "--log", "log.json") + INPUTS + RUN, workers="2")
         status, out, err = answer(program, words, folder, seconds)
         got = (status, out, without_times(err), os.path.getsize(os.path.join(folder, "log.json")) > 0)
-        wanted = (0, "", STEPS + end_steps(folder, 1) if status == 0 else "", True)
+        wanted = (0, "", STEPS + SHARDS + end_steps(folder, 1) if status == 0 else "", True)
         if got != wanted:
             found.append(f"steps beside a log: wanted {wanted!r}, got {got!r}")
     return found

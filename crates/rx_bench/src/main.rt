@@ -1,9 +1,7 @@
 //! Times single calls, a module for each: `rx_bench NAME [FOLDER [MICROS]]`, on the inputs of a folder as
-//! `bench/make_job.py` writes them, or on one-billing (tests/cases/README.md); `bench/README.md` has the figures. Two
-//! further names are trials, which tests start and `tests/README.md` tells of: `rx_bench orders [COUNT]` drives desks
-//! in orders drawn at random, and `rx_bench held PLACE run ..` is `rxbatch run` at a gate that holds records up.
-//! Without a word each call is timed in a short round on one-billing, which says what it found, and the orders are
-//! driven.
+//! `bench/make_job.py` writes them, or on one-billing (tests/cases/README.md); `bench/README.md` has the figures.
+//! `rx_bench orders [COUNT]` is a trial, which a test starts (`tests/README.md`): it drives desks in orders drawn at random.
+//! Without a word each call is timed in a short round on one-billing, which says what it found, and the orders are driven.
 #![tactic(auto)]
 
 mod adjudicate;
@@ -80,14 +78,13 @@ fn done<R: Print + Clock + Files + Threads + Wait + Sync>(
             failed => told(rt, failed),
         };
     };
-    match (name.as_str(), words.get(2..)) {
-        ("held", Some(held)) => trials::held(rt, threads, held),
-        ("orders", _) => trials::orders(rt, words.get(2)),
-        (name, _) if NAMES.contains(&name) => told(
+    match name.as_str() {
+        "orders" => trials::orders(rt, words.get(2)),
+        name if NAMES.contains(&name) => told(
             rt,
             timed(threads, rt.alloc(), name, words.get(2), words.get(3)),
         ),
-        (name, _) => unknown(rt, name),
+        name => unknown(rt, name),
     }
 }
 
@@ -97,7 +94,7 @@ fn unknown(rt: &HostRuntime, name: &str) -> ExitCode {
     for known in NAMES {
         let _ = eprint!(rt; " {known},");
     }
-    let _ = eprintln!(rt; " orders and held");
+    let _ = eprintln!(rt; " and orders");
     status_of_words(false)
 }
 

@@ -1,16 +1,12 @@
-//! Two programs that tests of several workers start: desks driven in orders drawn at random, and `rxbatch run` at a gate that
-//! holds records up.
+//! Desks driven in orders drawn at random, which a test starts.
 
 mod compared;
 mod draw;
 mod drawn;
 mod driven;
-mod gate;
-mod held;
 mod miss;
 mod orders;
 mod plan;
 mod profile;
 
-pub use held::held;
 pub use orders::orders;

@@ -69,7 +69,7 @@ step_text r = label_of r.step ++ (counted_part r.counted ++ (size_part r.bytes +
 abbrev pub shards_text : Shards → List ℕ
 shards_text s =
     codes "shards       " ++ (grouped s.count ++ (codes ", the largest has " ++ (grouped s.largest
-    ++ (codes " of " ++ (grouped s.transactions ++ (codes " transactions" ++ 10 ∷ []))))))
+    ++ (codes " of " ++ (grouped s.transactions ++ (codes " transaction" ++ (ending s.transactions ++ 10 ∷ [])))))))
 
 -- adjudicated  COUNT of ALL records
 abbrev pub progress_text : ℕ → ℕ → List ℕ

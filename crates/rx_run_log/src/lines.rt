@@ -42,8 +42,8 @@ pub fn shards_line(alloc: Global, shards: &Shards) -> Result<Vec<u8>, AllocError
     line.extend_from_slice(b", the largest has ")?;
     put_grouped(&mut line, shards.largest)?;
     line.extend_from_slice(b" of ")?;
-    put_grouped(&mut line, shards.transactions)?;
-    line.extend_from_slice(b" transactions\n")?;
+    put_numbered(&mut line, shards.transactions, " transaction")?;
+    line.push(b'\n')?;
     Ok(line)
 }
 
