@@ -37,22 +37,6 @@ pub trait Gate {
     }
 }
 
-/// The gate that starts every worker and does nothing, and at which workers share the records at a desk.
-#[derive(Clone, Copy, Debug, PartialEq, Eq)]
-pub struct DeskGate;
-
-impl Gate for DeskGate {
-    ghost starts = { λ _ _. true };
-
-    fn start(&self, _worker: usize) -> bool {
-        true
-    }
-
-    fn enter(&self, _place: usize) {}
-
-    fn leave(&self, _place: usize) {}
-}
-
 /// The gate that starts every worker, does nothing, and holds no record up.
 #[derive(Clone, Copy, Debug, PartialEq, Eq)]
 pub struct NoGate;

@@ -25,7 +25,7 @@ mod spread;
 mod workers;
 
 pub use decoding::{decode_all, decode_in_parts};
-pub use gate::{Deal, DeskGate, Gate, NoGate};
+pub use gate::{Deal, Gate, NoGate};
 pub use in_order::{run_one, run_one_on};
 pub use run_fault::RunFault;
 pub use rx_serial::Finished;

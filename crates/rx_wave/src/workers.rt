@@ -33,10 +33,10 @@ const PAUSES: u32 = 4;
 /// Adjudicates a batch with so many workers: the books after its records, and a reply to each, as if they had been
 /// adjudicated one after another in file order (docs/RULES.md, "Rules of adjudication").
 ///
-/// One worker is `run_one`. More share one desk under one lock, and each adjudicates outside of it, between `enter` and
-/// `leave` of the gate. Where no answer comes of the desk, `run_one` gives it. Where sharing can't gain, the gate is asked
-/// for each start, and `run_one` gives it too: where the gate holds no record up, and where copying the books that the
-/// records name would cost more than adjudicating.
+/// One worker is `run_one`. At a gate that holds records up more of them share a desk under one lock, and each adjudicates
+/// outside of it, between `enter` and `leave` of the gate. At any other gate each has a shard of the records, which shares no
+/// book with another's, and nothing is locked. Where no answer comes of the desk, and where all records are one shard,
+/// `run_one` gives it.
 ///
 /// # Errors
 ///
