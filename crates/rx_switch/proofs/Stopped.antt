@@ -32,21 +32,20 @@ module _ (plain : Bool) (starts : ℕ → Bool) (workers : ℕ) where
   of_workers parallel good run.Memory outside refuses = tt
   of_workers parallel good run.Thread outside refuses = record { parallel = parallel; of_gate = refuses refl }
 
-  -- the definitions refuse a run that is stopped
-  pub refuses : (g : Given) (s : Stamp) → stamp_for g.workers g.stamp ≡ Ok s → (f : SwitchFault)
-      → IsStopped plain starts workers f → IsRefused g f
-  refuses g s read fault.Workers h = absurd h
-  refuses g s read fault.Stamp h = absurd h
-  refuses g s read (fault.Sheet f) h = absurd h
-  refuses g s read (fault.Books f) h = absurd h
-  refuses g s read (fault.Batch f) h = absurd h
-  refuses g s read fault.Memory h = refused_memory s read
-  refuses g s read fault.Thread h = refused_thread s read
+  -- the definitions refuse a run that is stopped, whose inputs are accepted
+  pub refuses : (g : Given) (x : Accepted) → StandFor g x → (f : SwitchFault) → IsStopped plain starts workers f → IsRefused g f
+  refuses g x accepted fault.Workers h = absurd h
+  refuses g x accepted fault.Stamp h = absurd h
+  refuses g x accepted (fault.Sheet f) h = absurd h
+  refuses g x accepted (fault.Books f) h = absurd h
+  refuses g x accepted (fault.Batch f) h = absurd h
+  refuses g x accepted fault.Memory h = refused_memory x.stamp accepted.stamp
+  refuses g x accepted fault.Thread h = refused_thread x accepted
 
-  pub if_refused : {T : Type 0} (g : Given) (s : Stamp) → stamp_for g.workers g.stamp ≡ Ok s → (r : Result T SwitchFault)
+  pub if_refused : {T : Type 0} (g : Given) (x : Accepted) → StandFor g x → (r : Result T SwitchFault)
       → IfErr r (λ f. IsStopped plain starts workers f) → IfErr r (λ f. IsRefused g f)
-  if_refused g s read (Ok x) h = tt
-  if_refused g s read (Err f) h = refuses g s read f h
+  if_refused g x accepted (Ok made) h = tt
+  if_refused g x accepted (Err f) h = refuses g x accepted f h
 
   pub if_thread : {T : Type 0} (r : Result T SwitchFault) → IfErr r (λ f. IsStopped plain starts workers f)
       → r ≡ Err fault.Thread → RefusesOne plain starts workers

@@ -88,8 +88,9 @@ pub record IsOutput (g : Given) (texts : Texts) : Type 0 where
   pub accepted : StandFor g inputs
   pub texts_are : texts ≡ texts_of inputs
 
--- the definitions refuse what is given: the first, in this order, of workers, stamp, sheet, books and batch. Want of
--- memory may stand in the place of sheet, books and batch and of any output, and so may want of a thread
+-- the definitions refuse what is given: the first, in this order, of workers, stamp, sheet, books and batch. Out of memory
+-- may stand in the place of sheet, books and batch and of any output; a thread is refused only to a run whose inputs are
+-- accepted
 pub data IsRefused (g : Given) : SwitchFault → Type 0 where
   words : (f : SwitchFault) → stamp_for g.workers g.stamp ≡ Err f → IsRefused g f
   sheet : (s : Stamp) (f : SheetFault) → stamp_for g.workers g.stamp ≡ Ok s → sheet_of_text g.sheet ≡ Err f
@@ -100,7 +101,7 @@ pub data IsRefused (g : Given) : SwitchFault → Type 0 where
       → stamp_for g.workers g.stamp ≡ Ok s → sheet_of_text g.sheet ≡ Ok plan → IsBooksText g.books period opening
       → HasBatchFault g.batch f → IsRefused g (fault.Batch f)
   memory : (s : Stamp) → stamp_for g.workers g.stamp ≡ Ok s → IsRefused g fault.Memory
-  thread : (s : Stamp) → stamp_for g.workers g.stamp ≡ Ok s → IsRefused g fault.Thread
+  thread : (x : Accepted) → StandFor g x → IsRefused g fault.Thread
 
 -- the gate refuses to start one of the workers, which a plain run doesn't ask
 pub record RefusesOne (plain : Bool) (starts : ℕ → Bool) (workers : ℕ) : Type 0 where

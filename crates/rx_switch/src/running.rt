@@ -20,8 +20,8 @@ use std::thread::Threads;
 ///
 /// # Errors
 ///
-/// The first, in this order, of Workers, Stamp, Sheet, Books and Batch. Memory and Thread may stand in the place of any
-/// answer but Workers and Stamp; Thread only where the gate refuses to start one of two or more workers.
+/// The first, in this order, of Workers, Stamp, Sheet, Books and Batch. Memory may stand in the place of any answer but
+/// Workers and Stamp; Thread only where all inputs are accepted, and the gate refuses to start one of two or more workers.
 pub fn run<R: Threads + Wait + Sync, G: Gate + Sync>(
     rt: &R,
     alloc: Global,

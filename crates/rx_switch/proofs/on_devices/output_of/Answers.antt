@@ -28,10 +28,10 @@ adjudicate-requires-clause-workers g c κs within =
 
 pub returns-clause-refused : goal.returns-clause-refused
 returns-clause-refused g c batch stands =
+    let accepted = rw c.deref.ensures.value at c.in_ok-accepted.ensures.accepted batch stands in
     if_refused c.args.manner.now.plain (g.G.Gate.starts c.args.manner.now.gate.now) c.args.manner.now.workers
     (given_read c.args.stamp.now c.args.manner.now.workers c.args.read.sheet.items c.args.read.books.items batch)
-    c.in_ok-accepted.accepted.stamp (c.in_ok-accepted.ensures.accepted batch stands).stamp
-    c.adjudicate.result c.adjudicate.ensures.stopped
+    (accepted_of c.in_ok-accepted.accepted) accepted c.adjudicate.result c.adjudicate.ensures.stopped
 
 pub returns-clause-thread : goal.returns-clause-thread
 returns-clause-thread g c =

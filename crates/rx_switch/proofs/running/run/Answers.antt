@@ -31,7 +31,7 @@ returns-in_err-pieces-clause-refused g c =
     let p = err_from_is_err_and c.from_residual-in_err-pieces.result c.from_residual-in_err-pieces.ensures.1 in
     rw (p.1, p.2)
     (refuses c.args.job.now.plain (g.G.Gate.starts c.args.gate.now) c.args.job.now.workers (given_by c.args.job.now)
-    c.in_ok-accepted.accepted.stamp (c.in_ok-accepted.ensures.accepted c.args.job.now.batch.now refl).stamp
+    (accepted_of c.in_ok-accepted.accepted) (c.in_ok-accepted.ensures.accepted c.args.job.now.batch.now refl)
     c.in_err-pieces.field-0.0 c.in_err-pieces.ensures.stopped)
 
 pub returns-in_err-pieces-clause-thread : goal.returns-in_err-pieces-clause-thread
