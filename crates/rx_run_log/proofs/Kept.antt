@@ -5,7 +5,8 @@ use Rattle.std.specs.Result.{IsOk, OnOk}
 use Rattle.std.proofs.lemmas.Bool.{cases_lt}
 use native.Mathlib.Numerals.{unary_clauses}
 use Rattle.std.proofs.lemmas.List.{drop_all, take_all, drop-drop, length-append, length-drop, length-take, take-take}
-use Rattle.rx_run_log.specs.Traffic.{last_of}
+use Rattle.std.proofs.lemmas.List.Sums.{sum_by-append}
+use Rattle.rx_run_log.specs.Traffic.{count_of, last_of}
 
 -- a front of both is a front of the first, and of the second what there is still room for
 pub take-append : (n : ℕ) (xs ys : List ℕ) → take n (xs ++ ys) ≡ take n xs ++ take (n - length xs) ys
@@ -71,3 +72,10 @@ last-on n xs ys =
 pub was_ok : {T E : Type 0} {P : Type 0} (r : Result T E) → IsOk r → OnOk r P → P
 was_ok (Ok x) is p = p
 was_ok (Err e) is p = let never : false ≡ true = is in cc
+
+-- what is counted in both is what is counted in the first, and in the second
+pub sum-on : (a b m n : ℕ) → n ≡ a + b → min (min a m + b) m ≡ min n m
+sum-on a b m n is = rw is (omega arith)
+
+pub count-on : (mark : ℕ) (xs ys : List ℕ) → count_of mark (xs ++ ys) ≡ count_of mark xs + count_of mark ys
+count-on mark xs ys = sum_by-append _ xs ys

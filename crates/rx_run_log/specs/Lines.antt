@@ -68,8 +68,8 @@ step_text r = label_of r.step ++ (counted_part r.counted ++ (size_part r.bytes +
 -- shards  COUNT, the largest has COUNT of ALL transactions
 abbrev pub shards_text : Shards → List ℕ
 shards_text s =
-    codes "shards       " ++ (grouped s.count ++ (codes ", the largest has " ++ (grouped s.largest
-    ++ (codes " of " ++ (grouped s.transactions ++ (codes " transaction" ++ (ending s.transactions ++ 10 ∷ [])))))))
+    codes "shards       " ++ (named s.count (codes ", the largest has ") ++ (named s.largest (codes " of ")
+    ++ (grouped s.transactions ++ (codes " transaction" ++ (ending s.transactions ++ 10 ∷ [])))))
 
 -- adjudicated  COUNT of ALL records
 abbrev pub progress_text : ℕ → ℕ → List ℕ

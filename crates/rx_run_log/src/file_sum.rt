@@ -57,6 +57,8 @@ fn sum_of(alloc: Global, traffic: &Traffic) -> Option<String>
     ensures { (bytes : List ℕ) → IsTrafficOf traffic.now bytes
         → IfSome result (λ text. string_bytes text ≡ encode_lower (sha256 bytes)) }
 {
-    let digest = traffic.digest().ok()??;
+    let Ok(Some(digest)) = traffic.digest() else {
+        return None;
+    };
     hex::encode(alloc, digest.as_slice()).ok()
 }

@@ -38,10 +38,8 @@ pub fn shards_line(alloc: Global, shards: &Shards) -> Result<Vec<u8>, AllocError
 {
     let mut line = Vec::new(alloc);
     line.extend_from_slice(b"shards       ")?;
-    put_grouped(&mut line, shards.count)?;
-    line.extend_from_slice(b", the largest has ")?;
-    put_grouped(&mut line, shards.largest)?;
-    line.extend_from_slice(b" of ")?;
+    put_named(&mut line, shards.count, ", the largest has ")?;
+    put_named(&mut line, shards.largest, " of ")?;
     put_numbered(&mut line, shards.transactions, " transaction")?;
     line.push(b'\n')?;
     Ok(line)

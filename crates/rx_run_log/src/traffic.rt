@@ -2,8 +2,9 @@ ghost use Rattle.std.specs.Prelude.{◌≡◌, ◌+◌, ◌-◌, ◌^◌, ◌≤
 ghost use Rattle.std.specs.Prelude.{is_some, length, min, take};
 ghost use Rattle.std.specs.Option.{option_or};
 ghost use Rattle.rx_batch.specs.declared.layout.TheConstants.{STX};
+ghost use Rattle.sha2.specs.Hashers.{Holds256};
 ghost use Rattle.sha2.specs.Sha256.{sha256};
-ghost use Rattle.rx_run_log.specs.Traffic.{Adds, IsTrafficOf, count_of, last_of};
+ghost use Rattle.rx_run_log.specs.Traffic.{Adds, IsTrafficOf, count_of, in_64_bits, last_of};
 
 use arrayvec::ArrayVec;
 use rx_batch::STX;
@@ -57,15 +58,13 @@ impl Traffic {
     pub fn add(&mut self, piece: &[u8])
         ensures traffic { Adds self.old self.new piece.now }
         ensures sum { is_some self.new.sum ≡ is_some self.old.sum }
-        ensures bytes { self.new.bytes ≡ min (self.old.bytes + length piece.now) (2 ^ 64 - 1) }
-        ensures line_feeds { self.new.line_feeds ≡ min (self.old.line_feeds + count_of 10 piece.now) (2 ^ 64 - 1) }
-        ensures starts { self.new.starts ≡ min (self.old.starts + count_of STX piece.now) (2 ^ 64 - 1) }
+        ensures bytes { self.new.bytes ≡ in_64_bits (self.old.bytes + length piece.now) }
+        ensures line_feeds { self.new.line_feeds ≡ in_64_bits (self.old.line_feeds + count_of 10 piece.now) }
+        ensures starts { self.new.starts ≡ in_64_bits (self.old.starts + count_of STX piece.now) }
         ensures first { self.new.first ≡ self.old.first }
         ensures last { self.new.last ≡ self.old.last }
     {
-        if let Some(sum) = &mut self.sum {
-            sum.update(piece);
-        }
+        update(&mut self.sum, piece);
         self.bytes = self.bytes.saturating_add(piece.len() as u64);
         self.line_feeds = self.line_feeds.saturating_add(count_of(b'\n', piece));
         self.starts = self.starts.saturating_add(count_of(STX, piece));
@@ -92,21 +91,24 @@ impl Traffic {
 
     /// How many bytes passed, 2^64 - 1 where there are more.
     pub fn bytes(&self) -> u64
-        ensures { result ≡ self.now.bytes }
+        ensures field { result ≡ self.now.bytes }
+        ensures count { (bytes : List ℕ) → IsTrafficOf self.now bytes → result ≡ in_64_bits (length bytes) }
     {
         self.bytes
     }
 
     /// How many of them are line feeds, 2^64 - 1 where there are more.
     pub fn line_feeds(&self) -> u64
-        ensures { result ≡ self.now.line_feeds }
+        ensures field { result ≡ self.now.line_feeds }
+        ensures count { (bytes : List ℕ) → IsTrafficOf self.now bytes → result ≡ in_64_bits (count_of 10 bytes) }
     {
         self.line_feeds
     }
 
     /// How many of them are STX, which begins each record of a batch, 2^64 - 1 where there are more.
     pub fn starts(&self) -> u64
-        ensures { result ≡ self.now.starts }
+        ensures field { result ≡ self.now.starts }
+        ensures count { (bytes : List ℕ) → IsTrafficOf self.now bytes → result ≡ in_64_bits (count_of STX bytes) }
     {
         self.starts
     }
@@ -153,6 +155,17 @@ impl Traffic {
             Some(sum) => Ok(Some(sum.clone()?.finalize())),
             None => Ok(None),
         }
+    }
+}
+
+// Adds a piece to a sum, where one is made.
+fn update(sum: &mut Option<Sha256>, piece: &[u8])
+    ensures made { is_some sum.new ≡ is_some sum.old }
+    ensures holds { (bytes : List ℕ) → IfSome sum.old (λ s. Holds256 s bytes)
+        → IfSome sum.new (λ s. Holds256 s (bytes ++ piece.now)) }
+{
+    if let Some(sum) = sum {
+        sum.update(piece);
     }
 }
 
