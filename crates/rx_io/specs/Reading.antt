@@ -16,7 +16,12 @@ most_reads = 4194304
 abbrev pub least_room : ℕ
 least_room = 4096
 
--- at most so many reads of a source were made, each with that room: by what it counts, and what it looks at
+-- the most calls of a reader that are made again where signals interrupt them
+abbrev pub most_again : ℕ
+most_again = 65536
+
+-- at most so many reads of a source were made, each with that room: by what it counts, which has with the reads that
+-- were made those that it may make again, and by what it looks at
 pub record AreFewReads {S : Type 0} (reads : S → ℕ) (cramped : S → Bool) (before after : S) : Type 0 where
   pub few : reads after ≤ reads before + most_reads
   pub roomy : cramped before ≡ false → cramped after ≡ false

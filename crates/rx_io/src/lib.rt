@@ -20,6 +20,7 @@
 #![tactic(auto)]
 
 mod consumer;
+mod counted;
 mod device;
 mod fault;
 mod files;

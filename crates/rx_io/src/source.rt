@@ -13,7 +13,8 @@ pub trait Source {
     /// Whether a read of it ever failed.
     ghost failed: { Self → Bool };
 
-    /// How many reads of it were made, where the device counts them; else 0.
+    /// How many reads of it were made, and how many it may still make again by itself, where the device counts them;
+    /// else 0.
     ghost reads: { Self → ℕ };
 
     /// Whether a read of it had room for fewer than 4,096 bytes, where the device looks at that; else false.

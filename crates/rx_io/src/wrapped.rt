@@ -1,14 +1,19 @@
-ghost use Rattle.std.specs.Prelude.{◌≡◌, IfSome, MatchResult, Ok, Some, false, is_err, true};
+ghost use Rattle.std.specs.Prelude.{◌≡◌, ◌≤◌, ◌+◌, IfSome, MatchResult, Ok, Some, false, is_err, length, true};
 ghost use Rattle.std.specs.Io.{ReadsAtMost, WritesAtMost};
 ghost use Rattle.std.specs.Io.KnownBytes.{ReadConsumes, WriteAppends};
+ghost use Rattle.rx_io.specs.Reading.{least_room, most_again};
 
+use crate::counted::CountedReader;
 use crate::fault::Failed;
 use crate::sink::Sink;
 use crate::source::Source;
 use std::io::{self, ErrorKind, Read, Write};
 
-// How often a call that a signal interrupts is made, before it counts as failed.
+// How often a write that a signal interrupts is made, before it counts as failed.
 const TRIES: u32 = 64;
+
+// How many calls of a reader may be made again in all, where signals interrupt them.
+const MOST_AGAIN: u32 = 65_536;
 
 // What a call answers; None where a signal interrupted it, so that it is made again.
 fn unless_interrupted(answer: io::Result<usize>) -> Option<Result<usize, Failed>>
@@ -22,53 +27,76 @@ fn unless_interrupted(answer: io::Result<usize>) -> Option<Result<usize, Failed>
 }
 
 /// A source that is one of std's readers. It tells the bytes that its reader tells: those of a text in memory, and
-/// none of a file.
+/// none of a file. Its `reads` are the calls of its reader: those that were made, and those that may be made again where
+/// signals interrupt them, which are 65,536 at first. Once these are used up, an interrupted call is a failed read.
 #[derive(Debug, Drop)]
 pub struct ReaderSource<R> {
-    reader: R,
+    reader: CountedReader<R>,
+    // How many calls may be made again.
+    again: u32,
     failed: bool,
+    ghost few_again: { again ≤ most_again },
 }
 
 impl<R: Read> ReaderSource<R> {
-    /// The reader as a source, which hasn't failed.
+    /// The reader as a source, which hasn't failed, and of which no read was made.
     pub fn new(reader: R) -> ReaderSource<R>
         ensures bytes { ⟦<ReaderSource<R> as Source>⟧.left result ≡ R.remaining reader }
         ensures failed { ⟦<ReaderSource<R> as Source>⟧.failed result ≡ false }
+        ensures reads { ⟦<ReaderSource<R> as Source>⟧.reads result ≡ most_again }
+        ensures cramped { ⟦<ReaderSource<R> as Source>⟧.cramped result ≡ false }
     {
         ReaderSource {
-            reader,
+            reader: CountedReader::new(reader),
+            again: MOST_AGAIN,
             failed: false,
         }
+    }
+
+    /// How many calls of the reader were made, those included that a signal interrupted.
+    pub fn calls(&self) -> u64
+        ensures counted { result + self.now.again ≡ ⟦<ReaderSource<R> as Source>⟧.reads self.now }
+        ensures least { ⟦<ReaderSource<R> as Source>⟧.reads self.now ≤ result + most_again }
+    {
+        self.reader.calls()
     }
 }
 
 impl<R: Read> Source for ReaderSource<R> {
-    ghost left = { λ s. R.remaining s.reader };
+    ghost left = { λ s. R.remaining s.reader.reader };
 
     ghost failed = { λ s. s.failed };
 
-    ghost reads = { λ _. 0 };
+    ghost reads = { λ s. s.reader.calls + s.again };
 
-    ghost cramped = { λ _. false };
+    ghost cramped = { λ s. s.reader.cramped };
 
     fn read(&mut self, buffer: &mut [u8]) -> Result<usize, Failed> {
-        let result = read_through(&mut self.reader, buffer);
+        let result = read_through(&mut self.reader, &mut self.again, buffer);
         self.failed |= result.is_err();
         result
     }
 }
 
-// A read, made again where a signal interrupts it.
-fn read_through<R: Read>(reader: &mut R, buffer: &mut [u8]) -> Result<usize, Failed>
+// A read, made again where a signal interrupts it, as long as it may.
+fn read_through<R: Read>(
+    reader: &mut CountedReader<R>,
+    again: &mut u32,
+    buffer: &mut [u8],
+) -> Result<usize, Failed>
     ensures bound { ReadsAtMost result buffer.new }
-    ensures bytes { ReadConsumes (R.remaining reader.old) (R.remaining reader.new) result buffer.new }
+    ensures bytes { ReadConsumes (R.remaining reader.old.reader) (R.remaining reader.new.reader) result buffer.new }
+    ensures calls { reader.new.calls + again.new ≤ reader.old.calls + again.old + 1 }
+    ensures fewer { again.new ≤ again.old }
+    ensures cramped { least_room ≤ length buffer.new → reader.old.cramped ≡ false → reader.new.cramped ≡ false }
 {
-    'by_try: for _ in 0..TRIES {
+    'by_try: while *again > 0 {
         if let Some(answer) = unless_interrupted(reader.read(buffer)) {
             return answer;
         }
+        *again -= 1;
     }
-    Err(Failed)
+    unless_interrupted(reader.read(buffer)).unwrap_or(Err(Failed))
 }
 
 /// A sink that is one of std's writers. It tells the bytes that its writer tells. A writer that keeps bytes back, as a

@@ -99,6 +99,16 @@ impl Read for Signalled {
     }
 }
 
+// Each read of it is interrupted.
+#[derive(Drop)]
+struct Interrupted;
+
+impl Read for Interrupted {
+    fn read(&mut self, _buffer: &mut [u8]) -> io::Result<usize> {
+        Err(io::Error::from(ErrorKind::Interrupted))
+    }
+}
+
 #[test]
 fn reads_pieces_of_any_size(rt: HostRuntime) {
     for most in &[1usize, 7, 4096] {
@@ -207,8 +217,18 @@ fn reads_again_where_a_signal_interrupts(rt: HostRuntime) {
         is_over: false,
         text: TEXT,
     };
-    let text = read_all(rt.alloc(), &mut ReaderSource::new(signalled));
+    let mut source = ReaderSource::new(signalled);
+    let text = read_all(rt.alloc(), &mut source);
     same(&rt, text.expect(&rt, "a text").as_slice(), TEXT);
+    same(&rt, source.calls(), 3);
+}
+
+#[test]
+fn fails_where_signals_interrupt_too_many_reads(rt: HostRuntime) {
+    let mut source = ReaderSource::new(Interrupted);
+    let read = read_all(rt.alloc(), &mut source);
+    same(&rt, read.err(), Some(ReadFault::Failed));
+    same(&rt, source.calls(), 65_537);
 }
 
 // It has room for four of nine bytes.
