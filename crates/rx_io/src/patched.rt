@@ -74,6 +74,9 @@ impl Patched {
         requires within { last ≤ length self.old.lender }
         ensures { OnOk result (self.new ≡ record self.old { text = self.old.text ++ slice_range self.old.lender first last }) }
     {
+        if first == last {
+            return Ok(());
+        }
         push_own(&mut self.pieces, self.begun, self.own.len())?;
         self.begun = self.own.len();
         self.pieces.push(Piece::Lent { first, last })?;
