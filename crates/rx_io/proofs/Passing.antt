@@ -25,6 +25,13 @@ Consumes-on (Some first) None rest xs ys p q = absurd p
 Consumes-on (Some first) (Some second) None xs ys p q = absurd q
 Consumes-on (Some first) (Some second) (Some third) xs ys p q = p ∙ ap (λ l. xs ++ l) q ∙ sym (append_assoc xs ys third)
 
+-- a front of a list was read, and what follows it was read in place
+pub Consumes-after : (left between rest : Option (List ℕ)) (old new : List ℕ) (at count : ℕ) → take at new ≡ take at old
+    → Consumes left between (take at old) → Consumes between rest (take count (drop at new)) → Consumes left rest (take (at + count) new)
+Consumes-after left between rest old new at count same p q =
+    subst (Consumes left rest) (sym (take-add at count new ∙ ap (λ l. l ++ take count (drop at new)) same))
+    (Consumes-on left between rest (take at old) (take count (drop at new)) p q)
+
 -- what was read to the end is whole
 pub Consumes-whole : (left rest : Option (List ℕ)) (bytes : List ℕ) → Consumes left rest bytes → IsAtEnd rest → IsWhole left rest bytes
 Consumes-whole None rest bytes p end = tt

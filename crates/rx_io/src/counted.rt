@@ -3,10 +3,8 @@ ghost use Rattle.std.specs.Io.{ReadsAtMost};
 ghost use Rattle.std.specs.Io.KnownBytes.{ReadConsumes};
 ghost use Rattle.rx_io.specs.Reading.{least_room};
 
+use crate::source::LEAST_ROOM;
 use std::io::{self, ErrorKind, Read};
-
-// The least room that a read is offered, in bytes.
-const LEAST_ROOM: usize = 4_096;
 
 // One of std's readers, each call of which is counted: no other file of the crate can call it.
 #[derive(Debug, Drop)]

@@ -6,7 +6,7 @@
 //! of another, which it shares (`specs/Patches.antt`).
 //!
 //! ```rust
-//! let text = rx_io::read_all(alloc, &mut ReaderSource::new(file))?;
+//! let text = rx_io::read_all(alloc, &mut ReaderSource::new(file).with_hint(len))?;
 //! rx_io::write_all(&mut WriterSink::new(copy), text.as_slice())?;
 //! ```
 //!

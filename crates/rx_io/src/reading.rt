@@ -1,11 +1,11 @@
-ghost use Rattle.std.specs.Prelude.{◌≡◌, ◌≤◌, ◌<◌, ◌+◌, ℕ, List, false, length, vec_len, Err, IfOk, IfSome, OnErr, OnOk};
-ghost use Rattle.std.specs.Io.KnownBytes.{IsAtEnd};
+ghost use Rattle.std.specs.Prelude.{◌≡◌, ◌≤◌, ◌<◌, ◌+◌, ℕ, List, false, length, take, drop, vec_len, [], Err, IfOk, IfSome, OnErr, OnOk};
+ghost use Rattle.std.specs.Io.KnownBytes.{Consumes, IsAtEnd};
 ghost use Rattle.rx_io.specs.Reading.{AreFewReads, IsRead, PassesAll, PassesFront, PassesPiece, TakesNothing};
 ghost use Rattle.rx_io.specs.Reading.{has_failed, least_room, most_bytes, most_reads};
 
 use crate::consumer::Consumer;
 use crate::fault::ReadFault;
-use crate::source::Source;
+use crate::source::{LEAST_ROOM, Source};
 use std::alloc::{AllocError, Global};
 
 // The most bytes that an input may have (docs/RULES.md, "Limits").
@@ -30,9 +30,93 @@ pub fn read_all<S: Source>(alloc: Global, source: &mut S) -> Result<Vec<u8>, Rea
     ensures long { result ≡ Err ReadFault.Long → IfSome (S.left source.old) (λ bytes. most_reads ≤ length bytes) }
     ensures reads { AreFewReads S.reads S.cramped source.old source.new }
 {
-    let mut text = Vec::new(alloc);
-    read_each(alloc, source, &mut text)?;
+    let mut text = room_of(alloc, source.hint());
+    let len = fill(source, &mut text)?;
+    text.truncate(len);
     Ok(text)
+}
+
+// Room for the text that is expected and for the read that finds its end; none where there is no memory for it.
+fn room_of(alloc: Global, hint: Option<usize>) -> Vec<u8>
+    ensures { result.items ≡ [] }
+{
+    let expected = hint.unwrap_or(0).min(MOST_BYTES);
+    match Vec::with_capacity(alloc, expected + ROOM) {
+        Ok(room) => room,
+        Err(_) => Vec::new(alloc),
+    }
+}
+
+// Reads an input to its end into the front of a text, and answers how many bytes it has.
+fn fill<S: Source>(source: &mut S, text: &mut Vec<u8>) -> Result<usize, ReadFault>
+    requires { S.failed source.old ≡ false }
+    ensures ok { IfOk result (λ len. IsRead (S.left source.old) (S.left source.new) (take len text.new.items)) }
+    ensures failed { S.failed source.new ≡ has_failed result }
+    ensures long { result ≡ Err ReadFault.Long → IfSome (S.left source.old) (λ bytes. most_reads ≤ length bytes) }
+    ensures reads { AreFewReads S.reads S.cramped source.old source.new }
+{
+    let mut len = 0;
+    'by_room: for _ in 0..MOST_READS {
+        make_room(text, len)?;
+        let count = read_after(source, text.as_mut_slice(), len)?;
+        if count == 0 {
+            return Ok(len);
+        }
+        len += count;
+    }
+    Err(ReadFault::Long)
+}
+
+// Room for a read after the first bytes of a text.
+fn make_room(text: &mut Vec<u8>, len: usize) -> Result<(), AllocError>
+    requires most { len ≤ most_bytes }
+    requires within { len ≤ vec_len text.old }
+    ensures front { take len text.new.items ≡ take len text.old.items }
+    ensures room { OnOk result (len + least_room ≤ vec_len text.new) }
+{
+    if text.len() - len >= LEAST_ROOM {
+        return Ok(());
+    }
+    text.resize(len + ROOM, 0)
+}
+
+// Reads the next piece into a text after its first bytes; none at the end.
+fn read_after<S: Source>(source: &mut S, text: &mut [u8], len: usize) -> Result<usize, ReadFault>
+    requires failed { S.failed source.old ≡ false }
+    requires room { len + least_room ≤ length text.old }
+    requires most { len ≤ most_bytes }
+    ensures front { take len text.new ≡ take len text.old }
+    ensures fits { IfOk result (λ count. len + count ≤ length text.new) }
+    ensures within { IfOk result (λ count. len + count ≤ most_bytes) }
+    ensures piece { IfOk result (λ count. Consumes (S.left source.old) (S.left source.new) (take count (drop len text.new))) }
+    ensures end { IfOk result (λ count. count ≡ 0 → IsAtEnd (S.left source.new)) }
+    ensures failed { S.failed source.new ≡ has_failed result }
+    ensures long { result ≡ Err ReadFault.Long → IfSome (S.left source.old) (λ bytes. most_bytes < len + length bytes) }
+    ensures reads { S.reads source.new ≤ S.reads source.old + 1 }
+    ensures cramped { S.cramped source.old ≡ false → S.cramped source.new ≡ false }
+{
+    read_within(source, &mut text[len..], len)
+}
+
+// Reads the next piece to the front of the room; none at the end.
+fn read_within<S: Source>(source: &mut S, room: &mut [u8], total: usize) -> Result<usize, ReadFault>
+    requires failed { S.failed source.old ≡ false }
+    requires room { least_room ≤ length room.old }
+    requires total { total ≤ most_bytes }
+    ensures fits { IfOk result (λ count. count ≤ length room.new) }
+    ensures within { IfOk result (λ count. total + count ≤ most_bytes) }
+    ensures piece { IfOk result (λ count. Consumes (S.left source.old) (S.left source.new) (take count room.new)) }
+    ensures end { IfOk result (λ count. count ≡ 0 → IsAtEnd (S.left source.new)) }
+    ensures failed { S.failed source.new ≡ has_failed result }
+    ensures long { result ≡ Err ReadFault.Long → IfSome (S.left source.old) (λ bytes. most_bytes < total + length bytes) }
+    ensures reads { S.reads source.new ≤ S.reads source.old + 1 }
+    ensures cramped { S.cramped source.old ≡ false → S.cramped source.new ≡ false }
+{
+    let count = source.read(room)?;
+    if count > MOST_BYTES - total {
+        return Err(ReadFault::Long);
+    }
+    Ok(count)
 }
 
 /// Reads an input to its end, and hands each piece on as it comes, so that no more of it is kept than the consumer
@@ -88,10 +172,7 @@ fn read_piece<S: Source, C: Consumer>(
     ensures cramped { S.cramped source.old ≡ false → S.cramped source.new ≡ false }
     ensures front { OnErr result (TakesNothing (C.stands_for consumer.old) (C.stands_for consumer.new)) }
 {
-    let count = source.read(room)?;
-    if count > MOST_BYTES - total {
-        return Err(ReadFault::Long);
-    }
+    let count = read_within(source, room, total)?;
     consumer.take(&room[..count])?;
     Ok(count)
 }

@@ -5,6 +5,9 @@ ghost use Rattle.rx_io.specs.Reading.{least_room};
 
 use crate::fault::Failed;
 
+// The least room that a read is offered, in bytes.
+pub(crate) const LEAST_ROOM: usize = 4_096;
+
 /// A device that bytes are read from.
 pub trait Source {
     /// The bytes that reads will give from here on, where the device tells them.
@@ -19,6 +22,11 @@ pub trait Source {
 
     /// Whether a read of it had room for fewer than 4,096 bytes, where the device looks at that; else false.
     ghost cramped: { Self → Bool };
+
+    /// How many bytes reads are likely to give from here on, if the device has a guess. No promise rests on it.
+    fn hint(&self) -> Option<usize> {
+        None
+    }
 
     /// Reads the next bytes to the front of the buffer, and answers how many; none only at the end of the input, or
     /// where the buffer has no room.

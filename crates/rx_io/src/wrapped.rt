@@ -34,6 +34,7 @@ pub struct ReaderSource<R> {
     reader: CountedReader<R>,
     // How many calls may be made again.
     again: u32,
+    hint: Option<usize>,
     failed: bool,
     ghost few_again: { again ≤ most_again },
 }
@@ -49,7 +50,25 @@ impl<R: Read> ReaderSource<R> {
         ReaderSource {
             reader: CountedReader::new(reader),
             again: MOST_AGAIN,
+            hint: None,
             failed: false,
+        }
+    }
+
+    /// The source, with a guess of how many bytes reads will give, as the length of its file. Only the room that is taken
+    /// at first rests on it.
+    pub fn with_hint(self, hint: Option<usize>) -> ReaderSource<R>
+        ensures hint { result.hint ≡ hint }
+        ensures bytes { ⟦<ReaderSource<R> as Source>⟧.left result ≡ ⟦<ReaderSource<R> as Source>⟧.left self }
+        ensures failed { ⟦<ReaderSource<R> as Source>⟧.failed result ≡ ⟦<ReaderSource<R> as Source>⟧.failed self }
+        ensures reads { ⟦<ReaderSource<R> as Source>⟧.reads result ≡ ⟦<ReaderSource<R> as Source>⟧.reads self }
+        ensures cramped { ⟦<ReaderSource<R> as Source>⟧.cramped result ≡ ⟦<ReaderSource<R> as Source>⟧.cramped self }
+    {
+        ReaderSource {
+            reader: self.reader,
+            again: self.again,
+            hint,
+            failed: self.failed,
         }
     }
 
@@ -70,6 +89,12 @@ impl<R: Read> Source for ReaderSource<R> {
     ghost reads = { λ s. s.reader.calls + s.again };
 
     ghost cramped = { λ s. s.reader.cramped };
+
+    fn hint(&self) -> Option<usize>
+        ensures { result ≡ self.now.hint }
+    {
+        self.hint
+    }
 
     fn read(&mut self, buffer: &mut [u8]) -> Result<usize, Failed> {
         let result = read_through(&mut self.reader, &mut self.again, buffer);

@@ -204,6 +204,30 @@ fn reads_what_std_does(rt: HostRuntime) {
     same(&rt, text.expect(&rt, "a text").as_slice(), TEXT);
 }
 
+// A text of more bytes than are read at once, the hints for it, and the calls that it takes: three give bytes.
+#[test]
+fn reads_the_same_text_by_any_hint(rt: HostRuntime) {
+    let mut long = Vec::new(rt.alloc());
+    for place in 0..150_000u32 {
+        long.push((place % 251) as u8).expect(&rt, "memory");
+    }
+    let hints = [
+        None,
+        Some(0usize),
+        Some(1000),
+        Some(149_999),
+        Some(150_000),
+        Some(150_001),
+        Some(400_000),
+    ];
+    for hint in &hints {
+        let mut source = ReaderSource::new(long.as_slice()).with_hint(*hint);
+        let text = read_all(rt.alloc(), &mut source);
+        same(&rt, text.expect(&rt, "a text").as_slice(), long.as_slice());
+        same(&rt, source.calls(), 4);
+    }
+}
+
 #[test]
 fn writes_what_std_does(rt: HostRuntime) {
     let mut copy = WriterSink::new(Vec::new(rt.alloc()));
