@@ -1,7 +1,7 @@
 -- Meaning: why bytes are no reply.
 use Rattle.std.specs.Prelude.{◌≡◌, ℕ, ◌-◌, Bool, true, false, ◌&&◌, ◌||◌, nat_eq, nat_le, ◌==◌, if◌then◌else◌}
 use Rattle.std.specs.Prelude.{List, [], ◌∷◌, length, take, drop, slice_index, Result, Ok, Err, codes}
-use Rattle.std.specs.List.{list_all, starts_with, slice_split}
+use Rattle.std.specs.List.{list_all, starts_with}
 use Rattle.rx_text.specs.declared.separators.TheConstants.{GROUP, SEGMENT}
 use Rattle.rx_text.specs.Bytes.{is_printable, cut}
 use Rattle.rx_d0_values.specs.declared.reply.Reply.{Reply}

@@ -1,4 +1,4 @@
-use Rattle.std.proofs.Common.{◌≡◌, length, subst, sym, rules}
+use Rattle.std.proofs.Common.{◌≡◌, subst, sym, rules}
 use Rattle.rx_d0_values.specs.Echoed.{IsEcho}
 use Rattle.rx_d0_reply.specs.Limits.{IsHeader}
 use Rattle.rx_d0_reply.proofs.writing.put_header.Goals as goal

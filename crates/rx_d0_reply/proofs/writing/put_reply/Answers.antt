@@ -1,4 +1,4 @@
-use Rattle.std.proofs.Common.{◌≡◌, ◌≤◌, ◌++◌, List, length, take, true, replicate, subst, sym, arith, None}
+use Rattle.std.proofs.Common.{◌≡◌, ◌≤◌, ◌++◌, List, length, take, true, replicate, subst, arith, None}
 use Rattle.std.specs.Prelude.{OnOk, codes}
 use Rattle.std.specs.List.{flat_map, AllByRecursion}
 use Rattle.std.proofs.lemmas.Bool.Decides.{nat_tests}
@@ -6,7 +6,7 @@ use Rattle.std.proofs.lemmas.List.{take-replicate}
 use Rattle.rx_d0_values.specs.declared.reply.Answer.{Answer}
 use Rattle.rx_d0_values.specs.declared.reply.Answer.TheVariants as answer
 use Rattle.rx_d0_values.specs.Listed.{is_few}
-use Rattle.rx_d0_reply.specs.Limits.{IsHeader, IsAnswer, IsReply}
+use Rattle.rx_d0_reply.specs.Limits.{IsHeader, IsAnswer}
 use Rattle.rx_d0_reply.specs.Text.{header_text, group_text}
 use Rattle.rx_d0_reply.proofs.Written.{on_ok, one_of_them}
 use Rattle.rx_d0_reply.proofs.writing.put_reply.Goals as goal
