@@ -1,4 +1,5 @@
 pub mod Added
+pub mod Ascends
 pub mod Blanks
 pub mod Documents
 pub mod DrugLists

@@ -14,7 +14,7 @@ use Rattle.rx_ledger.specs.declared.sheet_key.SheetKey.{SheetKey}
 use Rattle.rx_ledger.specs.declared.sheet_key.SheetKey.TheVariants as key
 use Rattle.rx_sheet.specs.declared.fault.SheetFault.{SheetFault}
 use Rattle.rx_sheet.specs.declared.fault.SheetFault.TheVariants as fault
-use Rattle.rx_sheet.specs.Drugs.{drug_in, drugs_in, drugs_of, listed_in, share_of, tiers_in}
+use Rattle.rx_sheet.specs.Drugs.{ascending, drug_in, drugs_in, drugs_of, listed_in, share_of, tiers_in}
 use Rattle.rx_sheet.specs.Figures.{door_in, family_deductible_in, figures_in, period_from, period_in}
 use Rattle.rx_sheet.specs.Names.{name_of}
 use Rattle.rx_sheet.specs.Said.{Fails, FailsDoor, FailsDrug, FailsDrugs, FailsEach, FailsFigures, FailsPeriod, HasFault, IsSheetText}
@@ -253,7 +253,7 @@ drugs_asked t = elim (asked key.Tiers tiers_in t) [
   | inr r ↦ inr (r.0, tiers_fail r.1)
   | inl tiers ↦ elim (asked key.Drugs as_table t) [
     | inr r ↦ inr (r.0, drugs_fail tiers.0 tiers.1 r.1)
-    | inl drugs ↦ elim (each_asked tiers.0 drugs.0) [
+    | inl drugs ↦ elim (each_asked tiers.0 (ascending drugs.0)) [
       | inr r ↦ inr (r.0, each_fails tiers.0 drugs.0 tiers.1 drugs.1 r.1)
       | inl ds ↦ inl (
         ds.0,

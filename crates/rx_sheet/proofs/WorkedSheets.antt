@@ -7,7 +7,7 @@ use Rattle.rx_ledger.specs.declared.drug.Share.TheVariants.{Copay, Percent}
 use Rattle.rx_ledger.specs.declared.figures.Figures.{Figures}
 use Rattle.rx_ledger.specs.declared.sheet.Listed.{Listed}
 use Rattle.rx_ledger.specs.declared.sheet_key.SheetKey.TheVariants as key
-use Rattle.rx_sheet.specs.Drugs.{drug_in, drugs_in, drugs_of, listed_in, share_in, tiers_in}
+use Rattle.rx_sheet.specs.Drugs.{ascending, drug_in, drugs_in, drugs_of, listed_in, share_in, tiers_in}
 use Rattle.rx_sheet.specs.Figures.{door_in, period_in, figures_in, family_deductible_in}
 use Rattle.rx_sheet.specs.Names.{name_of}
 use Rattle.rx_sheet.specs.SheetText.{sheet_in}
@@ -155,3 +155,8 @@ largest_price : drug_in (percent 100) (drug (codes "4") 1_000_000_000)
     ≡ Ok (record { share = Percent 100; price = 1_000_000_000 })
 unfolding drug_in name_of
 largest_price = refl
+
+-- drugs that stand in another order are taken by their keys
+by_key : (a b c : Data) → ascending (member (codes "2") a (member (codes "3") b (member (codes "1") c no_members)))
+    ≡ member (codes "1") c (member (codes "2") a (member (codes "3") b no_members))
+by_key a b c = refl

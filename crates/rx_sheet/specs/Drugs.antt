@@ -3,7 +3,7 @@ use Rattle.std.specs.Prelude.{◌≡◌, ℕ, Bool, true, ◌&&◌, if◌then◌
 use Rattle.std.specs.Option.{is_some, ok_or, option_and_then, option_map}
 use Rattle.std.specs.Ordering.{nat_cmp}
 use Rattle.rx_fields.specs.declared.limits.TheConstants.{MOST_CENTS}
-use Rattle.toml.specs.Data.{Data, integer, table, Members, no_members, member, get_member, as_str, as_table}
+use Rattle.toml.specs.Data.{Data, integer, table, Members, no_members, member, get_member, is_before, as_str, as_table}
 use Rattle.rx_fields.specs.Numbered.{product_of}
 use Rattle.rx_ledger.specs.Plan.{are_drugs, listed_product}
 use Rattle.rx_ledger.specs.declared.drug.Drug.{Drug}
@@ -59,18 +59,30 @@ listed_in tiers name value = do
   drug ← drug_in tiers value
   Ok (record { product = product; drug = drug })
 
--- the drugs of a table, one after another by their keys
+-- the members with one more, before the first whose key is greater
+abbrev pub among : List ℕ → Data → Members → Members
+among name value no_members = member name value no_members
+among name value (member other there more) =
+    if is_before name (member other there more) then member name value (member other there more)
+    else member other there (among name value more)
+
+-- the members in the order of their keys' bytes, in whatever order they stand
+abbrev pub ascending : Members → Members
+ascending no_members = no_members
+ascending (member name value more) = among name value (ascending more)
+
+-- the drugs of a table, one after another
 unfoldable pub drugs_of : Members → Members → Result (List Listed) SheetFault
 drugs_of tiers no_members = Ok []
 drugs_of tiers (member name value drugs) =
     listed_in tiers name value >>= λ first. drugs_of tiers drugs >>= λ more. Ok (first ∷ more)
 
--- keys 10 and 11 with the drugs
+-- keys 10 and 11 with the drugs, ascending by key
 unfoldable pub drugs_in : Members → Result (List Listed) SheetFault
 drugs_in sheet = do
   tiers ← read_at key.Tiers tiers_in sheet
   drugs ← read_at key.Drugs as_table sheet
-  drugs_of tiers drugs
+  drugs_of tiers (ascending drugs)
 
 -- what a plan's drugs have to be: each within its ranges, ascending by product
 pub record AreListed (drugs : List Listed) : Type 0 where

@@ -17,7 +17,7 @@ use Rattle.rx_ledger.specs.declared.sheet_key.SheetKey.{SheetKey}
 use Rattle.rx_ledger.specs.declared.sheet_key.SheetKey.TheVariants as key
 use Rattle.rx_sheet.specs.declared.fault.SheetFault.{SheetFault}
 use Rattle.rx_sheet.specs.declared.fault.SheetFault.TheVariants as fault
-use Rattle.rx_sheet.specs.Drugs.{share_of, tiers_in}
+use Rattle.rx_sheet.specs.Drugs.{ascending, share_of, tiers_in}
 use Rattle.rx_sheet.specs.Figures.{period_from}
 use Rattle.rx_sheet.specs.Names.{name_of}
 use Rattle.rx_sheet.specs.Values.{bin, day, number, pcn}
@@ -68,13 +68,13 @@ pub data SaysEach (tiers : Members) : Members → List Listed → Type 0 where
   more : (name : List ℕ) (value : Data) (rest : Members) (d : Listed) (ds : List Listed)
       → SaysDrug tiers name value d → SaysEach tiers rest ds → SaysEach tiers (member name value rest) (d ∷ ds)
 
--- keys 10 and 11, with the drugs
+-- keys 10 and 11, with the drugs ascending by key
 pub record SaysDrugs (table : Members) (ds : List Listed) : Type 0 where
   pub tiers : Members
   pub tiers_are : Says key.Tiers tiers_in table tiers
   pub drugs : Members
   pub drugs_are : Says key.Drugs as_table table drugs
-  pub each_is : SaysEach tiers drugs ds
+  pub each_is : SaysEach tiers (ascending drugs) ds
 
 -- the text is a TOML document in UTF-8, whose keys say this plan
 pub record IsSheetText (text : List ℕ) (plan : Plan) : Type 0 where
@@ -148,13 +148,13 @@ pub data FailsEach (tiers : Members) (f : SheetFault) : Members → Type 0 where
   later : (name : List ℕ) (value : Data) (rest : Members) (d : Listed) → SaysDrug tiers name value d
       → FailsEach tiers f rest → FailsEach tiers f (member name value rest)
 
--- keys 10 and 11, then the drugs
+-- keys 10 and 11, then the drugs ascending by key
 pub data FailsDrugs (table : Members) (f : SheetFault) : Type 0 where
   tiers_fail : Fails key.Tiers tiers_in table f → FailsDrugs table f
   drugs_fail : (tiers : Members) → Says key.Tiers tiers_in table tiers → Fails key.Drugs as_table table f
       → FailsDrugs table f
   each_fails : (tiers drugs : Members) → Says key.Tiers tiers_in table tiers → Says key.Drugs as_table table drugs
-      → FailsEach tiers f drugs → FailsDrugs table f
+      → FailsEach tiers f (ascending drugs) → FailsDrugs table f
 
 -- the text is no plan sheet, and has this fault: it is no TOML document in UTF-8, or its first key at fault
 pub data HasFault (text : List ℕ) : SheetFault → Type 0 where

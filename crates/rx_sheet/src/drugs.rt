@@ -5,7 +5,7 @@ ghost use Rattle.toml.specs.Data.{as_table};
 ghost use Rattle.toml.specs.View.{view, table_view};
 ghost use Rattle.rx_ledger.specs.Plan.{is_drug, is_share};
 ghost use Rattle.rx_sheet.specs.Drugs.{AreListed, percent_in, share_in, are_shares, tiers_in};
-ghost use Rattle.rx_sheet.specs.Drugs.{share_of, drug_in, listed_in, drugs_of, drugs_in};
+ghost use Rattle.rx_sheet.specs.Drugs.{ascending, share_of, drug_in, listed_in, drugs_of, drugs_in};
 ghost use Rattle.rx_sheet.specs.Fault.{GivesAs};
 ghost use Rattle.rx_sheet.specs.Values.{read_at};
 
@@ -71,9 +71,9 @@ fn percent_in(tier: &Table) -> Option<u8>
     Some(percent as u8)
 }
 
-// Each of these drugs, one after another.
+// Each of these drugs, ascending by key, as a table has its members.
 fn drugs_of(alloc: Global, tiers: &Table, drugs: &Table) -> Result<Vec<Listed>, SheetFault>
-    ensures value { GivesAs (λ v. v.items) result (drugs_of (table_view tiers.now) (table_view drugs.now)) }
+    ensures value { GivesAs (λ v. v.items) result (drugs_of (table_view tiers.now) (ascending (table_view drugs.now))) }
     ensures listed { IfOk result (λ v. AreListed v.items) }
 {
     let mut list = Vec::new(alloc);

@@ -1,7 +1,8 @@
 use Rattle.std.proofs.Common.{◌≡◌, Err, Ok, ap, sym, ◌∙◌, string_bytes}
 use Rattle.std.proofs.lemmas.Result.{err_from_is_err_and}
 use Rattle.toml.specs.View.{view, members_view, table_view}
-use Rattle.rx_sheet.specs.Drugs.{drugs_of}
+use Rattle.rx_sheet.specs.Drugs.{ascending, drugs_of}
+use Rattle.rx_sheet.proofs.Ascends.{ascends}
 use Rattle.rx_sheet.proofs.DrugLists.{with_front, goes_on, ends, is_done, are_drugs-last, unless_memory}
 use Rattle.rx_sheet.proofs.Products.{listed_ascending}
 use Rattle.rx_sheet.proofs.drugs.drugs_of.Goals as goal
@@ -18,7 +19,9 @@ returns-in_err-entry-clause-value c =
     let failed = rw c.as_str.ensures.value at c.in_err-entry.ensures.value in
     let meant : drugs_of tiers (table_view c.args.drugs.now) ≡ Err f =
     sym c.loop-name.invariant.0 ∙ (turn ∙ ends f front tiers (string_bytes c.in-Some.name.now) value rest (sym failed)) in
-    rw (p.1, p.2) (unless_memory f _ meant)
+    let ascend : ascending (table_view c.args.drugs.now) ≡ table_view c.args.drugs.now =
+    ascends c.args.drugs.now.entries c.iter-name-items.ensures.ordered in
+    rw (p.1, p.2, ascend) (unless_memory f _ meant)
 
 pub loop-name-preserved : goal.loop-name-preserved
 loop-name-preserved c =
@@ -40,7 +43,9 @@ returns-clause-value c =
     let tiers = table_view c.args.tiers.now in
     let front = c.loop-name.list.items in
     let end = ap (λ es. with_front front (drugs_of tiers (members_view es))) c.in-None.ensures.steps.0 in
-    sym c.loop-name.invariant.0 ∙ (end ∙ is_done front tiers)
+    let ascend : ascending (table_view c.args.drugs.now) ≡ table_view c.args.drugs.now =
+    ascends c.args.drugs.now.entries c.iter-name-items.ensures.ordered in
+    rw ascend (sym c.loop-name.invariant.0 ∙ (end ∙ is_done front tiers))
 
 pub returns-clause-listed : goal.returns-clause-listed
 returns-clause-listed c =
