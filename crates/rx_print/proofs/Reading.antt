@@ -1,13 +1,11 @@
 -- What is written for bytes is read as these bytes, and holds no mark.
 use Rattle.std.proofs.Common.{◌≡◌, ◌<◌, ℕ, ◌+◌, ◌*◌, ◌/◌, ◌%◌, Bool, true, false, ◌==◌, if◌then◌else◌, List, [], ◌∷◌}
-use Rattle.std.proofs.Common.{◌++◌, All, refl, sym, ap, ◌∙◌, append_assoc, arith}
+use Rattle.std.proofs.Common.{◌++◌, All, refl, ap, ◌∙◌, arith}
 use Rattle.std.proofs.lemmas.Bool.Decides.{nat_tests}
-use Rattle.std.proofs.lemmas.Grind.{common_steps}
 use Rattle.std.proofs.lemmas.List.Elements.{All-append, All-cons, All-nil, recursion_from_All}
-use Rattle.std.specs.List.{AllByRecursion, flat_map}
-use Rattle.rx_text.specs.Bytes.{is_printable}
+use Rattle.std.specs.List.{AllByRecursion}
 use Rattle.rx_print.specs.Hexadecimal.{hexadecimal}
-use Rattle.rx_print.specs.Escape.{AreBytes, Stand, begins, byte_text, digit_of, escaped, is_mark, is_special, number_text, read, read_from}
+use Rattle.rx_print.specs.Escape.{AreBytes, begins, byte_text, digit_of, escaped, is_mark, is_special, number_text, read, read_from}
 use Rattle.rx_print.specs.Escape.Stand.{Before}
 use Rattle.rx_print.specs.declared.style.Style.{Style}
 use Rattle.rx_print.specs.declared.style.Style.TheVariants.{Html, Json, Terminal}

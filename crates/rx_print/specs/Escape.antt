@@ -1,5 +1,5 @@
 -- Meaning: bytes written where some bytes are read as markup, and how they are read there.
-use Rattle.std.specs.Prelude.{◌<◌, ℕ, suc, zero, ◌+◌, ◌-◌, ◌*◌, ◌/◌, ◌%◌, Bool, false, not, ◌||◌, nat_lt, ◌==◌}
+use Rattle.std.specs.Prelude.{◌<◌, ℕ, suc, zero, ◌+◌, ◌-◌, ◌*◌, ◌/◌, ◌%◌, Bool, not, ◌||◌, nat_lt, ◌==◌}
 use Rattle.std.specs.Prelude.{if◌then◌else◌, List, [], ◌∷◌, ◌++◌, codes, All, length}
 use Rattle.std.specs.List.{flat_map}
 use Rattle.rx_text.specs.Bytes.{is_printable}

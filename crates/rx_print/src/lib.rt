@@ -10,7 +10,8 @@
 //! ```
 //!
 //! Each other text is a definition of `specs/`. A function whose name begins with `put` puts it at the end of a text; where
-//! a growth was refused, what was put by then stays. `Page` has the same as methods.
+//! a growth was refused, what was put by then stays, but for `put_codes`, which leaves the text as it was. `Page` has the
+//! same as methods.
 #![tactic(auto)]
 
 mod byte;
