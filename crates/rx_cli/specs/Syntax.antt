@@ -45,10 +45,13 @@ with_ways line = with_rule (with_rule line (flag (codes "plain"))) (flag (codes 
 abbrev pub with_run_options : App → App
 with_run_options line = with_ways (with_rule (with_rule line (required_option (codes "stamp"))) workers_option)
 
+-- the line with the options of a log
+abbrev pub with_log : App → App
+with_log line = with_rule (with_rule line (optional_option (codes "log"))) (flag (codes "sums"))
+
 -- the line with the options of `run` for a run that nobody watches
 abbrev pub with_watch : App → App
-with_watch line = with_rule (with_rule (with_rule (with_rule line (flag (codes "safe"))) verbose_flag)
-    (optional_option (codes "log"))) (flag (codes "sums"))
+with_watch line = with_log (with_rule (with_rule line (flag (codes "safe"))) verbose_flag)
 
 -- `run --sheet F --books F --batch F --response F --books-out F --settlement F --stamp S --workers N [--plain] [--desk]
 -- [--safe] [-v] [--log F] [--sums]`

@@ -2,7 +2,7 @@
 ghost use Rattle.std.specs.Prelude.{◌≡◌, false, IfOk};
 ghost use Rattle.clap.specs.Words.{App, app_of, new_app, rule_of};
 ghost use Rattle.rx_cli.specs.Syntax.{Draws, IsLocal, flag, optional_option, required_option, verbose_flag, workers_option};
-ghost use Rattle.rx_cli.specs.Syntax.{with_inputs, with_outputs, with_run_options, with_watch, with_ways};
+ghost use Rattle.rx_cli.specs.Syntax.{with_inputs, with_log, with_outputs, with_run_options, with_watch, with_ways};
 ghost use Rattle.rx_cli.specs.Syntax.{check_line, plan_line, run_line, show_line, with_adjudication};
 ghost use Rattle.rx_cli.specs.Syntax.{explain_line, replies_line, report_line, verify_line, with_retracing};
 ghost use Rattle.rx_cli.specs.Syntax.{whole_line, with_asked, with_forms, with_verify_options};
@@ -153,6 +153,13 @@ fn takes_watch<'a>(alloc: Global, line: Draft<'a>) -> Draft<'a>
         "Give the outputs their names only where all is done",
     );
     let verbose = flag(alloc, "verbose", "Tell the steps, and a fault in words").short('v');
+    takes_log(alloc, line.arg(safe).arg(verbose))
+}
+
+/// A line with the options of a log.
+fn takes_log<'a>(alloc: Global, line: Draft<'a>) -> Draft<'a>
+    ensures { (app : App) → Draws app line.entry → Draws (with_log app) result }
+{
     let log = optional(
         alloc,
         "log",
@@ -160,7 +167,7 @@ fn takes_watch<'a>(alloc: Global, line: Draft<'a>) -> Draft<'a>
         "Log of the run, a line of JSON, to be written",
     );
     let sums = flag(alloc, "sums", "Write the SHA-256 of each file into the log");
-    line.arg(safe).arg(verbose).arg(log).arg(sums)
+    line.arg(log).arg(sums)
 }
 
 /// The subcommand `run`.

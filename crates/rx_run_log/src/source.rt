@@ -17,6 +17,10 @@ impl<'c, S: Source, C: Clock> Source for Watched<'c, S, C> {
 
     ghost cramped = { λ s. S.cramped s.device };
 
+    fn hint(&self) -> Option<usize> {
+        self.device.hint()
+    }
+
     /// Gives what the source gives, and adds it to the traffic.
     fn read(&mut self, buffer: &mut [u8]) -> Result<usize, Failed>
         ensures bound { ReadsAtMost result buffer.new }

@@ -10,7 +10,21 @@ use std::{fs, io};
 pub fn source(rt: &HostRuntime, path: &str, device: Device) -> Result<ReaderSource<File>, Ending>
     ensures { IfOk result (λ source. ⟦<ReaderSource<File> as Source>⟧.failed source ≡ false) }
 {
-    Ok(ReaderSource::new(open_input(rt, path, device)?))
+    let file = open_input(rt, path, device)?;
+    let len = len_of(&file);
+    Ok(ReaderSource::new(file).with_hint(len))
+}
+
+/// The opened file as an input.
+pub fn input_of<'a>(file: &'a File) -> ReaderSource<&'a File>
+    ensures { ⟦<ReaderSource<&'a File> as Source>⟧.failed result ≡ false }
+{
+    ReaderSource::new(file).with_hint(len_of(file))
+}
+
+// The length of a file, as the system tells it; more or less may be read of it.
+fn len_of(file: &File) -> Option<usize> {
+    usize::try_from(file.metadata().ok()?.len()).ok()
 }
 
 /// The file, opened for reading; one that can't be opened counts as a failed read of it.

@@ -1,11 +1,11 @@
 use crate::ending::Ending;
-use crate::files::open_inputs;
+use crate::files::{input_of, open_inputs};
 use crate::nodes::{Node, one_file_twice};
 use crate::outputs::RunOutputs;
 use crate::run_gate::RunGate;
 use crate::watched_run;
 use rx_cli::RunWords;
-use rx_io::{Inputs, ReaderSource, WriterSink};
+use rx_io::{Inputs, WriterSink};
 use rx_switch::run_io;
 use std::fs::File;
 use std::sync::Wait;
@@ -69,7 +69,7 @@ fn on_files<R: Threads + Wait + Sync>(
     let gate = RunGate {
         at_desk: words.desk,
     };
-    let mut sources = inputs.as_ref().map(|file| ReaderSource::new(file));
+    let mut sources = inputs.as_ref().map(|file| input_of(file));
     let mut sinks = outputs.files().map(|file| WriterSink::new(file));
     let done = run_io(
         threads,

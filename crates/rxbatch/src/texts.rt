@@ -1,7 +1,7 @@
 //! The files that a command reads whole.
 use crate::ending::Ending;
-use crate::files::{open_inputs, source};
-use rx_io::{Device, Inputs, ReaderSource};
+use crate::files::{input_of, open_inputs, source};
+use rx_io::{Device, Inputs};
 use rx_switch::read_all;
 use std::fs::File;
 
@@ -13,7 +13,7 @@ pub fn text_of(rt: &HostRuntime, path: &str, device: Device) -> Result<Vec<u8>, 
 
 /// The whole text of an opened file.
 pub fn text_in(rt: &HostRuntime, file: &File, device: Device) -> Result<Vec<u8>, Ending> {
-    read_all(rt.alloc(), &mut ReaderSource::new(file), device).map_err(Ending::Io)
+    read_all(rt.alloc(), &mut input_of(file), device).map_err(Ending::Io)
 }
 
 /// Opens and reads the inputs of a job, one after another in the order of their numbers.

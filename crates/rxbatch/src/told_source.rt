@@ -1,6 +1,7 @@
 //! An input of a run that is watched.
 ghost use Rattle.std.specs.Prelude.{◌≡◌, false};
 
+use crate::files::input_of;
 use crate::teller::Teller;
 use rx_io::{Failed, ReaderSource, Source};
 use rx_run_log::{Step, Traffic, Watched};
@@ -26,7 +27,7 @@ impl<'a> ToldSource<'a> {
         ensures { ⟦<ToldSource<'a> as Source>⟧.failed result ≡ false }
     {
         ToldSource {
-            source: Watched::new(ReaderSource::new(file), rt, sums),
+            source: Watched::new(input_of(file), rt, sums),
             step,
             teller,
         }
@@ -46,6 +47,10 @@ impl<'a> Source for ToldSource<'a> {
     ghost reads = { λ s. ⟦<Watched<'a, ReaderSource<&'a File>, HostRuntime> as Source>⟧.reads s.source };
 
     ghost cramped = { λ s. ⟦<Watched<'a, ReaderSource<&'a File>, HostRuntime> as Source>⟧.cramped s.source };
+
+    fn hint(&self) -> Option<usize> {
+        self.source.hint()
+    }
 
     fn read(&mut self, buffer: &mut [u8]) -> Result<usize, Failed> {
         let count = self.source.read(buffer)?;
