@@ -1,5 +1,6 @@
 #!/usr/bin/env python3
-"""Compares a program with itself on random inputs: `run` with `--plain` and one worker against workers 1, 2 and 64.
+"""Compares a program with itself on random inputs: `run` with `--plain` and one worker against workers 1, 2,
+3, 7 and 64, and with `--desk` and 3.
 
     tests/random_runs.py PROGRAM [--runs N] [--seed S] [--keep DIR]
 
@@ -28,7 +29,7 @@ import make_job  # noqa: E402
 
 INPUTS = {"--sheet": "sheet.toml", "--books": "books.txt", "--batch": "batch.bin"}
 OUTPUTS = {"--response": "response.bin", "--books-out": "books-out.txt", "--settlement": "settlement.txt"}
-RUNS = (("1", True), ("1", False), ("2", False), ("64", False), ("64", True))
+RUNS = (("1", "--plain"), ("1", None), ("2", None), ("3", None), ("7", None), ("64", None), ("3", "--desk"), ("64", "--plain"))
 FRONT = 13              # STX, `G1` and the reference of a detail
 SPECIAL = (0x02, 0x03, 0x1C, 0x1D, 0x1E, 0x00, 0x20, 0x30, 0x7C, 0xFF)
 
@@ -108,9 +109,9 @@ def read(folder, name):
         return None
 
 
-def answer_of(program, folder, number, plain):
+def answer_of(program, folder, number, way):
     """Status, standard output, standard error and the output files of one run."""
-    words = ["run", "--stamp", make_job.STAMP, "--workers", number] + ["--plain"] * plain
+    words = ["run", "--stamp", make_job.STAMP, "--workers", number] + ([way] if way else [])
     words += [word for pair in {**INPUTS, **OUTPUTS}.items() for word in pair]
     ended = subprocess.run(program + words, cwd=folder, stdin=subprocess.DEVNULL, capture_output=True, timeout=60)
     return [ended.returncode, ended.stdout, ended.stderr] + [read(folder, name) for name in OUTPUTS.values()]
@@ -121,12 +122,12 @@ def difference(program, folder):
     wanted = answer_of(program, folder, *RUNS[0])
     if wanted[0] != 0 and not (wanted[0] == 1 and wanted[2].startswith(b"refused ")):
         return f"status {wanted[0]}: {wanted[2][:60]!r}"
-    for number, plain in RUNS[1:]:
-        got = answer_of(program, folder, number, plain)
+    for number, way in RUNS[1:]:
+        got = answer_of(program, folder, number, way)
         if got != wanted:
             parts = ("status", "standard output", "standard error") + tuple(OUTPUTS.values())
             part = next(name for name, a, b in zip(parts, wanted, got) if a != b)
-            return f"{part} of {number} workers{' with --plain' * plain} isn't that of one with --plain"
+            return f"{part} of {number} workers{' with ' + way if way else ''} isn't that of one with --plain"
     return None
 
 
