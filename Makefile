@@ -39,17 +39,17 @@ look: kit
 	@echo "== $(LOOK)/response.bin is the response file"
 
 test: kit
-	python3 tests/gate.py
+	python3 .ci/gate.py
 	$(MAKE) --silent cases
 
 # The gate again, with the must-fail edits of those crates too that are as they were when these were last tried.
 all-edits: kit
-	python3 tests/gate.py --all
+	python3 .ci/gate.py --all
 	$(MAKE) --silent cases
 
 cases: kit
-	python3 tests/check_docs.py
-	python3 tests/find_doubles.py --allowed 53
+	python3 tools/check_docs.py
+	python3 tools/find_doubles.py --allowed 53
 	test -x $(PROGRAM) || (cd crates/rxbatch && rt run -- sample)
 	python3 packaging/make_pages.py $(PROGRAM) --check
 	python3 tests/run_pages.py $(PROGRAM)

@@ -17,7 +17,8 @@ names, by which the digests are made: what was seen refused under an old name st
     gate.py --note     writes down all crates' edits, after a gate that passed on these very texts and tried them all
 
 The proofs, tests and programs come first. Edits are tried then, of a few crates at a time and the lowest first, for as long as
-GATE_MINUTES (90) since the start aren't over.
+GATE_MINUTES (90) since the start aren't over. After the first part and at the end one line says how many minutes it took, by the
+clock and of processors.
 """
 
 import argparse
@@ -33,8 +34,8 @@ import threading
 import time
 
 TOP = os.path.dirname(os.path.dirname(os.path.abspath(__file__)))
-SEEN = f"{TOP}/tests/edits_seen.txt"
-RENAMES = f"{TOP}/tests/renames.txt"
+SEEN = f"{TOP}/.ci/edits_seen.txt"
+RENAMES = f"{TOP}/.ci/renames.txt"
 ASIDE = f"{TOP}/out/edits-aside"
 OWN = ("src", "specs", "proofs", "must-fail")
 STATED = ("src", "specs")
@@ -238,12 +239,19 @@ def try_edits(changed, end):
     return 0
 
 
+def print_minutes(what, start):
+    """Prints how many minutes have passed since the start, and how many of processors the ended commands took."""
+    by_processors = os.times().children_user + os.times().children_system
+    print(f"gate: {what} took {by_processors / 60:.1f} processor minutes, {(time.monotonic() - start) / 60:.1f} by the clock", flush=True)
+
+
 def gate(now, changed):
     """Runs `rt ci` without edits, and then tries those of the crates that changed, for as long as there is time."""
-    end = time.monotonic() + 60 * float(os.environ.get("GATE_MINUTES") or MINUTES)
+    start = time.monotonic()
+    end = start + 60 * float(os.environ.get("GATE_MINUTES") or MINUTES)
     same = [it for it in now if it not in changed]
     print(f"gate: the edits of {len(changed)} crates are to be tried: {' '.join(changed) or 'none'}")
-    print(f"gate: those of {len(same)} were each seen refused on these very texts (tests/edits_seen.txt): {' '.join(same) or 'none'}", flush=True)
+    print(f"gate: those of {len(same)} were each seen refused on these very texts (.ci/edits_seen.txt): {' '.join(same) or 'none'}", flush=True)
     os.makedirs(ASIDE)
     try:
         for crate in now:
@@ -251,7 +259,10 @@ def gate(now, changed):
         status = rt_ci(TOP)
     finally:
         put_back()
-    return status or try_edits(changed, end)
+    print_minutes("proofs, tests and programs", start)
+    status = status or try_edits(changed, end)
+    print_minutes("all", start)
+    return status
 
 
 def are_refused(crate):

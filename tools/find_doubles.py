@@ -1,7 +1,7 @@
 #!/usr/bin/env python3
 """Finds code and definitions that stand twice: six or more lines that are equal, names aside.
 
-    python3 tests/find_doubles.py [FOLDER] [--least N] [--allowed N] [--crate NAME]
+    python3 tools/find_doubles.py [FOLDER] [--least N] [--allowed N] [--crate NAME]
 
 Read are crates/*/src and crates/*/specs below FOLDER, tests aside. Lines are equal, names aside, where one becomes the other
 by giving each name, number and text another one throughout; keywords stay. Only these are no lines:

@@ -1,7 +1,7 @@
 #!/usr/bin/env python3
 """Checks that the pages say what is there: calls, clauses, crates, paths, headings and figures.
 
-    python3 tests/check_docs.py [FOLDER]
+    python3 tools/check_docs.py [FOLDER]
 
 - Each call, law and type in the tables of docs/GUARANTEES.md is public in the crate that its row names, or in one that this
   crate passes on; each clause, written `call` (clause), is a clause of that call; each edit is in the must-fail folder of its
@@ -9,13 +9,13 @@
 - Each crate of crates.txt has one line in docs/ARCHITECTURE.md and one place in its drawing, and uses no crate of a storey
   above its own.
 - The headline stands in the README and in the code as docs/GUARANTEES.md has it.
-- The definitions to be trusted are those that tests/trusted.py finds, with their number of lines in hundreds, there and in the
+- The definitions to be trusted are those that tools/trusted.py finds, with their number of lines in hundreds, there and in the
   README.
 - The README's table of times has the date and the figures of bench/README.md, "Whole runs".
 - Each path in a page is there, and each heading, or term in bold, that a page or the code names stands in the page that it
   names. No page or comment names a page that isn't there.
 - Each name in docs/GLOSSARY.md is a name of the code or of a definition.
-- Each test that tests/README.md names is there.
+- Each script that tests/README.md names is there, and it names each one of tests/, tools/ and .ci/.
 - The pages have at most 25,000 words together, and the README at most 100 lines.
 
 The last line is `N passed, M failed`; the exit status is 1 where M isn't 0.
@@ -35,7 +35,7 @@ CLAUSES = re.compile(r"`([^`]+)`|\(([a-z_]+(?:, [a-z_]+)*)\)")
 HEADING = re.compile(r"^#+ (.+)$|\*\*([^*\n]+?)\.?\*\*", re.M)
 PAGE = r"(?:docs/[A-Z]+|[A-Z]+|(?:tests|tests/cases|bench|examples/\w+)/README)\.md"
 REFERENCE = re.compile(rf"`?((?<![\w/.]){PAGE})`?(?:, \"([^\"]+)\"(?: and \"([^\"]+)\")?)?")
-PATH = re.compile(r"`((?:docs|crates|tests|bench|examples|packaging|\.ci)/[A-Za-z0-9_./-]*)`")
+PATH = re.compile(r"`((?:docs|crates|tests|tools|bench|examples|packaging|\.ci)/[A-Za-z0-9_./-]*)`")
 LINK = re.compile(r"\]\(([^)#\s]+)(?:#([^)]*))?\)")
 MOST_WORDS = 25_000
 MOST_LINES = 100
@@ -233,7 +233,7 @@ def check_places(root, pages, checks):
                 checks.expect(anchor in anchors_of(there.read_text()), f"{name}: {link} has no #{anchor}")
     sources = [root / name for name in pages]
     for pattern in ("crates/*/src/**/*.rt", "crates/*/specs/**/*.antt", "crates/*/proofs/**/*.antt", "tests/**/*.py",
-                    "bench/*.py", "examples/**/*.py", "examples/**/*.sh", "packaging/*.py", "Makefile"):
+                    "tools/*.py", ".ci/*.py", "bench/*.py", "examples/**/*.py", "examples/**/*.sh", "packaging/*.py", "Makefile"):
         sources += sorted(root.glob(pattern))
     for source in sources:
         text = re.sub(r"\n\s*(//[/!]?|--|#) ", " ", source.read_text())
@@ -262,10 +262,11 @@ def check_tests(root, pages, checks):
     for cells in rows_of(section(pages["tests/README.md"], "What only the tests of the workers refuse")):
         for name in re.findall(r"`([^`]+)`", cells[-1]):
             checks.expect(f"#[test]\nfn {name}(" in tests, f"tests/README.md: {cells[0]}: rx_wave has no test {name}")
-    for name in re.findall(r"`(\w+\.(?:py|txt))", pages["tests/README.md"]):
-        checks.expect((root / "tests" / name).exists(), f"tests/README.md: {name}: no such file")
-    for name in (root / "tests").glob("*.py"):
-        checks.expect(f"`{name.name}" in pages["tests/README.md"], f"tests/README.md: nothing about {name.name}")
+    named = {(root / "tests" / path).resolve() for path in re.findall(r"`([\w./]+\.(?:py|txt))", pages["tests/README.md"])}
+    scripts = {path for folder in ("tests", "tools", ".ci") for path in (root / folder).glob("*.py")}
+    for path in sorted(named | scripts):
+        checks.expect(path.exists(), f"tests/README.md: {path.name}: no such file")
+        checks.expect(path in named, f"tests/README.md: nothing about {path.relative_to(root)}")
 
 
 def check_size(pages, checks):

@@ -1,7 +1,7 @@
 #!/usr/bin/env python3
 """Finds the definitions that the headline promise cites, directly or through others.
 
-    python3 tests/trusted.py [FOLDER]
+    python3 tools/trusted.py [FOLDER]
 
 It begins with the contract of `rx_switch::run` and follows the imports from one file of specs/ to the next. What `rt` makes of
 the code's own types (`specs.declared`) and the standard library's definitions aren't counted. It prints each file with its

@@ -1,7 +1,7 @@
 #!/usr/bin/env python3
 """Makes the cases that are too big or too many to be stored; `run_cases.py PROGRAM --cases DIR` then runs them.
 
-    tests/make_big.py DIR [--cuts] [--bytes]
+    tools/make_big.py DIR [--cuts] [--bytes]
 
 Always these two:
 
@@ -9,15 +9,15 @@ Always these two:
     DIR/too-many-details         a batch of 100,001 details without a transmission
 
 With `--cuts` DIR/cuts/000 to 325: one-billing's batch file (tests/cases/README.md) cut to each number of bytes. With `--bytes`
-DIR/bytes/000-STX and so on: each of its bytes in turn replaced by each of seven; these 2,282 have no wanted answer
-but that all their runs answer the same.
+DIR/bytes/000-STX and so on: each of its bytes in turn replaced by each of seven; these 2,282 have no expected
+answer, but all their runs have to answer the same.
 """
 
 import argparse
 import os
 import sys
 
-HERE = os.path.dirname(os.path.abspath(__file__))
+CASES = os.path.join(os.path.dirname(os.path.dirname(os.path.abspath(__file__))), "tests", "cases")
 REPLACEMENTS = {"STX": b"\x02", "ETX": b"\x03", "FS": b"\x1c", "GS": b"\x1d", "SS": b"\x1e", "00": b"\x00",
                 "FF": b"\xff"}
 HEADER = 75             # bytes of a batch header
@@ -31,7 +31,7 @@ def one_billing():
     """The inputs of case one-billing."""
     inputs = {}
     for name in ("sheet.toml", "books.txt", "batch.bin", "stamp", "workers"):
-        with open(os.path.join(HERE, "cases", "one-billing", name), "rb") as file:
+        with open(os.path.join(CASES, "one-billing", name), "rb") as file:
             inputs[name] = file.read()
     return inputs
 
