@@ -1,13 +1,13 @@
-# make look: the first job run without proof, or another one by JOB=FOLDER. make demo: proved, built, and the first job run.
-# make test: the gate, then the worked cases on the built program. make install PREFIX=..: the built program with its manual
-# page and completions.
+# make look: the first job run without proof and its outputs shown, or another job by JOB=FOLDER. make demo: proved, built, and
+# the first job run; the program stands at ./rxbatch then. make test: the gate, then the worked cases on the built program.
+# make install PREFIX=..: the built program with its manual page and completions.
 .PHONY: test all-edits cases demo look install kit
 PROGRAM = crates/rxbatch/out/rxbatch
 TRIALS = crates/rx_bench/out/rx_bench
-JOB = examples/first_job
+FIRST = examples/first_job
 PREFIX = /usr/local
 DESTDIR =
-# (the letter behind the number is the kit's edition: its logic is the same)
+# (the letter after the number is the kit's edition: its logic is the same)
 KIT = rattle-kit-13
 LOGIC = dac8208d650f15bf
 
@@ -16,27 +16,9 @@ kit:
 	@command -v rt > /dev/null || { echo "make: the command rt of the kit $(KIT) isn't on the path: see \"Install\" in README.md" >&2; exit 1; }
 	@rt version | grep -q '^$(KIT)[a-z]* logic $(LOGIC)$$' || echo "make: this is proved with $(KIT) logic $(LOGIC), and rt is $$(rt version)" >&2
 
-# The stamp of that run, and the record that is explained.
-STAMP = 202603170600
-RECORD = 2
-LOOK = out/look
-INPUTS = --sheet sheet.toml --books books.txt --batch batch.bin
-OUTPUTS = --response $(CURDIR)/$(LOOK)/response.bin --books-out $(CURDIR)/$(LOOK)/books-out.txt \
-  --settlement $(CURDIR)/$(LOOK)/settlement.txt
-FILES = $(foreach file,sheet.toml books.txt batch.bin,--data $(file)=$(abspath $(JOB))/$(file))
-
-# One build; each file of the folder is a case, whose arguments stand in NAME.args, one a line.
+# Of another job the record that is explained is RECORD, and the stamp STAMP.
 look: kit
-	@rm -rf $(LOOK) && mkdir -p $(LOOK)/cases && touch $(addprefix $(LOOK)/cases/,1-check 2-run 3-report 4-explain)
-	@printf '%s\n' check $(INPUTS) > $(LOOK)/cases/1-check.args
-	@printf '%s\n' run $(INPUTS) --stamp $(STAMP) --workers 4 $(OUTPUTS) > $(LOOK)/cases/2-run.args
-	@printf '%s\n' report $(INPUTS) > $(LOOK)/cases/3-report.args
-	@printf '%s\n' explain $(INPUTS) --record $(RECORD) > $(LOOK)/cases/4-explain.args
-	@echo "make: building without proof, for about two minutes"
-	@cd crates/rxbatch && rt try $(FILES) --cases $(CURDIR)/$(LOOK)/cases
-	@echo "== $(LOOK)/settlement.txt" && cat $(LOOK)/settlement.txt
-	@echo "== $(LOOK)/books-out.txt, of which the first ten lines" && head -n 10 $(LOOK)/books-out.txt
-	@echo "== $(LOOK)/response.bin is the response file"
+	@python3 tools/look.py $(JOB) $(if $(RECORD),--record $(RECORD)) $(if $(STAMP),--stamp $(STAMP))
 
 test: kit
 	python3 .ci/gate.py
@@ -50,6 +32,7 @@ all-edits: kit
 cases: kit
 	python3 tools/check_docs.py
 	python3 tools/find_doubles.py --allowed 53
+	python3 tools/count_dialect.py --allowed 1140
 	test -x $(PROGRAM) || (cd crates/rxbatch && rt run -- sample)
 	python3 packaging/make_pages.py $(PROGRAM) --check
 	python3 tests/run_pages.py $(PROGRAM)
@@ -68,17 +51,16 @@ cases: kit
 	python3 tests/refused_desk.py "$(TRIALS) orders" --jobs 3
 
 demo: kit
-	cd crates/rxbatch && rt run -- sample
+	@python3 tools/build.py
+	ln -sf $(PROGRAM) rxbatch
 	mkdir -p out
-	$(PROGRAM) run --sheet $(JOB)/sheet.toml --books $(JOB)/books.txt --batch $(JOB)/batch.bin --stamp 202603170600 \
+	./rxbatch run --sheet $(FIRST)/sheet.toml --books $(FIRST)/books.txt --batch $(FIRST)/batch.bin --stamp 202603170600 \
 	  --workers 4 --response out/response.bin --books-out out/books-out.txt --settlement out/settlement.txt
 	cat out/settlement.txt
-	head -n 20 out/books-out.txt
-	for file in response.bin books-out.txt settlement.txt; do cmp out/$$file $(JOB)/expected/$$file || exit 1; done
-	sha256sum $(PROGRAM)
+	for file in response.bin books-out.txt settlement.txt; do cmp out/$$file $(FIRST)/expected/$$file || exit 1; done
 
 install:
-	test -x $(PROGRAM) || { echo "make: $(PROGRAM) isn't there: run make demo first" >&2; exit 1; }
+	@test -x $(PROGRAM) || { echo "make: $(PROGRAM) isn't there: run make demo first" >&2; exit 1; }
 	install -D -m 755 $(PROGRAM) $(DESTDIR)$(PREFIX)/bin/rxbatch
 	install -D -m 644 packaging/rxbatch.1 $(DESTDIR)$(PREFIX)/share/man/man1/rxbatch.1
 	install -D -m 644 packaging/rxbatch.bash $(DESTDIR)$(PREFIX)/share/bash-completion/completions/rxbatch

@@ -72,12 +72,12 @@ def earlier_names():
 
 
 def is_test(path):
-    """Whether a file of a crate has tests alone."""
+    """Whether a file of a crate has only tests."""
     return "tests" in path.removesuffix(".rt").split("/")
 
 
 def said(text):
-    """The lines of a text that mean something to the prover: no comment, no empty line, no tests beside the code."""
+    """The lines of a text that mean something to the prover: no comment, no empty line, no tests next to the code."""
     lines = [line for line in text.splitlines() if line.strip() and not line.lstrip().startswith(("//", "--"))]
     return [line for at, line in enumerate(lines) if line.strip() not in ("#[cfg(test)]", "mod tests;")]
 
@@ -180,7 +180,7 @@ def put_back():
 
 
 def passed_on(run, bad):
-    """Passes on what the run says, and notes each edit that can't be applied, which `rt` tells and takes for no fault."""
+    """Passes on what the run says, and notes each edit that can't be applied, which `rt` prints and doesn't take for a fault."""
     for line in run.stdout:
         print(line, end="", flush=True)
         if BAD in line:

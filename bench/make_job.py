@@ -6,9 +6,9 @@
                           [--again N] [--seed S]
 
 The books have F families of M members and C standing claims. The batch has N records of 1 to T transactions, most of
-them billings and PERCENT of them reversals of standing claims; `--hot` sends so many percent of the records to the
-first hundredth of the families, so that records share. `--billed` bills, and takes back from, the first N families
-alone, of whose members K claims stand, if K is given. `--again` lets N claims of one member, product and date stand,
+them billings and PERCENT of them reversals of standing claims; `--hot` sends this many percent of the records to the
+first hundredth of the families, so that records share. `--billed` bills, and takes back from, only the first N
+families, of whose members K claims stand, if K is given. `--again` lets N claims of one member, product and date stand,
 which the first N records take back and the next N bill again. Layouts are those of docs/FORMATS.md.
 """
 

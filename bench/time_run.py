@@ -7,7 +7,7 @@ PROGRAM is a path or a command line. For each number of workers it runs R rounds
 their times, the processor time of the best and its records a second; with `--plain` it times `--plain` too. Every run
 has to end with status 0 and to write the bytes that the first one wrote. With `--retraced` it then times, in turn, `run`
 with one worker, `explain` of the first, the middle and the last record, `verify` with one worker, and `cat` of the three
-outputs, which `verify` reads beside the inputs.
+outputs, which `verify` reads next to the inputs.
 """
 
 import argparse
@@ -63,7 +63,7 @@ def one_run(program, folder, into, number, plain):
 
 
 def retraced(program, folder, into, records, rounds):
-    """Times what replays a batch beside the run itself, in turn, and prints a line for each."""
+    """Times what replays a batch besides the run itself, in turn, and prints a line for each."""
     inputs, outputs = paths(INPUTS, folder), paths(OUTPUTS, into)
     stamp = ["--stamp", stamp_of(folder), "--workers", "1"]
     commands = {"`run`, 1 worker": program + ["run"] + stamp + inputs + outputs}

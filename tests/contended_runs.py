@@ -5,7 +5,7 @@
 
 PROGRAM is a path or a command line. The job is made by bench/make_job.py: R records over F families, so that nearly
 every record waits for another; with `--desk` its runs share the records at a desk. Each run has to end by itself within S seconds, with status 0 and the three outputs of
-the run with one worker; the first that doesn't is told with what differs. The last line is `N passed, M failed`.
+the run with one worker; the first that doesn't is reported with what differs. The last line is `N passed, M failed`.
 """
 
 import argparse

@@ -4,9 +4,9 @@
     tests/refused_desk.py PROGRAM [--jobs N] [--step N] [--seconds S]
 
 PROGRAM is `crates/rx_bench/out/rx_bench orders`, a command line. A library is compiled with `cc` from refused_memory.c
-beside this file and preloaded into it; without `cc` nothing can be tried. The program makes a refused desk again, and asks a
+next to this file and preloaded into it; without `cc` nothing can be tried. The program makes a refused desk again, and asks a
 refused `next` and a refused adjudication once more; each job then ends as in file order, and it counts the refusals that
-`next` met. Where the refusal meets its own lists it says that memory was wanting. Any other end fails. The sweep goes on
+`next` met. Where the refusal meets its own lists it says that memory ran out. Any other end fails. The sweep goes on
 until a run meets no refusal. The last line is `N passed, M failed`.
 """
 
@@ -35,7 +35,7 @@ def ended(program, library, request, seconds, met):
 
 
 def kind_of(run, wanted):
-    """What came of a refusal; None where it is none of these."""
+    """What came of a refusal; None if it is none of these."""
     if run.returncode > 0 and (not run.stderr or b"memory" in run.stderr.lower()):
         return "want of memory"
     if run.returncode != 0 or ORDER.sub(b"\n", run.stdout) != ORDER.sub(b"\n", wanted):

@@ -3,13 +3,13 @@
 
     tests/refused_memory.py PROGRAM [--only WORD] [--all] [--step N] [--seconds S]
 
-PROGRAM is a path or a command line. A library is compiled with `cc` from refused_memory.c beside this file and preloaded
+PROGRAM is a path or a command line. A library is compiled with `cc` from refused_memory.c next to this file and preloaded
 into the program; without `cc` nothing can be tried. Each job runs with 1 worker, plainly too, and with 2 workers, at a desk
 too. With `--all` each later request is refused too; with `--step N` only each Nth is tried.
 
-A run has to end by itself. It answers what it answers with ample memory, or want of memory: status 1 with the line
+A run has to end by itself. It answers what it answers with ample memory, or out of memory: status 1 with the line
 `refused 6 0 0` (or without a line, where no memory is left to write one), and then its outputs are empty; or, where a
-path couldn't be opened for want of memory, status 3 and `file K`. A job is swept until a run meets no refusal, and that
+path couldn't be opened where memory runs out, status 3 and `file K`. A job is swept until a run meets no refusal, and that
 run's answer is the case's. Each job has one line with its counts; the last line is `N passed, M failed`.
 """
 
@@ -63,7 +63,7 @@ def answer_of(settings, words, folder, request):
 
 
 def kind_of(wanted, got):
-    """What an answer is: the case's own, want of memory, or a file that couldn't be opened; None where it is none."""
+    """What an answer is: the case's own, out of memory, or a file that couldn't be opened; None if it is none."""
     if run_cases.first_difference(wanted, got) is None:
         return "its own answer"
     if got.stdout or any(got.outputs.values()):
@@ -74,7 +74,7 @@ def kind_of(wanted, got):
 
 
 def sweep(settings, folder, number, way, into):
-    """How often each kind was answered, and the first wrong answer, None where there is none."""
+    """How often each kind was answered, and the first wrong answer, None if there is none."""
     words, wanted = run_cases.run_words(folder, number, way), run_cases.wanted_of_run(folder)
     kinds = Counter()
     for request in itertools.count(1, settings.step):

@@ -3,11 +3,11 @@
 
     tests/run_cases.py PROGRAM [--cases DIR] [--plan] [--only WORD] [--jobs J] [--seconds S]
 
-PROGRAM is a path or a command line. The cases are the folders below DIR (tests/cases beside this file); tests/cases/README.md
+PROGRAM is a path or a command line. The cases are the folders below DIR (tests/cases next to this file); tests/cases/README.md
 names their files. Each case is copied to a temporary folder and run there: `run` with workers 1, 2 and 64 and with the
 number that the case names, each also with `--plain`, and with `--desk` and workers 2, 3 and 64; then `show` and `sample`
 where the case has their texts, and with `--plan` also `plan`. Compared are the exit status, standard output, standard error and the output files, and the
-inputs have to stay as they were. A folder without `status` has no wanted answer: there all runs have to answer the
+inputs have to stay as they were. A folder without `status` has no expected answer: there all runs have to answer the
 same.
 
 A case that differs has one line with its first difference. The last line is `N passed, M failed`; the exit status is 0
@@ -34,7 +34,7 @@ ANSWERS = ("status", "show", "show-refused", "plan", "plan-refused", "sample")
 
 
 class Answer(NamedTuple):
-    """What a run answers; as what is wanted, None leaves a part open. An output that isn't there is None; it may be
+    """What a run answers; as what is expected, None leaves a part open. An output that isn't there is None; it may be
     away where a file couldn't be opened."""
     status: Optional[int]
     stdout: Optional[bytes]
@@ -103,7 +103,7 @@ def wanted_of_text(folder, name):
 
 
 def runs_of(folder, settings):
-    """Each run of the case as its name, its words and the answer that is wanted."""
+    """Each run of the case as its name, its words and the answer that is expected."""
     words = read(folder, "words")
     if words is not None:
         return [("words", words.decode().splitlines(), Answer(int(read(folder, "status")), b"", None, {}))]
@@ -142,7 +142,7 @@ def difference(what, wanted, got):
 
 
 def first_difference(wanted, got):
-    """The first difference of two answers, None where there is none."""
+    """The first difference of two answers, None if there is none."""
     if wanted.status is not None and wanted.status != got.status:
         return f"status {got.status}, wanted {wanted.status}" + (f" ({got.stderr[:60]!r})" if got.stderr else "")
     parts = [("standard error", wanted.stderr, got.stderr), ("standard output", wanted.stdout, got.stdout)]
@@ -164,7 +164,7 @@ def fresh_copy(folder, into):
 
 
 def try_case(folder, settings):
-    """How many runs the case has, and its first difference, None where there is none."""
+    """How many runs the case has, and its first difference, None if there is none."""
     runs = runs_of(folder, settings)
     with tempfile.TemporaryDirectory(prefix="rxbatch-case-") as top:
         into, common = os.path.join(top, "case"), None

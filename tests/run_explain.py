@@ -33,7 +33,7 @@ ANSWERS = {"paid": "PAID", "duplicate": "DUPLICATE", "taken back": "TAKEN BACK",
 
 
 class Job:
-    """A job with what is wanted of its transactions."""
+    """A job with what is expected of its transactions."""
 
     def __init__(self, name):
         self.name = name[:-len(".json")]
@@ -54,7 +54,7 @@ def inputs_in(folder):
 
 
 class Explain:
-    """The program's `explain`; `failures` has a line for each answer that wasn't wanted."""
+    """The program's `explain`; `failures` has a line for each answer that wasn't expected."""
 
     def __init__(self, program, seconds):
         self.program, self.seconds = program, seconds

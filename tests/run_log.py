@@ -1,5 +1,5 @@
 #!/usr/bin/env python3
-"""Runs a program with rxbatch's words by `run --log`, reads the logs by a JSON reader, and compares what they tell with the
+"""Runs a program with rxbatch's words by `run --log`, reads the logs by a JSON reader, and compares what they say with the
 files and with the answers; and compares the kit of `--version` with what `rt version` prints and
 the version with CHANGELOG.md's latest (docs/CLI.md, "Log").
 
@@ -18,7 +18,7 @@ ROOT = pathlib.Path(__file__).resolve().parent.parent
 CASES = ROOT / "tests" / "cases"
 # The latest version of the changelog.
 CHANGES = re.compile(r"^## v([^ ,\n]+)", re.M)
-# The letter of a kit's edition, which the program doesn't tell.
+# The letter of a kit's edition, which the program doesn't say.
 EDITION = re.compile(r"^(rattle-kit-[0-9]+)[a-z]+")
 INPUTS = {"sheet": "sheet.toml", "books": "books.txt", "batch": "batch.bin"}
 OUTPUTS = {"response": "response.bin", "books_out": "books-out.txt", "settlement": "settlement.txt"}
@@ -155,7 +155,7 @@ WAYS = (done, refused, refused_in_words, absent, over_an_input, over_an_output, 
 
 
 def version_fault(program):
-    """What is wrong with the version, compared with the kit's where there is one."""
+    """What is wrong with the version, compared with the kit's if there is one."""
     ended = subprocess.run([program, "--version"], stdin=subprocess.DEVNULL, capture_output=True, text=True)
     if ended.returncode != 0 or ended.stderr or not ended.stdout.startswith("rxbatch ") or ended.stdout.count("\n") != 1:
         return f"--version: status {ended.returncode}, {ended.stdout!r}, {ended.stderr!r}"

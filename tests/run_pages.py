@@ -3,9 +3,15 @@
 
     tests/run_pages.py PROGRAM
 
-A shown command is a line `$ COMMAND` in a block of a page; below it stands what it prints, up to the next one or the end of the
-block. The commands of a block are run one after another, in a copy of the page's folder and of examples/; `cd` holds for those
-below it, and `rxbatch` is PROGRAM, a path. The last line is `N passed, M failed`; the exit status is 1 where M isn't 0.
+A shown command is a line `$ COMMAND` in a block of a page, which goes on where a line ends in `\\`; below it stands what it
+prints, up to the next one or the end of the block. The commands of a block are those of one session, in the page's folder of a
+tree that has bench/ and examples/ and `rxbatch` at its top, as `make demo` leaves it; `rxbatch` is also found by name, and is
+PROGRAM, a path.
+
+Commands that take too long here or change the system stand without `$`. Of them, in blocks and in backquotes, each goal of
+`make` has to be there, and each script `python3 PATH ..`, which has to know the options.
+
+The last line is `N passed, M failed`; the exit status is 1 where M isn't 0.
 """
 
 import os
@@ -17,51 +23,77 @@ import sys
 import tempfile
 
 ROOT = pathlib.Path(__file__).resolve().parent.parent
-PAGES = ("README.md", "docs/*.md", "examples/*/README.md", "tests/README.md", "CONTRIBUTING.md")
+PAGES = ("*.md", "docs/*.md", "bench/*.md", "examples/*/*.md", "tests/*.md", "tests/cases/*.md")
 BLOCK = re.compile(r"^```\w*\n(.*?)^```$", re.M | re.S)
-SHOWN = re.compile(r"^\$ (.*)\n((?:(?!\$ ).*\n)*)", re.M)
+SHOWN = re.compile(r"^\$ ((?:.*\\\n)*.*)\n((?:(?!\$ ).*\n)*)", re.M)
+QUOTED = re.compile(r"`([^`\n]+)`")
+GOAL = re.compile(r"(?:^|\s)make ([a-z][a-z-]*)")
+SCRIPT = re.compile(r"(?:^|\s)python3 ([\w./]+\.py)([^&|\n]*)")
+END = "\x1e"
 
 
-def printed_by(command, folder, environment):
-    """What a command prints, on standard output and standard error."""
-    ended = subprocess.run(["sh", "-c", command], cwd=folder, env=environment, stdin=subprocess.DEVNULL,
-                           stdout=subprocess.PIPE, stderr=subprocess.STDOUT, timeout=600, check=False)
-    return ended.stdout.decode("utf-8", "replace")
+def printed_by(commands, folder, environment):
+    """What each of these commands of one session prints, on standard output and standard error."""
+    session = "".join(f"{command}\nprintf '\\036'\n" for command in commands)
+    ended = subprocess.run(["sh", "-c", f"exec 2>&1\n{session}"], cwd=folder, env=environment, stdin=subprocess.DEVNULL,
+                           stdout=subprocess.PIPE, timeout=600, check=False)
+    printed = ended.stdout.decode("utf-8", "replace").split(END)
+    return printed[:len(commands)] + ["the session ended"] * (len(commands) - len(printed))
 
 
-def folder_after(command, folder):
-    """The folder for the next command."""
-    moved = re.fullmatch(r"cd (\S+)", command)
-    return (folder / moved[1]).resolve() if moved else folder
+def try_block(page, shown, program):
+    """How each command of a block differs that doesn't print what the page shows."""
+    with tempfile.TemporaryDirectory(prefix="rxbatch-pages-") as place:
+        top = pathlib.Path(place)
+        for folder in ("bench", "examples"):
+            shutil.copytree(ROOT / folder, top / folder, ignore=shutil.ignore_patterns("__pycache__"))
+        (top / "rxbatch").symlink_to(program)
+        folder = top / page.parent.relative_to(ROOT)
+        folder.mkdir(parents=True, exist_ok=True)
+        environment = {**os.environ, "PATH": f"{top}:{os.environ['PATH']}"}
+        printed = printed_by([command for command, _ in shown], folder, environment)
+    return [f"$ {command}\n{there}" for (command, text), there in zip(shown, printed) if there != text]
 
 
-def try_page(page, environment):
-    """How many commands print what the page shows, and how those differ that don't."""
-    passed, failed = 0, []
-    blocks = [SHOWN.findall(block) for block in BLOCK.findall(page.read_text())]
-    for shown in filter(None, blocks):
-        with tempfile.TemporaryDirectory(prefix="rxbatch-pages-") as place:
-            folder = pathlib.Path(place) / "tree"
-            shutil.copytree(ROOT / "examples", folder / "examples")
-            folder = folder / page.parent.relative_to(ROOT)
-            folder.mkdir(exist_ok=True)
-            for command, text in shown:
-                printed = "" if command.startswith("cd ") else printed_by(command, folder, environment)
-                folder = folder_after(command, folder)
-                if printed == text:
-                    passed += 1
-                else:
-                    failed.append(f"{page.relative_to(ROOT)}: $ {command}\n{printed}")
-    return passed, failed
+def has_goal(goal):
+    """Whether `make` knows a goal."""
+    return subprocess.run(["make", "-n", goal], cwd=ROOT, stdout=subprocess.DEVNULL, stderr=subprocess.DEVNULL, check=False).returncode == 0
+
+
+def knows(script, options):
+    """Whether a script is there and has all these options."""
+    if not options:
+        return script.exists()
+    shown = subprocess.run([sys.executable, script, "--help"], stdout=subprocess.PIPE, stderr=subprocess.STDOUT, text=True, check=False)
+    return shown.returncode == 0 and all(re.search(rf"{option}\b", shown.stdout) for option in options)
+
+
+def named_in(page, text):
+    """The goals and scripts that a page names without running them, each as the words that stand there and whether they hold."""
+    unshown = "\n".join([SHOWN.sub("", block) for block in BLOCK.findall(text)] + QUOTED.findall(BLOCK.sub("", text)))
+    for goal in sorted(set(GOAL.findall(unshown))):
+        yield f"make {goal}", has_goal(goal)
+    for path, words in sorted(set(SCRIPT.findall(unshown))):
+        beside = page.parent / path
+        script = beside if beside.exists() else ROOT / path
+        yield f"python3 {path}{words}", knows(script, re.findall(r"(?<!\S)--[a-z-]+", words))
+
+
+def try_page(page, program):
+    """How many commands of a page hold, and those that don't."""
+    text = page.read_text()
+    blocks = [shown for shown in map(SHOWN.findall, BLOCK.findall(text)) if shown]
+    failed = [line for shown in blocks for line in try_block(page, shown, program)]
+    named = list(named_in(page, text))
+    failed += [words for words, holds in named if not holds]
+    return sum(map(len, blocks)) + len(named) - len(failed), [f"{page.relative_to(ROOT)}: {line}" for line in failed]
 
 
 def main(words):
     if len(words) != 1:
         sys.exit(__doc__)
-    with tempfile.TemporaryDirectory(prefix="rxbatch-program-") as place:
-        os.symlink(os.path.abspath(words[0]), os.path.join(place, "rxbatch"))
-        environment = {**os.environ, "PATH": f"{place}:{os.environ['PATH']}"}
-        answers = [try_page(page, environment) for pattern in PAGES for page in sorted(ROOT.glob(pattern))]
+    program = pathlib.Path(words[0]).resolve()
+    answers = [try_page(page, program) for pattern in PAGES for page in sorted(ROOT.glob(pattern))]
     failed = [line for _, lines in answers for line in lines]
     for line in failed:
         print(line)

@@ -3,8 +3,8 @@
 
     tests/run_replies.py PROGRAM [--cases DIR] [--only WORD] [--jobs J] [--seconds S]
 
-PROGRAM is a path or a command line. The cases are the folders below DIR (tests/cases beside this file) with a
-`response.bin`: the file `replies` in such a folder holds the lines that are wanted of it, or `replies-refused` the
+PROGRAM is a path or a command line. The cases are the folders below DIR (tests/cases next to this file) with a
+`response.bin`: the file `replies` in such a folder holds the lines that are expected of it, or `replies-refused` the
 line on standard error. From one-billing's response file come the files that aren't stored: its cuts at each byte,
 files that are no response files, and replies that can't be read. No file may be changed. A run may take S seconds.
 
@@ -36,8 +36,8 @@ class Settings(NamedTuple):
 
 
 class Case(NamedTuple):
-    """A file, None for one that isn't there, and the answer that is wanted; the text on standard error is left open
-    where it is None."""
+    """A file, None for one that isn't there, and the answer that is expected; the text on standard error is left open
+    if it is None."""
     name: str
     file: Optional[bytes]
     status: int

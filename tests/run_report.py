@@ -1,5 +1,5 @@
 #!/usr/bin/env python3
-"""Runs `report` and `show --tsv` of a program on jobs, and compares what they tell with the files of a run.
+"""Runs `report` and `show --tsv` of a program on jobs, and compares what they say with the files of a run.
 
     tests/run_report.py PROGRAM [--cases DIR]... [--only WORD] [--seconds S]
 
@@ -9,7 +9,7 @@ with marks of HTML, JSON and terminals, and more lines than a page shows. Of eac
 
 - the lines have to be the answers of the response file, read here from its bytes, each with its figures;
 - counts and net, summed over the lines of the table, have to be the settlement's, and so has what the columns, the JSON
-  and the page say; with `--provider` its line alone, with `--family` the sums of the lines that name it;
+  and the page say; with `--provider` its line only, with `--family` the sums of the lines that name it;
 - the page may hold the elements and attributes that it is made of and no others, each closed, and nothing from outside;
   each claim on it unfolds to the lines that `explain` prints of its place, and where the job has a file in tests/explain,
   those lines have the answer, the number and the amounts that another program gives;
@@ -44,7 +44,7 @@ ANSWERS = {"paid": "PAID", "duplicate": "DUPLICATE", "taken back": "TAKEN BACK",
 
 
 class Differs(Exception):
-    """What is told isn't what the files say."""
+    """What is reported isn't what the files say."""
 
 
 def want(found, wanted, what):
@@ -406,7 +406,7 @@ def check_job(program, source):
 
 
 def explanations_of(source):
-    """Those that another program made of the job, where there are any."""
+    """Those that another program made of the job, if there are any."""
     name = os.path.relpath(source, os.path.join(HERE, "cases"))
     if os.path.basename(source) == "first_job":
         name = "first_job"
@@ -418,7 +418,7 @@ def explanations_of(source):
 
 
 def check_copied(program, folder, stamp, told):
-    """False where the job is refused for its stamp alone, of which a report knows nothing."""
+    """False where the job is refused for its stamp only, of which a report knows nothing."""
     outputs = ["--response", "response.bin", "--books-out", "books-out.txt", "--settlement", "settlement.txt"]
     status, _, err = program.answer(folder, "run", *INPUTS, "--stamp", stamp, "--workers", "1", *outputs)
     if status == 0:

@@ -1,6 +1,6 @@
 #!/usr/bin/env python3
 """Runs a program with rxbatch's words by `run --safe`, and looks at what is left: a refused run and one that can't be
-written leave the earlier outputs as they were and nothing beside them; a run that is done leaves the three outputs
+written leave the earlier outputs as they were and nothing else; a run that is done leaves the three outputs
 whole, with the rights that they had (docs/CLI.md, "Safe runs").
 
     run_safe.py PROGRAM [--kills] [--disk] [--memory]
@@ -36,7 +36,7 @@ WRITING = ("write", "fsync", "rename", "renameat", "renameat2", "fchmod", "fchow
 
 
 class Folder:
-    """A folder with the inputs of a case, and earlier outputs where they are wanted."""
+    """A folder with the inputs of a case, and earlier outputs if asked for."""
 
     def __init__(self, path, earlier=True):
         self.path = pathlib.Path(path)
@@ -85,7 +85,7 @@ def untouched(folder, names):
 
 
 def without_rights(folder):
-    """The words before a program that runs as a user who may not write everywhere, to whom the folder belongs."""
+    """The words before a program that runs as a user who may not write everywhere, who owns the folder."""
     if os.geteuid() != 0:
         return ()
     for path in (folder.path, *folder.path.iterdir()):
@@ -206,7 +206,7 @@ def one_new_file(program, path):
 
 
 def name_of_a_file_beside(program, path):
-    """An output with a name that a file beside another may have."""
+    """An output with a name that a file next to another may have."""
     folder = Folder(path)
     ended = folder.run(program, {"--response": ".rxbatch-5-0"})
     return answered(ended, 3, b"file 4\n") or untouched(folder, PLAIN_NAMES)
@@ -224,7 +224,7 @@ def path_of_a_folder(program, path):
 
 
 def left_by_a_kill(program, path):
-    """Files beside the outputs that an earlier run left."""
+    """Files next to the outputs that an earlier run left."""
     folder = Folder(path)
     left = {".rxbatch-4-0", ".rxbatch-5-0", ".rxbatch-5-1", ".rxbatch-6-0"}
     for name in left:

@@ -5,9 +5,9 @@
 
 Each case is the plain sheet, small books and a batch of one billing with one change. Compared are standard output, whose
 lines are the first fault of each file and the warnings, standard error, which is `refused N M P` of the first fault as
-`run` tells it, and the exit status: 0, 1 where a file is refused, 4 where there are warnings alone. Of a refused case
-`run` has to end with the same line and status. `run -v` has to tell the steps before that line, and the fault in words
-behind it; of a case that isn't refused it has to tell all steps and the end. Times and the peak of memory are passed
+`run` says it, and the exit status: 0, 1 where a file is refused, 4 where there are only warnings. Of a refused case
+`run` has to end with the same line and status. `run -v` has to say the steps before that line, and the fault in words
+after it; of a case that isn't refused it has to say all steps and the end. Times and the peak of memory are passed
 over. Some further cases have no file, a pipe, a stamp that is none, or a full disk.
 
 A case that differs has a line. The last line is `N passed, M failed`; the exit status is 0 where M is 0, else 1.
@@ -70,7 +70,7 @@ BATCH = HEADER + DETAIL + trailer()
 
 
 class Case(NamedTuple):
-    """A change of the inputs, and what is wanted: the lines, and N, M and P where an input is refused."""
+    """A change of the inputs, and what is expected: the lines, and N, M and P where an input is refused."""
     name: str
     sheet: bytes
     books: bytes
@@ -369,7 +369,7 @@ warned("a batch that was adjudicated already",
 
 
 def many_books(families, *further):
-    """Books of so many families without a claim, each with a member; the first has further ones."""
+    """Books of this many families without a claim, each with a member; the first has further ones."""
     first = b"".join(b"M|G000000|%s|20260101|20261231|0\n" % person for person in (b"01",) + further)
     members = b"".join(b"M|G%06d|01|20260101|20261231|0\n" % number for number in range(1, families))
     totals = b"".join(b"T|G%06d|0|0\n" % number for number in range(families))
@@ -483,7 +483,7 @@ PLAIN = Case("plain", SHEET, BOOKS, BATCH, (), None)
 
 
 class Ending(NamedTuple):
-    """A run or a check with something else than the plain inputs: its words, and the end of what it tells."""
+    """A run or a check with something else than the plain inputs: its words, and the end of what it says."""
     name: str
     words: tuple
     status: int
@@ -539,7 +539,7 @@ def ending_differences(program, ending, seconds):
 
 
 def pipe_differences(program, seconds):
-    """A fault of books that come through a pipe has its place and no quotation; the log is written beside the steps."""
+    """A fault of books that come through a pipe has its place and no quotation; the log is written next to the steps."""
     found = []
     with tempfile.TemporaryDirectory() as folder:
         write(folder, PLAIN)

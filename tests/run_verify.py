@@ -4,12 +4,12 @@
     tests/run_verify.py PROGRAM [--cases DIR] [--only WORD] [--changes N] [--all-bytes WORD] [--brief] [--seed S]
         [--jobs J] [--seconds S]
 
-PROGRAM is a path or a command line. The cases are the folders below DIR (tests/cases beside this file); tests/cases/README.md
+PROGRAM is a path or a command line. The cases are the folders below DIR (tests/cases next to this file); tests/cases/README.md
 names their files. A case whose run is done (status 0) has to be found the same with one worker, with 2 and 64, and
 with `--plain`; then its files are changed: N times one byte anywhere in each file, and each file cut, emptied and made
-longer, and all three at once. Each change has to be told, with status 5, by the line that this script makes of the
+longer, and all three at once. Each change has to be reported, with status 5, by the line that this script makes of the
 case's own files. With `--all-bytes WORD` each byte of each file is changed in the cases with WORD in their path, and
-with `--brief` a case has one run on its files as they are and the changed bytes alone. A refused case has to answer its
+with `--brief` a case has one run on its files as they are and the changed bytes only. A refused case has to answer its
 run's status and line. Files that can't be opened, words and a full standard output are tried on the first case that is
 done. No file may be changed. A run may take S seconds.
 
@@ -53,7 +53,7 @@ class Settings(NamedTuple):
     seconds: float
 
 
-# ---------------------------------------------------------------- what is wanted
+# ---------------------------------------------------------------- what is expected
 
 def grouped(number):
     return f"{number:,}".encode()
@@ -114,7 +114,7 @@ def changed_texts(rng, text, settings, each):
 
 
 def changes_of(rng, outputs, settings, each):
-    """The changes of a case's outputs: each file alone, and all three at once."""
+    """The changes of a case's outputs: each file by itself, and all three at once."""
     last = {}
     for name, text in outputs.items():
         for word, changed in changed_texts(rng, text, settings, each):
@@ -185,7 +185,7 @@ def try_refused(settings, case, folder, files):
 
 
 def try_case(settings, case):
-    """How many runs the case has, and its first fault, None where there is none."""
+    """How many runs the case has, and its first fault, None if there is none."""
     done = int(read(case, "status")) == 0
     with tempfile.TemporaryDirectory(prefix="rxbatch-verify-") as folder:
         files = {name: read(case, name) for name in FILES.values()}
@@ -202,7 +202,7 @@ def try_case(settings, case):
 
 
 def refused_words(stamp):
-    """Words that are refused, or name a file that can't be opened: a name, the words, the status that is wanted, and
+    """Words that are refused, or name a file that can't be opened: a name, the words, the status that is expected, and
     the line on standard error, None where that is left open."""
     yield "no words", ["verify"], 2, None
     yield "workers with a sign", verify_words(stamp, "+1"), 2, None

@@ -1,5 +1,5 @@
 #!/usr/bin/env python3
-"""Runs a program with words that rxbatch doesn't understand: it has to end with 2, write nothing to standard output, and tell
+"""Runs a program with words that rxbatch doesn't understand: it has to end with 2, write nothing to standard output, and say
 what is wrong on standard error, as `clap` words it (docs/CLI.md, "Exit statuses").
 
     run_words.py PROGRAM
@@ -39,7 +39,7 @@ REFUSED = (
     ((*REPORT, "--tsv", "--json"), "error: ", "\n\nUsage: rxbatch report "),
 )
 
-# One path under two options is told by the status alone.
+# One path under two options is shown by the status only.
 TWICE = (
     (*RUN, "--workers=1", "--log=b"),
     (*RUN[:-1], "--settlement=b", "--workers=1"),

@@ -146,7 +146,7 @@ def libraries(root):
 
 
 def storeys(page):
-    """The storey of each crate in the drawing, the lowest 0; crates beside the house stand on top."""
+    """The storey of each crate in the drawing, the lowest 0; crates next to the house stand on top."""
     drawing = re.search(r"```\n(.*?)```", page, re.S)[1]
     rows = [re.findall(r"\b(?:rx\w*|tests_\w+)\b", line) for line in drawing.splitlines()]
     house = list(reversed([row for row in rows if row][:-1]))

@@ -49,7 +49,7 @@ def write_case(top, name, changes, refusal=None):
 
 
 def many_details(batch, count):
-    """The batch with so many details that have no transmission."""
+    """The batch with this many details that have no transmission."""
     details = b"".join(b"\x02G1%010d\x03" % place for place in range(1, count + 1))
     trailer = batch[-TRAILER:]
     return batch[:HEADER] + details + trailer[:10] + b"%010d" % count + trailer[20:]

@@ -1,5 +1,5 @@
 #!/bin/sh
-# make_night.sh DIR PAIRS RECORDS: a night to try, with so many pairs of so many records; each twentieth sheet lacks a fee.
+# make_night.sh DIR PAIRS RECORDS: a night to try, with this many pairs of this many records; each twentieth sheet lacks a fee.
 set -eu
 here=$(dirname "$(readlink -f "$0")")
 mkdir -p "$1" && cd "$1"

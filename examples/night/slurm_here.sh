@@ -1,5 +1,5 @@
 #!/bin/sh
-# slurm_here.sh start DIR: a controller and a worker daemon of Slurm on this machine alone, with their files in DIR.
+# slurm_here.sh start DIR: a controller and a worker daemon of Slurm on this machine only, with their files in DIR.
 # slurm_here.sh stop DIR: ends them. What they answer is trusted without keys, so this is for trying a night, and no more.
 set -eu
 mkdir -p "$2" && cd "$2" && dir=$(pwd)

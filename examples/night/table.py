@@ -13,7 +13,7 @@ COUNTS = ("paid", "duplicate", "approved", "rejected", "net")
 
 
 def log_of(folder):
-    """The log of a pair; None where it was cut, and where there is none."""
+    """The log of a pair; None if it was cut or isn't there."""
     try:
         return json.loads((folder / "log.json").read_text())
     except (OSError, ValueError):
