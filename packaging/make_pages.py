@@ -1,7 +1,7 @@
 #!/usr/bin/env python3
 """Makes the manual page and the completions from what the program says of itself.
 
-    python3 packaging/make_pages.py PROGRAM           writes rxbatch.1, rxbatch.bash and _rxbatch beside this script
+    python3 packaging/make_pages.py PROGRAM           writes rxbatch.1, rxbatch.bash and _rxbatch next to this script
     python3 packaging/make_pages.py PROGRAM --check   compares them with what would be written
 
 PROGRAM is the built program, `crates/rxbatch/out/rxbatch`. With `--check` the last line is `N passed, M failed`, and the

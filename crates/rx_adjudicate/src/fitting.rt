@@ -37,7 +37,7 @@ fn holds_books(parcel: &Parcel, transmission: &Transmission) -> bool
     }
 }
 
-// Whether it holds the books of each transaction of a header that was heard.
+// Whether it holds the books of each transaction of a header that was accepted.
 fn holds_all(parcel: &Parcel, heard: &Heard) -> bool
     requires parcel { IsParcel parcel.now }
     requires agrees { Agrees parcel.now }

@@ -12,7 +12,7 @@ use Rattle.rx_batch.specs.Reading.{batch_of}
 abbrev header : List ℕ
 header = codes "00TPHARMSYS                0000042202603010930P12RXSWITCH                "
 
--- the transmission of the base claim, behind its reference
+-- the transmission of the base claim, after its reference
 abbrev claim : List ℕ
 claim = codes "G10000000001900001D0B1RXDEMO    1011234567893     20260228          "
     ++ ((30 ∷ []) ++ ((28 ∷ []) ++ (codes "AM04"

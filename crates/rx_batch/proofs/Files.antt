@@ -267,7 +267,7 @@ details_push [] (e ∷ ds) r d are is = absurd are
 details_push (q ∷ records) [] r d are is = absurd are
 details_push (q ∷ records) (e ∷ ds) r d are is = (are.0, details_push records ds r d are.1 is)
 
--- a list of records with their gaps, and one more behind the last gap
+-- a list of records with their gaps, and one more after the last gap
 one_more : (front gap body : List ℕ) (records : List Spaced)
     → (front ++ (flat_map spaced_text records ++ gap)) ++ record_text body ≡ front
     ++ (flat_map spaced_text records ++ (gap ++ record_text body))

@@ -76,7 +76,7 @@ closed_record : (f : Front) (body : List ℕ) → is_whole f.stage ≡ false →
     → closed (past (gap (2 ∷ body)) f) (unskipped (2 ∷ body)) ≡ record_of f body
 closed_record f body early inside = rw (past_none f, early, no_stx body inside) refl
 
--- a whole record is taken, and the text goes on behind it
+-- a whole record is taken, and the text goes on after it
 pub from_record : (f : Front) (body rest : List ℕ) → is_whole f.stage ≡ false → IsInside body
     → batch_from f (2 ∷ (body ++ 3 ∷ rest)) ≡ (record_of f body >>= λ g. batch_from g rest)
 from_record f body rest early inside =

@@ -29,7 +29,7 @@ use Rattle.rx_batch.specs.Writing.{lot_text, header_text, detail_text, trailer_t
 
 -- ---- fields of known lengths
 
--- a place behind a field of known length
+-- a place after a field of known length
 behind : (a x : List ℕ) (n k m : ℕ) → length a ≡ n → n + k ≡ m → drop m (a ++ x) ≡ drop k x
 behind a x n k m len is = rw (← is, ← len) (drop-append-add a x k)
 

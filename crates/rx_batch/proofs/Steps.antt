@@ -20,7 +20,7 @@ use Rattle.rx_batch.specs.Reading.{is_whole, ended, stray, begins, batch_from, b
 use Rattle.rx_batch.specs.Pieces.{IsRead, IsReadUpTo, IsFaultOf, Fed, StandsFor, answer_of}
 use Rattle.rx_batch.proofs.Following.{past_none, past_more, front_of, from_record, from_stray, from_second, from_begun, from_end}
 
--- ---- want of memory
+-- ---- out of memory
 
 pub unless : {P : Type 0} (f : BatchFault) → P → UnlessMemory f P
 unless fault.Memory h = tt
@@ -76,7 +76,7 @@ gap_read f text (b ∷ bytes) h = elim (cases_Bool (is_skipped b)) [
       rw (n, past_none f) h)
 ]
 
--- behind the skipped bytes stands a byte that isn't skipped
+-- after the skipped bytes stands a byte that isn't skipped
 pub gap_over : (bytes : List ℕ) (b : ℕ) (rest : List ℕ) → drop (prefix_len is_skipped bytes) bytes ≡ b ∷ rest → is_skipped b ≡ false
 gap_over [] b rest e = cc
 gap_over (x ∷ bytes) b rest e = elim (cases_Bool (is_skipped x)) [
@@ -162,7 +162,7 @@ pub second_read : (f : Front) (text body rest : List ℕ) → IsReadUpTo (within
 second_read f text body rest h more =
     begun_from f text body (2 ∷ rest) more h ∙ from_second f body (rest ++ more) h.is_read.can_begin.1 h.is_read.can_begin.0
 
--- its ETX, where it is no good record
+-- its ETX, if it is no good record
 pub bad_read : (f : Front) (text body rest : List ℕ) (e : BatchFault) → UnlessMemory e (record_of f body ≡ Err e)
     → IsReadUpTo (within f body) text (3 ∷ rest) → IsFaultOf e text
 bad_read f text body rest e is h =
@@ -204,7 +204,7 @@ pub fed_fault : (fed : Fed) (text : List ℕ) (e : BatchFault) → Err e ≡ ans
     → UnlessMemory e (batch_of text ≡ Err e)
 fed_fault fed text e is h = answered fed.fault fed.reader text e is h
 
--- a piece comes behind the text so far
+-- a piece comes after the text so far
 pub piece_comes : (r : Reader) (text piece : List ℕ) → IsRead r text → IsReadUpTo r (text ++ piece) piece
 piece_comes r text piece h = record { before = text; whole = refl; is_read = h }
 
@@ -231,7 +231,7 @@ passed f = Ok f
 same_front : (f g : Front) → passed f ≡ passed g → f ≡ g
 same_front f g e = cc
 
--- behind the skipped bytes
+-- after the skipped bytes
 pub gap_passed : (r : Reader) (g : Front) (text bytes rest : List ℕ) (n : ℕ) → r.begun ≡ None
     → n ≡ prefix_len is_skipped bytes → passed (past n r.front) ≡ passed g → rest ≡ drop n bytes
     → IsReadUpTo r text bytes → IsReadUpTo (record { front = g; begun = None }) text rest
@@ -241,7 +241,7 @@ gap_passed r g text bytes rest n none count front left h =
     let over = gap_read r.front text bytes here in
     rw (← same_front (past n r.front) g front, left, count) over
 
--- a byte behind the skipped bytes is none of these
+-- a byte after the skipped bytes is none of these
 pub gap_ended : (bytes rest : List ℕ) (n : ℕ) → n ≡ prefix_len is_skipped bytes → rest ≡ drop n bytes
     → 0 < length rest → is_skipped (get_or rest 0 0) ≡ false
 gap_ended bytes rest n count left some =

@@ -21,7 +21,7 @@ abbrev pub byte_of_kind : Kind → ℕ
 byte_of_kind Transmission = 84
 byte_of_kind Response = 82
 
--- P in earnest, T for a test
+-- P for production, T for a test
 abbrev pub byte_of_file : FileType → ℕ
 byte_of_file Production = 80
 byte_of_file Test = 84

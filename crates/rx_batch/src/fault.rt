@@ -3,7 +3,7 @@ ghost use Rattle.rx_batch.specs.Fault.{code_of, place_of};
 
 use std::alloc::{AllocError, AllocFailed};
 
-/// Why a text is no batch file: the first fault in file order, and of one record the first that holds
+/// Why a text isn't a batch file: the first fault in file order, and of one record the first that holds
 /// (docs/FORMATS.md, "Batch file"). `at` is its place: the number of bytes before it.
 #[derive(Clone, Copy, Debug, PartialEq, Eq)]
 pub enum BatchFault {
@@ -31,7 +31,7 @@ pub enum BatchFault {
     AfterTrailer { at: u64 },
     /// This is the 100,001st detail.
     TooMuch { at: u64 },
-    /// Memory was wanting, or the text is longer than any memory: 2^64 bytes. No byte is to blame.
+    /// Out of memory, or the text is longer than any memory: 2^64 bytes. No byte is to blame.
     Memory,
 }
 

@@ -76,7 +76,7 @@ impl Front {
         }
     }
 
-    // Makes the front longer by some bytes. A length of 2^64 bytes counts as want of memory.
+    // Makes the front longer by some bytes. A length of 2^64 bytes counts as out of memory.
     pub(crate) fn pass(&mut self, bytes: usize) -> Result<(), BatchFault>
         ensures { Takes result self.new (Ok (past bytes self.old)) }
     {

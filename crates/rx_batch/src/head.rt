@@ -6,7 +6,7 @@ use rx_fields::{Lot, Time};
 /// The header of a batch file (docs/FORMATS.md, "Batch file").
 #[derive(Clone, Copy, Debug, PartialEq, Eq)]
 pub struct Head {
-    /// What the records are; `read_batch` reads requests alone.
+    /// What the records are; `read_batch` reads only requests.
     pub kind: Kind,
     /// Who sends the batch: 24 bytes, filled with blanks.
     pub sender: [u8; 24],
@@ -16,7 +16,7 @@ pub struct Head {
     pub time: Time,
     /// Production or test.
     pub file: FileType,
-    /// To whom the batch goes: 24 bytes, filled with blanks.
+    /// The receiver of the batch: 24 bytes, filled with blanks.
     pub receiver: [u8; 24],
 }
 
@@ -50,10 +50,10 @@ impl Kind {
     }
 }
 
-/// Whether a file is meant in earnest or as a test.
+/// Whether a file is for production or a test.
 #[derive(Clone, Copy, Debug, PartialEq, Eq)]
 pub enum FileType {
-    /// In earnest: `P`.
+    /// Production: `P`.
     Production,
     /// A test: `T`.
     Test,

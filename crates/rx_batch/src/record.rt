@@ -52,7 +52,7 @@ fn lot(number: &[u8], created: &[u8]) -> Option<Lot>
     Lot::new(number as u32, created)
 }
 
-// The detail that stands at this place behind the details so far.
+// The detail that stands at this place after the details so far.
 pub(crate) fn detail(
     alloc: Global,
     at: u64,
@@ -74,7 +74,7 @@ pub(crate) fn detail(
     })
 }
 
-// The trailer that stands at this place behind the head and all details.
+// The trailer that stands at this place after the head and all details.
 pub(crate) fn trailer(
     at: u64,
     head: &Head,

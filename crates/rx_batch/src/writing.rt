@@ -11,7 +11,7 @@ use rx_fields::{Memory, date_write, digits_write};
 use rx_text::put;
 use std::alloc::{AllocError, Global};
 
-// The bytes of a detail beside its text: STX, `G1`, the reference and ETX.
+// The bytes of a detail besides its text: STX, `G1`, the reference and ETX.
 const FRONT: usize = 14;
 
 /// The one text of a batch file: nothing between records, the number of details plus two as the count, a blank

@@ -1,5 +1,5 @@
-//! One record on its parcel: the first of the batch adjudicated over and over, beside the copying of that parcel and of the
-//! claims of its first family.
+//! One record on its parcel: the first of the batch adjudicated over and over, compared with the copying of that parcel and
+//! of the claims of its first family.
 
 use crate::inputs::Inputs;
 use crate::job::Job;
@@ -36,7 +36,7 @@ fn copied<R: Clock>(watch: &mut Watch<R>, parcel: &Parcel) -> Option<()> {
     Some(())
 }
 
-// Adjudicates the order so many times.
+// Adjudicates the order this many times.
 fn adjudicated(alloc: Global, order: Order, turns: u32) -> Option<Order> {
     let mut order = order;
     for _ in 0..turns {

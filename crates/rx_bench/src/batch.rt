@@ -1,4 +1,4 @@
-//! The batch reader: a file read in one go, in pieces of 64 KiB, and beside both a plain copy of its bytes.
+//! The batch reader: a file read in one go, in pieces of 64 KiB, compared with a plain copy of its bytes.
 
 use crate::inputs::Inputs;
 use crate::timing::{Watch, length};

@@ -1,5 +1,5 @@
 //! Books: the lists of their lines and the books read on one thread and in parts, copied to the same period and to another,
-//! and written on one thread, in parts, and over the text that was read; and beside them a plain count of the lines.
+//! and written on one thread, in parts, and over the text that was read; compared with a plain count of the lines.
 
 use crate::inputs::Inputs;
 use crate::timing::{Watch, length, one_if};
@@ -44,7 +44,7 @@ fn read_in_parts<R: Clock + Threads + Sync>(watch: &mut Watch<R>, text: &[u8]) {
     watch.lap("books read in 4 parts", read);
 }
 
-// Copies the books, to their own period and to its first day alone.
+// Copies the books, to their own period and to its first day only.
 fn copies<R: Clock>(watch: &mut Watch<R>, books: &Books) {
     let own = books.period();
     copied(watch, "books copied", books, own);

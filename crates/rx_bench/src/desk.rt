@@ -1,4 +1,4 @@
-//! A desk on one thread: its records handed out, adjudicated and taken back, so many at once as several workers have.
+//! A desk on one thread: its records issued, adjudicated and taken back, as many at once as several workers have.
 
 use crate::inputs::Inputs;
 use crate::job::Job;
@@ -29,7 +29,7 @@ pub fn round<R: Clock + Threads + Sync>(watch: &mut Watch<R>, inputs: &Inputs) -
     Some(())
 }
 
-// Hands out records and takes them back until none is left.
+// Issues records and takes them back until none is left.
 fn work_off<R: Clock>(watch: &mut Watch<R>, desk: &mut Desk) {
     let mut hands = Hands {
         out: Vec::new(watch.alloc),
@@ -44,7 +44,7 @@ fn work_off<R: Clock>(watch: &mut Watch<R>, desk: &mut Desk) {
     drop(hands);
 }
 
-// Hands out some records, adjudicates them, and takes them back: how many there were.
+// Issues some records, adjudicates them, and takes them back: how many there were.
 fn turn<R: Clock>(watch: &mut Watch<R>, desk: &mut Desk, hands: &mut Hands) -> usize {
     take(desk, &mut hands.out);
     let records = hands.out.len();

@@ -1,5 +1,5 @@
 //! A run in file order on one thread: the books opened for the batch, the records adjudicated, and the response and the
-//! settlement rendered, beside a plain copy of the response.
+//! settlement rendered, compared with a plain copy of the response.
 
 use crate::inputs::{Inputs, STAMP};
 use crate::job::Job;

@@ -24,7 +24,7 @@ pub struct Job {
 }
 
 impl Job {
-    /// The job of these inputs; None where one of them is refused, or memory was wanting.
+    /// The job of these inputs; None where one of them is refused, or memory ran out.
     pub fn of<R: Threads + Sync>(rt: &R, alloc: Global, inputs: &Inputs) -> Option<Job> {
         let sheet = read_sheet(alloc, &inputs.sheet).ok()?;
         let (batch, asked) = requests(rt, alloc, &sheet, &inputs.batch)?;

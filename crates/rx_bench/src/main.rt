@@ -41,7 +41,7 @@ const NAMES: &[&str] = &[
     "waves",
 ];
 
-// How often a call is made that is too short to be timed alone.
+// How often a call is made that is too short to be timed by itself.
 const TURNS: u32 = 200_000;
 
 // How long the gate of `waves` holds a record up where no word says it.
@@ -88,7 +88,7 @@ fn done<R: Print + Clock + Files + Threads + Wait + Sync>(
     }
 }
 
-// The exit status where nothing has this name; what has one is told.
+// The exit status where nothing has this name; what has one is reported.
 fn unknown(rt: &HostRuntime, name: &str) -> ExitCode {
     let _ = eprint!(rt; "rx_bench: nothing is named '{name}'; there are");
     for known in NAMES {
@@ -98,7 +98,7 @@ fn unknown(rt: &HostRuntime, name: &str) -> ExitCode {
     status_of_words(false)
 }
 
-// The exit status; an error is told.
+// The exit status; an error is reported.
 fn told(rt: &HostRuntime, done: io::Result<()>) -> ExitCode {
     match done {
         Ok(()) => ExitCode::SUCCESS,
@@ -161,7 +161,7 @@ fn rounds<R: Print + Clock + Threads + Wait + Sync>(
     watch.tell_times()
 }
 
-// A round of the calls of a name; None where there are none, one is refused, or memory was wanting.
+// A round of the calls of a name; None if there are none, one is refused, or memory ran out.
 fn round<R: Clock + Threads + Wait + Sync>(
     watch: &mut Watch<R>,
     name: &str,
@@ -183,7 +183,7 @@ fn round<R: Clock + Threads + Wait + Sync>(
     }
 }
 
-// Prints the most memory that was taken, as the kernel tells it.
+// Prints the most memory that was taken, as the kernel says it.
 fn peak<R: Print + Files>(rt: &R, alloc: Global) -> io::Result<()> {
     let status = io::read_to_string(alloc, fs::open(rt, "/proc/self/status")?)?;
     for line in status.as_str().lines() {

@@ -5,7 +5,7 @@ use crate::timing::{Watch, found_in, length, one_if};
 use rx_d0_reply::{decode_reply, encode};
 use std::rt::Clock;
 
-/// Writes so many replies, and reads as many.
+/// Writes this many replies, and reads as many.
 pub fn round<R: Clock>(watch: &mut Watch<R>) -> Option<()> {
     let (alloc, turns) = (watch.alloc, watch.turns);
     let reply = decode_reply(alloc, REPLY).ok()?;

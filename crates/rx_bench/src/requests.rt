@@ -1,4 +1,4 @@
-//! The request reader: the requests of a batch decoded on one thread, beside a count of their separators.
+//! The request reader: the requests of a batch decoded on one thread, compared with a count of their separators.
 
 use crate::inputs::Inputs;
 use crate::timing::Watch;

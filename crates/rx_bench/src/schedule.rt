@@ -44,7 +44,7 @@ fn queued<R: Clock>(watch: &mut Watch<R>, named: &[Footprint]) -> Option<()> {
     Some(())
 }
 
-// Hands out and passes one ready record after another, and says how many went.
+// Issues and passes one ready record after another, and says how many went.
 fn drive(queues: &mut Queues, count: usize) -> usize {
     for went in 0..count {
         match queues.ready() {

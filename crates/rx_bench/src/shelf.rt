@@ -45,7 +45,7 @@ fn used<R: Clock>(watch: &mut Watch<R>, job: &Job, named: &[Footprint]) -> Optio
     Some(())
 }
 
-// How often a parcel was taken and given back, in so many turns.
+// How often a parcel was taken and given back, in this many turns.
 fn turned(alloc: Global, shelf: &mut Shelf, named: &[Footprint], turns: usize) -> usize {
     let mut given: usize = 0;
     if named.is_empty() {

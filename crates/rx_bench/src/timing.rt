@@ -1,4 +1,4 @@
-//! What times are taken and told by.
+//! What times are taken and determined by.
 
 use std::alloc::Global;
 use std::io;
@@ -13,7 +13,7 @@ pub const ROUNDS: usize = 5;
 pub struct Watch<'a, R> {
     pub rt: &'a R,
     pub alloc: Global,
-    /// How often a call is made that is too short to be timed alone.
+    /// How often a call is made that is too short to be timed by itself.
     pub turns: u32,
     /// Which round it is, from 0.
     pub round: usize,
@@ -46,8 +46,8 @@ impl<R: Clock> Watch<'_, R> {
         self.start = Instant::now(self.rt).ok();
     }
 
-    /// The part ends that began last, in which so many were found; the next begins. A name that a round has several times
-    /// is one part.
+    /// The part ends that began last, in which this many were found; the next begins. A name that a round has several
+    /// times is one part.
     pub fn lap(&mut self, name: &'static str, found: usize) {
         let (round, nanos) = (self.round, self.passed());
         if !self.parts.iter().any(|part| part.name == name) {
@@ -123,7 +123,7 @@ pub fn one_if<T: Drop>(made: Option<T>) -> usize {
     usize::from(made.is_some())
 }
 
-/// What so many calls found in all.
+/// What this many calls found in all.
 pub fn found_in<F: Fn() -> usize>(turns: u32, call: F) -> usize
     requires { F.IsAlwaysCallable call }
 {

@@ -21,7 +21,7 @@ const WORKERS: &[(u16, &str, &str)] = &[
     (4, "replies of 4 workers", "replies of 4 workers, held up"),
 ];
 
-// A gate that a record enters for so many microseconds, by the clock. Meanwhile its thread works, and doesn't sleep.
+// A gate that a record enters for this many microseconds, by the clock. Meanwhile its thread works, and doesn't sleep.
 #[derive(Clone, Copy)]
 struct Slow<'a, R> {
     rt: &'a R,

@@ -239,7 +239,7 @@ module _ (s : ShelfParts) (is : IsShelf s) where
   pub rows_rise : IsAscending key_cmp row_key (amended s).rows
   rows_rise = IsAscending-overlaid key_cmp key_total row_key place_key row_held s.rest.rows s.keys is.rest_in_order.rows_rise
 
-  -- under each key stands what its place holds, else the row beside
+  -- under each key stands what its place holds, else the row in the ledger
   pub row_found : (k : Key)
       → row_under (amended s) k ≡ found_under key_cmp row_key place_key row_held (key_place s k) (row_under s.rest k)
   row_found k =

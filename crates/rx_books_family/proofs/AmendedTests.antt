@@ -1,4 +1,4 @@
--- A test of each member, and of each row, of a shelf's books together: it is made on the places, and on what is beside.
+-- A test of each member, and of each row, of a shelf's books together: it is made on the places, and on the ledger next to them.
 use Rattle.std.proofs.Common.{◌≡◌, Bool, true, false, not, Option, Some, None, refl, sym, ap, ◌∙◌, inl, inr}
 use Rattle.std.specs.Prelude.{◌&&◌, ◌||◌}
 use Rattle.std.specs.List.{Contains, list_all}

@@ -1,4 +1,4 @@
--- The values of a shelf's books: each in order, and with members and rows of its own alone.
+-- The values of a shelf's books: each in order, and with members and rows of its own only.
 use Rattle.std.proofs.Common.{◌≡◌, ℕ, List, [], Bool, true, Option, Some, None, refl, ap, subst, ◌∙◌}
 use Rattle.std.specs.Prelude.{IfSome}
 use Rattle.std.specs.List.{All}
@@ -38,7 +38,7 @@ book_value L is b = record {
   rows_own = filter_passes (has_row b) L.rows;
 }
 
--- a row alone, or none
+-- one row, or none
 pub row_value : (k : Key) (o : Option Row) → IfSome o (λ r. r.key ≡ k)
     → IsValue (OfKey k) (record { members = []; rows = option_to_list o })
 row_value k None own = record {

@@ -38,7 +38,7 @@ has_member (OfFamily f) m = of_family f m
 abbrev pub is_found : Row → Option Row → Bool
 is_found r found = option_eq row.eq found (Some r)
 
--- the value of a book: the ledger of its members and rows alone
+-- the value of a book: the ledger of its members and rows only
 abbrev pub book : Book → Ledger → Ledger
 book b L = record { members = filter (has_member b) L.members; rows = filter (has_row b) L.rows }
 

@@ -1,5 +1,5 @@
--- Meaning: a shelf: of each book that is named its place, where the book is or from which it is out; and the ledger beside, of
--- which the other books are.
+-- Meaning: a shelf: of each book that is named its place, where the book is or from which it is out; and the ledger next to them,
+-- of which the other books are.
 use Rattle.std.specs.Prelude.{◌≡◌, ℕ, Bool, true, false, not, ◌&&◌, List, [], Option, Some, None, IfSome}
 use Rattle.std.specs.List.{All, Contains, list_all}
 use Rattle.std.specs.Option.{is_some, option_and_then, option_to_list}
@@ -15,7 +15,7 @@ use Rattle.rx_books_family.specs.FamilyBook.{FamilyBook, IsOwn, ledger_of_family
 use Rattle.rx_books_family.specs.declared.place.KeyPlace.{KeyPlace}
 use Rattle.rx_books_family.specs.declared.place.FamilyPlace.{FamilyPlace}
 
--- the period of all totals, the ledger beside, and the places of fill keys and of families, each in order
+-- the period of all totals, the ledger next to them, and the places of fill keys and of families, each in order
 pub record ShelfParts : Type 0 where
   pub period : Span
   pub rest : Ledger
@@ -48,7 +48,7 @@ key_value p = record { members = []; rows = option_to_list (row_held p) }
 abbrev pub family_value : FamilyPlace → Ledger
 family_value p = ledger_of_family p.held
 
--- of a named book what its place holds, of any other what it is in the ledger beside
+-- of a named book what its place holds, of any other what it is in the ledger next to them
 abbrev pub key_value_or : Option KeyPlace → Ledger → Ledger
 key_value_or None other = other
 key_value_or (Some p) other = key_value p
@@ -120,7 +120,7 @@ pub record IsOwnBook (period : Span) (family : List ℕ) (b : FamilyBook) : Type
 abbrev pub HoldsOwnBook : Span → FamilyPlace → Type 0
 HoldsOwnBook period p = IfSome p.held (IsOwnBook period p.family)
 
--- the ledger beside is in order, and each place holds what is its own
+-- the ledger next to them is in order, and each place holds what is its own
 pub record IsShelf (s : ShelfParts) : Type 0 where
   pub rest_in_order : IsLedger s.rest
   pub keys_rise : IsAscending key_cmp place_key s.keys

@@ -12,8 +12,8 @@
 //! ```
 //!
 //! What a book of a ledger is stands in `specs/Books.antt`, what a family's book keeps in `specs/FamilyBook.antt`. What the
-//! books in some places are worth beside a ledger, and when they agree, stands in `specs/Shelves.antt`; the ledger that they
-//! make together in `specs/Amended.antt`.
+//! books in some places are worth next to a ledger, and when they agree, stands in `specs/Shelves.antt`; the ledger that
+//! they make together in `specs/Amended.antt`.
 #![tactic(auto)]
 
 mod among;

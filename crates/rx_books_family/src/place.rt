@@ -19,7 +19,7 @@ pub struct KeyPlace {
 }
 
 impl KeyPlace {
-    /// The row that stands under the key; None where there is none, or the book is out.
+    /// The row that stands under the key; None if there is none, or the book is out.
     pub fn row(&self) -> Option<&Row>
         ensures { option_copied result ≡ row_held self.now }
     {

@@ -1,4 +1,4 @@
--- What a parcel whose books agree answers on the ledger of its books alone.
+-- What a parcel whose books agree answers on the ledger of its books only.
 use Rattle.std.proofs.Common.{◌≡◌, ℕ, List, [], map, Bool, true, false, Option, Some, None, IsSome, refl, sym, ap, subst, ◌∙◌, arith}
 use Rattle.std.specs.List.{All, Contains, filter, find}
 use Rattle.std.specs.Cmp.{IsTotalOrder}

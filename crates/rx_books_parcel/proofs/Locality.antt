@@ -299,7 +299,7 @@ local_whole lot plan place F t L order f =
     ∙ after_record lot plan place F t L order f
     ∙ sym (cut_part F (ledger_after lot plan place t L) (order_of_body lot plan place F L t.body order))
 
--- ---- whether it fits is told by the part
+-- ---- whether it fits is decided by the part
 
 module _ (F : FootprintParts) (L : Ledger) where
   fits_one_part : (h : HeardRecord) (t : Transaction) → fits_one F h (part F L) t ≡ fits_one F h L t

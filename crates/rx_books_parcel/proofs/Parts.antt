@@ -139,7 +139,7 @@ map_same {A} f g (x ∷ xs) h =
     let rest : map f xs ≡ map g xs = map_same f g xs (All-tail P x xs h) in
     cc
 
--- the ledger of some books alone depends on the values of these books alone
+-- the ledger of some books only depends on the values of these books only
 pub sub_same : (F : FootprintParts) (v w : Book → Ledger) → ((b : Book) → names F b ≡ true → v b ≡ w b)
     → sub F v ≡ sub F w
 sub_same F v w h =

@@ -1,4 +1,4 @@
--- The tests of a parcel's books tell whether they agree.
+-- The tests of a parcel's books say whether they agree.
 use Rattle.std.proofs.Common.{◌≡◌, ℕ, zero, suc, List, Bool, true, false, not, Option, Some}
 use Rattle.std.proofs.Common.{None, refl, sym, ap, subst, ◌∙◌, inl, inr, arith}
 use Rattle.std.specs.Prelude.{◌||◌, ◌↔◌, IsTrue}

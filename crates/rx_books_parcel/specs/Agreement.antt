@@ -1,4 +1,4 @@
--- Plumbing: the tests by which it is told whether the books of a parcel agree.
+-- Plumbing: the tests by which one sees whether the books of a parcel agree.
 use Rattle.std.specs.Prelude.{Bool, true, not, ◌&&◌, ◌||◌, Option, Some, None}
 use Rattle.std.specs.List.{list_all}
 use Rattle.rx_ledger.specs.declared.row.Row.{Row}

@@ -1,4 +1,4 @@
--- Meaning: footprints: which books a record works on, and the ledger of these books alone.
+-- Meaning: footprints: which books a record works on, and the ledger of these books only.
 use Rattle.std.specs.Prelude.{◌≡◌, ℕ, Bool, true, ◌&&◌, if◌then◌else◌, List, ◌++◌, map, Option, Some, None}
 use Rattle.std.specs.List.{Contains, list_all}
 use Rattle.std.specs.Ordering.{is_eq}
@@ -38,7 +38,7 @@ abbrev pub names : FootprintParts → Book → Bool
 names F (OfKey k) = contains_key key_cmp itself F.keys k
 names F (OfFamily f) = contains_key id_cmp itself F.families f
 
--- ---- the ledger of some books alone
+-- ---- the ledger of some books only
 
 -- the values of the books that it names; any other book is empty
 abbrev pub cut : FootprintParts → Ledger → Book → Ledger

@@ -63,7 +63,7 @@ abbrev pub values_of : ParcelParts → Book → Ledger
 values_of p (OfKey key) = record { members = []; rows = option_to_list (row_at p key) }
 values_of p (OfFamily family) = ledger_of_family (family_at p family)
 
--- the ledger of its books alone
+-- the ledger of its books only
 abbrev pub ledger_in : ParcelParts → Ledger
 ledger_in p = sub (named_in p) (values_of p)
 

@@ -8,10 +8,9 @@ ghost use Rattle.rx_books_family.specs.Books.{Book, IsInOrder, book};
 ghost use Rattle.rx_books_parcel.specs.Footprints.{AreAgreed, FootprintParts, cut, fits, names, sub};
 
 /// The law of locality, for every lot, plan, place, record and ledger, and every footprint that fits the record there:
-/// on the ledger of the footprint's books alone the record gives the reply that it gives on the whole ledger, and the
-/// books of the footprint that the whole ledger then has, put together and nothing beside them; and it changes no other
-/// book. Whether the footprint fits can be told from its books alone, and these agree (docs/GUARANTEES.md, "Book
-/// values").
+/// on the ledger of the footprint's books only the record gives the reply that it gives on the whole ledger, and the
+/// books of the footprint that the whole ledger then has, put together and nothing else; and it changes no other book.
+/// Whether the footprint fits can be seen from its books only, and these agree (docs/GUARANTEES.md, "Book values").
 pub fn law_of_locality()
     ensures reply { (lot : LotParts) → (plan : Plan) → (place : ℕ) → (F : FootprintParts) → (t : Transmission)
         → (L : Ledger) → IsInOrder L → fits F t L ≡ true

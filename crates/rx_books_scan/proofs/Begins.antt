@@ -19,7 +19,7 @@ use Rattle.rx_books_scan.specs.Lists.{BeginWith, lines_text}
 pub begin_none : (v : Version) (bytes : List ℕ) → BeginWith v bytes [] bytes
 begin_none v bytes = record { whole = refl; fits = All-nil (IsLine v) }
 
--- lines, and more lines behind them
+-- lines, and more lines after them
 pub begin_more : (v : Version) (a b c : List ℕ) (ls ms : List Line) → BeginWith v a ls b → BeginWith v b ms c
     → BeginWith v a (ls ++ ms) c
 begin_more v a b c ls ms front more =
@@ -57,7 +57,7 @@ begin_member v a b c ms ds m d same front more =
     subst (λ (ls : List Line). BeginWith v a ls c) (sym (member_lines-push ms ds m d same))
     (begin_more v a b c (member_lines ms ds) (line.Member (record { member = m; deductible = d }) ∷ []) front more)
 
--- less is left behind a line
+-- less is left after a line
 pub begin_shorter : (v : Version) (a b : List ℕ) (l : Line) → BeginWith v a (l ∷ []) b → length b < length a
 begin_shorter v a b l front =
     let t = line_text v l in
@@ -69,14 +69,14 @@ begin_shorter v a b l front =
       length-append t (10 ∷ []),
     )
 
--- lines of three kinds, and nothing behind them
+-- lines of three kinds, and nothing after them
 pub begin_all : (v : Version) (a b c rest : List ℕ) (ls ms ns : List Line) → BeginWith v a ls b → BeginWith v b ms c
     → BeginWith v c ns rest → eqb (length rest) 0 ≡ true → BeginWith v a (ls ++ (ms ++ ns)) []
 begin_all v a b c rest ls ms ns first second third over =
     begin_more v a b [] ls (ms ++ ns) first (begin_more v b c [] ms ns second
     (subst (BeginWith v c ns) (nil_from_length rest (eqb-true (length rest) 0 over)) third))
 
--- pieces that are lines, behind one another
+-- pieces that are lines, one after another
 pub begin_pieces : {P Q : Type 0} (v : Version) (bytes_of : Q → List ℕ) (lines_of : P → List Line) (pieces : List Q) (parts : List P)
     → AllZip (λ piece part. BeginWith v (bytes_of piece) (lines_of part) []) pieces parts
     → BeginWith v (flat_map bytes_of pieces) (flat_map lines_of parts) []
@@ -93,7 +93,7 @@ begin_pieces v bytes_of lines_of (p ∷ pieces) (q ∷ parts) all =
     })
     more
 
--- one piece alone
+-- one piece only
 pub begin_alone : (v : Version) (bytes : List ℕ) (ls : List Line) → BeginWith v bytes ls [] → BeginWith v bytes (ls ++ []) []
 begin_alone v bytes ls front = subst (λ (ms : List Line). BeginWith v bytes ms []) (sym (append-nil ls)) front
 

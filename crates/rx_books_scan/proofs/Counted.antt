@@ -64,7 +64,7 @@ length-lines ms ds rows ts same =
       length-map ts (λ (t : TotalLine). line.Total t),
     )
 
--- the lists of parts that are the lines behind the head line are those of the text
+-- the lists of parts that are the lines after the head line are those of the text
 pub are_lists : (text lines : List ℕ) (head : Head) (parts : List Part) (l : Lists)
     → IsPeriod head.period → text ≡ ended (head_text head) ++ lines
     → BeginWith head.version lines (flat_map part_lines parts) [] → IsMadeOf head parts l

@@ -22,7 +22,7 @@ pub begin_length : (v : Version) (bytes rest : List ℕ) (ls : List Line) → Be
     → length bytes ≡ length (lines_text v ls) + length rest
 begin_length v bytes rest ls front = ap length front.whole ∙ length-append (lines_text v ls) rest
 
--- so many bytes are those of the lines
+-- this many bytes are those of the lines
 pub begin_taken : (v : Version) (bytes rest : List ℕ) (ls : List Line) → BeginWith v bytes ls rest
     → length bytes - length rest ≡ length (lines_text v ls)
 begin_taken v bytes rest ls front = omega (arith, begin_length v bytes rest ls front)

@@ -1,4 +1,4 @@
--- Parts behind one another.
+-- Parts one after another.
 use Rattle.std.proofs.Common.{◌≡◌, ℕ, Bool, true, false, List, [], ◌∷◌, ◌++◌, length, refl}
 use Rattle.std.proofs.Common.{ap, ◌∙◌, inl, inr, arith, append_assoc, append-nil}
 use Rattle.std.specs.Prelude.{◌⊎◌, ◌||◌, ◌&&◌}
@@ -30,7 +30,7 @@ member_lines-append (m ∷ ms) ns (d ∷ ds) es same =
     ap (λ (ls : List Line). line.Member (record { member = m; deductible = d }) ∷ ls)
     (member_lines-append ms ns ds es (omega arith))
 
--- three kinds behind three, where no kind stands before an earlier one
+-- three kinds after three, where no kind stands before an earlier one
 kinds : (m n r s t u : List Line) → (n ≡ []) ⊎ ((r ≡ []) × (t ≡ [])) → (s ≡ []) ⊎ (t ≡ [])
     → (m ++ n) ++ ((r ++ s) ++ (t ++ u)) ≡ (m ++ (r ++ t)) ++ (n ++ (s ++ u))
 kinds m n r s t u (inl a) (inl b) = rw (a, b) (simp (append-nil, append_assoc))
@@ -40,7 +40,7 @@ kinds m n r s t u (inr a) b =
     let d = a.1 in
     rw (c, d) (simp (append-nil, append_assoc))
 
--- the lines of lists are those of one part, and behind them those of another
+-- the lines of lists are those of one part, and after them those of another
 pub behind : {Y : Type 0} (f : Y → List Row) (runs : List Y) (ms ns : List Member) (ds es : List ℕ) (rows : List Row)
     (ts us : List TotalLine) → length ds ≡ length ms
     → ((is_none ns || (is_none runs && is_none ts)) && (is_none rows || is_none ts)) ≡ true

@@ -25,7 +25,7 @@ is_plain [] = false
 is_plain (d ∷ []) = true
 is_plain (d ∷ e ∷ ds) = not (d == 48)
 
--- fields with a bar behind each, in front of the rest
+-- fields with a bar after each, in front of the rest
 abbrev pub followed : List (List ℕ) → List ℕ → List ℕ
 followed [] rest = rest
 followed (field ∷ fields) rest = field ++ 124 ∷ followed fields rest

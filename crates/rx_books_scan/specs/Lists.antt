@@ -55,7 +55,8 @@ pub record AreLists (text : List ℕ) (p : PrintedParts) : Type 0 where
   pub lines : All (IsLine p.head.version) (lines_of p)
   pub few : line_feeds text ≤ MOST_LINES
 
--- so many bytes stand above the first claim line, those of the head line and of the member lines, and each claim line has so many
+-- this many bytes stand above the first claim line, those of the head line and of the member lines, and each claim line has this
+-- many
 pub record AreMeasured (p : PrintedParts) (above : ℕ) (lengths : List ℕ) : Type 0 where
   pub begin : above ≡ length (ended (head_text p.head))
       + length (lines_text p.head.version (member_lines p.ledger.members p.deductibles))

@@ -1,4 +1,4 @@
--- Plumbing: parts of the lines of a books file, and how they are put behind one another.
+-- Plumbing: parts of the lines of a books file, and how they are put one after another.
 use Rattle.std.specs.Prelude.{◌≡◌, ℕ, ◌+◌, ◌<◌, Bool, ◌&&◌, ◌||◌, ◌==◌, List, [], length}
 use Rattle.std.specs.List.{flat_map}
 use Rattle.std.specs.Vec.{vec_items}
@@ -22,7 +22,7 @@ use Rattle.rx_books_scan.specs.Lists.{BeginWith, claim_lengths, lines_in, lines_
 abbrev pub part_lines : Part → List Line
 part_lines p = lines_in p.members.members.items p.members.deductibles.items p.rows.items p.totals.items
 
--- the member lines have so many bytes, and each claim line has so many
+-- the member lines have this many bytes, and each claim line has this many
 pub record AreLong (v : Version) (ms : List Member) (ds : List ℕ) (bytes : ℕ) (rows : List Row) (lengths : List ℕ) : Type 0 where
   pub members : bytes ≡ length (lines_text v (member_lines ms ds))
   pub claims : lengths ≡ claim_lengths v rows
@@ -36,7 +36,7 @@ pub record IsPart (v : Version) (text : List ℕ) (p : Part) : Type 0 where
   pub lines : BeginWith v text (part_lines p) []
   pub measured : IsPartMeasured v p
 
--- the lines of parts that were put behind one another
+-- the lines of parts that were put one after another
 abbrev pub whole_lines : Whole → List Line
 whole_lines w =
     lines_in w.members.members.items w.members.deductibles.items (flat_map vec_items w.runs.items) w.totals.items
@@ -64,7 +64,7 @@ printed_lists l =
       totals = l.totals;
     }
 
--- the lists are those of the parts, behind one another and in order; with the head line there are at most `MOST_LINES` lines
+-- the lists are those of the parts, one after another and in order; with the head line there are at most `MOST_LINES` lines
 pub record IsMadeOf (h : Head) (ps : List Part) (l : Lists) : Type 0 where
   pub head : l.head ≡ h
   pub lines : lines_of (printed_lists l) ≡ flat_map part_lines ps

@@ -5,8 +5,8 @@ ghost use Rattle.rx_books_text.specs.LineText.{ended};
 use memchr::memchr;
 use std::alloc::Global;
 
-/// The pieces of a text, cut behind the first line feed at or behind each of these places, which ascend. None for want
-/// of memory.
+/// The pieces of a text, cut after the first line feed at or after each of these places, which ascend. None where
+/// memory runs out.
 pub(crate) fn pieces<'a>(alloc: Global, text: &'a [u8], places: &[usize]) -> Option<Vec<&'a [u8]>>
     ensures { IfSome result (λ pieces. flat_map (λ piece. piece.now) pieces.items ≡ text.now) }
 {
@@ -26,7 +26,7 @@ pub(crate) fn pieces<'a>(alloc: Global, text: &'a [u8], places: &[usize]) -> Opt
     Some(pieces)
 }
 
-// The text up to the first line feed at or behind a place, and what follows it.
+// The text up to the first line feed at or after a place, and what follows it.
 fn cut(text: &[u8], place: usize) -> (&[u8], &[u8])
     ensures { result.0.now ++ result.1.now ≡ text.now }
 {
@@ -40,7 +40,7 @@ fn cut(text: &[u8], place: usize) -> (&[u8], &[u8])
     text.split_at(end)
 }
 
-/// The places at which so many parts of one length begin, but for the first.
+/// The places at which this many parts of one length begin, but for the first.
 pub(crate) fn places(alloc: Global, parts: usize, len: usize) -> Option<Vec<usize>> {
     let step = len / parts.max(1);
     let mut places = Vec::new(alloc);

@@ -23,7 +23,7 @@ pub(crate) fn cut_at(bytes: &[u8], at: usize, byte: u8) -> Option<(&[u8], &[u8])
     Some((&bytes[..at], &bytes[at + 1..]))
 }
 
-/// What follows the kind that the bytes begin with, and the bar behind it.
+/// What follows the kind that the bytes begin with, and the bar after it.
 #[inline(always)]
 pub(crate) fn kind_at(bytes: &[u8], kind: u8) -> Option<&[u8]>
     ensures { IfSome result (λ rest. bytes.now ≡ kind ∷ 124 ∷ rest.now) }
@@ -37,7 +37,7 @@ pub(crate) fn kind_at(bytes: &[u8], kind: u8) -> Option<&[u8]>
     Some(rest)
 }
 
-/// The id of at most `max` bytes that the bytes begin with, and what follows the bar behind it. None, too, where fewer
+/// The id of at most `max` bytes that the bytes begin with, and what follows the bar after it. None, too, where fewer
 /// bytes are left than are tested at once.
 #[inline(always)]
 pub(crate) fn id_at(bytes: &[u8], max: usize) -> Option<(&[u8], &[u8])>
@@ -55,7 +55,7 @@ pub(crate) fn id_at(bytes: &[u8], max: usize) -> Option<(&[u8], &[u8])>
     Some((text, rest))
 }
 
-/// The date that the bytes begin with, and what follows the bar behind it.
+/// The date that the bytes begin with, and what follows the bar after it.
 pub(crate) fn day_at(bytes: &[u8]) -> Option<(Day, &[u8])>
     ensures day { IfSome result (λ x. IsCivil x.0) }
     ensures whole { IfSome result (λ x. bytes.now ≡ date_text x.0 ++ 124 ∷ x.1.now) }
@@ -65,7 +65,7 @@ pub(crate) fn day_at(bytes: &[u8]) -> Option<(Day, &[u8])>
     Some((day, rest))
 }
 
-/// The product that the bytes begin with, and what follows the bar behind it.
+/// The product that the bytes begin with, and what follows the bar after it.
 pub(crate) fn product_at(bytes: &[u8]) -> Option<(Product, &[u8])>
     ensures product { IfSome result (λ x. x.0 < 10 ^ 11) }
     ensures whole { IfSome result (λ x. bytes.now ≡ digits_text 11 x.0 ++ 124 ∷ x.1.now) }
@@ -75,7 +75,7 @@ pub(crate) fn product_at(bytes: &[u8]) -> Option<(Product, &[u8])>
     Some((product, rest))
 }
 
-/// The authorization number that the bytes begin with, and what follows the line feed behind it.
+/// The authorization number that the bytes begin with, and what follows the line feed after it.
 pub(crate) fn authorization_at(bytes: &[u8]) -> Option<(Authorization, &[u8])>
     ensures number { IfSome result (λ x. x.0 ≤ MOST_AUTHORIZATION) }
     ensures whole { IfSome result (λ x. bytes.now ≡ digits_text 15 x.0 ++ 10 ∷ x.1.now) }
@@ -89,7 +89,7 @@ pub(crate) fn authorization_at(bytes: &[u8]) -> Option<(Authorization, &[u8])>
     Some((number, rest))
 }
 
-/// The number that the bytes begin with, without leading zeros, and what follows the byte behind it.
+/// The number that the bytes begin with, without leading zeros, and what follows the byte after it.
 #[inline(always)]
 pub(crate) fn number_at(bytes: &[u8], end: u8) -> Option<(u64, &[u8])>
     ensures short { IfSome result (λ x. x.0 < 10 ^ 18) }

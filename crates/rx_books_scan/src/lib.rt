@@ -7,8 +7,8 @@
 //! let lists = rx_books_scan::read_lists(alloc, bytes);
 //! ```
 //!
-//! Nothing says nothing: memory was wanting, or the text is no books file. `rx_books_text::read_printed` tells. Whether
-//! a claim's member is listed is left to the caller too.
+//! Nothing says nothing: memory ran out, or the text isn't a books file. `rx_books_text::read_printed` says. Whether a
+//! claim's member is listed is left to the caller too.
 #![tactic(auto)]
 
 mod claims;

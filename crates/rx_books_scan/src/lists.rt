@@ -33,8 +33,8 @@ use crate::whole::{Whole, join_parts};
 use rx_fields::MOST_LINES;
 use std::alloc::Global;
 
-/// The lists of the parts of a text, under its head, whose line has so many bytes; None where they don't ascend, or are no
-/// lines in order, or are too many, or for want of memory.
+/// The lists of the parts of a text, under its head, whose line has this many bytes; None where they don't ascend, or are
+/// no lines in order, or are too many, or where memory runs out.
 pub(crate) fn lists_of(
     alloc: Global,
     head: Head,

@@ -18,7 +18,7 @@ pub(crate) struct Part {
 ghost use Rattle.std.specs.Prelude.{IfSome};
 ghost use Rattle.rx_books_scan.specs.Parts.{IsPart};
 
-/// What a part of the lines prints; None where it is none, or for want of memory.
+/// What a part of the lines prints; None if it is none, or where memory runs out.
 pub(crate) fn read_part(alloc: Global, version: Version, text: &[u8]) -> Option<Part>
     ensures { IfSome result (IsPart version text.now) }
 {

@@ -158,7 +158,7 @@ fn dispensed_at(bytes: &[u8]) -> Option<(Dispensed, &[u8])>
     Some((dispensed, rest))
 }
 
-// The amounts and the authorization number, and what follows the line feed behind them.
+// The amounts and the authorization number, and what follows the line feed after them.
 fn paid_at(bytes: &[u8]) -> Option<(Paid, &[u8])>
     ensures number { IfSome result (λ x. x.0.number ≤ MOST_AUTHORIZATION) }
     ensures whole { IfSome result (λ x. bytes.now

@@ -14,7 +14,7 @@ use std::alloc::Global;
 use std::thread::Threads;
 
 /// The lists that a books text prints (docs/FORMATS.md, "Books file"), read on the calling thread. None says nothing:
-/// memory was wanting, or it is no text of a books file.
+/// memory ran out, or it isn't the text of a books file.
 pub fn read_lists(alloc: Global, text: &[u8]) -> Option<Lists>
     ensures lists { IfSome result (λ lists. AreLists text.now (printed_lists lists)) }
     ensures measured { IfSome result (λ lists. AreMeasured (printed_lists lists) lists.above lists.lengths.items) }
@@ -30,7 +30,7 @@ pub fn read_lists(alloc: Global, text: &[u8]) -> Option<Lists>
     lists_of(alloc, head, text.len() - lines.len(), parts)
 }
 
-/// The same, where the lines behind the head line are cut into so many parts, and each is read by a thread of its own;
+/// The same, where the lines after the head line are cut into this many parts, and each is read by a thread of its own;
 /// one part is read on the calling thread.
 pub fn read_lists_in_parts<R: Threads + Sync>(
     rt: &R,
@@ -75,7 +75,7 @@ fn head_at(text: &[u8]) -> Option<(Head, &[u8])>
     Some((head, rest))
 }
 
-// What is no part of the lines, or wants memory.
+// What is no part of the lines, or runs out of memory.
 #[derive(Debug, Drop)]
 struct Unread;
 

@@ -12,7 +12,7 @@ use std::alloc::Global;
 // The fewest bytes of a claim line, with its line feed.
 const LEAST_CLAIM: usize = 59;
 
-/// The members whose lines the bytes begin with, and what follows. None for want of memory.
+/// The members whose lines the bytes begin with, and what follows. None where memory runs out.
 pub(crate) fn members_at(alloc: Global, version: Version, bytes: &[u8]) -> Option<(Members, &[u8])>
     ensures lines { IfSome result (λ x. BeginWith version bytes.now
         (member_lines x.0.members.items x.0.deductibles.items) x.1.now) }
@@ -39,8 +39,8 @@ pub(crate) fn members_at(alloc: Global, version: Version, bytes: &[u8]) -> Optio
     Some((members, rest))
 }
 
-/// The claims whose lines the bytes begin with, and what follows. None where a line has more bytes than are kept, or for
-/// want of memory.
+/// The claims whose lines the bytes begin with, and what follows. None where a line has more bytes than are kept, or
+/// where memory runs out.
 pub(crate) fn claims_at(alloc: Global, version: Version, bytes: &[u8]) -> Option<(Claims, &[u8])>
     ensures lines { IfSome result (λ x. BeginWith version bytes.now (claim_lines x.0.rows.items) x.1.now) }
     ensures lengths { IfSome result (λ x. x.0.lengths.items ≡ claim_lengths version x.0.rows.items) }
@@ -70,7 +70,7 @@ fn length_before(bytes: &[u8], rest: &[u8]) -> Option<u8>
     u8::try_from(bytes.len() - rest.len()).ok()
 }
 
-/// The totals whose lines the bytes begin with, and what follows. None for want of memory.
+/// The totals whose lines the bytes begin with, and what follows. None where memory runs out.
 pub(crate) fn totals_at(
     alloc: Global,
     version: Version,

@@ -4,7 +4,7 @@ use rx_books_text::TotalLine;
 use rx_ledger::Row;
 use std::alloc::Global;
 
-/// What parts print that were put behind one another: their claims stay apart, as runs.
+/// What parts print that were put one after another: their claims stay apart, as runs.
 #[derive(Drop)]
 pub(crate) struct Whole {
     pub(crate) members: Members,
@@ -20,8 +20,8 @@ ghost use Rattle.std.specs.Vec.{vec_items};
 ghost use Rattle.rx_books_text.specs.declared.version.Version.{Version};
 ghost use Rattle.rx_books_scan.specs.Parts.{IsPartMeasured, IsWholeMeasured, may_follow, part_lines, whole_lines};
 
-/// The parts, put behind one another; None where a kind of line stands before that of a line above, or for want of
-/// memory. Keys aren't compared.
+/// The parts, put one after another; None where a kind of line stands before that of a line above, or where memory runs
+/// out. Keys aren't compared.
 pub(crate) fn join_parts(alloc: Global, parts: Vec<Part>) -> Option<Whole>
     ensures lines { IfSome result (λ whole. whole_lines whole ≡ flat_map part_lines parts.items) }
     ensures measured { (v : Version) → All (IsPartMeasured v) parts.items → IfSome result (IsWholeMeasured v) }
@@ -42,7 +42,7 @@ pub(crate) fn join_parts(alloc: Global, parts: Vec<Part>) -> Option<Whole>
     Some(whole)
 }
 
-// The part behind the others.
+// The part after the others.
 fn followed(whole: Whole, part: Part) -> Option<Whole>
     ensures lines { IfSome result (λ all. whole_lines all ≡ whole_lines whole ++ part_lines part) }
     ensures measured { (v : Version) → IsWholeMeasured v whole → IsPartMeasured v part
@@ -83,7 +83,7 @@ fn may_follow(whole: &Whole, part: &Part) -> bool
         && (part.rows.is_empty() || whole.totals.is_empty())
 }
 
-// Members behind others.
+// Members after others.
 fn all_members(first: Members, more: Members) -> Option<Members>
     ensures members { IfSome result (λ all. all.members.items ≡ first.members.items ++ more.members.items) }
     ensures deductibles { IfSome result (λ all. all.deductibles.items ≡ first.deductibles.items ++ more.deductibles.items) }
@@ -109,7 +109,7 @@ fn all_members(first: Members, more: Members) -> Option<Members>
     })
 }
 
-// A run behind others, where it has claims.
+// A run after others, where it has claims.
 fn all_runs(mut runs: Vec<Vec<Row>>, run: Vec<Row>) -> Option<Vec<Vec<Row>>>
     ensures { IfSome result (λ all. flat_map vec_items all.items ≡ flat_map vec_items runs.items ++ run.items) }
 {
@@ -122,7 +122,7 @@ fn all_runs(mut runs: Vec<Vec<Row>>, run: Vec<Row>) -> Option<Vec<Vec<Row>>>
     Some(runs)
 }
 
-// Items behind others; where there are no others, none is copied.
+// Items after others; if there are no others, none is copied.
 fn all_items<T: Copy + Drop>(mut first: Vec<T>, more: Vec<T>) -> Option<Vec<T>>
     ensures { IfSome result (λ all. all.items ≡ first.items ++ more.items) }
 {

@@ -1,4 +1,4 @@
--- Lists that stand for themselves, in order and each item once: they are told by what is among them.
+-- Lists that stand for themselves, in order and each item once: they are determined by what is among them.
 use Rattle.std.proofs.Common.{◌≡◌, ◌++◌, false, Bool, true, cond, ◌||◌, List, [], ◌∷◌}
 use Rattle.std.proofs.Common.{map, Some, None, Option, refl, ap, sym, ◌∙◌, inl, inr}
 use Rattle.std.specs.Cmp.{IsTotalOrder}
@@ -82,7 +82,7 @@ module _ {K : Type 0} (cmp : K → K → Ordering) (order : IsTotalOrder cmp) (e
     dedup_has k = among (dedup (eq_by_cmp cmp) sorted) k ∙ among-dedup sorted k
         ∙ sym (list_any-IsPermutation (eq_by_cmp cmp k) given sorted moved) ∙ sym (among given k)
 
-  -- ---- lists one behind the other, and put together
+  -- ---- lists one after the other, and put together
 
   has_either : (xs ys : List K) (k : K)
       → contains_key cmp itself (xs ++ ys) k ≡ (contains_key cmp itself xs k || contains_key cmp itself ys k)

@@ -1,4 +1,4 @@
--- The books of a shelf whose books are all in and agree: they have the members beside, and under each key the row of the
+-- The books of a shelf whose books are all in and agree: they have the members in the ledger, and under each key the row of the
 -- key's book.
 use Rattle.std.proofs.Common.{◌≡◌, ℕ, List, [], ◌∷◌, true, false, Option, Some, None, refl, sym, ap, subst, ◌∙◌, arith}
 use Rattle.std.specs.Prelude.{IfSome}
@@ -38,7 +38,7 @@ use Rattle.rx_books_shelf.specs.Closed.{are_members_kept, does_book_keep, is_in_
 -- ---- members
 
 module _ (s : ShelfParts) (is : IsShelf s) where
-  -- each family's value has the members beside
+  -- each family's value has the members in the ledger
   module _ (kept : are_members_kept s ≡ true) where
     same_as_beside : (f : List ℕ) → (value_of s (OfFamily f)).members ≡ members_of s.rest f
     same_as_beside f = by_place (family_place s f) refl

@@ -1,4 +1,4 @@
--- The tests of a shelf's books tell whether all are in and agree.
+-- The tests of a shelf's books say whether all are in and agree.
 use Rattle.std.proofs.Common.{◌≡◌, zero, suc, List, Bool, true, false, Option, Some}
 use Rattle.std.proofs.Common.{None, refl, sym, ap, subst, ◌∙◌, arith}
 use Rattle.std.specs.Prelude.{◌↔◌, ◌&&◌, ◌||◌, IsTrue}
@@ -61,7 +61,7 @@ or_right true t h = refl
 or_right false t h = h
 
 module _ (s : ShelfParts) (is : IsShelf s) where
-  -- a row stands in a value where it is one of its rows
+  -- a row stands in a value if it is one of its rows
   stands_from : (b : Book) (r : Row) → Contains (value_of s b).rows r → stands_in s b r ≡ true
   stands_from b r among = let value = shelf_value s is b in
       is_found_from r (row_under (value_of s b) r.key)
@@ -87,7 +87,7 @@ module _ (s : ShelfParts) (is : IsShelf s) where
     inner : (are_all_in s ≡ true) × (list_all (λ p. row_stands s (row_held p)) s.keys ≡ true)
     inner = and_parts _ _ middle.0
 
-    -- a row beside that is told
+    -- a row in the ledger that is known
     beside : (r : Row) → Contains s.rest.rows r → is_kept_out s r ≡ false → stands s r ≡ true
     beside r among out = or_then (is_kept_out s r) (stands s r) (each (rest_stands s) s.rest.rows r outer.1 among) out
 

@@ -1,4 +1,4 @@
--- Plumbing: the tests by which it is told whether all books of a shelf are in and agree.
+-- Plumbing: the tests by which one sees whether all books of a shelf are in and agree.
 use Rattle.std.specs.Prelude.{Bool, true, ◌&&◌, ◌||◌, Option, Some, None}
 use Rattle.std.specs.List.{list_all}
 use Rattle.rx_ledger.specs.declared.row.Row.{Row}
@@ -24,7 +24,7 @@ abbrev pub book_stands : ShelfParts → Option FamilyBook → Bool
 book_stands s None = true
 book_stands s (Some b) = list_all (stands s) b.rows
 
--- so does a row of the ledger beside, where its key or its family is not named
+-- so does a row of the ledger next to them, where its key or its family is not named
 abbrev pub is_kept_out : ShelfParts → Row → Bool
 is_kept_out s r = has_slot s (OfKey r.key) && has_slot s (OfFamily r.family)
 

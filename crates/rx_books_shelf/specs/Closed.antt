@@ -23,11 +23,11 @@ is_in_place (Some p) m = is_among (members_held p) m
 abbrev pub is_member_held : ShelfParts → Member → Bool
 is_member_held s m = is_in_place (family_place s m.key.family) m
 
--- each member of the family's book is one beside
+-- each member of the family's book is one in the ledger
 abbrev pub does_book_keep : ShelfParts → FamilyPlace → Bool
 does_book_keep s p = list_all (is_among s.rest.members) (members_held p)
 
--- the books have the members that the families have beside
+-- the books have the members that the families have in the ledger
 abbrev pub are_members_kept : ShelfParts → Bool
 are_members_kept s = list_all (is_member_held s) s.rest.members && list_all (does_book_keep s) s.families
 

@@ -87,7 +87,7 @@ impl Shelf {
         book.rows().iter().all(|row| self.stands(row))
     }
 
-    // Whether each row beside does that is in some value.
+    // Whether each row in the ledger does that is in some value.
     fn do_other_rows_stand(&self) -> bool
         ensures { result ≡ list_all (rest_stands self.now) self.now.rest.rows }
     {

@@ -64,14 +64,14 @@ impl Shelf {
         books.close_with(keys, families)
     }
 
-    // Whether each family's book has the members that the family has beside.
+    // Whether each family's book has the members that the family has in the ledger.
     fn are_members_kept(&self) -> bool
         ensures { result ≡ are_members_kept self.now }
     {
         self.are_members_held() && self.do_books_keep()
     }
 
-    // Whether each member beside is in the book of the family, where that has a place.
+    // Whether each member in the ledger is in the book of the family, where that has a place.
     fn are_members_held(&self) -> bool
         ensures { result ≡ list_all (is_member_held self.now) self.now.rest.members }
     {
@@ -91,7 +91,7 @@ impl Shelf {
         }
     }
 
-    // Whether each member of each family's book is one beside.
+    // Whether each member of each family's book is one in the ledger.
     fn do_books_keep(&self) -> bool
         ensures { result ≡ list_all (does_book_keep self.now) self.now.families }
     {
@@ -100,7 +100,7 @@ impl Shelf {
             .all(|place| self.does_book_keep(place))
     }
 
-    // Whether each member of the family's book is one beside.
+    // Whether each member of the family's book is one in the ledger.
     fn does_book_keep(&self, place: &FamilyPlace) -> bool
         ensures { result ≡ does_book_keep self.now place.now }
     {
@@ -127,7 +127,7 @@ fn brought(books: OpenBooks, places: &[KeyPlace]) -> OpenBooks
 }
 
 // Brings the slot of a key to what its place holds. The slot is looked for at `near`, and the next one's from then on
-// behind it.
+// after it.
 fn bring(books: &mut OpenBooks, near: &mut usize, place: &KeyPlace)
     requires slot { HasSlot books.old.slots place.now }
     requires row { HoldsOwnRow place.now }

@@ -45,7 +45,7 @@ fn read_books(books: &[Unsummed])
     }
 }
 
-// The books of these families, without members and rows, and with room for so many of each.
+// The books of these families, without members and rows, and with room for this many of each.
 fn empty_books(
     alloc: Global,
     families: &[Id],
@@ -78,7 +78,7 @@ fn put_books(
     Ok(())
 }
 
-// Puts each member into the book of its family, if it is there. The homes tell where to look for it.
+// Puts each member into the book of its family, if it is there. The homes say where to look for it.
 fn put_members(books: &mut Vec<Unsummed>, open: &OpenBooks, homes: &[u32]) -> Result<(), Memory>
     requires rise { IsAscending id_cmp family_of books.old.items }
     requires none { All (λ b. b.members ≡ []) books.old.items }
@@ -91,7 +91,7 @@ fn put_members(books: &mut Vec<Unsummed>, open: &OpenBooks, homes: &[u32]) -> Re
     Ok(())
 }
 
-// Puts each row that stands into the book of its family, if it is there. The homes tell where to look for it.
+// Puts each row that stands into the book of its family, if it is there. The homes say where to look for it.
 fn put_rows(books: &mut Vec<Unsummed>, open: &OpenBooks, homes: &[u32]) -> Result<(), Memory>
     requires rise { IsAscending id_cmp family_of books.old.items }
     requires members { All (λ b. b.members ≡ members_of open.now.books.ledger b.family) books.old.items }
@@ -105,7 +105,7 @@ fn put_rows(books: &mut Vec<Unsummed>, open: &OpenBooks, homes: &[u32]) -> Resul
     Ok(())
 }
 
-// Puts a member behind the others of its family's book, if the book is there: it is looked for at `home`.
+// Puts a member after the others of its family's book, if the book is there: it is looked for at `home`.
 fn put_member(books: &mut Vec<Unsummed>, home: usize, member: Member) -> Result<(), Memory>
     requires rise { IsAscending id_cmp family_of books.old.items }
     requires past { All (λ b. is_past member_cmp member_key b.members member.key ≡ true) books.old.items }
@@ -120,7 +120,7 @@ fn put_member(books: &mut Vec<Unsummed>, home: usize, member: Member) -> Result<
     }
 }
 
-// Puts a row behind the others of its family's book, if the book is there: it is looked for at `home`.
+// Puts a row after the others of its family's book, if the book is there: it is looked for at `home`.
 fn put_row(books: &mut Vec<Unsummed>, home: usize, row: Row) -> Result<(), Memory>
     requires rise { IsAscending id_cmp family_of books.old.items }
     requires past { All (λ b. is_past key_cmp row_key b.rows row.key ≡ true) books.old.items }

@@ -39,7 +39,7 @@ pub(crate) fn key_places(
     }
 }
 
-// The row that stands under a key, whose slot is looked for at `near`, and the next one's from then on behind it.
+// The row that stands under a key, whose slot is looked for at `near`, and the next one's from then on after it.
 fn row_near(open: &OpenBooks, near: &mut usize, key: &Key) -> Option<Row>
     ensures { result ≡ row_under open.now.books.ledger key.now }
 {

@@ -106,7 +106,7 @@ impl Shelf {
         ensures parcel { IfOk result (λ parcel. parcel ≡ parcel_of self.old footprint.now) }
         ensures ok { OnOk result (self.new ≡ taken_out self.old footprint.now) }
         ensures err { OnErr result (self.new ≡ self.old) }
-        // The parcel has the values of the named books, and the shelf has nothing of them any more.
+        // The parcel has the values of the named books, and the shelf no longer has them.
         ensures values { IfOk result (λ parcel. (b : Book) → values_of parcel b
             ≡ (if names footprint.now b then value_of self.old b else empty)) }
         ensures left { OnOk result ((b : Book) → value_of self.new b ≡ (if names footprint.now b then empty else value_of self.old b)) }
@@ -201,7 +201,7 @@ struct Near {
     family: usize,
 }
 
-// Room for so many books; a single one needs none.
+// Room for this many books; a single one needs none.
 fn book_room<T>(alloc: Global, count: usize) -> Result<Vec<T>, Memory>
     ensures none { IfOk result (λ room. length room.items ≡ 0) }
     ensures room { IfOk result (λ room. count ≢ 1 → count ≤ vec_capacity room) }

@@ -131,7 +131,7 @@ impl Unsummed {
     }
 }
 
-// The list without items, with room for so many.
+// The list without items, with room for this many.
 fn with_room<T: Keyed>(alloc: Global, count: usize) -> Result<Ascending<T>, Memory>
     ensures { IfOk result (λ list. list ≡ []) }
 {
@@ -141,7 +141,7 @@ fn with_room<T: Keyed>(alloc: Global, count: usize) -> Result<Ascending<T>, Memo
     }
 }
 
-// Puts a row behind the others.
+// Puts a row after the others.
 fn put_behind(rows: &mut Ascending<Row>, row: Row) -> Result<(), Memory>
     requires { IsTrue (is_past key_cmp row_key rows.old row.key) }
     ensures ok { OnOk result (rows.new ≡ put key_cmp row_key rows.old row) }

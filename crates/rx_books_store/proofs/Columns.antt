@@ -40,7 +40,7 @@ module _ {Y : Type 0} (f g share : Y → ℕ) (names : List Y) (at c : ℕ) (d :
   read_at : get_or (map f names) at 0 ≡ f (get_or names at d)
   read_at = get_or-map f names at d 0 in_range
 
-  -- a share that one name alone has is added at its place
+  -- a share that only one name has is added at its place
   pub column-more : ((y : Y) → g y ≡ f y + share y) → set (map f names) at (get_or (map f names) at 0 + c) ≡ map g names
   column-more more =
       let v : g (get_or names at d) ≡ get_or (map f names) at 0 + c = more (get_or names at d) ∙ rw (here, read_at) refl in

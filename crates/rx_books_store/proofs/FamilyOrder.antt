@@ -23,7 +23,7 @@ use Rattle.rx_books_store.specs.BooksText.{families_of}
 abbrev pub itself : List ℕ → List ℕ
 itself f = f
 
--- the family itself, or one behind it
+-- the family itself, or one after it
 abbrev NotBefore : List ℕ → List ℕ → Type 0
 NotBefore k f = (id_cmp k f ≡ Less) ⊎ (id_cmp k f ≡ Equal)
 

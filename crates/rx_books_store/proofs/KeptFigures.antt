@@ -12,7 +12,7 @@ use Rattle.rx_books_store.specs.LedgerBooks.{LedgerBooks}
 use Rattle.rx_books_store.specs.Opening.{names_of}
 use Rattle.rx_books_store.proofs.Stored.{member-get}
 
--- a member's deductible, told by the place
+-- a member's deductible, found by the place
 pub deductible-told : (b : LedgerBooks) (k : MemberKey) (at n : ℕ) → IsAt member_cmp member_key b.ledger.members k at
     → IfSome (slice_get b.ledger.members at) (λ m. n ≡ deductible b.period b.ledger m.key.family m.key.person)
     → n ≡ deductible b.period b.ledger k.family k.person

@@ -20,7 +20,7 @@ use Rattle.rx_books_text.specs.TextFault.{is_known, is_next, is_nil, no_lines, w
 use Rattle.rx_books_text.specs.TextReading.{behind_head, found_line, line_added, line_read, lines, lines_read, printed_of, text_read}
 use Rattle.rx_books_store.proofs.Wrong.{length-lines}
 
--- one figure for each member, and at most so many lines behind the head
+-- one figure for each member, and at most this many lines after the head
 pub record Holds (p : PrintedParts) (n : ℕ) : Type 0 where
   pub one_each : length p.deductibles ≡ length p.ledger.members
   pub few : length p.ledger.members + length p.ledger.rows + length p.totals ≤ n

@@ -30,7 +30,7 @@ module _ {X K : Type 0} (cmp : K → K → Ordering) (order : IsTotalOrder cmp) 
       → put_all cmp key (x ∷ xs) (y ∷ ys) ≡ y ∷ put_all cmp key (x ∷ xs) ys
   merge-greater x xs y ys rise more = rw more (put_all-front y (x ∷ xs) ys rise.0)
 
-  -- ---- the same, behind so many of each list
+  -- ---- the same, after this many of each list
 
   module _ (xs ys : List X) (rise : IsAscending cmp key xs) (too : IsAscending cmp key ys) (i j : ℕ) where
     abbrev left : ℕ → ℕ → List X

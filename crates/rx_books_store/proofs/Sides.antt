@@ -1,4 +1,4 @@
--- One row of rows that ascend tells on which side of a key those before it, or behind it, are.
+-- One row of rows that ascend determines on which side of a key those before it, or after it, are.
 use Rattle.std.proofs.Common.{◌≡◌, ℕ, ◌+◌, ◌<◌, ◌≤◌, true, List, length, get_or, Some, refl, ap, ◌∙◌, inl, inr, arith}
 use Rattle.std.specs.Prelude.{slice_get}
 use Rattle.std.specs.Ordering.{is_gt, is_lt}

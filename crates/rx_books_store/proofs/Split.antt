@@ -1,4 +1,4 @@
--- A family of whom somebody is listed has a member.
+-- A family with a listed person has a member.
 use Rattle.std.proofs.Common.{◌≡◌, ◌<◌, List, [], ◌∷◌, length, Bool, true, false, Option, Some, None, refl, sym, ap, ◌∙◌, inl, inr, arith}
 use Rattle.std.specs.List.{Contains, filter, list_any}
 use Rattle.std.specs.Option.{is_some}
@@ -22,7 +22,7 @@ some_pass p (x ∷ xs) some = elim (cases_Bool (p x)) [
   | inr f ↦ rw f (some_pass p xs (rw f at some))
 ]
 
--- a family of whom somebody is listed has a member
+-- a family with a listed person has a member
 pub listed-has_members : (L : Ledger) (k : MemberKey) → is_listed L k ≡ true → has_members L k.family ≡ true
 listed-has_members L k = by_member (item_at member_cmp member_key L.members k) refl
   where

@@ -318,7 +318,7 @@ module _ (period : Span) (opening : Ledger) (slots : List KeySlot) (deductibles 
         few = rw (length-written slots emptied i store.slots_rise emptied-at) store.few;
       }
 
--- open books, told by their ledger and the keys of their slots
+-- open books, determined by their ledger and the keys of their slots
 pub same_open : (period : Span) (L M : Ledger) (js ks : List Key) → L ≡ M → js ≡ ks
     → opened_as period L js ≡ opened_as period M ks
 same_open period L M js ks ledger keys = λ i. opened_as period (ledger i) (keys i)

@@ -57,7 +57,7 @@ filter_kept p x xs h = rw h refl
 pub filter_left : {A : Type 0} (p : A → Bool) (x : A) (xs : List A) → p x ≡ false → filter p (x ∷ xs) ≡ filter p xs
 filter_left p x xs h = rw h refl
 
--- whether nothing was found, told of what was borrowed
+-- whether nothing was found, said of what was borrowed
 pub none_told : {A : Type 0} (o : Option (Bor A)) (b : Bool) → is_some o ≡ not b → not (is_some (option_copied o)) ≡ b
 none_told None true h = refl
 none_told None false h = absurd (cc h)
@@ -105,7 +105,7 @@ module _ (s : ShelfParts) (is : IsAmended s) where
   opened = record { period = s.period; ledger = s.rest }
 
   module _ (f : List ℕ) where
-    -- a family without a place has the book that it has beside
+    -- a family without a place has the book that it has in the ledger
     beside_value : family_place s f ≡ None → book (OfFamily f) (amended s) ≡ book (OfFamily f) s.rest
     beside_value e = values_amended s is.shelf is.agreed (OfFamily f) ∙ ap (λ q. family_value_or q (book (OfFamily f) s.rest)) e
 

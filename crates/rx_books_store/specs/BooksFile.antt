@@ -44,7 +44,7 @@ pub data IsWrongLine (p : PrintedParts) : ℕ → Type 0 where
   no_total : (family : List ℕ) → All (HasSums p.head.period p.ledger) (lines_of p) → has_member p.ledger family ≡ true
       → All (λ t. ¬ (t.family ≡ family)) p.totals → IsWrongLine p (length (lines_of p) + 2)
 
--- the text is no books file, and this is its first fault: that of its lines, else that of its figures
+-- the text isn't a books file, and this is its first fault: that of its lines, else that of its figures
 pub data HasBooksFault (text : List ℕ) : BooksFault → Type 0 where
   of_lines : (f : BooksFault) → HasFault text f → HasBooksFault text f
   of_figures : (p : PrintedParts) (n : ℕ) → text ≡ printed_text p → IsPrinted p → IsWrongLine p n
@@ -56,7 +56,7 @@ pub data HasBooksFault (text : List ℕ) : BooksFault → Type 0 where
 abbrev pub ReadsBooksAlone : List ℕ → Result LedgerBooks BooksFault → Type 0
 ReadsBooksAlone text result = IfOk result (λ books. IsBooksText text books.period books.ledger)
 
--- the text of books is read as those books, unless memory was wanting
+-- the text of books is read as those books, unless memory ran out
 abbrev pub ReadsAllBooks : List ℕ → Result LedgerBooks BooksFault → Type 0
 ReadsAllBooks text result = (period : Span) → (L : Ledger) → IsBooksText text period L
     → Gives result (Ok (record { period = period; ledger = L }))
@@ -66,6 +66,6 @@ abbrev pub ReadsWhatIsWritten : Result LedgerBooks BooksFault → Type 0
 ReadsWhatIsWritten result =
     IfOk result (λ books. IsBooksText (books_text Three books.period books.ledger) books.period books.ledger)
 
--- the fault is the text's first, unless memory was wanting
+-- the fault is the text's first, unless memory ran out
 abbrev pub NamesFirstFault : List ℕ → Result LedgerBooks BooksFault → Type 0
 NamesFirstFault text result = IfErr result (λ fault. UnlessMemory fault (HasBooksFault text fault))

@@ -24,7 +24,7 @@ families_of (m ∷ ms) = m.key.family ∷ filter (λ f. not (is_same f m.key.fam
 abbrev pub deductibles_of : Span → Ledger → List ℕ
 deductibles_of period L = map (λ m. deductible period L m.key.family m.key.person) L.members
 
--- the figure that version 3 alone prints
+-- the figure that only version 3 prints
 abbrev pub from_three : Version → ℕ → Option ℕ
 from_three One n = None
 from_three Two n = None

@@ -7,7 +7,7 @@ use Rattle.rx_books_scan.specs.Lists.{claim_lengths}
 use Rattle.rx_books_store.specs.declared.kept.Kept.{Kept}
 use Rattle.rx_books_store.specs.BooksText.{claims_text}
 
--- below so many bytes of the text stand the lines of these rows in version 3, which are so long
+-- below this many bytes of the text stand the lines of these rows in version 3, which are so long
 pub record HoldsLines (text : List ℕ) (above : ℕ) (lengths : List ℕ) (rows : List Row) : Type 0 where
   pub each : lengths ≡ claim_lengths Three rows
   pub whole : take (length (claims_text rows)) (drop above text) ≡ claims_text rows

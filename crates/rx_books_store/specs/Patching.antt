@@ -21,6 +21,6 @@ pub record IsRun (rows : List Row) (row : ℕ) (key : Key) (last next : ℕ) : T
   pub met : (IsAt key_cmp row_key (drop row rows) key (last - row) × (next ≡ last + 1))
       ⊎ (IsGap key_cmp row_key (drop row rows) key (last - row) × (next ≡ last))
 
--- where the line of a row begins, where so many bytes stand above the first
+-- where the line of a row begins, where this many bytes stand above the first
 abbrev pub begin_of : ℕ → List Row → ℕ → ℕ
 begin_of above rows i = above + length (claims_text (take i rows))

@@ -26,7 +26,7 @@ abbrev pub after_held : Option Row → List Row → List Row
 after_held None rows = rows
 after_held (Some r) rows = r ∷ rows
 
--- the rows that stand, behind so many opening rows and slots
+-- the rows that stand, after this many opening rows and slots
 abbrev pub still_to_come : Ledger → List KeySlot → ℕ → ℕ → List Row
 still_to_come opening slots row slot = standing_rows (drop row opening.rows) (drop slot slots)
 

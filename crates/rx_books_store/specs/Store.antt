@@ -1,4 +1,5 @@
--- Plumbing: how books are kept: the lists that they were made from, what stands now under a fill key, and the figures beside them.
+-- Plumbing: how books are kept: the lists that they were made from, what stands now under a fill key, and the figures next to
+-- them.
 use Rattle.std.specs.Prelude.{◌≡◌, ℕ, ◌+◌, ◌<◌, ◌≤◌, ◌^◌, List, Option, Some, IfSome, length, map, slice_get, slice_index}
 use Rattle.std.specs.List.{All}
 use Rattle.rx_fields.specs.declared.limits.TheConstants.{MOST_CENTS}

@@ -18,7 +18,7 @@ use Rattle.rx_books_family.specs.Amended.{amended, is_among}
 use Rattle.rx_books_family.specs.Shelves.{ShelfParts, place_family, place_key}
 use Rattle.rx_books_store.specs.LedgerBooks.{LedgerBooks}
 
--- the books beside these places
+-- the books without these places
 abbrev pub beside : LedgerBooks → List KeyPlace → List FamilyPlace → ShelfParts
 beside b keys families = record { period = b.period; rest = b.ledger; keys = keys; families = families }
 

@@ -49,7 +49,7 @@ impl OpenBooks {
     pub fn close_with(self, keys: Hinted<KeyPlace>, families: Hinted<FamilyPlace>) -> Books
         requires { IsAmended (beside self.books keys families) }
         ensures books { result ≡ amended_books self.books keys families }
-        // Each book has the value that it has beside the places.
+        // Each book has the value that it has without the places.
         ensures values { (b : Book) → book b result.ledger ≡ value_of (beside self.books keys families) b }
         ensures within { IsLedger result.ledger }
     {

@@ -18,7 +18,7 @@ use std::alloc::Global;
 use std::marker::Model;
 
 /// All books: the members and the standing claims, with the deductible of each member and the figures of each family
-/// stored beside them. Contracts see the plain ledger, and the period that the totals are of (docs/RULES.md,
+/// stored next to them. Contracts see the plain ledger, and the period that the totals are of (docs/RULES.md,
 /// "Accumulators").
 #[derive(Debug, Drop)]
 pub struct Books {
@@ -55,7 +55,7 @@ impl Books {
     /// one text of these books in a version.
     pub fn read(alloc: Global, text: &[u8]) -> Result<Books, BooksFault>
         ensures ok { ReadsBooksAlone text.now result }
-        // The text of books is read as those books, unless memory was wanting.
+        // The text of books is read as those books, unless memory ran out.
         ensures reads { ReadsAllBooks text.now result }
         // What was read, written in version 3, is a text of the same books.
         ensures again { ReadsWhatIsWritten result }

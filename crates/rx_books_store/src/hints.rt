@@ -24,7 +24,7 @@ pub(crate) struct Places {
 }
 
 impl Places {
-    /// The places of these members. None where there are 2^32 of them, or for want of memory.
+    /// The places of these members. None where there are 2^32 of them, or where memory runs out.
     pub(crate) fn of(alloc: Global, members: &[Member]) -> Option<Places>
         ensures { IfSome result (λ places. length members.now < 2 ^ 32) }
     {
@@ -62,7 +62,7 @@ impl Places {
         u32::try_from(place).ok()
     }
 
-    // The place of a member, where it is at one of those that its hash tells.
+    // The place of a member, where it is at one of those that its hash gives.
     fn place_hashed(&self, members: &[Member], key: &MemberKey) -> Option<usize>
         ensures { IfSome result (IsAt member_cmp member_key members.now key.now) }
     {

@@ -11,7 +11,7 @@ use rx_sorted::{Ascending, Runs};
 use std::alloc::Global;
 use std::thread::Threads;
 
-/// For each row the place of its member. None where one isn't listed, or for want of memory.
+/// For each row the place of its member. None where one isn't listed, or where memory runs out.
 pub(crate) fn holders_of(
     alloc: Global,
     places: &Places,
@@ -45,7 +45,7 @@ pub(crate) fn holders_in_parts<R: Threads + Sync>(
     joined(alloc, rows.len(), &found)
 }
 
-// What isn't found, or wants memory.
+// What isn't found, or runs out of memory.
 #[derive(Debug, Drop)]
 struct Unfound;
 
@@ -77,7 +77,7 @@ fn found_in_parts<R: Threads + Sync>(
     Some(found)
 }
 
-// The lists behind one another.
+// The lists one after another.
 fn joined(alloc: Global, len: usize, lists: &[Vec<u32>]) -> Option<Vec<u32>>
     ensures { IfSome result (λ all. all.items ≡ flat_map vec_items lists.now) }
 {

@@ -1,5 +1,5 @@
 //! Books that keep their totals: a ledger, with the deductible of each member and the figures of each family stored
-//! beside the rows that they are the sums of (docs/RULES.md, "Accumulators").
+//! next to the rows that they are the sums of (docs/RULES.md, "Accumulators").
 //!
 //! In comes the text of a books file, or a plain `Ledger` with the period that the totals are of; out come the row
 //! under a fill key and the totals of a member and a family, by look-ups that walk no rows, the plain ledger again, and
@@ -23,7 +23,7 @@
 //! - `taking`: what stands under fill keys in other open books, taken over
 //! - `amended`, `whole`, `amended_lists`, `comparison`: books of the second form; `lent`: either form, opened for reading
 //! - `reader`, `writing`, `writer`, `patching`, `parts`: the text, on one thread and in parts
-//! - `law`: that a text has one reading, and that members and rows tell a ledger
+//! - `law`: that a text has one reading, and that members and rows determine a ledger
 //!
 //! What a books file is, and which fault a text has that is none, stands in `specs/BooksFile.antt`; what a total is in
 //! `rx_ledger`'s `specs/Sums.antt`, what a line is in `rx_books_text`'s `specs/`. Which claims are added and taken out

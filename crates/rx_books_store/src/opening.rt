@@ -65,7 +65,7 @@ impl Model for Lists {
 #[derive(Debug, Drop)]
 pub(crate) struct Opening {
     lists: Arc<Lists, Global>,
-    // The text that they were read from, where it is one of version 3 and was given to be kept.
+    // The text that they were read from, if it is one of version 3 and was given to be kept.
     kept: Option<Arc<Kept, Global>>,
 }
 

@@ -15,8 +15,8 @@ use std::alloc::Global;
 use std::thread::Threads;
 
 impl Books {
-    /// The same as `read`, where the lines behind the head line are cut into so many parts, and each is read by a thread
-    /// of its own; one part is read on the calling thread.
+    /// The same as `read`, where the lines after the head line are cut into this many parts, and each is read by a
+    /// thread of its own; one part is read on the calling thread.
     pub fn read_in_parts<R: Threads + Sync>(
         rt: &R,
         alloc: Global,
@@ -24,7 +24,7 @@ impl Books {
         text: &[u8],
     ) -> Result<Books, BooksFault>
         ensures ok { ReadsBooksAlone text.now result }
-        // The text of books is read as those books, unless memory was wanting.
+        // The text of books is read as those books, unless memory ran out.
         ensures reads { ReadsAllBooks text.now result }
         // What was read, written in version 3, is a text of the same books.
         ensures again { ReadsWhatIsWritten result }
@@ -36,7 +36,7 @@ impl Books {
         Books::or_summed(alloc, text, quick)
     }
 
-    /// The same of a text that the books keep, where it is one of version 3: `write_pieces` and `write` take the lines of
+    /// The same of a text that the books keep, if it is one of version 3: `write_pieces` and `write` take the lines of
     /// claims that stand unchanged from it.
     pub fn read_kept<R: Threads + Sync>(
         rt: &R,
@@ -45,7 +45,7 @@ impl Books {
         text: Vec<u8>,
     ) -> Result<Books, BooksFault>
         ensures ok { ReadsBooksAlone text.items result }
-        // The text of books is read as those books, unless memory was wanting.
+        // The text of books is read as those books, unless memory ran out.
         ensures reads { ReadsAllBooks text.items result }
         // What was read, written in version 3, is a text of the same books.
         ensures again { ReadsWhatIsWritten result }
@@ -74,7 +74,7 @@ impl Books {
         };
         match books.write_pieces(rt, alloc, parts) {
             Ok(pieces) => Ok(pieces),
-            // Where threads or memory for parts are wanting, one part may do.
+            // Where threads or memory for parts run out, one part may do.
             Err(Memory) => books.write_pieces(rt, alloc, 1),
         }
     }

@@ -1,8 +1,8 @@
 use crate::open_books::OpenBooks;
 use rx_books_text::Version;
 
-/// Books that were read quickly, and where the lines of their claims are in the text that they were read from: below so many
-/// bytes of it, and each has so many.
+/// Books that were read quickly, and where the lines of their claims are in the text that they were read from: below this
+/// many bytes of it, and each has this many.
 #[derive(Debug, Drop)]
 pub(crate) struct Quick {
     books: OpenBooks,
@@ -35,7 +35,7 @@ use std::sync::Arc;
 use std::thread::Threads;
 
 impl Quick {
-    /// The books of a text, read quickly on the calling thread. None says nothing: memory was wanting, or it is no text of
+    /// The books of a text, read quickly on the calling thread. None says nothing: memory ran out, or it isn't text of
     /// books.
     pub(crate) fn read(alloc: Global, text: &[u8]) -> Option<Quick>
         ensures { IfSome result (IsQuick text.now) }
@@ -46,7 +46,7 @@ impl Quick {
         Quick::of_lists(alloc, lists, holders, places)
     }
 
-    /// The same, by a thread for each of so many parts of the lines; one part is read on the calling thread.
+    /// The same, by a thread for each of this many parts of the lines; one part is read on the calling thread.
     pub(crate) fn read_in_parts<R: Threads + Sync>(
         rt: &R,
         alloc: Global,
@@ -64,8 +64,8 @@ impl Quick {
         Quick::of_lists(alloc, lists, holders, places)
     }
 
-    // The books of these lists, where each figure is the sum. None where one isn't, or a family has no total line, or for want
-    // of memory.
+    // The books of these lists, where each figure is the sum. None where one isn't, or a family has no total line, or where
+    // memory runs out.
     fn of_lists(alloc: Global, lists: Lists, holders: Vec<u32>, places: Places) -> Option<Quick>
         requires few { length lists.members < 2 ^ 32 }
         requires held { AreHolders lists.members lists.rows holders.items }
@@ -98,7 +98,7 @@ impl Quick {
         })
     }
 
-    // The books, which keep the text where it is one of version 3, and there is memory for that.
+    // The books, which keep the text if it is one of version 3, and there is memory for that.
     fn keep(self, alloc: Global, text: Vec<u8>) -> Books
         requires { IsQuick text.items self }
         ensures { result ≡ self.books.books }

@@ -21,7 +21,7 @@ pub(crate) fn guess_slot(slots: &[KeySlot], from: usize, key: &Key) -> usize {
     guess(slots.len(), from, |place| is_slot_before(slots, place, key))
 }
 
-// About where the first of so many items is that doesn't come before a key, looked for from a place on.
+// About where the first of this many items is that doesn't come before a key, looked for from a place on.
 fn guess<F: Fn(usize) -> bool>(len: usize, from: usize, is_before: F) -> usize
     requires { F.IsAlwaysCallable is_before }
 {
@@ -84,7 +84,7 @@ fn is_at(rows: &Runs<Row>, place: usize, key: &Key) -> bool
     place < rows.len() && rows.at(place).key.cmp(key).is_eq()
 }
 
-// Whether there are so many rows, all with lesser keys: the last of them tells.
+// Whether there are this many rows, all with lesser keys: the last of them decides.
 fn are_below(rows: &Runs<Row>, end: usize, key: &Key) -> bool
     ensures within { IsTrue result → end ≤ length rows.now }
     ensures below { IsTrue result → (i : ℕ) → (d : Row) → i < end
@@ -97,7 +97,7 @@ fn are_below(rows: &Runs<Row>, end: usize, key: &Key) -> bool
     is_before(rows, end - 1, key)
 }
 
-// Whether all rows from a place on have greater keys: the first of them tells.
+// Whether all rows from a place on have greater keys: the first of them decides.
 fn are_above(rows: &Runs<Row>, from: usize, key: &Key) -> bool
     ensures { IsTrue result → (i : ℕ) → (d : Row) → from ≤ i → i < length rows.now
         → key_cmp (row_key (slice_index_or rows.now i d)) key.now ≡ Greater }

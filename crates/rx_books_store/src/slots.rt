@@ -104,7 +104,7 @@ struct Next {
     high: usize,
 }
 
-// The next slot behind so many of each list.
+// The next slot after this many of each list.
 fn next_slot(under: &[KeySlot], over: &[KeySlot], low: usize, high: usize) -> Option<Next>
     requires under { IsAscending key_cmp slot_key under.now }
     requires over { IsAscending key_cmp slot_key over.now }

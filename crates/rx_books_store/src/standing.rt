@@ -90,7 +90,7 @@ fn is_slot_next(rows: &Runs<Row>, slots: &[KeySlot], row: usize, slot: usize) ->
     }
 }
 
-// The place behind the row, where it has the key.
+// The place after the row, where it has the key.
 fn past_key(rows: &Runs<Row>, row: usize, key: &Key) -> usize
     requires { row ≤ length rows.now }
     ensures rest { drop result rows.now ≡ past_key key.now (drop row rows.now) }

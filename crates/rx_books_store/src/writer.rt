@@ -58,7 +58,7 @@ pub(crate) fn put_totals(
     Ok(())
 }
 
-/// The lines of these rows, in order, in texts of so many rows, each written by a thread of its own.
+/// The lines of these rows, in order, in texts of this many rows, each written by a thread of its own.
 pub(crate) fn claims_in_parts<R: Threads + Sync>(
     rt: &R,
     alloc: Global,
@@ -109,7 +109,7 @@ fn claims_text(alloc: Global, rows: &[&Row]) -> Result<Vec<u8>, Memory>
     Ok(text)
 }
 
-// The items in pieces of so many, but for the last.
+// The items in pieces of this many, but for the last.
 fn pieces_of<'a, T>(alloc: Global, items: &'a [T], size: usize) -> Result<Vec<&'a [T]>, Memory>
     requires { 0 < size }
     ensures { IfOk result (λ pieces. flat_map (λ piece. piece.now) pieces.items ≡ items.now) }

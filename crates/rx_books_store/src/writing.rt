@@ -16,7 +16,7 @@ use std::thread::Threads;
 // About the bytes of a member line and a total line.
 const OTHER: usize = 64;
 
-// Where one claim of so many has a slot, several threads write the claims as fast as one lends their lines.
+// Where one claim of this many has a slot, several threads write the claims as fast as one lends their lines.
 const MOST_CHANGED: usize = 3;
 
 impl OpenBooks {
@@ -31,8 +31,8 @@ impl OpenBooks {
     }
 
     /// The same in pieces, one after another. Where the text is kept that the claims were read from, the lines of those that
-    /// stand unchanged are lent from it. Else so many parts of the claims are written by threads of their own, between what
-    /// stands above and below them; one part is written on the calling thread, and is one piece.
+    /// stand unchanged are lent from it. Else this many parts of the claims are written by threads of their own, between
+    /// what stands above and below them; one part is written on the calling thread, and is one piece.
     pub(crate) fn write_pieces<R: Threads + Sync>(
         &self,
         rt: &R,
@@ -94,7 +94,7 @@ impl OpenBooks {
         Ok(text)
     }
 
-    // The same, where so many parts of the claims are written by threads of their own.
+    // The same, where this many parts of the claims are written by threads of their own.
     fn rendered_in_parts<R: Threads + Sync>(
         &self,
         rt: &R,
@@ -115,7 +115,7 @@ impl OpenBooks {
         Ok(Pieces::Texts(texts))
     }
 
-    // The lines of the rows that stand, in so many texts.
+    // The lines of the rows that stand, in this many texts.
     fn claims_in_parts<R: Threads + Sync>(
         &self,
         rt: &R,

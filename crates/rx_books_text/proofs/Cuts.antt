@@ -29,7 +29,7 @@ front_without c bytes at lt none = none_passes c (take at bytes) (λ k low below
     let same : get_or (take at bytes) k 0 ≡ get_or bytes k 0 = grind (arith, common_steps) in
     rw same (none k (omega arith) k_lt))
 
--- the bytes are those before the place, the byte there, and those behind it
+-- the bytes are those before the place, the byte there, and those after it
 whole_at : (c : ℕ) (bytes : List ℕ) (at : ℕ) → at < length bytes → eqb (get_or bytes at 0) c ≡ true
     → bytes ≡ take at bytes ++ c ∷ drop (at + 1) bytes
 whole_at c bytes at lt here =

@@ -62,7 +62,7 @@ greater_of Less lt eq = cc
 greater_of Equal lt eq = cc
 greater_of Greater lt eq = refl
 
--- behind a member of a later family are no members of this one
+-- after a member of a later family are no members of this one
 other_behind : (family : List ℕ) (ms : List Member) (i j : ℕ) (d : Member) → IsAscending member_cmp member_key ms
     → i < j → j < length ms → id_cmp (family_at ms i d) family ≡ Greater → of_family family (get_or ms j d) ≡ false
 other_behind family ms i j d ascends lt in_range later =
@@ -79,7 +79,7 @@ other_behind family ms i j d ascends lt in_range later =
 abbrev pub IsPoint : List ℕ → List Member → ℕ → Type 0
 IsPoint family ms i = IsPartitionPoint (λ m. is_before family m ≡ true) (λ m. is_before family m ≡ false) ms i
 
--- the first member that isn't before tells
+-- the first member that isn't before decides
 pub first_tells : (family : List ℕ) (ms : List Member) (i : ℕ) (d : Member) → IsAscending member_cmp member_key ms
     → IsPoint family ms i → i < length ms → of_family family (get_or ms i d) ≡ list_any (of_family family) ms
 first_tells family ms i d ascends point in_range = elim (cases_Bool (of_family family (get_or ms i d))) [

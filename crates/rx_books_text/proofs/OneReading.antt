@@ -46,14 +46,14 @@ line_strange : (n : ℕ) (p : PrintedParts) (l : Line) → IsLine p.head.version
 unfolding line_read
 line_strange n p l fits next strange = ap (found_line n p) (line_again p.head.version l fits) ∙ rw (next, strange) refl
 
--- bytes that begin with a line, cut behind it
+-- bytes that begin with a line, cut after it
 begun : (p : PrintedParts) (l : Line) (bytes rest : List ℕ) → IsLine p.head.version l
     → bytes ≡ ended (line_text p.head.version l) ++ rest → lines bytes ≡ line_text p.head.version l ∷ lines rest
 begun p l bytes rest fits whole =
     let a = line_text p.head.version l in
     ap lines (whole ∙ ended_on a rest) ∙ lines_over a rest (line_feedless p.head.version l fits)
 
--- ---- behind a front
+-- ---- after a front
 
 -- where bytes begin with no line, their first line is none
 unread : (n : ℕ) (p : PrintedParts) (bytes : List ℕ) (feed : Feed bytes)
@@ -92,7 +92,7 @@ behind_read {p} {n} {bytes} (unknown l fits begins next strange) =
     ∙ lines_fault (n + 1) p (line_text p.head.version l) begins.0 (fault.UnknownMember (n + 1))
     (line_strange (n + 1) p l fits next strange)
 
--- what stands behind a front is read on
+-- what stands after a front is read on
 front_read : {front : List ℕ} {p : PrintedParts} {n : ℕ} → IsFront front p n → (rest text : List ℕ)
     → text ≡ front ++ rest → line_feeds text ≤ 1_000_000 → printed_of text ≡ lines_read (n + 1) p (lines rest)
 front_read (headed h period) rest text whole few =

@@ -179,7 +179,7 @@ abbrev pub IsReading : List ℕ → Result PrintedParts BooksFault → Type 0
 IsReading text (Ok q) = (m : ℕ) × IsFront text q m
 IsReading text (Err f) = HasFault text f
 
--- what is read of a front, and of the bytes behind it
+-- what is read of a front, and of the bytes after it
 record IsRead (n : ℕ) (p : PrintedParts) (front rest text : List ℕ) : Type 0 where
   good : IsFront front p n
   whole : text ≡ front ++ rest

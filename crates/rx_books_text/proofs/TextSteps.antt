@@ -20,7 +20,7 @@ lines_cons (b ∷ bytes) =
       | inr other ↦ (b ∷ more.0, more.1, rw other (ap (onto_first b) more.2))
     ]
 
--- behind a line that is read come the others
+-- after a line that is read come the others
 pub lines_step : (n : ℕ) (p q : PrintedParts) (text rest : List ℕ) → line_read n p text ≡ Ok q
     → lines_read n p (text ∷ lines rest) ≡ lines_read (n + 1) q (lines rest)
 unfolding lines_read

@@ -1,4 +1,4 @@
--- Meaning: the numbers and lines of the faults, and what a call answers that may want memory.
+-- Meaning: the numbers and lines of the faults, and what a call answers that may run out of memory.
 use Rattle.std.specs.Prelude.{ℕ, Bool, true, false, Option, Some, None, Result}
 use Rattle.rx_text.specs.Outcomes as outcome
 use Rattle.rx_ledger.specs.declared.ledger.AddError.{AddError}
@@ -32,19 +32,19 @@ refused n error.There = fault.Order n
 refused n error.Unknown = fault.UnknownMember n
 refused n error.Memory = fault.Memory
 
--- the fault is want of memory
+-- the fault is out of memory
 abbrev pub wants_memory : BooksFault → Bool
 wants_memory fault.Memory = true
 wants_memory other = false
 
--- the fact, unless the fault is want of memory
+-- the fact, unless the fault is out of memory
 abbrev pub UnlessMemory : BooksFault → Type 0 → Type 0
 UnlessMemory f P = outcome.UnlessMemory wants_memory f P
 
--- what a call answered is what the definition has, unless memory was wanting
+-- what a call answered is what the definition has, unless memory ran out
 abbrev pub Gives : {X : Type 0} → Result X BooksFault → Result X BooksFault → Type 0
 Gives result meant = outcome.Gives wants_memory result meant
 
--- the value that a call put in place is the one that the definition has, unless memory was wanting
+-- the value that a call put in place is the one that the definition has, unless memory ran out
 abbrev pub Takes : {X : Type 0} → Result Unit BooksFault → X → Result X BooksFault → Type 0
 Takes result new meant = outcome.Takes wants_memory result new meant

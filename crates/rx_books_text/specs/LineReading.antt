@@ -78,7 +78,7 @@ version_in bs =
 unfoldable pub period_in : List ℕ → List ℕ → Option Span
 period_in first last = day_in first >>= λ a. day_in last >>= λ b. period_of a b
 
--- the head behind its label
+-- the head after its label
 unfoldable pub head_in : List ℕ → Option Head
 head_in bs =
     split bs >>= λ version. split version.1 >>= λ first. version_in version.0 >>= λ v. period_in first.0 first.1 >>= λ p.
@@ -98,7 +98,7 @@ unfoldable pub member_key_at : List ℕ → Option (MemberKey × List ℕ)
 member_key_at bs =
     split bs >>= λ family. split family.1 >>= λ person. member_key_in family.0 person.0 >>= λ key. Some (key, person.1)
 
--- the member line of these bytes behind its kind
+-- the member line of these bytes after its kind
 unfoldable pub member_in : List ℕ → Option MemberLine
 member_in bs =
     member_key_at bs >>= λ key. split key.1 >>= λ first. split first.1 >>= λ last. period_in first.0 last.0 >>= λ coverage.
@@ -159,14 +159,14 @@ amounts_at v bs =
       rest.1,
     )
 
--- the claim of these bytes behind its kind
+-- the claim of these bytes after its kind
 unfoldable pub claim_in : Version → List ℕ → Option Row
 claim_in v bs =
     key_at bs >>= λ key. member_key_at key.1 >>= λ member. dispensed_at member.1 >>= λ what.
     amounts_at v what.1 >>= λ amounts. authorization_in amounts.1 >>= λ number. row_of key.0 member.0.family member.0.person
     what.0.product what.0.quantity what.0.days amounts.0 number
 
--- the total line of these bytes behind its kind, with the family's deductible and without it
+-- the total line of these bytes after its kind, with the family's deductible and without it
 unfoldable pub whole_total_in : List ℕ → Option TotalLine
 whole_total_in bs =
     split bs >>= λ family. split family.1 >>= λ out. id_in 20 family.0 >>= λ f. number_in 20 out.0 >>= λ o.

@@ -17,7 +17,7 @@ use Rattle.rx_books_text.specs.declared.version.Version.TheVariants.{One, Two, T
 abbrev pub joined : List (List ℕ) → List ℕ
 joined fields = join_with_byte 124 fields
 
--- fields with a bar behind each
+-- fields with a bar after each
 abbrev pub barred : List (List ℕ) → List ℕ
 barred [] = []
 barred (field ∷ fields) = field ++ 124 ∷ barred fields

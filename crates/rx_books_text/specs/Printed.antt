@@ -27,13 +27,13 @@ member_lines [] ds = []
 member_lines (m ∷ ms) [] = []
 member_lines (m ∷ ms) (d ∷ ds) = line.Member (record { member = m; deductible = d }) ∷ member_lines ms ds
 
--- the lines behind the head, in order
+-- the lines after the head, in order
 abbrev pub lines_of : PrintedParts → List Line
 lines_of p =
     member_lines p.ledger.members p.deductibles
     ++ (map (λ r. line.Claim r) p.ledger.rows ++ map (λ t. line.Total t) p.totals)
 
--- the text: the head line and the lines behind it, each with its line feed
+-- the text: the head line and the lines after it, each with its line feed
 abbrev pub printed_text : PrintedParts → List ℕ
 printed_text p = ended (head_text p.head) ++ flat_map (λ l. ended (line_text p.head.version l)) (lines_of p)
 

@@ -1,4 +1,4 @@
--- Meaning: the first fault of a text that is no books file (docs/FORMATS.md, "Books file").
+-- Meaning: the first fault of a text that isn't a books file (docs/FORMATS.md, "Books file").
 use Rattle.std.specs.Prelude.{◌≡◌, ℕ, ◌+◌, ◌<◌, ◌≤◌, Bool, true, false, ◌&&◌, ◌==◌, List, [], ◌∷◌, ◌++◌, length}
 use Rattle.rx_sorted.specs.Ascending.{is_past}
 use Rattle.rx_fields.specs.Order.{id_cmp, key_cmp}
@@ -38,11 +38,11 @@ with_line p (line.Member m) =
 with_line p (line.Claim r) = record p { ledger = with_row p.ledger r }
 with_line p (line.Total t) = record p { totals = p.totals ++ t ∷ [] }
 
--- the head alone
+-- the head only
 abbrev pub no_lines : Head → PrintedParts
 no_lines h = record { head = h; ledger = empty; deductibles = []; totals = [] }
 
--- the bytes are a head line and lines in order, of known members: these parts, in so many lines
+-- the bytes are a head line and lines in order, of known members: these parts, in this many lines
 pub data IsFront : List ℕ → PrintedParts → ℕ → Type 0 where
   headed : (h : Head) → IsPeriod h.period → IsFront (ended (head_text h)) (no_lines h) 1
   longer : {bytes : List ℕ} {p : PrintedParts} {n : ℕ} (l : Line)
@@ -53,7 +53,7 @@ pub data IsFront : List ℕ → PrintedParts → ℕ → Type 0 where
 abbrev pub BeginsWith : List ℕ → List ℕ → Type 0
 BeginsWith bytes text = (rest : List ℕ) × (bytes ≡ ended text ++ rest)
 
--- the first fault of the bytes behind a front: they begin with no line, or with one out of order or of an unknown member
+-- the first fault of the bytes after a front: they begin with no line, or with one out of order or of an unknown member
 pub data FaultBehind (p : PrintedParts) (n : ℕ) (bytes : List ℕ) : BooksFault → Type 0 where
   no_line : 0 < length bytes → ((l : Line) → IsLine p.head.version l → ¬ BeginsWith bytes (line_text p.head.version l))
       → FaultBehind p n bytes (fault.Line (n + 1))
@@ -62,7 +62,7 @@ pub data FaultBehind (p : PrintedParts) (n : ℕ) (bytes : List ℕ) : BooksFaul
   unknown : (l : Line) → IsLine p.head.version l → BeginsWith bytes (line_text p.head.version l)
       → is_next p l ≡ true → is_known p l ≡ false → FaultBehind p n bytes (fault.UnknownMember (n + 1))
 
--- the text is no books file, and has this fault: too many line feeds, no head line, or the first fault of its lines
+-- the text isn't a books file, and has this fault: too many line feeds, no head line, or the first fault of its lines
 pub data HasFault (text : List ℕ) : BooksFault → Type 0 where
   too_much : MOST_LINES < line_feeds text → HasFault text fault.TooMuch
   no_head : line_feeds text ≤ MOST_LINES → ((h : Head) → IsPeriod h.period → ¬ BeginsWith text (head_text h))

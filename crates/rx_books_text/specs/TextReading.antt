@@ -11,11 +11,11 @@ use Rattle.rx_books_text.specs.LineReading.{head_of, line_of}
 use Rattle.rx_books_text.specs.Printed.{PrintedParts, line_feeds}
 use Rattle.rx_books_text.specs.TextFault.{is_next, is_known, with_line, no_lines}
 
--- the lines that line feeds end, and what stands behind the last
+-- the lines that line feeds end, and what stands after the last
 abbrev pub lines : List ℕ → List (List ℕ)
 lines text = slice_split (λ b. b == 10) text
 
--- line n behind these parts
+-- line n after these parts
 abbrev pub line_added : ℕ → PrintedParts → Line → Result PrintedParts BooksFault
 line_added n p l =
     if is_next p l then (if is_known p l then Ok (with_line p l) else Err (fault.UnknownMember n)) else Err (fault.Order n)
@@ -28,7 +28,7 @@ found_line n p (Some l) = line_added n p l
 unfoldable pub line_read : ℕ → PrintedParts → List ℕ → Result PrintedParts BooksFault
 line_read n p text = found_line n p (line_of p.head.version text)
 
--- the lines from line n on; behind the last line feed stands nothing
+-- the lines from line n on; after the last line feed stands nothing
 unfoldable pub lines_read : ℕ → PrintedParts → List (List ℕ) → Result PrintedParts BooksFault
 lines_read n p [] = Ok p
 lines_read n p (last ∷ []) = if length last == 0 then Ok p else Err (fault.Line n)
@@ -38,7 +38,7 @@ abbrev pub behind_head : Option Head → List (List ℕ) → Result PrintedParts
 behind_head None texts = Err fault.Head
 behind_head (Some h) texts = lines_read 2 (no_lines h) texts
 
--- the head line and the lines behind it
+-- the head line and the lines after it
 unfoldable pub text_read : List (List ℕ) → Result PrintedParts BooksFault
 text_read [] = Err fault.Head
 text_read (last ∷ []) = Err fault.Head

@@ -18,7 +18,7 @@ pub struct Dispensed {
     pub days: Days,
 }
 
-/// The claim of these bytes behind its kind.
+/// The claim of these bytes after its kind.
 #[tactic(auto, unfolding(crate::specs::LineReading::claim_in))]
 pub(crate) fn claim_line(version: Version, bytes: &[u8]) -> Option<Row>
     ensures { result ≡ claim_in version bytes.now }

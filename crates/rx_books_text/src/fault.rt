@@ -4,7 +4,7 @@ ghost use Rattle.rx_books_text.specs.Fault.{code_of, line_of_fault};
 use rx_fields::Memory;
 use std::alloc::{AllocError, AllocFailed};
 
-/// Why a text is no books file: TooMuch first, then Head, then the first fault line by line, last Totals. A number is
+/// Why a text isn't a books file: TooMuch first, then Head, then the first fault line by line, last Totals. A number is
 /// that of the line, from 1 (docs/FORMATS.md, "Books file").
 #[derive(Clone, Copy, Debug, PartialEq, Eq)]
 pub enum BooksFault {
@@ -17,12 +17,12 @@ pub enum BooksFault {
     Order(u64),
     /// No member line above has the claim's member, or a member of the total's family.
     UnknownMember(u64),
-    /// A figure of the line isn't the sum over the claims of the head's period; or a family has no total line, which
-    /// is told with the number of lines plus one.
+    /// A figure of the line isn't the sum over the claims of the head's period; or a family has no total line, which is
+    /// reported with the number of lines plus one.
     Totals(u64),
     /// There are more than 1,000,000 line feeds.
     TooMuch,
-    /// Memory was wanting. No line is to blame.
+    /// Out of memory. No line is to blame.
     Memory,
 }
 

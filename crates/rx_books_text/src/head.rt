@@ -12,7 +12,7 @@ use rx_fields::Period;
 /// What the head line of a books file says.
 #[derive(Clone, Copy, Debug, PartialEq, Eq)]
 pub struct Head {
-    /// The version of the lines behind it.
+    /// The version of the lines after it.
     pub version: Version,
     /// The benefit period of the totals.
     pub period: Period,
@@ -38,7 +38,7 @@ fn head_of(text: &[u8]) -> Option<Head>
     head_in(&text[6..])
 }
 
-// The head behind its label.
+// The head after its label.
 #[tactic(auto, unfolding(crate::specs::LineReading::head_in))]
 fn head_in(bytes: &[u8]) -> Option<Head>
     ensures { result ≡ head_in bytes.now }

@@ -31,7 +31,7 @@ pub struct TotalLine {
     pub deductible: Option<u128>,
 }
 
-/// A line of a books file behind the head line.
+/// A line of a books file after the head line.
 #[derive(Clone, Copy, Debug, PartialEq, Eq)]
 pub enum Line {
     /// A member, `M|`.

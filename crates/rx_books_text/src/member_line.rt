@@ -6,7 +6,7 @@ use crate::field::{family_in, id_in, period_in, wide_number_in};
 use crate::line::MemberLine;
 use rx_ledger::{Member, MemberKey};
 
-/// The member line of these bytes behind its kind.
+/// The member line of these bytes after its kind.
 #[tactic(auto, unfolding(crate::specs::LineReading::member_in))]
 pub(crate) fn member_line(bytes: &[u8]) -> Option<MemberLine>
     ensures { result ≡ member_in bytes.now }

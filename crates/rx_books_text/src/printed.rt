@@ -72,7 +72,7 @@ impl Printed {
         self.totals.as_slice()
     }
 
-    // The head alone.
+    // The head only.
     pub(crate) fn new(alloc: Global, head: Head) -> Printed
         ensures { result ≡ no_lines head }
     {

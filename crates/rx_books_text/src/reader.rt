@@ -24,7 +24,7 @@ const LINE_FEED: u8 = b'\n';
 /// Totals is never answered.
 pub fn read_printed(alloc: Global, text: &[u8]) -> Result<Printed, BooksFault>
     ensures ok { IfOk result (λ p. (text.now ≡ printed_text p) × IsPrinted p) }
-    // What can be printed is read again, unless memory was wanting.
+    // What can be printed is read again, unless memory ran out.
     ensures reads { (p : PrintedParts) → IsPrinted p → text.now ≡ printed_text p → Gives result (Ok p) }
     // A fault is that of what follows the longest front of good lines.
     ensures refuses { IfErr result (λ f. UnlessMemory f (HasFault text.now f)) }
@@ -59,7 +59,7 @@ fn line_feeds(text: &[u8]) -> usize
 }
 
 impl Printed {
-    // Takes the lines behind the head line.
+    // Takes the lines after the head line.
     fn read_lines(&mut self, text: &[u8]) -> Result<(), BooksFault>
         ensures { Takes result self.new (lines_read 2 self.old (lines text.now)) }
     {
@@ -154,7 +154,7 @@ fn refused(number: u64, error: AddError) -> BooksFault
     }
 }
 
-// Whether each item's key is less than this one, of which the last item alone tells.
+// Whether each item's key is less than this one, of which only the last item decides.
 fn is_past<T: Keyed>(items: &[T], key: &T::Key) -> bool
     requires { IsAscending T.Key.cmp T.key_of items.now }
     ensures { result ≡ is_past T.Key.cmp T.key_of items.now key.now }

@@ -6,7 +6,7 @@ use crate::field::{family_in, wide_number_in};
 use crate::line::TotalLine;
 use crate::version::Version;
 
-/// The total line of these bytes behind its kind.
+/// The total line of these bytes after its kind.
 pub(crate) fn total_line(version: Version, bytes: &[u8]) -> Option<TotalLine>
     ensures { result ≡ total_in version bytes.now }
 {

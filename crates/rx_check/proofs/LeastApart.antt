@@ -10,7 +10,7 @@ use Rattle.std.proofs.lemmas.List.Elements.{filter-append}
 use Rattle.std.proofs.lemmas.List.Sums.{common_prefix_len-drop_yes, common_prefix_len-drop_no}
 use Rattle.rx_check.specs.Likeness.{apart, in_front, is_like, least_apart, nearer, nearest}
 
--- less apart than so many bytes the next has to be
+-- less apart than this many bytes the next has to be
 abbrev pub bound : List ℕ → Option (List ℕ) → ℕ
 bound name None = 4
 bound name (Some best) = apart name best

@@ -1,4 +1,4 @@
--- The texts of a report: a line that tells of a fault, the warnings of ignored keys one after another, and all of them joined.
+-- The texts of a report: a line about a fault, the warnings of ignored keys one after another, and all of them joined.
 use Rattle.std.proofs.Common.{◌≡◌, ◌+◌, ◌<◌, ◌++◌, ◌∷◌, [], ℕ, List, String, Result, Ok, Err, IfOk, append_assoc, get_or, length}
 use Rattle.std.proofs.Common.{map, string_bytes, take, ap, sym, ◌∙◌}
 use Rattle.std.proofs.lemmas.List.{flat_map_more}
@@ -8,7 +8,7 @@ use Rattle.rx_diagnostics.specs.declared.words.Words.{Words}
 use Rattle.rx_check.specs.Report.{TellsAt, ignored_text, warning_line}
 use Rattle.rx_check.proofs.LeastApart.{names_more}
 
--- the line of some words tells of their place
+-- the line of some words is about their place
 pub tells : {Z E : Type 0} (IsPlace : Place → Type 0) (file : List ℕ) (words : Words) (r : Result (String Z) E)
     → IsPlace words.place → IfOk r (λ line. string_bytes line ≡ line_text file words ++ 10 ∷ [])
     → IfOk r (λ line. TellsAt IsPlace file (string_bytes line))
@@ -26,7 +26,7 @@ ignored_more sheet ignored i key start text inside before =
     ∙ flat_map_more (warning_line sheet) start (map string_bytes (take i ignored)) (string_bytes (get_or ignored i key))
     ∙ ap (λ said. start ++ ignored_text sheet said) (sym (names_more string_bytes ignored i key inside))
 
--- four texts, each put behind those before it
+-- four texts, each put after those before it
 pub four_joined : (a b c d two three four : List ℕ) → two ≡ a ++ b → three ≡ two ++ c → four ≡ three ++ d
     → four ≡ a ++ (b ++ (c ++ d))
 four_joined a b c d two three four is_two is_three is_four =

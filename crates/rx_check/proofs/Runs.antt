@@ -25,7 +25,7 @@ abbrev pub Says : List ℕ → Result LedgerBooks BooksFault → Type 0
 Says text (Ok b) = IsBooksText text b.period b.ledger
 Says text (Err f) = HasBooksFault text f
 
--- the first fault with which the inputs are read is the run's; where there is none the run accepts them
+-- the first fault with which the inputs are read is the run's; if there is none the run accepts them
 pub runs : (g : Given) (s : Stamp) → stamp_for g.workers g.stamp ≡ Ok s
     → (a : Result Plan SheetFault) → sheet_of_text g.sheet ≡ a
     → (b : Result LedgerBooks BooksFault) → books_of g.books ≡ b

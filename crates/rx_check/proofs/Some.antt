@@ -32,7 +32,7 @@ refused_so : (books : Option (List ℕ)) (g : Given) (f : SwitchFault) → IsRef
 refused_so (Some text) g f is = is
 refused_so None g f is = inl is
 
--- the first fault with which the inputs that are looked at are read is the run's; where there is none it accepts them
+-- the first fault with which the inputs that are looked at are read is the run's; if there is none it accepts them
 some_run : (books batch : Option (List ℕ)) (g : Given) (s : Stamp) → stamp_for g.workers g.stamp ≡ Ok s
     → (a : Result Plan SheetFault) → sheet_of_text g.sheet ≡ a
     → (b : Result LedgerBooks BooksFault) → books_of g.books ≡ b

@@ -1,4 +1,4 @@
--- A fault of a sheet that can't be read again is told of the whole file.
+-- A fault of a sheet that can't be read again is that of the whole file.
 use Rattle.std.proofs.Common.{◌≡◌, refl, subst, sym}
 use Rattle.rx_sheet.specs.declared.fault.SheetFault.{SheetFault}
 use Rattle.rx_sheet.specs.declared.fault.SheetFault.TheVariants as sheet

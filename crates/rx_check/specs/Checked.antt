@@ -7,7 +7,7 @@ use Rattle.rx_check.specs.Warned.{warns_of_nothing}
 use Rattle.rx_check.specs.declared.checked.Checked.{Checked}
 use Rattle.rx_check.specs.declared.found.Found.{Found}
 
--- the lines tell of what is found of the inputs, the refusal is that of the first fault, and the warnings are told as well
+-- the lines are about what is found of the inputs, the refusal is that of the first fault, and the warnings are reported as well
 pub record IsChecked (files : Files) (names : Names) (c : Checked) : Type 0 where
   pub found : Found
   pub is_found : IsFound files found

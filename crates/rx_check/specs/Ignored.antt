@@ -1,4 +1,4 @@
--- Meaning: the lines that tell of the keys of a plan sheet that are ignored.
+-- Meaning: the lines about the keys of a plan sheet that are ignored.
 use Rattle.std.specs.Prelude.{ℕ, Bool, nat_eq, if◌then◌else◌, List, [], ◌∷◌, ◌++◌, codes, map}
 use Rattle.std.specs.Prelude.{Option, Some, None, Result, Ok, Err, option_and_then}
 use Rattle.std.specs.Borrow.{Bor}
@@ -49,7 +49,7 @@ abbrev pub each_of : (List ℕ → Data → List (List ℕ)) → Members → Lis
 each_of lines no_members = []
 each_of lines (member name value rest) = lines name value ++ each_of lines rest
 
--- the lines of a table, where there is one
+-- the lines of a table, if there is one
 abbrev pub lines_of : (Members → List (List ℕ)) → Option Members → List (List ℕ)
 lines_of lines None = []
 lines_of lines (Some members) = lines members

@@ -30,7 +30,7 @@ Names = Inputs (Bor (List ℕ)) (Bor (List ℕ)) (Bor (List ℕ))
 abbrev pub TellsAt : (Place → Type 0) → List ℕ → List ℕ → Type 0
 TellsAt IsPlace file line = (words : Words) × (IsPlace words.place × (line ≡ line_text file words ++ 10 ∷ []))
 
--- the line of a sheet's fault, at its place; nothing where there is none
+-- the line of a sheet's fault, at its place; nothing if there is none
 abbrev pub TellsSheet : List ℕ → Option SheetFault → List ℕ → Type 0
 TellsSheet file None line = line ≡ []
 TellsSheet file (Some fault) line = TellsAt (IsSheetPlace fault) file line
@@ -80,7 +80,7 @@ none_under_text batch none_under =
     line_if none_under
     (warning_line batch (codes "no record names the sheet's bin and pcn: each would be rejected"))
 
--- how many standing claims have a number of the batch, where there are any
+-- how many standing claims have a number of the batch, if there are any
 unfoldable pub adjudicated_text : List ℕ → List ℕ → ℕ → List ℕ
 adjudicated_text batch books count =
     line_if (nat_lt 0 count)

@@ -45,11 +45,11 @@ adjudicated number rows = count_by (is_of_batch number) rows
 abbrev pub groups : Detail → ℕ
 groups d = count_by (λ b. b == GROUP) d.text
 
--- books of so many lines could have more than `MOST_LINES` after these records
+-- books of this many lines could have more than `MOST_LINES` after these records
 abbrev pub may_pass : ℕ → List Detail → Bool
 may_pass lines details = nat_lt MOST_LINES (lines + sum (map groups details))
 
--- books of so many lines are near their limit
+-- books of this many lines are near their limit
 abbrev pub has_many_lines : ℕ → Bool
 has_many_lines lines = nat_lt MANY_LINES lines
 
@@ -86,7 +86,7 @@ abbrev pub may_pass_in : ℕ → Option LedgerBooks → Option Batch → Bool
 may_pass_in lines (Some books) (Some batch) = may_pass lines batch.details
 may_pass_in lines books batch = false
 
--- the warnings beside a plan: of its sheet, and of the books and the batch that are taken
+-- the warnings given a plan: of its sheet, and of the books and the batch that are taken
 pub record AreWarningsBeside (files : Files) (plan : Plan) (books : Option LedgerBooks) (batch : Option Batch) (w : Warnings) : Type 0 where
   pub ignored : map string_bytes w.ignored.items ≡ ignored_lines files.sheet.now
   pub period : IsOtherPeriod plan books w.period
@@ -95,7 +95,7 @@ pub record AreWarningsBeside (files : Files) (plan : Plan) (books : Option Ledge
   pub adjudicated : w.adjudicated ≡ adjudicated_in books batch
   pub may_pass : w.may_pass ≡ may_pass_in (lines_in (option_copied files.books) books) books batch
 
--- beside a sheet with a fault nothing is warned of
+-- of a sheet with a fault there are no warnings
 abbrev pub AreWarningsOf : Files → Option Plan → Option LedgerBooks → Option Batch → Warnings → Type 0
 AreWarningsOf files None books batch w = (warns_of_nothing w ≡ true) × (w.lines ≡ 0)
 AreWarningsOf files (Some plan) books batch w = AreWarningsBeside files plan books batch w

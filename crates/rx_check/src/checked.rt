@@ -25,7 +25,7 @@ pub struct Checked {
 ///
 /// # Errors
 ///
-/// Memory alone, which may stand in the place of any answer.
+/// Only Memory, which may stand in the place of any answer.
 pub fn check(alloc: Global, files: &Files<'_>, names: &Names<'_>) -> Result<Checked, Memory>
     ensures { IfOk result (IsChecked files.now names.now) }
 {

@@ -22,7 +22,7 @@ pub type Files<'a> = Inputs<&'a [u8], Option<&'a [u8]>, Option<&'a [u8]>>;
 ///
 /// # Errors
 ///
-/// Memory alone, which may stand in the place of any answer.
+/// Only Memory, which may stand in the place of any answer.
 pub(crate) fn find(alloc: Global, files: &Files<'_>) -> Result<Found, Memory>
     ensures { IfOk result (IsFound files.now) }
 {

@@ -35,7 +35,7 @@ const TIER_KEYS: [&str; 1] = ["percent"];
 ///
 /// # Errors
 ///
-/// Memory alone.
+/// Only Memory.
 pub fn ignored_keys(alloc: Global, text: &[u8]) -> Result<Vec<String>, Memory>
     ensures { IfOk result (λ lines. map string_bytes lines.items ≡ ignored_lines text.now) }
 {
@@ -154,7 +154,7 @@ enum Part {
     Drug,
 }
 
-// The lines of tiers or of drugs, where there are any.
+// The lines of tiers or of drugs, if there are any.
 fn put_parts(
     alloc: Global,
     lines: &mut Vec<String>,

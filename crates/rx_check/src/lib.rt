@@ -2,7 +2,7 @@
 //! operator would hardly mean.
 //!
 //! In come the texts of a plan sheet and, where they are given, of books and a batch file; out comes what `check` prints, the
-//! refusal and whether there are warnings (`specs/Checked.antt`): each text is accepted, or its first fault is told
+//! refusal and whether there are warnings (`specs/Checked.antt`): each text is accepted, or its first fault is reported
 //! (`specs/Found.antt`). The warnings of books and batch are definitions of `specs/Warned.antt`. That the first fault found
 //! is the one by which a run refuses is a law (`first_fault_is_the_runs`).
 //!

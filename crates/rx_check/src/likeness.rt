@@ -5,7 +5,7 @@ ghost use Rattle.rx_check.specs.Likeness.{apart, at_end, in_front, nearest};
 // the end is cut.
 const MOST_APART: usize = 3;
 
-/// The known name that is most like a given one, at most three bytes apart, and the first of several; None where there is
+/// The known name that is most like a given one, at most three bytes apart, and the first of several; None if there is
 /// none.
 pub fn nearest(name: &[u8], known: &[&'static str]) -> Option<&'static str>
     ensures { option_copied result ≡ nearest name.now (map (λ k. k.now) known.now) }

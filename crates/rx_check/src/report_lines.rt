@@ -22,7 +22,7 @@ pub type Names<'a> = Inputs<&'a str>;
 ///
 /// # Errors
 ///
-/// Memory alone.
+/// Only Memory.
 pub(crate) fn report(
     alloc: Global,
     files: &Files<'_>,

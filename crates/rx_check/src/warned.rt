@@ -46,7 +46,7 @@ fn is_under(door: &Door, detail: &Detail) -> bool
         && &text[PCN_AT..PCN_AT + PCN_LENGTH] == door.pcn.as_slice()
 }
 
-/// How many standing claims have a number of this lot: where there is one, the batch was adjudicated already.
+/// How many standing claims have a number of this lot: if there is one, the batch was adjudicated already.
 pub fn adjudicated(lot: Lot, rows: &[Row]) -> usize
     ensures { result ≡ adjudicated lot.number rows.now }
 {

@@ -29,7 +29,7 @@ pub struct Warnings {
     pub may_pass: bool,
 }
 
-// From so many lines on books are near their limit.
+// From this many lines on books are near their limit.
 const MANY_LINES: usize = 900_000;
 
 impl Warnings {
@@ -83,7 +83,7 @@ impl Warnings {
         }
     }
 
-    // The warnings beside a plan.
+    // The warnings given a plan.
     fn beside(
         alloc: Global,
         files: &Files<'_>,

@@ -38,7 +38,7 @@ IsAbsent rows name = first_of name rows ≡ None
 abbrev pub is_set : Text → List Row → Bool
 is_set name rows = option_map_or (λ text. bytes_eq text (codes "true")) (first_of name rows) false
 
--- the option's value is the number, 0 to 65535, in digits alone
+-- the option's value is the number, 0 to 65535, in digits only
 abbrev pub HasNumber : List Row → Text → ℕ → Type 0
 HasNumber rows name n = (text : Text) × HasText rows name text × IsNumeral 10 text × (n ≡ digits_value 10 text)
     × (n ≤ 65535)
@@ -97,7 +97,7 @@ pub record HoldsRun (rows : List Row) (r : RunWords) : Type 0 where
 abbrev pub HoldsRunApart : List Row → RunWords → Type 0
 HoldsRunApart rows r = HoldsRun rows r × (has_twice (paths_of r) ≡ false)
 
--- exactly one of `--record`, `--number` and `--rx` stands, and `--provider` only beside `--rx`
+-- exactly one of `--record`, `--number` and `--rx` stands, and `--provider` only next to `--rx`
 abbrev pub HoldsAsked : List Row → Asked → Type 0
 HoldsAsked rows (Record place) = HasText rows (codes "record") place.now × IsAbsent rows (codes "number")
     × IsAbsent rows (codes "rx") × IsAbsent rows (codes "provider")

@@ -17,7 +17,7 @@ abbrev pub IsWords : WordsFault → Type 0
 IsWords (Words text) = ⊤
 IsWords Memory = ⊥
 
--- the text for standard error: none where one path stands twice; where `clap` tells it, no definition fixes it
+-- the text for standard error: none where one path stands twice; where `clap` prints it, no definition fixes it
 abbrev pub told_text : WordsFault → Option (List ℕ)
 told_text (Words (Some told)) = None
 told_text (Words None) = Some []
@@ -33,7 +33,7 @@ abbrev pub asks_version : WordsFault → Bool
 asks_version (Words (Some told)) = is_version_kind (kind_of told)
 asks_version _ = false
 
--- the words are misused, which `clap` tells as a fault of this kind, unless memory was wanting
+-- the words are misused, which `clap` reports as a fault of this kind, unless memory ran out
 abbrev pub IsMisuse : ErrorKind → WordsFault → Type 0
 IsMisuse kind (Words (Some told)) = kind_of told ≡ kind
 IsMisuse kind (Words None) = ⊥
@@ -43,10 +43,10 @@ abbrev pub misuse_of : {E : Type 0} → Result Error E → WordsFault
 misuse_of (Ok told) = Words (Some told)
 misuse_of (Err error) = Memory
 
--- memory was wanting
+-- memory ran out
 abbrev pub memory_fault : WordsFault
 memory_fault = Memory
 
--- what `clap` says where memory was wanting
+-- what `clap` says where memory ran out
 abbrev pub out_of_memory : ErrorKind
 out_of_memory = OutOfMemory

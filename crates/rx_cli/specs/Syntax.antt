@@ -139,6 +139,6 @@ whole_line = with_retracing (with_adjudication program)
 abbrev pub IsLocal : Command → Type 0
 IsLocal line = (out-Command line).has_globals ≡ false
 
--- unless memory was wanting, the draft is of this line, and no option of it is one of its subcommands' too
+-- unless memory ran out, the draft is of this line, and no option of it is one of its subcommands' too
 abbrev pub Draws : App → Draft → Type 0
 Draws app draft = IfOk draft.line (λ l. (app_of l ≡ app) × IsLocal l)

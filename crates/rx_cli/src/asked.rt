@@ -13,7 +13,7 @@ pub struct RunWords<'a> {
     pub outputs: Outputs<&'a str>,
     /// `--stamp`, as it was written; whether it is a stamp is the run's to say.
     pub stamp: &'a str,
-    /// `--workers`, 0 to 65535; whether so many can work is the run's to say.
+    /// `--workers`, 0 to 65535; whether this many can work is the run's to say.
     pub workers: u16,
     /// `--plain`: adjudicate over plain lists, one record after another.
     pub plain: bool,
@@ -30,7 +30,7 @@ pub struct RunWords<'a> {
 }
 
 impl<'a> RunWords<'a> {
-    /// Tells whether a path stands twice.
+    /// Says whether a path stands twice.
     pub(crate) fn names_one_twice(&self) -> bool
         ensures { result ≡ has_twice (paths_of self.now) }
     {

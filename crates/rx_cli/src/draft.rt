@@ -6,7 +6,7 @@ ghost use Rattle.rx_cli.specs.Syntax.{Draws, IsLocal};
 use clap::{Arg, Command as Line};
 use std::alloc::AllocError;
 
-/// A line as far as it is drawn up. Where memory is wanting once, there is no line in the end.
+/// A line as far as it is drawn up. Where memory runs out once, there is no line in the end.
 #[derive(Drop)]
 pub(crate) struct Draft<'a> {
     line: Result<Line<'a>, AllocError>,

@@ -15,7 +15,7 @@ pub enum WordsFault {
     /// The words aren't understood, or ask for help or the version: the text is `clap`'s. Without a text where `run`
     /// names one path twice.
     Words(Option<clap::Error>),
-    /// Memory was wanting.
+    /// Out of memory.
     Memory,
 }
 
@@ -30,7 +30,7 @@ impl WordsFault {
         }
     }
 
-    /// Tells whether the words ask for the version: the text, for standard output, is its line.
+    /// Says whether the words ask for the version: the text, for standard output, is its line.
     pub fn is_version(&self) -> bool
         ensures { result ≡ asks_version self.now }
     {
@@ -61,7 +61,7 @@ impl From<clap::Error> for WordsFault {
 }
 
 // A writer of text to another, with each control character but the line feed as two hexadecimal digits in angle
-// brackets: a word that `clap` tells again can't drive a terminal.
+// brackets: a word that `clap` repeats can't drive a terminal.
 #[derive(Drop)]
 struct Shown<'a, W: fmt::Write> {
     to: &'a mut fmt::Formatter<W>,

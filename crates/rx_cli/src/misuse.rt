@@ -55,7 +55,7 @@ fn signed(
     fault(told_signed(alloc, line, program, number))
 }
 
-// Of options that exclude or want each other.
+// Of options that exclude or require each other.
 fn conflict(line: Result<Line<'_>, AllocError>, program: &str, text: &str) -> WordsFault
     ensures { IsMisuse ErrorKind.ArgumentConflict result }
 {

@@ -20,7 +20,7 @@ pub(crate) fn flag(found: &ArgMatches<'_>, name: &str) -> bool
     matches!(text(found, name), Some("true"))
 }
 
-/// The number of an option that is written in digits alone: `clap`'s numbers may have a sign.
+/// The number of an option that is written in digits only: `clap`'s numbers may have a sign.
 pub(crate) fn number(found: &ArgMatches<'_>, name: &str) -> Option<u16>
     ensures some { IfSome result (HasNumber (rows_of (found_of found.now)) name.now) }
     ensures none { IfNone result (NoneHolds (HasNumber (rows_of (found_of found.now)) name.now)) }

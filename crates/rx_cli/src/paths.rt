@@ -2,7 +2,7 @@
 ghost use Rattle.std.specs.Prelude.{◌≡◌, map};
 ghost use Rattle.rx_cli.specs.Paths.{has_twice};
 
-/// Tells whether a text stands twice among the paths.
+/// Says whether a text stands twice among the paths.
 pub(crate) fn has_one_twice(paths: &[&str]) -> bool
     ensures { result ≡ has_twice (map (λ p. p.now) paths.now) }
 {

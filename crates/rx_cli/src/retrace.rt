@@ -22,7 +22,7 @@ pub struct ExplainWords<'a> {
     pub inputs: Inputs<&'a str>,
     /// `--record`, `--number` or `--rx`.
     pub asked: Asked<'a>,
-    /// `--response`: the response file that is compared, where there is one.
+    /// `--response`: the response file that is compared, if there is one.
     pub response: Option<&'a str>,
     /// `--json`: the answer in JSON.
     pub json: bool,

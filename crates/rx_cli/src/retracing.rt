@@ -42,7 +42,7 @@ pub(crate) fn explain<'a>(found: &ArgMatches<'a>) -> Option<ExplainWords<'a>>
     })
 }
 
-/// What `verify` takes, with its workers in digits alone.
+/// What `verify` takes, with its workers in digits only.
 pub(crate) fn verify<'a>(found: &ArgMatches<'a>) -> Option<VerifyWords<'a>>
     ensures some { IfSome result (HoldsVerify (rows_of (found_of found.now))) }
     ensures none { IfNone result (NoneHolds (HoldsVerify (rows_of (found_of found.now)))) }

@@ -11,11 +11,11 @@ use crate::draft::Draft;
 use clap::{Arg, ArgAction, Command as Line, value_parser};
 use std::alloc::{AllocError, Global};
 
-/// What `rxbatch --version` prints behind the program's name: the version, and the kit that proved it, without the letter of
+/// What `rxbatch --version` prints after the program's name: the version, and the kit that proved it, without the letter of
 /// its edition, which proves nothing.
 pub const VERSION: &str = "0.1.0 (rattle-kit-13 logic dac8208d650f15bf)";
 
-// What is told of the outputs of a command that writes them.
+// What is said of the outputs of a command that writes them.
 const WRITTEN: [&'static str; 3] = [
     "Response file, to be written",
     "End books, to be written",
@@ -100,7 +100,7 @@ fn takes_inputs<'a>(alloc: Global, line: Draft<'a>) -> Draft<'a>
         .arg(file(alloc, "batch", "Batch file"))
 }
 
-/// A line with the three output files, each with what is told of it.
+/// A line with the three output files, each with what is said of it.
 fn takes_outputs<'a>(alloc: Global, line: Draft<'a>, told: [&'a str; 3]) -> Draft<'a>
     ensures { (app : App) → Draws app line.entry → Draws (with_outputs app) result }
 {

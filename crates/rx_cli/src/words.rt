@@ -76,7 +76,7 @@ fn run_apart<'a>(alloc: Global, found: &ArgMatches<'a>) -> Result<RunWords<'a>, 
     Ok(run)
 }
 
-/// The command of this name. `clap` lets no other name through, and no option be absent that a command wants.
+/// The command of this name. `clap` lets no other name through, and no option that a command requires be absent.
 fn named<'a>(alloc: Global, name: &str, found: &ArgMatches<'a>) -> Result<Command<'a>, WordsFault>
     ensures ok { IfOk result (HoldsNamed name.now (rows_of (found_of found.now))) }
     ensures words { IfErr result (λ e. IsWords e → NoneHolds (HoldsNamed name.now (rows_of (found_of found.now)))) }
@@ -123,9 +123,9 @@ fn named<'a>(alloc: Global, name: &str, found: &ArgMatches<'a>) -> Result<Comman
 ///
 /// # Errors
 ///
-/// `Words` where `clap` doesn't take the words, help or the version being asked for too, where the workers aren't digits
-/// alone, where `run` names one path twice, and where options stand together that exclude or want each other; `Memory`
-/// where memory was wanting.
+/// `Words` where `clap` doesn't take the words, help or the version being asked for too, where the workers aren't only
+/// digits, where `run` names one path twice, and where options stand together that exclude or require each other;
+/// `Memory` where memory ran out.
 pub fn command<'a, S: AsStr>(alloc: Global, words: &'a [S]) -> Result<Command<'a>, WordsFault>
     ensures ok { IfOk result (Holds (subcommand_of whole_line (map S.text words.now))) }
     ensures taken { IfOk result (λ _. fault_of whole_line (map S.text words.now) ≡ []) }

@@ -14,7 +14,7 @@ module _ {X K : Type 0} (cmp : K → K → Ordering) (key : X → K) where
   by_keys (x ∷ []) = refl
   by_keys (x ∷ y ∷ ys) = ap (λ b. is_lt (cmp (key x) (key y)) && b) (by_keys (y ∷ ys))
 
--- texts are in order where the lines that they tell of are
+-- texts are in order where the lines that they are about are
 pub same_order : (whys : List Why) (lines : List Line) → map (λ (w : Why). w.spot) whys ≡ map spot_of lines
     → is_ascending spot_cmp (λ w. w.spot) whys ≡ is_ascending spot_cmp spot_of lines
 same_order whys lines e =

@@ -5,7 +5,7 @@ use Rattle.rx_fields.specs.Text.{id_of}
 use Rattle.rx_explain.specs.declared.finding.Wanted.{Wanted}
 use Rattle.rx_explain.specs.declared.finding.Wanted.TheVariants as wanted
 
--- the number, in digits alone
+-- the number, in digits only
 abbrev pub IsDigits : List ℕ → ℕ → Type 0
 IsDigits text n = IsNumeral 10 text × (n ≡ digits_value 10 text)
 

@@ -13,7 +13,7 @@ abbrev pub compared_with : List ℕ → Option Detail → Compared
 compared_with text None = Absent
 compared_with text (Some d) = if pointwise nat_eq d.text text then Same else Differs
 
--- the detail at a place, from 1, beside the reply there
+-- the detail at a place, from 1, next to the reply there
 abbrev pub compared_to : List Detail → ℕ → Option Reply → Compared
 compared_to details place None = Absent
 compared_to details place (Some r) = compared_with (reply_text r) (item details place)

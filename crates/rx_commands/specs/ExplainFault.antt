@@ -5,7 +5,7 @@ use Rattle.rx_switch.specs.declared.fault.SwitchFault.TheVariants as fault
 use Rattle.rx_commands.specs.declared.explain_fault.ExplainFault.{ExplainFault}
 use Rattle.rx_commands.specs.declared.explain_fault.ExplainFault.TheVariants.{Refused, Response}
 
--- want of memory that is met there is the command's own, and any other fault the file's
+-- out of memory that is met there is the command's own, and any other fault the file's
 abbrev pub of_response : BatchFault → ExplainFault
 of_response batch.Memory = Refused fault.Memory
 of_response f = Response f

@@ -29,7 +29,7 @@ pub record AreAccepted (sheet batch : List ℕ) (plan : Plan) (head : Head) (det
   pub batch_is : IsFile batch head details
 
 -- sheet, books and batch are accepted; the batch asks what its details ask at the plan's door, the replies are those of
--- adjudicating that one record after another on the opening books, and the report tells of its answers
+-- adjudicating that one record after another on the opening books, and the report is about its answers
 pub record IsReported (sheet books batch : List ℕ) (r : Report) : Type 0 where
   pub period : Span
   pub head : Head

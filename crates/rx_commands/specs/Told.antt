@@ -42,7 +42,7 @@ text_of (Some d) = d.text
 abbrev pub request_at : List Detail → ℕ → List ℕ
 request_at details place = text_of (item details place)
 
--- the rejected header of a record that has so many answers
+-- the rejected header of a record that has this many answers
 abbrev pub rejected_in : Body → ℕ → Option Rejected
 rejected_in (body.Heard h) nth = None
 rejected_in (body.Rejected r) nth = if nat_le 1 nth && nat_le nth r.groups then Some r else None
@@ -63,7 +63,7 @@ place_wanted other = None
 
 -- ---- the response file
 
--- what the response file has at a place, where there is one
+-- what the response file has at a place, if there is one
 abbrev pub compared_in : Retraced → Option (List Detail) → ℕ → Option Compared
 compared_in r None place = None
 compared_in r (Some details) place = Some (compared_at r.replies.items details place)
@@ -131,7 +131,7 @@ abbrev pub outcome_by : Bool → Bool → Outcome
 outcome_by is_empty differs =
     if is_empty then outcome.NotFound else (if differs then outcome.Differs else outcome.Done)
 
--- what was asked for is told, and nothing where there is no such transaction
+-- what was asked for is explained, and nothing if there is no such transaction
 pub record IsPrinted (json : Bool) (r : Retraced) (w : Wanted) (response : Option (List Detail)) (p : Printed) : Type 0 where
   pub text_is : p.text.items ≡ told_text json r w response
   pub outcome_is : p.outcome ≡ outcome_by (length p.text.items == 0) (is_told_other r w response)

@@ -15,7 +15,7 @@ use Rattle.rx_commands.specs.declared.verdict.lines.Cut.TheVariants.{Line, Recor
 use Rattle.rx_commands.specs.Difference.{is_end, piece_of}
 use Rattle.rx_commands.specs.Verified.{Differences, IsVerified, are_none}
 
--- a file's size, behind the words that tell which it is
+-- a file's size, after the words that say which it is
 unfoldable pub sized : List ℕ → List ℕ → List ℕ
 sized words file = words ++ grouped (length file)
 

@@ -62,7 +62,7 @@ fn reference_in(text: &str, provider: Option<&str>) -> Option<Wanted>
     }
 }
 
-// A number that is written in digits alone.
+// A number that is written in digits only.
 fn digits(text: &str) -> Option<u64>
     ensures { IfSome result (IsDigits text.now) }
 {

@@ -5,7 +5,7 @@ use rx_switch::SwitchFault;
 /// Why `explain` prints nothing.
 #[derive(Clone, Copy, Debug, PartialEq, Eq)]
 pub enum ExplainFault {
-    /// An input is refused, or memory was wanting.
+    /// An input is refused, or memory ran out.
     Refused(SwitchFault),
     /// The response file is refused.
     Response(BatchFault),

@@ -22,7 +22,7 @@ use std::alloc::{AllocError, Global};
 use std::thread::Threads;
 
 /// What `explain` prints: why the transactions that are asked for were answered as they were, in words, or as JSON, an object
-/// a line; of a record whose header is rejected, why that was. Where the bytes of a response file are given, each tells
+/// a line; of a record whose header is rejected, why that was. Where the bytes of a response file are given, each says
 /// whether the reply there is this one, byte for byte. It starts no thread.
 ///
 /// It ends with NotFound exactly where no transaction is what is asked for, and else with Differs exactly where the response
@@ -110,7 +110,7 @@ fn printed_with(
     Ok(printed)
 }
 
-// What is told of, and how.
+// What is explained, and how.
 #[derive(Clone, Copy, Debug)]
 struct Task<'a, 'b> {
     retraced: &'a Retraced,
@@ -140,7 +140,7 @@ fn outcome_by(is_empty: bool, differs: bool) -> Outcome
     }
 }
 
-// What is told so far.
+// What is explained so far.
 #[derive(Debug, Drop)]
 struct Told {
     text: Vec<u8>,
@@ -149,7 +149,7 @@ struct Told {
 }
 
 impl Told {
-    // Puts the text of a transaction behind the others.
+    // Puts the text of a transaction after the others.
     fn put(&mut self, text: &[u8], compared: Option<Compared>) -> Result<(), AllocError>
         ensures text { OnOk result (self.new.text.items ≡ self.old.text.items ++ text.now) }
         ensures differs { OnOk result (self.new.differs ≡ (self.old.differs || is_other compared)) }

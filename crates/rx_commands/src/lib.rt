@@ -1,13 +1,14 @@
-//! The commands of the program beside `run`, each as one call: from the inputs' bytes to what is printed, and how it ends.
+//! The commands of the program besides `run`, each as one call: from the inputs' bytes to what is printed, and how it
+//! ends.
 //!
 //! In come the texts of plan sheet, opening books and batch file (`rx_io::Inputs`); out comes what is asked for, or the first
 //! refusal, as of a run.
 //!
 //! - `report` has a line for each answer of the batch, in one of the forms of `Form` (`specs/Reported.antt` has the lines,
 //!   `specs/Forms.antt` the texts).
-//! - `explain` tells why the transactions that are asked for were answered as they were (`specs/Retraced.antt` has the
+//! - `explain` says why the transactions that are asked for were answered as they were (`specs/Retraced.antt` has the
 //!   explanations, `specs/Told.antt` the text). The records are adjudicated once, in file order, and explained on the way
-//!   where the requests tell that a transaction is asked for. `record_asked`, `number_asked` and `reference_asked` read what
+//!   where the requests say that a transaction is asked for. `record_asked`, `number_asked` and `reference_asked` read what
 //!   is asked for.
 //! - `verify` does the run again and compares the texts of an earlier one's three files with it: the files are found the same
 //!   exactly where they are what the rules of docs/ make of the inputs (`specs/Verified.antt`, `specs/Verdict.antt`).
@@ -19,7 +20,7 @@
 //! let printed = rx_commands::verify(rt, alloc, &NoGate, &job, &files)?;
 //! ```
 //!
-//! Two texts are compared by `first_difference`; `pieces_before` and `rest_of_piece` tell in which line or record a place
+//! Two texts are compared by `first_difference`; `pieces_before` and `rest_of_piece` say in which line or record a place
 //! stands, and what stands there (`specs/Difference.antt`).
 //!
 //! The words of a command line and the files themselves are left to the program.

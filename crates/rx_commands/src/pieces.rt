@@ -9,7 +9,7 @@ pub fn pieces_before(text: &[u8], at: usize, end: u8) -> usize
     text.iter().take(at).filter(|byte| **byte == end).count()
 }
 
-/// What stands in a text from a place to the end of the piece there; no byte behind the text.
+/// What stands in a text from a place to the end of the piece there; no byte after the text.
 #[tactic(auto, using(std::proofs::lemmas::List::drop_all))]
 pub fn rest_of_piece(text: &[u8], at: usize, end: u8) -> &[u8]
     ensures { result.now ≡ piece_of end (drop at text.now) }

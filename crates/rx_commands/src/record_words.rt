@@ -39,7 +39,7 @@ pub(crate) fn rejected_at(asked: &[Transmission], at: At) -> Option<&Rejected>
     }
 }
 
-// The rejected header of a record, where it has so many answers.
+// The rejected header of a record, where it has this many answers.
 fn rejected_in(body: &Body, nth: u64) -> Option<&Rejected>
     ensures { option_copied result ≡ rejected_in body.now nth }
 {

@@ -93,7 +93,7 @@ struct Answered {
     explanations: Vec<Option<Explanation>>,
 }
 
-// The replies to the records, one after another, and the explanations that are wanted.
+// The replies to the records, one after another, and the explanations that are asked for.
 fn answer(
     alloc: Global,
     lot: Lot,
@@ -125,7 +125,7 @@ fn answer(
     })
 }
 
-// The replies to the records, and what decided those that are asked for, as far as the requests tell.
+// The replies to the records, and what decided those that are asked for, as far as the requests say.
 fn replay_asked(alloc: Global, batch: &Batch<'_>, wanted: &Wanted) -> Result<Replayed, Memory>
     requires { length batch.now.asked.now ≤ MOST_DETAILS }
     ensures replies { IfOk result (λ r.
@@ -136,7 +136,7 @@ fn replay_asked(alloc: Global, batch: &Batch<'_>, wanted: &Wanted) -> Result<Rep
     replay(alloc, batch, &places)
 }
 
-// The explanations that are wanted, of a batch that was gone through.
+// The explanations that are asked for, of a batch that was replayed.
 #[tactic(auto, using(rx_explain_replay::proofs::Replied::one_each))]
 fn explain_wanted(
     alloc: Global,

@@ -369,7 +369,7 @@ refused-reads =
     (λ a fits. (refl, record { codes = fits.0; reference = fits.1 }))
     (λ r fits. (refl, (fits.codes, fits.reference), refl))
 
--- what stands behind AN
+-- what stands after AN
 abbrev answer_body : Answer → List ℕ
 answer_body (answer.Paid p) = 80 ∷ paid_body p
 answer_body (answer.Twice p) = 68 ∷ paid_body p

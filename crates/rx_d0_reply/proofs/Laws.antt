@@ -37,7 +37,7 @@ both_again : (same p q : Bool) (x y : List ℕ) (f : List ℕ → Option (List �
 both_again true p q x y f e = e
 both_again false p q x y f e = refl
 
--- a text and another one behind it
+-- a text and another one after it
 pub after_both : (text more bs : List ℕ) → after (text ++ more) bs ≡ (after text bs >>= after more)
 unfolding after
 after_both [] more bs = refl

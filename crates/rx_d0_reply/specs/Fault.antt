@@ -51,7 +51,7 @@ is_labelled place s =
     else (if place == 1 then starts_with nat_eq s (field (codes "AM") (codes "22"))
     else (if place == 2 then starts_with nat_eq s (field (codes "AM") (codes "23")) else false))
 
--- SS, and then segments, cut at SS: 21 alone, 21 and 22, or 21, 22 and 23
+-- SS, and then segments, cut at SS: 21 only, 21 and 22, or 21, 22 and 23
 abbrev pub is_group : List ℕ → Bool
 is_group [] = false
 is_group (b ∷ bs) = (b == 30) && in_order (cut SEGMENT bs) labels

@@ -12,7 +12,7 @@ use Rattle.rx_fields.specs.Digits.{number}
 abbrev pub Reader : Type 0 → Type 0
 Reader A = List ℕ → Option (A × List ℕ)
 
--- the bytes behind a text
+-- the bytes after a text
 unfoldable pub after : List ℕ → List ℕ → Option (List ℕ)
 after text bs = if pointwise nat_eq (take (length text) bs) text then Some (drop (length text) bs) else None
 
@@ -34,7 +34,7 @@ unfoldable pub times : {A : Type 0} → (List ℕ → Option (A × List ℕ)) �
 times read zero bs = Some ([], bs)
 times read (suc n) bs = read bs >>= λ a. times read n a.1 >>= λ more. Some (a.0 ∷ more.0, more.1)
 
--- what is left behind n copies of a text
+-- what is left after n copies of a text
 unfoldable pub behind : ℕ → List ℕ → List ℕ → Option (List ℕ)
 behind zero text bs = Some bs
 behind (suc n) text bs = after text bs >>= behind n text

@@ -148,7 +148,7 @@ approved_at bs =
 unfoldable pub refused_at : List ℕ → Option (Refused × List ℕ)
 refused_at bs = made (λ x. Some (record { codes = x.0; reference = x.1 })) (pair codes_at known_at) bs
 
--- what stands behind the status: P, D, A or R
+-- what stands after the status: P, D, A or R
 abbrev pub behind_status : List ℕ → Option (Answer × List ℕ)
 behind_status [] = None
 behind_status (b ∷ bs) =

@@ -13,7 +13,7 @@ pub enum ReplyFault {
     Segment,
     /// A field isn't as it is written, or its value passes the limits.
     Field,
-    /// Memory was wanting: a growth was refused. The bytes are not to blame.
+    /// Out of memory: an allocation was refused. The bytes are not to blame.
     Memory,
 }
 

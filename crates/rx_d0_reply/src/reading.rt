@@ -22,7 +22,7 @@ use rx_d0_values::{Answer, Answers, Codes, Outcome, Rejected, Reply};
 use rx_fields::{Count, Memory};
 use std::alloc::Global;
 
-// That many answers, each behind its GS, and what follows.
+// That many answers, each after its GS, and what follows.
 fn groups_at(
     alloc: Global,
     count: u64,
@@ -42,7 +42,7 @@ fn groups_at(
     Ok(Some((answers, rest)))
 }
 
-// What is answered to a header that was heard: the bytes are that many answers.
+// What is answered to a header that was accepted: the bytes are that many answers.
 #[tactic(auto, unfolding(crate::specs::Reading::heard_in))]
 fn heard_in(alloc: Global, count: u64, bytes: &[u8]) -> Result<Option<Outcome>, Memory>
     ensures { IfOk result (λ found. found ≡ heard_in count bytes.now) }
@@ -59,7 +59,7 @@ fn heard_in(alloc: Global, count: u64, bytes: &[u8]) -> Result<Option<Outcome>, 
     }
 }
 
-// The codes of an answer to a rejected header, behind its GS, and what follows.
+// The codes of an answer to a rejected header, after its GS, and what follows.
 #[tactic(auto, unfolding(crate::specs::Reading::refusal_at))]
 fn refusal_at(bytes: &[u8]) -> Option<(Codes, &[u8])>
     ensures value { option_map (λ x. (x.0, x.1.now)) result ≡ refusal_at bytes.now }

@@ -30,7 +30,7 @@ scaled k d =
 cut_one : (c m t k d : ℕ) → m ≡ t + 2 ^ k * d → c + 2 * m ≡ c + 2 * t + 2 ^ suc k * d
 cut_one c m t k d e = omega (arith, e, scaled k d)
 
--- the marks of the first k bytes, and of those behind them
+-- the marks of the first k bytes, and of those after them
 cut_marks : (byte k : ℕ) (xs : List ℕ) → k ≤ length xs → marks_of byte xs ≡ marks_of byte (take k xs) + 2 ^ k * marks_of byte (drop k xs)
 cut_marks byte zero xs le = omega arith
 cut_marks byte (suc k) [] le = absurd (omega arith)
@@ -38,7 +38,7 @@ cut_marks byte (suc k) (x ∷ xs) le =
     cut_one (cond {A = ℕ} (eqb x byte) 1 0) (marks_of byte xs) (marks_of byte (take k xs)) k (marks_of byte (drop k xs))
     (cut_marks byte k xs (omega arith))
 
--- the marks behind a place are few
+-- the marks after a place are few
 pub marks_fit : (byte at k : ℕ) (text : List ℕ) → length text ≤ k + at → marks_of byte (drop at text) < 2 ^ k
 marks_fit byte at k text le = marks_below byte k (drop at text) (omega (arith, le, length-drop at text))
 
@@ -118,7 +118,7 @@ no_mark separator seen k text within e lt =
     ap p (sym (get_or-take seen text k 0 lt)) ∙ not-true _ (prefix_len_passes (λ x. not (p x)) xs k 0
     (omega (arith, all, length-take seen text)))
 
--- ---- the marks of what is behind it
+-- ---- the marks of what is after it
 
 lowest : (b : Bool) (n : ℕ) → (cond b 1 0 + 2 * n) / 2 ≡ n
 lowest true n = omega arith
@@ -134,7 +134,7 @@ dropped p zero xs = omega arith
 dropped p (suc k) [] = zero-div (2 ^ suc k)
 dropped p (suc k) (x ∷ xs) = halved (p x) (map p xs) k ∙ dropped p k xs
 
--- what is left over behind whole chunks, by the last 16 bytes
+-- what is left over after whole chunks, by the last 16 bytes
 pub marks_over : (byte left : ℕ) (text : List ℕ) → left ≤ 16 → 16 ≤ length text
     → marks_of byte (take 16 (drop (length text - 16) text)) / 2 ^ (16 - left) ≡ marks_of byte (drop (length text - left) text)
 marks_over byte left text few some =
@@ -168,7 +168,7 @@ marks_at_first separator marks text e = record {
   first = e ∙ ap (marks_of separator) (sym (take_min 64 text));
 }
 
--- ---- the first separator behind the bytes that were seen
+-- ---- the first separator after the bytes that were seen
 
 -- nothing is found
 pub none_behind : (separator seen : ℕ) (text : List ℕ) → seen ≤ length text → marks_of separator (take seen text) ≡ 0

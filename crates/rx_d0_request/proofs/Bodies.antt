@@ -18,7 +18,7 @@ pub is_some_map : {A B : Type 0} (f : A → B) (o : Option A) → is_some (optio
 is_some_map f None = refl
 is_some_map f (Some x) = refl
 
--- what was read of the bytes behind the header
+-- what was read of the bytes after the header
 pub groups_are : (bytes rest : List ℕ) → rest ≡ drop 56 bytes → further (cut GROUP rest) ≡ groups bytes
 unfolding groups parts
 groups_are bytes rest e = ap (λ (text : List ℕ). further (cut GROUP text)) e
@@ -32,7 +32,7 @@ pub conditions_are : (door : Door) (bytes : List ℕ) (h : Header) (clean has_co
     → header_conditions door h (clean && has_common) n ≡ conditions door bytes
 conditions_are door bytes h clean has_common n eh ec ei en = rw (eh, ec, ei, en) refl
 
--- a header that isn't heard
+-- a header that isn't accepted
 pub body_rejected : (door : Door) (bytes : List ℕ) (rows : List (Code × Bool)) (n : ℕ) → rows ≡ conditions door bytes
     → n ≡ length (groups bytes) → is_faulty rows ≡ true
     → Rejected (rejected_parts rows n) ≡ body door bytes
@@ -41,7 +41,7 @@ body_rejected door bytes rows n er en fault =
     let faulty : is_faulty (conditions door bytes) ≡ true = ap is_faulty (sym er) ∙ fault in
     rw (er, en, faulty) refl
 
--- a header that is heard
+-- a header that is accepted
 pub body_heard : (door : Door) (bytes : List ℕ) (rows : List (Code × Bool)) (h : Header) (read : Option InsuranceTexts)
     (pieces : List (List ℕ))
     → rows ≡ conditions door bytes → h ≡ header_of (header_bytes bytes) → read ≡ common bytes → pieces ≡ groups bytes

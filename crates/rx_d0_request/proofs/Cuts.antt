@@ -1,4 +1,4 @@
--- The first piece of a text, and the pieces behind it.
+-- The first piece of a text, and the pieces after it.
 use Rattle.std.proofs.Common.{◌≡◌, ℕ, ◌+◌, ◌-◌, ◌<◌, ◌≤◌, true, false, eqb, List, [], ◌∷◌, ◌++◌, length}
 use Rattle.std.proofs.Common.{get_or, take, drop, sym, ap, ◌∙◌, arith, drop-cons, add-one}
 use Rattle.std.proofs.lemmas.Grind.{common_steps}
@@ -38,6 +38,6 @@ cut_at separator bytes at lt none here =
 pub to_end : (at : ℕ) (bytes : List ℕ) → take (length bytes - at) (drop at bytes) ≡ drop at bytes
 to_end at bytes = take_all (length bytes - at) (drop at bytes) (omega (arith, length-drop at bytes))
 
--- the pieces behind the first
+-- the pieces after the first
 pub further_of : (pieces : List (List ℕ)) (piece : List ℕ) (rest : List (List ℕ)) → pieces ≡ piece ∷ rest → rest ≡ further pieces
 further_of pieces piece rest e = ap further (sym e)

@@ -97,7 +97,7 @@ five_more rows kept i d few lt holds e =
 
 -- ---- tables in parts
 
--- a step that fails tells that its part is faulty
+-- a step that fails says that its part is faulty
 pub fault_of : {A : Type 0} (is_faulty : Bool) (x : A) → None ≡ cond is_faulty None (Some x) → is_faulty ≡ true
 fault_of true x e = refl
 fault_of false x e = absurd cc
@@ -165,7 +165,7 @@ header_unsound door h is_sound groups e =
     rw e (eight (not (same h.bin door.bin)) (not (same h.version (codes "D0"))) (not (same h.code (codes "B1") || same h.code (codes "B2")))
     (not (same h.pcn door.pcn)) (not (is_count h.count groups)) (is_none (provider_in h.provider)) (is_none (date_in h.date)))
 
--- it names another door, or a version or code that isn't heard
+-- it names another door, or a version or code that isn't accepted
 pub header_elsewhere : (door : Door) (h : Header) (is_sound : Bool) (groups : ℕ) → is_addressed door h ≡ false
     → is_faulty (header_conditions door h is_sound groups) ≡ true
 unfolding is_faulty

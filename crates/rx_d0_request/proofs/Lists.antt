@@ -37,7 +37,7 @@ no_bills : (common : InsuranceTexts) (groups : List (List ℕ)) → list_any is_
 no_bills common [] = refl
 no_bills common (group ∷ groups) = rw (no_bill common (group_of group), no_bills common groups) refl
 
--- one to four groups ask one to four transactions, never a billing beside a reversal
+-- one to four groups ask one to four transactions, never a billing with a reversal
 pub are_asked : (is_billing : Bool) (common : InsuranceTexts) (groups : List (List ℕ)) → is_few (length groups) ≡ true
     → are_transactions (asked is_billing common groups) ≡ true
 are_asked true common groups few =

@@ -23,7 +23,7 @@ unfolding is_segment fields
 named_total segment = both (begins_empty (cut FIELD segment)) (list_all has_id (filled segment)) (is_named (map field_of (filled segment)))
     (Some (name_of (map field_of (filled segment))))
 
--- an empty piece is passed over
+-- an empty piece is skipped
 pub named_on : (pieces left : List (List ℕ)) (piece : List ℕ) (total : Option (Option (List ℕ))) → pieces ≡ piece ∷ left
     → is_nonempty piece ≡ false → named_by pieces ≡ total → named_by left ≡ total
 named_on pieces left piece total e empty so_far =

@@ -12,7 +12,7 @@ use Rattle.rx_d0_request.specs.Slots.{text_of, filled_slot, put}
 abbrev Slot : Type 0
 Slot = Option (List ℕ)
 
--- the slots in front, and those that come behind
+-- the slots in front, and those that come after
 abbrev pub with_front : List Slot → Option (List Slot) → Option (List Slot)
 with_front front read = read >>= λ ys. Some (front ++ ys)
 

@@ -131,7 +131,7 @@ run_fields_is keys slots (f ∷ fs) =
 pub run_fields_empty : (keys : Keys) (fs : List Field) → run_fields keys (map (λ _. None) keys) fs ≡ all_of (λ k. only (values k fs)) keys
 run_fields_empty keys fs = run_fields_is keys (map (λ _. None) keys) fs ∙ from_empty (λ k. values k fs) keys
 
--- pieces that are passed over have no value
+-- pieces that are skipped have no value
 pub values_filled : (k : List ℕ) (pieces : List (List ℕ)) → values k (map field_of (filter is_nonempty pieces))
     ≡ values k (map field_of pieces)
 values_filled k [] = refl

@@ -17,7 +17,7 @@ use Rattle.rx_d0_request.specs.Cut.{has_id, is_named, is_nonempty, is_part, is_s
 use Rattle.rx_d0_request.specs.Request.{groups, parts}
 use Rattle.rx_d0_request.specs.Written.{IsWritten, IsWrittenPart, IsWrittenSegment, behind, field_text, part_text, parts_text, segment_text}
 
--- ---- pieces behind a separator
+-- ---- pieces after a separator
 
 -- no byte is the separator
 abbrev pub Lacks : ℕ → List ℕ → Type 0
@@ -32,7 +32,7 @@ cut_behind s front (p ∷ ps) lacks all =
     ∙ ap (λ (rest : List (List ℕ)). front ∷ rest)
     (cut_behind s p ps (All-head (Lacks s) p ps all) (All-tail (Lacks s) p ps all))
 
--- pieces behind one separator lack another that each of them lacks
+-- pieces after one separator lack another that each of them lacks
 lacks_behind : (s t : ℕ) (pieces : List (List ℕ)) → eqb t s ≡ false → All (Lacks s) pieces → Lacks s (behind t pieces)
 lacks_behind s t [] other all = All-nil (λ b. eqb b s ≡ false)
 lacks_behind s t (p ∷ ps) other all =

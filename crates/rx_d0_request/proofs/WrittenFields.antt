@@ -346,7 +346,7 @@ reversal_claim_read r =
     (field_is (codes "D6") fs all)
     (field_is (codes "C8") fs all)
 
--- the text of an amount, where there is one
+-- the text of an amount, if there is one
 abbrev amount_text : Option ℕ → Slot
 amount_text None = None
 amount_text (Some n) = Some (signed_text (pos n))

@@ -24,7 +24,7 @@ use Rattle.rx_d0_request.specs.Written.{provider_text}
 
 -- ---- fields of known lengths
 
--- a place behind a field of known length
+-- a place after a field of known length
 skip : (a x : List ℕ) (n k m : ℕ) → length a ≡ n → n + k ≡ m → drop m (a ++ x) ≡ drop k x
 skip a x n k m len is = rw (← is, ← len) (drop-append-add a x k)
 
@@ -141,7 +141,7 @@ trimmed_blanks : (n : ℕ) → trimmed (replicate n 32) ≡ []
 trimmed_blanks zero = refl
 trimmed_blanks (suc n) = rw (trimmed_blanks n) refl
 
--- blanks behind a text are trimmed off
+-- blanks after a text are trimmed off
 trimmed_filled : (bs : List ℕ) (n : ℕ) → trimmed (bs ++ replicate n 32) ≡ trimmed bs
 trimmed_filled [] n = trimmed_blanks n
 trimmed_filled (b ∷ bs) n = rw (trimmed_filled bs n) refl

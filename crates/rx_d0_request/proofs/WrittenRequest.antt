@@ -1,4 +1,4 @@
--- A request that is written is heard as what it was written of.
+-- A request that is written is accepted as what it was written of.
 use Rattle.std.proofs.Common.{◌≡◌, ℕ, ◌+◌, true, false, eqb, List, [], ◌∷◌, ◌++◌, codes}
 use Rattle.std.proofs.Common.{length, map, replicate, Some, refl, ap, ◌∙◌, arith}
 use Rattle.std.specs.Prelude.{is_none}
@@ -37,7 +37,7 @@ use Rattle.rx_d0_request.proofs.WrittenFields.{bill_back, bill_written, common_r
 use Rattle.rx_d0_request.proofs.WrittenHeader.{clean_back, date_back, date_length, date_printable, front, front_length, header_back}
 use Rattle.rx_d0_request.proofs.WrittenHeader.{header_made, provider_back, provider_length, provider_printable}
 
--- ---- a header that is heard
+-- ---- a header that is accepted
 
 abbrev heard : Header → List ℕ → Civil → InsuranceTexts → List (List ℕ) → Transmission
 heard h provider date insurance gs =

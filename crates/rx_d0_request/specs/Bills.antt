@@ -54,7 +54,7 @@ reversal claim =
     if is_faulty (reversal_conditions claim) then faulty (reversal_conditions claim) claim
     else Reverse (reversal_parts claim)
 
--- what a group asks; a syntax error is R8 alone, with no reference
+-- what a group asks; a syntax error is R8 only, with no reference
 abbrev pub transaction : Bool → InsuranceTexts → Option GroupTexts → Transaction
 transaction is_billing common None = Faulty (record { codes = code.Syntax ∷ []; reference = None })
 transaction true common (Some group) = billing common group

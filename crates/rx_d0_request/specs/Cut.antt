@@ -28,7 +28,7 @@ abbrev pub further : List (List ℕ) → List (List ℕ)
 further [] = []
 further (front ∷ pieces) = pieces
 
--- the pieces of a segment that are not passed over
+-- the pieces of a segment that are not skipped
 abbrev pub filled : List ℕ → List (List ℕ)
 filled segment = filter is_nonempty (further (cut FIELD segment))
 
@@ -45,7 +45,7 @@ field_of piece = record { id = take 2 piece; value = trimmed (drop 2 piece) }
 unfoldable pub fields : List ℕ → List Field
 fields segment = map field_of (filled segment)
 
--- not one byte alone
+-- not one byte only
 abbrev pub has_id : List ℕ → Bool
 has_id piece = nat_le 2 (length piece)
 
@@ -53,7 +53,7 @@ has_id piece = nat_le 2 (length piece)
 abbrev pub is_name : Field → Bool
 is_name f = same f.id (codes "AM") && length f.value == 2
 
--- the first field names the segment; a segment without fields is passed over
+-- the first field names the segment; a segment without fields is skipped
 abbrev pub is_named : List Field → Bool
 is_named [] = true
 is_named (f ∷ fs) = is_name f

@@ -17,7 +17,7 @@ is_called name (f ∷ fs) = same f.value name
 abbrev pub has_name : List ℕ → List ℕ → Bool
 has_name name text = is_called name (fields text)
 
--- the one segment of this name, where there is one
+-- the one segment of this name, if there is one
 unfoldable pub segment : List ℕ → List ℕ → Option (Option (List ℕ))
 segment name part = only (filter (has_name name) (segments part))
 
@@ -30,7 +30,7 @@ abbrev pub fields_in : Option (List ℕ) → List Field
 fields_in None = []
 fields_in (Some text) = fields text
 
--- the one value under this id, where there is one
+-- the one value under this id, if there is one
 unfoldable pub field : List ℕ → Option (List ℕ) → Option (Option (List ℕ))
 field id found = only (values id (fields_in found))
 

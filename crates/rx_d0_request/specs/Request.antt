@@ -17,7 +17,7 @@ use Rattle.rx_d0_request.specs.declared.header.TheConstants.{HEADER_LENGTH}
 use Rattle.rx_d0_request.specs.Known.{InsuranceTexts, no_insurance, common_of, group_of}
 use Rattle.rx_d0_request.specs.Values.{provider_in, date_in}
 
--- the parts: behind the header, cut at each GS
+-- the parts: after the header, cut at each GS
 unfoldable pub parts : List ℕ → List (List ℕ)
 parts bytes = cut GROUP (drop HEADER_LENGTH bytes)
 
@@ -34,7 +34,7 @@ conditions door bytes =
     header_conditions door (header_of (header_bytes bytes)) (is_clean bytes && is_some (common bytes))
     (length (groups bytes))
 
--- the header is heard where no condition holds; its provider and date are there then
+-- the header is accepted where no condition holds; its provider and date are there then
 unfoldable pub body : Door → List ℕ → Body
 body door bytes =
     let h = header_of (header_bytes bytes) in

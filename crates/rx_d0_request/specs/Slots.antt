@@ -9,7 +9,7 @@ use Rattle.rx_text.specs.Options.{◌>>=◌}
 abbrev pub Slot : Type 0
 Slot = Option (List ℕ)
 
--- what a slice holds, where there is one
+-- what a slice holds, if there is one
 abbrev pub text_of : Option (Bor (List ℕ)) → Slot
 text_of slice = option_map (λ s. s.now) slice
 
@@ -40,7 +40,7 @@ each_slot f (k ∷ keys) (slot ∷ slots) = f k slot >>= λ y. each_slot f keys 
 abbrev pub put : List (List ℕ) → List ℕ → List ℕ → List Slot → Option (List Slot)
 put keys key text slots = each_slot (λ k slot. filled_slot (same key k) slot text) keys slots
 
--- the name of a segment; none where it is passed over
+-- the name of a segment; none where it is skipped
 abbrev pub name_of : List Field → Option (List ℕ)
 name_of [] = None
 name_of (f ∷ fs) = Some f.value
@@ -53,6 +53,6 @@ abbrev pub put_named : List (List ℕ) → Option (List ℕ) → List ℕ → Li
 put_named names None text slots = Some slots
 put_named names (Some name) text slots = put names name text slots
 
--- a segment comes into the slot of its name, where it isn't passed over; None is a syntax error too
+-- a segment comes into the slot of its name, where it isn't skipped; None is a syntax error too
 abbrev pub put_segment : List (List ℕ) → List ℕ → List Slot → Option (List Slot)
 put_segment names text slots = if is_segment text then put_named names (name_of (fields text)) text slots else None

@@ -107,7 +107,7 @@ bill_values b =
       gross_amount = unwrap_or b.gross_amount None;
     }
 
--- the header names this door, and a version and a code that are heard
+-- the header names this door, and a version and a code that are accepted
 abbrev pub is_addressed : Door → Header → Bool
 is_addressed door h =
     same h.bin door.bin && same h.version (codes "D0") && (same h.code (codes "B1") || same h.code (codes "B2"))
@@ -129,7 +129,7 @@ opening_parts h common =
       common = unwrap_or common no_insurance;
     }
 
--- a header that is heard, and its groups
+-- a header that is accepted, and its groups
 abbrev pub heard_parts : OpeningParts → List (List ℕ) → Heard
 heard_parts o groups =
     record {
@@ -138,6 +138,6 @@ heard_parts o groups =
       list = map (λ group. transaction o.is_billing o.common (group_of group)) groups;
     }
 
--- a header that isn't heard, before a number of groups
+-- a header that isn't accepted, before a number of groups
 abbrev pub rejected_parts : List (Code × Bool) → ℕ → Rejected
 rejected_parts conditions groups = record { codes = first_five conditions; groups = max 1 (min groups 4) }

@@ -21,7 +21,7 @@ use Rattle.rx_d0_request.specs.Cut.{Field, is_named}
 
 -- ---- parts, segments and fields
 
--- the pieces, each behind its separator
+-- the pieces, each after its separator
 abbrev pub behind : ℕ → List (List ℕ) → List ℕ
 behind separator [] = []
 behind separator (piece ∷ pieces) = separator ∷ (piece ++ behind separator pieces)
@@ -60,7 +60,7 @@ IsWrittenPart segments = All IsWrittenSegment segments
 abbrev pub under : List ℕ → List ℕ → Field
 under id value = record { id = id; value = value }
 
--- an amount under an id, where there is one
+-- an amount under an id, if there is one
 abbrev pub amount_if_there : List ℕ → Option ℕ → List Field
 amount_if_there id None = []
 amount_if_there id (Some n) = under id (signed_text (pos n)) ∷ []

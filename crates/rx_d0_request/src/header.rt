@@ -31,7 +31,7 @@ pub(crate) struct Header {
     pub(crate) date: [u8; 8],
 }
 
-/// The text, and the same byte behind it up to N bytes.
+/// The text, and the same byte after it up to N bytes.
 #[inline(always)]
 pub(crate) fn padded<const N: usize>(text: &[u8], byte: u8) -> [u8; N]
     requires { length text.now ≤ N }

@@ -10,7 +10,7 @@ ghost use Rattle.rx_d0_request.specs.Written.{Asker, IsAsker, IsBillOf, IsDoor, 
 ghost use Rattle.rx_d0_request.specs.Written.{base_claim, base_door, billing_text, heard_of, reversal_text};
 
 /// Requests that are written are read back: one to four billings of a member, or one to four reversals, each value within
-/// its limits and in its one spelling, are heard as just these, at the door that they name (docs/FORMATS.md, "Request
+/// its limits and in its one spelling, are accepted as just these, at the door that they name (docs/FORMATS.md, "Request
 /// transmission"). So the grammar of `decode` has no request by accident: it is what its fields say.
 pub fn written_is_heard()
     ensures billings { (door : Door) → (who : Asker) → (family : List ℕ) → (person : List ℕ) → (bills : List BillParts)

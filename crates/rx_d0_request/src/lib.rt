@@ -1,15 +1,15 @@
 //! Requests of the Telecommunication Standard D.0, read from bytes.
 //!
-//! In comes any byte string, and the plan's door, which a request has to name. Out comes the transmission that the
-//! request grammar makes of it: what is asked, or the reject codes. `specs/Request.antt` says which, over the tables
-//! of `specs/Codes.antt`. How a request is written stands in `specs/Written.antt`, and that it is heard as it was written is the
+//! In comes any byte string, and the plan's door, which a request has to name. Out comes the transmission that the request
+//! grammar makes of it: what is asked, or the reject codes. `specs/Request.antt` says which, over the tables of
+//! `specs/Codes.antt`. How a request is written stands in `specs/Written.antt`, and that it is accepted as it was written is the
 //! law `written_is_heard`.
 //!
 //! ```rust
 //! let transmission = rx_d0_request::decode(alloc, &sheet.door(), bytes)?;
 //! ```
 //!
-//! No text is refused; the one error is want of memory. What is answered to a request is left to the crates above.
+//! No text is refused; the one error is out of memory. What is answered to a request is left to the crates above.
 #![tactic(auto)]
 
 mod bill;

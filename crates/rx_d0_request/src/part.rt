@@ -29,7 +29,7 @@ fn name_in(piece: &[u8]) -> Option<[u8; 2]>
     }
 }
 
-// Whether each piece that isn't passed over has an id.
+// Whether each piece that isn't skipped has an id.
 fn all_have_ids(mut pieces: Pieces<'_>) -> bool
     ensures { result ≡ list_all has_id (filter is_nonempty pieces.entry) }
 {
@@ -41,7 +41,7 @@ fn all_have_ids(mut pieces: Pieces<'_>) -> bool
     true
 }
 
-// The name of a segment, or nothing where it is passed over. None: a syntax error.
+// The name of a segment, or nothing where it is skipped. None: a syntax error.
 fn segment_name(segment: &[u8]) -> Option<Option<[u8; 2]>>
     ensures { result ≡ (if is_segment segment.now then Some (name_of (fields segment.now)) else None) }
 {
@@ -59,7 +59,7 @@ fn segment_name(segment: &[u8]) -> Option<Option<[u8; 2]>>
     Some(None)
 }
 
-// Puts a segment into the slot of its name, where it isn't passed over. None: a syntax error, or the slot is taken.
+// Puts a segment into the slot of its name, where it isn't skipped. None: a syntax error, or the slot is taken.
 fn put_segment<'a>(
     slots: &mut [Option<&'a [u8]>],
     names: &[[u8; 2]],

@@ -76,7 +76,7 @@ fn opening_read<'a>(
     })
 }
 
-// Whether a header names this door, and a version and a code that are heard.
+// Whether a header names this door, and a version and a code that are accepted.
 fn is_addressed(door: &Door, header: &Header) -> bool
     ensures { result ≡ is_addressed door.now header.now }
 {
@@ -86,7 +86,7 @@ fn is_addressed(door: &Door, header: &Header) -> bool
         && header.pcn == door.pcn
 }
 
-// The transactions of the groups. One alone takes no allocation.
+// The transactions of the groups. A single one takes no allocation.
 fn transactions(
     alloc: Global,
     is_billing: bool,
@@ -114,7 +114,7 @@ fn transactions(
     }
 }
 
-// The transactions of a header that is heard.
+// The transactions of a header that is accepted.
 fn heard(
     alloc: Global,
     opening: &Opening,
@@ -132,7 +132,7 @@ fn heard(
     })
 }
 
-// A header that isn't heard, before a number of groups.
+// A header that isn't accepted, before a number of groups.
 fn rejected(
     door: &Door,
     header: &Header,

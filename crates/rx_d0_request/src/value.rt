@@ -39,7 +39,7 @@ pub(crate) fn family(value: Option<&[u8]>) -> Option<Id>
     Id::new(value?, 20).ok()
 }
 
-/// The person code; `01` where there is none.
+/// The person code; `01` if there is none.
 pub(crate) fn person(value: Option<&[u8]>) -> Option<Person>
     ensures { result ≡ person_in (text_of value.entry) }
 {

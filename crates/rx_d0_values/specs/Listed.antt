@@ -18,7 +18,7 @@ is_reversal (Faulty f) = false
 abbrev pub is_few : ℕ → Bool
 is_few n = nat_le 1 n && nat_le n 4
 
--- 1 to 4 transactions, with no billing beside a reversal
+-- 1 to 4 transactions, never a billing with a reversal
 abbrev pub are_transactions : List Transaction → Bool
 are_transactions ts = is_few (length ts) && not (list_any is_bill ts && list_any is_reversal ts)
 

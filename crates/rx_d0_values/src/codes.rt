@@ -32,7 +32,7 @@ ghost use Rattle.std.specs.Prelude.{◌≤◌, ◌-◌, ◌++◌, length, replic
 ghost use Rattle.rx_d0_values.specs.CodeList.{codes_of};
 
 impl Codes {
-    /// These codes; None where there are none, or more than five.
+    /// These codes; None if there are none, or more than five.
     pub fn new(codes: &[Code]) -> Option<Codes>
         ensures { result ≡ codes_of codes.now }
     {

@@ -18,7 +18,7 @@ pub struct EchoParts {
     pub date: [u8; 8],
 }
 
-/// What a reply repeats of its request: printable bytes alone (docs/FORMATS.md, "Reply transmission").
+/// What a reply repeats of its request: only printable bytes (docs/FORMATS.md, "Reply transmission").
 #[derive(Clone, Copy, Debug, PartialEq, Eq)]
 pub struct Echo {
     parts: EchoParts,

@@ -50,7 +50,7 @@ impl Transaction {
     }
 }
 
-/// The transactions of a transmission: 1 to 4, with no billing beside a reversal.
+/// The transactions of a transmission: 1 to 4, never a billing with a reversal.
 #[derive(Debug, Drop)]
 pub struct Transactions {
     kept: Kept,
@@ -81,7 +81,7 @@ ghost use Rattle.std.specs.List.{list_any};
 ghost use Rattle.rx_d0_values.specs.Listed.{is_bill, is_reversal, are_transactions};
 
 impl Transactions {
-    /// These transactions; they come back where they are no list of 1 to 4, or a billing stands beside a reversal.
+    /// These transactions; they come back where they are no list of 1 to 4, or a billing stands with a reversal.
     pub fn new(items: Vec<Transaction>) -> Result<Transactions, Vec<Transaction>>
         ensures ok { IfOk result (λ list. list ≡ items.items) }
         ensures err { IfErr result (λ back. back ≡ items) }

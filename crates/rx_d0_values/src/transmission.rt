@@ -7,7 +7,7 @@ use crate::transaction::Transactions;
 use rx_fields::{Count, Day, Key, Memory, Provider, Reference};
 use std::alloc::Global;
 
-/// A header that could not be heard.
+/// A header that could not be accepted.
 #[derive(Clone, Copy, Debug, PartialEq, Eq)]
 pub struct Rejected {
     /// Why.
@@ -16,7 +16,7 @@ pub struct Rejected {
     pub groups: Count,
 }
 
-/// A header that was heard, with its transactions.
+/// A header that was accepted, with its transactions.
 #[derive(Debug, Drop)]
 pub struct Heard {
     /// The pharmacy (201-B1).
@@ -32,7 +32,7 @@ pub struct Heard {
 pub enum Body {
     /// The header is rejected, and with it all transactions.
     Rejected(Rejected),
-    /// The header is heard.
+    /// The header is accepted.
     Heard(Heard),
 }
 

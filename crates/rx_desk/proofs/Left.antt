@@ -1,4 +1,4 @@
--- What the counts of a desk tell: whether records are left, and whether all were given.
+-- What the counts of a desk say: whether records are left, and whether all were given.
 use Rattle.std.proofs.Common.{◌≡◌, ◌≢◌, ℕ, suc, ◌-◌, ◌*◌, ◌<◌, ◌≤◌, List, [], ◌∷◌, true, false, Bool, length}
 use Rattle.std.proofs.Common.{get_or, reverse, Option, Some, None, refl, sym, ap, subst, ◌∙◌, arith}
 use Rattle.std.specs.Prelude.{◌↔◌, IsTrue, is_some}

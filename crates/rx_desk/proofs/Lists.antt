@@ -27,7 +27,7 @@ same_places (x ∷ xs) (y ∷ ys) h =
     let rest : xs ≡ ys = same_places xs ys (λ i. h (suc i)) in
     cc
 
--- items that are made of their keys alone
+-- items that are made of their keys only
 pub made_again : {X K : Type 0} (key : X → K) (made : K → X) (xs : List X) → All (λ x. x ≡ made (key x)) xs
     → xs ≡ map made (map key xs)
 made_again key made [] h = refl

@@ -1,4 +1,4 @@
--- A parcel is told by its period, its names and the values of its books.
+-- A parcel is determined by its period, its names and the values of its books.
 use Rattle.std.proofs.Common.{◌≡◌, Option, Some, None, refl, sym, ap, ◌∙◌}
 use mathlib.Core.Path.{fun_ext}
 use Rattle.std.specs.List.{Contains, slice_get}

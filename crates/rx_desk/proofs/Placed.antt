@@ -180,7 +180,7 @@ books_stay j past value after has_slot has_slot' is_out is_out' old values slots
   out = λ place b out n. outs b ∙ old.out place b out n;
 }
 
--- ---- who was handed out and passed
+-- ---- who was issued and passed
 
 pub handed_take : (past : List Event) (k : ℕ) (handed passed : List ℕ) → AreHanded past handed passed
     → AreHanded (Take k ∷ past) (k ∷ handed) passed

@@ -1,4 +1,4 @@
--- What holds of each book that a footprint names, and of each place of a shelf, told by the shelf's own tests.
+-- What holds of each book that a footprint names, and of each place of a shelf, decided by the shelf's own tests.
 use Rattle.std.proofs.Common.{◌≡◌, ℕ, suc, List, [], ◌∷◌, ◌++◌, map, true, false, Bool, not, ◌&&◌}
 use Rattle.std.proofs.Common.{Option, Some, None, refl, sym, ap, ◌∙◌, arith, inl, inr}
 use Rattle.std.specs.Cmp.{IsTotalOrder}

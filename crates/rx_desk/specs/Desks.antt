@@ -1,4 +1,4 @@
--- Meaning: a desk as its callers see it: its job, and the events so far. What may be asked of it is told by the machine of
+-- Meaning: a desk as its callers see it: its job, and the events so far. What may be asked of it is defined by the machine of
 -- `rx_schedule`: which events are legal, and where they have led.
 use Rattle.std.specs.Prelude.{◌≡◌, ℕ, ◌-◌, ◌++◌, List, [], ◌∷◌, Some, length, map, reverse, slice_get, slice_index_or}
 use Rattle.rx_fields.specs.Numbered.{LotParts, Span}
@@ -100,8 +100,8 @@ pub record IsOut (d : DeskParts) (o : OrderParts) : Type 0 where
   pub terms_are : slice_get d.job.terms (o.place - 1) ≡ Some o.terms
   pub parcel_is : o.parcel ≡ parcel_of d.job.books.period (footprint_in d.job o.place) ((led_to d).parcels o.place)
 
--- what `next` answers: an order of a record that may be taken, which is out from then on; that none may be taken, though
--- some are left; that none is left; or that memory was wanting
+-- what `next` answers: an order of a record that may be taken, which is out from then on; that none may be taken, though some are
+-- left; that none is left; or that memory ran out
 abbrev pub IsNext : DeskParts → Next → DeskParts → Type 0
 IsNext old (next.Order o) new = MayBeTaken old o.place × (new ≡ after_event old (Take o.place)) × IsOut new o
 IsNext old next.Later new =

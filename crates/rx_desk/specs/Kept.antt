@@ -1,5 +1,5 @@
--- Plumbing: what a desk keeps beside its job and its events: the books in place, the parcels that are out, the replies, and which
--- records were handed out and passed are those that the events have led to.
+-- Plumbing: what a desk keeps besides its job and its events: the books in place, the parcels that are out, the replies, and
+-- which records were issued and passed are those that the events have led to.
 use Rattle.std.specs.Prelude.{◌≡◌, ℕ, ◌+◌, ◌-◌, ◌*◌, ◌≤◌, Bool, true, List, length, reverse}
 use Rattle.std.specs.Prelude.{slice_get, slice_index_or, sum_by}
 use Rattle.rx_fields.specs.declared.limits.TheConstants.{MOST_DETAILS}
@@ -63,7 +63,7 @@ pub record AreNoted (j : DeskJob) (past : List Event) (replies : List Reply) : T
   pub one_each : length replies ≡ length j.records
   pub each : (place : ℕ) → Was (Give place) past → (replay (machine_of j) past).replies place ≡ slice_get replies (place - 1)
 
--- the records handed out are those that were taken, and those passed are those that were given
+-- the records issued are those that were taken, and those passed are those that were given
 pub record AreHanded (past : List Event) (handed passed : List ℕ) : Type 0 where
   pub was_taken : (place : ℕ) → Was place handed → Was (Take place) past
   pub taken : (place : ℕ) → Was (Take place) past → Was place handed
@@ -94,7 +94,7 @@ one_waiting Waiting = 1
 one_waiting (Out p) = 0
 one_waiting Given = 0
 
--- the history and the events still to come are two a record, for which there is room; and so many records wait
+-- the history and the events still to come are two a record, for which there is room; and this many records wait
 pub record IsCounted (capacity : ℕ) (history : List Event) (states : List State) (waiting : ℕ) : Type 0 where
   pub events : length history + sum_by events_left states ≡ 2 * length states
   pub room : 2 * length states ≤ capacity

@@ -135,7 +135,7 @@ impl Desk {
         self.queues.ready().is_some()
     }
 
-    /// Hands out a record that may be taken, with its books; the desk keeps an equal order as out.
+    /// Issues a record that may be taken, with its books; the desk keeps an equal order as out.
     pub fn next(&mut self) -> Next
         ensures { IsNext self.old result self.new }
     {
@@ -181,7 +181,7 @@ impl Desk {
         }
     }
 
-    /// The same; the memory that isn't needed any more comes back, for a caller that lets it go without its lock.
+    /// The same; the memory that is no longer needed comes back, for a caller that drops it without its lock.
     pub fn give_apart(&mut self, done: Done) -> Result<Remains, Done>
         ensures accepts { IsOk result ↔ IsOut self.old done.order }
         ensures ok { OnOk result (self.new ≡ after_event self.old (Event.Give done.order.place)) }

@@ -1,4 +1,4 @@
-//! The desk: it hands out the records of a batch, each with its books, and takes them back finished.
+//! The desk: it issues the records of a batch, each with its books, and takes them back finished.
 //!
 //! In come the books and the records; out go orders, in any order that keeps sharers in file order, and in come the
 //! `Done`s; at the end out come the books and the replies of the records one after another in file order.
@@ -11,7 +11,7 @@
 //! let finished = desk.close()?;
 //! ```
 //!
-//! What each call tells stands in `specs/Desks.antt`. Who adjudicates the orders, and how many at once, is left to the
+//! What each call says stands in `specs/Desks.antt`. Who adjudicates the orders, and how many at once, is left to the
 //! caller: the desk knows nothing of threads.
 #![tactic(auto)]
 

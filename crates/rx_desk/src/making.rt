@@ -152,7 +152,7 @@ fn room_for(alloc: Global, transmissions: &[Transmission]) -> Result<Room, Memor
     })
 }
 
-// So many records that weren't taken.
+// This many records that weren't taken.
 fn all_waiting(alloc: Global, count: usize) -> Result<Vec<State>, Memory>
     ensures { IfOk result (λ states. states.items ≡ replicate count State.Waiting) }
 {
@@ -161,7 +161,7 @@ fn all_waiting(alloc: Global, count: usize) -> Result<Vec<State>, Memory>
     Ok(states)
 }
 
-// Puts so many records that weren't taken.
+// Puts this many records that weren't taken.
 fn put_waiting(states: &mut Vec<State>, count: usize) -> Result<(), Memory>
     requires { states.old.items ≡ [] }
     ensures { OnOk result (states.new.items ≡ replicate count State.Waiting) }

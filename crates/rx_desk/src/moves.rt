@@ -23,7 +23,7 @@ pub(crate) struct Taken {
     pub(crate) transmission: Transmission,
 }
 
-/// Moves the books of a footprint out of their places, and makes the copies. Where there is no memory the books go back.
+/// Moves the books of a footprint out of their places, and makes the copies. Where memory runs out the books go back.
 pub(crate) fn take_books(
     alloc: Global,
     shelf: &mut Shelf,

@@ -1,6 +1,6 @@
 use rx_adjudicate::Order;
 
-/// What a desk hands out.
+/// What a desk issues.
 #[derive(Debug, Drop)]
 pub enum Next {
     /// A record whose earlier sharers were all given, with its books. The desk keeps an equal order as out.
@@ -9,6 +9,6 @@ pub enum Next {
     Later,
     /// All records were taken.
     Over,
-    /// Memory was wanting; nothing changed.
+    /// Out of memory; nothing changed.
     Memory,
 }

@@ -1,4 +1,4 @@
--- Meaning: what is said of a fault of a batch file: what stands there, and what is wanted.
+-- Meaning: what is said of a fault of a batch file: what stands there, and what is expected.
 use Rattle.std.specs.Prelude.{ℕ, ◌+◌, ◌-◌, Bool, true, false, not, ◌&&◌, ◌||◌, ◌==◌, nat_le, nat_lt}
 use Rattle.std.specs.Prelude.{if◌then◌else◌, List, [], ◌∷◌, ◌++◌, codes, drop, length, slice_range, take}
 use Rattle.std.specs.Prelude.{Option, Some, None, is_err, is_none}
@@ -47,7 +47,7 @@ outside_text text at =
     then codes "the file begins with a byte order mark (EF BB BF): STX (X'02') is wanted"
     else outside_with (seen_at text at) (kind_at text at) (ends_before text at)
 
--- no header where one is wanted
+-- no header where one is expected
 unfoldable pub no_header_text : List ℕ → ℕ → List ℕ
 no_header_text text at =
     if length text == 0 then codes "the file is empty: a header is wanted, which begins STX 00"
@@ -65,7 +65,7 @@ after_text text at =
 
 -- ---- a record's fields
 
--- a field of a record whose STX stands at a place, with its own byte, and what is wanted of it
+-- a field of a record whose STX stands at a place, with its own byte, and what is expected of it
 unfoldable pub field_text : ℕ → List ℕ → List ℕ → ℕ → ℕ → List ℕ → List ℕ
 field_text at name body start end wanted =
     name ++ (codes " " ++ (quoted_text (slice_range body start end) ++ (codes " at byte "
@@ -75,7 +75,7 @@ field_text at name body start end wanted =
 abbrev pub date_wanted : List ℕ → List ℕ
 date_wanted date = if all_digits date then codes "no such day" else codes "8 digits CCYYMMDD are wanted"
 
--- P in earnest, T for a test
+-- P for production, T for a test
 abbrev pub is_file_type : List ℕ → Bool
 is_file_type file = bytes_eq file (codes "P") || bytes_eq file (codes "T")
 
@@ -135,7 +135,7 @@ trailer_text at body =
 
 -- ---- a record as a whole
 
--- how many bytes behind a record's STX the next mark stands, STX or ETX
+-- how many bytes after a record's STX the next mark stands, STX or ETX
 abbrev pub to_mark : List ℕ → ℕ
 to_mark rest = position_or_len (λ b. b == STX || b == ETX) rest
 
@@ -160,7 +160,7 @@ detail_text body =
 
 -- ---- the batch as a whole
 
--- how many details begin before a byte behind the header
+-- how many details begin before a byte after the header
 abbrev pub details_before : List ℕ → ℕ → ℕ
 details_before text at = starts_before text at - 1
 

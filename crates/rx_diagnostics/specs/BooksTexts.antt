@@ -1,4 +1,4 @@
--- Meaning: what is said of faults of a books file: what stands there, and what is wanted.
+-- Meaning: what is said of faults of a books file: what stands there, and what is expected.
 use Rattle.std.specs.Prelude.{◌≡◌, ℕ, ◌+◌, ◌-◌, Bool, not, ◌||◌, ◌==◌, nat_lt, nat_eq, if◌then◌else◌}
 use Rattle.std.specs.Prelude.{List, [], ◌∷◌, ◌++◌, codes, count_by, length, Option, Some, None, is_err, option_map, string_bytes}
 use Rattle.std.specs.Fmt.{decimal}
@@ -29,7 +29,7 @@ mended text mend = record { text = text; mend = mend }
 
 -- ---- a field
 
--- an id of 1 to so many bytes
+-- an id of 1 to this many bytes
 abbrev pub id_fault : ℕ → List ℕ → Option (List ℕ)
 id_fault most field =
     if length field == 0 then Some (codes "an id is wanted")

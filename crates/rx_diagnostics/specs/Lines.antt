@@ -20,7 +20,7 @@ place_text file (place.Byte byte) = file ++ (codes ": byte " ++ (decimal byte ++
 place_text file (place.Record number byte) =
     file ++ (codes ": " ++ (record_name number ++ (codes ", byte " ++ (decimal byte ++ codes ": "))))
 
--- the command that mends the file, in parentheses; nothing where there is none
+-- the command that mends the file, in parentheses; nothing if there is none
 abbrev pub mend_text : List ℕ → List ℕ → List ℕ
 mend_text file [] = []
 mend_text file (b ∷ mend) = codes " (" ++ ((b ∷ mend) ++ (codes " " ++ (file ++ codes ")")))

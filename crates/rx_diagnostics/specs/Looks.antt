@@ -15,7 +15,7 @@ is_sheet_line line = begins line (codes "bin = ") || begins line (codes "pcn = "
 abbrev pub is_sheet : List ℕ → Bool
 is_sheet text = is_some (find is_sheet_line (cut 10 (take LOOKED_AT text)))
 
--- the first kind whose files begin so; None where the bytes don't tell
+-- the first kind whose files begin so; None where the bytes don't say
 abbrev pub looks_like : List ℕ → Option (List ℕ)
 looks_like text =
     if begins text (31 ∷ 139 ∷ []) then Some (codes "gzip")

@@ -4,7 +4,7 @@ use Rattle.std.specs.List.{position_or_len}
 use Rattle.std.specs.Option.{unwrap_or}
 use Rattle.rx_text.specs.Bytes.{cut}
 
--- the piece of this number, from 1, between separators; empty where there is none
+-- the piece of this number, from 1, between separators; empty if there is none
 abbrev pub piece : ℕ → List ℕ → ℕ → List ℕ
 piece separator text number = if number == 0 then [] else unwrap_or (slice_get (cut separator text) (number - 1)) []
 

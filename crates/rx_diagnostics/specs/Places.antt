@@ -11,7 +11,7 @@ use Rattle.rx_sheet.specs.declared.fault.SheetFault.TheVariants as sheet
 use Rattle.rx_diagnostics.specs.declared.place.Place.{Place}
 use Rattle.rx_diagnostics.specs.declared.place.Place.TheVariants as place
 
--- a line, or the whole file where there is none
+-- a line, or the whole file if there is none
 abbrev pub line_place : Option ℕ → Place
 line_place (Some line) = place.Line line
 line_place None = place.Whole
@@ -37,11 +37,11 @@ abbrev pub byte_place : Option ℕ → Place
 byte_place (Some byte) = place.Byte byte
 byte_place None = place.Whole
 
--- where the text can't be read again, the byte alone is known
+-- where the text can't be read again, the byte only is known
 abbrev pub unread_batch_place : BatchFault → Place
 unread_batch_place fault = byte_place (place_of fault)
 
--- a fault of a key is of the whole sheet; that of a text that is no TOML is told by the reader of TOML
+-- a fault of a key is of the whole sheet; that of a text that is no TOML is reported by the reader of TOML
 abbrev pub IsSheetPlace : SheetFault → Place → Type 0
 IsSheetPlace sheet.NotToml at = Unit {0}
 IsSheetPlace other at = at ≡ place.Whole

@@ -12,7 +12,7 @@ byte_text b = if is_printable b then b ∷ [] else bracketed b
 abbrev pub bytes_text : List ℕ → List ℕ
 bytes_text bytes = flat_map byte_text bytes
 
--- two dots behind the front of a long quotation
+-- two dots after the front of a long quotation
 abbrev pub cut_mark : List ℕ → List ℕ
 cut_mark bytes = if nat_lt LONGEST (length bytes) then codes ".." else []
 

@@ -1,4 +1,4 @@
--- Meaning: what is said of faults of a plan sheet: the key, and what is wanted under it.
+-- Meaning: what is said of faults of a plan sheet: the key, and what is expected under it.
 use Rattle.std.specs.Prelude.{◌≡◌, ℕ, List, ◌++◌, codes}
 use Rattle.std.specs.Fmt.{decimal}
 use Rattle.rx_fields.specs.declared.limits.TheConstants.{MOST_CENTS}
@@ -18,7 +18,7 @@ cents_wanted most example = codes "whole cents from 0 to " ++ (decimal most ++ (
 abbrev pub price_wanted : List ℕ
 price_wanted = codes "hundredths of a cent per unit are wanted, a whole number from 0 to " ++ decimal MOST_PRICE
 
--- what is wanted under each key, in its order
+-- what is expected under each key, in its order
 unfoldable pub wanted_at : SheetKey → List ℕ
 wanted_at key.Bin = codes "6 digits in quotes are wanted, as \"900001\""
 wanted_at key.Pcn = codes "0 to 10 printable characters in quotes are wanted, as \"RXDEMO\""

@@ -16,11 +16,11 @@ use rx_fields::{MOST_DETAILS, Memory};
 use std::alloc::{AllocError, Global};
 
 /// The words of a fault of this batch file (docs/FORMATS.md, "Faults of a batch file"): the record and the byte at which
-/// it begins, what stands there, and what is wanted.
+/// it begins, what stands there, and what is expected.
 ///
 /// # Errors
 ///
-/// Memory alone.
+/// Only Memory.
 pub fn batch_words(alloc: Global, fault: BatchFault, text: &[u8]) -> Result<Words, Memory>
     ensures place { IfOk result (λ words. words.place ≡ batch_place text.now fault) }
     ensures text { IfOk result (λ words. string_bytes words.text ≡ batch_text text.now fault) }
@@ -34,7 +34,7 @@ pub fn batch_words(alloc: Global, fault: BatchFault, text: &[u8]) -> Result<Word
 ///
 /// # Errors
 ///
-/// Memory alone.
+/// Only Memory.
 pub fn unread_batch_words(alloc: Global, fault: BatchFault) -> Result<Words, Memory>
     ensures place { IfOk result (λ words. words.place ≡ unread_batch_place fault) }
     ensures text { IfOk result (λ words. string_bytes words.text ≡ unread_batch_text fault) }
@@ -102,7 +102,7 @@ fn said_of(alloc: Global, fault: BatchFault, text: &[u8]) -> Result<String, Allo
     }
 }
 
-// How many details begin before a byte behind the header.
+// How many details begin before a byte after the header.
 fn details_before(text: &[u8], at: u64) -> u64
     ensures { result ≡ details_before text.now at }
 {
@@ -183,7 +183,7 @@ fn outside_with(
     }
 }
 
-// What is said where the header is wanted.
+// What is said where the header is expected.
 #[tactic(auto, using(std::proofs::Common::append_assoc), unfolding(crate::specs::BatchTexts::no_header_text))]
 fn no_header_words(alloc: Global, text: &[u8], at: u64) -> Result<String, AllocError>
     ensures { IfOk result (λ said. string_bytes said ≡ no_header_text text.now at) }

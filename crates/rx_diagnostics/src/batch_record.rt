@@ -15,7 +15,7 @@ use rx_fields::{Time, date_read, number_read};
 use rx_text::all_digits;
 use std::alloc::{AllocError, Global};
 
-/// The bytes behind the one at a place.
+/// The bytes after the one at a place.
 pub(crate) fn behind(text: &[u8], at: u64) -> &[u8]
     ensures { result.now ≡ behind text.now at }
 {
@@ -37,7 +37,7 @@ pub(crate) fn first_body(text: &[u8]) -> &[u8]
     body_at(text, to_byte(text, STX) as u64)
 }
 
-// How many bytes stand before the first one of this value; all where there is none.
+// How many bytes stand before the first one of this value; all if there is none.
 fn to_byte(bytes: &[u8], byte: u8) -> usize
     ensures { result ≡ position_or_len (λ b. b == byte) bytes.now }
 {
@@ -51,7 +51,7 @@ fn to_mark(bytes: &[u8]) -> usize
     memchr2(STX, ETX, bytes).unwrap_or(bytes.len())
 }
 
-/// What is said of a record that isn't closed, with what stands behind its STX.
+/// What is said of a record that isn't closed, with what stands after its STX.
 #[tactic(auto, using(std::proofs::Common::append_assoc), unfolding(crate::specs::BatchTexts::unclosed_text))]
 pub(crate) fn unclosed_words(alloc: Global, at: u64, rest: &[u8]) -> Result<String, AllocError>
     ensures { IfOk result (λ said. string_bytes said ≡ unclosed_text at rest.now) }

@@ -18,11 +18,11 @@ use rx_fields::{MOST_LINES, Memory};
 use std::alloc::{AllocError, Global};
 
 /// The words of a fault of this books file (docs/FORMATS.md, "Faults of a books file"): its line, what stands there,
-/// and what is wanted.
+/// and what is expected.
 ///
 /// # Errors
 ///
-/// Memory alone.
+/// Only Memory.
 pub fn books_words(alloc: Global, fault: BooksFault, text: &[u8]) -> Result<Words, Memory>
     ensures place { IfOk result (λ words. words.place ≡ books_place fault) }
     ensures said { IfOk result (λ words. TellsOfBooks text.now fault (mended (string_bytes words.text) words.mend.now)) }
@@ -53,7 +53,7 @@ fn unread_text(alloc: Global, fault: BooksFault) -> Result<String, AllocError>
 ///
 /// # Errors
 ///
-/// Memory alone.
+/// Only Memory.
 pub fn unread_books_words(alloc: Global, fault: BooksFault) -> Result<Words, Memory>
     ensures place { IfOk result (λ words. words.place ≡ books_place fault) }
     ensures text { IfOk result (λ words. string_bytes words.text ≡ unread_books_text fault) }
@@ -148,7 +148,7 @@ fn head_fields(alloc: Global, line: &[u8]) -> Result<String, AllocError>
     days_words(alloc, first, last, line)
 }
 
-// What is said of a head line of so many fields.
+// What is said of a head line of this many fields.
 #[tactic(auto, unfolding(crate::specs::BooksTexts::fields_text))]
 fn fields_words(alloc: Global, count: usize) -> Result<String, AllocError>
     ensures { IfOk result (λ said. string_bytes said ≡ fields_text count) }
@@ -187,7 +187,7 @@ fn days_words(
     format!(in alloc; "the last day {last} is before the first, {first}")
 }
 
-// What is said of a field of the head line that is no date; None where it is one.
+// What is said of a field of the head line that is no date; None if it is one.
 #[tactic(auto, using(std::proofs::Common::append_assoc), unfolding(crate::specs::BooksTexts::day_fault))]
 fn day_fault(
     alloc: Global,

@@ -9,7 +9,7 @@ use std::alloc::{AllocError, Global};
 /// What a field of a books line holds.
 #[derive(Clone, Copy, Debug, PartialEq, Eq)]
 pub(crate) enum Holds {
-    /// An id of at most so many bytes.
+    /// An id of at most this many bytes.
     Id(usize),
     /// A date of eight digits.
     Date,
@@ -17,7 +17,7 @@ pub(crate) enum Holds {
     Number(u64, u64),
     /// A figure of at most 20 digits, without leading zeros.
     Figure,
-    /// So many digits.
+    /// This many digits.
     Digits(usize),
 }
 
@@ -32,7 +32,7 @@ const fn made(name: &'static str, holds: Holds) -> Field {
     Field { name, holds }
 }
 
-/// The fields of a member line, behind its kind.
+/// The fields of a member line, after its kind.
 pub(crate) fn member_field(place: usize) -> Option<Field> {
     match place {
         0 => Some(made("family", Holds::Id(20))),
@@ -44,7 +44,7 @@ pub(crate) fn member_field(place: usize) -> Option<Field> {
     }
 }
 
-/// The fields of a claim line, behind its kind; version 1 has none for 4U.
+/// The fields of a claim line, after its kind; version 1 has none for 4U.
 pub(crate) fn claim_field(version: Version, place: usize) -> Option<Field> {
     match place {
         0 => Some(made("provider", Holds::Id(15))),
@@ -66,7 +66,7 @@ pub(crate) fn claim_field(version: Version, place: usize) -> Option<Field> {
     }
 }
 
-/// The fields of a total line, behind its kind; only version 3 has the deductible.
+/// The fields of a total line, after its kind; only version 3 has the deductible.
 pub(crate) fn total_field(version: Version, place: usize) -> Option<Field> {
     match place {
         0 => Some(made("family", Holds::Id(20))),
@@ -76,7 +76,7 @@ pub(crate) fn total_field(version: Version, place: usize) -> Option<Field> {
     }
 }
 
-/// What is wrong with a field, and what is wanted; None where nothing is.
+/// What is wrong with a field, and what is expected; None where nothing is.
 pub(crate) fn fault_in(
     alloc: Global,
     holds: Holds,

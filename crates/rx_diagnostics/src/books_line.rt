@@ -55,7 +55,7 @@ fn digit_of(version: Version) -> u8 {
     }
 }
 
-// The field of a line of its kind at a place, from 0 behind the kind.
+// The field of a line of its kind at a place, from 0 after the kind.
 fn field_at(line: &[u8], version: Version, place: usize) -> Option<Field> {
     match line {
         [b'M', ..] => member_field(place),
@@ -121,7 +121,7 @@ fn sum_of(line: &[u8], one: usize, other: usize) -> u64 {
     number_at(line, one).saturating_add(number_at(line, other))
 }
 
-// The number that a field is; 0 where it is none.
+// The number that a field is; 0 if it is none.
 fn number_at(line: &[u8], number: usize) -> u64 {
     number_read(field_of(line, number), 19).unwrap_or(0)
 }

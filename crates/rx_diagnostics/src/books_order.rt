@@ -62,7 +62,7 @@ fn after_words(alloc: Global, key: &str, before: &str, order: &str) -> Result<St
     format!(in alloc; "{key} stands after {before}: {order}")
 }
 
-/// What a line behind the head tells of.
+/// What a line after the head is about.
 #[derive(Clone, Copy, Debug)]
 pub(crate) enum LineKind {
     Member,

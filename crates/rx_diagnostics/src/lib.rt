@@ -1,4 +1,4 @@
-//! Faults in words: where in its file a fault stands, what is there, what is wanted, and how to mend it in one step.
+//! Faults in words: where in its file a fault stands, what is there, what is expected, and how to mend it in one step.
 //!
 //! In come a fault and the text in which it was found; out come `Words`, whose place is the fault's, as
 //! `specs/Places.antt` has it, and whose line begins with the file's name and that place (`specs/Lines.antt`).

@@ -7,7 +7,7 @@ use crate::place::front;
 // How many bytes are looked at for a line of a plan sheet.
 const LOOKED_AT: usize = 1000;
 
-/// What another kind of file looks like, from its first bytes; None where they don't tell.
+/// What another kind of file looks like, from its first bytes; None where they don't say.
 pub(crate) fn looks_like(text: &[u8]) -> Option<&'static str>
     ensures { option_map (λ kind. kind.now) result ≡ looks_like text.now }
 {

@@ -66,7 +66,7 @@ pub(crate) fn starts_before(text: &[u8], byte: u64) -> u64
     before.iter().filter(|b| **b == STX).count() as u64
 }
 
-/// The first so many bytes, or all.
+/// The first bytes, at most this many.
 pub(crate) fn front(text: &[u8], length: usize) -> &[u8]
     ensures { result.now ≡ take length text.now }
 {

@@ -13,7 +13,7 @@ use std::alloc::{AllocError, Global};
 const LONGEST: usize = 60;
 
 /// The bytes in quotes, on one line: what isn't printable ASCII as two hexadecimal digits in angle brackets, and of a
-/// long one the front alone.
+/// long one the front only.
 #[tactic(auto, using(std::proofs::Common::append_assoc))]
 pub fn quoted(alloc: Global, bytes: &[u8]) -> Result<String, AllocError>
     ensures { IfOk result (λ text. string_bytes text ≡ quoted_text bytes.now) }
@@ -80,7 +80,7 @@ pub(crate) fn from(text: &[u8], start: usize) -> &[u8]
     &text[text.len().min(start)..]
 }
 
-/// The line of this number, from 1, without its line feed; empty where there is none.
+/// The line of this number, from 1, without its line feed; empty if there is none.
 pub(crate) fn line_of(text: &[u8], number: u64) -> &[u8]
     ensures { result.now ≡ line_of text.now number }
 {
@@ -94,14 +94,14 @@ pub(crate) fn line_feeds(text: &[u8]) -> usize
     text.iter().filter(|b| **b == b'\n').count()
 }
 
-/// The field of this number of a line, from 1; empty where there is none.
+/// The field of this number of a line, from 1; empty if there is none.
 pub(crate) fn field_of(line: &[u8], number: usize) -> &[u8]
     ensures { result.now ≡ field_of line.now number }
 {
     piece(line, b'|', number as u64)
 }
 
-// The piece of this number, from 1, between separators; empty where there is none.
+// The piece of this number, from 1, between separators; empty if there is none.
 fn piece(text: &[u8], separator: u8, number: u64) -> &[u8]
     ensures { result.now ≡ piece separator text.now number }
 {
@@ -114,7 +114,7 @@ fn piece(text: &[u8], separator: u8, number: u64) -> &[u8]
     }
 }
 
-// The piece behind so many others.
+// The piece after this many others.
 fn piece_behind(text: &[u8], separator: u8, others: u64) -> Option<&[u8]>
     ensures { option_copied result ≡ slice_get (cut separator text.now) others }
 {

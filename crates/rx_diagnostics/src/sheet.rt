@@ -23,7 +23,7 @@ use toml::{Table, Value};
 ///
 /// # Errors
 ///
-/// Memory alone.
+/// Only Memory.
 pub fn sheet_words(alloc: Global, fault: SheetFault, text: &[u8]) -> Result<Words, Memory>
     ensures place { IfOk result (λ words. IsSheetPlace fault words.place) }
     ensures text { IfOk result (λ words. TellsOfSheet fault (string_bytes words.text)) }
@@ -43,7 +43,7 @@ pub fn sheet_words(alloc: Global, fault: SheetFault, text: &[u8]) -> Result<Word
 ///
 /// # Errors
 ///
-/// Memory alone.
+/// Only Memory.
 pub fn unread_sheet_words(alloc: Global, fault: SheetFault) -> Result<Words, Memory>
     ensures place { IfOk result (λ words. words.place ≡ Place.Whole) }
     ensures text { IfOk result (λ words. string_bytes words.text ≡ unread_sheet_text fault) }
@@ -106,7 +106,7 @@ fn parse_words(alloc: Global, text: &[u8]) -> Result<Words, Memory> {
     Ok(Words::new(place, format!(in alloc; "not TOML: {message}: {line}")?))
 }
 
-// The line and the column after so many bytes, and the text of the line.
+// The line and the column after this many bytes, and the text of the line.
 fn place_at(text: &[u8], bytes: usize) -> (Place, &[u8]) {
     let mut line = 1u64;
     let mut column = 1u64;
@@ -148,7 +148,7 @@ fn wrong_key(alloc: Global, key: SheetKey) -> Result<String, AllocError>
     key_words(alloc, name_of(key), " is wrong: ", wanted.as_str())
 }
 
-// A key, what is wrong with it, and what is wanted.
+// A key, what is wrong with it, and what is expected.
 #[tactic(auto, using(std::proofs::Common::append_assoc))]
 fn key_words(alloc: Global, name: &str, wrong: &str, wanted: &str) -> Result<String, AllocError>
     ensures { IfOk result (λ said. string_bytes said ≡ name.now ++ (wrong.now ++ wanted.now)) }
@@ -156,7 +156,7 @@ fn key_words(alloc: Global, name: &str, wrong: &str, wanted: &str) -> Result<Str
     format!(in alloc; "{name}{wrong}{wanted}")
 }
 
-// The table that the text stands for; None where it isn't TOML any more.
+// The table that the text stands for; None if it is no longer TOML.
 fn tree_of(alloc: Global, text: &[u8]) -> Result<Option<Table>, Memory> {
     match toml::table_from_slice(alloc, text) {
         Ok(tree) => Ok(Some(tree)),
@@ -179,7 +179,7 @@ fn wrong(alloc: Global, key: SheetKey, text: &[u8]) -> Result<String, Memory> {
     }
 }
 
-// A value, and what is wanted in its place.
+// A value, and what is expected in its place.
 fn wrong_value(alloc: Global, key: SheetKey, sheet: &Table) -> Result<String, AllocError> {
     let name = name_of(key);
     let Some(value) = found(sheet, name) else {

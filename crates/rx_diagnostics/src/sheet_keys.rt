@@ -30,7 +30,7 @@ pub(crate) fn name_of(key: SheetKey) -> &'static str
     }
 }
 
-/// What is wanted under a key.
+/// What is expected under a key.
 #[tactic(auto, using(std::proofs::Common::append_assoc), unfolding(crate::specs::SheetTexts::wanted_at))]
 pub(crate) fn wanted_at(alloc: Global, key: SheetKey) -> Result<String, AllocError>
     ensures { IfOk result (λ wanted. string_bytes wanted ≡ wanted_at key) }

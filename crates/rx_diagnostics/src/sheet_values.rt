@@ -2,7 +2,7 @@ use crate::quoting::quoted;
 use std::alloc::{AllocError, Global};
 use toml::{Table, Value};
 
-/// The value as it may be written in a sheet; a list or a table by its kind alone.
+/// The value as it may be written in a sheet; a list or a table by its kind only.
 pub(crate) fn shown_value(alloc: Global, value: &Value) -> Result<String, AllocError> {
     match value {
         Value::String(text) => quoted(alloc, text.as_str().as_bytes()),

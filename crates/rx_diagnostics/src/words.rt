@@ -10,9 +10,9 @@ use std::alloc::{AllocError, Global};
 pub struct Words {
     /// Where in its file the fault stands.
     pub place: Place,
-    /// What is there, and what is wanted, on one line.
+    /// What is there, and what is expected, on one line.
     pub text: String,
-    /// The command that mends it in one step, without the name of the file; empty where there is none.
+    /// The command that mends it in one step, without the name of the file; empty if there is none.
     pub mend: &'static str,
 }
 
@@ -35,7 +35,7 @@ impl Words {
     ///
     /// # Errors
     ///
-    /// Memory alone.
+    /// Only Memory.
     pub fn line(&self, alloc: Global, file: &str) -> Result<String, Memory>
         ensures value { IfOk result (λ line. string_bytes line ≡ line_text file.now self.now) }
         ensures begins { IfOk result (λ line. BeginsAt file.now self.now.place (string_bytes line)) }
@@ -54,7 +54,7 @@ fn joined(alloc: Global, place: &str, text: &str, mend: &str) -> Result<String, 
     Ok(format!(in alloc; "{place}{text}{mend}")?)
 }
 
-// The command that mends the file, where there is one.
+// The command that mends the file, if there is one.
 #[tactic(auto, using(std::proofs::Common::append_assoc))]
 fn mend_text(alloc: Global, file: &str, mend: &str) -> Result<String, AllocError>
     ensures { IfOk result (λ text. string_bytes text ≡ mend_text file.now mend.now) }

@@ -11,7 +11,7 @@ rest_is : {X : Type 0} (list : List X) (at : ℕ) (x : X) → at < length list �
     → drop at list ≡ x ∷ drop (at + 1) list
 rest_is list at x within is = rw add-one (drop-cons list at x within) ∙ ap (λ u. u ∷ drop (at + 1) list) (sym is)
 
--- what was told before it is followed by what is told of it, and of those after it
+-- what was reported before it is followed by what is said of it, and of those after it
 pub of_batch_next : {X : Type 0} (told : Heard → At → Answer → List X) (ts : List Transmission) (rs : List Reply) (at : ℕ)
     (t : Transmission) (r : Reply) → at < length ts → at < length rs → t ≡ get_or ts at t → r ≡ get_or rs at r
     → (done : List X)

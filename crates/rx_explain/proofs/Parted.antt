@@ -59,7 +59,7 @@ reverse_kept q (x ∷ xs) =
           rw left (reverse_kept q xs ∙ there)
     ]
 
--- one more event goes behind those of its part
+-- one more event goes after those of its part
 module _ {Z : Type 0} (parts : List (Vec Event Z)) (events : List Event) (e : Event) (d p : Vec Event Z)
     (are : AreEventParts parts events) (within : part_of_key e.key < parts_count)
     (is : p.items ≡ (get_or parts (part_of_key e.key) d).items ++ e ∷ []) where

@@ -1,4 +1,4 @@
--- Meaning: what is told of the answers of a batch, one after another.
+-- Meaning: what is said of the answers of a batch, one after another.
 use Rattle.std.specs.Prelude.{ℕ, ◌+◌, List, [], ◌∷◌, ◌++◌}
 use Rattle.rx_d0_values.specs.declared.reply.Answer.{Answer}
 use Rattle.rx_d0_values.specs.declared.reply.Outcome.{Outcome}
@@ -10,7 +10,7 @@ use Rattle.rx_d0_values.specs.declared.transmission.Heard.{Heard as HeardRecord}
 use Rattle.rx_d0_values.specs.declared.transmission.Transmission.{Transmission}
 use Rattle.rx_explain.specs.declared.at.At.{At}
 
--- what is told of the answer to a transaction of a record that is heard, at its place
+-- what is said of the answer to a transaction of a record that is accepted, at its place
 module _ {X : Type 0} (told : HeardRecord → At → Answer → List X) where
   -- of those to the record at this place, from the nth on
   abbrev pub of_answers : ℕ → HeardRecord → ℕ → List Answer → List X

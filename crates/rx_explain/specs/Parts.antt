@@ -4,7 +4,7 @@ use Rattle.std.specs.List.{filter, fold}
 use Rattle.rx_fields.specs.declared.key.Key.{Key}
 use Rattle.rx_explain.specs.declared.events.Event.{Event}
 
--- so many parts
+-- this many parts
 abbrev pub parts_count : ℕ
 parts_count = 65536
 

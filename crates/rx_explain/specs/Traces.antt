@@ -1,4 +1,4 @@
--- Meaning: where a standing claim comes from, and what becomes of it: told by its fill key alone.
+-- Meaning: where a standing claim comes from, and what becomes of it: named by its fill key only.
 use Rattle.std.specs.Prelude.{ℕ, ◌&&◌, Bool, true, false, List, [], ◌∷◌, reverse, Option, Some, None}
 use Rattle.std.specs.List.{find}
 use Rattle.std.specs.Option.{option_map}

@@ -16,9 +16,9 @@ use rx_ledger::{Basis, Occasion, Row};
 use std::alloc::Global;
 
 /// What decides a transaction on what answers as the ledger before it, where it is adjudicated then: a claim that is paid
-/// stands from then on, and one that is reversed no longer (docs/GUARANTEES.md, "Record and fold"). `rows` are the
-/// claims that are gone through: those of a billing's family are all among them, in the order of their keys. Without
-/// memory, nothing is promised of what it is adjudicated on.
+/// stands from then on, and one that is reversed no longer (docs/GUARANTEES.md, "Record and fold"). `rows` are the claims
+/// that are visited: those of a billing's family are all among them, in the order of their keys. Without memory, nothing
+/// is promised of what it is adjudicated on.
 pub fn explain_next<S: Basis>(
     alloc: Global,
     subject: &Subject<'_>,

@@ -33,7 +33,7 @@ pub struct Event {
 }
 
 /// The transactions of a batch that changed the ledger, in order. They are also kept in parts by the fill keys of their
-/// claims, so that for a claim only few are gone through.
+/// claims, so that for a claim only few are visited.
 #[derive(Debug, Drop)]
 pub struct Events {
     all: Vec<Event>,

@@ -37,7 +37,7 @@ pub struct Explanation {
     /// The standing claim that decided, where one did.
     pub standing: Option<Traced>,
     /// Of a claim that is too soon: the first date, from its own on, on which none of the member's fills of the product that
-    /// stand before it is too soon any more; None where the calendar has no such date.
+    /// stand before it is still too soon; None where the calendar has no such date.
     pub open_from: Option<Day>,
     /// Of a claim that is paid: the steps to the amounts.
     pub workings: Option<Workings>,

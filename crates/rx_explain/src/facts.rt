@@ -38,7 +38,7 @@ pub struct Facts {
     /// The standing claim that decided, where one did.
     pub standing: Option<Row>,
     /// Of a claim that is too soon: the first date, from its own on, on which none of the member's fills of the product that
-    /// stand before it is too soon any more; None where the calendar has no such date.
+    /// stand before it is still too soon; None where the calendar has no such date.
     pub open_from: Option<Day>,
     /// Of a claim that is paid: the steps to the amounts.
     pub workings: Option<Workings>,
@@ -46,8 +46,8 @@ pub struct Facts {
     pub counted: Vec<Row>,
 }
 
-/// The facts of a transaction on what answers as the ledger before it. `rows` are the claims that are gone through: those of
-/// a billing's family are all among them, in the order of their keys.
+/// The facts of a transaction on what answers as the ledger before it. `rows` are the claims that are visited: those of a
+/// billing's family are all among them, in the order of their keys.
 pub(crate) fn facts_on<S: Basis>(
     alloc: Global,
     subject: &Subject<'_>,

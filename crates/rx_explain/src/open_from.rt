@@ -10,7 +10,7 @@ use rx_fields::Day;
 use rx_ledger::{Decision, Figures, Row};
 
 /// Of a billing that is too soon: the first date, from its own on, on which none of the member's fills of the product is
-/// too soon any more, as they stand among these rows; None where the calendar ends before, and of every other transaction.
+/// still too soon, as they stand among these rows; None where the calendar ends before, and of every other transaction.
 pub(crate) fn open_from(
     figures: &Figures,
     date: Day,

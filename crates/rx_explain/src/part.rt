@@ -3,7 +3,7 @@ ghost use Rattle.rx_explain.specs.Parts.{part_of_key, part_of_text};
 
 use rx_fields::Key;
 
-/// In how many parts events are kept, so that only one of them is gone through.
+/// In how many parts events are kept, so that only one of them is visited.
 pub(crate) const PARTS: usize = 65_536;
 
 /// The part of a text.

@@ -147,7 +147,7 @@ module _ (b : Batch) (events : List Event) where
       subst (λ (p : At). IsOnLedger b.lot b.sheet.now L events p s y) are.at_is
       (traced L s (subst (λ (p : At). AreFacts b.lot b.sheet.now L p s x) (sym are.at_is) are))
 
-  -- and where there is no transaction there is no explanation
+  -- and if there is no transaction there is no explanation
   pub nothing_traced : (at : At) (o : Option Spot)
       → AreFactsAt b.lot b.sheet.now b.asked.now b.opening.now.ledger at o None
       → IsAmong b.lot b.sheet.now b.asked.now b.opening.now.ledger events at o None

@@ -26,7 +26,7 @@ item_next xs i = (let e : i + 1 ≡ suc i = omega arith in ap (item xs) e) ∙ i
 pub item_at : {X : Type 0} (xs : List X) (i : ℕ) (x : X) → i < length xs → x ≡ get_or xs i x → item xs (i + 1) ≡ Some x
 item_at xs i x within is = item_next xs i ∙ slice_get-get_or xs i x within ∙ ap Some (sym is)
 
--- none behind the last
+-- none after the last
 pub item_past : {X : Type 0} (xs : List X) (n : ℕ) → length xs < n → item xs n ≡ None
 item_past xs zero past = refl
 item_past xs (suc i) past = item_of xs i ∙ slice_get_past xs i (omega arith)

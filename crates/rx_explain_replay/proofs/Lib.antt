@@ -1,4 +1,4 @@
--- Lemmas of a batch that is gone through.
+-- Lemmas of a batch that is replayed.
 pub mod Courses
 pub mod EachExplained
 pub mod Folded

@@ -1,4 +1,4 @@
--- One more of the places is gone to, or passed over.
+-- One more of the places is gone to, or skipped.
 use Rattle.std.proofs.Common.{◌≡◌, ◌≤◌, ◌<◌, ◌++◌, ◌∷◌, [], ℕ, List, true, false, ap, map, refl, arith}
 use Rattle.rx_explain_replay.specs.Places.{is_ahead, places_ahead}
 use Rattle.rx_explain_replay.specs.declared.replaying.Explained.{Explained}
@@ -15,7 +15,7 @@ gone_to : (last count place : ℕ) (more : List ℕ) → last < place → place 
     → place ∷ places_ahead place count more ≡ places_ahead last count (place ∷ more)
 gone_to last count place more lt le = let e : is_ahead last count place ≡ true = grind arith in rw e refl
 
--- and its record explained behind those before it
+-- and its record explained after those before it
 pub explained_too : (ks : List Explained) (k : Explained) (last count : ℕ) (more : List ℕ) → last < k.place → k.place ≤ count
     → map (λ (x : Explained). x.place) (ks ++ k ∷ []) ++ places_ahead k.place count more
     ≡ map (λ (x : Explained). x.place) ks ++ places_ahead last count (k.place ∷ more)

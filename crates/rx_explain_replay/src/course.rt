@@ -17,7 +17,7 @@ pub(crate) struct Course {
 }
 
 impl Course {
-    /// The replies, where no record is done any more.
+    /// The replies, once no more records are done.
     pub(crate) fn into_replies(self) -> Vec<Reply>
         ensures { result ≡ self.replies }
     {
@@ -41,7 +41,7 @@ pub(crate) fn begun(alloc: Global, batch: &Batch<'_>) -> Result<Course, Memory>
     })
 }
 
-/// Goes on until so many records are done.
+/// Goes on until this many records are done.
 pub(crate) fn go_to(
     alloc: Global,
     batch: &Batch<'_>,

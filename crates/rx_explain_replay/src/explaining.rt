@@ -14,7 +14,7 @@ use rx_explain::{At, Events, Explanation, Facts, item, place_at};
 use rx_fields::Memory;
 use std::alloc::Global;
 
-/// An explanation of the transaction at each of these places of a batch, None where there is none. Places in the order of
+/// An explanation of the transaction at each of these places of a batch, None if there is none. Places in the order of
 /// the batch take one more pass over it.
 #[tactic(auto, using(crate::proofs::Replied::one_each))]
 pub fn explanations(
@@ -87,7 +87,7 @@ pub fn traced(
     }
 }
 
-// A batch gone through, and what decided the transactions of the record at a place of it.
+// A batch replayed, and what decided the transactions of the record at a place of it.
 #[derive(Drop)]
 struct Pass {
     course: Course,

@@ -1,4 +1,4 @@
-//! A batch gone through: the replies to its records, and explanations of any of its transactions.
+//! A batch replayed: the replies to its records, and explanations of any of its transactions.
 //!
 //! In come the opening books and what a batch asks; out come the replies to it, with explanations of the records at some
 //! places (`replay`), or, once the replies are known, the explanations of the transactions at some places

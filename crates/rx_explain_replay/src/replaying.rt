@@ -33,7 +33,7 @@ pub struct Explained {
 }
 
 /// The replies to the records of a batch, one after another, and explanations of the records at these places, which
-/// ascend; a place that doesn't, or that the batch hasn't, is passed over.
+/// ascend; a place that doesn't, or that the batch hasn't, is skipped.
 pub fn replay(alloc: Global, batch: &Batch<'_>, places: &[u64]) -> Result<Replayed, Memory>
     requires { length batch.now.asked.now ≤ MOST_DETAILS }
     ensures replies { IfOk result (λ r.

@@ -1,8 +1,8 @@
--- What is written one behind the other, as many texts as the lemma's name says; the last where there was memory for it.
+-- What is written one after the other, as many texts as the lemma's name says; the last where there was memory for it.
 use Rattle.std.specs.Prelude.{Result, Ok, Err, OnOk}
 use Rattle.std.proofs.Common.{◌≡◌, ℕ, List, ◌++◌, ap, ◌∙◌, append_assoc}
 
--- the same text, told otherwise
+-- the same text, written in another way
 pub told : {T E : Type 0} (r : Result T E) (t a b : List ℕ) → OnOk r (t ≡ a) → a ≡ b → OnOk r (t ≡ b)
 told (Ok x) t a b e d = e ∙ d
 told (Err x) t a b e d = e

@@ -27,7 +27,7 @@ bytes_text (Some bytes) = say " is " ++ in_quotes bytes
 unfoldable pub value_text : List ℕ → List ℕ
 value_text bytes = say ", " ++ in_quotes bytes
 
--- the plan's own value, where the code wants that
+-- the plan's own value, where the code expects that
 abbrev pub own_text : Door → Code → List ℕ
 own_text d code.Bin = value_text d.bin
 own_text d code.ProcessorControlNumber = value_text d.pcn
@@ -40,7 +40,7 @@ named_code c = code_text c ++ (say " " ++ said (name_of c))
 unfoldable pub wanted_text : Door → Code → List ℕ
 wanted_text d c = say ", wanted is " ++ (said (wanted_for c) ++ (own_text d c ++ say "\n"))
 
--- the code, the field of the nth group that it speaks of, that field's bytes, and what is wanted
+-- the code, the field of the nth group that it speaks of, that field's bytes, and what is expected
 unfoldable pub code_line : Door → List ℕ → ℕ → Code → List ℕ
 code_line d request nth c =
     say "  " ++ (named_code c ++ (say ": " ++ (said (unwrap_or (field_number c) (codes "the text"))

@@ -67,7 +67,7 @@ abbrev pub charge_text : Option ℕ → List ℕ
 charge_text None = say "  the gross amount due DU, for want of a usual charge, is "
 charge_text (Some cents) = say "  the usual charge DQ is "
 
--- what both come to, beside the charge
+-- what both come to, next to the charge
 unfoldable pub allowed_line : BillParts → Workings → List ℕ
 allowed_line b w =
     labelled (codes "allowed") (w.payment.pricing.ingredient_cost + w.payment.pricing.dispensing_fee)
@@ -160,7 +160,7 @@ abbrev pub paid_of : Transaction → Option Workings → Option (BillParts × Wo
 paid_of (Bill b) (Some w) = Some (b, w)
 paid_of t w = None
 
--- what is told of a claim that is paid; nothing of another
+-- what is said of a claim that is paid; nothing of another
 abbrev pub if_paid : (BillParts → Workings → List ℕ) → Option (BillParts × Workings) → List ℕ
 if_paid told None = []
 if_paid told (Some p) = told p.0 p.1

@@ -49,7 +49,7 @@ use Rattle.rx_ledger.specs.declared.row.Row.{Row}
 unfoldable pub quoted : List ℕ → List ℕ
 quoted bytes = say "\"" ++ (escaped Json bytes ++ say "\"")
 
--- a name behind the comma that ends the member before
+-- a name after the comma that ends the member before
 unfoldable pub named : List ℕ → List ℕ
 named name = say ",\"" ++ (said name ++ say "\":")
 
@@ -66,7 +66,7 @@ said_member name words = named name ++ (say "\"" ++ (said words ++ say "\""))
 unfoldable pub text_member : List ℕ → List ℕ → List ℕ
 text_member name text = named name ++ quoted text
 
--- null where there are none
+-- null if there are none
 abbrev pub bytes_json : Option (List ℕ) → List ℕ
 bytes_json None = say "null"
 bytes_json (Some bytes) = quoted bytes

@@ -23,7 +23,7 @@ abbrev pub compared_line : ℕ → Option Compared → List ℕ
 compared_line place None = []
 compared_line place (Some c) = say "  record " ++ (decimal place ++ said (compared_words c))
 
--- a field as it was sent, without its trailing blanks; nothing where there is none
+-- a field as it was sent, without its trailing blanks; nothing if there is none
 abbrev pub trimmed_text : Option (List ℕ) → List ℕ
 trimmed_text None = []
 trimmed_text (Some bytes) = shown (trimmed bytes)

@@ -38,7 +38,7 @@ field_number code.UsualCharge = Some (codes "426-DQ")
 field_number code.GrossAmount = Some (codes "430-DU")
 field_number other = None
 
--- where it stands: so many bytes of the header from a place on, or under an id in a segment; of other codes the whole part
+-- where it stands: this many bytes of the header from a place on, or under an id in a segment; of other codes the whole part
 abbrev pub stand_of : Code → Stand
 stand_of code.Bin = Header 0 6
 stand_of code.Version = Header 6 2
@@ -63,7 +63,7 @@ stand_of code.UsualCharge = Group (codes "11") (codes "DQ")
 stand_of code.GrossAmount = Group (codes "11") (codes "DU")
 stand_of other = Part
 
--- the common part, whose number is 0, or the nth group: what the separators behind the header cut
+-- the common part, whose number is 0, or the nth group: what the separators after the header cut
 abbrev pub part_of : List ℕ → ℕ → Option (List ℕ)
 part_of request nth = slice_get (slice_split (λ b. b == GROUP) (drop HEADER_LENGTH request)) nth
 

@@ -39,7 +39,7 @@ name_of code.Quantity = codes "missing or invalid quantity dispensed"
 name_of code.ReferenceQualifier = codes "missing or invalid prescription reference qualifier"
 name_of code.Syntax = codes "syntax error"
 
--- what the tables of codes, or the rules, want in place of what a request has
+-- what the tables of codes, or the rules, expect in place of what a request has
 abbrev pub wanted_for : Code → List ℕ
 wanted_for code.Bin = codes "the plan's BIN"
 wanted_for code.Version = codes "D0"

@@ -43,8 +43,8 @@ pub fn name(code: Code) -> &'static str
     }
 }
 
-/// What the tables of header codes and group codes want in place of what a request has (docs/FORMATS.md, "Request
-/// transmission"); of a code of adjudication what the rules want (docs/RULES.md, "Billing").
+/// What the tables of header codes and group codes expect in place of what a request has (docs/FORMATS.md, "Request
+/// transmission"); of a code of adjudication what the rules expect (docs/RULES.md, "Billing").
 pub fn wanted(code: Code) -> &'static str
     ensures { result.now ≡ wanted_for code }
 {

@@ -12,7 +12,7 @@ use rx_print::{Page, Style};
 use std::alloc::AllocError;
 
 /// A line for each code of the nth transaction of a request, or of its header, where `nth` is 0: the field, its bytes and
-/// what the table of codes wants.
+/// what the table of codes expects.
 pub(crate) fn put_codes(
     page: &mut Page,
     door: &Door,
@@ -99,7 +99,7 @@ fn put_quoted(page: &mut Page, bytes: &[u8]) -> Result<(), AllocError>
     page.say("\"")
 }
 
-// The plan's own value, where the code wants that.
+// The plan's own value, where the code expects that.
 fn put_own(page: &mut Page, door: &Door, code: Code) -> Result<(), AllocError>
     ensures { OnOk result (page.new.bytes.items ≡ page.old.bytes.items ++ own_text door.now code) }
 {

@@ -172,7 +172,7 @@ fn put_fee(
     page.say("\n")
 }
 
-// The dispensing fee submitted, nothing where there is none.
+// The dispensing fee submitted, nothing if there is none.
 fn submitted_fee(bill: &Bill) -> u64
     ensures { result ≡ unwrap_or bill.now.dispensing_fee 0 }
 {
@@ -182,7 +182,7 @@ fn submitted_fee(bill: &Bill) -> u64
     }
 }
 
-// What both come to, beside the charge.
+// What both come to, next to the charge.
 #[tactic(auto, using(std::proofs::Common::append_assoc), unfolding(crate::specs::Figures::allowed_line))]
 fn put_allowed(page: &mut Page, bill: &Bill, workings: &Workings) -> Result<(), AllocError>
     ensures { OnOk result (page.new.bytes.items ≡ page.old.bytes.items ++ allowed_line bill.now workings.now) }

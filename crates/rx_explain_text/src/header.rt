@@ -18,9 +18,9 @@ use rx_ledger::{Decision, Figures};
 use rx_print::{Page, Style};
 use std::alloc::{AllocError, Global};
 
-/// An explanation in words: a line that says what was answered to whom, and below it, set in, why
-/// (docs/RULES.md, "Rules of adjudication"). `request` is the text of the record's transmission; the last line says
-/// what a response file has there, where one was looked at.
+/// An explanation in words: a line that says the answer and the pharmacy, and below it, set in, why (docs/RULES.md,
+/// "Rules of adjudication"). `request` is the text of the record's transmission; the last line says what a response
+/// file has there, where one was looked at.
 #[tactic(auto, using(std::proofs::Common::append_assoc))]
 pub fn explanation_text(
     alloc: Global,

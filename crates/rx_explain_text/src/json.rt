@@ -268,7 +268,7 @@ fn put_front(page: &mut Page, code: Code) -> Result<(), AllocError>
     put_said(page, "name", name(code))
 }
 
-// Each code with its name, the field that it speaks of, that field's bytes and what is wanted.
+// Each code with its name, the field that it speaks of, that field's bytes and what is expected.
 #[tactic(auto, using(std::proofs::Common::append_assoc), unfolding(crate::specs::Json::codes_json))]
 fn put_codes(page: &mut Page, codes: &[Code], request: &[u8], nth: u64) -> Result<(), AllocError>
     ensures { OnOk result (page.new.bytes.items ≡ page.old.bytes.items ++ codes_json request.now nth codes.now) }
@@ -448,7 +448,7 @@ fn put_figures(
     }
 }
 
-// What was submitted and what the plan has beside it; the price is in hundredths of a cent.
+// What was submitted and what the plan has next to it; the price is in hundredths of a cent.
 #[tactic(auto, using(std::proofs::Common::append_assoc), unfolding(crate::specs::Json::price_json))]
 fn put_price(
     page: &mut Page,
@@ -674,7 +674,7 @@ fn put_text(page: &mut Page, name: &str, text: &[u8]) -> Result<(), AllocError>
     put_string(page, text)
 }
 
-// A name behind the comma that ends the member before.
+// A name after the comma that ends the member before.
 #[tactic(auto, using(std::proofs::Common::append_assoc), unfolding(crate::specs::Json::named))]
 pub(crate) fn put_name(page: &mut Page, name: &str) -> Result<(), AllocError>
     ensures { OnOk result (page.new.bytes.items ≡ page.old.bytes.items ++ named name.now) }

@@ -8,7 +8,7 @@ use rx_fields::Code;
 use rx_print::Page;
 use std::alloc::AllocError;
 
-// How items of a list are told.
+// How items of a list are written.
 pub(crate) trait Teller<T> {
     ghost json: { Self → T → List ℕ };
 
@@ -82,7 +82,7 @@ fn put_between<T, W: Teller<T>>(page: &mut Page, teller: &W, items: &[T]) -> Res
     put_others(page, teller, others)
 }
 
-// The items, each behind a comma.
+// The items, each after a comma.
 fn put_others<T, W: Teller<T>>(page: &mut Page, teller: &W, items: &[T]) -> Result<(), AllocError>
     ensures { OnOk result (page.new.bytes.items ≡ page.old.bytes.items ++ flat_map (after_comma (W.json teller.now)) items.now) }
 {

@@ -109,7 +109,7 @@ fn put_unlisted(page: &mut Page, product: Product) -> Result<(), AllocError>
     page.say("\n")
 }
 
-// The plan doesn't pay for so many days.
+// The plan doesn't pay for this many days.
 #[tactic(auto, using(std::proofs::Common::append_assoc), unfolding(crate::specs::Reasons::supply_text))]
 fn put_supply(page: &mut Page, days: Days, most: u64) -> Result<(), AllocError>
     ensures { OnOk result (page.new.bytes.items ≡ page.old.bytes.items ++ supply_text days most) }

@@ -12,7 +12,7 @@ use rx_text::{FIELD, GROUP, SEGMENT};
 // Where the bytes stand that a code speaks of.
 #[derive(Clone, Copy)]
 enum Stand {
-    // So many bytes of the header from a place on.
+    // This many bytes of the header from a place on.
     Header(usize, usize),
     // The value in a segment of the common part under an id.
     Common([u8; 2], [u8; 2]),
@@ -105,14 +105,14 @@ fn bytes_at(request: &[u8], nth: u64, stand: Stand) -> Option<&[u8]>
     }
 }
 
-// The first so many bytes, or all where there are no more.
+// The first bytes, at most this many.
 fn first(bytes: &[u8], count: usize) -> &[u8]
     ensures { result.now ≡ take count bytes.now }
 {
     &bytes[..bytes.len().min(count)]
 }
 
-// The bytes behind the first so many.
+// The bytes after these.
 fn behind(bytes: &[u8], count: usize) -> &[u8]
     ensures { result.now ≡ drop count bytes.now }
 {

@@ -1,4 +1,4 @@
--- What is no number of eight digits is no date, by the same fault.
+-- What isn't a number of eight digits is no date, by the same fault.
 use Rattle.std.proofs.Common.{◌≡◌, ℕ, Bool, true, false, cond, List, Result, Ok, Err, ap}
 use Rattle.std.specs.Prelude.{IsErrAnd}
 use Rattle.rx_fields.specs.Calendar.{date_of}
@@ -19,7 +19,7 @@ fault_same false false false x r f e = cc
 pub date_fault : (bytes : List ℕ) (f : FieldFault) → number_of 8 bytes ≡ Err f → date_of bytes ≡ Err f
 date_fault bytes f e = fault_same _ _ _ _ _ f e
 
--- what is told of a result's fault says which it is
+-- what is said of a result's fault says which it is
 pub fault_told : {A : Type 0} (r : Result A FieldFault) (f : FieldFault) → IsErrAnd r (λ e. e ≡ f) → r ≡ Err f
 fault_told (Ok x) f h = absurd h
 fault_told (Err e) f h = ap Err h

@@ -59,7 +59,7 @@ trimmed_whole bs other = elim (cases_lt 0 (length bs)) [
   | inr none ↦ trimmed_empty bs none
 ]
 
--- `trimmed_twice` of b and bs, by whether b and all behind it are blanks
+-- `trimmed_twice` of b and bs, by whether b and all after it are blanks
 twice_by : (blank : Bool) (b : ℕ) (bs : List ℕ) → trimmed (trimmed bs) ≡ trimmed bs
     → (eqb b 32 && eqb (length (trimmed bs)) 0) ≡ blank
     → trimmed (cond blank [] (b ∷ trimmed bs)) ≡ cond blank [] (b ∷ trimmed bs)

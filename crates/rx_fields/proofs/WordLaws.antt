@@ -1,4 +1,4 @@
--- Bytes compared as one number, and texts by the zeros that stand behind them.
+-- Bytes compared as one number, and texts by the zeros that stand after them.
 use Rattle.std.proofs.Common.{◌≡◌, ℕ, zero, suc, ◌+◌, ◌-◌, ◌*◌, ◌<◌, ◌≤◌, true, false, leb, lit<, List, [], ◌∷◌, ◌++◌, length, get_or}
 use Rattle.std.proofs.Common.{take, drop, replicate, take-append-drop, length-take}
 use Rattle.std.proofs.Common.{refl, sym, ap, ◌∙◌, inl, inr, arith}
@@ -19,7 +19,7 @@ use Rattle.rx_fields.proofs.IdLaws.{id_printable}
 
 -- ---- numbers
 
--- a number, and the bytes behind it, as one number
+-- a number, and the bytes after it, as one number
 abbrev pub number_from : ℕ → List ℕ → ℕ
 number_from p [] = p
 number_from p (x ∷ xs) = number_from (p * 256 + x) xs
@@ -73,7 +73,7 @@ byte_more p q x y hx hy = elim (cases_order p q) [
       rw (← behind) (sym (nat_cmp_is (p * 256 + x) (q * 256 + y) Greater (omega arith)))
 ]
 
--- as many bytes behind two numbers
+-- as many bytes after two numbers
 numbers_order : (xs ys : List ℕ) (p q : ℕ) → length xs ≡ length ys → AreBytes xs → AreBytes ys
     → nat_cmp (number_from p xs) (number_from q ys) ≡ ordering_then (nat_cmp p q) (slice_cmp nat_cmp xs ys)
 numbers_order [] [] p q l bx by = elim (nat_cmp p q) as (λ o. o ≡ ordering_then o Equal) [ Less ↦ refl | Equal ↦ refl | Greater ↦ refl ]
@@ -136,13 +136,13 @@ order_tied Less h = cc
 order_tied Equal h = refl
 order_tied Greater h = cc
 
--- what comes behind an order that is no tie does not count
+-- what comes after an order that is no tie does not count
 pub order_decided : (o p : Ordering) → is_eq o ≡ false → ordering_then o p ≡ o
 order_decided Less p h = refl
 order_decided Equal p h = absurd cc
 order_decided Greater p h = refl
 
--- ---- zeros behind
+-- ---- zeros after
 
 same_zeros : (n : ℕ) → slice_cmp nat_cmp (replicate n 0) (replicate n 0) ≡ Equal
 same_zeros zero = refl
@@ -152,7 +152,7 @@ same_zeros (suc n) = same_zeros n
 printable_some : (b : ℕ) → is_printable b ≡ true → 0 < b
 printable_some b p = let low : 32 ≤ b = leb-true 32 b (and_parts (leb 32 b) (leb b 126) p).0 in omega arith
 
--- zeros behind texts do not change their order
+-- zeros after texts do not change their order
 pub zeros_order : (s t : List ℕ) (m n : ℕ) → list_all is_printable s ≡ true → list_all is_printable t ≡ true
     → length s + m ≡ length t + n
     → slice_cmp nat_cmp (s ++ replicate m 0) (t ++ replicate n 0) ≡ slice_cmp nat_cmp s t

@@ -54,7 +54,7 @@ pub enum Code {
     TransactionCount,
     /// DC: the dispensing fee is unreadable or negative.
     DispensingFee,
-    /// DQ: the usual and customary charge is unreadable, negative, or absent beside an absent gross amount due.
+    /// DQ: the usual and customary charge is unreadable, negative, or absent with an absent gross amount due.
     UsualCharge,
     /// DU: the gross amount due is unreadable or negative.
     GrossAmount,

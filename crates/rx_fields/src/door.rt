@@ -1,5 +1,5 @@
-/// Whom a transmission has to name to be heard: the plan's BIN and its processor control number
-/// (docs/FORMATS.md, "Request transmission").
+/// The BIN and the processor control number that a transmission has to name to be accepted (docs/FORMATS.md, "Request
+/// transmission").
 #[derive(Clone, Copy, Debug, PartialEq, Eq)]
 pub struct Door {
     /// The bank identification number, as six bytes.

@@ -2,7 +2,7 @@ ghost use Rattle.std.specs.Prelude.{◌≡◌};
 
 use std::alloc::{AllocError, AllocFailed};
 
-/// Memory was wanting: a growth was refused. No input is to blame.
+/// Out of memory: an allocation was refused. No input is to blame.
 #[derive(Clone, Copy, Debug, PartialEq, Eq)]
 pub struct Memory;
 

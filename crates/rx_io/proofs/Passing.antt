@@ -109,7 +109,7 @@ PassesPiece-front left rest before during after n p none = record {
 pub none_made : {S : Type 0} (reads : S → ℕ) (cramped : S → Bool) (s : S) → AreFewReads reads cramped s s
 none_made reads cramped s = record { few = omega arith; roomy = λ h. h }
 
--- after so many reads the input is long
+-- after this many reads the input is long
 pub PassesPiece-long : (left rest : Option (List ℕ)) (before after : List ℕ → Type 0) (n : ℕ)
     → PassesPiece left rest before after n → most_reads ≤ n → IfSome left (λ all. most_reads ≤ length all)
 PassesPiece-long left rest before after n p long =
@@ -151,7 +151,7 @@ Appends-then (Some first) None after xs ys p q = absurd p
 Appends-then (Some first) (Some second) None xs ys p q = absurd q
 Appends-then (Some first) (Some second) (Some third) xs ys p q = q ∙ ap (λ l. l ++ ys) p ∙ append_assoc first xs ys
 
--- the text of the pieces: those before one, that one, and those behind it
+-- the text of the pieces: those before one, that one, and those after it
 pub pieces-at : {Z : Type 0} (pieces : List (Vec ℕ Z)) (i : ℕ) (piece : Vec ℕ Z) → i < length pieces → piece ≡ get_or pieces i piece
     → flat_map vec_items pieces
     ≡ flat_map vec_items (take i pieces) ++ (piece.items ++ flat_map vec_items (drop (i + 1) pieces))
@@ -161,7 +161,7 @@ pieces-at pieces i piece within is =
     ap (flat_map vec_items) (sym (take-append-drop i pieces)) ∙ flat_map-append vec_items (take i pieces) (drop i pieces)
     ∙ ap (λ l. flat_map vec_items (take i pieces) ++ flat_map vec_items l) on
 
--- of the piece behind what was written a front was written, and so of the whole
+-- of the piece after what was written a front was written, and so of the whole
 pub AppendsFront-on : (before between after : Option (List ℕ)) (front piece rest : List ℕ) → Appends before between front
     → AppendsFront between after piece → AppendsFront before after (front ++ (piece ++ rest))
 AppendsFront-on before between after front piece rest one two = record {

@@ -20,8 +20,8 @@ least_room = 4096
 abbrev pub most_again : ℕ
 most_again = 65536
 
--- at most so many reads of a source were made, each with that room: by what it counts, which has with the reads that
--- were made those that it may make again, and by what it looks at
+-- at most this many reads of a source were made, each with that room: by what it counts, which has with the reads that were made
+-- those that it may make again, and by what it looks at
 pub record AreFewReads {S : Type 0} (reads : S → ℕ) (cramped : S → Bool) (before after : S) : Type 0 where
   pub few : reads after ≤ reads before + most_reads
   pub roomy : cramped before ≡ false → cramped after ≡ false
@@ -64,7 +64,7 @@ pub record PassesAll (left rest : Option (List ℕ)) (before after : List ℕ �
   pub is_read : IsRead left rest bytes
   pub taken : TakesOn before after bytes
 
--- the bytes are a front of those that are left, where the source tells these
+-- the bytes are a front of those that are left, where the source reports these
 abbrev pub IsFrontOf : List ℕ → Option (List ℕ) → Type 0
 IsFrontOf bytes None = ⊤
 IsFrontOf bytes (Some all) = (rest : List ℕ) × (all ≡ bytes ++ rest)

@@ -14,7 +14,7 @@ pub enum ReadFault {
     Failed,
     /// The input has more than 268,435,456 bytes, or its end isn't found by 4,194,304 reads.
     Long,
-    /// Memory was wanting.
+    /// Out of memory.
     Memory,
 }
 

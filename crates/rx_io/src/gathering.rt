@@ -9,10 +9,10 @@ use std::alloc::Global;
 // How many bytes are gathered before they are written.
 const FULL: usize = 65_536;
 
-// So many bytes are written from where they stand.
+// This many bytes are written from where they stand.
 const LONG: usize = 4_096;
 
-/// Room for what is gathered: none where there is no memory.
+/// Room for what is gathered: none if there is no memory.
 pub(crate) fn room(alloc: Global) -> Vec<u8>
     ensures { result.items ≡ [] }
 {

@@ -10,7 +10,7 @@
 //! rx_io::write_all(&mut WriterSink::new(copy), text.as_slice())?;
 //! ```
 //!
-//! `Inputs` and `Outputs` hold something of each file, and `Device` tells which file it is (`specs/Files.antt`).
+//! `Inputs` and `Outputs` hold something of each file, and `Device` says which file it is (`specs/Files.antt`).
 //!
 //! ```rust
 //! let texts = paths.try_map(|device, path| text_of(path, device))?;

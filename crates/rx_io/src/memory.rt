@@ -9,7 +9,8 @@ use crate::sink::Sink;
 use crate::source::Source;
 use std::alloc::Global;
 
-// How a device in memory takes its calls: at most so many bytes a call, and a failure at one call where it is to fail.
+// How a device in memory takes its calls: at most this many bytes a call, and a failure at one call where it is to
+// fail.
 #[derive(Clone, Copy, Debug)]
 struct Calls {
     // The most bytes of a call.
@@ -30,7 +31,7 @@ impl Calls {
         }
     }
 
-    // The same, with a failure after so many calls more.
+    // The same, with a failure after this many calls more.
     fn failing_after(self, calls: usize) -> Calls
         ensures { result ≡ record self { good = Some calls } }
     {
@@ -62,7 +63,7 @@ impl Calls {
     }
 }
 
-/// A source over bytes in memory, which tells them. As a test wants it, it gives few bytes a call, or fails.
+/// A source over bytes in memory, which reports them. As a test needs it, it gives few bytes a call, or fails.
 #[derive(Clone, Copy, Debug)]
 pub struct SliceSource<'a> {
     left: &'a [u8],
@@ -85,7 +86,7 @@ impl<'a> SliceSource<'a> {
         }
     }
 
-    /// The source, which fails after so many calls more.
+    /// The source, which fails after this many calls more.
     pub fn failing_after(self, calls: usize) -> SliceSource<'a>
         ensures bytes { ⟦<SliceSource<'a> as Source>⟧.left result ≡ ⟦<SliceSource<'a> as Source>⟧.left self.entry }
         ensures failed { ⟦<SliceSource<'a> as Source>⟧.failed result ≡ ⟦<SliceSource<'a> as Source>⟧.failed self.entry }
@@ -124,7 +125,7 @@ impl<'a> Source for SliceSource<'a> {
     }
 }
 
-/// A sink that keeps its bytes in memory, and tells them. As a test wants it, it takes few bytes a call or none, or
+/// A sink that keeps its bytes in memory, and reports them. As a test needs it, it takes few bytes a call or none, or
 /// fails.
 #[derive(Debug, Drop)]
 pub struct VecSink {
@@ -146,7 +147,7 @@ impl VecSink {
         }
     }
 
-    /// The sink, which fails after so many calls more.
+    /// The sink, which fails after this many calls more.
     pub fn failing_after(self, calls: usize) -> VecSink
         ensures bytes { ⟦<VecSink as Sink>⟧.written result ≡ ⟦<VecSink as Sink>⟧.written self }
         ensures failed { ⟦<VecSink as Sink>⟧.failed result ≡ ⟦<VecSink as Sink>⟧.failed self }
@@ -171,7 +172,7 @@ impl Sink for VecSink {
 
     ghost failed = { λ s. s.calls.failed };
 
-    /// It fails where it is due to, where it may take no byte, and where memory was wanting.
+    /// It fails where it is due to, where it may take no byte, and where memory ran out.
     fn write(&mut self, piece: &[u8]) -> Result<usize, Failed>
         ensures bound { WritesAtMost result piece.now }
         ensures bytes { WriteAppends (Some self.old.written.items) (Some self.new.written.items) result piece.now }

@@ -118,7 +118,7 @@ impl Patched {
     }
 }
 
-// Adds the piece of the own bytes from one place to another, where there are some.
+// Adds the piece of the own bytes from one place to another, if there are some.
 fn push_own(pieces: &mut Vec<Piece>, first: usize, last: usize) -> Result<(), Memory>
     requires { first ≤ last }
     ensures text { (lender own : List ℕ) → OnOk result (pieces_text lender own pieces.new.items

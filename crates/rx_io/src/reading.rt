@@ -36,7 +36,7 @@ pub fn read_all<S: Source>(alloc: Global, source: &mut S) -> Result<Vec<u8>, Rea
     Ok(text)
 }
 
-// Room for the text that is expected and for the read that finds its end; none where there is no memory for it.
+// Room for the text that is expected and for the read that finds its end; none if there is no memory for it.
 fn room_of(alloc: Global, hint: Option<usize>) -> Vec<u8>
     ensures { result.items ≡ [] }
 {

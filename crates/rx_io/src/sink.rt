@@ -9,7 +9,7 @@ use crate::fault::Failed;
 
 /// A device that bytes are written to.
 pub trait Sink {
-    /// The bytes that were written, where the device tells them.
+    /// The bytes that were written, where the device reports them.
     ghost written: { Self → Option (List ℕ) };
 
     /// Whether a write to it ever failed, or took none of a piece that has bytes.

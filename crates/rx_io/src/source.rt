@@ -10,7 +10,7 @@ pub(crate) const LEAST_ROOM: usize = 4_096;
 
 /// A device that bytes are read from.
 pub trait Source {
-    /// The bytes that reads will give from here on, where the device tells them.
+    /// The bytes that reads will give from here on, where the device reports them.
     ghost left: { Self → Option (List ℕ) };
 
     /// Whether a read of it ever failed.

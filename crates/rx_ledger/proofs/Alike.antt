@@ -137,7 +137,7 @@ module _ (p : Plan) (ds : List Listed) (o : Occasion) (L : Ledger) where
       All-cons IsDecidedAlike t ts (decision_alike o.figures ds p.drugs o.lot o.provider o.date o.number L t same.0)
       (decisions_alike ts same.1)
 
--- ---- a header that is heard or rejected
+-- ---- a header that is accepted or rejected
 
 module _ (figures : Figures) (ds es : List Listed) (lot : LotParts) (place : ℕ) (L : Ledger) where
   pub outcome_alike : (body : Body) → SayAlike (plan_with figures ds) (plan_with figures es) (transactions_of body)

@@ -1,5 +1,5 @@
--- What a paid answer tells: no row of the table above it held, so its member is listed, its fill key was free, and its
--- amounts are those that the plan gives.
+-- What a paid answer shows: no row of the table above it held, so its member is listed, its fill key was free, and its amounts
+-- are those that the plan gives.
 use Rattle.std.proofs.Common.{◌≡◌, ℕ, Bool, true, false, Option, Some, None, IsSome, refl, ap, sym, ◌∙◌}
 use Rattle.std.specs.Prelude.{◌||◌, if◌then◌else◌, is_some, nat_lt, not}
 use Rattle.std.specs.List.{list_any}

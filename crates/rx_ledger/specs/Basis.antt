@@ -29,7 +29,7 @@ abbrev pub HasPeriod : Option Span → Span → Type 0
 HasPeriod None period = Unit {0}
 HasPeriod (Some own) period = own ≡ period
 
--- the member whom a billing names
+-- the member that a billing names
 abbrev pub billed_member : BillParts → MemberKey
 billed_member b = record { family = b.family; person = b.person }
 

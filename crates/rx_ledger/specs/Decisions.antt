@@ -72,12 +72,12 @@ payment f drug b rows = record { drug = drug; used = used_by f b.person rows; pr
 
 -- ---- billing
 
--- the row of a table that holds where there is none; else the rows below it, about what there is
+-- the row of a table that holds if there is none; else the rows below it, about what there is
 abbrev pub unless_found : {A : Type 0} → Option A → Decision → (A → Decision) → Decision
 unless_found None row below = row
 unless_found (Some x) row below = below x
 
--- the row that holds where there is one, about it; else the rows below it
+-- the row that holds if there is one, about it; else the rows below it
 abbrev pub if_found : {A : Type 0} → Option A → (A → Decision) → Decision → Decision
 if_found None row below = below
 if_found (Some x) row below = row x

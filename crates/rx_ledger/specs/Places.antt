@@ -24,6 +24,6 @@ billed plan (Bill b) = listed_as b.product (drug_of plan b.product)
 billed plan (Reverse v) = None
 billed plan (Faulty f) = None
 
--- the same of the transaction at a place of the list, where there is one
+-- the same of the transaction at a place of the list, if there is one
 abbrev pub billed_at : Plan → List Transaction → ℕ → Option Listed
 billed_at plan ts i = option_and_then (billed plan) (slice_get ts i)

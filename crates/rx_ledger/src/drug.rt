@@ -6,7 +6,7 @@ use rx_fields::MOST_CENTS;
 /// The largest price of a plan, in hundredths of a cent per unit.
 pub const MOST_PRICE: u64 = 1_000_000_000;
 
-/// What a member pays of a drug, beside the deductible.
+/// What a member pays of a drug, besides the deductible.
 #[derive(Clone, Copy, Debug, PartialEq, Eq)]
 pub enum Share {
     /// A fixed copay, in cents: 0 to 99,999,999.

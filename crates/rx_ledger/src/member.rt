@@ -16,7 +16,7 @@ pub struct MemberKey {
 }
 
 impl MemberKey {
-    /// The member whom a billing names.
+    /// The member that a billing names.
     pub fn of(bill: &Bill) -> MemberKey
         ensures { result ≡ billed_member bill.now }
     {
@@ -28,7 +28,7 @@ impl MemberKey {
     }
 }
 
-/// A person whom the plan covers.
+/// A person that the plan covers.
 #[derive(Clone, Copy, Debug, PartialEq, Eq)]
 pub struct Member {
     /// The family and the person.

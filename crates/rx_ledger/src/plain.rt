@@ -14,7 +14,7 @@ use crate::sums::used_by;
 use rx_d0_values::Bill;
 use rx_fields::{Day, Id, Key, Memory};
 
-// A plain ledger answers for everything, and goes over all members or rows at each question.
+// A plain ledger answers for everything, and visits all members or rows at each question.
 impl Basis for Ledger {
     ghost use Rattle.rx_ledger.specs.Basis.{whole};
 

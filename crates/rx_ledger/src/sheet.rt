@@ -115,7 +115,7 @@ impl Sheet {
         &self.figures
     }
 
-    /// Whom a transmission has to name to be heard.
+    /// The BIN and the processor control number that a transmission has to name.
     pub fn door(&self) -> &Door
         ensures { result.now ≡ self.now.figures.door }
     {

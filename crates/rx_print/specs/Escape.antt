@@ -17,7 +17,7 @@ is_markup Terminal b = b == 92
 abbrev pub is_special : Style → ℕ → Bool
 is_special style b = not (is_printable b) || is_markup style b
 
--- what stands before and behind the two hexadecimal digits of a number
+-- what stands before and after the two hexadecimal digits of a number
 abbrev pub front_of : Style → List ℕ
 front_of Html = codes "&#x"
 front_of Json = codes "\\u00"
@@ -48,8 +48,8 @@ is_mark Terminal b = not (is_printable b)
 
 -- ---- how it is read
 
--- where a reader stands: before a byte; in a number's front, with so many bytes of it left; before the first digit;
--- before the second, with the value of the first; behind the digits, with so many bytes left
+-- where a reader stands: before a byte; in a number's front, with this many bytes of it left; before the first digit; before the
+-- second, with the value of the first; after the digits, with this many bytes left
 pub data Stand : Type 0 where
   Before : Stand
   Front : ℕ → Stand

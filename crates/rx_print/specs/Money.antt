@@ -12,16 +12,16 @@ cents_text cents = 46 ∷ (48 + cents / 10) ∷ (48 + cents % 10) ∷ []
 abbrev pub dollars : ℕ → List ℕ
 dollars cents = decimal (cents / 100) ++ cents_text (cents % 100)
 
--- the same behind a minus, where they are below zero
+-- the same after a minus, where they are below zero
 abbrev pub signed_dollars : ℤ → List ℕ
 signed_dollars (pos n) = dollars n
 signed_dollars (negsuc n) = 45 ∷ dollars (suc n)
 
--- behind a dollar sign
+-- after a dollar sign
 abbrev pub money_text : ℕ → List ℕ
 money_text cents = codes "$" ++ dollars cents
 
--- hundredths as a number with two digits behind the point, and commas before it
+-- hundredths as a number with two digits after the point, and commas before it
 abbrev pub hundredths_text : ℕ → List ℕ
 hundredths_text n = grouped (n / 100) ++ cents_text (n % 100)
 

@@ -14,7 +14,7 @@ pub fn put_decimal(text: &mut Vec<u8>, number: u128) -> Result<(), AllocError>
     text.extend_from_slice(digits.format(number).as_bytes())
 }
 
-/// Puts a number in decimal digits, behind a minus where it is below zero.
+/// Puts a number in decimal digits, after a minus where it is below zero.
 pub fn put_signed(text: &mut Vec<u8>, number: i128) -> Result<(), AllocError>
     ensures { OnOk result (text.new.items ≡ text.old.items ++ signed_decimal number) }
 {
@@ -62,7 +62,7 @@ pub fn put_dollars(text: &mut Vec<u8>, cents: u128) -> Result<(), AllocError>
     text.extend_from_slice(&cents_text((cents % 100) as u8))
 }
 
-/// Puts an amount of cents as dollars and cents, behind a minus where it is below zero, as `-171.75`.
+/// Puts an amount of cents as dollars and cents, after a minus where it is below zero, as `-171.75`.
 #[tactic(auto, using(std::proofs::Common::append_assoc))]
 pub fn put_signed_dollars(text: &mut Vec<u8>, cents: i128) -> Result<(), AllocError>
     ensures { OnOk result (text.new.items ≡ text.old.items ++ signed_dollars cents) }

@@ -40,7 +40,7 @@ impl Style {
         }
     }
 
-    // What stands behind them.
+    // What stands after them.
     pub(crate) fn back(self) -> &'static [u8]
         ensures { result.now ≡ back_of self }
     {

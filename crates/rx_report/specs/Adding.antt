@@ -1,4 +1,4 @@
--- Plumbing: the groups while one item after another is put behind those of its provider.
+-- Plumbing: the groups while one item after another is put after those of its provider.
 use Rattle.std.specs.Prelude.{ℕ, if◌then◌else◌, List, [], ◌∷◌, ◌++◌, map}
 use Rattle.std.specs.Vec.{vec_items}
 use Rattle.std.specs.declared.vec.Vec.{Vec}
@@ -12,7 +12,7 @@ module _ {X Z : Type 0} where
   abbrev pub groups_in : List (List ℕ × Vec X Z) → List (List ℕ × List X)
   groups_in es = map group_in es
 
--- the groups after one more item: it goes behind those of its provider, or is a new provider's
+-- the groups after one more item: it goes after those of its provider, or is a new provider's
 abbrev pub added : {X : Type 0} → List ℕ → X → List (List ℕ × List X) → List (List ℕ × List X)
 added provider x [] = (provider, x ∷ []) ∷ []
 added provider x (e ∷ es) = if is_same provider e.0 then (e.0, e.1 ++ x ∷ []) ∷ es else e ∷ added provider x es

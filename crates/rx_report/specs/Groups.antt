@@ -7,7 +7,7 @@ use Rattle.rx_report.specs.declared.line.Line.{Line}
 use Rattle.rx_settle.specs.Counting.{field_text}
 use Rattle.rx_settle.specs.Providers.{is_same, named, without}
 
--- the provider of a line, filled with blanks; blanks alone where its field names none
+-- the provider of a line, filled with blanks; blanks only where its field names none
 abbrev pub provider_of : Line → List ℕ
 provider_of l = field_text (named l.provider)
 

@@ -17,7 +17,7 @@ member_in (Bill b) = Some (b.family, b.person)
 member_in (Reverse r) = None
 member_in (Faulty f) = None
 
--- those of the transaction behind so many
+-- those of the transaction after this many
 abbrev pub member_behind : List Transaction → ℕ → Option (List ℕ × List ℕ)
 member_behind list before = option_and_then member_in (slice_get list before)
 
@@ -25,7 +25,7 @@ abbrev pub member_at : Body → ℕ → Option (List ℕ × List ℕ)
 member_at (Rejected r) before = None
 member_at (Heard h) before = member_behind h.list before
 
--- the line of the answer behind so many to a request
+-- the line of the answer after this many to a request
 abbrev pub line_of : ℕ → Transmission → Reply → ℕ → Answer → Line
 line_of place t r before a =
     record {
@@ -37,7 +37,7 @@ line_of place t r before a =
       answer = a;
     }
 
--- the lines of the answers behind so many
+-- the lines of the answers after this many
 abbrev pub answer_lines : ℕ → Transmission → Reply → ℕ → List Answer → List Line
 answer_lines place t r before [] = []
 answer_lines place t r before (a ∷ more) = line_of place t r before a ∷ answer_lines place t r (before + 1) more

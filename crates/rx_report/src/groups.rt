@@ -59,7 +59,7 @@ impl Groups {
     }
 }
 
-// Puts an item behind those of its provider.
+// Puts an item after those of its provider.
 fn put_behind<T: Copy + Drop>(
     alloc: Global,
     groups: &mut IndexMap<Field, Vec<T>>,

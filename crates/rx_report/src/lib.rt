@@ -18,7 +18,7 @@
 //! let account = rx_report::account_of(alloc, portion, &settled, &kept, &groups)?;
 //! ```
 //!
-//! Whoever is told of a line's amounts has the settlement's: the answers of the lines are those that it counts. The
+//! Whoever reads a line's amounts has the settlement's: the answers of the lines are those that it counts. The
 //! adjudication is left to the crates below; how an account looks, to those that write it.
 #![tactic(auto)]
 

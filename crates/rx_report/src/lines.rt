@@ -83,7 +83,7 @@ fn put_answers(
     Ok(())
 }
 
-// The family and the person that the transaction behind so many names.
+// The family and the person that the transaction after this many names.
 fn member_at(body: &Body, before: usize) -> Option<(Id, Person)>
     ensures { result ≡ member_at body.now before }
 {

@@ -6,7 +6,7 @@ use crate::line::Line;
 use rx_fields::{Memory, Provider};
 use std::alloc::Global;
 
-/// Which lines of a batch are wanted.
+/// Which lines of a batch to report.
 #[derive(Clone, Copy, Debug)]
 pub enum Portion<'a> {
     /// All of them.

@@ -4,7 +4,7 @@ use rx_settle::{Field, Tally};
 /// A provider's lines, with what they come to.
 #[derive(Clone, Copy, Debug)]
 pub struct Section<'a> {
-    /// The provider, filled with blanks; blanks alone stand for all that are no id.
+    /// The provider, filled with blanks; all blanks stand for all that are no id.
     pub provider: Field,
     /// What its answers come to.
     pub tally: Tally,

@@ -1,13 +1,13 @@
--- What is written piece by piece, each behind those before it.
+-- What is written piece by piece, each after those before it.
 use Rattle.std.proofs.Common.{◌≡◌, ℕ, List, ◌++◌, Result, Ok, Err, OnOk, ap, ◌∙◌, append_assoc}
 
--- a text y is written, and behind it what is written then: both, where that is Ok
+-- a text y is written, and after it what is written then: both, where that is Ok
 behind : {A E : Type 0} (r : Result A E) (t0 t1 text y z : List ℕ) → t1 ≡ t0 ++ y → OnOk r (text ≡ t1 ++ z)
     → OnOk r (text ≡ t0 ++ (y ++ z))
 behind (Ok x) t0 t1 text y z e is = is ∙ ap (λ s. s ++ z) e ∙ append_assoc t0 y z
 behind (Err x) t0 t1 text y z e is = tt
 
--- so many pieces, where the last of them is Ok
+-- this many pieces, where the last of them is Ok
 module _ {A E : Type 0} (r : Result A E) (text : List ℕ) where
   pub two : (t0 y1 y2 : List ℕ) {t1 : List ℕ}
       → t1 ≡ t0 ++ y1

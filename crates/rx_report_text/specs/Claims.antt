@@ -14,7 +14,7 @@ use Rattle.rx_report_text.specs.Whys.{reason_text}
 
 -- ---- a claim before it is unfolded
 
--- what stands for an answer in a column, behind a front
+-- what stands for an answer in a column, after a front
 abbrev pub span_text : List ℕ → Shown → Line → List ℕ
 span_text front s l = front ++ (cell_text s l ++ codes "</span>")
 
@@ -77,6 +77,6 @@ section_text whys number s =
     codes "<section id=\"p" ++ (decimal number ++ (codes "\">\n<h2>Provider " ++ (provider_text s.provider
     ++ (names_text ++ (flat_map (claim_text whys) s.lines.now ++ codes "</section>\n")))))
 
--- those of each provider behind its number
+-- those of each provider after its number
 abbrev pub sections_text : List Why → List (ℕ × Section) → List ℕ
 sections_text whys numbered = flat_map (λ s. section_text whys s.0 s.1) numbered

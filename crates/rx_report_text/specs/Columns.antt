@@ -46,7 +46,7 @@ abbrev pub is_right : Shown → Bool
 is_right shown.Record = true
 is_right other = is_amount other
 
--- a cell in its width, behind two blanks
+-- a cell in its width, after two blanks
 abbrev pub aligned : Wide → List ℕ → List ℕ
 aligned c cell =
     32 ∷ 32 ∷ (if is_right c.shown then replicate (c.width - length cell) 32 ++ cell
@@ -89,7 +89,7 @@ section_text cs s =
     codes "provider " ++ (escaped Terminal (named s.provider) ++ (tally_line s.tally
     ++ (headings cs ++ (flat_map (line_row cs) s.lines.now ++ 10 ∷ []))))
 
--- of whom the last line tells
+-- what the last line is about
 abbrev pub scope_text : Portion → List ℕ
 scope_text portion.Whole = codes "all"
 scope_text (portion.Provider id) = codes "all of provider " ++ escaped Terminal id.now

@@ -49,7 +49,7 @@ section_json s =
     codes "{\"provider\":" ++ (provider_json s.provider ++ (codes "," ++ (tally_json s.tally
     ++ (codes ",\"lines\":" ++ (lines_json s.lines.now ++ codes "}")))))
 
--- each on a line of its own, a comma behind the one before it
+-- each on a line of its own, a comma after the one before it
 abbrev pub first_section : Section → List ℕ
 first_section s = 10 ∷ section_json s
 

@@ -60,7 +60,7 @@ unfoldable pub link_text : ℕ → List ℕ → List ℕ
 link_text number field =
     codes "<a href=\"#p" ++ (decimal number ++ (codes "\">" ++ (provider_text field ++ codes "</a>")))
 
--- the name alone where the page has no claims
+-- the name only where the page has no claims
 abbrev pub name_text : Bool → ℕ → List ℕ → List ℕ
 name_text true number field = link_text number field
 name_text false number field = provider_text field
@@ -70,7 +70,7 @@ row_text unfolds most number s =
     codes "<tr><th scope=\"row\">" ++ (name_text unfolds number s.provider ++ (codes "</th>" ++ (tally_text s.tally
     ++ (bar_text most s.tally ++ codes "</tr>\n"))))
 
--- each provider behind its number, from 0
+-- each provider after its number, from 0
 abbrev pub rows_text : Bool → ℕ → List (ℕ × Section) → List ℕ
 rows_text unfolds most numbered = flat_map (λ s. row_text unfolds most s.0 s.1) numbered
 
@@ -82,7 +82,7 @@ headings_text =
     ++ (codes "<th scope=\"col\">Duplicate</th><th scope=\"col\">Reversed</th><th scope=\"col\">Rejected</th>"
     ++ codes "<th scope=\"col\">Net</th><th scope=\"col\"></th></tr></thead>\n<tbody>\n")
 
--- of whom the last row tells
+-- what the last row is about
 abbrev pub scope_text : Portion → List ℕ
 scope_text portion.Whole = codes "All"
 scope_text (portion.Provider id) = codes "This provider"

@@ -42,7 +42,7 @@ abbrev pub member_text : Option (List ℕ × List ℕ) → List ℕ
 member_text None = []
 member_text (Some m) = m.0 ++ (47 ∷ m.1)
 
--- the amount, where there is one
+-- the amount, if there is one
 abbrev pub amount_text : Option ℤ → List ℕ
 amount_text None = []
 amount_text (Some cents) = signed_dollars cents

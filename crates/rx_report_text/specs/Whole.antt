@@ -44,7 +44,7 @@ title_text lot p =
     codes "<header>\n<h1>" ++ (lot_text lot ++ (codes "</h1>\n<p>created " ++ (escaped Html (dashed lot.created)
     ++ (portion_text p ++ codes "; amounts in dollars</p>\n</header>\n<main>\n"))))
 
--- in place of so many claims, the command for those of one provider
+-- in place of this many claims, the command for those of one provider
 abbrev pub too_many_text : List ℕ
 too_many_text =
     codes "<p>These are too many claims for one page. Those of one provider are on a page by</p>\n"

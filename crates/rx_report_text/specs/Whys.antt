@@ -30,7 +30,7 @@ line_byte b = if b == 10 then b ∷ [] else escaped Html (b ∷ [])
 abbrev pub escaped_lines : List ℕ → List ℕ
 escaped_lines text = flat_map line_byte text
 
--- where nothing tells why, the command that does
+-- where nothing says why, the command that does
 abbrev pub command_text : Line → List ℕ
 command_text l = codes "rxbatch explain --sheet F --books F --batch F --record " ++ cell_text Record l
 

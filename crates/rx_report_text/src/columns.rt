@@ -16,7 +16,7 @@ use rx_report::{Account, Line, Portion, Section};
 use rx_settle::{Field, Tally};
 use std::alloc::{AllocError, Global};
 
-/// The account in aligned columns: for each provider its counts and net, and its lines behind them; last those of all.
+/// The account in aligned columns: for each provider its counts and net, and its lines after them; last those of all.
 /// Bytes that a terminal wouldn't print stand as `\x1B`.
 pub fn columns_text(
     alloc: Global,
@@ -89,7 +89,7 @@ fn put_provider(text: &mut Vec<u8>, field: &Field) -> Result<(), AllocError>
     }
 }
 
-// Of whom the last line tells.
+// What the last line is about.
 fn put_scope(text: &mut Vec<u8>, portion: Portion<'_>) -> Result<(), AllocError>
     ensures { OnOk result (text.new.items ≡ text.old.items ++ scope_text portion.entry) }
 {
@@ -206,7 +206,7 @@ fn put_line_cell(
     put_aligned(cells, column, &cell)
 }
 
-// A cell in its width behind two blanks.
+// A cell in its width after two blanks.
 #[tactic(auto, using(std::proofs::Common::append_assoc))]
 fn put_aligned(cells: &mut Vec<u8>, column: Wide, cell: &[u8]) -> Result<(), AllocError>
     ensures { OnOk result (cells.new.items ≡ cells.old.items ++ aligned column cell.now) }

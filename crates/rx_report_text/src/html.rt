@@ -34,7 +34,7 @@ fn put_line_byte(page: &mut Page, byte: u8) -> Result<(), AllocError>
     }
 }
 
-/// Writes why a line's answer was given, as text; where that isn't among these, the command that tells it.
+/// Writes why a line's answer was given, as text; where that isn't among these, the command that says it.
 pub(crate) fn put_reason(page: &mut Page, whys: &Whys, line: &Line) -> Result<(), AllocError>
     ensures { OnOk result (page.new.bytes.items ≡ page.old.bytes.items ++ reason_text whys.now line.now) }
 {

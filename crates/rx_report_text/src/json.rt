@@ -49,7 +49,7 @@ fn put_only(text: &mut Vec<u8>, name: &[u8], id: &[u8]) -> Result<(), AllocError
     text.extend_from_slice(b",")
 }
 
-// The sections behind a front.
+// The sections after a front.
 #[tactic(auto, using(std::proofs::Common::append_assoc))]
 fn put_sections(
     alloc: Global,

@@ -10,12 +10,12 @@
 //! ```
 //!
 //! The page takes nothing from outside: no script, no font, no picture. It has a table of providers with counts, net and a
-//! bar for each, and behind it each provider's claims, a line each that unfolds to its figures and to why they are so. It
-//! is written in two ways alone: by markup that stands in this crate, and by bytes that `rx_print` turns into text.
+//! bar for each, and after it each provider's claims, a line each that unfolds to its figures and to why they are so. It
+//! is written in only two ways: by markup that stands in this crate, and by bytes that `rx_print` turns into text.
 //! `specs/Whole.antt` has the whole page, of a table (`specs/Providers.antt`) and claims (`specs/Claims.antt`);
 //! `specs/Pages.antt` says what a byte of a file becomes, `specs/Whys.antt` what stands there for an explanation.
 //!
-//! Nothing is explained here: `shows_claims` tells whether a page has claims, and why they were answered so is given to it.
+//! Nothing is explained here: `shows_claims` says whether a page has claims, and why they were answered so is given to it.
 #![tactic(auto)]
 
 mod claims;

@@ -50,7 +50,7 @@ fn put_total(page: &mut Page, portion: Portion<'_>, total: &Tally) -> Result<(),
     page.markup("<td class=\"bar\"></td></tr></tfoot>\n</table>\n")
 }
 
-// Of whom the last row tells.
+// What the last row is about.
 fn put_scope(page: &mut Page, portion: Portion<'_>) -> Result<(), AllocError>
     ensures { OnOk result (page.new.bytes.items ≡ page.old.bytes.items ++ scope_text portion.entry) }
 {
@@ -144,7 +144,7 @@ fn put_count(page: &mut Page, front: &'static str, count: u128) -> Result<(), Al
     page.markup("</td>")
 }
 
-// The bar of a net, where there is one.
+// The bar of a net, if there is one.
 fn put_bar(page: &mut Page, tally: &Tally, longest: u128) -> Result<(), AllocError>
     ensures { OnOk result (page.new.bytes.items ≡ page.old.bytes.items ++ bar_text longest tally.now) }
 {

@@ -18,7 +18,7 @@ use rx_report::{Account, Portion, Section};
 use rx_sorted::Ascending;
 use std::alloc::{AllocError, Global};
 
-/// How many lines of a whole batch a page shows at most; of more it has the table of providers alone.
+/// How many lines of a whole batch a page shows at most; of more it has the table of providers only.
 pub const MOST_LINES: usize = 2000;
 
 /// The account of a batch as an HTML page, where each claim unfolds to its figures and to the command that explains it.
@@ -84,7 +84,7 @@ fn put_below(
     }
 }
 
-/// Whether the page of an account has its claims, and not the table of providers alone: those of a portion, and those of
+/// Whether the page of an account has its claims, and not the table of providers only: those of a portion, and those of
 /// a whole batch up to `MOST_LINES` of them.
 pub fn shows_claims(portion: Portion<'_>, account: &Account<'_>) -> bool
     ensures { result ≡ shows_claims portion.entry account.now.sections.items }

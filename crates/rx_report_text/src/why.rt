@@ -19,7 +19,7 @@ pub struct AnswerSpot {
 pub struct Why {
     /// Where the answer stands.
     pub spot: AnswerSpot,
-    /// The lines that tell it, each with its line feed.
+    /// The lines that say it, each with its line feed.
     pub text: Vec<u8>,
 }
 
@@ -36,7 +36,7 @@ impl Keyed for Why {
 /// The explanations of answers, of each at most one.
 pub type Whys = Ascending<Why>;
 
-/// The lines that tell why a line's answer was given, where they are among these.
+/// The lines that say why a line's answer was given, where they are among these.
 pub fn why_of<'a>(whys: &'a Whys, line: &Line) -> Option<&'a [u8]>
     ensures { option_map (λ text. text.now) result ≡ why_of whys.now line.now }
 {

@@ -1,4 +1,4 @@
--- Pieces that are rendered beside one another, and joined.
+-- Pieces that are rendered in parallel, and joined.
 use Rattle.std.proofs.Common.{◌≡◌, List, [], ◌∷◌, ◌++◌, map, ℕ, ◌+◌, ◌<◌, ◌≤◌, Result, Ok, Err, length, get_or, drop}
 use Rattle.std.proofs.Common.{append_assoc, refl, sym, ap, ◌∙◌, arith}
 use Rattle.std.specs.Prelude.{IfOk, IsOkAnd, MatchResult, zip}

@@ -62,7 +62,7 @@ pub fn response_pieces<R: Threads + Sync>(
         flat_map vec_items pieces.items ≡ response_text head.now stamp details.now replies.now) }
 {
     if parts > 1 {
-        // Where threads or memory for pieces are wanting, one part may do.
+        // Where threads or memory for pieces run out, one part may do.
         if let Ok(pieces) = in_pieces(rt, alloc, parts, head, &stamp, details, replies) {
             return Ok(pieces);
         }

@@ -13,7 +13,7 @@ use Rattle.std.proofs.lemmas.Str.Parse.{IsNumeralModel, numerals_by_fold, parse_
 use Rattle.rx_text.specs.Bytes.{is_digit}
 use Rattle.rx_run_log.specs.Settlement.{count_of, number_after}
 
--- a digit is ASCII, and so are those behind it
+-- a digit is ASCII, and so are those after it
 first_is : (b : ℕ) (bs : List ℕ) → list_all is_digit (b ∷ bs) ≡ true → b < 128
 first_is b bs all = grind (arith, nat_tests, common_steps)
 

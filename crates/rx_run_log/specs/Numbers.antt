@@ -5,7 +5,7 @@ use Rattle.std.specs.Int.{is_negative}
 use Rattle.rx_print.specs.Decimal.{grouped}
 use Rattle.rx_print.specs.Money.{hundredths_text}
 
--- tenths as a number with one digit behind the point
+-- tenths as a number with one digit after the point
 abbrev pub tenths_text : ℕ → List ℕ
 tenths_text n = grouped (n / 10) ++ (46 ∷ (48 + n % 10) ∷ [])
 

@@ -13,7 +13,7 @@ is_in_line b = not (b == 10)
 abbrev pub is_in_field : ℕ → Bool
 is_in_field b = not (b == 124)
 
--- the bytes behind the last line feed, or all where there is none
+-- the bytes after the last line feed, or all if there is none
 abbrev pub behind_lines : List ℕ → List ℕ
 behind_lines text = drop (length text - suffix_len is_in_line text) text
 
@@ -34,7 +34,7 @@ count_of digits =
     if all_digits digits && nat_lt 0 (length digits) && nat_lt (number_after 0 digits) (2 ^ 64)
     then Some (number_after 0 digits) else None
 
--- a net: a count below 2^63, behind a minus where it is negative
+-- a net: a count below 2^63, after a minus where it is negative
 abbrev pub signed : (ℕ → ℤ) → Option ℕ → Option ℤ
 signed of None = None
 signed of (Some n) = if nat_lt n (2 ^ 63) then Some (of n) else None
@@ -43,7 +43,7 @@ abbrev pub net_of : List ℕ → Option ℤ
 net_of [] = None
 net_of (b ∷ bs) = if b == 45 then signed (λ n. neg_ℤ (pos n)) (count_of bs) else signed (λ n. pos n) (count_of (b ∷ bs))
 
--- the count in the field that the first bar ends, and what stands behind that bar; none where there is no bar
+-- the count in the field that the first bar ends, and what stands after that bar; none if there is no bar
 abbrev pub paired : Option ℕ → List ℕ → Option (ℕ × List ℕ)
 paired None rest = None
 paired (Some n) rest = Some (n, rest)

@@ -1,8 +1,8 @@
 //! How a run goes: what passes through its files, the lines that report its steps, and its log.
 //!
-//! - A watched device (`Watched`) stays the device that it is. Beside it out come the number of bytes that went through,
-//!   their SHA-256 where it is asked for, the first and the last of them, and the times of the first and the last call (`Traffic`). `RunTraffic`
-//!   has that of the six files of a run, and by it how long each step took.
+//! - A watched device (`Watched`) stays the device that it is. Besides it come out the number of bytes that went through, their SHA-256 where it
+//!   is asked for, the first and the last of them, and the times of the first and the last call (`Traffic`). `RunTraffic` has that of the six
+//!   files of a run, and by it how long each step took.
 //! - `step_line`, `shards_line`, `progress_line` and `done_line` spell numbers as people read them (`specs/Lines.antt`).
 //! - `log_line` is the log: one line of JSON, whose value is defined in `specs/Log.antt`. What it says of the batch and of
 //!   the answers is taken from the front of the batch file (`Lot`) and from the end of the settlement (`Totals`).

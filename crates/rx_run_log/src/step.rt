@@ -2,7 +2,7 @@ ghost use Rattle.std.specs.Prelude.{◌≡◌};
 ghost use Rattle.rx_run_log.specs.Lines.{label_of};
 ghost use Rattle.rx_run_log.specs.Steps.{time_of};
 
-/// A step of a run, in the order in which a run goes through them.
+/// A step of a run, in the order in which a run takes them.
 #[derive(Clone, Copy, Debug, PartialEq, Eq)]
 pub enum Step {
     /// The plan sheet is read.

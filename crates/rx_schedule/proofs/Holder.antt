@@ -182,7 +182,7 @@ module _ (lot : LotParts) (plan : Plan) (L : Ledger) (records : List Transmissio
       subst (λ M. Holds (λ key f. is_among (holders L (take (suc (suc n) - 1) records) key) f ≡ true) M)
       (sym (next_ledger (suc n) one to)) holds
 
-  -- also at the place behind the last record
+  -- also at the place after the last record
   pub held_through : (i : ℕ) → 1 ≤ i → i ≤ suc (length records) → IsHeld lot plan L records i
   held_through i one to =
       let e : suc (i - 1) ≡ i = omega arith in

@@ -1,4 +1,4 @@
--- The ascending list of some items is told by which items are among them.
+-- The ascending list of some items is determined by which items are among them.
 use Rattle.std.proofs.Common.{false, Bool, ◌≡◌, true, cond, ◌||◌, List, [], ◌∷◌, Some, None, refl, ap, sym, ◌∙◌, inl, inr}
 use Rattle.std.specs.Cmp.{IsTotalOrder}
 use Rattle.std.specs.List.{AllByRecursion, dedup, list_any}

@@ -366,7 +366,7 @@ module _ (fs : List FootprintParts) (rows : List (List ℕ)) (waiting order : Li
         let once : times q passed ≤ 1 = r.once q in omega arith);
   }
 
-  -- one place more is handed out
+  -- one place more is issued
   pub hands : handed < length order → IsRunning fs rows waiting order (handed + 1) passed room room_passed
   hands lt = record {
     left = r.left;
@@ -470,7 +470,7 @@ module _ (fs : List FootprintParts) (rows : List (List ℕ)) (waiting order : Li
           has_room_passed = rw same_passed r.has_room_passed;
         }
 
--- before any place is handed out
+-- before any place is issued
 pub runs_from : (fs : List FootprintParts) (n : ℕ) (links : List Link) (rows : List (List ℕ)) (waiting order passed : List ℕ)
     (room room_passed : ℕ) → n ≡ length fs → AreLinks fs links → AreRows n links rows → AreCounted n rows waiting
     → AreFree (length waiting) waiting order → passed ≡ [] → length waiting ≤ room → n ≤ room_passed
@@ -502,7 +502,7 @@ runs_from fs n links rows waiting order passed room room_passed many are rows_ar
 pub written_back : {X : Type 0} (new old : List X) (len : ℕ) → length new ≡ len → take len (new ++ drop (length new) old) ≡ new
 written_back new old len e = ap (λ n. take n (new ++ drop (length new) old)) (sym e) ∙ take_at new (drop (length new) old) (length new) refl
 
--- where there is a next place, not all were handed out
+-- where there is a next place, not all were issued
 pub some_next : (order : List ℕ) (handed : ℕ) → IsSome (next_in order handed) → handed < length order
 some_next order handed some = elim (cases_Bool (nat_lt handed (length order))) [
   | inl t ↦ ltb-true handed (length order) t

@@ -1,4 +1,4 @@
--- Records with books of their own, on the ledger of these alone, keep to the fold, place by place.
+-- Records with books of their own, on the ledger of these only, keep to the fold, place by place.
 use Rattle.std.proofs.Common.{◌≡◌, ℕ, zero, suc, ◌≤◌, Bool, true, false, List, [], ◌∷◌, ◌++◌, length, map, Option, Some, None, refl, ap, sym, ◌∙◌, arith, inl, inr}
 use mathlib.Core.Path.{fun_ext}
 use Rattle.std.proofs.lemmas.Bool.{and_from, and_parts, both_ways, cases_Bool, false_from_ne_true}
@@ -71,7 +71,7 @@ module _ (lot : LotParts) (plan : Plan) (records : List Transmission) where
 -- ---- the law
 
 module _ (lot : LotParts) (plan : Plan) (L : Ledger) (records : List Transmission) (order : IsInOrder L) where
-  -- a record changes no book beside its footprint's
+  -- a record changes no book besides its footprint's
   step_outside : (i : ℕ) → 1 ≤ i → i ≤ length records → (b : Book) → names (footprint_at L records i) b ≡ false
       → book b (ledger_before lot plan L records (suc i)) ≡ book b (ledger_before lot plan L records i)
   step_outside i one to b other =
@@ -97,7 +97,7 @@ module _ (lot : LotParts) (plan : Plan) (L : Ledger) (records : List Transmissio
         fits_wider (footprint_at L records i) F (apart.inside i one to is_mine) (record_at records i)
         (ledger_before lot plan L records i) (fits_at lot plan L records i one to)
 
-    -- it does to their books alone what it does to all
+    -- it does to their books only what it does to all
     pub own_step : (i : ℕ) → 1 ≤ i → i ≤ length records → mine i ≡ true
         → ledger_after lot plan i (record_at records i) (sub F (cut F (ledger_before lot plan L records i)))
         ≡ sub F (cut F (ledger_before lot plan L records (suc i)))

@@ -103,7 +103,7 @@ together fs =
     get_or-map-range_with_len made 1 (length fs) i (1 + i) d short refl
     ∙ rw (at_place (λ F. F.keys) 1 fs i short, at_place (λ F. F.families) 1 fs i short) (get_or_default fs i nothing d short))
 
--- ---- a name is used at a place where it is one of the names there
+-- ---- a name is used at a place if it is one of the names there
 
 module _ {K : Type 0} (cmp : K → K → Ordering) (order : IsTotalOrder cmp) (exact : CmpEqualImpliesEq cmp) where
   same_place : (k : K) (p : ℕ) (u : K × ℕ) → u.1 ≡ p → eq_by_cmp (use_cmp cmp) (k, p) u ≡ eq_by_cmp cmp k u.0
@@ -135,7 +135,7 @@ module _ {K : Type 0} (cmp : K → K → Ordering) (order : IsTotalOrder cmp) (e
   pub named_used : (uses : List (K × ℕ)) (k : K) (p : ℕ) → is_named cmp (names_at uses p) k ≡ is_used cmp uses k p
   named_used uses k p = named_in cmp order exact (names_at uses p) k ∙ any_at uses k p
 
--- the names of records are used at their places alone
+-- the names of records are used at their places only
 pub spread_within : {K : Type 0} (names : FootprintParts → List K) (fs : List FootprintParts) → AreWithin (length fs) (spread names 1 fs)
 spread_within names fs = record {
   places = λ p some. elim (cases_lt p 1) [

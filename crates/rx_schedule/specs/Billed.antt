@@ -9,7 +9,7 @@ use Rattle.rx_fields.specs.declared.key.Key.{Key}
 use Rattle.rx_d0_values.specs.declared.transmission.Transmission.{Transmission}
 use Rattle.rx_schedule.specs.Footprints.{billers}
 
--- the families of an entry, where there is one
+-- the families of an entry, if there is one
 abbrev pub families_kept : Option (BTreeSet (List ℕ)) → List (List ℕ)
 families_kept None = []
 families_kept (Some families) = families.keys

@@ -69,7 +69,7 @@ abbrev pub footprint_of : Ledger → List Transmission → Body → FootprintPar
 footprint_of L earlier body =
     record { keys = in_order key_cmp (keys_in body); families = in_order id_cmp (families_in L earlier body) }
 
--- a rejected header without codes, which is read where there is no record
+-- a rejected header without codes, which is read if there is no record
 abbrev pub no_record : Transmission
 no_record =
     record {

@@ -25,7 +25,7 @@ module _ (lot : LotParts) (plan : Plan) (L : Ledger) (records : List Transmissio
   abbrev pub reply_at : ℕ → Reply
   reply_at place = reply_to lot plan place (record_at records place) (ledger_before place)
 
-  -- each record on the ledger of its footprint's books alone
+  -- each record on the ledger of its footprint's books only
   abbrev pub job : Job
   job =
       record {

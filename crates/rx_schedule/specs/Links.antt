@@ -29,7 +29,7 @@ module _ {K : Type 0} (cmp : K → K → Ordering) where
   abbrev pub is_used : List (K × ℕ) → K → ℕ → Bool
   is_used uses k p = list_any (eq_by_cmp use_cmp (k, p)) uses
 
-  -- from each use to the one behind it, where they are of one name
+  -- from each use to the one after it, where they are of one name
   abbrev pub links_in : List (K × ℕ) → List Link
   links_in [] = []
   links_in (x ∷ []) = []

@@ -97,8 +97,8 @@ replay job (Give i ∷ past) = give job i (replay job past)
 
 -- ---- one record after another in file order
 
--- `at i` is the books before the record at place i, and `reply i` its reply there: what the record makes of its own books
--- alone is what it makes of all, and it changes no other book
+-- `at i` is the books before the record at place i, and `reply i` its reply there: what the record makes of its own books only is
+-- what it makes of all, and it changes no other book
 pub record IsFoldOf (job : Job) (at : ℕ → Store job) (reply : ℕ → job.Reply) : Type 0 where
   pub begins : (b : job.Book) → at 1 b ≡ job.opening b
   pub replies : (i : ℕ) → IsPlace job i → (job.work i (cut job i (at i))).0 ≡ reply i
@@ -108,7 +108,7 @@ pub record IsFoldOf (job : Job) (at : ℕ → Store job) (reply : ℕ → job.Re
 
 -- ---- other orders, the last record first
 
--- R of each and each behind it
+-- R of each and each after it
 abbrev pub Pairs : (ℕ → ℕ → Type 0) → List ℕ → Type 0
 Pairs R [] = Unit {0}
 Pairs R (i ∷ rest) = ((j : ℕ) → Was j rest → R i j) × Pairs R rest
@@ -148,7 +148,7 @@ abbrev pub WasIn : ℕ → List (List ℕ) → Type 0
 WasIn i [] = ⊥
 WasIn i (wave ∷ before) = Was i wave ⊎ WasIn i before
 
--- each record once, and behind the waves of the earlier records that it shares with
+-- each record once, and after the waves of the earlier records that it shares with
 abbrev pub AreWaves : Job → List (List ℕ) → Type 0
 AreWaves job [] = Unit {0}
 AreWaves job (wave ∷ before) =

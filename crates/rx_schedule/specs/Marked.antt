@@ -31,14 +31,14 @@ best_of cmp marks names mark = fold (λ a k. better_of a (get cmp marks k)) mark
 abbrev pub is_named : {K : Type 0} → (K → K → Ordering) → List K → K → Bool
 is_named cmp names k = contains_key cmp itself names k
 
--- of the records up to place i, what is told of the last that names k, if there is one
+-- of the records up to place i, what is said of the last that names k, if there is one
 abbrev pub IsLastOf : (ℕ → Bool) → (ℕ → ℕ) → ℕ → Option Mark → Type 0
 IsLastOf named number i None = (p : ℕ) → 1 ≤ p → p ≤ i → named p ≡ false
 IsLastOf named number i (Some m) =
     (1 ≤ m.place) × (m.place ≤ i) × (named m.place ≡ true) × (m.wave ≡ number m.place)
     × ((p : ℕ) → m.place < p → p ≤ i → named p ≡ false)
 
--- the map tells of each name its last record up to place i
+-- the map has for each name its last record up to place i
 abbrev pub HasLast : {K : Type 0} → (K → K → Ordering) → (ℕ → List K) → (ℕ → ℕ) → ℕ → BTreeMap K Mark → Type 0
 HasLast {K} cmp lists number i marks = (k : K) → IsLastOf (λ p. is_named cmp (lists p) k) number i (get cmp marks k)
 

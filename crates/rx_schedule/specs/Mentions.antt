@@ -24,7 +24,7 @@ use Rattle.rx_schedule.specs.declared.mentions.Reversed.{Reversed}
 abbrev pub with_number : ℕ → ℕ → ℕ
 with_number name number = ((name * 11400714819323198485) % 2 ^ 64 + number) % 2 ^ 64
 
--- the name with these bytes too: so many words of eight bytes, and the bytes after them
+-- the name with these bytes too: this many words of eight bytes, and the bytes after them
 abbrev pub with_words : ℕ → ℕ → List ℕ → ℕ
 with_words zero name bytes = fold with_number name bytes
 with_words (suc n) name bytes = with_words n (with_number name (from_be_bytes w64 (take 8 bytes))) (drop 8 bytes)

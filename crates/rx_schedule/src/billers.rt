@@ -28,7 +28,7 @@ impl Billers {
         }
     }
 
-    /// Puts the families that billed the fill key behind the others, each once.
+    /// Puts the families that billed the fill key after the others, each once.
     pub(crate) fn put_families(&self, key: &Key, list: &mut Vec<Id>) -> Result<(), Memory>
         ensures { OnOk result (list.new.items ≡ list.old.items ++ billed_families self.now.families key.now) }
     {

@@ -77,7 +77,7 @@ struct Loads {
 }
 
 impl Loads {
-    // So many shards without transactions.
+    // This many shards without transactions.
     fn of(alloc: Global, shards: usize) -> Result<Loads, Memory> {
         let loads = vec![in alloc; 0u64; shards]?;
         Ok(Loads {
@@ -87,7 +87,7 @@ impl Loads {
         })
     }
 
-    // Puts so many transactions to the lightest shard, and says which it is.
+    // Puts this many transactions to the lightest shard, and says which it is.
     fn put(&mut self, transactions: u64) -> usize {
         let shard = self.lightest();
         if let Some(load) = self.loads.get_mut(shard) {
@@ -117,8 +117,8 @@ impl Loads {
     }
 }
 
-// The first record of each record's set, where those of so many records that mention one book are together. The mentions
-// are in the order of their names.
+// The first record of each record's set, where those of this many records that mention one book are together. The
+// mentions are in the order of their names.
 fn firsts_of(alloc: Global, mentions: &[Mention], count: usize) -> Result<Vec<u32>, Memory> {
     let mut sets = Sets::singles(alloc, count)?;
     for at in 1..mentions.len() {
@@ -142,7 +142,7 @@ struct Sets {
 }
 
 impl Sets {
-    // A set for each of so many records.
+    // A set for each of this many records.
     fn singles(alloc: Global, count: usize) -> Result<Sets, Memory> {
         let mut earlier = Vec::with_capacity(alloc, count)?;
         for at in 0..count {

@@ -13,7 +13,7 @@ pub(crate) struct Followers {
     pub waiting: Vec<usize>,
 }
 
-/// The followers of so many records.
+/// The followers of this many records.
 pub(crate) fn followers_of(alloc: Global, count: usize, links: &[Link]) -> Result<Followers, Memory>
     requires { (p : ℕ) → (q : ℕ) → 1 ≤ linked p q links.now → (1 ≤ p) × (p ≤ count) × (1 ≤ q) × (q ≤ count) }
     ensures rows { IfOk result (λ f. AreRows count links.now (map (λ v. v.items) f.rows.items)) }
@@ -52,7 +52,7 @@ pub(crate) fn free_places(alloc: Global, waiting: &[usize]) -> Result<Vec<usize>
     Ok(order)
 }
 
-/// Takes the links from a place away: those places that wait for no link any more come behind the others.
+/// Takes the links from a place away: those places that no longer wait for a link come after the others.
 pub(crate) fn release(
     rows: &mut [Vec<usize>],
     place: usize,

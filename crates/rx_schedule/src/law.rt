@@ -14,7 +14,7 @@ ghost use Rattle.rx_schedule.specs.Shards.{AreApart, AreJoined, IsGrouping, IsUn
 ghost use Rattle.rx_schedule.specs.Shards.{books_of_shard, is_of, ledger_of, places_of, replies_of};
 ghost use Rattle.rx_schedule.specs.Waves.{AreWaves, number_in};
 
-/// At each point of the fold, before a record and behind the last, the row under a fill key, if there is one, is of the
+/// At each point of the fold, before a record and after the last, the row under a fill key, if there is one, is of the
 /// opening row's family or of the family of an earlier billing with that key; so the footprint of a record fits it there.
 pub fn law_of_holder()
     ensures row { (lot : LotParts) → (plan : Plan) → (L : Ledger) → (records : List Transmission) → (place : ℕ)
@@ -59,10 +59,10 @@ pub fn law_of_waves()
         → (replay (job lot plan L records) (one_by_one order)).replies place ≡ Some (reply_at lot plan L records place) }
 {}
 
-/// Records that have books of their own, adjudicated in file order on the ledger of these books alone, find there at each
-/// place what the fold has of these books, and nothing beside them; they get the fold's replies, and leave the fold's
-/// books. So they do on the whole opening ledger (`unparted_..`), where every other book stays. The records of a shard have
-/// such books; and the rows that the shards leave under the keys which their records name, put together with the opening's
+/// Records that have books of their own, adjudicated in file order on the ledger of these books only, find there at each
+/// place what the fold has of these books, and nothing else; they get the fold's replies, and leave the fold's books. So
+/// they do on the whole opening ledger (`unparted_..`), where every other book stays. The records of a shard have such
+/// books; and the rows that the shards leave under the keys which their records name, put together with the opening's
 /// others, are the fold's. A book that no record names is as in the opening.
 pub fn law_of_shards()
     ensures ledger { (lot : LotParts) → (plan : Plan) → (L : Ledger) → (records : List Transmission) → IsInOrder L

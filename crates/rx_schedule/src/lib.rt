@@ -1,8 +1,8 @@
 //! Which records of a batch share books, and so have to keep the file's order.
 //!
 //! In come the opening books and a batch's transmissions; out come the footprint of each record, the books that it names;
-//! the waves, in which records that share no book go together; queues, which hand out a record once every earlier one that
-//! it shares a book with was passed; and shards, sets of records of which no two share a book, so that each may be
+//! the waves, in which records that share no book go together; queues, which issue a record once every earlier one that it
+//! shares a book with was passed; and shards, sets of records of which no two share a book, so that each may be
 //! adjudicated apart.
 //!
 //! ```rust

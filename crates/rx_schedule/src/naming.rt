@@ -61,7 +61,7 @@ fn made_of(keys: Vec<Key>, families: Vec<Id>) -> Footprint
     }
 }
 
-// Puts the fill keys and the families of a record behind the others.
+// Puts the fill keys and the families of a record after the others.
 fn name_books(
     books: &Books,
     billers: &Billers,
@@ -80,7 +80,7 @@ fn name_books(
     }
 }
 
-// Puts those of all transactions behind the others.
+// Puts those of all transactions after the others.
 fn name_all(
     books: &Books,
     billers: &Billers,
@@ -99,7 +99,7 @@ fn name_all(
     Ok(())
 }
 
-// Puts the fill key and the families of one transaction behind the others.
+// Puts the fill key and the families of one transaction after the others.
 fn name_one(
     books: &Books,
     billers: &Billers,
@@ -129,7 +129,7 @@ fn name_one(
     Ok(())
 }
 
-// Puts the families behind the others whose the row under a fill key may be.
+// Puts the families after the others whose the row under a fill key may be.
 fn name_holders(
     books: &Books,
     billers: &Billers,

@@ -18,7 +18,7 @@ pub struct Queues {
     followers: Vec<Vec<usize>>,
     // for how many links each record waits
     waiting: Vec<usize>,
-    // the places that wait for none, as they came; the first `handed` of them were handed out
+    // the places that wait for none, as they came; the first `handed` of them were issued
     order: Vec<usize>,
     handed: usize,
     passed: Vec<usize>,
@@ -42,7 +42,7 @@ impl Model for Queues {
 }
 
 impl Queues {
-    /// The queues of the records that have these footprints, in file order; none is handed out.
+    /// The queues of the records that have these footprints, in file order; none is issued.
     pub fn of(alloc: Global, footprints: &[Footprint]) -> Result<Queues, Memory>
         ensures footprints { IfOk result (λ queues. queues.footprints ≡ footprints.now) }
         ensures handed { IfOk result (λ queues. queues.handed ≡ []) }
@@ -64,7 +64,7 @@ impl Queues {
         })
     }
 
-    /// The place of a record that is ready and wasn't handed out; None only where there is none.
+    /// The place of a record that is ready and wasn't issued; None only if there is none.
     pub fn ready(&self) -> Option<usize>
         ensures value { result ≡ self.now.next }
         ensures next { IsNext self.now result }
@@ -77,7 +77,7 @@ impl Queues {
         }
     }
 
-    /// Notes the ready place as handed out. It takes no memory.
+    /// Notes the ready place as issued. It takes no memory.
     pub fn hand(&mut self)
         requires { IsSome self.old.next }
         ensures handed { IfSome self.old.next (λ place. self.new.handed ≡ place ∷ self.old.handed) }
@@ -87,7 +87,7 @@ impl Queues {
         self.handed += 1;
     }
 
-    /// Notes a place as passed that was handed out and wasn't passed. It takes no memory.
+    /// Notes a place as passed that was issued and wasn't passed. It takes no memory.
     pub fn pass(&mut self, place: usize)
         requires handed { Was place self.old.handed }
         requires unpassed { Was place self.old.passed → ⊥ }

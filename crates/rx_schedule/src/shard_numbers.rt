@@ -41,7 +41,7 @@ impl Shards {
     }
 }
 
-// So many lists, each with room for an even share of the places.
+// This many lists, each with room for an even share of the places.
 fn empty_lists(alloc: Global, count: usize, places: usize) -> Result<Vec<Vec<usize>>, Memory>
     ensures { IfOk result (λ lists. map (λ list. list.items) lists.items ≡ replicate count []) }
 {
@@ -65,7 +65,7 @@ fn put_places(lists: &mut [Vec<usize>], numbers: &[usize]) -> Result<(), Memory>
     Ok(())
 }
 
-// Puts a place after those in the list of its number, where there is one.
+// Puts a place after those in the list of its number, if there is one.
 fn put_place(lists: &mut [Vec<usize>], number: usize, place: usize) -> Result<(), Memory>
     ensures { OnOk result ((k : ℕ) → k < length lists.old → list_at (map (λ list. list.items) lists.new) k
         ≡ list_at (map (λ list. list.items) lists.old) k ++ (if number == k then place ∷ [] else [])) }

@@ -73,7 +73,7 @@ fn sum_of(loads: &[u64]) -> u64 {
     sum
 }
 
-// The numbers, where there is one for each of `count` records, below `most`, and mentions of one name are of records with
+// The numbers, if there is one for each of `count` records, below `most`, and mentions of one name are of records with
 // one number; else 0 for each record.
 fn compared(
     alloc: Global,
@@ -100,7 +100,7 @@ fn are_below(numbers: &[usize], limit: usize) -> bool
     numbers.iter().all(|number| *number < limit)
 }
 
-// One more than the highest of the numbers, which are below `most`; 0 where there are none.
+// One more than the highest of the numbers, which are below `most`; 0 if there are none.
 fn count_of(numbers: &[usize], most: usize) -> usize
     requires { All (λ number. number < most) numbers.now }
     ensures within { All (λ number. number < result) numbers.now }

@@ -61,7 +61,7 @@ impl Uses {
     }
 }
 
-// Puts the uses of a record's names behind the others.
+// Puts the uses of a record's names after the others.
 fn put_uses<K: Copy>(uses: &mut Vec<(K, usize)>, names: &[K], place: usize) -> Result<(), Memory>
     ensures { OnOk result (uses.new.items ≡ uses.old.items ++ map (λ k. (k, place)) names.now) }
 {
@@ -71,7 +71,7 @@ fn put_uses<K: Copy>(uses: &mut Vec<(K, usize)>, names: &[K], place: usize) -> R
     Ok(())
 }
 
-// Puts the links of some books behind the others; it leaves the uses in order.
+// Puts the links of some books after the others; it leaves the uses in order.
 fn put_links<K: Ord + Copy + Drop>(
     uses: &mut Vec<(K, usize)>,
     links: &mut Vec<Link>,

@@ -61,7 +61,7 @@ fn scanned(alloc: Global, footprints: &[Footprint]) -> Result<Scan, Memory>
 }
 
 impl Scan {
-    // Before the first record, with room for so many.
+    // Before the first record, with room for this many.
     fn new(alloc: Global, count: usize) -> Result<Scan, Memory>
         ensures { (footprints : List FootprintParts) → IfOk result (λ s. IsScan footprints 0 s.keys.last s.families.last
             s.numbers.items s.before.items s.top) }
@@ -77,7 +77,7 @@ impl Scan {
         })
     }
 
-    // Scans the record after so many.
+    // Scans the record after this many.
     fn pass(&mut self, footprints: &[Footprint], at: usize) -> Result<(), Memory>
         requires some { at < length footprints.now }
         requires before { IsScan footprints.now at self.old.keys.last self.old.families.last self.old.numbers.items

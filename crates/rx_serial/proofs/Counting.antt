@@ -91,7 +91,7 @@ count_at-lowered fills j k =
       ]
     ]
 
--- an entry behind all others, and one for a fill that has none
+-- an entry after all others, and one for a fill that has none
 none_past : (fills : List Fill) (k : FillKey) → is_past fill_cmp fill_key fills k ≡ true → item_at fill_cmp fill_key fills k ≡ None
 none_past [] k past = refl
 none_past (x ∷ xs) k past =
@@ -102,7 +102,7 @@ none_past (x ∷ xs) k past =
 pub count_past : (fills : List Fill) (k : FillKey) → is_past fill_cmp fill_key fills k ≡ true → count_at fills k ≡ 0
 count_past fills k past = ap counted_in (none_past fills k past)
 
--- an entry behind all others is what is tallied
+-- an entry after all others is what is tallied
 pub tallied_past : (fills : List Fill) (f : Fill) → is_past fill_cmp fill_key fills f.key ≡ true
     → fills ++ f ∷ [] ≡ tallied fills f
 tallied_past fills f past =

@@ -132,7 +132,7 @@ module _ (c : Course) (xs : List Fill) (rise : IsAscending fill_cmp fill_key xs)
         ap (λ k. is_not_past c (get_or xs k d)) at ∙ not_past
   ]
 
-  -- a fill that isn't past the course has none past it before, and one that is has only such behind
+  -- a fill that isn't past the course has none past it before, and one that is has only such after
   pub none_past_before : (i : ℕ) → i < length xs → AllWithin (λ f. is_not_past c f ≡ true) xs i (i + 1)
       → AllWithin (λ f. is_not_past c f ≡ true) xs 0 (i + 1)
   none_past_before i within own = λ j d low high.

@@ -91,7 +91,7 @@ lowered fills k =
 
 -- ---- marks
 
--- the place of a course's mark among so many
+-- the place of a course's mark among this many
 abbrev pub mark_of : ℕ → Course → ℕ
 mark_of marks c = ((c.holder * 11400714819323198485) % 2 ^ 64 + c.product) % 2 ^ 64 % marks
 
@@ -133,7 +133,7 @@ refill_of figures date b holder =
 abbrev pub is_own : Refill → FillKey → Bool
 is_own f k = (k.course.holder == f.course.holder) && (k.course.product == f.course.product)
 
--- fewer than the percentage of so many days from a day on are over
+-- fewer than the percentage of this many days from a day on are over
 abbrev pub are_left : Refill → ℤ → ℕ → Bool
 are_left f number days = int_lt ((f.number -ℤ number) *ℤ pos 100) (pos (days * f.percent))
 

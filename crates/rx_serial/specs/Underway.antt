@@ -39,7 +39,7 @@ scope_of u =
 abbrev pub IsAwaited : Underway → Transmission → Type 0
 IsAwaited u t = (L : Ledger) → HoldsRecord (scope_of u) L t.body
 
--- a member is at the place, where there is one
+-- a member is at the place, if there is one
 abbrev pub IsHolder : List Member → Option ℕ → Type 0
 IsHolder members holder = IfSome holder (λ i. i < length members)
 

@@ -8,7 +8,7 @@ use rx_d0_values::{Body, Heard, Transaction, Transmission};
 use rx_fields::{Days, Id, Memory, Person};
 use std::alloc::Global;
 
-/// Where the members of some records' transactions are listed, in order, with None where there is none; where those of
+/// Where the members of some records' transactions are listed, in order, with None if there is none; where those of
 /// each record begin; and an entry that counts nothing for each fill that the records bill.
 #[derive(Debug, Drop)]
 pub(crate) struct Billed {
@@ -33,7 +33,7 @@ pub(crate) fn billed_by(
     Ok(found)
 }
 
-// Nothing yet, with room for so many records.
+// Nothing yet, with room for this many records.
 fn none_billed(alloc: Global, count: usize) -> Result<Billed, Memory>
     ensures holders { IfOk result (λ found. found.holders.items ≡ []) }
     ensures own { IfOk result (λ found. found.own.items ≡ []) }
@@ -48,7 +48,7 @@ fn none_billed(alloc: Global, count: usize) -> Result<Billed, Memory>
     })
 }
 
-// Puts what a record bills behind the others.
+// Puts what a record bills after the others.
 fn put_record(
     found: &mut Billed,
     books: &OpenBooks,
@@ -66,7 +66,7 @@ fn put_record(
     }
 }
 
-// Puts the members and fills of a record behind the others.
+// Puts the members and fills of a record after the others.
 fn put_holders(found: &mut Billed, books: &OpenBooks, heard: &Heard) -> Result<(), Memory>
     requires holders { All (IsHolder books.now.books.ledger.members) found.old.holders.items }
     requires own { All (λ e. e.fill.count ≡ 0) found.old.own.items }
@@ -131,7 +131,7 @@ fn own_fill(heard: &Heard, transaction: &Transaction, holder: Option<usize>) -> 
     }
 }
 
-// Puts the entry of a transaction behind the others, where there is one.
+// Puts the entry of a transaction after the others, if there is one.
 fn put_own(own: &mut Vec<Entry>, fill: Option<Fill>, transaction: usize) -> Result<(), Memory>
     requires own { All (λ e. e.fill.count ≡ 0) own.old.items }
     requires fill { IfSome fill (λ f. f.count ≡ 0) }
@@ -154,7 +154,7 @@ pub(crate) fn longer(first: Days, second: Days) -> Days
     if first < second { second } else { first }
 }
 
-/// The longest days supply of these fills; one day where there are none.
+/// The longest days supply of these fills; one day if there are none.
 pub(crate) fn longest_of(fills: &[Fill]) -> Days
     ensures { All (λ f. f.key.when.days ≤ result) fills.now }
 {

@@ -31,7 +31,7 @@ pub(crate) struct Tally {
     pub(crate) longest: Days,
 }
 
-/// The counts for so many transactions, with marks for the members and courses of these entries.
+/// The counts for this many transactions, with marks for the members and courses of these entries.
 pub(crate) fn tally_of(
     alloc: Global,
     books: &OpenBooks,
@@ -56,8 +56,9 @@ pub(crate) fn tally_of(
     })
 }
 
-// The counts for so many transactions, of the fills of courses that have a mark, as far as days of them are left on the
-// first day. There is an entry for each of the records' own fills, so that counting these asks for no memory later on.
+// The counts for this many transactions, of the fills of courses that have a mark, as far as days of them are left on
+// the first day. There is an entry for each of the records' own fills, so that counting these asks for no memory later
+// on.
 fn counted(
     alloc: Global,
     books: &OpenBooks,
@@ -83,7 +84,7 @@ fn packed(key: &FillKey) -> u128 {
     (course << 42) | (day << 10) | u128::from(key.when.days.get())
 }
 
-// The first day of these entries' fills; the last day of all where there is none.
+// The first day of these entries' fills; the last day of all if there is none.
 fn first_day_of(entries: &[Entry]) -> FirstDay {
     let mut number = i32::MAX;
     for entry in entries {

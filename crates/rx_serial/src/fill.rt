@@ -136,7 +136,7 @@ fn tally_at(fills: &mut Ascending<Fill>, place: usize, fill: Fill) -> Result<(),
     ensures err { OnErr result (fills.new ≡ fills.old) }
 {
     let counted = fills.as_slice()[place].count;
-    // No memory holds as many rows as a count can tell.
+    // No memory holds as many rows as a count can hold.
     let Some(count) = counted.checked_add(fill.count) else {
         return Err(Memory);
     };

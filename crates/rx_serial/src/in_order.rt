@@ -177,7 +177,7 @@ impl InOrder {
         }
     }
 
-    /// The standing claims of a family so far, ascending by fill key. All rows are gone over.
+    /// The standing claims of a family so far, ascending by fill key. All rows are visited.
     pub fn rows_of(&self, alloc: Global, family: &Id) -> Result<Vec<Row>, Memory>
         ensures { IfOk result (λ rows. rows.items ≡ rows_of self.now.books.ledger family.now) }
     {
@@ -320,7 +320,7 @@ fn found_in(
     })
 }
 
-// Whether some row that stands makes a billing too soon. All rows are gone over: none of the records asks for it.
+// Whether some row that stands makes a billing too soon. All rows are visited: none of the records asks for it.
 fn is_any_row_too_soon(books: &OpenBooks, figures: &Figures, date: Day, bill: &Bill) -> bool
     requires { figures.now.refill_percent ≤ 100 }
     ensures { result ≡ list_any (is_too_soon figures.now date bill.now) (rows_of books.now.books.ledger bill.now.family) }

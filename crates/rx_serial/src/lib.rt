@@ -1,5 +1,5 @@
 //! One record after another, in file order, on the books themselves: what `rx_ledger`'s fold gives, by look-ups and
-//! stored totals in place of lists that are gone over (docs/GUARANTEES.md, "Record and fold").
+//! stored totals in place of lists that are walked (docs/GUARANTEES.md, "Record and fold").
 //!
 //! In come books and the transmissions of a batch, or some of them (`InOrder::of_records`); out come a reply to each
 //! record, as it is adjudicated, and the books after all of them.

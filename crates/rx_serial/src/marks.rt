@@ -8,14 +8,14 @@ use std::alloc::Global;
 // How many marks of courses there are for each fill.
 const MARKS: usize = 16;
 
-/// Marks for what is billed: of whom, by the place among the members; and which courses. Few other courses have a mark.
+/// Marks for what is billed: which members, by their places; and which courses. Few other courses have a mark.
 #[derive(Debug, Drop)]
 pub(crate) struct Marks {
     pub(crate) members: Vec<bool>,
     pub(crate) courses: Vec<bool>,
 }
 
-/// Marks for these entries' fills, of so many members.
+/// Marks for these entries' fills, of this many members.
 pub(crate) fn marks_of(alloc: Global, members: usize, entries: &[Entry]) -> Result<Marks, Memory> {
     let mut members = vec![in alloc; false; members]?;
     let mut courses = vec![in alloc; false; entries.len().saturating_mul(MARKS)]?;
@@ -63,7 +63,7 @@ fn has_course_mark(marks: &[bool], course: &Course) -> bool
     marks[mark_of(marks.len(), course)]
 }
 
-// The place of a course's mark among so many.
+// The place of a course's mark among this many.
 fn mark_of(count: usize, course: &Course) -> usize
     requires { 0 < count }
     ensures value { result ≡ mark_of count course.now }

@@ -50,8 +50,8 @@ fn keys_named(alloc: Global, records: &[&Transmission]) -> Result<Vec<Named>, Me
     Ok(named)
 }
 
-// Puts the fill keys of a record behind the others. So many transactions come before its own, and the result is how many
-// there are with those.
+// Puts the fill keys of a record after the others. This many transactions come before its own, and the result is how
+// many there are with those.
 fn put_keys(named: &mut Vec<Named>, heard: &Heard, before: usize) -> Result<usize, Memory>
     ensures { OnOk result (map named_key named.new.items
         ≡ map named_key named.old.items ++ flat_map (keys_of heard.now) heard.now.list) }
@@ -65,7 +65,7 @@ fn put_keys(named: &mut Vec<Named>, heard: &Heard, before: usize) -> Result<usiz
     Ok(at)
 }
 
-// Puts the fill key of a transaction behind the others.
+// Puts the fill key of a transaction after the others.
 fn put_key(
     named: &mut Vec<Named>,
     heard: &Heard,
@@ -124,8 +124,8 @@ fn only_keys(alloc: Global, named: &[Named]) -> Result<Vec<Key>, Memory>
     Ok(keys)
 }
 
-/// Where the fill key of each of so many transactions probably is among the keys. Both lists are mostly in one order. It
-/// promises nothing: the key that is found there is compared.
+/// Where the fill key of each of this many transactions probably is among the keys. Both lists are mostly in one order.
+/// It promises nothing: the key that is found there is compared.
 pub(crate) fn slots_of(
     alloc: Global,
     named: &[Named],

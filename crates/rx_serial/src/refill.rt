@@ -36,7 +36,7 @@ impl Refill {
     }
 
     /// Whether some fill that stands makes it too soon. It looks back from the last fill of the course, which comes soon
-    /// behind one of these places or else is searched for, and no further than the longest days supply that there is
+    /// after one of these places or else is searched for, and no further than the longest days supply that there is
     /// could last.
     pub(crate) fn is_too_soon(&self, fills: &Ascending<Fill>, near: &[usize], longest: Days) -> bool
         requires percent { self.now.percent ≤ 100 }
@@ -151,7 +151,7 @@ impl Refill {
     }
 }
 
-/// Whether fewer than the percentage of so many days from one day on are over at another.
+/// Whether fewer than the percentage of this many days from one day on are over at another.
 pub(crate) fn are_left(at: i32, from: i32, days: Days, percent: u64) -> bool
     requires { percent ≤ 100 }
     ensures { result ≡ int_lt ((at -ℤ from) *ℤ pos 100) (pos (days * percent)) }

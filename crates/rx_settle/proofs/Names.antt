@@ -26,7 +26,7 @@ trimmed_filled : (bs : List ℕ) (n : ℕ) → trimmed (bs ++ replicate n 32) �
 trimmed_filled [] n = trimmed_blanks n
 trimmed_filled (b ∷ bs) n = rw (trimmed_filled bs n) refl
 
--- `filled_again` of b and bs, by whether b and all behind it are blanks
+-- `filled_again` of b and bs, by whether b and all after it are blanks
 filled_by : (blank : Bool) (b : ℕ) (bs t : List ℕ) → (eqb b 32 && eqb (length t) 0) ≡ blank
     → t ++ replicate (length bs - length t) 32 ≡ bs
     → cond blank [] (b ∷ t) ++ replicate (suc (length bs) - length (cond blank [] (b ∷ t))) 32 ≡ b ∷ bs

@@ -7,7 +7,7 @@ use rx_d0_values::Reply;
 use rx_fields::Provider;
 use std::alloc::AllocError;
 
-/// A provider as a reply's field has it, filled with blanks to 15 bytes; blanks alone stand for all that are no id.
+/// A provider as a reply's field has it, filled with blanks to 15 bytes; all blanks stand for all that are no id.
 pub type Field = [u8; 15];
 
 /// The provider of a reply.
@@ -28,7 +28,7 @@ pub fn known_or_blank(field: Field) -> Field
     }
 }
 
-/// Writes the provider without trailing blanks; nothing for blanks alone.
+/// Writes the provider without trailing blanks; nothing for all blanks.
 pub(crate) fn put_provider(text: &mut Vec<u8>, field: &Field) -> Result<(), AllocError>
     ensures { OnOk result (text.new.items ≡ text.old.items ++ named field.now) }
 {

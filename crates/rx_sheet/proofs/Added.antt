@@ -1,4 +1,4 @@
--- Drugs that are added in ascending order go in one after another, each behind those before it.
+-- Drugs that are added in ascending order go in one after another, each after those before it.
 use Rattle.std.proofs.Common.{◌≡◌, ℕ, ◌+◌, ◌<◌, List, [], ◌∷◌, ◌++◌, take, drop, get_or, length}
 use Rattle.std.proofs.Common.{Option, Some, None, Ok, true, false, ◌&&◌, refl, sym, ap, ◌∙◌}
 use Rattle.std.proofs.lemmas.Bool.{and_parts}
@@ -75,7 +75,7 @@ module _ (drugs : List Listed) (i : ℕ) (x : Listed) (within : i < length drugs
   pub next_is_new : (figures : Figures) → lists (plan_of figures (take i drugs)) x.product ≡ false
   next_is_new figures = ap is_some (item_at-past (take i drugs) x.product past)
 
-  -- it goes behind the others
+  -- it goes after the others
   pub next_added : (figures : Figures)
       → with_drug (plan_of figures (take i drugs)) x.product x.drug ≡ plan_of figures (take (i + 1) drugs)
   next_added figures = ap (plan_of figures)

@@ -35,7 +35,7 @@ pub is_done : (front : List Listed) (tiers : Members) → with_front front (drug
 unfolding drugs_of
 is_done front tiers = ap (λ (es : List Listed). Ok es) (append-nil front)
 
--- a fact holds also where it has to hold only for want of no memory
+-- a fact holds also where it has to hold only where memory doesn't run out
 pub unless_memory : (f : SheetFault) (P : Type 0) → P → UnlessMemory f P
 unless_memory fault.NotToml P p = p
 unless_memory (fault.Missing key) P p = p

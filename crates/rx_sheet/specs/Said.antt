@@ -105,7 +105,7 @@ pub data FailsPeriod (table : Members) (f : SheetFault) : Type 0 where
   last_fails : (first : Civil) → Says key.PeriodFirst day table first → Fails key.PeriodLast (period_from first) table f
       → FailsPeriod table f
 
--- keys 1 to 9, each behind those that aren't at fault
+-- keys 1 to 9, each after those that aren't at fault
 pub data FailsFigures (table : Members) (f : SheetFault) : Type 0 where
   door_fails : FailsDoor table f → FailsFigures table f
   period_fails : (d : Door) → SaysDoor table d → FailsPeriod table f → FailsFigures table f

@@ -13,7 +13,7 @@ pub enum SheetFault {
     Missing(SheetKey),
     /// The key's value is of another kind, or outside its range.
     Wrong(SheetKey),
-    /// Memory was wanting. No key is to blame.
+    /// Out of memory. No key is to blame.
     Memory,
 }
 

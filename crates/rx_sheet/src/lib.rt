@@ -11,7 +11,7 @@
 //! }
 //! ```
 //!
-//! Keys that the sheet doesn't know are passed over. What the figures and drugs mean is left to `rx_ledger`.
+//! Keys that the sheet doesn't know are skipped. What the figures and drugs mean is left to `rx_ledger`.
 #![tactic(auto)]
 
 mod drugs;

@@ -18,7 +18,7 @@ abbrev pub exchanged_in : List ℕ → List ℕ
 exchanged_in (stx ∷ first ∷ second ∷ kind ∷ rest) = stx ∷ first ∷ second ∷ exchanged kind ∷ rest
 exchanged_in short = short
 
--- the text with the type of its header exchanged, behind the CR and LF before it
+-- the text with the type of its header exchanged, after the CR and LF before it
 abbrev pub as_batch : List ℕ → List ℕ
 as_batch bytes = take (gap bytes) bytes ++ exchanged_in (unskipped bytes)
 

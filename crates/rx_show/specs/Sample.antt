@@ -66,15 +66,15 @@ opening =
     (enrolled (codes "C100") (codes "03")))
     (enrolled (codes "C200") (codes "01"))
 
--- a field behind its separator X'1C'
+-- a field after its separator X'1C'
 abbrev pub field : List ℕ → List ℕ
 field text = 28 ∷ text
 
--- a segment behind its separator X'1E'
+-- a segment after its separator X'1E'
 abbrev pub segment : List (List ℕ) → List ℕ
 segment fields = 30 ∷ flat_map field fields
 
--- the base claim: a header of 56 bytes, the common segment, and behind X'1D' the claim and its pricing
+-- the base claim: a header of 56 bytes, the common segment, and after X'1D' the claim and its pricing
 unfoldable pub base_claim : List ℕ
 base_claim =
     codes "900001D0B1RXDEMO    1011234567893     20260228          "

@@ -30,7 +30,7 @@ names =
 abbrev pub heading : List ℕ
 heading = codes "record" ++ (flat_map after_tab names ++ 10 ∷ [])
 
--- the number, where there is one
+-- the number, if there is one
 abbrev pub known : Option ℕ → List ℕ
 known None = []
 known (Some n) = decimal n

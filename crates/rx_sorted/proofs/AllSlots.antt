@@ -23,7 +23,7 @@ pub map_same : {A B : Type 0} (f g : A → B) → ((x : A) → f x ≡ g x) → 
 map_same f g h [] = refl
 map_same f g h (x ∷ xs) = let rest = map_same f g h xs in let first = h x in cc
 
--- what is left behind a place, with the item there
+-- what is left after a place, with the item there
 pub drop_next : {A : Type 0} (i : ℕ) (x : A) (xs : List A) → i < length xs → x ≡ get_or xs i x → drop i xs ≡ x ∷ drop (i + 1) xs
 drop_next i x xs lt is = rw add-one (drop-cons xs i x lt ∙ ap (λ y. y ∷ drop (suc i) xs) (sym is))
 
@@ -120,7 +120,7 @@ module _ {X K : Type 0} (cmp : K → K → Ordering) (order : IsTotalOrder cmp) 
               rw (other, too)
         ]
 
--- what is found with one item more behind
+-- what is found with one item more after
 find_append : {X K : Type 0} (cmp : K → K → Ordering) (key : X → K) (bs : List X) (b : X) (k : K)
     → item_at cmp key (bs ++ b ∷ []) k ≡ option_or (item_at cmp key bs k) (item_at cmp key (b ∷ []) k)
 find_append cmp key [] b k = refl

@@ -201,7 +201,7 @@ module _ {X K : Type 0} (cmp : K → K → Ordering) (order : IsTotalOrder cmp) 
 
   -- ---- at the end, and many at once
 
-  -- an item past the others goes behind them
+  -- an item past the others goes after them
   pub put-past : (xs : List X) (x : X) → is_past cmp key xs (key x) ≡ true → put cmp key xs x ≡ xs ++ x ∷ []
   put-past [] x h = refl
   put-past (y ∷ ys) x h =

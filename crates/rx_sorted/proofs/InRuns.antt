@@ -1,4 +1,4 @@
--- Runs that stand one behind the other: their items in order, the item at a place, and where a key is.
+-- Runs that stand one after the other: their items in order, the item at a place, and where a key is.
 use Rattle.std.proofs.Common.{◌≡◌, ℕ, zero, suc, ◌+◌, ◌-◌, ◌^◌, ◌<◌, ◌≤◌, List, [], ◌∷◌, ◌++◌, length, get_or, drop, map}
 use Rattle.std.proofs.Common.{Bool, true, false, cond, leb, Option, Some, None, refl, sym, ap, ◌∙◌, inl, inr, arith}
 use Rattle.std.proofs.Common.{length-append, add-zero, lit<}
@@ -40,7 +40,7 @@ pub items_of-same : {X Z : Type 0} (copies runs : List (Vec X Z)) → map vec_it
 items_of-same {X} copies runs same = items_of-lists copies ∙ ap (flat_map (λ (xs : List X). xs)) same
     ∙ sym (items_of-lists runs)
 
--- a place in the next run, and one behind it
+-- a place in the next run, and one after it
 pub get-here : {X : Type 0} (run rest : List X) (i : ℕ) (x : X) → i < length run → x ≡ get_or run i x
     → slice_get (run ++ rest) i ≡ Some x
 get-here run rest i x h is = slice_get-get_or (run ++ rest) i x (omega (arith, length-append run rest))
@@ -149,7 +149,7 @@ module _ {X K : Type 0} (cmp : K → K → Ordering) (order : IsTotalOrder cmp) 
             ∙ ap (λ b. b && is_ascending cmp key (y ∷ (run ++ rest))) parts.0,
       )
 
-  -- it tells whether they are runs
+  -- it says whether they are runs
   counted : {Z : Type 0} (before : List X) (count : ℕ) (runs : List (Vec X Z)) → IsAscending cmp key before
       → count < 2 ^ 63 → count_from cmp key before count runs
       ≡ then_some (list_all has_items runs && (is_ascending cmp key (before ++ items_of runs)

@@ -57,7 +57,7 @@ module _ {X K : Type 0} (cmp : K → K → Ordering) (order : IsTotalOrder cmp) 
           let same : p x ≡ p y = h x y refl refl in
           elim (cases_Bool (p y)) [ inl t ↦ rw t | inr f ↦ let too : p x ≡ false = same ∙ f in rw (f, too) ]
 
-  -- items above x go in behind it
+  -- items above x go in after it
   pub put_all-behind : (x : X) (xs ys : List X) → IsBelow cmp key (key x) ys
       → put_all cmp key (x ∷ xs) ys ≡ x ∷ put_all cmp key xs ys
   put_all-behind x xs [] b = refl

@@ -97,7 +97,7 @@ module _ {X K : Type 0} (cmp : K → K → Ordering) (order : IsTotalOrder cmp) 
       let below = IsBelow-append cmp order key (key y) ys (x ∷ []) a.0 (Less-from_is_lt _ parts.0, tt) in
       (below, IsAscending-push ys x a.1 parts.1)
 
-  -- the last item alone tells whether a key is past an ascending list
+  -- only the last item decides whether a key is past an ascending list
   pub is_past-last : (xs : List X) (k : K) (d : X) → IsAscending cmp key xs → 0 < length xs
       → is_past cmp key xs k ≡ is_lt (cmp (key (get_or xs (length xs - 1) d)) k)
   is_past-last [] k d a h = absurd (omega arith)

@@ -1,4 +1,4 @@
--- The orders of keys with several fields are total, and where they tell each field apart they tell the keys apart.
+-- The orders of keys with several fields are total, and where they distinguish each field they distinguish the keys.
 use Rattle.std.proofs.Common.{◌≡◌, ℕ, refl}
 use Rattle.std.specs.Cmp.{IsTotalOrder}
 use Rattle.std.specs.Ordering.{nat_cmp, ordering_then}

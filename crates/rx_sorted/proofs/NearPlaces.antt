@@ -1,4 +1,4 @@
--- What one item of an ascending list says of those before it and behind it.
+-- What one item of an ascending list says of those before it and after it.
 use Rattle.std.proofs.Common.{◌≡◌, ℕ, ◌+◌, ◌<◌, ◌≤◌, List, length, get_or, true, is_gt, refl, sym, subst, inl, inr, arith}
 use Rattle.std.specs.Cmp.{IsTotalOrder}
 use Rattle.std.specs.declared.cmp.Ordering.{Ordering}

@@ -14,7 +14,7 @@ use Rattle.rx_sorted.proofs.Kept.{IsAscending-map}
 use Rattle.rx_sorted.proofs.Places.{has_key-elsewhere, item_at-gap}
 use Rattle.rx_sorted.specs.Slots.{one_at, over}
 
--- whether a place is told
+-- whether a place is known
 pub is_told : (b : Bool) (place : ℕ) → is_some (then_some b place) ≡ b
 is_told true place = refl
 is_told false place = refl

@@ -129,7 +129,7 @@ module _ {X K : Type 0} (cmp : K → K → Ordering) (order : IsTotalOrder cmp) 
   pub contains_key-gap : (xs : List X) (k : K) (i : ℕ) → IsGap cmp key xs k i → contains_key cmp key xs k ≡ false
   contains_key-gap xs k i gap = ap is_some (item_at-gap xs k i gap)
 
-  -- a search tells whether an item has the key
+  -- a search says whether an item has the key
   pub contains_key-searched : (xs : List X) (k : K) (r : Result ℕ ℕ) → IfOk r (IsAt cmp key xs k)
       → IfErr r (IsGap cmp key xs k) → is_ok r ≡ contains_key cmp key xs k
   contains_key-searched xs k (Ok at) found absent = sym (contains_key-at xs k at found)

@@ -1,4 +1,4 @@
--- Plumbing: ascending lists that are kept as some runs, one behind the other.
+-- Plumbing: ascending lists that are kept as some runs, one after the other.
 use Rattle.std.specs.Prelude.{◌≡◌, ℕ, ◌<◌, ◌^◌, Bool, true, false, ◌&&◌, List, [], ◌∷◌, length, nat_lt}
 use Rattle.std.specs.List.{flat_map, list_all}
 use Rattle.std.specs.Vec.{vec_items}
@@ -6,7 +6,7 @@ use Rattle.std.specs.declared.vec.Vec.{Vec}
 use Rattle.std.specs.declared.cmp.Ordering.{Ordering}
 use Rattle.rx_sorted.specs.Ascending.{IsAscending, is_ascending, is_past}
 
--- the items of all runs, those of one behind those of the run before it
+-- the items of all runs, those of one after those of the run before it
 abbrev pub items_of : {X Z : Type 0} → List (Vec X Z) → List X
 items_of runs = flat_map vec_items runs
 

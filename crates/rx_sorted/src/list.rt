@@ -147,7 +147,7 @@ impl<T: Keyed> Ascending<T> {
         self.place(key).is_ok()
     }
 
-    /// Whether each item's key is less than this one. It looks at the last item alone.
+    /// Whether each item's key is less than this one. It looks at the last item only.
     pub fn is_past(&self, key: &T::Key) -> bool
         ensures { result ≡ is_past T.Key.cmp T.key_of self.now key.now }
     {
@@ -171,7 +171,7 @@ impl<T: Keyed> Ascending<T> {
         }
     }
 
-    /// Puts an item whose key is past the others' at the end. `is_past` tells whether it is.
+    /// Puts an item whose key is past the others' at the end. `is_past` says whether it is.
     pub fn push(&mut self, item: T) -> Result<(), AllocFailed<T>>
         requires { IsTrue (is_past T.Key.cmp T.key_of self.old (T.key_of item)) }
         ensures ok { OnOk result (self.new ≡ self.old ++ item ∷ []) }

@@ -42,7 +42,7 @@ pub(crate) fn is_at<T: Keyed>(items: &[T], place: usize, key: &T::Key) -> bool
     }
 }
 
-// Whether the items up to the place have lesser keys. It looks at the last of them alone.
+// Whether the items up to the place have lesser keys. It looks at the last of them only.
 fn are_before<T: Keyed>(items: &[T], place: usize, key: &T::Key) -> bool
     requires { IsAscending T.Key.cmp T.key_of items.now }
     ensures { IsTrue result → AreBefore T.Key.cmp T.key_of items.now key.now place }
@@ -56,7 +56,7 @@ fn are_before<T: Keyed>(items: &[T], place: usize, key: &T::Key) -> bool
     }
 }
 
-// Whether the items from the place on have greater keys. It looks at the first of them alone.
+// Whether the items from the place on have greater keys. It looks at the first of them only.
 fn are_behind<T: Keyed>(items: &[T], place: usize, key: &T::Key) -> bool
     requires { IsAscending T.Key.cmp T.key_of items.now }
     ensures { IsTrue result → AreBehind T.Key.cmp T.key_of items.now key.now place }

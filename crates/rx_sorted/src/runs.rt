@@ -12,7 +12,7 @@ use std::alloc::{AllocError, Global};
 use std::marker::Model;
 
 /// A list of items in the ascending order of their keys, at most one item of a key, that is kept as some runs, one
-/// behind the other. It never changes.
+/// after the other. It never changes.
 #[derive(Debug, Drop)]
 pub struct Runs<T: Keyed> {
     runs: Vec<Vec<T>>,

@@ -29,7 +29,7 @@ pub fn place_of<T: Keyed>(items: &[T], key: &T::Key) -> Result<usize, usize>
     items.binary_search_by_key(key, |item| item.key())
 }
 
-// Whether each item's key is less than this one. It looks at the last item alone.
+// Whether each item's key is less than this one. It looks at the last item only.
 pub(crate) fn is_past<T: Keyed>(items: &[T], key: &T::Key) -> bool
     requires { IsAscending T.Key.cmp T.key_of items.now }
     ensures { result ≡ is_past T.Key.cmp T.key_of items.now key.now }

@@ -1,4 +1,4 @@
--- Want of a thread is no answer to the number of workers, the stamp or the batch.
+-- Lack of a thread is no answer to the number of workers, the stamp or the batch.
 use Rattle.std.proofs.Common.{◌≡◌, ℕ, Bool, true, false, List, Option, Some, None, Result, Ok, Err, refl, sym, ap, ◌∙◌, inl, inr}
 use Rattle.std.specs.Option.{ok_or}
 use Rattle.std.proofs.lemmas.Bool.{cases_Bool, false≢true}

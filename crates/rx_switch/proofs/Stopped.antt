@@ -1,4 +1,4 @@
--- A run whose inputs are accepted gives its texts, or is stopped by want of memory or of a thread.
+-- A run whose inputs are accepted gives its texts, or is stopped by lack of memory or of a thread.
 use Rattle.std.proofs.Common.{◌≡◌, ℕ, Bool, true, false, List, Result, Ok, Err, refl, sym, ◌∙◌, inl, inr}
 use Rattle.std.specs.Prelude.{IfErr, IfOk}
 use Rattle.std.proofs.lemmas.Bool.{cases_Bool, false≢true}

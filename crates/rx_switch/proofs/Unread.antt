@@ -16,7 +16,7 @@ use Rattle.rx_switch.specs.Job.{given_read}
 abbrev fault_of : {X : Type 0} → ReadFault → Result X ReadFault
 fault_of f = Err f
 
--- the reader's fault, as the run tells it
+-- the reader's fault, as the run says it
 pub unread_at : {X : Type 0} (d : Device) (bytes : Option (List ℕ)) (f : ReadFault)
     → (fault_of {X = X} f ≡ Err reading.Long → IfSome bytes (λ bytes. most_reads ≤ length bytes))
     → IsUnreadAt d bytes (of_reading d f)
@@ -24,7 +24,7 @@ unread_at d bytes reading.Failed is_long = failed
 unread_at d bytes reading.Long is_long = long (is_long refl)
 unread_at d bytes reading.Memory is_long = memory
 
--- want of a thread breaks off no reading
+-- lack of a thread breaks off no reading
 no_thread_at : {d : Device} {bytes : Option (List ℕ)} {f : IoFault} → IsUnreadAt d bytes f
     → f ≡ io.Switch fault.Thread → ⊥
 no_thread_at failed e = cc

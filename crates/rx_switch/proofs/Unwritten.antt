@@ -15,7 +15,7 @@ pub at_only_fault : {X : Type 0} (r : Result X IoFault) (only : IoFault) (P : Io
 at_only_fault (Ok x) only P is h = tt
 at_only_fault (Err f) only P is h = subst P (sym is) h
 
--- want of a thread breaks off no writing
+-- lack of a thread breaks off no writing
 pub unwritten_without_thread : {before after : Written} {t : Texts} {f : IoFault} → IsUnwritten before after t f
     → f ≡ io.Switch fault.Thread → ⊥
 unwritten_without_thread (response one two three) e = cc

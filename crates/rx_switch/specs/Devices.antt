@@ -19,13 +19,13 @@ use Rattle.rx_switch.specs.Output.{Given, IsOutput, IsRefused, Texts}
 
 -- ---- the devices
 
--- the bytes that each input has left, where it tells them
+-- the bytes that each input has left, where it reports them
 pub record Left : Type 0 where
   pub sheet : Option (List ℕ)
   pub books : Option (List ℕ)
   pub batch : Option (List ℕ)
 
--- the bytes that were written to each output, where it tells them
+-- the bytes that were written to each output, where it reports them
 pub record Written : Type 0 where
   pub response : Option (List ℕ)
   pub books : Option (List ℕ)
@@ -36,7 +36,7 @@ pub record Devices : Type 0 where
   pub inputs : Left
   pub outputs : Written
 
--- what the inputs have left, by what each device tells
+-- what the inputs have left, by what each device reports
 abbrev pub left_of : {A B C : Type 0} → (A → Option (List ℕ)) → (B → Option (List ℕ)) → (C → Option (List ℕ))
     → Inputs A B C → Left
 left_of of_sheet of_books of_batch inputs =
@@ -69,13 +69,13 @@ has_failed d (Err (io.Write other)) = device_number other == device_number d
 
 -- ---- reading
 
--- how a fault of reading the device is told
+-- how a fault of reading the device is reported
 abbrev pub of_reading : Device → ReadFault → IoFault
 of_reading d reading.Failed = io.Read d
 of_reading d reading.Long = io.Long d
 of_reading d reading.Memory = io.Switch fault.Memory
 
--- reading this input broke off: a read failed, or it tells at least 4,194,304 bytes, or memory was wanting
+-- reading this input broke off: a read failed, or it reports at least 4,194,304 bytes, or memory ran out
 pub data IsUnreadAt (d : Device) (bytes : Option (List ℕ)) : IoFault → Type 0 where
   failed : IsUnreadAt d bytes (io.Read d)
   long : IfSome bytes (λ bytes. most_reads ≤ length bytes) → IsUnreadAt d bytes (io.Long d)

@@ -23,7 +23,7 @@ number_of (fault.Batch f) = 5
 number_of fault.Memory = 6
 number_of fault.Thread = 7
 
--- want of memory met by a reader is the run's own, and any other fault is that input's
+-- out of memory met by a reader is the run's own, and any other fault is that input's
 abbrev pub of_sheet : SheetFault → SwitchFault
 of_sheet sheet.Memory = fault.Memory
 of_sheet f = fault.Sheet f

@@ -108,7 +108,7 @@ pub record RefusesOne (plain : Bool) (starts : ℕ → Bool) (workers : ℕ) : T
   pub parallel : plain ≡ false
   pub of_gate : GateRefusesOne starts workers
 
--- what stops a run whose inputs are accepted: want of memory, or of a thread that the gate refuses to start
+-- what stops a run whose inputs are accepted: lack of memory or of a thread that the gate refuses to start
 abbrev pub IsStopped : Bool → (ℕ → Bool) → ℕ → SwitchFault → Type 0
 IsStopped plain starts workers fault.Workers = ⊥
 IsStopped plain starts workers fault.Stamp = ⊥

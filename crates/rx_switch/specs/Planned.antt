@@ -41,8 +41,7 @@ pub record IsPlanned (sheet books batch text : List ℕ) : Type 0 where
   pub batch_is : IsFile batch head details
   pub planned : IsPlanOf opening (transmissions_of plan.figures.door details) text
 
--- the definitions refuse the first, in this order, of sheet, books and batch; want of memory may stand in place of any
--- answer
+-- the definitions refuse the first, in this order, of sheet, books and batch; out of memory may stand in place of any answer
 pub data IsNotPlanned (sheet books batch : List ℕ) : SwitchFault → Type 0 where
   sheet : (f : SheetFault) → sheet_of_text sheet ≡ Err f → IsNotPlanned sheet books batch (fault.Sheet f)
   books : (f : BooksFault) (plan : Plan) → sheet_of_text sheet ≡ Ok plan → HasBooksFault books f

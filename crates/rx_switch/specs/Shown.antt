@@ -22,7 +22,7 @@ pub record IsShown (sheet batch text : List ℕ) : Type 0 where
   pub batch_is : IsFile batch head details
   pub text_is : text ≡ shown_lines (transmissions_of plan.figures.door details)
 
--- the definitions refuse the sheet, or accept it and refuse the batch; want of memory may stand in place of any answer
+-- the definitions refuse the sheet, or accept it and refuse the batch; out of memory may stand in place of any answer
 pub data IsNotShown (sheet batch : List ℕ) : SwitchFault → Type 0 where
   sheet : (f : SheetFault) → sheet_of_text sheet ≡ Err f → IsNotShown sheet batch (fault.Sheet f)
   batch : (f : BatchFault) (plan : Plan) → sheet_of_text sheet ≡ Ok plan → HasFault batch f

@@ -1,4 +1,4 @@
--- Meaning: what a fault is told as: the exit status, and the numbers of the line on standard error.
+-- Meaning: what a fault is reported as: the exit status, and the numbers of the line on standard error.
 use Rattle.std.specs.Prelude.{ℕ, [], ◌∷◌}
 use Rattle.std.specs.Option.{option_map, unwrap_or}
 use Rattle.rx_batch.specs.Fault.{code_of as batch_code, place_of}
@@ -14,14 +14,14 @@ use Rattle.rx_switch.specs.declared.fault.SwitchFault.TheVariants as fault
 use Rattle.rx_switch.specs.declared.fault.Told.{Told}
 use Rattle.rx_switch.specs.Fault.{number_of}
 
--- the number of the fault inside a refusal, 0 where there is none
+-- the number of the fault inside a refusal, 0 if there is none
 abbrev pub fault_within : SwitchFault → ℕ
 fault_within (fault.Sheet f) = sheet_code f
 fault_within (fault.Books f) = books_code f
 fault_within (fault.Batch f) = batch_code f
 fault_within other = 0
 
--- the key's number, the line, or the place in bytes of the fault inside a refusal, 0 where there is none
+-- the key's number, the line, or the place in bytes of the fault inside a refusal, 0 if there is none
 abbrev pub place_within : SwitchFault → ℕ
 place_within (fault.Sheet f) = unwrap_or (option_map sheet_key_number (key_of f)) 0
 place_within (fault.Books f) = unwrap_or (line_of_fault f) 0

@@ -30,8 +30,8 @@ use std::thread::Threads;
 // The fewest bytes that are worth more threads than one.
 const FEWEST_BYTES: usize = 100_000;
 
-/// In how many parts a step goes, beside one another, that has so many bytes: as many as there are workers, one where
-/// they are few.
+/// In how many parts a step goes, in parallel, that has this many bytes: as many as there are workers, one where they
+/// are few.
 pub(crate) fn parts_of(workers: u16, bytes: usize) -> usize {
     if bytes < FEWEST_BYTES {
         1
@@ -40,7 +40,7 @@ pub(crate) fn parts_of(workers: u16, bytes: usize) -> usize {
     }
 }
 
-/// How the records are adjudicated: by so many workers at a gate or, plainly, over lists.
+/// How the records are adjudicated: by this many workers at a gate or, plainly, over lists.
 #[derive(Drop)]
 pub(crate) struct Manner<'a, G> {
     pub(crate) gate: &'a G,
@@ -48,8 +48,8 @@ pub(crate) struct Manner<'a, G> {
     pub(crate) plain: bool,
 }
 
-/// The texts of adjudicating the details, as if one after another in file order. Decoding, rendering and writing go in so
-/// many parts beside one another; one part starts no thread.
+/// The texts of adjudicating the details, as if one after another in file order. Decoding, rendering and writing go in
+/// this many parts in parallel; one part starts no thread.
 pub(crate) fn adjudicate<R: Threads + Wait + Sync, G: Gate + Sync>(
     rt: &R,
     alloc: Global,

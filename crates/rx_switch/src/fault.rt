@@ -150,7 +150,8 @@ impl From<SwitchFault> for IoFault {
     }
 }
 
-/// What a fault is told as: an exit status, and the numbers of the line on standard error (docs/CLI.md, "Refusals").
+/// What a fault is reported as: an exit status, and the numbers of the line on standard error (docs/CLI.md,
+/// "Refusals").
 #[derive(Clone, Copy, Debug, PartialEq, Eq)]
 pub struct Told {
     /// 1 for a refused run, whose line is `refused N M P`; 3 for a file fault, whose line is `file K`.

@@ -31,7 +31,7 @@ pub fn read_all<S: Source>(
     }
 }
 
-// A fault of reading the device, as the run tells it.
+// A fault of reading the device, as the run says it.
 fn of_reading(device: Device, fault: ReadFault) -> IoFault
     ensures { result ≡ of_reading device fault }
 {

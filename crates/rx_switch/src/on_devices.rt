@@ -30,9 +30,9 @@ const DETAIL_BYTES: usize = 200;
 ///
 /// # Errors
 ///
-/// Read or Long where an input can't be read to its end, and Memory where memory was wanting for that; then the
-/// refusals of `run`, in its order; nothing was written then. Write where a write failed: the outputs before that one
-/// are whole, of that one a front was written, of the later ones nothing.
+/// Read or Long where an input can't be read to its end, and Memory where memory ran out for that; then the refusals of
+/// `run`, in its order; nothing was written then. Write where a write failed: the outputs before that one are whole, of
+/// that one a front was written, of the later ones nothing.
 pub fn run_io<
     R: Threads + Wait + Sync,
     G: Gate + Sync,
@@ -62,7 +62,7 @@ pub fn run_io<
         OnOk result (IsDone stamp.now workers (told inputs.old outputs.old) (told inputs.new outputs.new)) }
     ensures broken { let told = devices_of A.left B.left C.left D.written E.written F.written in
         IfErr result (IsBroken stamp.now workers (told inputs.old outputs.old) (told inputs.new outputs.new)) }
-    // A device failed in the run exactly where the answer tells it.
+    // A device failed in the run exactly where the answer says it.
     ensures sheet { A.failed inputs.new.sheet ≡ has_failed device.Sheet result }
     ensures books { B.failed inputs.new.books ≡ has_failed device.Books result }
     ensures batch { C.failed inputs.new.batch ≡ has_failed device.Batch result }

@@ -23,7 +23,7 @@ pub fn told(fault: &IoFault) -> Told
     }
 }
 
-// The number of the fault inside a refusal, 0 where there is none.
+// The number of the fault inside a refusal, 0 if there is none.
 fn fault_within(refused: SwitchFault) -> u64
     ensures { result ≡ fault_within refused }
 {
@@ -35,7 +35,7 @@ fn fault_within(refused: SwitchFault) -> u64
     }
 }
 
-// The number of the key, the line or the place in bytes of the fault inside a refusal, 0 where there is none.
+// The number of the key, the line or the place in bytes of the fault inside a refusal, 0 if there is none.
 fn place_within(refused: SwitchFault) -> u64
     ensures { result ≡ place_within refused }
 {

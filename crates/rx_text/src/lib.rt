@@ -1,7 +1,7 @@
 //! What readers and writers of texts share: classes of bytes, the bytes that separate, and bytes put where there is room.
 //!
 //! In come bytes; out comes whether they are of a class, or how many of them are. What a class is stands in
-//! `specs/Bytes.antt`; the words in which the specs of readers say what a call answers, and one step behind another, in
+//! `specs/Bytes.antt`; the words in which the specs of readers say what a call answers, and one step after another, in
 //! `Outcomes`, `Results` and `Options`.
 //!
 //! ```rust

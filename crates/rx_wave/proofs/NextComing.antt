@@ -1,4 +1,4 @@
--- The place after so many records is the first of its shard's later ones, and of no other shard.
+-- The place after this many records is the first of its shard's later ones, and of no other shard.
 use Rattle.std.proofs.Common.{◌≡◌, ℕ, zero, suc, ◌+◌, ◌-◌, ◌<◌, ◌≤◌, List, ◌∷◌, get_or, length, sym, ap, ◌∙◌, arith}
 use Rattle.std.proofs.lemmas.Bool.{eq-eqb, eqb-true, false_from_ne_true}
 use Rattle.rx_schedule.specs.Shards.{is_of}

@@ -13,7 +13,7 @@ use Rattle.rx_serial.specs.declared.finished.Finished.{Finished}
 use Rattle.rx_wave.specs.declared.job.Job.{Job}
 use Rattle.rx_wave.specs.declared.shard.Ended.{Ended}
 
--- the place is one of so many, which are counted from 1
+-- the place is one of this many, which are counted from 1
 pub record IsPlaceOf (count place : ℕ) : Type 0 where
   pub from_one : 1 ≤ place
   pub to_count : place ≤ count

@@ -5,7 +5,7 @@ use rx_fields::Memory;
 /// What a worker does next.
 #[derive(Debug, Drop)]
 pub(crate) enum Turn {
-    /// It adjudicates the order; `wakes` tells that another record can go beside it.
+    /// It adjudicates the order; `wakes` says that another record can go in parallel with it.
     Go { order: Order, wakes: bool },
     /// It waits: no record can go before one that is out has come back.
     Wait,
@@ -14,12 +14,12 @@ pub(crate) enum Turn {
 }
 
 /// What workers share under one lock: orders go out, and come back finished. Nothing is promised of it, for the answer of
-/// a run rests on the desk alone.
+/// a run rests on the desk only.
 pub(crate) trait Counter {
     /// The next turn of a worker.
     fn turn(&mut self) -> Turn;
 
-    /// A record comes back. What is left of it may be let go once the lock is open.
+    /// A record comes back. What is left of it may be dropped once the lock is open.
     fn take_back(&mut self, made: Result<Done, (Order, Memory)>) -> Option<Remains>;
 
     /// From now on every turn is the end.
@@ -31,12 +31,12 @@ pub(crate) trait Counter {
 pub(crate) struct DeskCounter {
     pub(crate) desk: Desk,
     pub(crate) stopped: bool,
-    /// It was stopped for want of memory.
+    /// It was stopped since memory ran out.
     pub(crate) lacks_memory: bool,
 }
 
 impl DeskCounter {
-    /// The desk at the end of the work; Memory where that stopped for want of it.
+    /// The desk at the end of the work; Memory where that stopped since memory ran out.
     pub(crate) fn into_desk(self) -> Result<Desk, Memory> {
         let DeskCounter {
             desk,

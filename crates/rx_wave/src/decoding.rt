@@ -32,8 +32,8 @@ pub fn decode_all<R: Threads + Sync>(
     decode_beside(rt, alloc, FEWEST_DETAILS, door, details)
 }
 
-/// The same transmissions, decoded in at most this many parts beside one another; one part is decoded by the calling
-/// thread, and none starts one.
+/// The same transmissions, decoded in at most this many parts in parallel; one part is decoded by the calling thread,
+/// and none starts one.
 ///
 /// Where `rayon` gives up, they are decoded without it.
 ///
@@ -55,8 +55,8 @@ pub fn decode_in_parts<R: Threads + Sync>(
     decode_beside(rt, alloc, details.len() / parts, door, details)
 }
 
-// The transmissions of pieces of at least so many details, beside one another; one after another, where threads or memory
-// for that are wanting.
+// The transmissions of pieces of at least this many details, in parallel; one after another, where threads or memory for
+// that run out.
 fn decode_beside<R: Threads + Sync>(
     rt: &R,
     alloc: Global,
@@ -72,7 +72,7 @@ fn decode_beside<R: Threads + Sync>(
     }
 }
 
-// The transmissions of pieces of at least so many details.
+// The transmissions of pieces of at least this many details.
 fn decode_in_pieces<R: Threads + Sync>(
     rt: &R,
     alloc: Global,

@@ -8,7 +8,7 @@ use rx_fields::Memory;
 pub enum RunFault {
     /// Their number isn't 1 to 64.
     Workers,
-    /// Memory was wanting.
+    /// Out of memory.
     Memory,
     /// The gate refused to start one of two or more workers.
     Thread,

@@ -30,7 +30,7 @@ const TRIES: u32 = 256;
 
 const PAUSES: u32 = 4;
 
-/// Adjudicates a batch with so many workers: the books after its records, and a reply to each, as if they had been
+/// Adjudicates a batch with this many workers: the books after its records, and a reply to each, as if they had been
 /// adjudicated one after another in file order (docs/RULES.md, "Rules of adjudication").
 ///
 /// One worker is `run_one`. At a gate that holds records up more of them share a desk under one lock, and each adjudicates
@@ -135,7 +135,7 @@ fn closed_for(desk: Desk, job: &Job<'_>) -> Option<Finished>
     desk.close().ok()
 }
 
-// Whether the gate refuses to start one of so many workers; after one that it refuses it is asked no more.
+// Whether the gate refuses to start one of this many workers; after one that it refuses it is asked no more.
 fn refuses_one<G: Gate>(gate: &G, workers: usize) -> bool
     requires several { 2 ≤ workers }
     requires few { workers < 65_536 }
@@ -159,7 +159,7 @@ fn desk_of(alloc: Global, job: &Job<'_>) -> Result<Desk, Memory>
     Desk::new(alloc, job.lot, job.sheet, books, transmissions)
 }
 
-// The desk, after so many workers took what it handed out and gave it back.
+// The desk, after this many workers took what it issued and gave it back.
 fn worked_off<R: Threads + Wait + Sync, G: Gate + Sync>(
     rt: &R,
     alloc: Global,

@@ -9,7 +9,7 @@ use rx_io::{Device, Inputs};
 use rx_switch::IoFault;
 
 /// Prints the first fault of each input file in words, and what a run would take and an operator would hardly mean. It
-/// ends with the first fault, as a run would, and where there are warnings alone with a status of its own.
+/// ends with the first fault, as a run would, and where there are only warnings with a status of its own.
 pub fn check(rt: &HostRuntime, words: &CheckWords<'_>) -> Result<(), Ending> {
     match read_given(rt, words) {
         Ok(texts) => check_texts(rt, words, &texts),

@@ -8,21 +8,21 @@ use std::io;
 /// How the program ends where its work isn't done (docs/CLI.md, "Exit statuses").
 #[derive(Drop)]
 pub enum Ending {
-    /// A word of the command line is no text.
+    /// A word of the command line isn't text.
     NoText,
-    /// The files of these two options are one plain file, as far as the system tells.
+    /// The files of these two options are one regular file, as far as the system says.
     OneFile(&'static str, &'static str),
-    /// The path of this option is there, and leads to no plain file; `--safe` replaces no other.
+    /// The path of this option is there, and leads to no regular file; `--safe` replaces no other.
     NotPlain(&'static str),
-    /// The words aren't understood, or memory was wanting while they were read.
+    /// The words aren't understood, or memory ran out while they were read.
     Words(WordsFault),
     /// The run is refused, or a file failed.
     Io(IoFault),
     /// The run is refused, or a file failed, with a line in words.
     InWords(IoFault, String),
-    /// The text is no response file.
+    /// The text isn't a response file.
     Response(BatchFault),
-    /// A check found warnings alone.
+    /// A check found only warnings.
     Warned,
     /// No transaction is what was asked for.
     NotFound,
@@ -64,7 +64,7 @@ impl Ending {
         }
     }
 
-    /// The exit status: 1 for a refused input, 2 for words, 3 for a file, 4 for warnings alone and for a claim that isn't
+    /// The exit status: 1 for a refused input, 2 for words, 3 for a file, 4 for only warnings and for a claim that isn't
     /// there, 5 where a file differs.
     pub fn status(&self) -> u8 {
         match self {

@@ -9,8 +9,8 @@ use std::fs::OpenOptions;
 use std::io::Read;
 use std::{fs, io};
 
-/// The ending of a run that is asked to tell what it does: a fault with a line in words behind its numbers. The input at
-/// fault is read again for them; one that is no plain file, as a pipe, is told of without a quotation.
+/// The ending of a run that is asked to say what it does: a fault with a line in words after its numbers. The input at
+/// fault is read again for them; one that isn't a regular file, as a pipe, is described without a quotation.
 pub fn explained(
     rt: &HostRuntime,
     words: &RunWords<'_>,
@@ -73,7 +73,7 @@ fn device_of(refused: SwitchFault) -> Option<Device> {
     }
 }
 
-// The bytes of a plain file once more.
+// The bytes of a regular file once more.
 fn again(rt: &HostRuntime, path: &str, device: Device) -> Option<Vec<u8>> {
     let metadata = fs::metadata(rt, path).ok()?;
     if !metadata.is_file() {
@@ -100,7 +100,7 @@ pub fn read_words(rt: &HostRuntime, device: Device, path: &str) -> Result<String
     }
 }
 
-// Reads a byte of a plain file or a folder. A pipe could wait for ever, and isn't opened again.
+// Reads a byte of a regular file or a folder. A pipe could wait for ever, and isn't opened again.
 fn read_again(rt: &HostRuntime, path: &str) -> io::Result<()> {
     let metadata = fs::metadata(rt, path)?;
     if metadata.is_file() || metadata.is_dir() {
@@ -119,8 +119,8 @@ fn write_words(rt: &HostRuntime, device: Device, path: &str) -> Result<String, M
     }
 }
 
-// Opens a plain file or a folder for writing, and makes a file that isn't there, for a moment. A pipe could wait for ever,
-// and isn't opened again.
+// Opens a regular file or a folder for writing, and makes a file that isn't there, for a moment. A pipe could wait for
+// ever, and isn't opened again.
 fn open_again(rt: &HostRuntime, path: &str) -> io::Result<()> {
     match fs::metadata(rt, path) {
         Ok(metadata) => {

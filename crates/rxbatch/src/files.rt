@@ -22,7 +22,7 @@ pub fn input_of<'a>(file: &'a File) -> ReaderSource<&'a File>
     ReaderSource::new(file).with_hint(len_of(file))
 }
 
-// The length of a file, as the system tells it; more or less may be read of it.
+// The length of a file, as the system says it; more or less may be read of it.
 fn len_of(file: &File) -> Option<usize> {
     usize::try_from(file.metadata().ok()?.len()).ok()
 }
@@ -63,7 +63,7 @@ impl OutputFile {
         Ok(OutputFile { file, made: true })
     }
 
-    /// Empties a plain file.
+    /// Empties a regular file.
     pub fn empty(&self) -> io::Result<()> {
         if self.is_plain() {
             self.file.set_len(0)
@@ -72,8 +72,8 @@ impl OutputFile {
         }
     }
 
-    /// Brings the bytes of a plain file to the disk. What the system refused to keep is told here, and not only when the
-    /// file is closed.
+    /// Brings the bytes of a regular file to the disk. What the system refused to keep is reported here, and not only
+    /// when the file is closed.
     pub fn keep(&self) -> io::Result<()> {
         if self.is_plain() {
             self.file.sync_all()

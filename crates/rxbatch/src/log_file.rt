@@ -15,7 +15,7 @@ pub struct LogFile {
 
 impl LogFile {
     /// Opens the file, which is made where it isn't there, and empties it. One that is another file of the run, as far as
-    /// the system tells, is refused.
+    /// the system says, is refused.
     pub fn open(rt: &HostRuntime, path: &str, words: &RunWords<'_>) -> Result<LogFile, Ending> {
         let Ok(output) = OutputFile::open(rt, path) else {
             return Err(Ending::Log);

@@ -2,18 +2,18 @@ use rx_io::{Device, Inputs, Outputs};
 use std::fs::{File, Metadata};
 use std::os::unix::fs::MetadataExt;
 
-/// What the system tells of a file: its device and its number there, where it is a plain one.
+/// What the system says of a file: its device and its number there, where it is a regular one.
 #[derive(Clone, Copy, PartialEq, Eq)]
 pub enum Node {
     Plain(u64, u64),
     /// A terminal, a pipe or another device, or no file.
     Other,
-    /// The system doesn't tell.
+    /// The system doesn't say.
     Untold,
 }
 
 impl Node {
-    /// What the system tells of an open file.
+    /// What the system says of an open file.
     pub fn of(file: &File) -> Node {
         match file.metadata() {
             Ok(metadata) => Node::in_metadata(&metadata),
@@ -21,7 +21,7 @@ impl Node {
         }
     }
 
-    /// What the metadata of a file tell.
+    /// What the metadata of a file say.
     pub fn in_metadata(metadata: &Metadata) -> Node {
         if metadata.is_file() {
             Node::Plain(metadata.dev(), metadata.ino())
@@ -30,7 +30,7 @@ impl Node {
         }
     }
 
-    /// Whether these may be one plain file: they are, or the system doesn't tell.
+    /// Whether these may be one regular file: they are, or the system doesn't say.
     pub fn may_be(self, other: Node) -> bool {
         match (self, other) {
             (Node::Other, _) | (_, Node::Other) => false,
@@ -50,7 +50,7 @@ const DEVICES: [Device; 6] = [
     Device::Settlement,
 ];
 
-/// The options of an output and of another file that are one plain file, as far as the system tells. Writing that
+/// The options of an output and of another file that are one regular file, as far as the system says. Writing that
 /// output would lose the other.
 pub fn one_file_twice(
     inputs: Inputs<Node>,

@@ -1,4 +1,4 @@
-//! Where a run writes: to the outputs themselves, or beside them.
+//! Where a run writes: to the outputs themselves, or next to them.
 use crate::ending::Ending;
 use crate::files::{OutputFile, empty_each, keep_each, open_outputs, remove_made};
 use crate::nodes::Node;
@@ -12,7 +12,7 @@ use std::fs::File;
 pub enum RunOutputs {
     /// The outputs themselves, emptied before the run.
     InPlace(Outputs<OutputFile>),
-    /// Files beside the outputs, which get their paths when the run is done.
+    /// Files next to the outputs, which get their paths when the run is done.
     Beside(Outputs<SafeFile>),
 }
 
@@ -26,7 +26,7 @@ impl RunOutputs {
         }
     }
 
-    /// What the system tells of the files that have the outputs' paths so far.
+    /// What the system says of the files that have the outputs' paths so far.
     pub fn nodes(&self) -> Outputs<Node> {
         match self {
             RunOutputs::InPlace(files) => files.as_ref().map(|file| Node::of(&file.file)),
@@ -34,7 +34,7 @@ impl RunOutputs {
         }
     }
 
-    /// The options of two outputs that are to have one path, of which there is no file yet.
+    /// The options of two outputs that are to have one path, of which there isn't a file yet.
     pub fn one_path_twice(&self) -> Option<(&'static str, &'static str)> {
         match self {
             RunOutputs::InPlace(_) => None,
@@ -67,7 +67,7 @@ impl RunOutputs {
     }
 
     /// Ends the outputs of a run: of one that is done they are brought to the disk, and have their paths. Of another the
-    /// files beside the outputs are removed.
+    /// files next to the outputs are removed.
     pub fn end(self, rt: &HostRuntime, done: Result<(), Ending>) -> Result<(), Ending> {
         match (self, done) {
             (RunOutputs::InPlace(files), Ok(())) => keep_each(&files),

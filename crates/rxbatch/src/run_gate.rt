@@ -1,7 +1,7 @@
 //! The gate of a run that nobody watches.
 use rx_wave::Gate;
 
-/// It starts every worker and does nothing. At a desk the records are handed out one by one, else they go in shards.
+/// It starts every worker and does nothing. At a desk the records are issued one by one, else they go in shards.
 #[derive(Clone, Copy)]
 pub struct RunGate {
     pub at_desk: bool,

@@ -9,7 +9,7 @@ use std::os::unix::fs::{MetadataExt, OpenOptionsExt, PermissionsExt, fchown};
 use std::path::{Path, PathBuf};
 use std::{fs, io};
 
-// How many names are tried for a file that is written beside its path.
+// How many names are tried for a file that is written next to its path.
 const NAMES: u32 = 1_000;
 
 // How the names of such files begin. No output has a name like it, since another output's file could take it.
@@ -18,7 +18,7 @@ const BESIDE: &str = ".rxbatch-";
 // The rights of a file that wasn't there: its owner reads and writes it.
 const NEW_RIGHTS: u32 = 0o600;
 
-/// An output that is written beside its path, under a name of its own.
+/// An output that is written next to its path, under a name of its own.
 #[derive(Drop)]
 pub struct SafeFile {
     pub file: File,
@@ -71,7 +71,7 @@ impl SafeFile {
         Ok(safe)
     }
 
-    // The file, made beside the path.
+    // The file, made next to the path.
     fn beside(rt: &HostRuntime, path: PathBuf, device: Device) -> io::Result<SafeFile> {
         let (Some(parent), Some(name)) = (path.parent(), path.file_name()) else {
             return Err(io::Error::from(ErrorKind::InvalidInput));

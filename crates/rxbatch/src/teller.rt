@@ -1,4 +1,4 @@
-//! What a run tells on standard error while it goes on.
+//! What a run says on standard error while it goes on.
 use crate::watched_run::peak;
 use rx_cli::RunWords;
 use rx_run_log::{
@@ -11,12 +11,12 @@ use std::io::Write;
 use std::sync::atomic::{AtomicU64, Ordering};
 use std::time::{Clock, Duration};
 
-// Progress is told from so many milliseconds on, and again after so many at the soonest.
+// Progress is reported from this many milliseconds on, and again after this many at the soonest.
 const FIRST: u64 = 1_000;
 
 const BETWEEN: u64 = 200;
 
-/// What tells of a run, where that is asked for: its steps, and how many of its records are adjudicated.
+/// What reports a run, where that is asked for: its steps, and how many of its records are adjudicated.
 #[derive(Drop)]
 pub struct Teller<'a> {
     rt: &'a HostRuntime,
@@ -27,7 +27,7 @@ pub struct Teller<'a> {
     records: AtomicU64,
     // How many of them are adjudicated.
     adjudicated: AtomicU64,
-    // When progress was told last, in milliseconds from the begin.
+    // When progress was reported last, in milliseconds from the begin.
     told: AtomicU64,
     // How many shards the batch was dealt out in, 0 where it wasn't, and the transactions of the largest and of all.
     shards: AtomicU64,
@@ -69,7 +69,7 @@ impl<'a> Teller<'a> {
         self.begin
     }
 
-    /// Tells the step of an input that was read to its end.
+    /// Reports the step of an input that was read to its end.
     pub fn tell_input(&self, step: Step, input: &Traffic) {
         if step == Step::Batch {
             self.records.store(details_in(input), Ordering::SeqCst);
@@ -77,7 +77,7 @@ impl<'a> Teller<'a> {
         self.tell(step_line(self.rt.alloc(), &input_report(step, input)));
     }
 
-    /// Tells the later steps of a run that is done, and its end.
+    /// Reports the later steps of a run that is done, and its end.
     pub fn tell_done(&self, traffic: &RunTraffic, times: RunTimes) {
         for report in &traffic.later_reports(times) {
             self.tell(step_line(self.rt.alloc(), report));
@@ -90,7 +90,7 @@ impl<'a> Teller<'a> {
         self.tell(done_line(self.rt.alloc(), &run));
     }
 
-    // Tells how many records are adjudicated, where it is time for that.
+    // Reports how many records are adjudicated, where it is time for that.
     fn tell_progress(&self, adjudicated: u64) {
         let Some(micros) = micros_between(self.begin, self.rt.monotonic().ok()) else {
             return;
@@ -110,7 +110,7 @@ impl<'a> Teller<'a> {
         }
     }
 
-    // Writes a line to standard error. What can't be told there isn't told.
+    // Writes a line to standard error. What can't be reported there isn't reported.
     fn tell(&self, line: Result<Vec<u8>, AllocError>) {
         if let (true, Ok(line)) = (self.is_asked, line) {
             let _ = self.rt.stderr().write_all(line.as_slice());

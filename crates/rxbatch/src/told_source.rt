@@ -7,7 +7,7 @@ use rx_io::{Failed, ReaderSource, Source};
 use rx_run_log::{Step, Traffic, Watched};
 use std::fs::File;
 
-/// An input of a run, whose step is told when its end is read.
+/// An input of a run, whose step is reported when its end is read.
 #[derive(Drop)]
 pub struct ToldSource<'a> {
     source: Watched<'a, ReaderSource<&'a File>, HostRuntime>,

@@ -1,4 +1,4 @@
-//! A run that is logged: what passes through its files is watched, and told in a line.
+//! A run that is logged: what passes through its files is watched, and reported in a line.
 use crate::ending::Ending;
 use crate::log_file::LogFile;
 use crate::run_files::RunFiles;
@@ -44,7 +44,7 @@ pub struct WatchedRun {
     pub times: RunTimes,
 }
 
-/// Adjudicates a batch file, and watches its files. The steps are told on standard error where that is asked for.
+/// Adjudicates a batch file, and watches its files. The steps are reported on standard error where that is asked for.
 pub fn watched<R: Threads + Wait + Sync>(
     rt: &HostRuntime,
     threads: &R,
@@ -107,7 +107,7 @@ fn on_files<R: Threads + Wait + Sync>(
     (outputs.end(rt, done.map_err(Ending::Io)), traffic)
 }
 
-// The line of the log; none where memory is wanting for it.
+// The line of the log; none where memory runs out for it.
 fn line(rt: &HostRuntime, words: &RunWords<'_>, run: &WatchedRun) -> Option<String> {
     let alloc = rt.alloc();
     let (status, refused, file) = match &run.done {
@@ -146,7 +146,7 @@ fn line(rt: &HostRuntime, words: &RunWords<'_>, run: &WatchedRun) -> Option<Stri
     log_line(alloc, &log).ok()
 }
 
-/// The most memory that the program had, in kilobytes, where the system tells it.
+/// The most memory that the program had, in kilobytes, where the system says it.
 pub fn peak(rt: &HostRuntime) -> Option<u64> {
     let status = fs::read_to_string(rt, "/proc/self/status").ok()?;
     for line in status.as_str().lines() {

@@ -1,4 +1,4 @@
-// What no clause says: that the threads give the transmissions, and not want of memory.
+// What no clause says: that the threads give the transmissions, and not out of memory.
 use crate::same::same;
 use rx_batch::{Detail, Text};
 use rx_d0_values::{Body, Transmission};
@@ -12,10 +12,10 @@ const DOOR: Door = Door {
     pcn: *b"RXDEMO    ",
 };
 
-// The base claim, cut behind its header's 55th byte.
+// The base claim, cut after its header's 55th byte.
 const CUT: &[u8] = b"900001D0B1RXDEMO    1011234567893     20260228         ";
 
-// The base claim, cut, behind an empty detail.
+// The base claim, cut, after an empty detail.
 fn details(rt: &impl Abort, alloc: Global) -> [Detail; 2] {
     [detail(rt, alloc, b""), detail(rt, alloc, CUT)]
 }
@@ -27,7 +27,7 @@ fn detail(rt: &impl Abort, alloc: Global, text: &[u8]) -> Detail {
     }
 }
 
-// The codes of a header that was rejected; none of one that was heard.
+// The codes of a header that was rejected; none of one that was accepted.
 fn codes(transmission: &Transmission) -> &[Code] {
     match &transmission.body {
         Body::Rejected(rejected) => rejected.codes.as_slice(),

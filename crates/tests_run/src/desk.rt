@@ -92,7 +92,7 @@ fn give(rt: &impl Abort, desk: &mut Desk, done: Done) {
     desk.give(done).expect(rt, "taken back");
 }
 
-// The record at the place goes out, and no other is ready beside it.
+// The record at the place goes out, and no other is ready next to it.
 fn only_order(rt: &impl Abort, desk: &mut Desk, place: u64) -> Order {
     same(rt, desk.is_ready(), true);
     let order = order(rt, desk);
@@ -101,7 +101,7 @@ fn only_order(rt: &impl Abort, desk: &mut Desk, place: u64) -> Order {
     order
 }
 
-// What the desk hands out, in a word.
+// What the desk issues, in a word.
 fn next_word(desk: &mut Desk) -> &'static str {
     word(&desk.next())
 }
@@ -115,14 +115,14 @@ fn word(next: &Next) -> &'static str {
     }
 }
 
-// The record at the place goes out, and no other beside it, of which the desk tells this; it comes in again.
+// The record at the place goes out, and no other next to it, of which the desk says this; it comes in again.
 fn goes_alone(rt: &impl Abort, desk: &mut Desk, alloc: Global, place: u64, beside: &'static str) {
     let order = only_order(rt, desk, place);
     same(rt, next_word(desk), beside);
     give(rt, desk, done(rt, alloc, order));
 }
 
-// The records of the case go one after another, each alone.
+// The records of the case go one after another, each by itself.
 fn go_alone(rt: &impl Abort, alloc: Global, desk: &mut Desk) {
     for &(place, beside) in &[(1, "later"), (2, "later"), (3, "over")] {
         goes_alone(rt, desk, alloc, place, beside);
@@ -195,7 +195,7 @@ fn ends_with_the_replies_of_the_case(rt: HostRuntime) {
     drop(finished);
 }
 
-// The replies tell these patient pay amounts.
+// The replies have these patient pay amounts.
 fn are_paid(rt: &impl Abort, replies: &[Reply], amounts: &[u64]) {
     same(rt, replies.len(), amounts.len());
     for (reply, &paid) in replies.iter().zip(amounts) {

@@ -1,4 +1,5 @@
-// What no clause says: that a reading succeeds, which call of a device fails, and devices that don't tell their bytes.
+// What no clause says: that a reading succeeds, which call of a device fails, and devices that don't report their
+// bytes.
 use crate::same::same;
 use rx_fields::Memory;
 use rx_io::{
@@ -117,7 +118,7 @@ fn reads_pieces_of_any_size(rt: HostRuntime) {
     }
 }
 
-// Whether nine bytes are read by seven a call, of which so many succeed.
+// Whether nine bytes are read by seven a call, of which this many succeed.
 fn are_read(alloc: Global, calls: usize) -> Result<bool, ReadFault> {
     let mut source = SliceSource::new(TEXT, 7).failing_after(calls);
     let text = read_all(alloc, &mut source)?;

@@ -1,7 +1,7 @@
 use crate::same::same;
 use rx_print::{Style, put_escaped};
 
-// The wanted texts are what Python's html, json and repr read as these bytes.
+// The expected texts are what Python's html, json and repr read as these bytes.
 #[test]
 fn bytes_in_each_style(rt: HostRuntime) {
     let bytes = b"A\\B<i>\"C'&\x1b\x00\xff;";

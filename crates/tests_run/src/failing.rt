@@ -16,7 +16,7 @@ use std::thread::Threads;
 #[derive(Clone, Copy)]
 enum Flaw {
     Nothing,
-    // The device fails after so many calls.
+    // The device fails after this many calls.
     FailsAfter(Device, usize),
     // The output takes no byte.
     TakesNothing(Device),
@@ -131,8 +131,8 @@ fn writes<R: Threads + Wait + Sync + Abort>(
     same(rt, ran.written.settlement.bytes(), settlement);
 }
 
-// The texts that are written where this device fails after so many bytes: where it is an input, none; where it is an output,
-// those before it whole, and so many bytes of its own.
+// The texts that are written where this device fails after this many bytes: where it is an input, none; where it is an
+// output, those before it whole, and this many bytes of its own.
 fn written_before(rt: &impl Abort, device: Device, bytes: usize) -> [&'static [u8]; 3] {
     match device {
         Device::Sheet | Device::Books | Device::Batch => [b"", b"", b""],
@@ -148,7 +148,7 @@ fn front(rt: &impl Abort, text: &'static [u8], bytes: usize) -> &'static [u8] {
 
 const WHOLE: [&[u8]; 3] = [RESPONSE, END_BOOKS, SETTLEMENT];
 
-// The device can fail at so many calls, and no more.
+// The device can fail at this many calls, and no more.
 fn fails_at_each<R: Threads + Wait + Sync + Abort>(
     rt: &R,
     alloc: Global,
@@ -171,7 +171,7 @@ fn fails_at_each<R: Threads + Wait + Sync + Abort>(
     writes(rt, alloc, Devices { most, flaw }, Ok(()), WHOLE);
 }
 
-// Devices that pass so many bytes a call: without a failure, and each failing at so many calls.
+// Devices that pass this many bytes a call: without a failure, and each failing at this many calls.
 fn fail_at<R: Threads + Wait + Sync + Abort>(
     rt: &R,
     alloc: Global,

@@ -1,4 +1,4 @@
-// What no clause says: that records are answered, and not want of memory. Values are those of tests/cases/README.md, or
+// What no clause says: that records are answered, and not out of memory. Values are those of tests/cases/README.md, or
 // counted by hand.
 ghost use Rattle.std.specs.Prelude.{◌≡◌, ◌≤◌, length};
 ghost use Rattle.std.specs.List.{All};
@@ -131,7 +131,7 @@ fn answers(rt: &impl Abort, alloc: Global, replies: &[Reply]) -> Vec<Answer> {
     all
 }
 
-// Each answer's status, with the first reject code behind an R.
+// Each answer's status, with the first reject code after an R.
 fn statuses(rt: &impl Abort, alloc: Global, replies: &[Reply]) -> Vec<u8> {
     let mut text = Vec::new(alloc);
     for answer in &answers(rt, alloc, replies) {
@@ -186,7 +186,7 @@ fn first_figures(
     answers(rt, alloc, replies).first().and_then(figures)
 }
 
-// A refill on a date has this status on the fill's books, where so many percent of the fill have to be over.
+// A refill on a date has this status on the fill's books, where this many percent of the fill have to be over.
 fn refill(rt: &impl Abort, alloc: Global, percent: u64, date: &[u8], wanted: &[u8]) {
     let finished = refilled(rt, alloc, percent, date);
     replied(rt, alloc, &finished, wanted);
@@ -201,7 +201,7 @@ fn refilled(rt: &impl Abort, alloc: Global, percent: u64, date: &[u8]) -> Finish
     finished
 }
 
-// Thirty days were filled on 1 February. So many percent of them have to be over, whole days counted in hundredths.
+// Thirty days were filled on 1 February. This many percent of them have to be over, whole days counted in hundredths.
 const REFILLS: &[(u64, &[u8], &[u8])] = &[
     (75, b"20260223", b"R79"),
     (75, b"20260224", b"P"),
@@ -258,7 +258,7 @@ fn a_transaction_is_on_the_books_after_the_one_before(rt: HostRuntime) {
     drop((asked, finished));
 }
 
-// The books of a family of 1,000 members, of whom none has a claim.
+// The books of a family of 1,000 members, of which none has a claim.
 fn books_of_a_thousand(rt: &impl Abort, alloc: Global) -> Books {
     let mut ledger = Ledger::new(alloc);
     for number in 0..1000 {
@@ -303,7 +303,7 @@ fn totals(rt: &impl Abort, books: &Books, code: &[u8]) -> [Option<u128>; 3] {
     ]
 }
 
-// The family's figures are of both, the deductible of each alone.
+// The family's figures are of both, the deductible of each by itself.
 #[test]
 fn a_family_has_a_thousand_members(rt: HostRuntime) {
     let finished = run_on_a_thousand(&rt, rt.alloc());
@@ -349,7 +349,7 @@ fn a_claim_billed_twice_changes_nothing(rt: HostRuntime) {
     drop(finished);
 }
 
-// What was paid is told again, whatever the sheet says by now: 13,000 of 30,175 cents are the patient's, as under a copay of
+// What was paid is repeated, whatever the sheet says by now: 13,000 of 30,175 cents are the patient's, as under a copay of
 // 3,000.
 #[test]
 fn a_claim_billed_twice_is_not_priced_again(rt: HostRuntime) {

@@ -5,7 +5,7 @@
 //! module those of the crate of its name; `worked` and `one_billing` have what the worked cases are made of.
 //!
 //! What the crates at the edge write whole, a command of the program prints: the scripts in `tests/` compare it there. So of texts
-//! here are parts, and texts that no command shows as they are wanted here.
+//! here are parts, and texts that no command shows as they are expected here.
 //!
 //! They stand apart from those crates, since a crate that has tests is proved twice.
 #![tactic(auto)]

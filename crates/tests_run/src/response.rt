@@ -34,7 +34,7 @@ fn head(rt: &impl Abort) -> Head {
     }
 }
 
-// So many details go to several threads.
+// This many details go to several threads.
 const DETAILS: u64 = 3000;
 
 // Each seventh is refused.

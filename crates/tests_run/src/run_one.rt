@@ -1,4 +1,4 @@
-// What no clause says: that records are answered, and not want of memory. Cases are those of tests/cases/README.md.
+// What no clause says: that records are answered, and not out of memory. Cases are those of tests/cases/README.md.
 ghost use Rattle.std.specs.Prelude.{true};
 
 use crate::same::same;
@@ -95,7 +95,7 @@ fn run(
     finished.expect(rt, "memory")
 }
 
-/// The status of the record's first answer, as a reply writes it; a blank where there is none.
+/// The status of the record's first answer, as a reply writes it; a blank if there is none.
 pub(crate) fn status(finished: &Finished, at: usize) -> u8 {
     let Some(reply) = finished.replies.get(at) else {
         return b' ';

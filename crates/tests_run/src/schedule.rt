@@ -57,7 +57,7 @@ fn footprints_on(
     footprints(alloc, &opening, records).expect(rt, "memory")
 }
 
-// The footprint of the record at the place, from 0, names these fill keys and families alone.
+// The footprint of the record at the place, from 0, names these fill keys and families only.
 fn names(rt: &impl Abort, list: &[Footprint], at: usize, keys: &[Key], families: &[Id]) {
     let footprint = list.get(at).expect(rt, "a footprint");
     same(rt, footprint.keys(), keys);
@@ -144,7 +144,7 @@ fn two_of_each_family(rt: &impl Abort, alloc: Global) -> Vec<Transmission> {
     records
 }
 
-// Whether the first records, so many, are in wave 1, and the others in wave 2.
+// Whether the first records, this many, are in wave 1, and the others in wave 2.
 fn are_in_two(numbers: &[usize], count: usize) -> bool {
     numbers.iter().take(count).all(|wave| *wave == 1)
         && numbers.iter().skip(count).all(|wave| *wave == 2)
@@ -195,7 +195,7 @@ fn billed_and_taken_back(rt: &impl Abort, alloc: Global) -> Vec<Transmission> {
     records
 }
 
-// How many footprints name so many families.
+// How many footprints name this many families.
 fn naming(list: &[Footprint], families: usize) -> usize {
     list.iter()
         .filter(|footprint| footprint.families().len() == families)
@@ -219,7 +219,7 @@ fn queues_of(rt: &impl Abort, alloc: Global, list: &[Footprint]) -> Queues {
     Queues::of(alloc, list).expect(rt, "memory")
 }
 
-// Hands out the place that is ready and passes it at once, or tells that none is.
+// Issues the place that is ready and passes it at once, or says that none is.
 fn pass_next(queues: &mut Queues) -> bool {
     let Some(place) = queues.ready() else {
         return false;
@@ -239,14 +239,14 @@ fn drive(queues: &mut Queues, most: usize) -> usize {
     most
 }
 
-// So many places of the footprints go, one after another, and then none is ready.
+// This many places of the footprints go, one after another, and then none is ready.
 fn all_go(rt: &impl Abort, alloc: Global, list: &[Footprint], count: usize) {
     let mut queues = queues_of(rt, alloc, list);
     same(rt, drive(&mut queues, 2000), count);
     same(rt, queues.ready(), None);
 }
 
-// Hands out what is ready, and then passes it, the last of it first; it says how many went.
+// Issues what is ready, and then passes it, the last of it first; it says how many went.
 fn drive_back(queues: &mut Queues, most: usize) -> usize
     ensures few { result ≤ most }
     ensures handed { (p : ℕ) → Was p queues.old.handed → Was p queues.new.handed }
@@ -266,7 +266,7 @@ fn drive_back(queues: &mut Queues, most: usize) -> usize
     }
 }
 
-// So many go together.
+// This many go together.
 fn go_together(rt: &impl Abort, queues: &mut Queues, count: usize) {
     same(rt, drive_back(queues, 9), count);
 }

@@ -8,7 +8,7 @@ use rx_settle::settle;
 use std::alloc::Global;
 use std::process::Abort;
 
-// What one transmission is answered: to each transaction, or to a rejected header with so many groups.
+// What one transmission is answered: to each transaction, or to a rejected header with this many groups.
 #[derive(Clone, Copy)]
 enum Told<'a> {
     Answers(&'a [Answer]),

@@ -24,7 +24,7 @@ fn put(rt: &impl Abort, alloc: Global, records: &mut Vec<Transmission>, one: Tra
     records.push(today(rt, alloc, &[one])).expect(rt, "memory");
 }
 
-// The shards of the records on the books of this text, at most so many.
+// The shards of the records on the books of this text, at most this many.
 fn shards_on(
     rt: &impl Abort,
     alloc: Global,

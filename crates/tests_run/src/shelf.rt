@@ -126,7 +126,7 @@ fn closed(rt: &impl Abort, shelf: Shelf) -> Books {
     shelf.close().expect(rt, "closed")
 }
 
-// A shelf whose parcel of the first fill is out, and was let go.
+// A shelf whose parcel of the first fill is out, and was dropped.
 fn lent(rt: &impl Abort, alloc: Global) -> Shelf {
     let mut shelf = shelf(rt, alloc);
     let _out = taken(rt, alloc, &mut shelf, 201);

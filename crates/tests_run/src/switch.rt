@@ -75,7 +75,7 @@ fn refuses_sixty_five_workers(rt: HostRuntime) {
     same(&rt, answer, Err(IoFault::Switch(SwitchFault::Workers)));
 }
 
-// One byte a read: the first is no batch's, the third read fails.
+// One byte a read: the first isn't a batch's, the third read fails.
 #[test]
 fn reads_on_after_a_fault_of_the_batch(rt: HostRuntime) {
     let batch = SliceSource::new(b"X\x02", 1).failing_after(2);

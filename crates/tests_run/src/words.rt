@@ -1,4 +1,4 @@
-// What is understood; what is refused, and how, is told of the built program (`tests/run_words.py`).
+// What is understood; what is refused, and how, is tested on the built program (`tests/run_words.py`).
 use crate::same::same;
 use rx_cli::{
     Asked, Command, ExplainWords, Form, Portion, ReportWords, RunWords, ShowWords, VerifyWords,

@@ -1,5 +1,5 @@
-// What no clause says: that records go beside one another, each once, and that a run ends where a thread is refused. Cases are
-// those of tests/cases/README.md.
+// What no clause says: that records go in parallel, each once, and that a run ends where a thread is refused. Cases are those
+// of tests/cases/README.md.
 ghost use Rattle.std.specs.Prelude.{◌≡◌, ◌≤◌, length, true};
 
 use crate::run_one::{add_last_years_claim, books_of, claim, enroll, status};
@@ -16,7 +16,7 @@ use std::sync::atomic::{AtomicU64, Ordering};
 use std::thread;
 use std::thread::Threads;
 
-// A held record goes on after so many turns; a run without another worker beside it ends within a test's time.
+// A held record goes on after this many turns; a run without another worker next to it ends within a test's time.
 const TURNS: u64 = 20_000_000;
 
 // One member in each of two families.
@@ -128,8 +128,8 @@ enum Holds {
     Both,
 }
 
-// It notes whose start it is asked for, counts how often each place is passed, and holds records back, for so many turns
-// at most. Records share a desk at it, or go in shards.
+// It notes whose start it is asked for, counts how often each place is passed, and holds records back, for this many
+// turns at most. Records share a desk at it, or go in shards.
 #[derive(Drop)]
 struct Passed {
     holds: Holds,
@@ -344,7 +344,7 @@ fn workers_are_1_to_64(rt: HostRuntime) {
 // The claims of a large family.
 const MANY_CLAIMS: u64 = 1_000;
 
-// One member with so many claims.
+// One member with this many claims.
 fn large_family(rt: &impl Abort, alloc: Global, claims: u64) -> Ledger {
     let mut ledger = Ledger::new(alloc);
     enroll(rt, &mut ledger, b"C100", b"01");

@@ -49,7 +49,7 @@ fn told_of(outcome: &Result<Batch, BatchFault>) -> (u32, u64) {
     }
 }
 
-// What is told of a file.
+// What is said of a file.
 fn told(alloc: Global, file: &[u8]) -> (u32, u64) {
     told_of(&read_batch(alloc, file))
 }
@@ -107,7 +107,7 @@ fn head(rt: &impl Abort) -> Head {
     }
 }
 
-// The details are that of one billing alone.
+// The details are that of one billing only.
 fn is_one_claim(rt: &impl Abort, details: &[Detail]) {
     same!(*rt; details.len(), 1);
     for detail in details {
@@ -144,7 +144,7 @@ fn writes_what_it_reads_and_counts_its_records(rt: HostRuntime) {
     is_written(&rt, alloc, &without, &changed(&rt, alloc, &empty, 94, b'2'));
 }
 
-// The count of an empty batch, and what is told of it.
+// The count of an empty batch, and what is said of it.
 const COUNTS: &[(u8, (u32, u64))] = &[
     (b'0', (0, 0)),
     (b'2', (0, 0)),
@@ -178,7 +178,7 @@ fn names_the_fault_of_a_cut_file(rt: HostRuntime) {
     }
 }
 
-// The place of a byte in one-billing's file, another byte there, and what is told of the file then.
+// The place of a byte in one-billing's file, another byte there, and what is said of the file then.
 const CHANGES: &[(usize, u8, (u32, u64))] = &[
     (100, 2, (4, 75)),
     (80, 3, (6, 75)),
@@ -203,7 +203,7 @@ fn names_the_fault_of_a_damaged_file(rt: HostRuntime) {
     }
 }
 
-// What is told of a file between these texts.
+// What is said of a file between these texts.
 fn told_between(
     rt: &impl Abort,
     alloc: Global,
@@ -215,7 +215,7 @@ fn told_between(
     told(alloc, &text)
 }
 
-// What stands before one-billing's file and behind it, and what is told of the whole.
+// What stands before one-billing's file and after it, and what is said of the whole.
 const BESIDE: &[(&str, &[u8], &[u8], (u32, u64))] = &[
     ("a byte behind", b"", b"X", (11, 326)),
     ("a second trailer", b"", TRAILER, (11, 326)),

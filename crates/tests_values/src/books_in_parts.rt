@@ -1,4 +1,4 @@
-// What no clause says: that the texts of the worked cases are read and told alike, whatever the parts.
+// What no clause says: that the texts of the worked cases are read and reported alike, whatever the parts.
 use crate::lines::text;
 use crate::same::same;
 use rx_books_store::Books;
@@ -29,7 +29,7 @@ const OLD_CLAIM: &[u8] =
     b"C|1234567893|90|20251230|C100|01|00002000202|30000|30|30000|175|10000|3000|\
 000003100000051\n";
 
-// The books behind two billings, in version 3.
+// The books after two billings, in version 3.
 const BOOKS: &[u8] = b"BOOKS|3|20260101|20261231\n\
 M|C100|01|20260101|20261231|10000\n\
 M|C100|02|20260101|20261231|0\n\
@@ -106,12 +106,12 @@ fn damaged_claims_are_told(rt: HostRuntime) {
     }
 }
 
-// The books of a text, read in so many parts.
+// The books of a text, read in this many parts.
 fn read<R: Threads + Sync + Abort>(rt: &R, alloc: Global, parts: usize, text: &[u8]) -> Books {
     Books::read_in_parts(rt, alloc, parts, text).expect(rt, "books")
 }
 
-// The text of books, written in so many parts.
+// The text of books, written in this many parts.
 fn written<R: Threads + Sync + Abort>(
     rt: &R,
     alloc: Global,
@@ -122,7 +122,7 @@ fn written<R: Threads + Sync + Abort>(
     pieces.joined(alloc).expect(rt, "memory")
 }
 
-// What is written of a text that is read, both in so many parts.
+// What is written of a text that is read, both in this many parts.
 fn rewritten<R: Threads + Sync + Abort>(
     rt: &R,
     alloc: Global,

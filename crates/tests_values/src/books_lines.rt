@@ -111,7 +111,7 @@ fn claim(rt: &impl Abort, reference: u64, dispensing_fee: u64) -> Row {
     row.expect(rt, "within the limits")
 }
 
-// The ledger of one member with so many claims.
+// The ledger of one member with this many claims.
 fn ledger_of(rt: &impl Abort, alloc: Global, claims: u64) -> Ledger {
     let mut ledger = Ledger::new(alloc);
     let member = Member::new(
@@ -136,7 +136,7 @@ fn written_anew(rt: &impl Abort, alloc: Global, ledger: &Ledger) -> Vec<u8> {
     books.write(alloc).expect(rt, "memory")
 }
 
-// Books that keep the text of so many claims, which they read in so many parts.
+// Books that keep the text of this many claims, which they read in this many parts.
 fn kept<R: Threads + Sync + Abort>(rt: &R, alloc: Global, parts: usize, claims: u64) -> Books {
     let text = written_anew(rt, alloc, &ledger_of(rt, alloc, claims));
     Books::read_kept(rt, alloc, parts, text).expect(rt, "books")
@@ -195,7 +195,7 @@ fn touched(rt: &impl Abort, alloc: Global, books: Books, touches: &[(u64, Touch)
     books
 }
 
-// What a sink takes of pieces, so many bytes a call.
+// What a sink takes of pieces, this many bytes a call.
 fn taken(rt: &impl Abort, alloc: Global, pieces: &Pieces, most: usize) -> Vec<u8> {
     let mut sink = VecSink::new(alloc, most);
     pieces.write_to(alloc, &mut sink).expect(rt, "written");

@@ -41,7 +41,7 @@ fn is_exact(rt: &impl Abort, alloc: Global, text: &[u8], lists: Option<Lists>) {
     assert!(rt; are_exact(rt, alloc, text, &lists));
 }
 
-// The text is read in so many parts as the exact reader reads it.
+// The text is read in this many parts as the exact reader reads it.
 fn is_read<R: Threads + Sync + Abort>(rt: &R, alloc: Global, parts: usize, text: &[u8]) {
     is_exact(rt, alloc, text, read_lists_in_parts(rt, alloc, parts, text));
 }

@@ -264,7 +264,7 @@ fn no_billing_stands_beside_a_reversal(rt: HostRuntime) {
     }
 }
 
-// A transaction is a list of its own, which is the list of it alone.
+// A transaction is a list of its own, which is the list of it only.
 fn is_one(rt: &impl Abort, alloc: Global, items: &[Transaction; 1]) {
     let one = Transactions::one(items[0]);
     is_list_of(rt, alloc, &one, items.as_slice());
@@ -413,7 +413,7 @@ fn rejection(rt: &impl Abort, groups: u64) -> Outcome {
     Outcome::Rejected(rejected(rt, groups))
 }
 
-// The reply of so many of the answers above.
+// The reply of this many of the answers above.
 fn told_first(rt: &impl Abort, alloc: Global, count: usize) -> Reply {
     let all = each_answer(rt);
     told(rt, alloc, all.get(..count).expect(rt, "so many answers"))

@@ -404,7 +404,7 @@ const FOUR: &[&[u8]] = &[b"01", b"02", b"03", b"04"];
 
 const FIVE: &[&[u8]] = &[b"01", b"02", b"03", b"04", b"05"];
 
-// The book of the family C100 with four members, of whom 01 has one-billing's claim.
+// The book of the family C100 with four members, of which 01 has one-billing's claim.
 fn family_of_four(rt: &impl Abort, alloc: Global) -> Family {
     let mut book = book_with(rt, alloc, b"C100", 123);
     enroll(rt, &mut book, b"03");

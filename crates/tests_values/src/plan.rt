@@ -82,7 +82,7 @@ fn a_drug_has_its_share_and_price(rt: HostRuntime) {
     same(&rt, sheet.drug(product), Some(most));
 }
 
-// Where these figures are told to be wrong.
+// Where these figures are found to be wrong.
 fn told(alloc: Global, figures: Figures) -> Option<Wrong> {
     Sheet::new(alloc, figures).err()
 }

@@ -45,7 +45,7 @@ fn put(rt: &impl Abort, shown: &mut String, text: &str) {
     shown.push_str(text).expect(rt, "memory");
 }
 
-// A number behind a blank; a dash where there is none.
+// A number after a blank; a dash if there is none.
 fn put_number(rt: &impl Abort, shown: &mut String, number: Option<u64>) {
     match number {
         Some(number) => write!(shown, " {number}").expect(rt, "memory"),
@@ -128,7 +128,7 @@ fn asked(rt: &impl Abort, alloc: Global, text: &[u8]) -> String {
     shown(rt, alloc, &decode(alloc, &DOOR, text).expect(rt, "memory"))
 }
 
-// A case's name, its header, the parts behind it, and what they ask.
+// A case's name, its header, the parts after it, and what they ask.
 type Case = (
     &'static str,
     &'static [u8],
@@ -242,7 +242,7 @@ fn headers(rt: HostRuntime) {
     expect_all(&rt, rt.alloc(), HEADERS);
 }
 
-// The base claim with a segment of so many bytes more in front.
+// The base claim with a segment of this many bytes more in front.
 fn with_segment(rt: &impl Abort, alloc: Global, length: usize) -> Vec<u8> {
     let mut text = HEADER.to_vec(alloc).expect(rt, "memory");
     text.extend_from_slice(b"\x1e\x1cAM08\x1cXX")
@@ -262,7 +262,7 @@ fn cuts_at_every_place(rt: HostRuntime) {
     for length in 0..140 {
         let mut text = with_segment(&rt, rt.alloc(), length);
         same!(rt; asked(&rt, rt.alloc(), &text).as_str(), BASE);
-        // A separator at the very end has an empty piece behind it, which is passed over.
+        // A separator at the very end has an empty piece after it, which is skipped.
         text.push(0x1C).expect(&rt, "memory");
         same!(rt; asked(&rt, rt.alloc(), &text).as_str(), BASE);
     }

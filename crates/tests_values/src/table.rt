@@ -3,7 +3,7 @@
 use std::fmt::Debug;
 use std::process::Abort;
 
-/// What is given for a line of a table is what was wanted; where it isn't, the line is named.
+/// What is given for a line of a table is what was expected; where it isn't, the line is named.
 pub(crate) fn same_at<T: PartialEq + Debug>(rt: &impl Abort, line: &str, given: &T, wanted: &T) {
     assert_eq!(rt; *given, *wanted, "{line}");
 }

@@ -1,4 +1,4 @@
-//! A job on a desk, beside the same job in file order.
+//! A job on a desk, compared with the same job in file order.
 
 use crate::trials::draw::Draw;
 use crate::trials::drawn::{drawn_ledger, drawn_records};
@@ -146,7 +146,7 @@ fn opening(alloc: Global, ledger: &Ledger) -> Result<Books, Miss> {
     Books::from_ledger(alloc, ledger, period()?).map_err(Miss::from)
 }
 
-// Whether the books have the same text, which tells members, claims and all totals.
+// Whether the books have the same text, which determines members, claims and all totals.
 fn compare_books(alloc: Global, books: &Books, ledger: &Ledger) -> Result<(), Miss> {
     let text = books.write(alloc)?;
     let wanted = written(alloc, ledger)?;

@@ -21,7 +21,7 @@ impl Draw {
         word % most.saturating_add(1).max(1)
     }
 
-    /// True once in so many times.
+    /// True once in this many times.
     pub fn once_in(&mut self, times: u32) -> bool {
         self.up_to(times.saturating_sub(1)) == 0
     }

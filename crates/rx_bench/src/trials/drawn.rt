@@ -34,7 +34,7 @@ pub fn drawn_ledger(alloc: Global, draw: &mut Draw, profile: Profile) -> Result<
     unless_missed(fill(&mut ledger, draw, profile), ledger)
 }
 
-// The families, and up to so many claims of theirs.
+// The families, and up to this many claims of theirs.
 fn fill(ledger: &mut Ledger, draw: &mut Draw, profile: Profile) -> Result<(), Miss> {
     for nth in 0..profile.families() {
         enroll(ledger, nth, 0)?;

@@ -99,14 +99,14 @@ fn turn(
     Ok(true)
 }
 
-// What `next` hands out, which is an order just where the desk said so; where it is refused memory the desk is as before.
+// What `next` issues, which is an order just where the desk said so; where it is refused memory the desk is as before.
 fn taken(desk: &mut Desk) -> Result<Next, Miss> {
     let (ready, events) = (desk.is_ready(), desk.history().len());
     let next = desk.next();
     unless_missed(fits(desk, &next, ready, events), next)
 }
 
-// What `next` handed out fits to what the desk said before: whether a record is ready, and how many events were.
+// What `next` issued fits to what the desk said before: whether a record is ready, and how many events were.
 fn fits(desk: &Desk, next: &Next, ready: bool, events: usize) -> Result<(), Miss> {
     if matches!(next, Next::Memory) {
         return if desk.is_ready() && desk.history().len() == events {
@@ -142,7 +142,7 @@ fn give_twice(alloc: Global, desk: &mut Desk, order: Order) -> Result<(), Miss> 
     match order.copy(alloc) {
         Ok(again) => {
             let given = give(alloc, desk, order, true);
-            // The same order isn't out any more.
+            // The same order is no longer out.
             given.and(give(alloc, desk, again, false))
         }
         Err(Memory) => {

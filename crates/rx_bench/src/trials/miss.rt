@@ -4,7 +4,7 @@ use std::alloc::{AllocError, AllocFailed};
 /// Why a job doesn't end as in file order.
 #[derive(Clone, Copy, Debug, PartialEq, Eq)]
 pub enum Miss {
-    /// Memory was wanting.
+    /// Out of memory.
     Memory,
     /// A value is outside its range.
     Value,

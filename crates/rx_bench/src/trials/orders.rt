@@ -2,7 +2,7 @@
 //!
 //! Several records are out at once, and each comes back when it is drawn. The replies and the books at the end are
 //! compared with those of `plain_run`, one record after another in file order; the first job that differs ends the
-//! program. What a desk is refused for want of memory is asked once more, and has to succeed as if it had never been
+//! program. What a desk is refused where memory runs out is asked once more, and has to succeed as if it had never been
 //! refused.
 
 use crate::trials::compared::compared;

@@ -68,7 +68,7 @@ impl Profile {
         }
     }
 
-    /// One record in so many takes claims back.
+    /// One record in this many takes claims back.
     pub fn reversal_in(self) -> u32 {
         match self {
             Profile::Mixed => 4,

@@ -3,9 +3,9 @@ use rx_explain::Wanted;
 use rx_fields::{Authorization, Key, Lot, Memory, NUMBERS_OF_A_BATCH, Reference};
 use std::alloc::Global;
 
-/// The places of the records, ascending, of which a transaction is asked for, as far as the requests tell: exactly those,
+/// The places of the records, ascending, of which a transaction is asked for, as far as the requests say: exactly those,
 /// but where an authorization number is asked for. Then they are the records with the fill key of the transaction whose own
-/// number it is; that a claim of the opening books has it too, only the replies tell.
+/// number it is; that a claim of the opening books has it too, only the replies say.
 pub(crate) fn asked_in(
     alloc: Global,
     lot: Lot,

@@ -84,7 +84,7 @@ fn put_same(text: &mut Vec<u8>, output: &Output) -> Result<(), AllocError>
     text.extend_from_slice(b"\n")
 }
 
-// A file's size, behind the words that tell which it is.
+// A file's size, after the words that say which it is.
 #[tactic(auto, using(std::proofs::Common::append_assoc), unfolding(crate::specs::Verdict::sized))]
 fn put_size(text: &mut Vec<u8>, words: &[u8], file: &[u8]) -> Result<(), AllocError>
     ensures { OnOk result (text.new.items ≡ text.old.items ++ sized words.now file.now) }

@@ -99,7 +99,7 @@ fn numbers_at(bytes: &[u8]) -> Option<((Authorization, Reference), &[u8])>
     Some(((number, reference), rest))
 }
 
-// What stands behind the status of a paid claim, and what follows.
+// What stands after the status of a paid claim, and what follows.
 #[tactic(auto, unfolding(crate::specs::Reading::paid_claim_at))]
 fn paid_claim_at(bytes: &[u8]) -> Option<(Paid, &[u8])>
     ensures { option_map (λ x. (x.0, x.1.now)) result ≡ paid_claim_at bytes.now }
@@ -118,7 +118,7 @@ fn paid_claim_at(bytes: &[u8]) -> Option<(Paid, &[u8])>
     Some((paid, rest))
 }
 
-// What stands behind the status of a reversal, and what follows.
+// What stands after the status of a reversal, and what follows.
 #[tactic(auto, using(crate::proofs::Approval::approved_steps))]
 fn approved_at(bytes: &[u8]) -> Option<(Approved, &[u8])>
     ensures { option_map (λ x. (x.0, x.1.now)) result ≡ approved_at bytes.now }
@@ -138,7 +138,7 @@ fn approved_at(bytes: &[u8]) -> Option<(Approved, &[u8])>
     Some((approved, rest))
 }
 
-// What stands behind the status of a rejected transaction, and what follows.
+// What stands after the status of a rejected transaction, and what follows.
 #[tactic(auto, unfolding(crate::specs::Reading::refused_at))]
 fn refused_at(bytes: &[u8]) -> Option<(Refused, &[u8])>
     ensures { option_map (λ x. (x.0, x.1.now)) result ≡ refused_at bytes.now }

@@ -7,7 +7,7 @@ use super::fields::{bytes_at, number_at};
 use rx_d0_values::{Echo, EchoParts};
 use rx_fields::Count;
 
-/// Whether the request's header was heard.
+/// Whether the request's header was accepted.
 #[derive(Clone, Copy)]
 pub(super) enum Status {
     Heard,
@@ -31,7 +31,7 @@ struct Front {
     status: Status,
 }
 
-// The header behind its status.
+// The header after its status.
 #[derive(Clone, Copy)]
 struct Back {
     qualifier: [u8; 2],

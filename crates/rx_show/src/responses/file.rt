@@ -15,7 +15,7 @@ use std::alloc::Global;
 /// The first fault, as of a batch file, with its place in bytes; Memory.
 pub fn read_response(alloc: Global, bytes: &[u8]) -> Result<Batch, BatchFault>
     ensures ok { IfOk result (λ batch. IsResponse bytes.now batch.head batch.details) }
-    // A response file is read as its head and details, unless memory was wanting.
+    // A response file is read as its head and details, unless memory ran out.
     ensures reads { (batch : Batch) → IsResponse bytes.now batch.head batch.details → Gives result (Ok batch) }
     // A fault is that of the batch file.
     ensures refuses { IfErr result (λ fault. UnlessMemory fault (HasFault (as_batch bytes.now) fault)) }

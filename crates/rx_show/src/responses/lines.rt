@@ -141,7 +141,7 @@ fn put_visit(text: &mut Vec<u8>, word: &[u8], echo: &EchoParts) -> Result<(), Al
     text.extend_from_slice(&echo.date)
 }
 
-// The provider that a field names; nothing where it is no id.
+// The provider that a field names; nothing if it is no id.
 fn put_provider(text: &mut Vec<u8>, field: &[u8; 15]) -> Result<(), AllocError>
     ensures { OnOk result (text.new.items ≡ text.old.items ++ named field.now) }
 {

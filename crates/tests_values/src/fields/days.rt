@@ -104,7 +104,7 @@ const YEARS: &[(&str, (&str, &str))] = &[
     ("9999", FEBRUARY),
 ];
 
-// The day that eight digits stand for, those of a year and those behind it.
+// The day that eight digits stand for, those of a year and those after it.
 fn day_of(year: &str, rest: &str) -> Result<Day, FieldFault> {
     let mut text = *b"00000000";
     for (at, digit) in text.iter_mut().zip(year.bytes().chain(rest.bytes())) {

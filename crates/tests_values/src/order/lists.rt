@@ -86,7 +86,7 @@ fn finds_a_seat_by_its_place(rt: HostRuntime) {
     same!(rt; seats.place(&Place { row: 1, number: 5 }), Err(1));
 }
 
-// What a seat's second guest is told: who comes back, where the seat is taken.
+// The answer to a seat's second guest: who comes back, where the seat is taken.
 fn turned_away(seats: &mut Ascending<Seat>, seat: Seat) -> Option<Seat> {
     match seats.insert(seat) {
         Err(InsertError::There(back)) => Some(back),

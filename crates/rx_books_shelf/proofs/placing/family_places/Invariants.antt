@@ -1,4 +1,4 @@
--- The books that still have no place, and behind them the places so far, the last first; each is of the open books.
+-- The books that still have no place, and after them the places so far, the last first; each is of the open books.
 use Rattle.std.proofs.Common.{◌≡◌, ◌++◌, length, map, reverse}
 use Rattle.std.specs.List.{All}
 use Rattle.rx_books_family.specs.FamilyBook.{FamilyBook}

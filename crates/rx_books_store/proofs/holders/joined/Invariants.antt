@@ -1,4 +1,4 @@
--- The lists so far, behind one another.
+-- The lists so far, one after another.
 use Rattle.std.proofs.Common.{◌≡◌, take}
 use Rattle.std.specs.List.{flat_map}
 use Rattle.std.specs.Vec.{vec_items}

@@ -1,4 +1,4 @@
--- the last item alone tells
+-- only the last item decides
 use Rattle.std.proofs.Common.{sym, ap, ◌∙◌}
 use Rattle.std.specs.Ordering.{is_lt}
 use Rattle.rx_sorted.proofs.Kept.{is_past-last}

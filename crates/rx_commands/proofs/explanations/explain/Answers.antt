@@ -1,4 +1,4 @@
--- What is told of the batch that was replayed is told of the inputs.
+-- What is said of the batch that was replayed is said of the inputs.
 use Rattle.std.proofs.lemmas.Result.{IfOk-weaker}
 use Rattle.rx_commands.proofs.explanations.explain.Goals as goal
 

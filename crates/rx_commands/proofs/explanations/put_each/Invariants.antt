@@ -1,4 +1,4 @@
--- What is told of the explanations so far.
+-- What is said of the explanations so far.
 use Rattle.std.proofs.Common.{◌≡◌, ◌++◌, ◌||◌, take}
 use Rattle.std.specs.List.{flat_map, list_any}
 use Rattle.std.specs.Option.{option_copied}

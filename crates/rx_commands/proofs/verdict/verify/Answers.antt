@@ -1,4 +1,4 @@
--- A run that is done had a stamp; and it is told as the same exactly where no file differs.
+-- A run that is done had a stamp; and it is reported as the same exactly where no file differs.
 use Rattle.std.proofs.lemmas.Result.{err_from_is_err_and}
 use Rattle.rx_switch.specs.Output.IsRefused.{memory}
 use Rattle.rx_commands.proofs.Verdicts.{same_outcome}

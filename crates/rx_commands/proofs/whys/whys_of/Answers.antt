@@ -1,4 +1,4 @@
--- Where the lines are in order, so are the texts that tell of them.
+-- Where the lines are in order, so are the texts about them.
 use Rattle.std.proofs.Common.{◌∙◌, ap, map}
 use Rattle.rx_report_text.specs.declared.why.Why.{Why}
 use Rattle.rx_commands.proofs.Spots.{same_order}

@@ -2,7 +2,7 @@ use Rattle.std.proofs.Common.{◌≡◌, ◌≤◌, ◌%◌, length, drop}
 use Rattle.rx_d0_request.specs.Marks.{marks_of}
 use Rattle.rx_d0_request.proofs.marks.chunked_marks.Given as goal
 
--- the marks of what is behind a whole number of chunks
+-- the marks of what is after a whole number of chunks
 abbrev pub invariant-loop-at : goal.invariant-loop-at
 invariant-loop-at l =
     record {

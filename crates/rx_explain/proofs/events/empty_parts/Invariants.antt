@@ -1,4 +1,4 @@
--- So many parts, each empty.
+-- This many parts, each empty.
 use Rattle.std.proofs.Common.{◌≡◌, [], length}
 use Rattle.std.specs.List.{All}
 use Rattle.rx_explain.proofs.events.empty_parts.Given as goal

@@ -1,4 +1,4 @@
--- The record is heard: its reply, its ledger and its explanations are those of its transactions.
+-- The record is accepted: its reply, its ledger and its explanations are those of its transactions.
 use Rattle.std.proofs.Common.{◌≡◌, ◌+◌, ◌-◌, ◌++◌, [], ◌∷◌, ◌∙◌, ℕ, ap, get_or, map, refl, subst, sym, take, arith}
 use Rattle.rx_d0_values.specs.declared.reply.Outcome.{Outcome}
 use Rattle.rx_d0_values.specs.declared.reply.Outcome.TheVariants as outcome

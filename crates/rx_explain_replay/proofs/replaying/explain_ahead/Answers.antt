@@ -1,4 +1,4 @@
--- One more of the places is gone to, or passed over.
+-- One more of the places is gone to, or skipped.
 use Rattle.std.proofs.Common.{◌≡◌, ◌+◌, ◌++◌, ◌∷◌, ◌∙◌, ℕ, List, ap, drop, drop-cons, get_or, length, map, suc, sym, arith}
 use Rattle.rx_explain_replay.specs.Places.{places_ahead}
 use Rattle.rx_explain_replay.specs.declared.replaying.Explained.{Explained}

@@ -4,7 +4,7 @@ use Rattle.rx_fields.proofs.DateFaults.{date_fault, fault_told}
 use Rattle.rx_fields.proofs.DateLaws.{civil_made, date_made, date_is, date_isnt, part_below}
 use Rattle.rx_fields.proofs.day.date_read.Goals as goal
 
--- What is no number of eight digits is no date.
+-- What isn't a number of eight digits is no date.
 pub returns-in_err-check_digits : goal.returns-in_err-check_digits
 returns-in_err-check_digits c =
     fault_told _ _ c.from_residual.ensures.1 ∙ sym (date_fault c.args.bytes.now _ c.in_err-check_digits.ensures.number)

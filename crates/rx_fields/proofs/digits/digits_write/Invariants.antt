@@ -1,4 +1,4 @@
--- The digits of the rest, and behind them those that are written, are the whole text.
+-- The digits of the rest, and after them those that are written, are the whole text.
 use Rattle.std.proofs.Common.{◌≡◌, ◌++◌, drop, length}
 use Rattle.rx_fields.specs.Digits.{digits_text}
 use Rattle.rx_fields.proofs.digits.digits_write.Given as goal

@@ -2,7 +2,7 @@ use Rattle.std.proofs.Common.{◌≡◌, ◌≤◌, ◌+◌, false, vec_len}
 use Rattle.rx_io.specs.Reading.{PassesPiece, least_room, most_bytes}
 use Rattle.rx_io.proofs.reading.read_each.Given as goal
 
--- so many bytes went on, at least one a read, and no read failed
+-- this many bytes went on, at least one a read, and no read failed
 abbrev pub invariant-by_piece : goal.invariant-by_piece
 invariant-by_piece g l =
     PassesPiece (g.S.Source.left l.fn.source) (g.S.Source.left l.source) (g.C.Consumer.stands_for l.fn.consumer)

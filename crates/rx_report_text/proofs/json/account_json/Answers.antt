@@ -2,7 +2,7 @@ use Rattle.std.proofs.Common.{◌≡◌, ℕ, List, [], ◌∷◌, ◌++◌, cod
 use Rattle.rx_report_text.specs.Json.{portion_json, sections_json, tally_json}
 use Rattle.rx_report_text.proofs.json.account_json.Goals as goal
 
--- what is written one behind the other
+-- what is written one after the other
 joined : (t0 t1 t2 t3 t4 a f s r : List ℕ) → t0 ≡ [] → t1 ≡ t0 ++ 123 ∷ [] → t2 ≡ t1 ++ a → t3 ≡ t2 ++ (f ++ s)
     → t4 ≡ t3 ++ r → t4 ≡ 123 ∷ (a ++ (f ++ (s ++ r)))
 joined t0 t1 t2 t3 t4 a f s r e0 e1 e2 e3 e4 =

@@ -1,4 +1,4 @@
--- The fill keys of the transactions so far stand behind the others.
+-- The fill keys of the transactions so far stand after the others.
 use Rattle.std.proofs.Common.{◌≡◌, ◌++◌, map, take}
 use Rattle.std.specs.List.{flat_map}
 use Rattle.rx_serial.specs.Named.{keys_of, named_key}

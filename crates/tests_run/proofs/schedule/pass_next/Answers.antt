@@ -2,7 +2,7 @@ use Rattle.std.proofs.Common.{subst}
 use Rattle.rx_schedule.specs.Machine.{Was}
 use Rattle.tests_run.proofs.schedule.pass_next.Goals as goal
 
--- a ready place wasn't handed out, so it wasn't passed
+-- a ready place wasn't issued, so it wasn't passed
 pub pass-requires-clause-unpassed : goal.pass-requires-clause-unpassed
 pass-requires-clause-unpassed c = λ was. c.in-Some.ensures.next.unhanded
     (c.ready.ensures.within.after c.in-Some.place (subst (λ ps. Was c.in-Some.place ps) c.hand.ensures.passed was))

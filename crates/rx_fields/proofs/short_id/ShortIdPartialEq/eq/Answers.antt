@@ -1,4 +1,4 @@
--- Zeros stand behind both texts, so their arrays tell.
+-- Zeros stand after both texts, so their arrays decide.
 use Rattle.std.proofs.Common.{◌∙◌}
 use Rattle.rx_fields.proofs.WordLaws.{padded_same}
 use Rattle.rx_fields.proofs.short_id.ShortIdPartialEq.eq.Goals as goal

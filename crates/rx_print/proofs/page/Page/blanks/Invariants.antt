@@ -1,6 +1,6 @@
 use Rattle.std.proofs.Common.{◌≡◌, ◌++◌, replicate}
 use Rattle.rx_print.proofs.page.Page.blanks.Given as goal
 
--- so many blanks as turns are done
+-- this many blanks as turns are done
 abbrev pub invariant-blanks : goal.invariant-blanks
 invariant-blanks l = l.self.bytes.items ≡ l.fn.self.bytes.items ++ replicate l.counter 32

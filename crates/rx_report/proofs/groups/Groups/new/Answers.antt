@@ -5,7 +5,7 @@ use Rattle.rx_report.specs.Groups.{grouped}
 use Rattle.rx_report.proofs.Grouping.{added-grouped}
 use Rattle.rx_report.proofs.groups.Groups.new.Goals as goal
 
--- the line goes behind those of its provider
+-- the line goes after those of its provider
 pub loop-line-preserved : goal.loop-line-preserved
 loop-line-preserved c =
     let before = take c.loop-line.line-index c.args.lines.now in

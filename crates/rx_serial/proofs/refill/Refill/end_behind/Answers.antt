@@ -1,4 +1,4 @@
--- The courses ascend: what stands before a fill of the course isn't past it, and what stands behind one past it is.
+-- The courses ascend: what stands before a fill of the course isn't past it, and what stands after one past it is.
 use Rattle.std.proofs.Common.{◌≡◌, false, true, get_or, sym, ap, refl, ◌∙◌, arith}
 use Rattle.std.specs.Ordering.{is_gt, is_le}
 use Rattle.std.specs.declared.cmp.Ordering.{Ordering}
