@@ -1,7 +1,7 @@
 //! The Telecommunication Standard D.0 as this product's profile has it: requests in, replies out.
 //!
 //! `decode` reads any byte string as a request; `encode` writes a reply and `decode_reply` reads it back. What they
-//! speak of are the values of `rx_d0_values`.
+//! speak of are the values of `rx_d0_values`, whose fields have the types of `rx_fields`.
 //!
 //! ```rust
 //! let transmission = rx_d0::decode(alloc, &door, detail)?;
@@ -15,4 +15,8 @@ pub use rx_d0_values::{
     Amounts, Answer, Answers, Approved, Bill, BillParts, Body, Codes, Echo, EchoParts, Faulty,
     Heard, Outcome, Paid, Pricing, Refused, Rejected, Reply, Reversal, Transaction, Transactions,
     Transmission, TryCopy, copies,
+};
+pub use rx_fields::{
+    Authorization, Cents, Code, Count, Day, Days, Door, Id, Key, Memory, Person, Product, Provider,
+    Quantity, Reference,
 };

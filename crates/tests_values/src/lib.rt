@@ -9,6 +9,8 @@
 #[cfg(test)]
 mod batch;
 #[cfg(test)]
+mod books;
+#[cfg(test)]
 mod books_in_parts;
 #[cfg(test)]
 mod books_kept;
@@ -20,6 +22,8 @@ mod books_quick;
 mod books_text;
 #[cfg(test)]
 mod claim;
+#[cfg(test)]
+mod d0;
 #[cfg(test)]
 mod fields;
 #[cfg(test)]
