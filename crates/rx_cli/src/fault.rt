@@ -21,7 +21,7 @@ pub enum WordsFault {
 
 impl WordsFault {
     /// The fault's number: 1 Words, 2 Memory (docs/CLI.md, "Exit statuses").
-    pub fn code(&self) -> u8
+    pub fn code(&self) -> u32
         ensures { result ≡ number_of self.now }
     {
         match self {

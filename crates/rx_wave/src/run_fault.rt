@@ -16,7 +16,7 @@ pub enum RunFault {
 
 impl RunFault {
     /// The number of the fault.
-    pub fn code(self) -> u64
+    pub fn code(self) -> u32
         ensures { result ≡ number_of self }
     {
         match self {
