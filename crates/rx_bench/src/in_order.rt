@@ -49,7 +49,7 @@ fn finished(alloc: Global, job: &Job) -> Option<Finished> {
     }
     let books = job.books(alloc)?;
     let lot = job.batch.head.lot();
-    run_one_on(&NoGate, alloc, lot, &job.sheet, books, &job.asked).ok()
+    run_one_on(alloc, &NoGate, lot, &job.sheet, books, &job.asked).ok()
 }
 
 fn rendered<R: Clock + Threads + Sync>(

@@ -141,7 +141,7 @@ fn replies_to(
     requires { length asked.now ≤ MOST_DETAILS }
     ensures { IfOk result (λ replies. replies.items ≡ fold_replies lot sheet.now 1 asked.now opening.now.ledger) }
 {
-    let Finished { books: _, replies } = run_one(&NoGate, alloc, lot, sheet, opening, asked)?;
+    let Finished { books: _, replies } = run_one(alloc, &NoGate, lot, sheet, opening, asked)?;
     Ok(replies)
 }
 

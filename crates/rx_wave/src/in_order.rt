@@ -16,8 +16,8 @@ use std::alloc::Global;
 /// reply to each (docs/RULES.md, "Rules of adjudication"). The gate is passed before and after each record; no worker
 /// is started.
 pub fn run_one<G: Gate>(
-    gate: &G,
     alloc: Global,
+    gate: &G,
     lot: Lot,
     sheet: &Sheet,
     books: &Books,
@@ -32,13 +32,13 @@ pub fn run_one<G: Gate>(
         finished.replies.items ≡ fold_replies lot sheet.now 1 transmissions.now books.now.ledger) }
 {
     let books = books.copy(alloc, sheet.period())?;
-    run_one_on(gate, alloc, lot, sheet, books, transmissions)
+    run_one_on(alloc, gate, lot, sheet, books, transmissions)
 }
 
 /// The same on books that are owned and have the sheet's period, which copies nothing. Without memory they are dropped.
 pub fn run_one_on<G: Gate>(
-    gate: &G,
     alloc: Global,
+    gate: &G,
     lot: Lot,
     sheet: &Sheet,
     books: Books,
@@ -54,7 +54,7 @@ pub fn run_one_on<G: Gate>(
         finished.replies.items ≡ fold_replies lot sheet.now 1 transmissions.now books.ledger) }
 {
     let mut order = InOrder::new(alloc, books, transmissions)?;
-    let replies = replies_of(gate, alloc, lot, sheet, &mut order, transmissions)?;
+    let replies = replies_of(alloc, gate, lot, sheet, &mut order, transmissions)?;
     Ok(Finished {
         books: order.close(),
         replies,
@@ -63,8 +63,8 @@ pub fn run_one_on<G: Gate>(
 
 // The replies to the records, each on what the earlier ones left.
 fn replies_of<G: Gate>(
-    gate: &G,
     alloc: Global,
+    gate: &G,
     lot: Lot,
     sheet: &Sheet,
     order: &mut InOrder,

@@ -7,7 +7,7 @@
 //!
 //! ```rust
 //! let transmissions = rx_wave::decode_all(&rt, alloc, &sheet.door(), batch.details.as_slice())?;
-//! let finished = rx_wave::run_one(&NoGate, alloc, lot, &sheet, &books, &transmissions)?;
+//! let finished = rx_wave::run_one(alloc, &NoGate, lot, &sheet, &books, &transmissions)?;
 //! ```
 //!
 //! What a request means is left to `rx_d0_request`.

@@ -77,7 +77,7 @@ pub fn run_waves<R: Threads + Wait + Sync, G: Gate + Sync>(
             return Ok(finished);
         }
     }
-    Ok(run_one(gate, alloc, lot, sheet, books, transmissions)?)
+    Ok(run_one(alloc, gate, lot, sheet, books, transmissions)?)
 }
 
 // What several workers give: at a gate that holds records up they share a desk, at any other each has a shard. None where

@@ -90,7 +90,7 @@ fn run(
     let sheet = plain_sheet(rt, alloc);
     let books = books_of(rt, alloc, &ledger);
     assert!(rt; asked.len() <= 100_000, "a batch");
-    let finished = run_one(gate, alloc, lot(rt, 42), &sheet, &books, &asked);
+    let finished = run_one(alloc, gate, lot(rt, 42), &sheet, &books, &asked);
     drop((ledger, sheet, books, asked));
     finished.expect(rt, "memory")
 }
