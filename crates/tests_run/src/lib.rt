@@ -27,6 +27,8 @@ mod escape;
 #[cfg(test)]
 mod explain_text;
 #[cfg(test)]
+mod face;
+#[cfg(test)]
 mod failing;
 #[cfg(test)]
 mod in_order;

@@ -1,0 +1,188 @@
+//! A run on a caller's own devices, at its own gate, through `rx_switch` alone, which has every name that this takes.
+ghost use Rattle.std.specs.Prelude.{false};
+
+use crate::one_billing::{BATCH, BOOKS, END_BOOKS, RESPONSE, SETTLEMENT, SHEET, STAMP};
+use crate::same::same;
+use rx_switch::{
+    BatchFault, BooksFault, Device, Failed, Gate, Inputs, IoFault, Job, NoGate, Output, Outputs,
+    SheetFault, SheetKey, Sink, Source, SwitchFault, run, run_io, told,
+};
+use std::alloc::Global;
+use std::process::Abort;
+use std::sync::Wait;
+use std::thread::Threads;
+
+// A device without a byte.
+struct Empty;
+
+impl Source for Empty {
+    ghost use Rattle.std.specs.Prelude.{None, false};
+
+    ghost left = { λ _. None };
+
+    ghost failed = { λ _. false };
+
+    ghost reads = { λ _. 0 };
+
+    ghost cramped = { λ _. false };
+
+    fn read(&mut self, _buffer: &mut [u8]) -> Result<usize, Failed> {
+        Ok(0)
+    }
+}
+
+// A device that takes every piece whole.
+struct Takes;
+
+impl Sink for Takes {
+    ghost use Rattle.std.specs.Prelude.{None, false};
+
+    ghost written = { λ _. None };
+
+    ghost failed = { λ _. false };
+
+    fn write(&mut self, piece: &[u8]) -> Result<usize, Failed> {
+        Ok(piece.len())
+    }
+}
+
+// A gate that starts each worker, and shares the records at a desk.
+struct Opens;
+
+impl Gate for Opens {
+    ghost use Rattle.std.specs.Prelude.{true};
+
+    ghost starts = { λ _ _. true };
+
+    fn start(&self, _worker: usize) -> bool {
+        true
+    }
+
+    fn enter(&self, _place: usize) {}
+
+    fn leave(&self, _place: usize) {}
+}
+
+// What a run of these texts gives with two workers.
+fn ran<R: Threads + Wait + Sync, G: Gate + Sync>(
+    rt: &R,
+    alloc: Global,
+    gate: &G,
+    texts: [&[u8]; 3],
+) -> Result<Output, SwitchFault> {
+    let [sheet, books, batch] = texts;
+    let job = Job {
+        sheet,
+        books,
+        batch,
+        stamp: STAMP,
+        workers: 2,
+        plain: false,
+    };
+    run(rt, alloc, gate, &job)
+}
+
+#[test]
+fn a_run_gives_its_three_texts(rt: HostRuntime) {
+    let output = ran(&rt, rt.alloc(), &Opens, [SHEET, BOOKS, BATCH]).expect(&rt, "an output");
+    same(&rt, output.response.as_slice(), RESPONSE);
+    same(&rt, output.books.as_slice(), END_BOOKS);
+    same(&rt, output.settlement.as_slice(), SETTLEMENT);
+}
+
+// Why a run of these texts is refused.
+fn refused<R: Threads + Wait + Sync>(
+    rt: &R,
+    alloc: Global,
+    texts: [&[u8]; 3],
+) -> Option<SwitchFault> {
+    ran(rt, alloc, &NoGate, texts).err()
+}
+
+#[test]
+fn a_refusal_names_its_fault(rt: HostRuntime) {
+    let sheet = SwitchFault::Sheet(SheetFault::Missing(SheetKey::Bin));
+    let books = SwitchFault::Books(BooksFault::Head);
+    let batch = SwitchFault::Batch(BatchFault::NoHeader { at: 0 });
+    same(
+        &rt,
+        refused(&rt, rt.alloc(), [b"", BOOKS, BATCH]),
+        Some(sheet),
+    );
+    same(
+        &rt,
+        refused(&rt, rt.alloc(), [SHEET, b"", BATCH]),
+        Some(books),
+    );
+    same(
+        &rt,
+        refused(&rt, rt.alloc(), [SHEET, BOOKS, b""]),
+        Some(batch),
+    );
+}
+
+// What a run on these devices answers.
+fn ran_on<R: Threads + Wait + Sync, S: Source>(
+    rt: &R,
+    alloc: Global,
+    sheet: S,
+) -> Result<(), IoFault>
+    requires { S.failed sheet ≡ false }
+{
+    let mut inputs = Inputs {
+        sheet,
+        books: Empty,
+        batch: Empty,
+    };
+    let mut outputs = Outputs {
+        response: Takes,
+        books: Takes,
+        settlement: Takes,
+    };
+    run_io(
+        rt,
+        alloc,
+        &Opens,
+        STAMP,
+        2,
+        false,
+        &mut inputs,
+        &mut outputs,
+    )
+}
+
+// A device whose first read fails.
+struct Broken {
+    failed: bool,
+}
+
+impl Source for Broken {
+    ghost use Rattle.std.specs.Prelude.{None, false};
+
+    ghost left = { λ _. None };
+
+    ghost failed = { λ source. source.failed };
+
+    ghost reads = { λ _. 0 };
+
+    ghost cramped = { λ _. false };
+
+    fn read(&mut self, _buffer: &mut [u8]) -> Result<usize, Failed> {
+        self.failed = true;
+        Err(Failed)
+    }
+}
+
+#[test]
+fn devices_are_a_callers_own(rt: HostRuntime) {
+    let fault = IoFault::Switch(SwitchFault::Sheet(SheetFault::Missing(SheetKey::Bin)));
+    same(&rt, ran_on(&rt, rt.alloc(), Empty), Err(fault));
+    same(&rt, told(&fault).numbers, [3, 2, 1]);
+    let fault = IoFault::Read(Device::Sheet);
+    same(
+        &rt,
+        ran_on(&rt, rt.alloc(), Broken { failed: false }),
+        Err(fault),
+    );
+    same(&rt, told(&fault).status, 3);
+}
