@@ -1,5 +1,5 @@
 -- What is found of the three inputs of a run says how the run looks at them.
-use Rattle.std.proofs.Common.{◌≡◌, List, ℕ, Ok, Err, Result, Some, None, Option, MatchOption, subst, refl}
+use Rattle.std.proofs.Common.{◌≡◌, List, ℕ, Ok, Err, Result, Option, MatchOption, subst, refl}
 use Rattle.std.specs.Result.{result_err}
 use Rattle.std.specs.Option.{option_map}
 use Rattle.rx_batch.specs.Reading.{batch_of}

@@ -1,5 +1,5 @@
 -- Meaning: how the line of a refusal begins: at the place of its fault in the input that it is of.
-use Rattle.std.specs.Prelude.{◌≡◌, ℕ, List, Option, Some, None, option_copied}
+use Rattle.std.specs.Prelude.{ℕ, List, Option, Some, None, option_copied}
 use Rattle.rx_batch.specs.declared.fault.BatchFault.{BatchFault}
 use Rattle.rx_switch.specs.declared.fault.SwitchFault.{SwitchFault}
 use Rattle.rx_switch.specs.declared.fault.SwitchFault.TheVariants as fault
