@@ -13,6 +13,7 @@ use std::sync::Wait;
 use std::thread::Threads;
 
 // A device without a byte.
+#[derive(Drop)]
 struct Empty;
 
 impl Source for Empty {
@@ -32,6 +33,7 @@ impl Source for Empty {
 }
 
 // A device that takes every piece whole.
+#[derive(Drop)]
 struct Takes;
 
 impl Sink for Takes {
@@ -122,7 +124,7 @@ fn a_refusal_names_its_fault(rt: HostRuntime) {
 }
 
 // What a run on these devices answers.
-fn ran_on<R: Threads + Wait + Sync, S: Source>(
+fn ran_on<R: Threads + Wait + Sync, S: Source + Drop>(
     rt: &R,
     alloc: Global,
     sheet: S,
@@ -152,6 +154,7 @@ fn ran_on<R: Threads + Wait + Sync, S: Source>(
 }
 
 // A device whose first read fails.
+#[derive(Drop)]
 struct Broken {
     failed: bool,
 }
