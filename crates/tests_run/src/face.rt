@@ -1,4 +1,4 @@
-//! A run on a caller's own devices, at its own gate, through `rx_switch` alone, which has every name that this takes.
+//! A run on a caller's own devices, at its own gate, through `rx_switch` only, which has every name that this takes.
 ghost use Rattle.std.specs.Prelude.{false};
 
 use crate::one_billing::{BATCH, BOOKS, END_BOOKS, RESPONSE, SETTLEMENT, SHEET, STAMP};

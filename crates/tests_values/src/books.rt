@@ -1,4 +1,4 @@
-//! Books read, lent and written through `rx_books` alone, which has every name that this takes.
+//! Books read, lent and written through `rx_books` only, which has every name that this takes.
 
 use crate::table::same;
 use rx_books::{

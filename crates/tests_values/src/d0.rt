@@ -1,4 +1,4 @@
-//! A request answered through `rx_d0` alone, which has every name that this takes.
+//! A request answered through `rx_d0` only, which has every name that this takes.
 
 use crate::table::same;
 use rx_d0::{
