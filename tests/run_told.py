@@ -126,142 +126,142 @@ sheet_with("Latin-1", b"fee = 175", b"fee = 175 # g\xe9n",
 sheet("a books file", BOOKS, ": not TOML: this looks like a books file", 3, 1, 0)
 sheet("a batch file", BATCH, ": not TOML: this looks like a batch file", 3, 1, 0)
 for key, old, wanted, number in (
-        ("bin", b'bin = "900001"\n', '6 digits in quotes are wanted, as "900001"', 1),
-        ("pcn", b'pcn = "RXDEMO"\n', '0 to 10 printable characters in quotes are wanted, as "RXDEMO"', 2),
-        ("period_first", b'period_first = "20260101"\n', '8 digits in quotes are wanted, as "20260101"', 3),
-        ("period_last", b'period_last = "20261231"\n', '8 digits in quotes are wanted, as "20261231"', 4),
-        ("member_deductible", b"member_deductible = 10000\n", "whole cents from 0 to 99999999999 are wanted, as 10000", 5),
-        ("family_maximum", b"family_maximum = 30000\n", "whole cents from 0 to 99999999999 are wanted, as 30000", 6),
-        ("refill_percent", b"refill_percent = 75\n", "a whole number from 0 to 100 is wanted, as 75", 7),
-        ("max_days", b"max_days = 90\n", "a whole number from 1 to 999 is wanted, as 90", 8),
-        ("fee", b"fee = 175\n", "whole cents from 0 to 99999999 are wanted, as 150", 9)):
+        ("bin", b'bin = "900001"\n', 'expected 6 digits in quotes, e.g. "900001"', 1),
+        ("pcn", b'pcn = "RXDEMO"\n', 'expected 0 to 10 printable characters in quotes, e.g. "RXDEMO"', 2),
+        ("period_first", b'period_first = "20260101"\n', 'expected 8 digits in quotes, e.g. "20260101"', 3),
+        ("period_last", b'period_last = "20261231"\n', 'expected 8 digits in quotes, e.g. "20261231"', 4),
+        ("member_deductible", b"member_deductible = 10000\n", "expected whole cents from 0 to 99999999999, e.g. 10000", 5),
+        ("family_maximum", b"family_maximum = 30000\n", "expected whole cents from 0 to 99999999999, e.g. 30000", 6),
+        ("refill_percent", b"refill_percent = 75\n", "expected a whole number from 0 to 100, e.g. 75", 7),
+        ("max_days", b"max_days = 90\n", "expected a whole number from 1 to 999, e.g. 90", 8),
+        ("fee", b"fee = 175\n", "expected whole cents from 0 to 99999999, e.g. 150", 9)):
     sheet_with(f"no {key}", old, b"", f": {key} is missing: {wanted}", 3, 2, number)
 NO_TIERS = SHEET[:SHEET.index(b"[tiers]")]
-sheet("no tiers", NO_TIERS, ": tiers is missing: a table is wanted, as [tiers] with a line 1 = 1000", 3, 2, 10)
+sheet("no tiers", NO_TIERS, ": tiers is missing: expected a table, e.g. [tiers] with a line 1 = 1000", 3, 2, 10)
 sheet("no drugs", SHEET[:SHEET.index(b"[drugs")],
-      ": drugs is missing: tables are wanted, as [drugs.00001000101] with tier and price", 3, 2, 11)
+      ": drugs is missing: expected tables, e.g. [drugs.00001000101] with tier and price", 3, 2, 11)
 sheet_with("a drug without tier", b'[drugs.00002000202]\ntier = "2"\n', b"[drugs.00002000202]\n",
-           ": drug 00002000202: tier is missing: the name of one of the tiers is wanted in quotes", 3, 2, 12)
+           ": drug 00002000202: tier is missing: expected the name of one of the tiers in quotes", 3, 2, 12)
 sheet_with("a drug without price", b"price = 100000\n", b"",
-           ": drug 00002000202: price is missing: hundredths of a cent per unit are wanted, "
+           ": drug 00002000202: price is missing: expected hundredths of a cent per unit, "
            "a whole number from 0 to 1000000000", 3, 2, 13)
-sheet_with("bin of five digits", b'"900001"', b'"90001"', ': bin = "90001": 6 digits in quotes are wanted, as "900001"',
+sheet_with("bin of five digits", b'"900001"', b'"90001"', ': bin = "90001": expected 6 digits in quotes, e.g. "900001"',
            3, 3, 1)
-sheet_with("bin without quotes", b'"900001"', b"900001", ': bin = 900001: 6 digits in quotes are wanted, as "900001"',
+sheet_with("bin without quotes", b'"900001"', b"900001", ': bin = 900001: expected 6 digits in quotes, e.g. "900001"',
            3, 3, 1)
 sheet_with("pcn of eleven bytes", b'"RXDEMO"', b'"RXDEMORXDEM"',
-           ': pcn = "RXDEMORXDEM": 0 to 10 printable characters in quotes are wanted, as "RXDEMO"', 3, 3, 2)
+           ': pcn = "RXDEMORXDEM": expected 0 to 10 printable characters in quotes, e.g. "RXDEMO"', 3, 3, 2)
 sheet_with("a date with dashes", b'period_first = "20260101"', b'period_first = "2026-01-01"',
-           ': period_first = "2026-01-01": 8 digits in quotes are wanted, as "20260101"', 3, 3, 3)
+           ': period_first = "2026-01-01": expected 8 digits in quotes, e.g. "20260101"', 3, 3, 3)
 sheet_with("a bare date", b'period_first = "20260101"', b"period_first = 2026-01-01",
-           ': period_first = (a date without quotes): 8 digits in quotes are wanted, as "20260101"', 3, 3, 3)
+           ': period_first = (a date without quotes): expected 8 digits in quotes, e.g. "20260101"', 3, 3, 3)
 sheet_with("no such first day", b'period_first = "20260101"', b'period_first = "20260230"',
-           ': period_first = "20260230": no such day', 3, 3, 3)
-sheet_with("no such last day", b'"20261231"', b'"20261131"', ': period_last = "20261131": no such day', 3, 3, 4)
+           ': period_first = "20260230": no such date', 3, 3, 3)
+sheet_with("no such last day", b'"20261231"', b'"20261131"', ': period_last = "20261131": no such date', 3, 3, 4)
 sheet_with("the last day before the first", b'"20261231"', b'"20251231"',
            ': period_last = "20251231": the last day is before the first, "20260101"', 3, 3, 4)
 sheet_with("a negative deductible", b"member_deductible = 10000", b"member_deductible = -1",
-           ": member_deductible = -1: whole cents from 0 to 99999999999 are wanted, as 10000", 3, 3, 5)
+           ": member_deductible = -1: expected whole cents from 0 to 99999999999, e.g. 10000", 3, 3, 5)
 sheet_with("a maximum in words", b"family_maximum = 30000", b'family_maximum = "30000"',
-           ': family_maximum = "30000": whole cents from 0 to 99999999999 are wanted, as 30000', 3, 3, 6)
+           ': family_maximum = "30000": expected whole cents from 0 to 99999999999, e.g. 30000', 3, 3, 6)
 sheet_with("refill_percent 101", b"refill_percent = 75", b"refill_percent = 101",
-           ": refill_percent = 101: a whole number from 0 to 100 is wanted, as 75", 3, 3, 7)
+           ": refill_percent = 101: expected a whole number from 0 to 100, e.g. 75", 3, 3, 7)
 sheet_with("max_days 0", b"max_days = 90", b"max_days = 0",
-           ": max_days = 0: a whole number from 1 to 999 is wanted, as 90", 3, 3, 8)
+           ": max_days = 0: expected a whole number from 1 to 999, e.g. 90", 3, 3, 8)
 sheet_with("a fee with a point", b"fee = 175", b"fee = 1.5",
-           ": fee = 1.5: whole cents from 0 to 99999999 are wanted, as 150", 3, 3, 9)
+           ": fee = 1.5: expected whole cents from 0 to 99999999, e.g. 150", 3, 3, 9)
 sheet_with("a fee in quotes", b"fee = 175", b'fee = "150"',
-           ': fee = "150": whole cents from 0 to 99999999 are wanted, as 150', 3, 3, 9)
+           ': fee = "150": expected whole cents from 0 to 99999999, e.g. 150', 3, 3, 9)
 sheet_with("percent 120", b"percent = 20", b"percent = 120",
-           ': tier "4": percent = 120: a whole number from 0 to 100 is wanted, as 20', 3, 3, 10)
+           ': tier "4": percent = 120: expected a whole number from 0 to 100, e.g. 20', 3, 3, 10)
 sheet_with("procent", b"{ percent = 20 }", b"{ procent = 20 }",
-           ': tier "4" is a table without percent: { percent = 20 } is wanted', 3, 3, 10)
+           ': tier "4" is a table without percent: expected { percent = 20 }', 3, 3, 10)
 sheet_with("a copay with a point", b"2 = 3000", b"2 = 30.25",
-           ': tier "2" = 30.25: whole cents from 0 to 99999999 are wanted, as 1000, or { percent = 20 }', 3, 3, 10)
+           ': tier "2" = 30.25: expected whole cents from 0 to 99999999, e.g. 1000, or { percent = 20 }', 3, 3, 10)
 sheet("tiers no table", NO_TIERS + b"tiers = 3\n" + SHEET[SHEET.index(b"[drugs"):],
-      ": tiers is no table: a table is wanted, as [tiers] with a line 1 = 1000", 3, 3, 10)
+      ": tiers isn't a table: expected a table, e.g. [tiers] with a line 1 = 1000", 3, 3, 10)
 sheet("drugs no table", b"drugs = 3\n" + SHEET[:SHEET.index(b"[drugs")],
-      ": drugs is no table: tables are wanted, as [drugs.00001000101] with tier and price", 3, 3, 11)
+      ": drugs isn't a table: expected tables, e.g. [drugs.00001000101] with tier and price", 3, 3, 11)
 sheet_with("a product with dashes", b"[drugs.00002000202]", b"[drugs.0000-2000-202]",
            ': drug "0000-2000-202": a product is 11 digits without dashes, as 00001000101', 3, 3, 11)
 sheet_with("a product of ten digits", b"[drugs.00002000202]", b"[drugs.0002000202]",
            ': drug "0002000202": a product is 11 digits without dashes, as 00001000101', 3, 3, 11)
 sheet("a drug that is no table", SHEET[:SHEET.index(b"[drugs")] + b"[drugs]\n00001000101 = 3\n",
-      ": drug 00001000101 = 3: a table with tier and price is wanted", 3, 3, 11)
+      ": drug 00001000101 = 3: expected a table with tier and price", 3, 3, 11)
 sheet_with("no such tier", b'tier = "2"', b'tier = "9"', ': drug 00002000202: tier = "9": no tier has this name', 3, 3, 12)
 sheet_with("a tier without quotes", b'tier = "2"', b"tier = 2",
-           ': drug 00002000202: tier = 2: the name of a tier is wanted in quotes, as "1"', 3, 3, 12)
+           ': drug 00002000202: tier = 2: expected the name of a tier in quotes, e.g. "1"', 3, 3, 12)
 sheet_with("a price with a point", b"price = 100000", b"price = 10.5",
-           ": drug 00002000202: price = 10.5: hundredths of a cent per unit are wanted, "
+           ": drug 00002000202: price = 10.5: expected hundredths of a cent per unit, "
            "a whole number from 0 to 1000000000", 3, 3, 13)
 sheet_with("a family deductible below 0", b"fee = 175", b"fee = 175\nfamily_deductible = -5",
-           ": family_deductible = -5: whole cents from 0 to 99999999999 are wanted, as 10000", 3, 3, 14)
+           ": family_deductible = -5: expected whole cents from 0 to 99999999999, e.g. 10000", 3, 3, 14)
 
 # ---- the books
 
 books("CR LF", BOOKS.replace(b"\n", b"\r\n"),
-      ":1: the line ends with CR LF: LF alone is wanted (sed -i 's/\\r$//' books.txt)", 4, 1, 0)
+      ":1: the line ends with CR LF: expected LF (sed -i 's/\\r$//' books.txt)", 4, 1, 0)
 books("a byte order mark", b"\xef\xbb\xbf" + BOOKS,
       ":1: the file begins with a byte order mark (EF BB BF) (sed -i '1s/^\\xef\\xbb\\xbf//' books.txt)", 4, 1, 0)
-books("empty", b"", ":1: the file is empty: a head line is wanted, as BOOKS|3|20260101|20261231", 4, 1, 0)
+books("empty", b"", ":1: the file is empty: expected a head line, e.g. BOOKS|3|20260101|20261231", 4, 1, 0)
 books("no head", BOOKS[BOOKS.index(b"M|"):],
-      ':1: "M|F1|01|20260101|20261231|9000" is no head line: BOOKS|3|first|last is wanted, as BOOKS|3|20260101|20261231',
+      ':1: "M|F1|01|20260101|20261231|9000" isn\'t a head line: expected BOOKS|3|first|last, e.g. BOOKS|3|20260101|20261231',
       4, 1, 0)
 books("a plan sheet", SHEET, ":1: no head line: this looks like a plan sheet", 4, 1, 0)
 books("version 4", changed(BOOKS, b"BOOKS|3", b"BOOKS|4"), ':1: version "4": versions 1, 2 and 3 are read', 4, 1, 0)
 books("a head of three fields", changed(BOOKS, b"BOOKS|3|20260101|20261231", b"BOOKS|3|20260101"),
-      ":1: 3 fields: a head line has 4, as BOOKS|3|20260101|20261231", 4, 1, 0)
-books("a head of no such day", changed(BOOKS, b"BOOKS|3|20260101", b"BOOKS|3|20260230"),
-      ':1: field 3, first day "20260230": no such day', 4, 1, 0)
+      ":1: 3 fields: a head line has 4, e.g. BOOKS|3|20260101|20261231", 4, 1, 0)
+books("a head of no such date", changed(BOOKS, b"BOOKS|3|20260101", b"BOOKS|3|20260230"),
+      ':1: field 3, first day "20260230": no such date', 4, 1, 0)
 books("a head whose period ends early", changed(BOOKS, b"BOOKS|3|20260101|20261231", b"BOOKS|3|20260101|20251231"),
       ':1: the last day "20251231" is before the first, "20260101"', 4, 1, 0)
 books("a head without its line feed", b"BOOKS|3|20260101|20261231",
       ":1: the line has no line feed at its end (echo >> books.txt)", 4, 1, 0)
-books_with("no such day", b"|90|20260110|", b"|90|20260230|", ':5: field 4, date "20260230": no such day', 4, 2, 5)
+books_with("no such date", b"|90|20260110|", b"|90|20260230|", ':5: field 4, date "20260230": no such date', 4, 2, 5)
 books_with("a date of seven digits", b"|90|20260110|", b"|90|2026011|",
-           ':5: field 4, date "2026011": 8 digits are wanted, as 20260101', 4, 2, 5)
+           ':5: field 4, date "2026011": expected 8 digits, e.g. 20260101', 4, 2, 5)
 books_with("a reference with a leading zero", b"|90|20260110|", b"|090|20260110|",
-           ':5: field 3, reference "090": no leading zeros are wanted', 4, 2, 5)
+           ':5: field 3, reference "090": expected no leading zeros', 4, 2, 5)
 books_with("a product with dashes", b"|00002000202|", b"|0000-2000-202|",
-           ':5: field 7, product "0000-2000-202": 11 digits are wanted', 4, 2, 5)
-books_with("no days", b"|30000|30|", b"|30000|0|", ':5: field 9, days "0": a number from 1 to 999 is wanted', 4, 2, 5)
+           ':5: field 7, product "0000-2000-202": expected 11 digits', 4, 2, 5)
+books_with("no days", b"|30000|30|", b"|30000|0|", ':5: field 9, days "0": expected a number from 1 to 999', 4, 2, 5)
 books_with("an amount with a point", b"|9000|0|9000|", b"|90.00|0|9000|",
-           ':5: field 10, F6 "90.00": digits alone are wanted', 4, 2, 5)
+           ':5: field 10, F6 "90.00": expected only digits', 4, 2, 5)
 books_with("a provider too long", b"C|1234567893|", b"C|1234567893123456|",
-           ':5: field 2, provider "1234567893123456": 16 bytes, at most 15 are wanted', 4, 2, 5)
+           ':5: field 2, provider "1234567893123456": 16 bytes, expected at most 15', 4, 2, 5)
 books_with("a family with a blank at its end", b"|20260110|F1|", b"|20260110|F1 |",
-           ':5: field 5, family "F1 ": a blank stands at its end', 4, 2, 5)
-books_with("a person that is empty", b"|20260110|F1|01|", b"|20260110|F1||", ':5: field 6, person "": an id is wanted', 4, 2, 5)
+           ':5: field 5, family "F1 ": trailing blank', 4, 2, 5)
+books_with("a person that is empty", b"|20260110|F1|01|", b"|20260110|F1||", ':5: field 6, person "": expected an id', 4, 2, 5)
 books_with("a claim line of version 1", b"|9000|0|0|0000031", b"|9000|0|0000031",
            ":5: 14 fields: a claim line of version 3 has 15", 4, 2, 5)
 books_with("a share above the price", b"|9000|0|9000|0|0|", b"|9000|0|9000|1|0|",
-           ":5: FH + FI + 4U = 9001: at most F6 + F7 = 9000 is wanted", 4, 2, 5)
+           ":5: FH + FI + 4U = 9001: expected at most F6 + F7 = 9000", 4, 2, 5)
 books_with("a price above the limit", b"|9000|0|9000|", b"|99999999|1|9000|",
-           ":5: F6 + F7 = 100000000: at most 99999999 cents are wanted", 4, 2, 5)
+           ":5: F6 + F7 = 100000000: expected at most 99999999 cents", 4, 2, 5)
 books_with("a coverage that ends early", b"M|F2|01|20260101|20261231", b"M|F2|01|20260101|20251231",
            ':4: the last day "20251231" is before the first, "20260101"', 4, 2, 4)
 books_with("a line of no kind", b"M|F2|01", b"N|F2|01",
            ':4: "N|F2|01|20260101|20261231|0": a line begins M|, C| or T|', 4, 2, 4)
 books_with("a control byte", b"M|F2|01", b"M|F\x1f2|01",
-           ':4: field 2, family "F<1F>2": printable characters alone are wanted', 4, 2, 4)
+           ':4: field 2, family "F<1F>2": not printable ASCII', 4, 2, 4)
 books_with("a figure of 21 digits", b"T|F2|0|0", b"T|F2|100000000000000000000|0",
-           ':7: field 3, out of pocket "100000000000000000000": at most 20 digits are wanted', 4, 2, 7)
+           ':7: field 3, out of pocket "100000000000000000000": expected at most 20 digits', 4, 2, 7)
 books("no last line feed", BOOKS[:-1], ":7: the last line has no line feed at its end (echo >> books.txt)", 4, 2, 7)
 books("a blank line at the end", BOOKS + b"\n", ":8: the line is empty (sed -i '/^$/d' books.txt)", 4, 2, 8)
 books_with("CR LF in one line", b"T|F2|0|0\n", b"T|F2|0|0\r\n",
-           ":7: the line ends with CR LF: LF alone is wanted (sed -i 's/\\r$//' books.txt)", 4, 2, 7)
+           ":7: the line ends with CR LF: expected LF (sed -i 's/\\r$//' books.txt)", 4, 2, 7)
 MEMBERS = BOOKS.split(b"\n")
 books("members out of order", b"\n".join([MEMBERS[0], MEMBERS[1], MEMBERS[3], MEMBERS[2]] + MEMBERS[4:]),
-      ":4: F1/02 stands after F2/01: members ascend by family, then person (LC_ALL=C sort -t'|' -k2,2 -k3,3)", 4, 3, 4)
+      ":4: F1/02 comes after F2/01: members ascend by family, then person (LC_ALL=C sort -t'|' -k2,2 -k3,3)", 4, 3, 4)
 books("a member twice", b"\n".join(MEMBERS[:3] + [MEMBERS[2]] + MEMBERS[3:]),
-      ":4: F1/02 stands twice: members ascend by family, then person (LC_ALL=C sort -t'|' -k2,2 -k3,3)", 4, 3, 4)
+      ":4: F1/02 is listed twice: members ascend by family, then person (LC_ALL=C sort -t'|' -k2,2 -k3,3)", 4, 3, 4)
 books("a claim twice", b"\n".join(MEMBERS[:5] + [MEMBERS[4]] + MEMBERS[5:]),
-      ":6: 1234567893/90/20260110 stands twice: claims ascend by provider, reference and date "
+      ":6: 1234567893/90/20260110 is listed twice: claims ascend by provider, reference and date "
       "(LC_ALL=C sort -t'|' -k2,2 -k3,3n -k4,4)", 4, 3, 6)
 books("totals out of order", b"\n".join(MEMBERS[:5] + [MEMBERS[6], MEMBERS[5], b""]),
-      ":7: F1 stands after F2: totals ascend by family (LC_ALL=C sort -t'|' -k2,2)", 4, 3, 7)
+      ":7: F1 comes after F2: totals ascend by family (LC_ALL=C sort -t'|' -k2,2)", 4, 3, 7)
 books("a member behind a claim", b"\n".join(MEMBERS[:3] + [MEMBERS[4], MEMBERS[3]] + MEMBERS[5:]),
-      ":5: a member line stands after a claim line: first come all M, then all C, then all T", 4, 3, 5)
+      ":5: a member line comes after a claim line: first come all M, then all C, then all T", 4, 3, 5)
 books_with("a claim of an unknown family", b"|20260110|F1|01|", b"|20260110|F9|01|",
            ":5: member F9/01 isn't listed: no M line above has family F9", 4, 4, 5)
 books_with("a claim of an unknown person", b"|20260110|F1|01|", b"|20260110|F1|03|",
@@ -277,60 +277,60 @@ books_with("a wrong deductible of a family", b"T|F1|9000|9000", b"T|F1|9000|8999
 books_with("a head of another year", b"BOOKS|3|20260101|20261231", b"BOOKS|3|20270101|20271231",
            ":2: member F1/01, deductible 9000: the claims of 20270101 to 20271231 sum to 0", 4, 5, 2)
 books_with("no last total line", b"T|F2|0|0\n", b"",
-           ":7: family F2 has no total line: T|F2|0|0 is wanted at line 7", 4, 5, 7)
+           ":7: family F2 has no total line: expected T|F2|0|0 at line 7", 4, 5, 7)
 books_with("no first total line", b"T|F1|9000|9000\n", b"",
-           ":7: family F1 has no total line: T|F1|9000|9000 is wanted at line 6", 4, 5, 7)
+           ":7: family F1 has no total line: expected T|F1|9000|9000 at line 6", 4, 5, 7)
 books("too many lines", BOOKS + b"\n" * 1_000_000, ": 1000007 line feeds: at most 1000000 are read", 4, 6, 0)
 
 # ---- the batch
 
 batch("a byte order mark", b"\xef\xbb\xbf" + BATCH,
-      ": header, byte 0: the file begins with a byte order mark (EF BB BF): STX (X'02') is wanted", 5, 1, 0)
+      ": header, byte 0: the file begins with a byte order mark (EF BB BF): expected STX (X'02')", 5, 1, 0)
 batch("gzip", b"\x1f\x8b\x08\0\0\0\0\0\2\3", ': header, byte 0: "<1F><8B><08><00><00><00><00><00><02><03>": '
-      "STX (X'02') is wanted; this looks like gzip", 5, 1, 0)
+      "expected STX (X'02'); this looks like gzip", 5, 1, 0)
 batch("spelled control bytes", BATCH.replace(b"\x02", b"<02>").replace(b"\x03", b"<03>"),
-      ': header, byte 0: "<02>00TPHARMSYS ": STX (X\'02\') is wanted; '
+      ': header, byte 0: "<02>00TPHARMSYS ": expected STX (X\'02\'); '
       "this looks like a batch file whose control bytes are spelled out", 5, 1, 0)
-batch("a books file", BOOKS, ': header, byte 0: "BOOKS|3|20260101": STX (X\'02\') is wanted; this looks like a books file',
+batch("a books file", BOOKS, ': header, byte 0: "BOOKS|3|20260101": expected STX (X\'02\'); this looks like a books file',
       5, 1, 0)
 batch("a stray byte", HEADER + b"X" + DETAIL + trailer(),
-      ": record 1, byte 75: \"X<02>G1000000000190\" stands behind a record's ETX (X'03'): STX (X'02') is wanted, "
-      "and no ETX within a record", 5, 1, 75)
-batch("empty", b"", ": header, byte 0: the file is empty: a header is wanted, which begins STX 00", 5, 2, 0)
+      ": record 1, byte 75: \"X<02>G1000000000190\" after a record's ETX (X'03'): expected STX (X'02'); "
+      "a record must not contain ETX", 5, 1, 75)
+batch("empty", b"", ": header, byte 0: the file is empty: expected a header, which begins STX 00", 5, 2, 0)
 batch("line ends alone", b"\r\n", ": header, byte 2: the file ends before a header, which begins STX 00", 5, 2, 2)
 batch("a detail first", DETAIL + trailer(),
-      ': header, byte 0: the first record begins "G1": a header is wanted, which begins "00"', 5, 2, 0)
-batch("a header of 74 bytes", changed(BATCH, b"RXSWITCH ", b"RXSWITCH"), ": header, byte 0: the header has 74 bytes: 75 are wanted",
+      ': header, byte 0: the first record begins "G1": expected a header, which begins "00"', 5, 2, 0)
+batch("a header of 74 bytes", changed(BATCH, b"RXSWITCH ", b"RXSWITCH"), ": header, byte 0: the header has 74 bytes: expected 75",
       5, 3, 0)
 batch("a response file", changed(BATCH, b"\x0200T", b"\x0200R"),
-      ': header, byte 0: type "R" at byte 3: this is a response file, T is wanted', 5, 3, 0)
-batch("another type", changed(BATCH, b"\x0200T", b"\x0200E"), ': header, byte 0: type "E" at byte 3: T is wanted', 5, 3, 0)
+      ': header, byte 0: type "R" at byte 3: this is a response file, expected T', 5, 3, 0)
+batch("another type", changed(BATCH, b"\x0200T", b"\x0200E"), ': header, byte 0: type "E" at byte 3: expected T', 5, 3, 0)
 batch("letters in the batch number", changed(BATCH, b"000004220260301", b"00000X220260301"),
-      ': header, byte 0: batch number "00000X2" at byte 28: 7 digits are wanted', 5, 3, 0)
+      ': header, byte 0: batch number "00000X2" at byte 28: expected 7 digits', 5, 3, 0)
 batch("no such creation date", changed(BATCH, b"202603010930", b"202602300930"),
-      ': header, byte 0: creation date "20260230" at byte 35: no such day', 5, 3, 0)
+      ': header, byte 0: creation date "20260230" at byte 35: no such date', 5, 3, 0)
 batch("a creation date with letters", changed(BATCH, b"202603010930", b"2026MAR10930"),
-      ': header, byte 0: creation date "2026MAR1" at byte 35: 8 digits CCYYMMDD are wanted', 5, 3, 0)
+      ': header, byte 0: creation date "2026MAR1" at byte 35: expected 8 digits CCYYMMDD', 5, 3, 0)
 batch("no such time", changed(BATCH, b"0930P12", b"2460P12"),
-      ': header, byte 0: creation time "2460" at byte 43: HHMM from 0000 to 2359 is wanted', 5, 3, 0)
+      ': header, byte 0: creation time "2460" at byte 43: expected HHMM from 0000 to 2359', 5, 3, 0)
 batch("another file type", changed(BATCH, b"0930P12", b"0930X12"),
-      ': header, byte 0: file type "X" at byte 47: P or T is wanted', 5, 3, 0)
-batch("version 11", changed(BATCH, b"0930P12", b"0930P11"), ': header, byte 0: version "11" at byte 48: 12 is wanted', 5, 3, 0)
+      ': header, byte 0: file type "X" at byte 47: expected P or T', 5, 3, 0)
+batch("version 11", changed(BATCH, b"0930P12", b"0930P11"), ': header, byte 0: version "11" at byte 48: expected 12', 5, 3, 0)
 batch("cut in the detail", BATCH[:269],
-      ": record 1, byte 75: the file ends 193 bytes behind the record's STX, before its ETX (X'03'): it may have been cut",
+      ": record 1, byte 75: the file ends 193 bytes after the record's STX, before its ETX (X'03'): it may have been cut",
       5, 4, 75)
 batch("a start byte inside a detail", HEADER + DETAIL[:30] + b"\x02" + DETAIL[30:] + trailer(),
-      ": record 1, byte 75: another STX (X'02') stands at byte 105, before the record's ETX (X'03')", 5, 4, 75)
+      ": record 1, byte 75: another STX (X'02') at byte 105, before the record's ETX (X'03')", 5, 4, 75)
 batch("a record of no kind", HEADER + DETAIL + b"\x02G2\x03" + trailer(),
       ': record 2, byte 270: the record begins "G2": a detail begins "G1", the trailer "99"', 5, 5, 270)
 batch("a detail without a reference", HEADER + b"\x02G112345\x03" + trailer(),
-      ": record 1, byte 75: the detail has 5 bytes behind G1: a reference of 10 bytes is wanted", 5, 6, 75)
+      ": record 1, byte 75: the detail has 5 bytes after G1: expected a reference of 10 bytes", 5, 6, 75)
 batch("a message too long", HEADER + DETAIL + trailer(message=b" " * 36),
-      ": record 2, byte 270: the trailer's message has 36 bytes: at most 35 are wanted", 5, 7, 270)
+      ": record 2, byte 270: the trailer's message has 36 bytes: expected at most 35", 5, 7, 270)
 batch("a trailer too short", HEADER + DETAIL + b"\x02990000042\x03",
-      ": record 2, byte 270: the trailer has 11 bytes: 21 to 56 are wanted", 5, 7, 270)
+      ": record 2, byte 270: the trailer has 11 bytes: expected 21 to 56", 5, 7, 270)
 batch("letters in the count", HEADER + DETAIL + trailer(b"00000000X1"),
-      ': record 2, byte 270: count "00000000X1" at byte 280: 10 digits are wanted', 5, 7, 270)
+      ': record 2, byte 270: count "00000000X1" at byte 280: expected 10 digits', 5, 7, 270)
 batch("cut before the trailer", BATCH[:270],
       ": record 2, byte 270: the file ends without a trailer, after 1 details: it may have been cut", 5, 8, 270)
 batch("a trailer of another batch", HEADER + DETAIL + trailer(number=b"0000041"),
@@ -340,7 +340,7 @@ batch("another count", HEADER + DETAIL + trailer(b"0000000007"),
 batch("a byte behind the trailer", BATCH + b"X", ': record 3, byte 326: 1 bytes follow the trailer, "X": '
       "the file ends with the trailer", 5, 11, 326)
 batch("a second batch", BATCH + BATCH,
-      ": record 3, byte 326: a second batch begins behind the trailer: one batch a file is read", 5, 11, 326)
+      ": record 3, byte 326: a second batch begins after the trailer: a file has one batch", 5, 11, 326)
 batch("too many details", HEADER + DETAIL * 100_001 + trailer(b"0000100001"),
       ": record 100001, byte 19500075: this is detail 100001: at most 100000 are read", 5, 12, 19_500_075)
 
@@ -381,8 +381,8 @@ warned("books that a batch could fill", "books.txt: warning: 1000000 lines of at
        "books.txt: warning: with this batch the end books could have more than 1000000 lines, which no run reads",
        of_books=many_books(499_999, b"02"))
 CASES.append(Case("each file refused", changed(SHEET, b"fee = 175\n", b""), b"", BATCH[:270], (
-    "sheet.toml: fee is missing: whole cents from 0 to 99999999 are wanted, as 150",
-    "books.txt:1: the file is empty: a head line is wanted, as BOOKS|3|20260101|20261231",
+    "sheet.toml: fee is missing: expected whole cents from 0 to 99999999, e.g. 150",
+    "books.txt:1: the file is empty: expected a head line, e.g. BOOKS|3|20260101|20261231",
     "batch.bin: record 2, byte 270: the file ends without a trailer, after 1 details: it may have been cut"), (3, 2, 9)))
 
 INPUTS = ("--sheet", "sheet.toml", "--books", "books.txt", "--batch", "batch.bin")
@@ -509,7 +509,7 @@ ENDINGS = (
     Ending("check of the sheet alone", ("check", "--sheet", "sheet.toml"), 0, "", ""),
     Ending("check of sheet and batch", ("check", "--sheet", "sheet.toml", "--batch", "batch.bin"), 0, "", ""),
     Ending("check of an empty sheet", ("check", "--sheet", "/dev/null"), 1,
-           '/dev/null: bin is missing: 6 digits in quotes are wanted, as "900001"\n', "refused 3 2 1\n"),
+           '/dev/null: bin is missing: expected 6 digits in quotes, e.g. "900001"\n', "refused 3 2 1\n"),
     Ending("run -v without a sheet", with_words(("run", "-v") + INPUTS + RUN, sheet="none.toml"), 3, "",
            "file 1\nsheet none.toml: No such file or directory (os error 2)\n"),
     Ending("run -v into a folder that isn't there", with_words(("run", "-v") + INPUTS + RUN, response="none/r"), 3, "",
@@ -517,13 +517,13 @@ ENDINGS = (
     Ending("run -v into a folder", with_words(("run", "-v") + INPUTS + RUN, settlement="."), 3, "",
            "file 6\nsettlement .: Is a directory (os error 21)\n"),
     Ending("run --verbose with 65 workers", with_words(("run", "--verbose") + INPUTS + RUN, workers="65"), 1, "",
-           STEPS + "refused 1 0 0\n--workers 65: 1 to 64 are wanted\n"),
+           STEPS + "refused 1 0 0\n--workers 65: expected 1 to 64\n"),
     Ending("run -v with no such hour", with_words(("run", "-v") + INPUTS + RUN, stamp="202603022460"), 1, "",
-           STEPS + 'refused 2 0 0\n--stamp "202603022460": its last 4 digits are no time from 0000 to 2359\n'),
-    Ending("run -v with no such day", with_words(("run", "-v") + INPUTS + RUN, stamp="202602300600"), 1, "",
-           STEPS + 'refused 2 0 0\n--stamp "202602300600": its first 8 digits are no day\n'),
+           STEPS + 'refused 2 0 0\n--stamp "202603022460": its last 4 digits aren\'t a time from 0000 to 2359\n'),
+    Ending("run -v with no such date", with_words(("run", "-v") + INPUTS + RUN, stamp="202602300600"), 1, "",
+           STEPS + 'refused 2 0 0\n--stamp "202602300600": its first 8 digits aren\'t a date\n'),
     Ending("run -v with a date for a stamp", with_words(("run", "-v") + INPUTS + RUN, stamp="20260302"), 1, "",
-           STEPS + 'refused 2 0 0\n--stamp "20260302": 12 digits CCYYMMDDHHMM are wanted, as 202603020600\n'),
+           STEPS + 'refused 2 0 0\n--stamp "20260302": expected 12 digits CCYYMMDDHHMM, e.g. 202603020600\n'),
     Ending("run -v on a full disk", with_words(("run", "-v") + INPUTS + RUN, response="/dev/full"), 3, "",
            STEPS + "file 4\nresponse /dev/full: a write failed\n"),
 )

@@ -39,7 +39,7 @@ WORDS = {
 }
 PAGES, DOCS, COMMENTS, MESSAGES = "pages", "docs", "comments", "messages"
 WORD = re.compile(r"\b(?:" + "|".join(WORDS) + r")\b", re.I)
-NAMES = re.compile(r"`[^`]*`(?: \([a-z_, ]+\))?|\{[a-z_]+\}|\*\*[^*]*\*\*")
+NAMES = re.compile(r"`[^`]*`(?: \([a-z_, ]+\))?|\{\w+\}|\*\*[^*]*\*\*")
 TEXT = re.compile(r'"((?:\\.|[^"\\])*)"')
 BLOCK = re.compile(r"^```.*?^```$", re.M | re.S)
 CODE_COMMENT = re.compile(r"^(?P<code>(?:[^\"/]|\"(?:\\.|[^\"\\])*\"|/(?!/))*)(?P<mark>//[/!]?)(?P<text>.*)$")

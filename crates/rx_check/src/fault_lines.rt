@@ -56,7 +56,7 @@ pub fn fault_words(alloc: Global, fault: SwitchFault, run: &RunInputs<'_>) -> Re
         SwitchFault::Batch(fault) => {
             words_of_batch(alloc, fault, run.inputs.batch.text)?.line(alloc, run.inputs.batch.name)
         }
-        SwitchFault::Memory => Ok(String::from_str(alloc, "more memory was wanted than there is")?),
+        SwitchFault::Memory => Ok(String::from_str(alloc, "out of memory")?),
         SwitchFault::Thread => Ok(String::from_str(alloc, "a thread could not be started")?),
     }
 }
@@ -90,7 +90,7 @@ fn words_of_batch(alloc: Global, fault: BatchFault, text: Option<&[u8]>) -> Resu
 }
 
 fn workers_words(alloc: Global, workers: u16) -> Result<String, AllocError> {
-    format!(in alloc; "--workers {workers}: 1 to {MOST_WORKERS} are wanted")
+    format!(in alloc; "--workers {workers}: expected 1 to {MOST_WORKERS}")
 }
 
 fn stamp_words(alloc: Global, stamp: &str) -> Result<String, AllocError> {
@@ -98,11 +98,11 @@ fn stamp_words(alloc: Global, stamp: &str) -> Result<String, AllocError> {
     let shown = quoted(alloc, bytes)?;
     if bytes.len() != 12 || !all_digits(bytes) {
         return format!(in alloc;
-            "--stamp {shown}: 12 digits CCYYMMDDHHMM are wanted, as 202603020600"
+            "--stamp {shown}: expected 12 digits CCYYMMDDHHMM, e.g. 202603020600"
         );
     }
     if date_read(&bytes[..8]).is_err() {
-        return format!(in alloc; "--stamp {shown}: its first 8 digits are no day");
+        return format!(in alloc; "--stamp {shown}: its first 8 digits aren't a date");
     }
-    format!(in alloc; "--stamp {shown}: its last 4 digits are no time from 0000 to 2359")
+    format!(in alloc; "--stamp {shown}: its last 4 digits aren't a time from 0000 to 2359")
 }

@@ -29,7 +29,7 @@ pub(crate) fn explain_conflict(alloc: Global) -> WordsFault
     ensures { IsMisuse ErrorKind.ArgumentConflict result }
 {
     let text =
-        "one of '--record <PLACE>', '--number <AUTHORIZATION>' and '--rx <REFERENCE>' is wanted, \
+        "expected one of '--record <PLACE>', '--number <AUTHORIZATION>' and '--rx <REFERENCE>', \
                 and '--provider <ID>' only with '--rx'";
     conflict(explain(alloc).line(), "rxbatch explain", text)
 }
@@ -80,7 +80,7 @@ fn told_signed(
     ensures { IfOk result (λ told. kind_of told ≡ ErrorKind.ValueValidation) }
 {
     let text = format!(in alloc;
-        "invalid value '{number}' for '--workers <N>': a number is digits alone"
+        "invalid value '{number}' for '--workers <N>': expected only digits"
     )?;
     told(line, program, ErrorKind::ValueValidation, text.as_str())
 }

@@ -17,16 +17,16 @@ pub const VERSION: &str = "0.1.0 (rattle-kit-13 logic dac8208d650f15bf)";
 
 // What is said of the outputs of a command that writes them.
 const WRITTEN: [&'static str; 3] = [
-    "Response file, to be written",
-    "End books, to be written",
-    "Settlement, to be written",
+    "Response file to write",
+    "End books to write",
+    "Settlement to write",
 ];
 
 // And of one that compares them.
 const COMPARED: [&'static str; 3] = [
-    "Response file, to be compared",
-    "End books, to be compared",
-    "Settlement, to be compared",
+    "Response file to compare",
+    "End books to compare",
+    "Settlement to compare",
 ];
 
 /// The option `--name VALUE`.
@@ -133,7 +133,7 @@ fn takes_ways<'a>(alloc: Global, line: Draft<'a>) -> Draft<'a>
     let plain = flag(
         alloc,
         "plain",
-        "Work over plain lists, one record after another",
+        "Use the reference implementation, slow on large books",
     );
     let desk = flag(
         alloc,
@@ -150,9 +150,9 @@ fn takes_watch<'a>(alloc: Global, line: Draft<'a>) -> Draft<'a>
     let safe = flag(
         alloc,
         "safe",
-        "Give the outputs their names only where all is done",
+        "Write to temporary files, renamed when all is done",
     );
-    let verbose = flag(alloc, "verbose", "Tell the steps, and a fault in words").short('v');
+    let verbose = flag(alloc, "verbose", "Print the steps, and a refusal in words").short('v');
     takes_log(alloc, line.arg(safe).arg(verbose))
 }
 
@@ -160,12 +160,7 @@ fn takes_watch<'a>(alloc: Global, line: Draft<'a>) -> Draft<'a>
 fn takes_log<'a>(alloc: Global, line: Draft<'a>) -> Draft<'a>
     ensures { (app : App) → Draws app line.entry → Draws (with_log app) result }
 {
-    let log = optional(
-        alloc,
-        "log",
-        "FILE",
-        "Log of the run, a line of JSON, to be written",
-    );
+    let log = optional(alloc, "log", "FILE", "Log of the run, one line of JSON");
     let sums = flag(alloc, "sums", "Write the SHA-256 of each file into the log");
     line.arg(log).arg(sums)
 }
@@ -186,22 +181,22 @@ fn show<'a>(alloc: Global) -> Draft<'a>
 {
     let sheet = file(alloc, "sheet", "Plan sheet");
     let batch = file(alloc, "batch", "Batch file");
-    let tsv = flag(
+    let tsv = flag(alloc, "tsv", "Print tab-separated values, with the amounts");
+    draft(
         alloc,
-        "tsv",
-        "Write a tab between fields, and the amounts too",
-    );
-    draft(alloc, "show", "Shows the transactions, a line each")
-        .arg(sheet)
-        .arg(batch)
-        .arg(tsv)
+        "show",
+        "Prints the transactions of a batch, a line each",
+    )
+    .arg(sheet)
+    .arg(batch)
+    .arg(tsv)
 }
 
 /// The subcommand `plan`.
 fn plan<'a>(alloc: Global) -> Draft<'a>
     ensures { Draws plan_line result }
 {
-    let plan = draft(alloc, "plan", "Shows the waves and the chain");
+    let plan = draft(alloc, "plan", "Prints which records wait for each other");
     takes_inputs(alloc, plan)
 }
 
@@ -212,10 +207,14 @@ fn check<'a>(alloc: Global) -> Draft<'a>
     let sheet = file(alloc, "sheet", "Plan sheet");
     let books = optional(alloc, "books", "FILE", "Books");
     let batch = optional(alloc, "batch", "FILE", "Batch file");
-    draft(alloc, "check", "Tells the faults of input files in words")
-        .arg(sheet)
-        .arg(books)
-        .arg(batch)
+    draft(
+        alloc,
+        "check",
+        "Prints faults of input files in words, and warnings",
+    )
+    .arg(sheet)
+    .arg(books)
+    .arg(batch)
 }
 
 /// A line with what `explain` is asked after.
@@ -238,11 +237,15 @@ fn takes_asked<'a>(alloc: Global, line: Draft<'a>) -> Draft<'a>
 pub(crate) fn explain<'a>(alloc: Global) -> Draft<'a>
     ensures { Draws explain_line result }
 {
-    let explain = draft(alloc, "explain", "Tells why transactions are answered so");
+    let explain = draft(
+        alloc,
+        "explain",
+        "Explains why claims are answered as they are",
+    );
     let inputs = takes_inputs(alloc, explain);
     let asked = takes_asked(alloc, inputs);
-    let response = optional(alloc, "response", "FILE", "Response file, to be compared");
-    let json = flag(alloc, "json", "Write JSON");
+    let response = optional(alloc, "response", "FILE", "Response file to compare");
+    let json = flag(alloc, "json", "Print JSON");
     asked.arg(response).arg(json)
 }
 
@@ -259,7 +262,7 @@ fn takes_verify_options<'a>(alloc: Global, line: Draft<'a>) -> Draft<'a>
 pub(crate) fn verify<'a>(alloc: Global) -> Draft<'a>
     ensures { Draws verify_line result }
 {
-    let verify = draft(alloc, "verify", "Compares outputs with those of the inputs");
+    let verify = draft(alloc, "verify", "Repeats a run and compares its outputs");
     let files = takes_files(alloc, verify, COMPARED);
     takes_verify_options(alloc, files)
 }
@@ -268,9 +271,9 @@ pub(crate) fn verify<'a>(alloc: Global) -> Draft<'a>
 fn takes_forms<'a>(alloc: Global, line: Draft<'a>) -> Draft<'a>
     ensures { (app : App) → Draws app line.entry → Draws (with_forms app) result }
 {
-    let tsv = flag(alloc, "tsv", "Write a tab between fields");
-    let json = flag(alloc, "json", "Write JSON");
-    let html = flag(alloc, "html", "Write one HTML page");
+    let tsv = flag(alloc, "tsv", "Print tab-separated values");
+    let json = flag(alloc, "json", "Print JSON");
+    let html = flag(alloc, "html", "Print one HTML page");
     line.arg(tsv).arg(json).arg(html)
 }
 
@@ -281,7 +284,7 @@ pub(crate) fn report<'a>(alloc: Global) -> Draft<'a>
     let report = draft(
         alloc,
         "report",
-        "Shows the answers, a line each, by provider",
+        "Prints the answers, a line each, by provider",
     );
     let inputs = takes_inputs(alloc, report);
     let provider = optional(alloc, "provider", "ID", "Only the lines of this provider");
@@ -295,7 +298,12 @@ fn replies<'a>(alloc: Global) -> Draft<'a>
     ensures { Draws replies_line result }
 {
     let response = file(alloc, "response", "Response file");
-    draft(alloc, "replies", "Shows the replies, a line each").arg(response)
+    draft(
+        alloc,
+        "replies",
+        "Prints the replies of a response file, a line each",
+    )
+    .arg(response)
 }
 
 /// The line with the subcommands that adjudicate and show.
@@ -305,7 +313,7 @@ fn takes_adjudication<'a>(alloc: Global, line: Draft<'a>) -> Draft<'a>
     line.subcommand(run(alloc))
         .subcommand(show(alloc))
         .subcommand(plan(alloc))
-        .subcommand(draft(alloc, "sample", "Shows the reply to the base claim"))
+        .subcommand(draft(alloc, "sample", "Prints the reply to a fixed claim"))
 }
 
 /// The line with the subcommands that check a run's files and retrace it.

@@ -35,31 +35,31 @@ abbrev pub ends_before : List ℕ → ℕ → Bool
 ends_before text at = bytes_eq (slice_range text (at - 1) at) (ETX ∷ [])
 
 abbrev pub outside_with : List ℕ → Option (List ℕ) → Bool → List ℕ
-outside_with there (Some kind) behind_end = there ++ (codes ": STX (X'02') is wanted; this looks like " ++ kind)
+outside_with there (Some kind) behind_end = there ++ (codes ": expected STX (X'02'); this looks like " ++ kind)
 outside_with there None true =
-    there ++ codes " stands behind a record's ETX (X'03'): STX (X'02') is wanted, and no ETX within a record"
-outside_with there None false = there ++ codes " stands where a record could begin: STX (X'02') is wanted"
+    there ++ codes " after a record's ETX (X'03'): expected STX (X'02'); a record must not contain ETX"
+outside_with there None false = there ++ codes " where a record could begin: expected STX (X'02')"
 
 -- a byte where a record could begin
 unfoldable pub outside_text : List ℕ → ℕ → List ℕ
 outside_text text at =
     if at == 0 && has_mark text
-    then codes "the file begins with a byte order mark (EF BB BF): STX (X'02') is wanted"
+    then codes "the file begins with a byte order mark (EF BB BF): expected STX (X'02')"
     else outside_with (seen_at text at) (kind_at text at) (ends_before text at)
 
 -- no header where one is expected
 unfoldable pub no_header_text : List ℕ → ℕ → List ℕ
 no_header_text text at =
-    if length text == 0 then codes "the file is empty: a header is wanted, which begins STX 00"
+    if length text == 0 then codes "the file is empty: expected a header, which begins STX 00"
     else (if nat_le (length text) at then codes "the file ends before a header, which begins STX 00"
     else (codes "the first record begins "
-    ++ (quoted_text (take 2 (behind text at)) ++ codes ": a header is wanted, which begins \"00\"")))
+    ++ (quoted_text (take 2 (behind text at)) ++ codes ": expected a header, which begins \"00\"")))
 
 -- what follows the trailer
 unfoldable pub after_text : List ℕ → ℕ → List ℕ
 after_text text at =
     if begins (drop at text) (STX ∷ codes "00")
-    then codes "a second batch begins behind the trailer: one batch a file is read"
+    then codes "a second batch begins after the trailer: a file has one batch"
     else (decimal (length (drop at text)) ++ (codes " bytes follow the trailer, "
     ++ (seen_at text at ++ codes ": the file ends with the trailer")))
 
@@ -72,8 +72,8 @@ field_text at name body start end wanted =
     ++ (decimal (at + start + 1) ++ (codes ": " ++ wanted)))))
 
 -- why eight bytes are no date
-abbrev pub date_wanted : List ℕ → List ℕ
-date_wanted date = if all_digits date then codes "no such day" else codes "8 digits CCYYMMDD are wanted"
+unfoldable pub date_wanted : List ℕ → List ℕ
+date_wanted date = if all_digits date then codes "no such date" else codes "expected 8 digits CCYYMMDD"
 
 -- P for production, T for a test
 abbrev pub is_file_type : List ℕ → Bool
@@ -82,14 +82,14 @@ is_file_type file = bytes_eq file (codes "P") || bytes_eq file (codes "T")
 -- the fields of a header, the first that is wrong: from the file type on
 unfoldable pub file_type_text : ℕ → List ℕ → List ℕ
 file_type_text at body =
-    if is_file_type (slice_range body 46 47) then field_text at (codes "version") body 47 49 (codes "12 is wanted")
-    else field_text at (codes "file type") body 46 47 (codes "P or T is wanted")
+    if is_file_type (slice_range body 46 47) then field_text at (codes "version") body 47 49 (codes "expected 12")
+    else field_text at (codes "file type") body 46 47 (codes "expected P or T")
 
 -- from the creation time on
 unfoldable pub time_text : ℕ → List ℕ → List ℕ
 time_text at body =
     if is_none (time_of (slice_range body CREATION_TIME_AT 46))
-    then field_text at (codes "creation time") body CREATION_TIME_AT 46 (codes "HHMM from 0000 to 2359 is wanted")
+    then field_text at (codes "creation time") body CREATION_TIME_AT 46 (codes "expected HHMM from 0000 to 2359")
     else file_type_text at body
 
 -- from the creation date on
@@ -103,35 +103,35 @@ date_text at body =
 unfoldable pub lot_text : ℕ → List ℕ → List ℕ
 lot_text at body =
     if all_digits (slice_range body BATCH_NUMBER_AT CREATION_DATE_AT) then date_text at body
-    else field_text at (codes "batch number") body BATCH_NUMBER_AT CREATION_DATE_AT (codes "7 digits are wanted")
+    else field_text at (codes "batch number") body BATCH_NUMBER_AT CREATION_DATE_AT (codes "expected 7 digits")
 
 -- all of them
 unfoldable pub fields_text : ℕ → List ℕ → List ℕ
 fields_text at body =
     if bytes_eq (slice_range body 2 3) (codes "T") then lot_text at body
-    else field_text at (codes "type") body 2 3 (codes "T is wanted")
+    else field_text at (codes "type") body 2 3 (codes "expected T")
 
 -- a header: its length, or that it is a response file's, or its first field that is wrong
 unfoldable pub header_text : ℕ → List ℕ → List ℕ
 header_text at body =
     if not (length body + 2 == HEADER_LENGTH)
-    then codes "the header has " ++ (decimal (length body + 2) ++ (codes " bytes: "
-    ++ (decimal HEADER_LENGTH ++ codes " are wanted")))
+    then codes "the header has " ++ (decimal (length body + 2) ++ (codes " bytes: expected "
+    ++ decimal HEADER_LENGTH))
     else (if bytes_eq (slice_range body 2 3) (codes "R")
-    then codes "type \"R\" at byte " ++ (decimal (at + 3) ++ codes ": this is a response file, T is wanted")
+    then codes "type \"R\" at byte " ++ (decimal (at + 3) ++ codes ": this is a response file, expected T")
     else fields_text at body)
 
 -- a trailer: its length, or its first number that is none
 unfoldable pub trailer_text : ℕ → List ℕ → List ℕ
 trailer_text at body =
     if nat_lt (length body) 19
-    then codes "the trailer has " ++ (decimal (length body + 2) ++ (codes " bytes: 21 to "
-    ++ (decimal TRAILER_LENGTH ++ codes " are wanted")))
+    then codes "the trailer has " ++ (decimal (length body + 2) ++ (codes " bytes: expected 21 to "
+    ++ decimal TRAILER_LENGTH))
     else (if nat_lt 54 (length body)
-    then codes "the trailer's message has " ++ (decimal (length body - 19) ++ codes " bytes: at most 35 are wanted")
+    then codes "the trailer's message has " ++ (decimal (length body - 19) ++ codes " bytes: expected at most 35")
     else (if not (all_digits (slice_range body 2 9))
-    then field_text at (codes "batch number") body 2 9 (codes "7 digits are wanted")
-    else field_text at (codes "count") body 9 19 (codes "10 digits are wanted")))
+    then field_text at (codes "batch number") body 2 9 (codes "expected 7 digits")
+    else field_text at (codes "count") body 9 19 (codes "expected 10 digits")))
 
 -- ---- a record as a whole
 
@@ -143,10 +143,10 @@ to_mark rest = position_or_len (λ b. b == STX || b == ETX) rest
 unfoldable pub unclosed_text : ℕ → List ℕ → List ℕ
 unclosed_text at rest =
     if nat_lt (to_mark rest) (length rest)
-    then codes "another STX (X'02') stands at byte "
+    then codes "another STX (X'02') at byte "
     ++ (decimal (at + 1 + to_mark rest) ++ codes ", before the record's ETX (X'03')")
     else codes "the file ends "
-    ++ (decimal (length rest) ++ codes " bytes behind the record's STX, before its ETX (X'03'): it may have been cut")
+    ++ (decimal (length rest) ++ codes " bytes after the record's STX, before its ETX (X'03'): it may have been cut")
 
 -- a record of no kind
 unfoldable pub kind_text : List ℕ → List ℕ
@@ -156,7 +156,7 @@ kind_text body =
 -- a detail without a reference
 unfoldable pub detail_text : List ℕ → List ℕ
 detail_text body =
-    codes "the detail has " ++ (decimal (length body - 2) ++ codes " bytes behind G1: a reference of 10 bytes is wanted")
+    codes "the detail has " ++ (decimal (length body - 2) ++ codes " bytes after G1: expected a reference of 10 bytes")
 
 -- ---- the batch as a whole
 
@@ -190,7 +190,7 @@ too_much_text =
     codes "this is detail " ++ (decimal (MOST_DETAILS + 1) ++ (codes ": at most " ++ (decimal MOST_DETAILS ++ codes " are read")))
 
 abbrev pub no_memory_text : List ℕ
-no_memory_text = codes "more memory was wanted than there is"
+no_memory_text = codes "out of memory"
 
 -- what is said of each fault
 abbrev pub batch_text : List ℕ → BatchFault → List ℕ
@@ -210,8 +210,8 @@ batch_text text fault.Memory = no_memory_text
 
 -- the same where the text can't be read again
 abbrev pub unread_batch_text : BatchFault → List ℕ
-unread_batch_text (fault.Outside at) = codes "a byte stands where a record could begin: STX (X'02') is wanted"
-unread_batch_text (fault.NoHeader at) = codes "a header is wanted, which begins STX 00"
+unread_batch_text (fault.Outside at) = codes "a byte where a record could begin: expected STX (X'02')"
+unread_batch_text (fault.NoHeader at) = codes "expected a header, which begins STX 00"
 unread_batch_text (fault.HeaderShape at) = codes "a field of the header is wrong, or it hasn't 75 bytes"
 unread_batch_text (fault.Unclosed at) = codes "the record has no ETX (X'03')"
 unread_batch_text (fault.RecordKind at) = codes "the record begins neither G1 nor 99"

@@ -32,17 +32,17 @@ mended text mend = record { text = text; mend = mend }
 -- an id of 1 to this many bytes
 abbrev pub id_fault : ℕ → List ℕ → Option (List ℕ)
 id_fault most field =
-    if length field == 0 then Some (codes "an id is wanted")
+    if length field == 0 then Some (codes "expected an id")
     else (if nat_lt most (length field)
-    then Some (decimal (length field) ++ (codes " bytes, at most " ++ (decimal most ++ codes " are wanted")))
-    else (if ends_with nat_eq field (codes " ") then Some (codes "a blank stands at its end")
-    else (if all_printable field then None else Some (codes "printable characters alone are wanted"))))
+    then Some (decimal (length field) ++ (codes " bytes, expected at most " ++ decimal most))
+    else (if ends_with nat_eq field (codes " ") then Some (codes "trailing blank")
+    else (if all_printable field then None else Some (codes "not printable ASCII"))))
 
 -- a date of eight digits
 abbrev pub date_fault : List ℕ → Option (List ℕ)
 date_fault field =
-    if not (length field == 8) || not (all_digits field) then Some (codes "8 digits are wanted, as 20260101")
-    else (if is_err (date_of field) then Some (codes "no such day") else None)
+    if not (length field == 8) || not (all_digits field) then Some (codes "expected 8 digits, e.g. 20260101")
+    else (if is_err (date_of field) then Some (codes "no such date") else None)
 
 -- ---- the head line
 
@@ -68,7 +68,7 @@ abbrev pub is_version : List ℕ → Bool
 is_version field = bytes_eq field (codes "1") || bytes_eq field (codes "2") || bytes_eq field (codes "3")
 
 unfoldable pub fields_text : ℕ → List ℕ
-fields_text count = decimal count ++ codes " fields: a head line has 4, as BOOKS|3|20260101|20261231"
+fields_text count = decimal count ++ codes " fields: a head line has 4, e.g. BOOKS|3|20260101|20261231"
 
 unfoldable pub version_text : List ℕ → List ℕ
 version_text version = codes "version " ++ (quoted_text version ++ codes ": versions 1, 2 and 3 are read")
@@ -84,16 +84,16 @@ head_fields_text line =
 abbrev pub no_label_text : Option (List ℕ) → List ℕ → List ℕ
 no_label_text (Some kind) line = codes "no head line: this looks like " ++ kind
 no_label_text None line =
-    quoted_text line ++ codes " is no head line: BOOKS|3|first|last is wanted, as BOOKS|3|20260101|20261231"
+    quoted_text line ++ codes " isn't a head line: expected BOOKS|3|first|last, e.g. BOOKS|3|20260101|20261231"
 
 -- a first line that is no head line
 unfoldable pub head_telling : List ℕ → List ℕ → Telling
 head_telling text line =
-    if length text == 0 then plain (codes "the file is empty: a head line is wanted, as BOOKS|3|20260101|20261231")
+    if length text == 0 then plain (codes "the file is empty: expected a head line, e.g. BOOKS|3|20260101|20261231")
     else (if has_mark text
     then mended (codes "the file begins with a byte order mark (EF BB BF)") (codes "sed -i '1s/^\\xef\\xbb\\xbf//'")
     else (if ends_with nat_eq line (13 ∷ [])
-    then mended (codes "the line ends with CR LF: LF alone is wanted") (codes "sed -i 's/\\r$//'")
+    then mended (codes "the line ends with CR LF: expected LF") (codes "sed -i 's/\\r$//'")
     else (if not (begins line (codes "BOOKS|")) then plain (no_label_text (looks_like text) line)
     else (if line_feeds text == 0 then mended (codes "the line has no line feed at its end") (codes "echo >>")
     else plain (head_fields_text line)))))
@@ -129,10 +129,10 @@ key_of line =
     else second)
 
 abbrev pub twice_text : List ℕ → List ℕ → List ℕ
-twice_text key order = key ++ (codes " stands twice: " ++ order)
+twice_text key order = key ++ (codes " is listed twice: " ++ order)
 
 abbrev pub after_text : List ℕ → List ℕ → List ℕ → List ℕ
-after_text key before order = key ++ (codes " stands after " ++ (before ++ (codes ": " ++ order)))
+after_text key before order = key ++ (codes " comes after " ++ (before ++ (codes ": " ++ order)))
 
 unfoldable pub keys_text : List ℕ → List ℕ → List ℕ → List ℕ
 keys_text key before order = if bytes_eq key before then twice_text key order else after_text key before order
@@ -141,7 +141,7 @@ keys_text key before order = if bytes_eq key before then twice_text key order el
 unfoldable pub order_text : List ℕ → List ℕ → List ℕ
 order_text line above =
     if not (rank_of (kind_of line) == rank_of (kind_of above))
-    then codes "a " ++ (called (kind_of line) ++ (codes " line stands after a " ++ (called (kind_of above)
+    then codes "a " ++ (called (kind_of line) ++ (codes " line comes after a " ++ (called (kind_of above)
     ++ codes " line: first come all M, then all C, then all T")))
     else keys_text (key_of line) (key_of above) (order_of (kind_of line))
 
@@ -151,7 +151,7 @@ abbrev pub too_many_text : List ℕ → List ℕ
 too_many_text text = decimal (line_feeds text) ++ (codes " line feeds: at most " ++ (decimal MOST_LINES ++ codes " are read"))
 
 abbrev pub no_memory_text : List ℕ
-no_memory_text = codes "more memory was wanted than there is"
+no_memory_text = codes "out of memory"
 
 abbrev pub telling_of : Said → Telling
 telling_of said = record { text = string_bytes said.text; mend = said.mend.now }
@@ -166,10 +166,10 @@ TellsOfBooks text other said = Unit {0}
 
 -- the same where the text can't be read again
 abbrev pub unread_books_text : BooksFault → List ℕ
-unread_books_text fault.Head = codes "no head line: BOOKS|3|first|last is wanted, as BOOKS|3|20260101|20261231"
+unread_books_text fault.Head = codes "no head line: expected BOOKS|3|first|last, e.g. BOOKS|3|20260101|20261231"
 unread_books_text (fault.Line n) = codes "no line of the head's version, or no line feed at its end"
-unread_books_text (fault.Order n) = codes "the line stands out of order"
+unread_books_text (fault.Order n) = codes "the line is out of order"
 unread_books_text (fault.UnknownMember n) = codes "a member who isn't listed, or a family without one"
-unread_books_text (fault.Totals n) = codes "a figure isn't the sum over the claims, or a total line is lacking"
+unread_books_text (fault.Totals n) = codes "a figure isn't the sum over the claims, or a total line is missing"
 unread_books_text fault.TooMuch = codes "more than " ++ (decimal MOST_LINES ++ codes " lines")
 unread_books_text fault.Memory = no_memory_text

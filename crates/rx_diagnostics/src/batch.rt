@@ -49,9 +49,8 @@ fn unread_text(alloc: Global, fault: BatchFault) -> Result<String, AllocError>
     ensures { IfOk result (λ text. string_bytes text ≡ unread_batch_text fault) }
 {
     let text = match fault {
-        BatchFault::Outside { .. } =>
-            "a byte stands where a record could begin: STX (X'02') is wanted",
-        BatchFault::NoHeader { .. } => "a header is wanted, which begins STX 00",
+        BatchFault::Outside { .. } => "a byte where a record could begin: expected STX (X'02')",
+        BatchFault::NoHeader { .. } => "expected a header, which begins STX 00",
         BatchFault::HeaderShape { .. } => "a field of the header is wrong, or it hasn't 75 bytes",
         BatchFault::Unclosed { .. } => "the record has no ETX (X'03')",
         BatchFault::RecordKind { .. } => "the record begins neither G1 nor 99",
@@ -64,7 +63,7 @@ fn unread_text(alloc: Global, fault: BatchFault) -> Result<String, AllocError>
             "the trailer's count isn't the number of details, nor that number plus two",
         BatchFault::AfterTrailer { .. } => "bytes follow the trailer",
         BatchFault::TooMuch { .. } => return too_much_words(alloc),
-        BatchFault::Memory => "more memory was wanted than there is",
+        BatchFault::Memory => "out of memory",
     };
     said(alloc, text)
 }
@@ -98,7 +97,7 @@ fn said_of(alloc: Global, fault: BatchFault, text: &[u8]) -> Result<String, Allo
         }
         BatchFault::AfterTrailer { at } => after_words(alloc, text, at),
         BatchFault::TooMuch { .. } => too_much_words(alloc),
-        BatchFault::Memory => said(alloc, "more memory was wanted than there is"),
+        BatchFault::Memory => said(alloc, "out of memory"),
     }
 }
 
@@ -148,7 +147,7 @@ fn outside_words(alloc: Global, text: &[u8], at: u64) -> Result<String, AllocErr
     if at == 0 && has_mark(text) {
         return said(
             alloc,
-            "the file begins with a byte order mark (EF BB BF): STX (X'02') is wanted",
+            "the file begins with a byte order mark (EF BB BF): expected STX (X'02')",
         );
     }
     let there = seen_at(alloc, text, at)?;
@@ -172,13 +171,13 @@ fn outside_with(
 {
     match (kind, behind_end) {
         (Some(kind), _) => format!(in alloc;
-            "{there}: STX (X'02') is wanted; this looks like {kind}"
+            "{there}: expected STX (X'02'); this looks like {kind}"
         ),
         (None, true) => format!(in alloc;
-            "{there} stands behind a record's ETX (X'03'): STX (X'02') is wanted, and no ETX within a record"
+            "{there} after a record's ETX (X'03'): expected STX (X'02'); a record must not contain ETX"
         ),
         (None, false) => format!(in alloc;
-            "{there} stands where a record could begin: STX (X'02') is wanted"
+            "{there} where a record could begin: expected STX (X'02')"
         ),
     }
 }
@@ -191,14 +190,14 @@ fn no_header_words(alloc: Global, text: &[u8], at: u64) -> Result<String, AllocE
     if text.is_empty() {
         return said(
             alloc,
-            "the file is empty: a header is wanted, which begins STX 00",
+            "the file is empty: expected a header, which begins STX 00",
         );
     }
     if at as usize >= text.len() {
         return said(alloc, "the file ends before a header, which begins STX 00");
     }
     let there = quoted(alloc, front(behind(text, at), 2))?;
-    format!(in alloc; "the first record begins {there}: a header is wanted, which begins \"00\"")
+    format!(in alloc; "the first record begins {there}: expected a header, which begins \"00\"")
 }
 
 // What is said of what follows the trailer.
@@ -210,7 +209,7 @@ fn after_words(alloc: Global, text: &[u8], at: u64) -> Result<String, AllocError
     if rest.starts_with(b"\x0200") {
         return said(
             alloc,
-            "a second batch begins behind the trailer: one batch a file is read",
+            "a second batch begins after the trailer: a file has one batch",
         );
     }
     let there = seen_at(alloc, text, at)?;

@@ -60,12 +60,12 @@ pub(crate) fn unclosed_words(alloc: Global, at: u64, rest: &[u8]) -> Result<Stri
     if place < rest.len() {
         let byte = u128::from(at) + 1 + place as u128;
         return format!(in alloc;
-            "another STX (X'02') stands at byte {byte}, before the record's ETX (X'03')"
+            "another STX (X'02') at byte {byte}, before the record's ETX (X'03')"
         );
     }
     let count = rest.len();
     format!(in alloc;
-        "the file ends {count} bytes behind the record's STX, before its ETX (X'03'): it may have been cut"
+        "the file ends {count} bytes after the record's STX, before its ETX (X'03'): it may have been cut"
     )
 }
 
@@ -84,7 +84,7 @@ pub(crate) fn detail_words(alloc: Global, body: &[u8]) -> Result<String, AllocEr
     ensures { IfOk result (λ said. string_bytes said ≡ detail_text body.now) }
 {
     let count = body.len().saturating_sub(2);
-    format!(in alloc; "the detail has {count} bytes behind G1: a reference of 10 bytes is wanted")
+    format!(in alloc; "the detail has {count} bytes after G1: expected a reference of 10 bytes")
 }
 
 /// What is said of a header: its length, or its first field that is wrong.
@@ -94,11 +94,11 @@ pub(crate) fn header_words(alloc: Global, at: u64, body: &[u8]) -> Result<String
 {
     if body.len() + 2 != HEADER_LENGTH {
         let count = body.len() + 2;
-        return format!(in alloc; "the header has {count} bytes: {HEADER_LENGTH} are wanted");
+        return format!(in alloc; "the header has {count} bytes: expected {HEADER_LENGTH}");
     }
     if part(body, 2, 3) == b"R".as_slice() {
         let byte = u128::from(at) + 3;
-        return format!(in alloc; "type \"R\" at byte {byte}: this is a response file, T is wanted");
+        return format!(in alloc; "type \"R\" at byte {byte}: this is a response file, expected T");
     }
     fields_words(alloc, at, body)
 }
@@ -111,7 +111,7 @@ fn fields_words(alloc: Global, at: u64, body: &[u8]) -> Result<String, AllocErro
     if part(body, 2, 3) == b"T".as_slice() {
         lot_words(alloc, at, body)
     } else {
-        field_words(alloc, at, "type", body, 2, 3, "T is wanted")
+        field_words(alloc, at, "type", body, 2, 3, "expected T")
     }
 }
 
@@ -130,7 +130,7 @@ fn lot_words(alloc: Global, at: u64, body: &[u8]) -> Result<String, AllocError>
             body,
             BATCH_NUMBER_AT,
             CREATION_DATE_AT,
-            "7 digits are wanted",
+            "expected 7 digits",
         )
     }
 }
@@ -163,7 +163,7 @@ fn time_words(alloc: Global, at: u64, body: &[u8]) -> Result<String, AllocError>
     ensures { IfOk result (λ said. string_bytes said ≡ time_text at body.now) }
 {
     if Time::new(part(body, CREATION_TIME_AT, 46)).is_none() {
-        let wanted = "HHMM from 0000 to 2359 is wanted";
+        let wanted = "expected HHMM from 0000 to 2359";
         field_words(
             alloc,
             at,
@@ -184,9 +184,9 @@ fn file_type_words(alloc: Global, at: u64, body: &[u8]) -> Result<String, AllocE
     ensures { IfOk result (λ said. string_bytes said ≡ file_type_text at body.now) }
 {
     if is_file_type(part(body, 46, 47)) {
-        field_words(alloc, at, "version", body, 47, 49, "12 is wanted")
+        field_words(alloc, at, "version", body, 47, 49, "expected 12")
     } else {
-        field_words(alloc, at, "file type", body, 46, 47, "P or T is wanted")
+        field_words(alloc, at, "file type", body, 46, 47, "expected P or T")
     }
 }
 
@@ -197,13 +197,14 @@ fn is_file_type(file: &[u8]) -> bool
 }
 
 // Why eight bytes are no date.
+#[tactic(auto, unfolding(crate::specs::BatchTexts::date_wanted))]
 fn date_wanted(date: &[u8]) -> &'static str
     ensures { result.now ≡ date_wanted date.now }
 {
     if all_digits(date) {
-        "no such day"
+        "no such date"
     } else {
-        "8 digits CCYYMMDD are wanted"
+        "expected 8 digits CCYYMMDD"
     }
 }
 
@@ -232,20 +233,16 @@ pub(crate) fn trailer_words(alloc: Global, at: u64, body: &[u8]) -> Result<Strin
 {
     if body.len() < 19 {
         let count = body.len() + 2;
-        return format!(in alloc;
-            "the trailer has {count} bytes: 21 to {TRAILER_LENGTH} are wanted"
-        );
+        return format!(in alloc; "the trailer has {count} bytes: expected 21 to {TRAILER_LENGTH}");
     }
     if body.len() > 54 {
         let message = body.len() - 19;
-        return format!(in alloc;
-            "the trailer's message has {message} bytes: at most 35 are wanted"
-        );
+        return format!(in alloc; "the trailer's message has {message} bytes: expected at most 35");
     }
     if !all_digits(part(body, 2, 9)) {
-        return field_words(alloc, at, "batch number", body, 2, 9, "7 digits are wanted");
+        return field_words(alloc, at, "batch number", body, 2, 9, "expected 7 digits");
     }
-    field_words(alloc, at, "count", body, 9, 19, "10 digits are wanted")
+    field_words(alloc, at, "count", body, 9, 19, "expected 10 digits")
 }
 
 /// What is said of a trailer of another batch than the header's.

@@ -37,14 +37,14 @@ fn unread_text(alloc: Global, fault: BooksFault) -> Result<String, AllocError>
 {
     let text = match fault {
         BooksFault::Head =>
-            "no head line: BOOKS|3|first|last is wanted, as BOOKS|3|20260101|20261231",
+            "no head line: expected BOOKS|3|first|last, e.g. BOOKS|3|20260101|20261231",
         BooksFault::Line(_) => "no line of the head's version, or no line feed at its end",
-        BooksFault::Order(_) => "the line stands out of order",
+        BooksFault::Order(_) => "the line is out of order",
         BooksFault::UnknownMember(_) => "a member who isn't listed, or a family without one",
         BooksFault::Totals(_) =>
-            "a figure isn't the sum over the claims, or a total line is lacking",
+            "a figure isn't the sum over the claims, or a total line is missing",
         BooksFault::TooMuch => return format!(in alloc; "more than {MOST_LINES} lines"),
-        BooksFault::Memory => "more memory was wanted than there is",
+        BooksFault::Memory => "out of memory",
     };
     said(alloc, text)
 }
@@ -73,7 +73,7 @@ fn said_of(alloc: Global, fault: BooksFault, text: &[u8]) -> Result<Said, Memory
         BooksFault::UnknownMember(line) => Ok(Said::plain(unknown_words(alloc, text, line)?)),
         BooksFault::Totals(line) => Ok(Said::plain(totals_words(alloc, text, line)?)),
         BooksFault::TooMuch => Ok(Said::plain(too_many_words(alloc, text)?)),
-        BooksFault::Memory => Ok(Said::plain(said(alloc, "more memory was wanted than there is")?)),
+        BooksFault::Memory => Ok(Said::plain(said(alloc, "out of memory")?)),
     }
 }
 
@@ -90,7 +90,7 @@ fn head_words(alloc: Global, text: &[u8], line: &[u8]) -> Result<Said, AllocErro
     ensures { IfOk result (λ said. telling_of said ≡ head_telling text.now line.now) }
 {
     if text.is_empty() {
-        let text = "the file is empty: a head line is wanted, as BOOKS|3|20260101|20261231";
+        let text = "the file is empty: expected a head line, e.g. BOOKS|3|20260101|20261231";
         return Ok(Said::plain(said(alloc, text)?));
     }
     if has_mark(text) {
@@ -103,7 +103,7 @@ fn head_words(alloc: Global, text: &[u8], line: &[u8]) -> Result<Said, AllocErro
     if line.ends_with(b"\r") {
         return Said::mended(
             alloc,
-            "the line ends with CR LF: LF alone is wanted",
+            "the line ends with CR LF: expected LF",
             "sed -i 's/\\r$//'",
         );
     }
@@ -126,7 +126,7 @@ fn no_label(alloc: Global, kind: Option<&'static str>, line: &[u8]) -> Result<St
     }
     let line = quoted(alloc, line)?;
     format!(in alloc;
-        "{line} is no head line: BOOKS|3|first|last is wanted, as BOOKS|3|20260101|20261231"
+        "{line} isn't a head line: expected BOOKS|3|first|last, e.g. BOOKS|3|20260101|20261231"
     )
 }
 
@@ -153,7 +153,7 @@ fn head_fields(alloc: Global, line: &[u8]) -> Result<String, AllocError>
 fn fields_words(alloc: Global, count: usize) -> Result<String, AllocError>
     ensures { IfOk result (λ said. string_bytes said ≡ fields_text count) }
 {
-    format!(in alloc; "{count} fields: a head line has 4, as BOOKS|3|20260101|20261231")
+    format!(in alloc; "{count} fields: a head line has 4, e.g. BOOKS|3|20260101|20261231")
 }
 
 // What is said of a version that there isn't.

@@ -91,7 +91,7 @@ pub(crate) fn fault_in(
             if field.len() == count && all_digits(field) {
                 return Ok(None);
             }
-            Ok(Some(format!(in alloc; "{count} digits are wanted")?))
+            Ok(Some(format!(in alloc; "expected {count} digits")?))
         }
     }
 }
@@ -101,17 +101,17 @@ fn id_fault(alloc: Global, most: usize, field: &[u8]) -> Result<Option<String>, 
     ensures { IfOk result (λ fault. option_map string_bytes fault ≡ id_fault most field.now) }
 {
     if field.is_empty() {
-        return some(alloc, "an id is wanted");
+        return some(alloc, "expected an id");
     }
     if field.len() > most {
         let length = field.len();
-        return Ok(Some(format!(in alloc; "{length} bytes, at most {most} are wanted")?));
+        return Ok(Some(format!(in alloc; "{length} bytes, expected at most {most}")?));
     }
     if field.ends_with(b" ") {
-        return some(alloc, "a blank stands at its end");
+        return some(alloc, "trailing blank");
     }
     if !all_printable(field) {
-        return some(alloc, "printable characters alone are wanted");
+        return some(alloc, "not printable ASCII");
     }
     Ok(None)
 }
@@ -121,10 +121,10 @@ pub(crate) fn date_fault(alloc: Global, field: &[u8]) -> Result<Option<String>, 
     ensures { IfOk result (λ fault. option_map string_bytes fault ≡ date_fault field.now) }
 {
     if field.len() != 8 || !all_digits(field) {
-        return some(alloc, "8 digits are wanted, as 20260101");
+        return some(alloc, "expected 8 digits, e.g. 20260101");
     }
     if date_read(field).is_err() {
-        return some(alloc, "no such day");
+        return some(alloc, "no such date");
     }
     Ok(None)
 }
@@ -136,26 +136,26 @@ fn number_fault(
     field: &[u8],
 ) -> Result<Option<String>, AllocError> {
     if field.is_empty() || !all_digits(field) {
-        return some(alloc, "digits alone are wanted");
+        return some(alloc, "expected only digits");
     }
     if field.len() > 1 && field.starts_with(b"0") {
-        return some(alloc, "no leading zeros are wanted");
+        return some(alloc, "expected no leading zeros");
     }
     match number_read(field, 19) {
         Ok(number) if low <= number && number <= high => Ok(None),
-        _ => Ok(Some(format!(in alloc; "a number from {low} to {high} is wanted")?)),
+        _ => Ok(Some(format!(in alloc; "expected a number from {low} to {high}")?)),
     }
 }
 
 fn figure_fault(alloc: Global, field: &[u8]) -> Result<Option<String>, AllocError> {
     if field.is_empty() || !all_digits(field) {
-        return some(alloc, "whole cents are wanted, digits alone");
+        return some(alloc, "expected whole cents, only digits");
     }
     if field.len() > 1 && field.starts_with(b"0") {
-        return some(alloc, "no leading zeros are wanted");
+        return some(alloc, "expected no leading zeros");
     }
     if field.len() > 20 {
-        return some(alloc, "at most 20 digits are wanted");
+        return some(alloc, "expected at most 20 digits");
     }
     Ok(None)
 }

@@ -22,7 +22,7 @@ pub(crate) fn line_words(alloc: Global, text: &[u8], number: u64) -> Result<Said
     if line.ends_with(b"\r") {
         return Said::mended(
             alloc,
-            "the line ends with CR LF: LF alone is wanted",
+            "the line ends with CR LF: expected LF",
             "sed -i 's/\\r$//'",
         );
     }
@@ -112,9 +112,9 @@ fn figures_words(alloc: Global, line: &[u8], version: Version) -> Result<String,
         names = "FH + FI + 4U";
     }
     if paid > MOST_CENTS {
-        return format!(in alloc; "F6 + F7 = {paid}: at most {MOST_CENTS} cents are wanted");
+        return format!(in alloc; "F6 + F7 = {paid}: expected at most {MOST_CENTS} cents");
     }
-    format!(in alloc; "{names} = {share}: at most F6 + F7 = {paid} is wanted")
+    format!(in alloc; "{names} = {share}: expected at most F6 + F7 = {paid}")
 }
 
 fn sum_of(line: &[u8], one: usize, other: usize) -> u64 {

@@ -28,7 +28,7 @@ fn lines_words(alloc: Global, line: &[u8], above: &[u8]) -> Result<String, Alloc
         let one = kind.name();
         let other = kind_above.name();
         return format!(in alloc;
-            "a {one} line stands after a {other} line: first come all M, then all C, then all T"
+            "a {one} line comes after a {other} line: first come all M, then all C, then all T"
         );
     }
     let key = key_of(alloc, line)?;
@@ -52,14 +52,14 @@ fn keys_words(alloc: Global, key: &str, before: &str, order: &str) -> Result<Str
 fn twice_words(alloc: Global, key: &str, order: &str) -> Result<String, AllocError>
     ensures { IfOk result (λ said. string_bytes said ≡ twice_text key.now order.now) }
 {
-    format!(in alloc; "{key} stands twice: {order}")
+    format!(in alloc; "{key} is listed twice: {order}")
 }
 
 #[tactic(auto, using(std::proofs::Common::append_assoc))]
 fn after_words(alloc: Global, key: &str, before: &str, order: &str) -> Result<String, AllocError>
     ensures { IfOk result (λ said. string_bytes said ≡ after_text key.now before.now order.now) }
 {
-    format!(in alloc; "{key} stands after {before}: {order}")
+    format!(in alloc; "{key} comes after {before}: {order}")
 }
 
 /// What a line after the head is about.

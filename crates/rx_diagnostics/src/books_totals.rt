@@ -164,10 +164,10 @@ fn lacking_line(
     let at = lines.saturating_add(above).saturating_add(2);
     if printed.head().version == Version::Three {
         return format!(in alloc;
-            "family {name} has no total line: T|{name}|{out_of_pocket}|{deductible} is wanted at line {at}"
+            "family {name} has no total line: expected T|{name}|{out_of_pocket}|{deductible} at line {at}"
         );
     }
     format!(in alloc;
-        "family {name} has no total line: T|{name}|{out_of_pocket} is wanted at line {at}"
+        "family {name} has no total line: expected T|{name}|{out_of_pocket} at line {at}"
     )
 }

@@ -32,10 +32,7 @@ pub fn sheet_words(alloc: Global, fault: SheetFault, text: &[u8]) -> Result<Word
         SheetFault::NotToml => not_toml(alloc, text),
         SheetFault::Missing(key) => Ok(Words::new(Place::Whole, missing(alloc, key, text)?)),
         SheetFault::Wrong(key) => Ok(Words::new(Place::Whole, wrong(alloc, key, text)?)),
-        SheetFault::Memory => Ok(Words::new(
-            Place::Whole,
-            said(alloc, "more memory was wanted than there is")?,
-        )),
+        SheetFault::Memory => Ok(Words::new(Place::Whole, said(alloc, "out of memory")?)),
     }
 }
 
@@ -61,7 +58,7 @@ fn unread_text(alloc: Global, fault: SheetFault) -> Result<String, AllocError>
         SheetFault::NotToml => said(alloc, "not TOML"),
         SheetFault::Missing(key) => missing_key(alloc, key),
         SheetFault::Wrong(key) => wrong_key(alloc, key),
-        SheetFault::Memory => said(alloc, "more memory was wanted than there is"),
+        SheetFault::Memory => said(alloc, "out of memory"),
     }
 }
 
@@ -202,7 +199,7 @@ fn wrong_date(alloc: Global, key: SheetKey, sheet: &Table) -> Result<String, All
     }
     let value = quoted(alloc, bytes)?;
     if date_read(bytes).is_err() {
-        return format!(in alloc; "{name} = {value}: no such day");
+        return format!(in alloc; "{name} = {value}: no such date");
     }
     let Some(first) = found(sheet, "period_first") else {
         return wrong_value(alloc, key, sheet);

@@ -51,7 +51,7 @@ fn lacks(drug: &Value, name: &str) -> bool {
 fn tiers_words(alloc: Global, sheet: &Table) -> Result<String, AllocError> {
     let wanted = wanted_at(alloc, SheetKey::Tiers)?;
     let Some(tiers) = table_at(sheet, "tiers") else {
-        return format!(in alloc; "tiers is no table: {wanted}");
+        return format!(in alloc; "tiers isn't a table: {wanted}");
     };
     for (name, tier) in tiers.iter() {
         if !is_share(tier) {
@@ -78,23 +78,23 @@ fn share_words(alloc: Global, name: &str, tier: &Value) -> Result<String, AllocE
     let Some(table) = tier.as_table() else {
         let value = shown_value(alloc, tier)?;
         return format!(in alloc;
-            "tier {name} = {value}: whole cents from 0 to {MOST_CENTS} are wanted, as 1000, or {{ percent = 20 }}"
+            "tier {name} = {value}: expected whole cents from 0 to {MOST_CENTS}, e.g. 1000, or {{ percent = 20 }}"
         );
     };
     if let Some(percent) = found(table, "percent") {
         let value = shown_value(alloc, percent)?;
         return format!(in alloc;
-            "tier {name}: percent = {value}: a whole number from 0 to 100 is wanted, as 20"
+            "tier {name}: percent = {value}: expected a whole number from 0 to 100, e.g. 20"
         );
     }
-    format!(in alloc; "tier {name} is a table without percent: {{ percent = 20 }} is wanted")
+    format!(in alloc; "tier {name} is a table without percent: expected {{ percent = 20 }}")
 }
 
 // The first drug whose product is no product, or that is no table.
 fn drugs_words(alloc: Global, sheet: &Table) -> Result<String, AllocError> {
     let wanted = wanted_at(alloc, SheetKey::Drugs)?;
     let Some(drugs) = table_at(sheet, "drugs") else {
-        return format!(in alloc; "drugs is no table: {wanted}");
+        return format!(in alloc; "drugs isn't a table: {wanted}");
     };
     for (product, drug) in drugs.iter() {
         let bytes = product.as_str().as_bytes();
@@ -108,7 +108,7 @@ fn drugs_words(alloc: Global, sheet: &Table) -> Result<String, AllocError> {
             let product = product.as_str();
             let value = shown_value(alloc, drug)?;
             return format!(in alloc;
-                "drug {product} = {value}: a table with tier and price is wanted"
+                "drug {product} = {value}: expected a table with tier and price"
             );
         }
     }
@@ -143,7 +143,7 @@ fn no_tier(alloc: Global, product: &str, tier: &Value) -> Result<String, AllocEr
     match tier.as_str() {
         Some(_) => format!(in alloc; "drug {product}: tier = {value}: no tier has this name"),
         None => format!(in alloc;
-            "drug {product}: tier = {value}: the name of a tier is wanted in quotes, as \"1\""
+            "drug {product}: tier = {value}: expected the name of a tier in quotes, e.g. \"1\""
         ),
     }
 }

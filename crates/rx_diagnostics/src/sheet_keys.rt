@@ -36,20 +36,20 @@ pub(crate) fn wanted_at(alloc: Global, key: SheetKey) -> Result<String, AllocErr
     ensures { IfOk result (λ wanted. string_bytes wanted ≡ wanted_at key) }
 {
     let wanted = match key {
-        SheetKey::Bin => "6 digits in quotes are wanted, as \"900001\"",
-        SheetKey::Pcn => "0 to 10 printable characters in quotes are wanted, as \"RXDEMO\"",
-        SheetKey::PeriodFirst => "8 digits in quotes are wanted, as \"20260101\"",
-        SheetKey::PeriodLast => "8 digits in quotes are wanted, as \"20261231\"",
+        SheetKey::Bin => "expected 6 digits in quotes, e.g. \"900001\"",
+        SheetKey::Pcn => "expected 0 to 10 printable characters in quotes, e.g. \"RXDEMO\"",
+        SheetKey::PeriodFirst => "expected 8 digits in quotes, e.g. \"20260101\"",
+        SheetKey::PeriodLast => "expected 8 digits in quotes, e.g. \"20261231\"",
         SheetKey::MemberDeductible | SheetKey::FamilyDeductible => {
             return cents_wanted(alloc, MOST_LIMIT, "10000");
         }
         SheetKey::FamilyMaximum => return cents_wanted(alloc, MOST_LIMIT, "30000"),
-        SheetKey::RefillPercent => "a whole number from 0 to 100 is wanted, as 75",
-        SheetKey::MaxDays => "a whole number from 1 to 999 is wanted, as 90",
+        SheetKey::RefillPercent => "expected a whole number from 0 to 100, e.g. 75",
+        SheetKey::MaxDays => "expected a whole number from 1 to 999, e.g. 90",
         SheetKey::Fee => return cents_wanted(alloc, MOST_CENTS, "150"),
-        SheetKey::Tiers => "a table is wanted, as [tiers] with a line 1 = 1000",
-        SheetKey::Drugs => "tables are wanted, as [drugs.00001000101] with tier and price",
-        SheetKey::Tier => "the name of one of the tiers is wanted in quotes",
+        SheetKey::Tiers => "expected a table, e.g. [tiers] with a line 1 = 1000",
+        SheetKey::Drugs => "expected tables, e.g. [drugs.00001000101] with tier and price",
+        SheetKey::Tier => "expected the name of one of the tiers in quotes",
         SheetKey::Price => return price_wanted(alloc),
     };
     said(alloc, wanted)
@@ -60,7 +60,7 @@ pub(crate) fn wanted_at(alloc: Global, key: SheetKey) -> Result<String, AllocErr
 fn cents_wanted(alloc: Global, most: u64, example: &str) -> Result<String, AllocError>
     ensures { IfOk result (λ wanted. string_bytes wanted ≡ cents_wanted most example.now) }
 {
-    format!(in alloc; "whole cents from 0 to {most} are wanted, as {example}")
+    format!(in alloc; "expected whole cents from 0 to {most}, e.g. {example}")
 }
 
 // A price of a drug.
@@ -68,6 +68,6 @@ fn price_wanted(alloc: Global) -> Result<String, AllocError>
     ensures { IfOk result (λ wanted. string_bytes wanted ≡ price_wanted) }
 {
     format!(in alloc;
-        "hundredths of a cent per unit are wanted, a whole number from 0 to {MOST_PRICE}"
+        "expected hundredths of a cent per unit, a whole number from 0 to {MOST_PRICE}"
     )
 }
