@@ -122,14 +122,14 @@ def over_an_input(program, folder, case, more):
     shutil.copy(folder / "books.txt", folder / "kept.txt")
     (folder / "log.json").symlink_to("books.txt")
     ended, _ = logged(program, folder, (case / "stamp").read_text(), more)
-    if ended.returncode != 2 or ended.stderr != b"rxbatch: --books and --log are one file\n":
+    if ended.returncode != 2 or ended.stderr != b"rxbatch: --books and --log are the same file\n":
         return f"status {ended.returncode}, {ended.stderr!r}"
     return None if (folder / "books.txt").read_bytes() == (folder / "kept.txt").read_bytes() else "the books were changed"
 
 
 def over_an_output(program, folder, case, more):
     ended, _ = logged(program, folder, (case / "stamp").read_text(), more, {"settlement": "./log.json"})
-    if ended.returncode != 2 or ended.stderr != b"rxbatch: --settlement and --log are one file\n":
+    if ended.returncode != 2 or ended.stderr != b"rxbatch: --settlement and --log are the same file\n":
         return f"status {ended.returncode}, {ended.stderr!r}"
     return "files were made" if {path.name for path in folder.iterdir()} != set(INPUTS.values()) else None
 

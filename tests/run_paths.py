@@ -80,7 +80,7 @@ def fault_of(program, arrange):
         ended = subprocess.run([program, "run"] + words, cwd=folder, stdin=subprocess.DEVNULL, capture_output=True)
         if ended.returncode != 2:
             return f"status {ended.returncode} and not 2"
-        told = f"rxbatch: {options} are one file\n".encode() if options else b""
+        told = f"rxbatch: {options} are the same file\n".encode() if options else b""
         if ended.stdout or ended.stderr != told:
             return f"{ended.stderr!r} on standard error and not {told!r}"
         return None if texts_in(folder) == before else "files were made or changed"

@@ -169,7 +169,7 @@ def link_to_nothing(program, path):
     folder = Folder(path)
     (folder.path / "link.txt").symlink_to("nothing.txt")
     ended = folder.run(program, {"--settlement": "link.txt"})
-    fault = answered(ended, 2, b"rxbatch: --settlement is no plain file\n")
+    fault = answered(ended, 2, b"rxbatch: --settlement isn't a regular file\n")
     return fault or untouched(folder, PLAIN_NAMES | {"link.txt"})
 
 
@@ -177,7 +177,7 @@ def device(program, path):
     """An output that is a device."""
     folder = Folder(path)
     ended = folder.run(program, {"--response": "/dev/null"})
-    return answered(ended, 2, b"rxbatch: --response is no plain file\n") or untouched(folder, PLAIN_NAMES)
+    return answered(ended, 2, b"rxbatch: --response isn't a regular file\n") or untouched(folder, PLAIN_NAMES)
 
 
 def protected_file(program, path):
@@ -193,7 +193,7 @@ def one_file(program, path):
     folder = Folder(path)
     (folder.path / "again.txt").hardlink_to(folder.path / "response.bin")
     ended = folder.run(program, {"--settlement": "again.txt"})
-    fault = answered(ended, 2, b"rxbatch: --response and --settlement are one file\n")
+    fault = answered(ended, 2, b"rxbatch: --response and --settlement are the same file\n")
     return fault or untouched(folder, PLAIN_NAMES | {"again.txt"})
 
 
@@ -201,7 +201,7 @@ def one_new_file(program, path):
     """Two outputs that are to be one new file."""
     folder = Folder(path)
     ended = folder.run(program, {"--response": "new.bin", "--books-out": "./new.bin"})
-    fault = answered(ended, 2, b"rxbatch: --response and --books-out are one file\n")
+    fault = answered(ended, 2, b"rxbatch: --response and --books-out are the same file\n")
     return fault or untouched(folder, PLAIN_NAMES)
 
 
@@ -216,7 +216,7 @@ def path_of_a_folder(program, path):
     """An output that ends as the path of a folder."""
     folder = Folder(path)
     for end in ("no/", "no/.", ".."):
-        wanted = (2, b"rxbatch: --settlement is no plain file\n") if end == ".." else (3, b"file 6\n")
+        wanted = (2, b"rxbatch: --settlement isn't a regular file\n") if end == ".." else (3, b"file 6\n")
         fault = answered(folder.run(program, {"--settlement": end}), *wanted) or untouched(folder, PLAIN_NAMES)
         if fault:
             return f"{end}: {fault}"
@@ -258,7 +258,7 @@ def output_over_input(program, path):
     """An output that is an input."""
     folder = Folder(path)
     ended = folder.run(program, {"--books-out": "./books.txt"})
-    fault = answered(ended, 2, b"rxbatch: --books and --books-out are one file\n")
+    fault = answered(ended, 2, b"rxbatch: --books and --books-out are the same file\n")
     return fault or untouched(folder, PLAIN_NAMES)
 
 

@@ -106,9 +106,11 @@ impl Ending {
     /// Writes the line or the text of it to standard error.
     pub fn tell(&self, rt: &HostRuntime) {
         let _ = match self {
-            Ending::NoText => eprintln!(rt; "rxbatch: a word of the command line is no text"),
-            Ending::OneFile(one, other) => eprintln!(rt; "rxbatch: {one} and {other} are one file"),
-            Ending::NotPlain(one) => eprintln!(rt; "rxbatch: {one} is no plain file"),
+            Ending::NoText => eprintln!(rt; "rxbatch: an argument isn't valid UTF-8"),
+            Ending::OneFile(one, other) => eprintln!(rt;
+                "rxbatch: {one} and {other} are the same file"
+            ),
+            Ending::NotPlain(one) => eprintln!(rt; "rxbatch: {one} isn't a regular file"),
             Ending::Words(fault) => eprint!(rt; "{fault}"),
             Ending::Io(fault) => tell_numbers(rt, fault),
             Ending::InWords(fault, line) => {
