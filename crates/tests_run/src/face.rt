@@ -1,5 +1,5 @@
 //! A run on a caller's own devices, at its own gate, through `rx_switch` only, which has every name that this takes.
-ghost use Rattle.std.specs.Prelude.{false};
+ghost use Rattle.std.specs.Prelude.{◌≡◌, false};
 
 use crate::one_billing::{BATCH, BOOKS, END_BOOKS, RESPONSE, SETTLEMENT, SHEET, STAMP};
 use crate::same::same;
