@@ -26,7 +26,7 @@ import tempfile
 from typing import NamedTuple
 
 from options import parser_of, read_options
-from run_cases import HERE, INPUTS, OUTPUTS, case_folders, numbers_of_workers, read
+from run_cases import HERE, INPUTS, OUTPUTS, case_folders, read, ways_of
 
 # The files of a run by their options, in the order of their numbers: 1 is the sheet, 6 the settlement.
 FILES = {**INPUTS, **OUTPUTS}
@@ -128,9 +128,9 @@ def changes_of(rng, outputs, settings, each):
 
 # ---------------------------------------------------------------- runs
 
-def verify_words(stamp, number=None, plain=False):
+def verify_words(stamp, number=None, way=None):
     words = ["verify"] + [word for pair in FILES.items() for word in pair] + ["--stamp", stamp]
-    return words + (["--workers", number] if number else []) + ["--plain"] * plain
+    return words + (["--workers", number] if number else []) + ([way] if way else [])
 
 
 def put(folder, files):
@@ -163,14 +163,13 @@ def try_done(settings, case, folder, files):
     outputs = {name: files[name] for name in OUTPUTS.values()}
     same = Answer(0, same_line(outputs), b"")
     yield fault_of(settings, folder, "same", verify_words(stamp), files, same)
-    for number in [] if settings.brief else numbers_of_workers(case):
-        for plain in (False, True):
-            words = verify_words(stamp, number, plain)
-            yield fault_of(settings, folder, f"same, {number} workers{', plain' * plain}", words, files, same)
+    for number, way in [] if settings.brief else ways_of(case):
+        words = verify_words(stamp, number, way)
+        yield fault_of(settings, folder, f"same, {number} workers {way or ''}", words, files, same)
     each = bool(settings.all_bytes) and settings.all_bytes in case
     for place, (what, changed) in enumerate(changes_of(rng, outputs, settings, each)):
         put(folder, changed)
-        words = verify_words(stamp, rng.choice((None, "1", "2")), place % 2 == 1)
+        words = verify_words(stamp, rng.choice((None, "1", "2")), (None, "--plain")[place % 2])
         yield fault_of(settings, folder, what, words, {**files, **changed}, wanted_of(outputs, changed))
         put(folder, outputs)
 
@@ -178,10 +177,9 @@ def try_done(settings, case, folder, files):
 def try_refused(settings, case, folder, files):
     """The faults of a case whose run is refused: no file is compared."""
     stamp, wanted = os.fsdecode(read(case, "stamp")), Answer(int(read(case, "status")), b"", read(case, "refused"))
-    for number in numbers_of_workers(case)[:1 if settings.brief else None]:
-        for plain in (False, True):
-            words = verify_words(stamp, number, plain)
-            yield fault_of(settings, folder, f"refused, {number} workers{', plain' * plain}", words, files, wanted)
+    for number, way in ways_of(case)[:2 if settings.brief else None]:
+        words = verify_words(stamp, number, way)
+        yield fault_of(settings, folder, f"refused, {number} workers {way or ''}", words, files, wanted)
 
 
 def try_case(settings, case):
