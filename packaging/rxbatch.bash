@@ -6,13 +6,13 @@ _rxbatch() {
     return
   fi
   case ${COMP_WORDS[1]} in
-    run) words='--sheet --books --batch --response --books-out --settlement --stamp --workers --plain --safe --verbose --log'; files='--sheet|--books|--batch|--response|--books-out|--settlement|--log' ;;
+    run) words='--sheet --books --batch --response --books-out --settlement --stamp --workers --plain --desk --safe --verbose --log --sums'; files='--sheet|--books|--batch|--response|--books-out|--settlement|--log' ;;
     show) words='--sheet --batch --tsv'; files='--sheet|--batch' ;;
     plan) words='--sheet --books --batch'; files='--sheet|--books|--batch' ;;
     sample) words=''; files='' ;;
     check) words='--sheet --books --batch'; files='--sheet|--books|--batch' ;;
     explain) words='--sheet --books --batch --record --number --rx --provider --response --json'; files='--sheet|--books|--batch|--response' ;;
-    verify) words='--sheet --books --batch --response --books-out --settlement --stamp --workers --plain'; files='--sheet|--books|--batch|--response|--books-out|--settlement' ;;
+    verify) words='--sheet --books --batch --response --books-out --settlement --stamp --workers --plain --desk'; files='--sheet|--books|--batch|--response|--books-out|--settlement' ;;
     report) words='--sheet --books --batch --provider --family --tsv --json --html'; files='--sheet|--books|--batch' ;;
     replies) words='--response'; files='--response' ;;
   esac
