@@ -264,7 +264,7 @@ fn reads_pieces_as_the_whole(rt: HostRuntime) {
 #[test]
 fn reads_pieces_of_a_cut_file_as_the_whole(rt: HostRuntime) {
     let file = one_billing(&rt, rt.alloc());
-    for length in [0usize, 1, 74, 75, 76, 269, 270, 271, 325] {
+    for length in 0..326usize {
         reads_alike(&rt, rt.alloc(), file.get(..length).unwrap_or(&[]));
     }
 }

@@ -226,3 +226,10 @@ fn a_figure_that_is_no_sum_is_told(rt: HostRuntime) {
         same(&rt, Books::read(rt.alloc(), text).err(), Some(fault));
     }
 }
+
+#[test]
+fn too_many_line_feeds_are_told(rt: HostRuntime) {
+    let feeds = Vec::from_elem(rt.alloc(), b'\n', 1_000_001).expect(&rt, "memory");
+    let fault = Books::read(rt.alloc(), &feeds).err();
+    same(&rt, fault, Some(BooksFault::TooMuch));
+}
