@@ -120,8 +120,8 @@ fn after_one_billing(rt: &impl Abort, alloc: Global) -> Parcel {
     parcel_of(rt, keys, book_with_row(rt, alloc))
 }
 
-// The terms of a record under the plain sheet, in this batch.
-fn terms(rt: &impl Abort, alloc: Global, batch: u32, asked: &Transmission) -> Terms {
+/// The terms of a record under the plain sheet, in this batch.
+pub(crate) fn terms(rt: &impl Abort, alloc: Global, batch: u32, asked: &Transmission) -> Terms {
     plain_sheet(rt, alloc).terms(lot(rt, batch), asked)
 }
 

@@ -10,22 +10,23 @@ use rx_ledger::{Ledger, Sheet};
 use std::alloc::Global;
 use std::process::Abort;
 
-// Lists three persons of a family, who are covered to the day.
-fn enroll(rt: &impl Abort, ledger: &mut Ledger, family: &[u8], last: &[u8]) {
-    for code in [b"01", b"02", b"03"] {
-        let member = member(rt, family, code, last);
-        ledger.add_member(member).expect(rt, "a new member");
-    }
+// Lists a person of a family, who is covered to the day.
+fn enroll(rt: &impl Abort, ledger: &mut Ledger, family: &[u8], code: &[u8], last: &[u8]) {
+    let member = member(rt, family, code, last);
+    ledger.add_member(member).expect(rt, "a new member");
 }
 
 fn books_of(rt: &impl Abort, alloc: Global, ledger: &Ledger) -> Books {
     Books::from_ledger(alloc, ledger, this_year(rt)).expect(rt, "memory")
 }
 
-// Books of family C100, whose persons are covered to the day.
+// The opening books of the case, where all are covered to the day.
 fn books(rt: &impl Abort, alloc: Global, last: &[u8]) -> Books {
     let mut ledger = Ledger::new(alloc);
-    enroll(rt, &mut ledger, b"C100", last);
+    for code in [b"01", b"02", b"03"] {
+        enroll(rt, &mut ledger, b"C100", code, last);
+    }
+    enroll(rt, &mut ledger, b"C200", b"01", last);
     books_of(rt, alloc, &ledger)
 }
 
@@ -177,14 +178,24 @@ fn sharers_go_one_after_another(rt: HostRuntime) {
     drop(desk);
 }
 
+// The end books of the case.
+const END_BOOKS: &[u8] = b"BOOKS|3|20260101|20261231
+M|C100|01|20260101|20261231|10000
+M|C100|02|20260101|20261231|10000
+M|C100|03|20260101|20261231|4000
+M|C200|01|20260101|20261231|0
+C|1234567893|201|20260228|C100|01|00002000202|30000|30|30000|175|10000|3000|0|000004200000011
+C|1234567893|202|20260228|C100|02|00002000202|30000|30|30000|175|10000|3000|0|000004200000021
+C|1234567893|203|20260228|C100|03|00002000202|30000|30|30000|175|4000|0|0|000004200000031
+T|C100|30000|24000
+T|C200|0|0
+";
+
 #[test]
 fn ends_with_the_books_of_the_case(rt: HostRuntime) {
-    let (family, third) = (id(&rt, b"C100"), person(&rt, b"03"));
     let finished = finished(&rt, rt.alloc());
-    let books = &finished.books;
-    same(&rt, books.out_of_pocket(&family), Some(30_000));
-    same(&rt, books.family_deductible(&family), Some(24_000));
-    same(&rt, books.deductible(&family, &third), Some(4000));
+    let text = finished.books.write(rt.alloc()).expect(&rt, "memory");
+    same(&rt, text.as_slice(), END_BOOKS);
     drop(finished);
 }
 

@@ -1,8 +1,9 @@
 //! The tests of what answers a batch, and of the crates at the program's edge: records answered on a parcel and on the books
 //! underway, the shelf, queues and the desk; the workers of a run (requests decoded side by side, records answered in file order,
 //! and workers at a gate); words, log, devices, devices that are watched, runs on devices, and the texts that are written.
-//! `decoding`, `run_one` and `workers` have those of `rx_wave`, `failing` those of a run on devices that fail, and each other
-//! module those of the crate of its name; `worked` and `one_billing` have what the worked cases are made of.
+//! `decoding`, `run_one` and `workers` have those of `rx_wave`, `failing` those of a run on devices that fail, `runs` those of
+//! a run over bytes, at `gates`, and each other module those of the crate of its name; `worked`, `one_billing` and `texts` have
+//! what the worked cases are made of.
 //!
 //! What the crates at the edge write whole, a command of the program prints: the scripts in `tests/` compare it there. So of texts
 //! here are parts, and texts that no command shows as they are expected here.
@@ -31,6 +32,8 @@ mod face;
 #[cfg(test)]
 mod failing;
 #[cfg(test)]
+mod gates;
+#[cfg(test)]
 mod in_order;
 #[cfg(test)]
 mod log;
@@ -40,6 +43,8 @@ mod one_billing;
 mod response;
 #[cfg(test)]
 mod run_one;
+#[cfg(test)]
+mod runs;
 #[cfg(test)]
 mod same;
 #[cfg(test)]
@@ -54,6 +59,8 @@ mod shelf;
 mod steps;
 #[cfg(test)]
 mod switch;
+#[cfg(test)]
+mod texts;
 #[cfg(test)]
 mod traffic;
 #[cfg(test)]

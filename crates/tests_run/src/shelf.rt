@@ -1,8 +1,11 @@
 // The shelf: what is taken from it and given back, by hand.
+use crate::adjudicate::terms;
 use crate::same::{differ, same};
 use crate::worked::{
-    authorization, id, key, member, period, person, product, quantity, thirty_days, this_year,
+    authorization, base, id, key, member, period, person, product, quantity, thirty_days,
+    this_year, today,
 };
+use rx_adjudicate::fits;
 use rx_books_parcel::{Footprint, Parcel};
 use rx_books_shelf::{Shelf, TakeFault};
 use rx_books_store::Books;
@@ -212,7 +215,20 @@ fn a_parcel_of_another_shelf_is_accepted_for_an_equal_one(rt: HostRuntime) {
 fn a_parcel_of_another_period_comes_back(rt: HostRuntime) {
     let mut shelf = lent(&rt, rt.alloc());
     let later = next_years(&rt, rt.alloc());
-    same(&rt, fault_of(&mut shelf, later).is_some(), true);
+    same(&rt, fault_of(&mut shelf, later), Some(1));
+}
+
+// Whether a parcel fits the first of the three fills, under the plain sheet.
+fn fits_first(rt: &impl Abort, alloc: Global, parcel: &Parcel) -> bool {
+    let asked = today(rt, alloc, &[base(rt, 201, b"C100")]);
+    fits(&asked, &terms(rt, alloc, 42, &asked), parcel)
+}
+
+#[test]
+fn a_parcel_fits_in_its_period_only(rt: HostRuntime) {
+    let (own, later) = (twin(&rt, rt.alloc()), next_years(&rt, rt.alloc()));
+    same(&rt, fits_first(&rt, rt.alloc(), &own), true);
+    same(&rt, fits_first(&rt, rt.alloc(), &later), false);
 }
 
 // The books of a shelf that was given this parcel in the place of its own of the first fill.

@@ -1,7 +1,8 @@
 // What no clause says: that records go in parallel, each once, and that a run ends where a thread is refused. Cases are those
 // of tests/cases/README.md.
-ghost use Rattle.std.specs.Prelude.{◌≡◌, ◌≤◌, length, true};
+ghost use Rattle.std.specs.Prelude.{◌≡◌, ◌≤◌, length};
 
+use crate::gates::{Holds, Passed, Without};
 use crate::run_one::{add_last_years_claim, books_of, claim, enroll, status};
 use crate::same::same;
 use crate::worked::{id, lot, plain_sheet};
@@ -12,12 +13,7 @@ use rx_wave::{Finished, Gate, NoGate, RunFault, run_waves};
 use std::alloc::Global;
 use std::process::Abort;
 use std::sync::Wait;
-use std::sync::atomic::{AtomicU64, Ordering};
-use std::thread;
 use std::thread::Threads;
-
-// A held record goes on after this many turns; a run without another worker next to it ends within a test's time.
-const TURNS: u64 = 20_000_000;
 
 // One member in each of two families.
 fn families(rt: &impl Abort, alloc: Global) -> Ledger {
@@ -27,7 +23,7 @@ fn families(rt: &impl Abort, alloc: Global) -> Ledger {
     ledger
 }
 
-// The records of the case blocking-gates, which share nothing.
+// Two records that share nothing.
 fn two_records(rt: &impl Abort, alloc: Global) -> [Transmission; 2] {
     [
         claim(rt, alloc, 123, b"C100"),
@@ -118,136 +114,30 @@ fn is_billed_once(rt: &impl Abort, finished: &Finished) {
     }
 }
 
-// Which records a gate holds back on entering.
-#[derive(Clone, Copy)]
-enum Holds {
-    Nobody,
-    // The first, until the second was left.
-    First,
-    // Each of two, until the other was entered.
-    Both,
-}
-
-// It notes whose start it is asked for, counts how often each place is passed, and holds records back, for this many
-// turns at most. Records share a desk at it, or go in shards.
-#[derive(Drop)]
-struct Passed {
-    holds: Holds,
-    has_desk: bool,
-    // The workers' numbers as digits, in the order of asking.
-    asked: AtomicU64,
-    entered: AtomicU64,
-    left: AtomicU64,
-    gave_up: AtomicU64,
-}
-
-// One in the digit of the place.
-fn digit(place: usize) -> u64 {
-    match place {
-        1 => 1,
-        2 => 10,
-        3 => 100,
-        4 => 1_000,
-        _ => 1_000_000,
-    }
-}
-
-impl Passed {
-    fn new(holds: Holds) -> Passed {
-        Passed {
-            holds,
-            has_desk: true,
-            asked: AtomicU64::new(0),
-            entered: AtomicU64::new(0),
-            left: AtomicU64::new(0),
-            gave_up: AtomicU64::new(0),
-        }
-    }
-
-    // The same, where records go in shards.
-    fn in_shards(holds: Holds) -> Passed {
-        Passed {
-            has_desk: false,
-            ..Passed::new(holds)
-        }
-    }
-
-    fn wait_until(&self, count: &AtomicU64, wanted: u64) {
-        for _ in 0..TURNS {
-            if count.load(Ordering::SeqCst) == wanted {
-                return;
-            }
-            thread::yield_now();
-        }
-        self.gave_up.fetch_add(1, Ordering::SeqCst);
-    }
-
-    // Whether each of the places was entered and left once, and nobody gave up.
-    fn is_once(&self, places: u64) -> bool {
-        self.entered.load(Ordering::SeqCst) == places
-            && self.left.load(Ordering::SeqCst) == places
-            && self.gave_up.load(Ordering::SeqCst) == 0
-    }
-}
-
-impl Gate for Passed {
-    ghost starts = { λ _ _. true };
-
-    fn start(&self, worker: usize) -> bool {
-        let asked = self.asked.load(Ordering::SeqCst).saturating_mul(10);
-        self.asked
-            .store(asked.saturating_add(worker as u64), Ordering::SeqCst);
-        true
-    }
-
-    fn enter(&self, place: usize) {
-        self.entered.fetch_add(digit(place), Ordering::SeqCst);
-        match self.holds {
-            Holds::Nobody => {}
-            Holds::First => {
-                if place == 1 {
-                    self.wait_until(&self.left, 10);
-                }
-            }
-            Holds::Both => self.wait_until(&self.entered, 11),
-        }
-    }
-
-    fn leave(&self, place: usize) {
-        self.left.fetch_add(digit(place), Ordering::SeqCst);
-    }
-
-    fn holds_up(&self) -> bool {
-        self.has_desk
-    }
-}
-
-// The records are answered where the gate holds them back so, and each of these places is passed once.
+// The records are answered where the gate holds them up so, and each place is passed once.
 fn goes_well<R: Threads + Wait + Sync + Abort>(
     rt: &R,
     alloc: Global,
     workers: u16,
     holds: Holds,
     asked: &[Transmission],
-    places: u64,
 ) {
-    let gate = Passed::new(holds);
+    let gate = Passed::new(rt, alloc, holds, asked.len());
     is_right(rt, alloc, &gate, workers, asked);
-    same(rt, gate.is_once(places), true);
+    same(rt, gate.is_once(), true);
 }
 
-// The records are answered in shards, where the gate holds them back so, and each of these places is passed once.
+// The records are answered in shards, where the gate holds them up so, and each place is passed once.
 fn goes_well_in_shards<R: Threads + Wait + Sync + Abort>(
     rt: &R,
     alloc: Global,
     workers: u16,
     holds: Holds,
     asked: &[Transmission],
-    places: u64,
 ) {
-    let gate = Passed::in_shards(holds);
+    let gate = Passed::in_shards(rt, alloc, holds, asked.len());
     is_right(rt, alloc, &gate, workers, asked);
-    same(rt, gate.is_once(places), true);
+    same(rt, gate.is_once(), true);
 }
 
 // Two records that share nothing are out at once at a gate that has no desk: each waits there for the other.
@@ -255,7 +145,7 @@ fn goes_well_in_shards<R: Threads + Wait + Sync + Abort>(
 fn shards_go_side_by_side(rt: HostRuntime) {
     let asked = two_records(&rt, rt.alloc());
     for &workers in &[2, 3, 64] {
-        goes_well_in_shards(&rt, rt.alloc(), workers, Holds::Both, &asked, 11);
+        goes_well_in_shards(&rt, rt.alloc(), workers, Holds::Both(2), &asked);
     }
 }
 
@@ -263,21 +153,21 @@ fn shards_go_side_by_side(rt: HostRuntime) {
 fn each_place_of_a_shard_is_passed_once(rt: HostRuntime) {
     let asked = four_records(&rt, rt.alloc());
     for &workers in &[1, 2, 3, 64] {
-        goes_well_in_shards(&rt, rt.alloc(), workers, Holds::Nobody, &asked, 1_111);
+        goes_well_in_shards(&rt, rt.alloc(), workers, Holds::Nobody, &asked);
     }
 }
 
 #[test]
 fn a_record_goes_beside_one_that_is_held(rt: HostRuntime) {
     let asked = two_records(&rt, rt.alloc());
-    goes_well(&rt, rt.alloc(), 2, Holds::First, &asked, 11);
+    goes_well(&rt, rt.alloc(), 2, Holds::First, &asked);
 }
 
 #[test]
 fn two_records_are_out_at_once(rt: HostRuntime) {
     let asked = two_records(&rt, rt.alloc());
     for &workers in &[2, 3, 64] {
-        goes_well(&rt, rt.alloc(), workers, Holds::Both, &asked, 11);
+        goes_well(&rt, rt.alloc(), workers, Holds::Both(2), &asked);
     }
 }
 
@@ -285,29 +175,11 @@ fn two_records_are_out_at_once(rt: HostRuntime) {
 fn each_place_is_passed_once(rt: HostRuntime) {
     let asked = four_records(&rt, rt.alloc());
     for &workers in &[1, 2, 3, 64] {
-        goes_well(&rt, rt.alloc(), workers, Holds::Nobody, &asked, 1_111);
+        goes_well(&rt, rt.alloc(), workers, Holds::Nobody, &asked);
     }
 }
 
-// It refuses to start one worker.
-#[derive(Clone, Copy)]
-struct Without(usize);
-
-impl Gate for Without {
-    ghost use Rattle.std.specs.Prelude.{not, ◌==◌};
-
-    ghost starts = { λ gate worker. not (worker == gate.0) };
-
-    fn start(&self, worker: usize) -> bool {
-        worker != self.0
-    }
-
-    fn enter(&self, _place: usize) {}
-
-    fn leave(&self, _place: usize) {}
-}
-
-// The case refused-thread: each of four workers refused in turn, the second of two, and the one that is no thread.
+// Each of four workers refused in turn, the second of two, and the one that is no thread.
 #[test]
 fn a_refused_start_is_thread(rt: HostRuntime) {
     let alloc = rt.alloc();
@@ -377,8 +249,8 @@ fn starts_asked<R: Threads + Wait + Sync + Abort>(
         (status(&finished, 0), status(&finished, 1)),
         (b'P', b'R'),
     );
-    same(rt, gate.is_once(11), true);
-    gate.asked.load(Ordering::SeqCst)
+    same(rt, gate.is_once(), true);
+    gate.starts()
 }
 
 // Records that share nothing are out at once at a desk, however many claims a family has.
@@ -388,10 +260,10 @@ fn records_of_a_large_family_are_out_at_once(rt: HostRuntime) {
     let mut ledger = large_family(&rt, alloc, MANY_CLAIMS);
     enroll(&rt, &mut ledger, b"C200", b"01");
     let asked = two_records(&rt, alloc);
-    let gate = Passed::new(Holds::Both);
+    let gate = Passed::new(&rt, alloc, Holds::Both(2), asked.len());
     let finished = run_on(&rt, alloc, &gate, 2, &ledger, &asked).expect(&rt, "an answer");
     is_billed_once(&rt, &finished);
-    same(&rt, gate.is_once(11), true);
+    same(&rt, gate.is_once(), true);
 }
 
 // Where all records are of one family each start is asked for too, with a desk or without one, and a refused one is Thread.
@@ -405,13 +277,13 @@ fn records_that_are_tied_ask_for_each_start(rt: HostRuntime) {
         same(&rt, refused.err(), Some(RunFault::Thread));
     }
     for &(workers, starts) in &[(1, 0), (2, 12), (4, 1_234)] {
-        let gate = Passed::new(Holds::Nobody);
+        let gate = Passed::new(&rt, alloc, Holds::Nobody, asked.len());
         same(
             &rt,
             starts_asked(&rt, alloc, &gate, workers, &ledger, &asked),
             starts,
         );
-        let gate = Passed::in_shards(Holds::Nobody);
+        let gate = Passed::in_shards(&rt, alloc, Holds::Nobody, asked.len());
         same(
             &rt,
             starts_asked(&rt, alloc, &gate, workers, &ledger, &asked),
