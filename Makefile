@@ -1,7 +1,7 @@
 # make look: the first job run without proof and its outputs shown, or another job by JOB=FOLDER. make demo: proved, built, and
 # the first job run; the program stands at ./rxbatch then. make test: the gate, then the worked cases on the built program.
 # make install PREFIX=..: the built program with its manual page and completions.
-.PHONY: test all-edits cases demo look install kit
+.PHONY: test all-edits cases demo look install kit cc
 PROGRAM = crates/rxbatch/out/rxbatch
 TRIALS = crates/rx_bench/out/rx_bench
 FIRST = examples/first_job
@@ -16,20 +16,24 @@ kit:
 	@command -v rt > /dev/null || { echo "make: the command rt of the kit $(KIT) isn't on the path: see \"Install\" in README.md" >&2; exit 1; }
 	@rt version | grep -q '^$(KIT)[a-z]* logic $(LOGIC)$$' || echo "make: this is proved with $(KIT) logic $(LOGIC), and rt is $$(rt version)" >&2
 
+# Without a C compiler the tests can't refuse memory.
+cc:
+	@command -v cc > /dev/null || { echo "make: the command cc isn't on the path: tests that refuse memory need a C compiler" >&2; exit 1; }
+
 # Of another job the record that is explained is RECORD, and the stamp STAMP.
 look: kit
 	@python3 tools/look.py $(JOB) $(if $(RECORD),--record $(RECORD)) $(if $(STAMP),--stamp $(STAMP))
 
-test: kit
+test: kit cc
 	python3 .ci/gate.py
 	$(MAKE) --silent cases
 
 # The gate again, with the must-fail edits of those crates too that are as they were when these were last tried.
-all-edits: kit
+all-edits: kit cc
 	python3 .ci/gate.py --all
 	$(MAKE) --silent cases
 
-cases: kit
+cases: kit cc
 	python3 tools/check_docs.py
 	python3 tools/find_doubles.py --allowed 52
 	python3 tools/count_dialect.py --allowed 6
@@ -41,6 +45,7 @@ cases: kit
 	python3 tests/run_safe.py $(PROGRAM)
 	python3 tests/run_log.py $(PROGRAM)
 	python3 tests/run_cases.py $(PROGRAM) --plan
+	python3 tests/run_cases.py $(PROGRAM) --big
 	python3 tests/run_told.py $(PROGRAM)
 	python3 tests/run_explain.py $(PROGRAM)
 	python3 tests/run_verify.py $(PROGRAM)

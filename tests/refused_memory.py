@@ -5,7 +5,7 @@
 
 PROGRAM is a path or a command line. A library is compiled with `cc` from refused_memory.c next to this file and preloaded
 into the program; without `cc` nothing can be tried. Each job runs with 1 worker, plainly too, and with 2 workers, at a desk
-too. With `--all` each later request is refused too; with `--step N` only each Nth is tried.
+too; one of 0 workers with none. With `--all` each later request is refused too; with `--step N` only each Nth is tried.
 
 A run has to end by itself. It answers what it answers with ample memory, or out of memory: status 1 with the line
 `refused 6 0 0` (or without a line, where no memory is left to write one), and then its outputs are empty; or, where a
@@ -29,7 +29,8 @@ from run_cases import HERE, OUTPUTS, read
 
 JOBS = ("one-billing", "three-fills-reach-the-family-maximum", "reverse-twice-and-bill-again",
         "four-transactions-in-one-record", "family-deductible")
-REFUSALS = ("damaged-books/01-", "damaged-sheets/1-", "cut-and-damaged-files/10-")
+REFUSALS = ("damaged-books/01-", "damaged-sheets/1-", "cut-and-damaged-files/10-", "cut-and-damaged-files/14-",
+            "cut-and-damaged-files/16-")
 WAYS = (("1", "--plain"), ("1", None), ("2", None), ("2", "--desk"))
 MEMORY = b"refused 6 0 0\n"
 
@@ -100,6 +101,12 @@ def swept_folders(only):
     return [os.path.join(top, folder) for folder in wanted if only in folder]
 
 
+def ways_of(folder):
+    """The numbers of workers with which a job is swept, each with an option or none; its own where that is no lawful number."""
+    own = read(folder, "workers").decode()
+    return WAYS if 1 <= int(own) <= 64 else [(own, way) for way in ("--plain", None, "--desk")]
+
+
 def main(words):
     parser = argparse.ArgumentParser(description=__doc__, formatter_class=argparse.RawDescriptionHelpFormatter)
     parser.add_argument("program", metavar="PROGRAM")
@@ -117,7 +124,7 @@ def main(words):
     with tempfile.TemporaryDirectory(prefix="rxbatch-refused-") as top:
         settings = Settings(program, compiled(top), options.all, options.step, options.seconds)
         for folder in swept_folders(options.only):
-            for number, way in WAYS:
+            for number, way in ways_of(folder):
                 kinds, found = sweep(settings, folder, number, way, os.path.join(top, "case"))
                 name = f"{os.path.relpath(folder, os.path.join(HERE, 'cases'))}, workers {number}{', ' + way if way else ''}"
                 counts = ", ".join(f"{count} times {kind}" for kind, count in sorted(kinds.items()))

@@ -1,14 +1,14 @@
 #!/usr/bin/env python3
 """Runs a program with rxbatch's words on the worked cases, and compares what it answers byte for byte.
 
-    tests/run_cases.py PROGRAM [--cases DIR] [--plan] [--only WORD] [--jobs J] [--seconds S]
+    tests/run_cases.py PROGRAM [--cases DIR | --big] [--plan] [--only WORD] [--jobs J] [--seconds S]
 
-PROGRAM is a path or a command line. The cases are the folders below DIR (tests/cases next to this file); tests/cases/README.md
-names their files. Each case is copied to a temporary folder and run there: `run` with workers 1, 2 and 64 and with the
-number that the case names, each also with `--plain`, and with `--desk` and workers 2, 3 and 64; then `show` and `sample`
-where the case has their texts, and with `--plan` also `plan`. Compared are the exit status, standard output, standard error and the output files, and the
-inputs have to stay as they were. A folder without `status` has no expected answer: there all runs have to answer the
-same.
+PROGRAM is a path or a command line. The cases are the folders below DIR (tests/cases next to this file), or with `--big` those
+that tools/make_big.py makes; tests/cases/README.md names their files. Each case is copied to a temporary folder and run there:
+`run` with workers 1, 2 and 64 and with the number that the case names, each also with `--plain`, and with `--desk` and workers
+2, 3 and 64; then `show` and `sample` where the case has their texts, and with `--plan` also `plan`. Compared are the exit
+status, standard output, standard error and the output files, and the inputs have to stay as they were. A folder without `status`
+has no expected answer: there `run` with one worker, with `--plain` and with two workers have to answer the same.
 
 A case that differs has one line with its first difference. The last line is `N passed, M failed`; the exit status is 0
 where M is 0, else 1, and 2 where no case was found.
@@ -25,6 +25,7 @@ import tempfile
 from typing import NamedTuple, Optional
 
 HERE = os.path.dirname(os.path.abspath(__file__))
+MAKE_BIG = os.path.join(os.path.dirname(HERE), "tools", "make_big.py")
 INPUTS = {"--sheet": "sheet.toml", "--books": "books.txt", "--batch": "batch.bin"}
 OUTPUTS = {"--response": "response.bin", "--books-out": "books-out.txt", "--settlement": "settlement.txt"}
 TEXTS = {"show": ("--sheet", "--batch"), "plan": ("--sheet", "--books", "--batch"), "sample": ()}
@@ -78,7 +79,9 @@ def text_words(name):
 
 def ways_of(folder):
     """The numbers of workers, each with an option or none: the case's own and the usual ones; its own only where that is no
-    lawful number."""
+    lawful number; where no answer is expected, three that have to be the same."""
+    if read(folder, "status") is None:
+        return [("1", None), ("1", "--plain"), ("2", None)]
     own = read(folder, "workers").decode()
     numbers = list(dict.fromkeys((own,) + NUMBERS_OF_WORKERS)) if 1 <= int(own) <= 64 else [own]
     at_a_desk = WORKERS_AT_A_DESK if len(numbers) > 1 else numbers
@@ -184,10 +187,22 @@ def try_case(folder, settings):
 
 # ---------------------------------------------------------------- all cases
 
+def tried(folders, top, settings, jobs):
+    """How many of the cases passed, and how many failed; each of those has a line."""
+    passed = failed = 0
+    with concurrent.futures.ThreadPoolExecutor(jobs) as pool:
+        for folder, (count, found) in zip(folders, pool.map(lambda folder: try_case(folder, settings), folders)):
+            if found:
+                print(f"{os.path.relpath(folder, top)}: {found}", flush=True)
+            passed, failed = passed + (count > 0 and found is None), failed + (found is not None)
+    return passed, failed
+
+
 def main(words):
     parser = argparse.ArgumentParser(description=__doc__, formatter_class=argparse.RawDescriptionHelpFormatter)
     parser.add_argument("program", metavar="PROGRAM")
     parser.add_argument("--cases", default=os.path.join(HERE, "cases"))
+    parser.add_argument("--big", action="store_true", help="the cases of tools/make_big.py in place of DIR")
     parser.add_argument("--plan", action="store_true", help="run `plan` too")
     parser.add_argument("--only", default="", help="only cases with this word in their path")
     parser.add_argument("--jobs", type=int, default=2)
@@ -196,15 +211,12 @@ def main(words):
     program = [os.path.abspath(word) if os.path.exists(word) else word for word in shlex.split(options.program)]
     if not program or shutil.which(program[0]) is None:
         parser.error(f"can't run {options.program}")
-    top = os.path.abspath(options.cases)
-    folders = [folder for folder in case_folders(top) if options.only in folder]
     settings = Settings(program, options.plan, options.seconds)
-    passed = failed = 0
-    with concurrent.futures.ThreadPoolExecutor(options.jobs) as pool:
-        for folder, (count, found) in zip(folders, pool.map(lambda folder: try_case(folder, settings), folders)):
-            if found:
-                print(f"{os.path.relpath(folder, top)}: {found}", flush=True)
-            passed, failed = passed + (count > 0 and found is None), failed + (found is not None)
+    with tempfile.TemporaryDirectory(prefix="rxbatch-big-") as made:
+        if options.big:
+            subprocess.run([sys.executable, MAKE_BIG, made, "--cuts", "--bytes"], check=True)
+        top = made if options.big else os.path.abspath(options.cases)
+        passed, failed = tried([folder for folder in case_folders(top) if options.only in folder], top, settings, options.jobs)
     print(f"{passed} passed, {failed} failed")
     return 1 if failed else 0 if passed else 2
 

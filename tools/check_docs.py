@@ -16,6 +16,9 @@
   names. No page or comment names a page that isn't there.
 - Each name in docs/GLOSSARY.md is a name of the code or of a definition.
 - Each script that tests/README.md names is there, and it names each one of tests/, tools/ and .ci/.
+- Each worked case of tests/cases/README.md has its folder, or a line in tests/cases/runs.txt. Each sentence there that names a
+  run has such a line, and what this names is a test, or a script that `make cases` runs with these options. Numbers of workers
+  in a sentence that tests/run_cases.py runs are among those of the script and of the case's folders.
 - The pages have at most 25,000 words together, and the README at most 100 lines.
 
 The last line is `N passed, M failed`; the exit status is 1 where M isn't 0.
@@ -37,6 +40,13 @@ PAGE = r"(?:docs/[A-Z]+|[A-Z]+|(?:tests|tests/cases|bench|examples/\w+)/README)\
 REFERENCE = re.compile(rf"`?((?<![\w/.]){PAGE})`?(?:, \"([^\"]+)\"(?: and \"([^\"]+)\")?)?")
 PATH = re.compile(r"`((?:docs|crates|tests|tools|bench|examples|packaging|\.ci)/[A-Za-z0-9_./-]*)`")
 LINK = re.compile(r"\]\(([^)#\s]+)(?:#([^)]*))?\)")
+CASE = re.compile(r"\*\*([\w-]+)\.\*\* ?(.*)")
+# What names a run in a sentence of the worked cases: a call, a command, or one of these words.
+NAMES_A_RUN = re.compile(
+    r"`(?:--)?(?:run|plain|plan|show|sample|take|give|next|close|feed|finish|fits|start|job_is|enter\(\d\)|\w+::\w+"
+    r"|[a-z]+_(?:io|read|batch|reply|member|row))\b"
+    r"|\b(?:workers|[Ww]aves|footprints?|[Rr]un again|refused run|job|reader|writer|fed|cut to|handed back|read and written)\b")
+WORKERS = re.compile(r"\bworkers ((?:\d+, )*\d+)|\b((?:\d+, )*\d+(?: and \d+)?) workers\b")
 MOST_WORDS = 25_000
 MOST_LINES = 100
 
@@ -269,6 +279,65 @@ def check_tests(root, pages, checks):
         checks.expect(path in named, f"tests/README.md: nothing about {path.relative_to(root)}")
 
 
+def sentences_of(page):
+    """Each sentence of the worked cases, with its case; those before the first case are of "all"."""
+    case, found = "all", []
+    for line in page.splitlines():
+        if (start := CASE.match(line)):
+            case, line = start.groups()
+        line = re.sub(r"^(?:- |\d+\. )", "", line)
+        found += [(case, sentence) for sentence in re.split(r"(?<=\.) (?=[A-Z`])", line) if sentence and line[0] != "#"]
+    return found
+
+
+def runs_of(root):
+    """The lines of tests/cases/runs.txt: case, how its sentences begin, and what runs them."""
+    lines = (root / "tests/cases/runs.txt").read_text().splitlines()
+    rows = [line.split(" | ") for line in lines if not line.startswith("#")]
+    return [(case, begins, targets.split(", ")) for case, begins, targets in rows]
+
+
+def is_run(root, target):
+    """Whether the target is a test, or a script that `make cases` runs with these options."""
+    if "::" in target:
+        crate, *module, name = target.split("::")
+        path = root / "crates" / crate / "src" / f"{'/'.join(module)}.rt"
+        return path.exists() and f"#[test]\nfn {name}(" in path.read_text()
+    recipe = re.search(r"^cases:.*\n((?:\t.*\n)+)", (root / "Makefile").read_text(), re.M)[1]
+    script, *options = target.split()
+    runs = [line.replace('"', " ").split() for line in recipe.splitlines()]
+    return any(f"tests/{script}" in words and set(options) <= set(words) for words in runs)
+
+
+def numbers_of_workers(root, case):
+    """The numbers of workers with which tests/run_cases.py runs a case."""
+    usual = re.search(r"^NUMBERS_OF_WORKERS = \((.*)\)$", (root / "tests/run_cases.py").read_text(), re.M)[1]
+    own = [path.read_text() for path in (root / "tests/cases").glob(f"{case}/**/workers")]
+    return {*re.findall(r"\d+", usual), *own}
+
+
+def check_runs(root, pages, checks):
+    name = "tests/cases/README.md"
+    sentences, runs = sentences_of(pages[name]), runs_of(root)
+    folders = {path.name for path in (root / "tests/cases").iterdir() if path.is_dir()}
+    cases = {case for case, _ in sentences} - {"all"}
+    for case in sorted(folders | cases):
+        checks.expect(case in cases, f"{name}: nothing about {case}")
+        checks.expect(case in folders or any(case == row[0] for row in runs), f"{name}: {case}: no folder, and nothing runs it")
+    for case, begins, targets in runs:
+        begun = [sentence for of, sentence in sentences if of == case and sentence.startswith(begins)]
+        checks.expect(begun, f"tests/cases/runs.txt: {case}: no sentence begins {begins!r}")
+        for target in targets:
+            checks.expect(is_run(root, target), f"tests/cases/runs.txt: {case}: `make test` doesn't run {target}")
+        for sentence in begun if any(target.startswith("run_cases.py") for target in targets) else []:
+            named = {number for match in WORKERS.findall(sentence) for number in re.findall(r"\d+", "".join(match))}
+            checks.expect(named <= numbers_of_workers(root, case), f"{name}: {case}: not with these workers: {sentence[:60]}")
+    for case, sentence in sentences:
+        holds = any(case == of and sentence.startswith(begins) for of, begins, _ in runs)
+        if case != "all" and NAMES_A_RUN.search(sentence):
+            checks.expect(holds, f"{name}: {case}: nothing runs {sentence[:60]!r}")
+
+
 def check_size(pages, checks):
     words = sum(len(text.split()) for text in pages.values())
     checks.expect(words <= MOST_WORDS, f"the pages have {words:,} words, more than {MOST_WORDS:,}")
@@ -287,6 +356,7 @@ def main():
     check_places(root, pages, checks)
     check_glossary(root, pages, checks)
     check_tests(root, pages, checks)
+    check_runs(root, pages, checks)
     check_size(pages, checks)
     print(f"{checks.passed} passed, {checks.failed} failed")
     return 1 if checks.failed else 0

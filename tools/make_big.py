@@ -1,5 +1,5 @@
 #!/usr/bin/env python3
-"""Makes the cases that are too big or too many to be stored; `run_cases.py PROGRAM --cases DIR` then runs them.
+"""Makes the cases that are too big or too many to be stored, which `run_cases.py PROGRAM --big` runs.
 
     tools/make_big.py DIR [--cuts] [--bytes]
 
