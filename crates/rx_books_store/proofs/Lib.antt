@@ -8,6 +8,7 @@ pub mod KeptLines
 pub mod KeptText
 pub mod Joined
 pub mod Limits
+pub mod Marked
 pub mod Merging
 pub mod OneReading
 pub mod Openings

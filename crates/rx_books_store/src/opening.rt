@@ -1,5 +1,5 @@
-ghost use Rattle.std.specs.Prelude.{◌≡◌, ◌<◌, ◌-◌, ◌^◌, ◌++◌, ◌∷◌, [], OnOk, if◌then◌else◌};
-ghost use Rattle.std.specs.Prelude.{IfOk, IfSome, Some, true, is_some, length, slice_get};
+ghost use Rattle.std.specs.Prelude.{◌≡◌, ◌<◌, ◌≤◌, ◌-◌, ◌^◌, ◌++◌, ◌∷◌, ℕ, [], OnOk, false, if◌then◌else◌};
+ghost use Rattle.std.specs.Prelude.{IfOk, IfSome, Some, true, is_some, length, slice_get, slice_index};
 ghost use Rattle.rx_fields.specs.Order.{id_cmp};
 ghost use Rattle.rx_sorted.specs.Ascending.{IsAscending, IsAt, is_past};
 ghost use Rattle.rx_ledger.specs.Ledger.{IsLedger, is_listed, is_whole};
@@ -10,6 +10,7 @@ ghost use Rattle.rx_books_store.specs.BooksText.{families_of};
 ghost use Rattle.rx_books_store.specs.Kept.{IsKept};
 ghost use Rattle.rx_books_store.specs.LedgerBooks.{has_members};
 ghost use Rattle.rx_books_store.specs.Opening.{name_of, names_of};
+ghost use Rattle.rx_books_store.specs.Standing.{IsNextMarked, is_marked};
 ghost use Rattle.rx_books_store.specs.Store.{AreHolders, AreHomes};
 
 use crate::hints::Places;
@@ -203,6 +204,14 @@ impl Opening {
     {
         self.lists.holder(row)
     }
+
+    /// The place of the first row from a place on whose member has a mark; how many rows there are if none has.
+    pub(crate) fn next_marked(&self, from: usize, marks: &[bool]) -> usize
+        requires { from ≤ length self.now.rows }
+        ensures { IsNextMarked self.now marks.now from result }
+    {
+        self.lists.next_marked(from, marks)
+    }
 }
 
 impl Lists {
@@ -280,6 +289,37 @@ impl Lists {
         ensures { IfSome (slice_get self.now.rows row) (λ r. IsAt member_cmp member_key self.now.members (member_of_row r) result) }
     {
         self.holders[row] as usize
+    }
+
+    fn next_marked(&self, from: usize, marks: &[bool]) -> usize
+        requires { from ≤ length self.now.rows }
+        ensures { IsNextMarked self.now marks.now from result }
+    {
+        from + marked_in(&self.holders[from..], marks)
+    }
+}
+
+// The first of these places that has a mark; how many places there are if none has.
+fn marked_in(places: &[u32], marks: &[bool]) -> usize
+    ensures within { result ≤ length places.now }
+    ensures unmarked { (i : ℕ) → i < result → is_marked marks.now (slice_index places.now i) ≡ false }
+{
+    let found = places
+        .iter()
+        .position(|place| is_marked(marks, *place as usize));
+    match found {
+        Some(at) => at,
+        None => places.len(),
+    }
+}
+
+// Whether the member at a place has a mark.
+fn is_marked(marks: &[bool], place: usize) -> bool
+    ensures { result ≡ is_marked marks.now place }
+{
+    match marks.get(place) {
+        Some(mark) => *mark,
+        None => false,
     }
 }
 

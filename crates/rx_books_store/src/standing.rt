@@ -4,7 +4,7 @@ ghost use Rattle.rx_fields.specs.Order.{key_cmp};
 ghost use Rattle.rx_sorted.specs.Ascending.{IsAscending, IsAt};
 ghost use Rattle.rx_ledger.specs.Members.{member_cmp, member_key};
 ghost use Rattle.rx_ledger.specs.Rows.{member_of_row};
-ghost use Rattle.rx_books_store.specs.Standing.{is_slot_next, past_key};
+ghost use Rattle.rx_books_store.specs.Standing.{ArePassed, is_slot_next, past_key};
 ghost use Rattle.rx_books_store.specs.Store.{IsSlot, slot_key, standing};
 
 use crate::opening::Opening;
@@ -49,6 +49,14 @@ impl<'a> Standing<'a> {
             row: 0,
             slot: 0,
         }
+    }
+
+    /// Passes rows of members without a mark, by the members' places: those of the opening lists up to the next row of a
+    /// member who has one. What slots hold isn't passed.
+    pub fn pass_unmarked(&mut self, marks: &[bool])
+        ensures { ArePassed marks.now self.old self.new }
+    {
+        self.row = self.opening.next_marked(self.row, marks);
     }
 
     /// The next row, with the place of its member; None where no row is left.

@@ -237,17 +237,15 @@ count_among-none (x ∷ xs) none k =
 
 -- what is found so far, with the rows from r on, is all
 module _ (members : List Member) (counted : FillKey → Bool) (found : List Entry) (all : FillKey → ℕ) (rest left : List Row)
-    (r : Row) (is : rest ≡ r ∷ left)
+    (r : Row)
+    (next_is : (k : FillKey) → counted k ≡ true → fills_in members rest k ≡ one_of members k r + fills_in members left k)
     (finding : (k : FillKey) → counted k ≡ true → count_among found k + fills_in members rest k ≡ all k) where
-  next_is : (k : FillKey) → fills_in members rest k ≡ one_of members k r + fills_in members left k
-  next_is k = ap (λ rows. fills_in members rows k) is ∙ sum_by-cons (one_of members k) r left
-
   pub finding-pushed : (more : List Entry)
       → ((k : FillKey) → count_among more k ≡ count_among found k + one_of members k r)
       → (k : FillKey) → counted k ≡ true → count_among more k + fills_in members left k ≡ all k
   finding-pushed more pushed k own =
       let so_far = finding k own in
-      let next = next_is k in
+      let next = next_is k own in
       let one = pushed k in
       omega (arith, so_far, next, one)
 
@@ -255,7 +253,7 @@ module _ (members : List Member) (counted : FillKey → Bool) (found : List Entr
       → count_among found k + fills_in members left k ≡ all k
   finding-skipped stranger k own =
       let so_far = finding k own in
-      let next = next_is k in
+      let next = next_is k own in
       let other : one_of members k r ≡ 0 = elim (cases_Bool (is_eq (fill_cmp (fill_of members r) k))) [
         | inl tied ↦
             let same : fill_of members r ≡ k = fill_exact (fill_of members r) k (Equal-from_is_eq _ tied) in

@@ -1,13 +1,17 @@
-ghost use Rattle.std.specs.Prelude.{◌≡◌, ◌≤◌, IfNone, IfOk, IfSome, IsTrue, false, true};
+ghost use Rattle.std.specs.Prelude.{◌≡◌, ◌+◌, ◌<◌, ◌≤◌, length, IfNone, IfOk, IfSome, IsTrue, false, true};
 ghost use Rattle.std.specs.List.{All};
 ghost use Rattle.rx_serial.specs.declared.fill.FillKey.{FillKey};
-ghost use Rattle.rx_serial.specs.Fills.{AreCounted, concerns, count_among, count_at, fill_at, fills_in, is_counted};
+ghost use Rattle.rx_serial.specs.Fills.{AreCounted, concerns, count_among, count_at, fill_at, fills_in, has_member_mark};
+ghost use Rattle.rx_serial.specs.Fills.{is_counted, one_of};
+ghost use Rattle.rx_ledger.specs.Members.{member_cmp, member_key};
+ghost use Rattle.rx_ledger.specs.Rows.{member_of_row};
+ghost use Rattle.rx_sorted.specs.Ascending.{IsAscending, IsAt};
 
 use crate::billed::longest_of;
 use crate::fill::{Entry, Fill, FillKey, FirstDay, fill_at, tally_near};
 use crate::marks::{Marks, marks_of};
 use crate::refill::{Refill, are_left};
-use rx_books_store::OpenBooks;
+use rx_books_store::{OpenBooks, Standing};
 use rx_fields::{Days, Memory};
 use rx_ledger::Row;
 use rx_sorted::Ascending;
@@ -111,8 +115,7 @@ fn is_counted(marks: &Marks, first_day: FirstDay, key: &FillKey) -> bool
     are_left(first_day.number, key.when.number, key.when.days, 100) && marks.has(&key.course)
 }
 
-// The fill of a row, by the place of its member, where it is counted. Most rows are of members who have no mark, and are
-// passed at once.
+// The fill of a row, by the place of its member, where it is counted.
 fn counted_fill(marks: &Marks, first_day: FirstDay, holder: usize, row: &Row) -> Option<FillKey>
     ensures some { IfSome result (λ key. key ≡ fill_at holder row.now) }
     ensures none { IfNone result (is_counted marks.now first_day (fill_at holder row.now) ≡ false) }
@@ -126,6 +129,22 @@ fn counted_fill(marks: &Marks, first_day: FirstDay, holder: usize, row: &Row) ->
     } else {
         None
     }
+}
+
+// The next row that stands, with the place of its member. Rows of members who have no mark, as most are, are passed at once.
+fn next_of_marked<'a>(standing: &mut Standing<'a>, marks: &Marks) -> Option<(&'a Row, usize)>
+    requires { IsAscending member_cmp member_key standing.old.members }
+    ensures none { IfNone result ((k : FillKey) → has_member_mark marks.now.members.items k.course.holder ≡ true
+        → fills_in standing.old.members standing.old.rows k ≡ 0) }
+    ensures row { IfSome result (λ r. (k : FillKey) → has_member_mark marks.now.members.items k.course.holder ≡ true
+        → fills_in standing.old.members standing.old.rows k
+        ≡ one_of standing.old.members k r.0.now + fills_in standing.old.members standing.new.rows k) }
+    ensures holder { IfSome result (λ r. IsAt member_cmp member_key standing.old.members (member_of_row r.0.now) r.1) }
+    ensures members { standing.new.members ≡ standing.old.members }
+    ensures fewer { IfSome result (λ r. length standing.new.rows < length standing.old.rows) }
+{
+    standing.pass_unmarked(&marks.members);
+    standing.next_row()
 }
 
 // These entries, and one for each standing claim whose fill is counted.
@@ -142,7 +161,7 @@ fn found(
 {
     let mut found = own;
     let mut standing = books.standing();
-    while let Some((row, holder)) = standing.next_row() {
+    while let Some((row, holder)) = next_of_marked(&mut standing, marks) {
         if let Some(key) = counted_fill(marks, first_day, holder, row) {
             found.push(Entry {
                 fill: Fill { key, count: 1 },
