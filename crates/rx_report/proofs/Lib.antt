@@ -1,4 +1,7 @@
 -- Laws of the definitions in `specs/`.
+pub mod AddedUp
 pub mod Counted
 pub mod Grouping
+pub mod Parted
 pub mod Putting
+pub mod ReadAgain

@@ -1,7 +1,9 @@
 -- Plumbing: which files there are.
 pub mod Accounts
 pub mod Adding
+pub mod AddsUp
 pub mod Cells
 pub mod Groups
 pub mod Lines
+pub mod ReadBack
 pub mod Texts

@@ -1,4 +1,5 @@
 ghost use Rattle.std.specs.Prelude.{◌≡◌, ◌+◌, ◌++◌, IfOk, OnOk, length, map};
+ghost use Rattle.rx_report.specs.AddsUp.{AreLinesOf};
 ghost use Rattle.rx_report.specs.Lines.{answer_lines, answer_of, lines_of, member_at, member_behind, member_in, record_lines};
 ghost use Rattle.rx_settle.specs.Answers.{answers_of};
 
@@ -8,7 +9,7 @@ use rx_fields::{Id, Memory, Person};
 use std::alloc::Global;
 
 /// The lines of a batch whose records are answered so, in file order.
-#[tactic(auto, using(crate::proofs::Counted::counted))]
+#[tactic(auto, using(crate::proofs::Counted::counted, crate::proofs::Counted::paired))]
 pub fn report_lines(
     alloc: Global,
     transmissions: &[Transmission],
@@ -18,6 +19,8 @@ pub fn report_lines(
     ensures lines { IfOk result (λ lines. lines.items ≡ lines_of transmissions.now replies.now) }
     // The answers of the lines are those that the settlement counts.
     ensures answers { IfOk result (λ lines. map answer_of lines.items ≡ answers_of replies.now) }
+    // Each stands under the provider of its reply; so accounts of them add up.
+    ensures providers { IfOk result (λ lines. AreLinesOf lines.items replies.now) }
 {
     let lines = all_lines(alloc, transmissions, replies)?;
     Ok(lines)

@@ -1,6 +1,7 @@
 ghost use Rattle.std.specs.Prelude.{◌≡◌, ◌++◌, IfOk, OnOk};
 ghost use Rattle.std.specs.List.{flat_map};
 ghost use Rattle.rx_report.specs.Cells.{cell};
+ghost use Rattle.rx_report.specs.ReadBack.{ReadsBack};
 ghost use Rattle.rx_report.specs.Texts.{comma_member, comma_object, heading, json_member, json_object, json_value, lines_json};
 ghost use Rattle.rx_report.specs.Texts.{row, tab_cell, tab_name, tsv_text};
 
@@ -13,7 +14,17 @@ use std::alloc::{AllocError, Global};
 
 /// The lines as a table for programs: a heading with the columns' names, then a row for each line, with a tab between
 /// each two cells. Amounts are in cents.
+#[tactic(auto, using(crate::proofs::ReadAgain::reads_back))]
 pub fn tsv_text(alloc: Global, lines: &[Line]) -> Result<Vec<u8>, Memory>
+    ensures text { IfOk result (λ text. text.items ≡ tsv_text lines.now) }
+    // So each row has as many cells as the heading, and a reader finds each line's own in them.
+    ensures reads_back { IfOk result (λ text. ReadsBack lines.now text.items) }
+{
+    let text = written(alloc, lines)?;
+    Ok(text)
+}
+
+fn written(alloc: Global, lines: &[Line]) -> Result<Vec<u8>, Memory>
     ensures { IfOk result (λ text. text.items ≡ tsv_text lines.now) }
 {
     let mut text = Vec::new(alloc);

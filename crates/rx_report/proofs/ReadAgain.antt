@@ -1,0 +1,238 @@
+-- A table of tabs reads back: no cell holds a tab or a line feed.
+use Rattle.std.proofs.Common.{◌≡◌, ℕ, zero, suc, ◌+◌, ◌/◌, ◌%◌, Bool, true, false, ◌&&◌, not, cond, eqb, leb, ltb, List, [], ◌∷◌}
+use Rattle.std.proofs.Common.{◌++◌, map, length, refl, sym, ap, ◌∙◌, inl, inr, subst, arith, append_assoc, Option, Some, None}
+use Rattle.std.specs.Fmt.{decimal, digit_glyph, digits, digits_onto, signed_decimal}
+use Rattle.std.specs.List.{All, flat_map, list_all, list_any, slice_split}
+use Rattle.std.specs.Prelude.{ℤ, pos, negsuc}
+use Rattle.std.proofs.lemmas.Bool.{cases_Bool}
+use Rattle.std.proofs.lemmas.Bool.Decides.{nat_tests}
+use Rattle.std.proofs.lemmas.List.{append-nil}
+use Rattle.std.proofs.lemmas.List.Elements.{All-append, All-cons, All-head, All-nil, All-tail}
+use Rattle.std.proofs.lemmas.List.Splits.{slice_split_at, slice_split_none}
+use Rattle.rx_d0_values.specs.declared.reply.Answer.TheVariants as answer
+use Rattle.rx_d0_values.specs.declared.reply.Answer.{Answer}
+use Rattle.rx_fields.specs.Codes.{code_text}
+use Rattle.rx_fields.specs.Text.{is_bar, trimmed}
+use Rattle.rx_fields.specs.declared.code.Code.{Code}
+use Rattle.rx_fields.specs.declared.code.Code.TheVariants as code
+use Rattle.rx_print.specs.CodeList.{after_comma, code_list}
+use Rattle.rx_report.specs.Cells.{cell, cents_cell, cents_of, codes_cell, family_cell, known_cell, name_of, others, person_cell}
+use Rattle.rx_report.specs.Cells.{reference_of, status_of}
+use Rattle.rx_report.specs.ReadBack.{ReadsBack, but_last, cells_in, cells_of, columns, is_plain, is_plain_line, rows_in}
+use Rattle.rx_report.specs.ReadBack.{table_in, table_of}
+use Rattle.rx_report.specs.Texts.{heading, row, tab_cell, tab_name, tsv_text}
+use Rattle.rx_report.specs.declared.column.Column.{Column}
+use Rattle.rx_report.specs.declared.column.Column.TheVariants as column
+use Rattle.rx_report.specs.declared.line.Line.{Line}
+use Rattle.rx_settle.specs.Providers.{named}
+
+-- ---- texts without control bytes
+
+abbrev IsPlain : List ℕ → Type 0
+IsPlain xs = is_plain xs ≡ true
+
+both : (a b : Bool) → a ≡ true → b ≡ true → (a && b) ≡ true
+both a b x y = rw (x, y) refl
+
+left_of : (a b : Bool) → (a && b) ≡ true → a ≡ true
+left_of true b e = refl
+left_of false b e = e
+
+right_of : (a b : Bool) → (a && b) ≡ true → b ≡ true
+right_of true b e = e
+right_of false b e = absurd cc
+
+plain_append : (xs ys : List ℕ) → IsPlain xs → IsPlain ys → IsPlain (xs ++ ys)
+plain_append [] ys p q = q
+plain_append (x ∷ xs) ys p q =
+    both (leb 32 x) (is_plain (xs ++ ys)) (left_of (leb 32 x) (is_plain xs) p)
+    (plain_append xs ys (right_of (leb 32 x) (is_plain xs) p) q)
+
+-- none of them is a tab or a line feed
+free_of : (m : ℕ) → leb 32 m ≡ false → (xs : List ℕ) → IsPlain xs → All (λ x. eqb x m ≡ false) xs
+free_of m low [] p = All-nil (λ x. eqb x m ≡ false)
+free_of m low (x ∷ xs) p =
+    let own : leb 32 x ≡ true = left_of (leb 32 x) (is_plain xs) p in
+    let other : eqb x m ≡ false = grind (arith, nat_tests) in
+    All-cons (λ x. eqb x m ≡ false) x xs other (free_of m low xs (right_of (leb 32 x) (is_plain xs) p))
+
+-- ---- cells
+
+glyph_plain : (d : ℕ) → leb 32 (digit_glyph false d) ≡ true
+glyph_plain d = elim (cases_Bool (ltb d 10)) [
+  | inl small ↦ rw small (grind (arith, nat_tests))
+  | inr large ↦ rw large (grind (arith, nat_tests))
+]
+
+digits_plain : (k n : ℕ) (acc : List ℕ) → IsPlain acc → IsPlain (digits_onto k 10 false n acc)
+digits_plain zero n acc p = p
+digits_plain (suc k) n acc p =
+    let more : IsPlain (digit_glyph false (n % 10) ∷ acc) = both (leb 32 (digit_glyph false (n % 10))) (is_plain acc)
+    (glyph_plain (n % 10)) p in
+    elim (cases_Bool (eqb (n / 10) 0)) [
+      | inl last ↦ rw last more
+      | inr other ↦ rw other (digits_plain k (n / 10) (digit_glyph false (n % 10) ∷ acc) more)
+    ]
+
+decimal_plain : (n : ℕ) → IsPlain (decimal n)
+unfolding digits
+decimal_plain n = digits_plain 64 n [] refl
+
+signed_plain : (z : ℤ) → IsPlain (signed_decimal z)
+signed_plain (pos n) = decimal_plain n
+signed_plain (negsuc n) = decimal_plain (suc n)
+
+code_plain : (c : Code) → IsPlain (code_text c)
+code_plain code.Bin = refl
+code_plain other = refl
+
+codes_after : (cs : List Code) → IsPlain (flat_map after_comma cs)
+codes_after [] = refl
+codes_after (c ∷ cs) = plain_append (code_text c) (flat_map after_comma cs) (code_plain c) (codes_after cs)
+
+code_list_plain : (cs : List Code) → IsPlain (code_list cs)
+code_list_plain [] = refl
+code_list_plain (c ∷ cs) = plain_append (code_text c) (flat_map after_comma cs) (code_plain c) (codes_after cs)
+
+-- printable ASCII
+abbrev is_printable : ℕ → Bool
+is_printable b = leb 32 b && leb b 126
+
+printable_plain : (xs : List ℕ) → list_all is_printable xs ≡ true → IsPlain xs
+printable_plain [] e = refl
+printable_plain (x ∷ xs) e =
+    let own = left_of (is_printable x) (list_all is_printable xs) e in
+    both (leb 32 x) (is_plain xs) (left_of (leb 32 x) (leb x 126) own)
+    (printable_plain xs (right_of (is_printable x) (list_all is_printable xs) e))
+
+named_plain : (f : List ℕ) → IsPlain (named f)
+named_plain f = elim (cases_Bool (eqb (length (trimmed f)) 0)) [
+  | inl h ↦ rw h refl
+  | inr h ↦ rw h (elim (cases_Bool (ltb 15 (length (trimmed f)))) [
+    | inl h1 ↦ rw h1 refl
+    | inr h1 ↦ rw h1 (elim (cases_Bool (list_all is_printable (trimmed f))) [
+      | inr h2 ↦ rw h2 refl
+      | inl h2 ↦ rw h2 (elim (cases_Bool (list_any is_bar (trimmed f))) [
+        | inl h3 ↦ rw h3 refl
+        | inr h3 ↦ rw h3 (printable_plain (trimmed f) h2)
+      ])
+    ])
+  ])
+]
+
+known_plain : (o : Option ℕ) → IsPlain (known_cell o)
+known_plain None = refl
+known_plain (Some n) = decimal_plain n
+
+cents_plain : (o : Option ℤ) → IsPlain (cents_cell o)
+cents_plain None = refl
+cents_plain (Some z) = signed_plain z
+
+status_plain : (a : Answer) → IsPlain (status_of a ∷ [])
+status_plain (answer.Paid p) = refl
+status_plain (answer.Twice p) = refl
+status_plain (answer.Approved p) = refl
+status_plain (answer.Refused r) = refl
+
+codes_plain : (a : Answer) → IsPlain (codes_cell a)
+codes_plain (answer.Paid p) = refl
+codes_plain (answer.Twice p) = refl
+codes_plain (answer.Approved p) = refl
+codes_plain (answer.Refused r) = code_list_plain r.codes
+
+cell_plain : (l : Line) → is_plain_line l ≡ true → (c : Column) → IsPlain (cell c l)
+cell_plain l p column.Place = decimal_plain l.place
+cell_plain l p column.Nth = decimal_plain l.nth
+cell_plain l p column.Status = status_plain l.answer
+cell_plain l p column.Codes = codes_plain l.answer
+cell_plain l p column.Provider = named_plain l.provider
+cell_plain l p column.Prescription = known_plain (reference_of l.answer)
+cell_plain l p column.Date = left_of (is_plain l.date) (is_plain (family_cell l.member) && is_plain (person_cell l.member)) p
+cell_plain l p column.Family = left_of (is_plain (family_cell l.member)) (is_plain (person_cell l.member))
+    (right_of (is_plain l.date) (is_plain (family_cell l.member) && is_plain (person_cell l.member)) p)
+cell_plain l p column.Person = right_of (is_plain (family_cell l.member)) (is_plain (person_cell l.member))
+    (right_of (is_plain l.date) (is_plain (family_cell l.member) && is_plain (person_cell l.member)) p)
+cell_plain l p column.Allowed = cents_plain (cents_of column.Allowed l.answer)
+cell_plain l p column.Deductible = cents_plain (cents_of column.Deductible l.answer)
+cell_plain l p column.Copay = cents_plain (cents_of column.Copay l.answer)
+cell_plain l p column.Coinsurance = cents_plain (cents_of column.Coinsurance l.answer)
+cell_plain l p column.Member = cents_plain (cents_of column.Member l.answer)
+cell_plain l p column.Plan = cents_plain (cents_of column.Plan l.answer)
+
+name_plain : (c : Column) → IsPlain (name_of c)
+name_plain column.Place = refl
+name_plain other = refl
+
+-- ---- rows
+
+module _ (text : Column → List ℕ) (plain : (c : Column) → IsPlain (text c)) where
+  -- each cell after a tab
+  abbrev after_tab : Column → List ℕ
+  after_tab c = 9 ∷ text c
+
+  cells_apart : (cs : List Column) (first : List ℕ) → IsPlain first
+      → cells_in (first ++ flat_map after_tab cs) ≡ first ∷ map text cs
+  cells_apart [] first p =
+      ap cells_in (append-nil first) ∙ slice_split_none (λ b. eqb b 9) first (free_of 9 refl first p)
+  cells_apart (c ∷ cs) first p =
+      slice_split_at (λ b. eqb b 9) first 9 (text c ++ flat_map after_tab cs) (free_of 9 refl first p) refl
+      ∙ ap (λ xs. first ∷ xs) (cells_apart cs (text c) (plain c))
+
+  feedless : (cs : List Column) → All (λ x. eqb x 10 ≡ false) (flat_map after_tab cs)
+  feedless [] = All-nil (λ x. eqb x 10 ≡ false)
+  feedless (c ∷ cs) = All-cons (λ x. eqb x 10 ≡ false) 9 (text c ++ flat_map after_tab cs) refl
+      (All-append (λ x. eqb x 10 ≡ false) (text c) (flat_map after_tab cs) (free_of 10 refl (text c) (plain c)) (feedless cs))
+
+  -- a row without its line feed
+  abbrev row_text : List ℕ
+  row_text = text column.Place ++ flat_map after_tab others
+
+  row_cells : cells_in row_text ≡ map text columns
+  row_cells = cells_apart others (text column.Place) (plain column.Place)
+
+  -- the row in front of a text is cut off at its line feed
+  row_first : (rest : List ℕ)
+      → slice_split (λ b. eqb b 10) ((text column.Place ++ (flat_map after_tab others ++ 10 ∷ [])) ++ rest)
+      ≡ row_text ∷ slice_split (λ b. eqb b 10) rest
+  row_first rest =
+      let all : (text column.Place ++ (flat_map after_tab others ++ 10 ∷ [])) ++ rest ≡ row_text ++ 10 ∷ rest =
+      append_assoc (text column.Place) (flat_map after_tab others ++ 10 ∷ []) rest
+      ∙ ap (λ xs. text column.Place ++ xs) (append_assoc (flat_map after_tab others) (10 ∷ []) rest)
+      ∙ sym (append_assoc (text column.Place) (flat_map after_tab others) (10 ∷ rest)) in
+      ap (slice_split (λ b. eqb b 10)) all ∙ slice_split_at (λ b. eqb b 10) row_text 10 rest
+      (All-append (λ x. eqb x 10 ≡ false) (text column.Place) (flat_map after_tab others)
+      (free_of 10 refl (text column.Place) (plain column.Place)) (feedless others)) refl
+
+-- ---- tables
+
+abbrev line_text : Line → List ℕ
+line_text l = cell column.Place l ++ flat_map (tab_cell l) others
+
+rows_cut : (ls : List Line) → All (λ l. is_plain_line l ≡ true) ls
+    → slice_split (λ b. eqb b 10) (flat_map row ls) ≡ map line_text ls ++ [] ∷ []
+rows_cut [] all = refl
+rows_cut (l ∷ ls) all =
+    row_first (λ c. cell c l) (cell_plain l (All-head (λ l. is_plain_line l ≡ true) l ls all)) (flat_map row ls)
+    ∙ ap (λ rs. line_text l ∷ rs) (rows_cut ls (All-tail (λ l. is_plain_line l ≡ true) l ls all))
+
+last_dropped : (rs : List (List ℕ)) (last : List ℕ) → but_last (rs ++ last ∷ []) ≡ rs
+last_dropped [] last = refl
+last_dropped (r ∷ []) last = refl
+last_dropped (r ∷ s ∷ rs) last = ap (λ xs. r ∷ xs) (last_dropped (s ∷ rs) last)
+
+lines_read : (ls : List Line) → All (λ l. is_plain_line l ≡ true) ls → map cells_in (map line_text ls) ≡ map cells_of ls
+lines_read [] all = refl
+lines_read (l ∷ ls) all =
+    λ j. row_cells (λ c. cell c l) (cell_plain l (All-head (λ l. is_plain_line l ≡ true) l ls all)) j
+    ∷ lines_read ls (All-tail (λ l. is_plain_line l ≡ true) l ls all) j
+
+abbrev heading_text : List ℕ
+heading_text = name_of column.Place ++ flat_map tab_name others
+
+pub reads_back : (ls : List Line) (text : List ℕ) → text ≡ tsv_text ls → ReadsBack ls text
+reads_back ls text is all =
+    let cut : slice_split (λ b. eqb b 10) (tsv_text ls) ≡ (heading_text ∷ map line_text ls) ++ [] ∷ [] =
+    row_first name_of name_plain (flat_map row ls) ∙ ap (λ rs. heading_text ∷ rs) (rows_cut ls all) in
+    ap table_in is ∙ ap (λ rs. map cells_in (but_last rs)) cut
+    ∙ ap (map cells_in) (last_dropped (heading_text ∷ map line_text ls) [])
+    ∙ (λ j. row_cells name_of name_plain j ∷ lines_read ls all j)
