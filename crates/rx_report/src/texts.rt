@@ -17,7 +17,7 @@ use std::alloc::{AllocError, Global};
 #[tactic(auto, using(crate::proofs::ReadAgain::reads_back))]
 pub fn tsv_text(alloc: Global, lines: &[Line]) -> Result<Vec<u8>, Memory>
     ensures text { IfOk result (λ text. text.items ≡ tsv_text lines.now) }
-    // So each row has as many cells as the heading, and a reader finds each line's own in them.
+    // Where dates and members hold no control byte: each row has a cell for each column, and a reader finds the line's own.
     ensures reads_back { IfOk result (λ text. ReadsBack lines.now text.items) }
 {
     let text = written(alloc, lines)?;
