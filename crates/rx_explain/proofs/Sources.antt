@@ -34,14 +34,3 @@ module _ (events : List Event) (i : ℕ) (e : Event) (within : i < length events
 
     pub end_here : returns_after key at e ≡ true → taken_back_at (drop i events) key at ≡ Some e.at
     end_here returns = rw (left, returns) refl
-
--- an item that passes both tests is found among those that pass the first
-pub find_of_passed : {X : Type 0} (p q : X → Bool) (xs : List X) → find (λ x. p x && q x) xs ≡ find q (filter p xs)
-find_of_passed p q [] = refl
-find_of_passed p q (x ∷ xs) = elim (cases_Bool (p x)) [
-  | inl passes ↦ rw passes (elim (cases_Bool (q x)) [
-    | inl both ↦ rw both refl
-    | inr one ↦ rw one (find_of_passed p q xs)
-  ])
-  | inr fails ↦ rw fails (find_of_passed p q xs)
-]

@@ -8,7 +8,7 @@ ghost use Rattle.rx_explain.specs.Shown.{counted_for, is_counted, row_in};
 ghost use Rattle.rx_fields.specs.declared.limits.TheConstants.{MOST_DETAILS};
 
 use crate::at::At;
-use crate::family::{earlier_fill, is_same};
+use crate::family::{is_same, longest_fill};
 use crate::open_from::open_from;
 use crate::subject::Subject;
 use crate::workings::{Workings, workings_for};
@@ -89,7 +89,7 @@ pub(crate) fn facts_on<S: Basis>(
     })
 }
 
-// The standing claim that decided: a fill that makes it too soon, else the one that the decision names.
+// The standing claim that decided: the fill that makes it too soon for longest, else the one that the decision names.
 fn standing(
     figures: &Figures,
     date: Day,
@@ -102,7 +102,7 @@ fn standing(
         → result ≡ row_in figures.now date L transaction.now decision.now }
 {
     match (transaction, decision) {
-        (Transaction::Bill(bill), Decision::TooSoon) => earlier_fill(figures, date, bill, rows),
+        (Transaction::Bill(bill), Decision::TooSoon) => longest_fill(figures, date, bill, rows),
         _ => decision.row(),
     }
 }

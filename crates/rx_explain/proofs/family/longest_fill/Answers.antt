@@ -1,0 +1,40 @@
+-- One more row is an early fill, or another; the early fills are those of the family that are too soon.
+use Rattle.std.proofs.Common.{◌<◌, ◌∙◌, ◌∷◌, [], None, length, sym, take, ap, arith}
+use Rattle.std.specs.List.{filter, fold}
+use Rattle.std.proofs.lemmas.List.{take_all}
+use Rattle.std.proofs.lemmas.List.Sums.{fold-append}
+use Rattle.rx_ledger.specs.Decisions.{is_too_soon}
+use Rattle.rx_ledger.specs.Rows.{claimed_by}
+use Rattle.rx_explain.specs.Opens.{is_early_fill}
+use Rattle.rx_explain.specs.Shown.{longest_with}
+use Rattle.rx_explain.proofs.Counted.{filter_both, filter_no, filter_yes}
+use Rattle.rx_explain.proofs.family.longest_fill.Goals as goal
+use Rattle.rx_explain.proofs.family.longest_fill.Goals.{then-is_early_fill, else-is_early_fill}
+
+pub loop-row-preserved : goal.loop-row-preserved
+loop-row-preserved c =
+    let rows = c.args.rows.now in
+    let i = c.loop-row.row-index in
+    let r = c.row-item.result in
+    let f = c.args.figures.now in
+    let p = is_early_fill f c.args.date c.args.bill.now in
+    let within : i < length rows = omega arith in
+    elim c.if-is_early_fill.branch [
+      | then-is_early_fill w ↦
+          w.longest-is ∙ w.longest_with-longest.ensures ∙ ap (λ best. longest_with f best r) c.loop-row.invariant
+          ∙ sym (ap (fold (longest_with f) None) (filter_yes p rows i r within c.row-item.is (sym w.if-is_early_fill.ensures))
+          ∙ fold-append (longest_with f) None (filter p (take i rows)) (r ∷ []))
+      | else-is_early_fill w ↦
+          w.longest-is ∙ c.loop-row.invariant
+          ∙ sym (ap (fold (longest_with f) None) (filter_no p rows i r within c.row-item.is (sym w.if-is_early_fill.ensures)))
+    ]
+
+pub returns : goal.returns
+returns c =
+    let f = c.args.figures.now in
+    let own = claimed_by c.args.bill.now.family in
+    let soon = is_too_soon f c.args.date c.args.bill.now in
+    c.loop-row.invariant
+    ∙ ap (λ rows. fold (longest_with f) None (filter (is_early_fill f c.args.date c.args.bill.now) rows))
+    (take_all c.loop-row.row-index c.args.rows.now (omega arith))
+    ∙ ap (fold (longest_with f) None) (filter_both own soon c.args.rows.now)
