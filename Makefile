@@ -35,7 +35,7 @@ all-edits: kit cc
 
 cases: kit cc
 	python3 tools/check_docs.py
-	python3 tools/find_doubles.py --allowed 52
+	python3 tools/find_doubles.py --allowed 53
 	python3 tools/count_dialect.py --allowed 6
 	test -x $(PROGRAM) || (cd crates/rxbatch && rt run -- sample)
 	python3 packaging/make_pages.py $(PROGRAM) --check
@@ -44,6 +44,8 @@ cases: kit cc
 	python3 tests/run_paths.py $(PROGRAM)
 	python3 tests/run_safe.py $(PROGRAM)
 	python3 tests/run_log.py $(PROGRAM)
+	python3 tests/run_streams.py $(PROGRAM)
+	python3 tests/run_night.py $(PROGRAM)
 	python3 tests/run_cases.py $(PROGRAM) --plan
 	python3 tests/run_cases.py $(PROGRAM) --big
 	python3 tests/run_told.py $(PROGRAM)
@@ -52,6 +54,7 @@ cases: kit cc
 	python3 tests/run_replies.py $(PROGRAM)
 	python3 tests/run_report.py $(PROGRAM)
 	test -x $(TRIALS) || (cd crates/rx_bench && rt run -- orders 1 > /dev/null)
+	python3 tests/run_failing.py $(PROGRAM)
 	python3 tests/refused_memory.py $(PROGRAM)
 	python3 tests/refused_desk.py "$(TRIALS) orders" --jobs 3
 

@@ -32,9 +32,15 @@ def logged(program, folder, stamp, more=(), changed=None):
     words = ["run", "--stamp", stamp, "--workers", "2", "--log", "log.json", *more]
     words += [word for name, path in paths.items() for word in (OPTIONS.get(name, "--" + name), path)]
     ended = subprocess.run([program, *words], cwd=folder, stdin=subprocess.DEVNULL, capture_output=True)
+    lines = lines_of(folder)
+    return ended, lines[0] if len(lines) == 1 else None
+
+
+def lines_of(folder):
+    """The lines of the log, as read."""
     log = folder / "log.json"
     text = log.read_bytes() if log.is_file() else b""
-    return ended, json.loads(text) if text.endswith(b"\n") and text.count(b"\n") == 1 else None
+    return [json.loads(line) for line in text.splitlines()] if text.endswith(b"\n") else []
 
 
 def log_of(path, more):
@@ -86,7 +92,29 @@ def done(program, folder, case, more):
         return fault
     if set(log["microseconds"]) != STEPS or any(not isinstance(step, int) for step in log["microseconds"].values()):
         return f"microseconds is {log['microseconds']}"
-    return None if log["peak_kilobytes"] > 0 else "no peak"
+    if log["peak_kilobytes"] <= 0:
+        return f"peak {log['peak_kilobytes']}"
+    rights = (folder / "log.json").stat().st_mode & 0o777
+    return None if rights == 0o600 else f"the log has the rights {rights:o}"
+
+
+def added(program, folder, case, more):
+    """Each run adds a line, a refused one too, and runs at once add whole lines."""
+    stamp = (case / "stamp").read_text()
+    logged(program, folder, stamp, more)
+    logged(program, folder, "1", more)
+    words = ["run", "--stamp", stamp, "--workers", "1", "--log", "log.json", *more]
+    words += [word for name, path in INPUTS.items() for word in ("--" + name, path)]
+    runs = []
+    for place in range(8):
+        outputs = [word for name, path in OUTPUTS.items() for word in (OPTIONS.get(name, "--" + name), f"{place}-{path}")]
+        runs.append(subprocess.Popen([program, *words, *outputs], cwd=folder, stdin=subprocess.DEVNULL))
+    statuses = [run.wait() for run in runs]
+    lines = lines_of(folder)
+    if [line["status"] for line in lines[:2]] != [0, 1] or statuses != [0] * 8 or len(lines) != 10:
+        return f"{len(lines)} lines, statuses {statuses}"
+    wanted = {f"{place}-response.bin" for place in range(8)}
+    return None if {line["outputs"]["response"]["path"] for line in lines[2:]} == wanted else "a line is missing"
 
 
 def refused(program, folder, case, more):
@@ -104,7 +132,8 @@ def refused(program, folder, case, more):
 def refused_in_words(program, folder, case, more):
     (folder / "sheet.toml").write_bytes(b"fee = ")
     ended, log = logged(program, folder, (case / "stamp").read_text(), ["-v", *more])
-    lines = [line.split() for line in ended.stderr.decode().splitlines() if line.startswith("refused ")]
+    told = ended.stderr.decode().splitlines()
+    lines = [line.split() for line in told if line.startswith("refused ")]
     if ended.returncode != 1 or len(lines) != 1:
         return f"status {ended.returncode}, {ended.stderr!r}"
     return differs({"status": 1, "refused": [int(word) for word in lines[0][1:]], "file": None}, log)
@@ -116,6 +145,13 @@ def absent(program, folder, case, more):
     if ended.returncode != 3 or ended.stderr != b"file 3\n":
         return f"status {ended.returncode}, {ended.stderr!r}"
     return differs({"status": 3, "refused": None, "file": 3, "lot": None, "totals": None}, log)
+
+
+def one_output(program, folder, case, more):
+    ended, log = logged(program, folder, (case / "stamp").read_text(), more, {"settlement": "./response.bin"})
+    if ended.returncode != 2:
+        return f"status {ended.returncode}, {ended.stderr!r}"
+    return differs({"status": 2, "refused": None, "file": None}, log)
 
 
 def over_an_input(program, folder, case, more):
@@ -151,7 +187,39 @@ def on_a_full_device(program, folder, case, more):
     return None if outputs == {path: (case / path).read_bytes() for path in OUTPUTS.values()} else "the outputs aren't the run's"
 
 
-WAYS = (done, refused, refused_in_words, absent, over_an_input, over_an_output, in_no_folder, on_a_full_device)
+WAYS = (done, added, refused, refused_in_words, absent, one_output, over_an_input, over_an_output, in_no_folder, on_a_full_device)
+
+
+def long_books(program):
+    """What is wrong with a run whose end books have more lines than a run reads: it is reported, with -v and without."""
+    case = CASES / "one-billing"
+    books = (case / "books.txt").read_bytes().splitlines(True)
+    # As many lines as a run reads, in families of 99 members and a total; the batch adds a claim.
+    missing = 1_000_000 - len(books)
+    members, totals = [], []
+    for family in range(missing // 100 + 1):
+        persons = 99 if family < missing // 100 else missing % 100 - 1
+        members += [b"M|Z%06d|%02d|20260101|20261231|0\n" % (family, person) for person in range(1, persons + 1)]
+        totals.append(b"T|Z%06d|0\n" % family)
+    place = next(place for place, line in enumerate(books) if not line.startswith((b"BOOKS|", b"M|")))
+    with tempfile.TemporaryDirectory(prefix="rxbatch-log-") as name:
+        folder = pathlib.Path(name)
+        for path in INPUTS.values():
+            shutil.copy(case / path, folder)
+        (folder / "books.txt").write_bytes(b"".join([*books[:place], *members, *books[place:], *totals]))
+        for way in ([], ["-v"], ["--safe"]):
+            (folder / "log.json").unlink(missing_ok=True)
+            for is_logged in (True, False):
+                paths = {**INPUTS, **OUTPUTS}
+                words = ["run", "--stamp", (case / "stamp").read_text(), "--workers", "2", *way]
+                words += ["--log", "log.json"] if is_logged else []
+                words += [word for key, path in paths.items() for word in (OPTIONS.get(key, "--" + key), path)]
+                ended = subprocess.run([program, *words], cwd=folder, stdin=subprocess.DEVNULL, capture_output=True, text=True)
+                lines = (folder / "books-out.txt").read_bytes().count(b"\n")
+                warning = f"--books-out books-out.txt: {lines} lines, and no run reads books of more than 1000000"
+                if ended.returncode != 0 or lines <= 1_000_000 or not ended.stderr.endswith(f"rxbatch: {warning}\n"):
+                    return f"long books: status {ended.returncode}, {lines} lines, {ended.stderr!r}"
+    return None
 
 
 def version_fault(program):
@@ -174,7 +242,7 @@ def main(words):
     if len(words) != 1:
         sys.exit(__doc__)
     program = str(pathlib.Path(words[0]).resolve())
-    faults = [version_fault(program)]
+    faults = [version_fault(program), long_books(program)]
     for case in (CASES / "one-billing", CASES / "family-deductible-after-a-reversal"):
         for way in WAYS:
             for more in ([], ["--safe", "--sums"], ["--plain"], ["--desk", "--sums"]):

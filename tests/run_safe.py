@@ -13,6 +13,7 @@ request for memory is refused, for N = 1, 2 and on.
 """
 import argparse
 import collections
+import fcntl
 import itertools
 import json
 import os
@@ -47,10 +48,11 @@ class Folder:
                 (self.path / name).write_bytes(EARLIER)
                 (self.path / name).chmod(0o640)
 
-    def words(self, changed=()):
+    def words(self, changed=(), is_safe=True):
         paths = {**INPUTS, **OUTPUTS, **dict(changed)}
+        more = ["--safe"] if is_safe else []
         stamp = (JOB / "stamp").read_text()
-        return ["run", "--safe", "--stamp", stamp, "--workers", "2"] + [word for pair in paths.items() for word in pair]
+        return ["run", *more, "--stamp", stamp, "--workers", "2"] + [word for pair in paths.items() for word in pair]
 
     def texts(self):
         return {name: (self.path / name).read_bytes() if (self.path / name).exists() else None
@@ -59,8 +61,8 @@ class Folder:
     def names(self):
         return {path.name for path in self.path.iterdir()}
 
-    def run(self, program, changed=(), before=(), first=None, surroundings=None):
-        return subprocess.run([*before, program, *self.words(changed)], cwd=self.path, stdin=subprocess.DEVNULL,
+    def run(self, program, changed=(), before=(), first=None, surroundings=None, is_safe=True):
+        return subprocess.run([*before, program, *self.words(changed, is_safe)], cwd=self.path, stdin=subprocess.DEVNULL,
                               capture_output=True, preexec_fn=first, env=surroundings)
 
 
@@ -208,8 +210,31 @@ def one_new_file(program, path):
 def name_of_a_file_beside(program, path):
     """An output with a name that a file next to another may have."""
     folder = Folder(path)
-    ended = folder.run(program, {"--response": ".rxbatch-5-0"})
-    return answered(ended, 3, b"file 4\n") or untouched(folder, PLAIN_NAMES)
+    for is_safe in (True, False):
+        ended = folder.run(program, {"--response": ".rxbatch-books-out.txt"}, is_safe=is_safe)
+        fault = answered(ended, 3, b"file 4\n") or untouched(folder, PLAIN_NAMES)
+        if fault:
+            return fault
+    return None
+
+
+def kept_files(program, path):
+    """An input and a log that stand where a file next to an output is to be made: they stay."""
+    name = ".rxbatch-books-out.txt"
+    for is_safe in (True, False):
+        with tempfile.TemporaryDirectory(dir=path) as inner:
+            folder = Folder(inner)
+            (folder.path / "books.txt").rename(folder.path / name)
+            kept = (folder.path / name).read_bytes()
+            fault = answered(folder.run(program, {"--books": name}, is_safe=is_safe), 3, b"file 5\n")
+            fault = fault or untouched(folder, PLAIN_NAMES - {"books.txt"} | {name})
+            if fault or (folder.path / name).read_bytes() != kept:
+                return fault or "the input was changed"
+            (folder.path / name).rename(folder.path / "books.txt")
+            fault = answered(folder.run(program, {"--log": name}, is_safe=is_safe), 3, b"file 5\n")
+            if fault or not (folder.path / name).read_bytes().endswith(b"}\n"):
+                return fault or "the log was lost"
+    return None
 
 
 def path_of_a_folder(program, path):
@@ -224,15 +249,47 @@ def path_of_a_folder(program, path):
 
 
 def left_by_a_kill(program, path):
-    """Files next to the outputs that an earlier run left."""
-    folder = Folder(path)
-    left = {".rxbatch-4-0", ".rxbatch-5-0", ".rxbatch-5-1", ".rxbatch-6-0"}
-    for name in left:
-        (folder.path / name).write_bytes(b"left\n")
-    fault = answered(folder.run(program), 0, b"")
-    if fault or folder.texts() != WHOLE or folder.names() != PLAIN_NAMES | left:
-        return fault or "the outputs aren't the run's"
-    return None if all((folder.path / name).read_bytes() == b"left\n" for name in left) else "a file was written over"
+    """Files next to the outputs that a killed run left, of this user or with other rights."""
+    for rights in (0o600, 0o444):
+        with tempfile.TemporaryDirectory(dir=path) as inner:
+            folder = Folder(inner)
+            for name in OUTPUTS.values():
+                (folder.path / f".rxbatch-{name}").write_bytes(b"left\n")
+                (folder.path / f".rxbatch-{name}").chmod(rights)
+            fault = answered(folder.run(program), 0, b"")
+            if fault or folder.texts() != WHOLE or folder.names() != PLAIN_NAMES:
+                return fault or f"the outputs aren't the run's, or {sorted(folder.names() - PLAIN_NAMES)} is left"
+    return None
+
+
+def in_the_way(program, path):
+    """A link, a pipe and a folder where a file next to an output is to be made: they stay."""
+    for arrange in (lambda place: place.symlink_to("nothing.txt"), lambda place: place.symlink_to("books.txt"),
+                    os.mkfifo, os.mkdir):
+        with tempfile.TemporaryDirectory(dir=path) as inner:
+            folder = Folder(inner)
+            arrange(folder.path / ".rxbatch-settlement.txt")
+            fault = answered(folder.run(program), 3, b"file 6\n")
+            fault = fault or untouched(folder, PLAIN_NAMES | {".rxbatch-settlement.txt"})
+            if fault:
+                return fault
+    return None
+
+
+def held_by_another(program, path):
+    """Outputs that another run is writing, in place and with --safe: the end books, and each of the others."""
+    for option, name in OUTPUTS.items():
+        for is_safe in (True, False) if option == "--books-out" else (True,):
+            with tempfile.TemporaryDirectory(dir=path) as inner:
+                folder = Folder(inner)
+                with open(folder.path / f".rxbatch-{name}", "w") as held:
+                    fcntl.flock(held, fcntl.LOCK_EX)
+                    ended = folder.run(program, is_safe=is_safe)
+                told = f"file {NUMBERS[option]}\n{option} {name}: another run is writing it\n"
+                fault = answered(ended, 3, told.encode()) or untouched(folder, PLAIN_NAMES | {f".rxbatch-{name}"})
+                if fault:
+                    return f"{option}, {'safe' if is_safe else 'in place'}: {fault}"
+    return None
 
 
 def limited_size(program, path):
@@ -264,8 +321,9 @@ def output_over_input(program, path):
 
 CASES = (
     new_outputs, earlier_outputs, refused_run, absent_input, absent_folder, locked_folder, followed_link, link_to_nothing,
-    device, protected_file, one_file, one_new_file, output_over_input, name_of_a_file_beside, path_of_a_folder,
-    left_by_a_kill, limited_size,
+    device, protected_file, one_file, one_new_file, output_over_input, name_of_a_file_beside, kept_files,
+    path_of_a_folder,
+    left_by_a_kill, in_the_way, held_by_another, limited_size,
 )
 
 
@@ -345,6 +403,24 @@ def small_disks(program):
     return tried, faults + ["no disk held a run"]
 
 
+def one_folder_twice(program):
+    """Two outputs that aren't there yet, through a folder that is mounted twice: how many runs, and what is wrong after one."""
+    faults = []
+    with tempfile.TemporaryDirectory(prefix="rxbatch-safe-") as path:
+        folder = Folder(path, earlier=False)
+        for name in ("one", "other"):
+            (folder.path / name).mkdir()
+        subprocess.run(["mount", "--bind", str(folder.path / "one"), str(folder.path / "other")], check=True)
+        try:
+            ended = folder.run(program, {"--response": "one/new", "--settlement": "other/new"})
+            fault = answered(ended, 2, b"rxbatch: --response and --settlement are the same file\n")
+            if fault or list((folder.path / "one").iterdir()):
+                faults.append(fault or "a file is left")
+        finally:
+            subprocess.run(["umount", str(folder.path / "other")], check=True)
+    return 1, faults
+
+
 def on_disk(program, path, disk):
     """A run whose outputs are on this disk, and what is wrong after it."""
     folder = Folder(path, earlier=False)
@@ -410,6 +486,7 @@ def main(words):
             print(f"{case.__doc__} {fault}")
     print(f"{len(CASES) - failed} passed, {failed} failed")
     sweeps = ((options.kills, cut_runs, "cut runs"), (options.disk, small_disks, "runs on small disks"),
+              (options.disk, one_folder_twice, "runs in a folder that is mounted twice"),
               (options.memory, refused_requests, "runs without memory"))
     for wanted, sweep, name in sweeps:
         if wanted:

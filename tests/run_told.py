@@ -503,19 +503,19 @@ STEPS = input_steps(PLAIN)
 SHARDS = "shards       1, the largest has 1 of 1 transaction\n"
 ENDINGS = (
     Ending("check without a batch file", with_words(("check",) + INPUTS, batch="none.bin"), 3,
-           "batch none.bin: No such file or directory (os error 2)\n", "file 3\n"),
+           "--batch none.bin: no such file or directory\n", "file 3\n"),
     Ending("check of a folder", with_words(("check",) + INPUTS, books="."), 3,
-           "books .: Is a directory (os error 21)\n", "file 2\n"),
+           "--books .: is a directory\n", "file 2\n"),
     Ending("check of the sheet alone", ("check", "--sheet", "sheet.toml"), 0, "", ""),
     Ending("check of sheet and batch", ("check", "--sheet", "sheet.toml", "--batch", "batch.bin"), 0, "", ""),
     Ending("check of an empty sheet", ("check", "--sheet", "/dev/null"), 1,
            '/dev/null: bin is missing: expected 6 digits in quotes, e.g. "900001"\n', "refused 3 2 1\n"),
     Ending("run -v without a sheet", with_words(("run", "-v") + INPUTS + RUN, sheet="none.toml"), 3, "",
-           "file 1\nsheet none.toml: No such file or directory (os error 2)\n"),
+           "file 1\n--sheet none.toml: no such file or directory\n"),
     Ending("run -v into a folder that isn't there", with_words(("run", "-v") + INPUTS + RUN, response="none/r"), 3, "",
-           "file 4\nresponse none/r: No such file or directory (os error 2)\n"),
+           "file 4\n--response none/r: no such file or directory\n"),
     Ending("run -v into a folder", with_words(("run", "-v") + INPUTS + RUN, settlement="."), 3, "",
-           "file 6\nsettlement .: Is a directory (os error 21)\n"),
+           "file 6\n--settlement .: is a directory\n"),
     Ending("run --verbose with 65 workers", with_words(("run", "--verbose") + INPUTS + RUN, workers="65"), 1, "",
            STEPS + "refused 1 0 0\n--workers 65: expected 1 to 64\n"),
     Ending("run -v with no such hour", with_words(("run", "-v") + INPUTS + RUN, stamp="202603022460"), 1, "",
@@ -525,7 +525,7 @@ ENDINGS = (
     Ending("run -v with a date for a stamp", with_words(("run", "-v") + INPUTS + RUN, stamp="20260302"), 1, "",
            STEPS + 'refused 2 0 0\n--stamp "20260302": expected 12 digits CCYYMMDDHHMM, e.g. 202603020600\n'),
     Ending("run -v on a full disk", with_words(("run", "-v") + INPUTS + RUN, response="/dev/full"), 3, "",
-           STEPS + "file 4\nresponse /dev/full: a write failed\n"),
+           STEPS + "file 4\n--response /dev/full: no space left on device\n"),
 )
 
 

@@ -3,7 +3,7 @@
 
     table.py FOLDER..      the folders of the pairs, out/*/
 
-A pair without a log was refused by `check`; one whose log has no whole line was cut.
+The last line of a log counts. A pair without a log was stopped by `check`; one whose last line isn't whole was cut.
 """
 import json
 import pathlib
@@ -13,10 +13,10 @@ COUNTS = ("paid", "duplicate", "approved", "rejected", "net")
 
 
 def log_of(folder):
-    """The log of a pair; None if it was cut or isn't there."""
+    """The last line of a pair's log; None if it was cut or isn't there."""
     try:
-        return json.loads((folder / "log.json").read_text())
-    except (OSError, ValueError):
+        return json.loads((folder / "log.json").read_text().splitlines()[-1])
+    except (OSError, ValueError, IndexError):
         return None
 
 

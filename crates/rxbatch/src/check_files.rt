@@ -1,12 +1,12 @@
 use crate::ending::Ending;
-use crate::fault_line::{long_words, read_words};
+use crate::file_fault::{FileFault, ProgramFile};
+use crate::shown_path::shown_path;
 use crate::standard_output::print;
 use crate::texts::text_of;
 use rx_check::Checked;
 use rx_cli::CheckWords;
 use rx_fields::Memory;
 use rx_io::{Device, Inputs};
-use rx_switch::IoFault;
 
 /// Prints the first fault of each input file in words, and what a run would take and an operator would hardly mean. It
 /// ends with the first fault, as a run would, and where there are only warnings with a status of its own.
@@ -43,14 +43,26 @@ fn text_if_given(
 // The ending where a file can't be read; why, is printed.
 fn unread(rt: &HostRuntime, words: &CheckWords<'_>, ending: Ending) -> Ending {
     let line = match &ending {
-        Ending::Io(IoFault::Read(device)) => read_words(rt, *device, path_of(words, *device)),
-        Ending::Io(IoFault::Long(device)) => long_words(rt, *device, path_of(words, *device)),
+        Ending::File(fault) => file_words(rt, words, fault),
         _ => return ending,
     };
     match told(rt, line) {
         Ok(()) => ending,
         Err(output) => output,
     }
+}
+
+fn file_words(
+    rt: &HostRuntime,
+    words: &CheckWords<'_>,
+    fault: &FileFault,
+) -> Result<String, Memory> {
+    let path = match fault.file {
+        ProgramFile::Of(device) => path_of(words, device),
+        _ => "",
+    };
+    let shown = shown_path(rt.alloc(), path)?;
+    fault.words(rt.alloc(), shown.as_str())
 }
 
 // Prints a line, where there was memory for it.
@@ -79,11 +91,12 @@ fn check_texts(rt: &HostRuntime, words: &CheckWords<'_>, texts: &Texts) -> Resul
         books: texts.books.as_ref().map(|text| text.as_slice()),
         batch: texts.batch.as_ref().map(|text| text.as_slice()),
     };
-    let names = Inputs {
-        sheet: words.sheet,
-        books: words.books.unwrap_or(""),
-        batch: words.batch.unwrap_or(""),
+    let shown = Inputs {
+        sheet: shown_path(rt.alloc(), words.sheet)?,
+        books: shown_path(rt.alloc(), words.books.unwrap_or(""))?,
+        batch: shown_path(rt.alloc(), words.batch.unwrap_or(""))?,
     };
+    let names = shown.as_ref().map(|name| name.as_str());
     let Checked {
         text,
         refusal,

@@ -56,10 +56,7 @@ pub fn sample(rt: &HostRuntime) -> Result<(), Ending> {
 
 /// Prints the version, which the words ask for.
 pub fn version(rt: &HostRuntime, asked: &WordsFault) -> Result<(), Ending> {
-    match print!(rt; "{asked}") {
-        Ok(()) => Ok(()),
-        Err(_) => Err(Ending::Output),
-    }
+    print!(rt; "{asked}").map_err(Ending::of_standard_output)
 }
 
 /// Prints a line for each answer of a response file.

@@ -1,8 +1,11 @@
+use crate::file_fault::{FileFault, ProgramFile, Reason};
 use rx_batch::BatchFault;
 use rx_cli::WordsFault;
 use rx_commands::ExplainFault;
 use rx_fields::Memory;
+use rx_io::Device;
 use rx_switch::{IoFault, SwitchFault, told};
+use std::alloc::Global;
 use std::io;
 
 /// How the program ends where its work isn't done (docs/CLI.md, "Exit statuses").
@@ -10,16 +13,18 @@ use std::io;
 pub enum Ending {
     /// A word of the command line isn't text.
     NoText,
-    /// The files of these two options are one regular file, as far as the system says.
+    /// These are one regular file, as far as the system says: the files of two options, or one and a standard stream.
     OneFile(&'static str, &'static str),
     /// The path of this option is there, and leads to no regular file; `--safe` replaces no other.
     NotPlain(&'static str),
     /// The words aren't understood, or memory ran out while they were read.
     Words(WordsFault),
-    /// The run is refused, or a file failed.
-    Io(IoFault),
-    /// The run is refused, or a file failed, with a line in words.
-    InWords(IoFault, String),
+    /// The inputs are refused, or memory ran out.
+    Refused(SwitchFault),
+    /// A file failed.
+    File(FileFault),
+    /// One of these two, with a line in words.
+    InWords(Numbers, String),
     /// The text isn't a response file.
     Response(BatchFault),
     /// A check found only warnings.
@@ -28,21 +33,26 @@ pub enum Ending {
     NotFound,
     /// A file isn't what the inputs give; what differs was printed.
     Differs,
-    /// Standard output failed.
-    Output,
-    /// The log failed.
-    Log,
+}
+
+/// What the line of numbers says of a run that isn't done.
+#[derive(Clone, Copy, Debug, PartialEq, Eq)]
+pub enum Numbers {
+    /// The three numbers of a refusal.
+    Refused([u64; 3]),
+    /// The number of a file that failed.
+    File(u64),
 }
 
 impl From<SwitchFault> for Ending {
     fn from(fault: SwitchFault) -> Ending {
-        Ending::Io(IoFault::Switch(fault))
+        Ending::Refused(fault)
     }
 }
 
 impl From<Memory> for Ending {
     fn from(_refused: Memory) -> Ending {
-        Ending::Io(IoFault::Switch(SwitchFault::Memory))
+        Ending::Refused(SwitchFault::Memory)
     }
 }
 
@@ -64,6 +74,52 @@ impl Ending {
         }
     }
 
+    /// The ending where a call on an output failed.
+    pub fn of_output(device: Device, error: io::Error) -> Ending {
+        match error.kind() {
+            io::ErrorKind::OutOfMemory => Ending::from(Memory),
+            _ => Ending::File(FileFault::of(device, error)),
+        }
+    }
+
+    /// The ending of a run on devices, with what the system answered last, where that call failed.
+    pub fn of_run(fault: IoFault, last: Option<io::Error>) -> Ending {
+        let (device, reason) = match fault {
+            IoFault::Switch(refused) => return Ending::Refused(refused),
+            IoFault::Long(device) => (device, Reason::Long),
+            IoFault::Read(device) | IoFault::Write(device) => match last {
+                Some(error) => (device, Reason::System(error)),
+                None => (device, Reason::Unknown),
+            },
+        };
+        let file = ProgramFile::Of(device);
+        Ending::File(FileFault { file, reason })
+    }
+
+    /// The ending where another run has an output.
+    pub fn busy(device: Device) -> Ending {
+        Ending::File(FileFault {
+            file: ProgramFile::Of(device),
+            reason: Reason::Busy,
+        })
+    }
+
+    /// The ending where a call on the log failed.
+    pub fn of_log(error: io::Error) -> Ending {
+        Ending::File(FileFault {
+            file: ProgramFile::Log,
+            reason: Reason::System(error),
+        })
+    }
+
+    /// The ending where a call on standard output failed.
+    pub fn of_standard_output(error: io::Error) -> Ending {
+        Ending::File(FileFault {
+            file: ProgramFile::Output,
+            reason: Reason::System(error),
+        })
+    }
+
     /// The exit status: 1 for a refused input, 2 for words, 3 for a file, 4 for only warnings and for a claim that isn't
     /// there, 5 where a file differs.
     pub fn status(&self) -> u8 {
@@ -71,39 +127,44 @@ impl Ending {
             Ending::NoText | Ending::OneFile(..) | Ending::NotPlain(_) => 2,
             Ending::Words(WordsFault::Words(_)) => 2,
             Ending::Words(WordsFault::Memory) => 1,
-            Ending::Io(fault) | Ending::InWords(fault, _) => told(fault).status,
+            Ending::Refused(_) | Ending::InWords(Numbers::Refused(_), _) => 1,
+            Ending::File(_) | Ending::InWords(Numbers::File(_), _) => 3,
             Ending::Response(_) => 1,
             Ending::Warned | Ending::NotFound => 4,
             Ending::Differs => 5,
-            Ending::Output | Ending::Log => 3,
         }
     }
 
-    /// The three numbers of a refused run.
-    pub fn refused(&self) -> Option<[u64; 3]> {
+    /// The numbers of a refused run, or of a file that failed.
+    pub fn numbers(&self) -> Option<Numbers> {
         match self {
-            Ending::Io(fault) | Ending::InWords(fault, _) => match fault {
-                IoFault::Switch(_) => Some(told(fault).numbers),
-                _ => None,
-            },
+            Ending::Refused(fault) => Some(numbers_of(*fault)),
+            Ending::File(fault) => Some(Numbers::File(fault.file.number())),
+            Ending::InWords(numbers, _) => Some(*numbers),
             _ => None,
         }
     }
 
-    /// The number of a file that failed.
-    pub fn file(&self) -> Option<u64> {
+    /// The same with a line in words after its numbers.
+    pub fn in_words(self, line: String) -> Ending {
+        match self.numbers() {
+            Some(numbers) => Ending::InWords(numbers, line),
+            None => self,
+        }
+    }
+
+    /// The ending in words where its options are at fault.
+    pub fn words(&self, alloc: Global) -> Option<String> {
         match self {
-            Ending::Io(fault) | Ending::InWords(fault, _) => match fault {
-                IoFault::Switch(_) => None,
-                _ => Some(told(fault).numbers[0]),
-            },
-            Ending::Output => Some(0),
-            Ending::Log => Some(7),
+            Ending::OneFile(one, other) => {
+                format!(in alloc; "{one} and {other} are the same file").ok()
+            }
+            Ending::NotPlain(one) => format!(in alloc; "{one} isn't a regular file").ok(),
             _ => None,
         }
     }
 
-    /// Writes the line or the text of it to standard error.
+    /// Writes the line or the text of it to standard error; nothing where the reader of standard output is gone.
     pub fn tell(&self, rt: &HostRuntime) {
         let _ = match self {
             Ending::NoText => eprintln!(rt; "rxbatch: an argument isn't valid UTF-8"),
@@ -112,9 +173,11 @@ impl Ending {
             ),
             Ending::NotPlain(one) => eprintln!(rt; "rxbatch: {one} isn't a regular file"),
             Ending::Words(fault) => eprint!(rt; "{fault}"),
-            Ending::Io(fault) => tell_numbers(rt, fault),
-            Ending::InWords(fault, line) => {
-                let _ = tell_numbers(rt, fault);
+            Ending::Refused(fault) => tell_numbers(rt, numbers_of(*fault)),
+            Ending::File(fault) if fault.is_closed_output() => Ok(()),
+            Ending::File(fault) => tell_numbers(rt, Numbers::File(fault.file.number())),
+            Ending::InWords(numbers, line) => {
+                let _ = tell_numbers(rt, *numbers);
                 eprintln!(rt; "{line}")
             }
             Ending::Response(fault) => {
@@ -123,17 +186,28 @@ impl Ending {
             }
             Ending::NotFound => eprintln!(rt; "rxbatch: no such claim"),
             Ending::Warned | Ending::Differs => Ok(()),
-            Ending::Output => eprintln!(rt; "file 0"),
-            Ending::Log => eprintln!(rt; "file 7"),
         };
     }
 }
 
+// The three numbers of a refusal.
+fn numbers_of(refused: SwitchFault) -> Numbers {
+    Numbers::Refused(told(&IoFault::Switch(refused)).numbers)
+}
+
 // Writes the line of a refused run, or of a file that failed.
-fn tell_numbers(rt: &HostRuntime, fault: &IoFault) -> io::Result<()> {
-    let [first, second, third] = told(fault).numbers;
-    match fault {
-        IoFault::Switch(_) => eprintln!(rt; "refused {first} {second} {third}"),
-        _ => eprintln!(rt; "file {first}"),
+fn tell_numbers(rt: &HostRuntime, numbers: Numbers) -> io::Result<()> {
+    match numbers {
+        Numbers::Refused(numbers) => tell_refusal(rt, numbers),
+        Numbers::File(number) => tell_file(rt, number),
     }
+}
+
+fn tell_refusal(rt: &HostRuntime, numbers: [u64; 3]) -> io::Result<()> {
+    let [first, second, third] = numbers;
+    eprintln!(rt; "refused {first} {second} {third}")
+}
+
+fn tell_file(rt: &HostRuntime, number: u64) -> io::Result<()> {
+    eprintln!(rt; "file {number}")
 }

@@ -1,55 +1,87 @@
-use crate::ending::Ending;
-use crate::files::source;
+use crate::ending::{Ending, Numbers};
+use crate::file_fault::{FileFault, ProgramFile};
+use crate::read_again::ReadInputs;
+use crate::shown_path::shown_path;
 use rx_check::{Input, RunInputs, fault_words};
 use rx_cli::RunWords;
-use rx_fields::Memory;
-use rx_io::Device;
-use rx_switch::{IoFault, SwitchFault, read_all};
-use std::fs::OpenOptions;
-use std::io::Read;
-use std::{fs, io};
+use rx_fields::{MOST_LINES, Memory};
+use rx_io::{Device, Inputs};
+use rx_run_log::Traffic;
+use rx_switch::SwitchFault;
 
-/// The ending of a run that is asked to say what it does: a fault with a line in words after its numbers. The input at
-/// fault is read again for them; one that isn't a regular file, as a pipe, is described without a quotation.
-pub fn explained(
+/// The ending of a run of which a file failed, with a line in words after its number.
+pub fn explained(rt: &HostRuntime, words: &RunWords<'_>, fault: FileFault) -> Ending {
+    match file_words(rt, words, &fault) {
+        Ok(line) => Ending::InWords(Numbers::File(fault.file.number()), line),
+        Err(Memory) => Ending::File(fault),
+    }
+}
+
+/// A file that failed, in words.
+pub fn file_words(
     rt: &HostRuntime,
     words: &RunWords<'_>,
-    done: Result<(), Ending>,
-) -> Result<(), Ending> {
-    match done {
-        Err(Ending::Io(fault)) => match in_words(rt, words, fault) {
-            Ok(line) => Err(Ending::InWords(fault, line)),
-            Err(Memory) => Err(Ending::Io(fault)),
-        },
-        other => other,
-    }
+    fault: &FileFault,
+) -> Result<String, Memory> {
+    let path = match fault.file {
+        ProgramFile::Of(device) => path_of(words, device),
+        ProgramFile::Log => words.log.unwrap_or(""),
+        ProgramFile::Output => "",
+    };
+    let shown = shown_path(rt.alloc(), path)?;
+    fault.words(rt.alloc(), shown.as_str())
 }
 
-fn in_words(rt: &HostRuntime, words: &RunWords<'_>, fault: IoFault) -> Result<String, Memory> {
-    match fault {
-        IoFault::Switch(refused) => refused_words(rt, words, refused),
-        IoFault::Read(device) => read_words(rt, device, path_of(words, device)),
-        IoFault::Long(device) => long_words(rt, device, path_of(words, device)),
-        IoFault::Write(device) => write_words(rt, device, path_of(words, device)),
+/// What an operator should know of end books with this number of lines, in words; none where a run can read them.
+pub fn long_books_words(rt: &HostRuntime, words: &RunWords<'_>, lines: u64) -> Option<String> {
+    if lines <= MOST_LINES as u64 {
+        return None;
     }
+    let shown = shown_path(rt.alloc(), words.outputs.books).ok()?;
+    format!(in rt.alloc();
+        "--books-out {shown}: {lines} lines, and no run reads books of more than {MOST_LINES}"
+    ).ok()
 }
 
-// A refusal in words.
-fn refused_words(
+/// A refusal in words. The input at fault is read again for them: one that isn't a regular file, as a pipe, or that has other
+/// bytes by now, is described without a quotation.
+pub fn refused_words(
     rt: &HostRuntime,
     words: &RunWords<'_>,
     refused: SwitchFault,
+    read: &ReadInputs<'_>,
+    traffic: &Inputs<Traffic>,
 ) -> Result<String, Memory> {
-    let text = match device_of(refused) {
-        Some(device) => again(rt, path_of(words, device), device),
-        None => None,
+    let alloc = rt.alloc();
+    let text = read.again(rt, refused, traffic);
+    let names = Inputs {
+        sheet: shown_path(alloc, words.inputs.sheet)?,
+        books: shown_path(alloc, words.inputs.books)?,
+        batch: shown_path(alloc, words.inputs.batch)?,
     };
-    let run = RunInputs {
-        inputs: words.inputs.map(|name| given(name, &text)),
-        stamp: words.stamp,
-        workers: words.workers,
-    };
-    fault_words(rt.alloc(), refused, &run)
+    fault_words(
+        alloc,
+        refused,
+        &run_inputs(&names, &text, words.stamp, words.workers),
+    )
+}
+
+// The inputs of a run under the names that are shown, with the bytes of the one that is at fault.
+fn run_inputs<'a>(
+    names: &'a Inputs<String>,
+    text: &'a Option<Vec<u8>>,
+    stamp: &'a str,
+    workers: u16,
+) -> RunInputs<'a> {
+    RunInputs {
+        inputs: Inputs {
+            sheet: given(names.sheet.as_str(), text),
+            books: given(names.books.as_str(), text),
+            batch: given(names.batch.as_str(), text),
+        },
+        stamp,
+        workers,
+    }
 }
 
 // A file with this name, and its bytes where they are there.
@@ -60,82 +92,6 @@ fn given<'a>(name: &'a str, text: &'a Option<Vec<u8>>) -> Input<'a> {
             text: Some(text.as_slice()),
         },
         None => Input { name, text: None },
-    }
-}
-
-// The input that is at fault.
-fn device_of(refused: SwitchFault) -> Option<Device> {
-    match refused {
-        SwitchFault::Sheet(_) => Some(Device::Sheet),
-        SwitchFault::Books(_) => Some(Device::Books),
-        SwitchFault::Batch(_) => Some(Device::Batch),
-        _ => None,
-    }
-}
-
-// The bytes of a regular file once more.
-fn again(rt: &HostRuntime, path: &str, device: Device) -> Option<Vec<u8>> {
-    let metadata = fs::metadata(rt, path).ok()?;
-    if !metadata.is_file() {
-        return None;
-    }
-    let mut source = source(rt, path, device).ok()?;
-    read_all(rt.alloc(), &mut source, device).ok()
-}
-
-/// An input that is too long.
-pub fn long_words(rt: &HostRuntime, device: Device, path: &str) -> Result<String, Memory> {
-    let name = device.name();
-    Ok(format!(in rt.alloc();
-        "{name} {path}: more than 268435456 bytes, or more than 4194304 reads"
-    )?)
-}
-
-/// Why an input can't be had: what the system answers where it is opened and read again.
-pub fn read_words(rt: &HostRuntime, device: Device, path: &str) -> Result<String, Memory> {
-    let name = device.name();
-    match read_again(rt, path) {
-        Err(error) => Ok(format!(in rt.alloc(); "{name} {path}: {error}")?),
-        Ok(()) => Ok(format!(in rt.alloc(); "{name} {path}: a read failed")?),
-    }
-}
-
-// Reads a byte of a regular file or a folder. A pipe could wait for ever, and isn't opened again.
-fn read_again(rt: &HostRuntime, path: &str) -> io::Result<()> {
-    let metadata = fs::metadata(rt, path)?;
-    if metadata.is_file() || metadata.is_dir() {
-        let mut file = fs::open(rt, path)?;
-        file.read(&mut [0])?;
-    }
-    Ok(())
-}
-
-// Why an output can't be had: what the system answers where it is opened or made again.
-fn write_words(rt: &HostRuntime, device: Device, path: &str) -> Result<String, Memory> {
-    let name = device.name();
-    match open_again(rt, path) {
-        Err(error) => Ok(format!(in rt.alloc(); "{name} {path}: {error}")?),
-        Ok(()) => Ok(format!(in rt.alloc(); "{name} {path}: a write failed")?),
-    }
-}
-
-// Opens a regular file or a folder for writing, and makes a file that isn't there, for a moment. A pipe could wait for
-// ever, and isn't opened again.
-fn open_again(rt: &HostRuntime, path: &str) -> io::Result<()> {
-    match fs::metadata(rt, path) {
-        Ok(metadata) => {
-            if metadata.is_file() || metadata.is_dir() {
-                OpenOptions::new().write(true).open(rt, path)?;
-            }
-            Ok(())
-        }
-        Err(_) => {
-            OpenOptions::new()
-                .write(true)
-                .create_new(true)
-                .open(rt, path)?;
-            fs::remove_file(rt, path)
-        }
     }
 }
 

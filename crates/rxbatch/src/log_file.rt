@@ -1,39 +1,40 @@
 //! The file of a run's log.
 use crate::ending::Ending;
-use crate::files::OutputFile;
 use crate::nodes::Node;
+use crate::output_file::OutputFile;
+use crate::streams::stream_of;
 use rx_cli::RunWords;
 use rx_io::Device;
-use std::fs;
 use std::io::Write;
+use std::{fs, io};
 
-/// The file of a log, empty so far.
+/// The file of a log, to which the line of a run is added.
 #[derive(Drop)]
 pub struct LogFile {
     output: OutputFile,
 }
 
 impl LogFile {
-    /// Opens the file, which is made where it isn't there, and empties it. One that is another file of the run, as far as
-    /// the system says, is refused.
+    /// Opens the file, which is made where it isn't there. One that is another file of the run or that a standard stream
+    /// leads to, as far as the system says, is refused.
     pub fn open(rt: &HostRuntime, path: &str, words: &RunWords<'_>) -> Result<LogFile, Ending> {
-        let Ok(output) = OutputFile::open(rt, path) else {
-            return Err(Ending::Log);
-        };
+        let output = OutputFile::open_to_append(rt, path).map_err(Ending::of_log)?;
         let log = LogFile { output };
-        if let Some(device) = log.is_one_of(rt, words) {
-            log.output.remove_made(rt, path);
-            return Err(Ending::OneFile(device.option(), "--log"));
+        if let Some(other) = log.other_name(rt, words) {
+            log.output.remove_made(rt);
+            return Err(Ending::OneFile(other, "--log"));
         }
-        match log.output.empty() {
-            Ok(()) => Ok(log),
-            Err(_) => Err(Ending::Log),
-        }
+        Ok(log)
     }
 
-    // The file of the run that is this one.
-    fn is_one_of(&self, rt: &HostRuntime, words: &RunWords<'_>) -> Option<Device> {
-        let node = Node::of(&self.output.file);
+    /// What the system says of the file.
+    pub fn node(&self) -> Node {
+        Node::of(&self.output.file)
+    }
+
+    // The option of the run's file, or the standard stream, that is this one.
+    fn other_name(&self, rt: &HostRuntime, words: &RunWords<'_>) -> Option<&'static str> {
+        let node = self.node();
         let (inputs, outputs) = (words.inputs, words.outputs);
         let files = [
             (Device::Sheet, inputs.sheet),
@@ -46,18 +47,20 @@ impl LogFile {
         for (device, path) in files {
             if let Ok(metadata) = fs::metadata(rt, path) {
                 if node.may_be(Node::in_metadata(&metadata)) {
-                    return Some(device);
+                    return Some(device.option());
                 }
             }
         }
-        None
+        stream_of(rt, node)
     }
 
-    /// Writes the line, and brings it to the disk.
-    pub fn write(mut self, line: &str) -> Result<(), Ending> {
-        let is_written = self.output.file.write_all(line.as_bytes()).is_ok()
-            && self.output.file.write_all(b"\n").is_ok()
-            && self.output.keep().is_ok();
-        if is_written { Ok(()) } else { Err(Ending::Log) }
+    /// Adds a line, which ends with a line feed, by one write, and brings it to the disk.
+    pub fn add(mut self, rt: &HostRuntime, line: &str) -> Result<(), Ending> {
+        self.put(rt, line).map_err(Ending::of_log)
+    }
+
+    fn put(&mut self, rt: &HostRuntime, line: &str) -> io::Result<()> {
+        self.output.file.write_all(line.as_bytes())?;
+        self.output.keep(rt)
     }
 }

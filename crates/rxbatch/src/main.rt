@@ -21,18 +21,27 @@
 //! `rx_commands`, `rx_show` or `rx_switch`. Here files are opened and read, and texts, refusals and exit statuses written.
 #![tactic(auto)]
 
+mod beside_file;
 mod check_files;
 mod commands;
 mod ending;
 mod fault_line;
+mod file_fault;
 mod files;
+mod in_place;
 mod log_file;
 mod nodes;
+mod noted_file;
+mod output_file;
 mod outputs;
+mod places;
+mod read_again;
 mod run_files;
 mod run_gate;
 mod safe_files;
+mod shown_path;
 mod standard_output;
+mod streams;
 mod teller;
 mod texts;
 mod told_source;
@@ -44,8 +53,10 @@ use std::process::ExitCode;
 use std::sync::Wait;
 use std::thread::Threads;
 use std::{env, io};
+use streams::TakenStreams;
 
 fn main(rt: HostRuntime) -> ExitCode {
+    let _streams = TakenStreams::take(&rt);
     match perform(&rt, &rt) {
         Ok(()) => ExitCode::SUCCESS,
         Err(ending) => {
@@ -59,9 +70,6 @@ fn main(rt: HostRuntime) -> ExitCode {
 fn perform<R: Threads + Wait + Sync>(rt: &HostRuntime, threads: &R) -> Result<(), Ending> {
     let words = words(rt)?;
     match command(rt.alloc(), words.as_slice()) {
-        Ok(Command::Run(words)) if words.verbose => {
-            fault_line::explained(rt, &words, run_files::run(rt, threads, &words))
-        }
         Ok(Command::Run(words)) => run_files::run(rt, threads, &words),
         Ok(Command::Show(words)) => commands::show(rt, threads, &words),
         Ok(Command::Sample) => commands::sample(rt),

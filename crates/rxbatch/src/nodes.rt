@@ -30,6 +30,11 @@ impl Node {
         }
     }
 
+    /// Whether these are one regular file.
+    pub fn is_same(self, other: Node) -> bool {
+        matches!(self, Node::Plain(..)) && self == other
+    }
+
     /// Whether these may be one regular file: they are, or the system doesn't say.
     pub fn may_be(self, other: Node) -> bool {
         match (self, other) {

@@ -5,11 +5,9 @@ use std::io::Write;
 
 /// Writes a text to standard output.
 pub fn print(rt: &HostRuntime, text: &[u8]) -> Result<(), Ending> {
-    let mut out = io::writer(rt);
-    if out.write_all(text).is_err() || out.flush().is_err() {
-        return Err(Ending::Output);
-    }
-    Ok(())
+    io::writer(rt)
+        .write_all(text)
+        .map_err(Ending::of_standard_output)
 }
 
 /// Writes what a command prints, and ends as the command does.

@@ -1,19 +1,22 @@
 //! The files that a command reads whole.
 use crate::ending::Ending;
-use crate::files::{input_of, open_inputs, source};
+use crate::files::{open_input, open_inputs};
+use crate::noted_file::{LastError, noted_input};
 use rx_io::{Device, Inputs};
 use rx_switch::read_all;
+use std::cell::Cell;
 use std::fs::File;
 
 /// The whole text of the file at a path.
 pub fn text_of(rt: &HostRuntime, path: &str, device: Device) -> Result<Vec<u8>, Ending> {
-    let mut file = source(rt, path, device)?;
-    read_all(rt.alloc(), &mut file, device).map_err(Ending::Io)
+    text_in(rt, &open_input(rt, path, device)?, device)
 }
 
 /// The whole text of an opened file.
 pub fn text_in(rt: &HostRuntime, file: &File, device: Device) -> Result<Vec<u8>, Ending> {
-    read_all(rt.alloc(), &mut input_of(file), device).map_err(Ending::Io)
+    let last: LastError = Cell::new(None);
+    let mut source = noted_input(file, &last);
+    read_all(rt.alloc(), &mut source, device).map_err(|fault| Ending::of_run(fault, last.get()))
 }
 
 /// Opens and reads the inputs of a job, one after another in the order of their numbers.

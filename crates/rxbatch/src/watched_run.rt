@@ -1,59 +1,83 @@
-//! A run that is logged: what passes through its files is watched, and reported in a line.
-use crate::ending::Ending;
+//! A run that is watched: what passes through its files is counted, reported on standard error, and kept in a log.
+use crate::ending::{Ending, Numbers};
+use crate::fault_line::{file_words, refused_words};
 use crate::log_file::LogFile;
+use crate::nodes::Node;
+use crate::noted_file::{LastError, noted_output};
+use crate::read_again::ReadInputs;
 use crate::run_files::RunFiles;
 use crate::teller::Teller;
 use crate::told_source::ToldSource;
 use rx_cli::{RunWords, VERSION};
-use rx_io::{Inputs, Outputs, WriterSink};
+use rx_io::{Inputs, Outputs};
 use rx_run_log::{
-    FileSum, Lot, RunLog, RunTimes, RunTraffic, Shards, Step, Totals, Watched, log_line,
+    FileLog, FileSum, Lot, RunLog, RunTimes, RunTraffic, Shards, Step, Totals, Traffic, Watched,
+    log_line,
 };
-use rx_switch::run_io;
-use std::fs;
+use rx_switch::{IoFault, run_io};
+use std::alloc::AllocError;
+use std::cell::Cell;
 use std::sync::Wait;
 use std::thread::Threads;
 use std::time::Clock;
+use std::{fs, io};
 
-/// Adjudicates a batch file, and writes the log, of a refused run too. A log that fails after a run that is done ends the
-/// program as a file fault.
+/// Adjudicates a batch file, and adds a line to its log, if it has one, of a refused run too. A log that fails after a run
+/// that is done ends the program as a file fault. A fault is reported in words too where that is asked for. The answer is how
+/// many lines the end books have.
 pub fn run<R: Threads + Wait + Sync>(
     rt: &HostRuntime,
     threads: &R,
     words: &RunWords<'_>,
-    path: &str,
-) -> Result<(), Ending> {
-    let log = LogFile::open(rt, path, words)?;
-    let run = watched(rt, threads, words);
-    let written = match line(rt, words, &run) {
-        Some(line) => log.write(line.as_str()),
-        None => Err(Ending::Log),
+) -> Result<u64, Ending> {
+    let log = match words.log {
+        Some(path) => Some(LogFile::open(rt, path, words)?),
+        None => None,
     };
-    match run.done {
-        Ok(()) => written,
-        Err(ending) => Err(ending),
+    let node = log.as_ref().map_or(Node::Other, |log| log.node());
+    let run = watched(rt, threads, words, node);
+    let lines = run.traffic.outputs.books.line_feeds();
+    let logged = match log {
+        Some(log) => add_line(rt, words, log, &run),
+        None => Ok(()),
+    };
+    match (run.done, run.fault) {
+        (Ok(()), _) => {
+            logged?;
+            Ok(lines)
+        }
+        (Err(ending), Some(line)) if words.verbose => Err(ending.in_words(line)),
+        (Err(ending), _) => Err(ending),
     }
 }
 
-/// A run that was watched.
+// A run that was watched.
 #[derive(Drop)]
-pub struct WatchedRun {
-    pub done: Result<(), Ending>,
-    pub traffic: RunTraffic,
-    pub shards: Option<Shards>,
-    pub times: RunTimes,
+struct WatchedRun {
+    done: Result<(), Ending>,
+    // Why it isn't done, in words.
+    fault: Option<String>,
+    traffic: RunTraffic,
+    shards: Option<Shards>,
+    times: RunTimes,
 }
 
-/// Adjudicates a batch file, and watches its files. The steps are reported on standard error where that is asked for.
-pub fn watched<R: Threads + Wait + Sync>(
+// Adjudicates a batch file, and watches its files. The steps are reported on standard error where that is asked for.
+fn watched<R: Threads + Wait + Sync>(
     rt: &HostRuntime,
     threads: &R,
     words: &RunWords<'_>,
+    log: Node,
 ) -> WatchedRun {
     let teller = Teller::new(rt, words);
-    let (done, traffic) = match RunFiles::open(rt, words) {
+    let (done, fault, traffic) = match RunFiles::open(rt, words, log) {
         Ok(files) => on_files(rt, threads, words, files, &teller),
-        Err(ending) => (Err(ending), RunTraffic::nothing()),
+        Err(ending) => (Err(ending), None, RunTraffic::nothing()),
+    };
+    let fault = match (&done, fault) {
+        (Err(Ending::File(fault)), None) => file_words(rt, words, fault).ok(),
+        (Err(ending), None) => ending.words(rt.alloc()),
+        (_, fault) => fault,
     };
     let times = RunTimes {
         begin: teller.begin(),
@@ -64,32 +88,38 @@ pub fn watched<R: Threads + Wait + Sync>(
     }
     WatchedRun {
         done,
+        fault,
         traffic,
         shards: teller.shards(),
         times,
     }
 }
 
-// The run on its files, and what passed through them.
+// The run on its files, a refusal in words, and what passed through the files.
 fn on_files<R: Threads + Wait + Sync>(
     rt: &HostRuntime,
     threads: &R,
     words: &RunWords<'_>,
     files: RunFiles,
     teller: &Teller<'_>,
-) -> (Result<(), Ending>, RunTraffic) {
+) -> (Result<(), Ending>, Option<String>, RunTraffic) {
     let alloc = rt.alloc();
     // Only the log has sums.
     let sums = words.sums && words.log.is_some();
+    let last: LastError = Cell::new(None);
     let RunFiles { inputs, outputs } = files;
+    let read = ReadInputs::new(&inputs);
     let mut sources = Inputs {
-        sheet: ToldSource::new(rt, &inputs.sheet, Step::Sheet, teller, sums),
-        books: ToldSource::new(rt, &inputs.books, Step::Books, teller, sums),
-        batch: ToldSource::new(rt, &inputs.batch, Step::Batch, teller, sums),
+        sheet: ToldSource::new(rt, &inputs.sheet, &last, Step::Sheet, teller, sums),
+        books: ToldSource::new(rt, &inputs.books, &last, Step::Books, teller, sums),
+        batch: ToldSource::new(rt, &inputs.batch, &last, Step::Batch, teller, sums),
     };
-    let mut sinks = outputs
-        .files()
-        .map(|file| Watched::new(WriterSink::new(file), rt, sums));
+    let files = outputs.files();
+    let mut sinks = Outputs {
+        response: Watched::new(noted_output(files.response, &last), rt, sums),
+        books: Watched::new(noted_output(files.books, &last), rt, sums),
+        settlement: Watched::new(noted_output(files.settlement, &last), rt, sums),
+    };
     let done = run_io(
         threads,
         alloc,
@@ -104,16 +134,42 @@ fn on_files<R: Threads + Wait + Sync>(
         inputs: sources.map(|source| source.into_traffic()),
         outputs: sinks.map(|sink| sink.into_traffic()),
     };
-    (outputs.end(rt, done.map_err(Ending::Io)), traffic)
+    let fault = refusal_of(rt, words, &done, &read, &traffic.inputs);
+    let done = done.map_err(|fault| Ending::of_run(fault, last.get()));
+    (outputs.end(rt, done), fault, traffic)
 }
 
-// The line of the log; none where memory runs out for it.
-fn line(rt: &HostRuntime, words: &RunWords<'_>, run: &WatchedRun) -> Option<String> {
+// The refusal of a run, in words.
+fn refusal_of(
+    rt: &HostRuntime,
+    words: &RunWords<'_>,
+    done: &Result<(), IoFault>,
+    read: &ReadInputs<'_>,
+    traffic: &Inputs<Traffic>,
+) -> Option<String> {
+    match done {
+        Err(IoFault::Switch(refused)) => refused_words(rt, words, *refused, read, traffic).ok(),
+        _ => None,
+    }
+}
+
+// Adds the line of the run to its log.
+fn add_line(
+    rt: &HostRuntime,
+    words: &RunWords<'_>,
+    log: LogFile,
+    run: &WatchedRun,
+) -> Result<(), Ending> {
+    match line(rt, words, run) {
+        Ok(line) => log.add(rt, line.as_str()),
+        Err(refused) => Err(Ending::of_log(io::Error::from(refused))),
+    }
+}
+
+// The line of the log, with its line feed.
+fn line(rt: &HostRuntime, words: &RunWords<'_>, run: &WatchedRun) -> Result<String, AllocError> {
     let alloc = rt.alloc();
-    let (status, refused, file) = match &run.done {
-        Ok(()) => (0, None, None),
-        Err(ending) => (ending.status(), ending.refused(), ending.file()),
-    };
+    let (status, refused, file) = end_of(&run.done);
     let (inputs, outputs) = (&run.traffic.inputs, &run.traffic.outputs);
     let read = inputs.as_ref().map(|file| FileSum::of(alloc, file));
     let written = outputs.as_ref().map(|file| FileSum::of(alloc, file));
@@ -130,20 +186,45 @@ fn line(rt: &HostRuntime, words: &RunWords<'_>, run: &WatchedRun) -> Option<Stri
         shards: run.shards,
         lot: Lot::of_batch(inputs.batch.front()),
         totals: Totals::of_settlement(outputs.settlement.end()),
-        inputs: Inputs {
-            sheet: read.sheet.log(words.inputs.sheet),
-            books: read.books.log(words.inputs.books),
-            batch: read.batch.log(words.inputs.batch),
-        },
-        outputs: Outputs {
-            response: written.response.log(words.outputs.response),
-            books: written.books.log(words.outputs.books),
-            settlement: written.settlement.log(words.outputs.settlement),
-        },
+        inputs: inputs_in_log(&read, &words.inputs),
+        outputs: outputs_in_log(&written, &words.outputs),
         steps: run.traffic.steps(run.times),
         peak: peak(rt),
     };
-    log_line(alloc, &log).ok()
+    let mut line = log_line(alloc, &log)?;
+    line.push('\n')?;
+    Ok(line)
+}
+
+fn inputs_in_log<'a>(sums: &'a Inputs<FileSum>, paths: &Inputs<&'a str>) -> Inputs<FileLog<'a>> {
+    Inputs {
+        sheet: sums.sheet.log(paths.sheet),
+        books: sums.books.log(paths.books),
+        batch: sums.batch.log(paths.batch),
+    }
+}
+
+fn outputs_in_log<'a>(
+    sums: &'a Outputs<FileSum>,
+    paths: &Outputs<&'a str>,
+) -> Outputs<FileLog<'a>> {
+    Outputs {
+        response: sums.response.log(paths.response),
+        books: sums.books.log(paths.books),
+        settlement: sums.settlement.log(paths.settlement),
+    }
+}
+
+// The exit status of a run, the numbers of a refusal, and that of a file that failed.
+fn end_of(done: &Result<(), Ending>) -> (u8, Option<[u64; 3]>, Option<u64>) {
+    match done {
+        Ok(()) => (0, None, None),
+        Err(ending) => match ending.numbers() {
+            Some(Numbers::Refused(numbers)) => (ending.status(), Some(numbers), None),
+            Some(Numbers::File(number)) => (ending.status(), None, Some(number)),
+            None => (ending.status(), None, None),
+        },
+    }
 }
 
 /// The most memory that the program had, in kilobytes, where the system says it.

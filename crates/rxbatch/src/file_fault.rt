@@ -1,0 +1,132 @@
+//! A file that failed: which one, and why.
+use rx_fields::Memory;
+use rx_io::Device;
+use std::alloc::{AllocError, Global};
+use std::io;
+
+/// A file that the program reads or writes.
+#[derive(Clone, Copy, Debug, PartialEq, Eq)]
+pub enum ProgramFile {
+    /// One of the six files of a run.
+    Of(Device),
+    /// The log of a run.
+    Log,
+    /// Standard output.
+    Output,
+}
+
+impl ProgramFile {
+    /// The number of the line `file K` (docs/CLI.md, "Exit statuses").
+    pub fn number(self) -> u64 {
+        match self {
+            ProgramFile::Of(device) => u64::from(device.number()),
+            ProgramFile::Log => 7,
+            ProgramFile::Output => 0,
+        }
+    }
+
+    /// The option that names the file, or what a message calls it.
+    pub fn option(self) -> &'static str {
+        match self {
+            ProgramFile::Of(device) => device.option(),
+            ProgramFile::Log => "--log",
+            ProgramFile::Output => "standard output",
+        }
+    }
+}
+
+/// Why a file failed.
+#[derive(Clone, Copy)]
+pub enum Reason {
+    /// The system refused a call, with this answer.
+    System(io::Error),
+    /// The input has more bytes than 268,435,456, or takes more reads than 4,194,304.
+    Long,
+    /// Another run is writing the output.
+    Busy,
+    /// The path of an output that is done leads to another file.
+    Replaced,
+    /// A call failed, and the system gave no answer.
+    Unknown,
+}
+
+/// A file that failed, and why.
+#[derive(Clone, Copy)]
+pub struct FileFault {
+    pub file: ProgramFile,
+    pub reason: Reason,
+}
+
+impl FileFault {
+    /// Of a file of a run, for which a call answered this.
+    pub fn of(device: Device, error: io::Error) -> FileFault {
+        FileFault {
+            file: ProgramFile::Of(device),
+            reason: Reason::System(error),
+        }
+    }
+
+    /// Whether another run is writing the output.
+    pub fn is_busy(&self) -> bool {
+        matches!(&self.reason, Reason::Busy)
+    }
+
+    /// Whether the reader of standard output is gone.
+    pub fn is_closed_output(&self) -> bool {
+        match &self.reason {
+            Reason::System(error) => {
+                self.file == ProgramFile::Output && error.kind() == io::ErrorKind::BrokenPipe
+            }
+            _ => false,
+        }
+    }
+
+    /// The fault in words: the option, the path as it is shown, and the reason.
+    pub fn words(&self, alloc: Global, shown_path: &str) -> Result<String, Memory> {
+        let option = self.file.option();
+        let reason = self.reason.words(alloc)?;
+        Ok(format!(in alloc; "{option} {shown_path}: {reason}")?)
+    }
+}
+
+impl Reason {
+    fn words(&self, alloc: Global) -> Result<String, AllocError> {
+        let words = match self {
+            Reason::System(error) => return answer_words(alloc, error),
+            Reason::Long => "more than 268435456 bytes, or more than 4194304 reads",
+            Reason::Busy => "another run is writing it",
+            Reason::Replaced => "another file was put in the place of this run's",
+            Reason::Unknown => "the system took none of the bytes",
+        };
+        String::from_str(alloc, words)
+    }
+}
+
+// What the system answered, without its number, as the end of a sentence: "no space left on device".
+fn answer_words(alloc: Global, error: &io::Error) -> Result<String, AllocError> {
+    let answer = format!(in alloc; "{error}")?;
+    lowered(alloc, without_number(answer.as_str()))
+}
+
+fn without_number(answer: &str) -> &str {
+    match answer.rsplit_once(" (os error ") {
+        Some((words, _)) => words,
+        None => answer,
+    }
+}
+
+// The words with a small letter in front.
+fn lowered(alloc: Global, words: &str) -> Result<String, AllocError> {
+    let mut text = String::new(alloc);
+    let mut is_first = true;
+    for letter in words.chars() {
+        let letter = if is_first {
+            letter.to_ascii_lowercase()
+        } else {
+            letter
+        };
+        text.push(letter)?;
+        is_first = false;
+    }
+    Ok(text)
+}

@@ -1,0 +1,143 @@
+//! An output that is written where it stands, and the log.
+use crate::beside_file::{make_new, remove_same};
+use crate::ending::Ending;
+use crate::file_fault::FileFault;
+use crate::places::{followed_path, keep_folder};
+use rx_io::{Device, Outputs};
+use std::fs::{File, OpenOptions};
+use std::io;
+use std::io::ErrorKind;
+use std::path::PathBuf;
+
+// How often a file is opened again that came or went between two calls.
+const TRIES: u32 = 64;
+
+/// An output, opened for writing and not emptied yet.
+#[derive(Drop)]
+pub struct OutputFile {
+    pub file: File,
+    // Where this run made it, if it wasn't there.
+    made: Option<PathBuf>,
+}
+
+impl OutputFile {
+    /// Opens the file, which is made where it isn't there, with rights for its owner only.
+    pub fn open(rt: &HostRuntime, path: &str) -> io::Result<OutputFile> {
+        OutputFile::open_as(rt, path, false)
+    }
+
+    /// The same of a file that is written only at its end.
+    pub fn open_to_append(rt: &HostRuntime, path: &str) -> io::Result<OutputFile> {
+        OutputFile::open_as(rt, path, true)
+    }
+
+    fn open_as(rt: &HostRuntime, path: &str, is_appended: bool) -> io::Result<OutputFile> {
+        for _ in 0..TRIES {
+            let found = OpenOptions::new()
+                .write(true)
+                .append(is_appended)
+                .open(rt, path);
+            match found {
+                Ok(file) => return Ok(OutputFile { file, made: None }),
+                Err(error) if error.kind() == ErrorKind::NotFound => {}
+                Err(error) => return Err(error),
+            }
+            let place = followed_path(rt, path)?;
+            match make_new(rt, place.as_path(), is_appended) {
+                Ok(file) => {
+                    return Ok(OutputFile {
+                        file,
+                        made: Some(place),
+                    });
+                }
+                Err(error) if error.kind() == ErrorKind::AlreadyExists => {}
+                Err(error) => return Err(error),
+            }
+        }
+        Err(io::Error::from(ErrorKind::AlreadyExists))
+    }
+
+    /// Empties a regular file.
+    pub fn empty(&self) -> io::Result<()> {
+        if self.file.metadata()?.is_file() {
+            self.file.set_len(0)
+        } else {
+            Ok(())
+        }
+    }
+
+    /// Brings the bytes of a regular file to the disk, and its name where this run made it. What the system refused to keep
+    /// is reported here, and not only when the file is closed.
+    pub fn keep(&self, rt: &HostRuntime) -> io::Result<()> {
+        if self.file.metadata()?.is_file() {
+            self.file.sync_all()?;
+        }
+        match &self.made {
+            Some(place) => keep_folder(rt, place.as_path()),
+            None => Ok(()),
+        }
+    }
+
+    /// Removes the file again, where this run made it. What can't be removed stays, empty.
+    pub fn remove_made(self, rt: &HostRuntime) {
+        if let Some(place) = &self.made {
+            remove_same(rt, &self.file, place.as_path());
+        }
+    }
+}
+
+/// Opens the outputs, in the order of their numbers, and empties none. Where one can't be opened, none that this run
+/// made stays.
+pub fn open_outputs(
+    rt: &HostRuntime,
+    paths: &Outputs<&str>,
+) -> Result<Outputs<OutputFile>, Ending> {
+    let response = written(OutputFile::open(rt, paths.response), Device::Response)?;
+    let books = match written(OutputFile::open(rt, paths.books), Device::EndBooks) {
+        Ok(books) => books,
+        Err(ending) => {
+            response.remove_made(rt);
+            return Err(ending);
+        }
+    };
+    match written(OutputFile::open(rt, paths.settlement), Device::Settlement) {
+        Ok(settlement) => Ok(Outputs {
+            response,
+            books,
+            settlement,
+        }),
+        Err(ending) => {
+            response.remove_made(rt);
+            books.remove_made(rt);
+            Err(ending)
+        }
+    }
+}
+
+/// Empties those that are regular files.
+pub fn empty_each(files: &Outputs<OutputFile>) -> Result<(), Ending> {
+    files
+        .as_ref()
+        .try_map(|device, file| written(file.empty(), device))?;
+    Ok(())
+}
+
+/// Brings those that are regular files to the disk, and the names of new ones.
+pub fn keep_each(rt: &HostRuntime, files: &Outputs<OutputFile>) -> Result<(), Ending> {
+    files
+        .as_ref()
+        .try_map(|device, file| written(file.keep(rt), device))?;
+    Ok(())
+}
+
+/// Removes those again that this run made.
+pub fn remove_made(rt: &HostRuntime, files: Outputs<OutputFile>) {
+    files.response.remove_made(rt);
+    files.books.remove_made(rt);
+    files.settlement.remove_made(rt);
+}
+
+// What was done to an output; a fault of the system's is a fault of it.
+fn written<T: Drop>(done: io::Result<T>, device: Device) -> Result<T, Ending> {
+    done.map_err(|error| Ending::of_output(device, error))
+}
