@@ -11,6 +11,7 @@ leaves nothing but its outputs. Of two runs at once the outputs are those of one
 """
 import argparse
 import errno
+import fcntl
 import os
 import pathlib
 import re
@@ -226,6 +227,29 @@ def pair_fault(folder, statuses, tellings, wholes):
     return None if folder.names() == NAMES else f"{sorted(folder.names() ^ NAMES)} left"
 
 
+def locked_outputs(program):
+    """Runs of which another one has a single output: they end at once and change nothing. A lock that a kill left holds nothing."""
+    for more in ([], ["--safe"]):
+        for has_earlier in (True, False):
+            for option, name in OUTPUTS.items():
+                with tempfile.TemporaryDirectory(prefix="rxbatch-locked-") as path:
+                    folder = Folder(path, has_earlier)
+                    lock = folder.path / f".rxbatch-{name}"
+                    with open(lock, "w") as held:
+                        fcntl.flock(held, fcntl.LOCK_EX)
+                        ended = folder.run(program, more)
+                    kept = folder.texts() == folder.earlier() and lock.exists()
+                    after = folder.run(program, more)
+                    fault = None
+                    if ended.returncode != 3 or not BUSY.fullmatch(ended.stderr.decode()) or option.encode() not in ended.stderr:
+                        fault = f"status {ended.returncode}, {ended.stderr!r}"
+                    elif not kept:
+                        fault = "an output was changed, or the lock is gone"
+                    elif after.returncode != 0 or folder.texts() != WHOLE or folder.names() != NAMES:
+                        fault = f"a run after it: {after.returncode}, {sorted(folder.names() ^ NAMES)}"
+                yield fault and f"run {' '.join(more)}: {name} is locked: {fault}"
+
+
 def main(words):
     parser = argparse.ArgumentParser(description=__doc__, formatter_class=argparse.RawDescriptionHelpFormatter)
     parser.add_argument("program", metavar="PROGRAM")
@@ -239,6 +263,7 @@ def main(words):
         sweeps = {"failing calls": lambda: failing_calls(program, library),
                   "killed runs": lambda: killed_runs(program, library),
                   "failed writes": lambda: failed_writes(program, library),
+                  "locked outputs": lambda: locked_outputs(program),
                   "two runs at once": lambda: pairs_of_runs(program, options.pairs)}
         for name, sweep in sweeps.items():
             if options.only not in name:

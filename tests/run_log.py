@@ -5,17 +5,21 @@ the version with CHANGELOG.md's latest (docs/CLI.md, "Log").
 
     run_log.py PROGRAM
 """
+import collections
+import datetime
 import hashlib
 import json
 import pathlib
 import re
 import shutil
+import socket
 import subprocess
 import sys
 import tempfile
 
 ROOT = pathlib.Path(__file__).resolve().parent.parent
 CASES = ROOT / "tests" / "cases"
+FIRST = ROOT / "examples" / "first_job"
 # The latest version of the changelog.
 CHANGES = re.compile(r"^## v([^ ,\n]+)", re.M)
 # The letter of a kit's edition, which the program doesn't say.
@@ -39,7 +43,7 @@ def logged(program, folder, stamp, more=(), changed=None):
 def lines_of(folder):
     """The lines of the log, as read."""
     log = folder / "log.json"
-    text = log.read_bytes() if log.is_file() else b""
+    text = log.read_bytes() if log.is_file() and not log.is_symlink() else b""
     return [json.loads(line) for line in text.splitlines()] if text.endswith(b"\n") else []
 
 
@@ -47,6 +51,12 @@ def log_of(path, more):
     """What the log says of a file."""
     text = path.read_bytes()
     return {"path": path.name, "bytes": len(text), "sha256": hashlib.sha256(text).hexdigest() if "--sums" in more else None}
+
+
+def codes_in(response):
+    """How often each reject code stands in a response file."""
+    codes = collections.Counter(re.findall(rb"\x1cFB([^\x1c-\x1e\x03]*)", response))
+    return [{"code": code.decode(), "count": count} for code, count in sorted(codes.items())]
 
 
 def unknown(name):
@@ -81,19 +91,30 @@ def done(program, folder, case, more):
     header = header[header.index(b"\x02"):]
     wanted = {
         "status": 0, "refused": None, "file": None,
-        "run": {"stamp": stamp, "workers": 2, "plain": "--plain" in more, "desk": "--desk" in more, "safe": "--safe" in more},
         "lot": {"number": header[28:35].decode(), "created": header[35:43].decode()},
         "totals": dict(zip(("paid", "duplicate", "approved", "rejected", "net"), map(int, total[1:]))),
         "inputs": {name: log_of(folder / path, more) for name, path in INPUTS.items()},
         "outputs": {name: log_of(case / path, more) for name, path in OUTPUTS.items()},
     }
-    fault = differs(wanted, log) or shards_fault(log, more)
+    run = {
+        "stamp": stamp, "workers": 2, "plain": "--plain" in more, "desk": "--desk" in more, "safe": "--safe" in more,
+        "counts": {"records": header.count(b"\x02") - 2, "end_books_lines": (case / "books-out.txt").read_bytes().count(b"\n"),
+                   "codes": codes_in((case / "response.bin").read_bytes())},
+        "words": {"fault": None, "warning": None},
+    }
+    fault = differs(wanted, log) or differs(run, log["run"]) or shards_fault(log, more)
     if fault:
         return fault
     if set(log["microseconds"]) != STEPS or any(not isinstance(step, int) for step in log["microseconds"].values()):
         return f"microseconds is {log['microseconds']}"
-    if log["peak_kilobytes"] <= 0:
-        return f"peak {log['peak_kilobytes']}"
+    start, duration = log["run"]["time"]["start"], log["run"]["time"]["duration"]
+    if log["peak_kilobytes"] <= 0 or duration < sum(log["microseconds"].values()) - len(STEPS):
+        return f"peak {log['peak_kilobytes']}, {duration} microseconds of {log['microseconds']}"
+    age = datetime.datetime.now(datetime.timezone.utc) - datetime.datetime.fromisoformat(start.replace("Z", "+00:00"))
+    if not start.endswith("Z") or not 0 <= age.total_seconds() < 60:
+        return f"start {start}"
+    if log["run"]["machine"]["host"] != socket.gethostname():
+        return f"machine {log['run']['machine']}"
     rights = (folder / "log.json").stat().st_mode & 0o777
     return None if rights == 0o600 else f"the log has the rights {rights:o}"
 
@@ -113,8 +134,9 @@ def added(program, folder, case, more):
     lines = lines_of(folder)
     if [line["status"] for line in lines[:2]] != [0, 1] or statuses != [0] * 8 or len(lines) != 10:
         return f"{len(lines)} lines, statuses {statuses}"
-    wanted = {f"{place}-response.bin" for place in range(8)}
-    return None if {line["outputs"]["response"]["path"] for line in lines[2:]} == wanted else "a line is missing"
+    wanted = {(run.pid, f"{place}-response.bin") for place, run in enumerate(runs)}
+    found = {(line["run"]["machine"]["process"], line["outputs"]["response"]["path"]) for line in lines[2:]}
+    return None if found == wanted else "a line is missing"
 
 
 def refused(program, folder, case, more):
@@ -136,7 +158,8 @@ def refused_in_words(program, folder, case, more):
     lines = [line.split() for line in told if line.startswith("refused ")]
     if ended.returncode != 1 or len(lines) != 1:
         return f"status {ended.returncode}, {ended.stderr!r}"
-    return differs({"status": 1, "refused": [int(word) for word in lines[0][1:]], "file": None}, log)
+    fault = differs({"status": 1, "refused": [int(word) for word in lines[0][1:]], "file": None}, log)
+    return fault or differs({"words": {"fault": told[-1], "warning": None}}, log["run"])
 
 
 def absent(program, folder, case, more):
@@ -144,14 +167,17 @@ def absent(program, folder, case, more):
     ended, log = logged(program, folder, (case / "stamp").read_text(), more)
     if ended.returncode != 3 or ended.stderr != b"file 3\n":
         return f"status {ended.returncode}, {ended.stderr!r}"
-    return differs({"status": 3, "refused": None, "file": 3, "lot": None, "totals": None}, log)
+    fault = differs({"status": 3, "refused": None, "file": 3, "lot": None, "totals": None}, log)
+    return fault or differs({"words": {"fault": "--batch batch.bin: no such file or directory", "warning": None},
+                             "counts": {"records": None, "end_books_lines": None, "codes": None}}, log["run"])
 
 
 def one_output(program, folder, case, more):
     ended, log = logged(program, folder, (case / "stamp").read_text(), more, {"settlement": "./response.bin"})
     if ended.returncode != 2:
         return f"status {ended.returncode}, {ended.stderr!r}"
-    return differs({"status": 2, "refused": None, "file": None}, log)
+    fault = differs({"status": 2, "refused": None, "file": None}, log)
+    return fault or differs({"words": {"fault": "--response and --settlement are the same file", "warning": None}}, log["run"])
 
 
 def over_an_input(program, folder, case, more):
@@ -219,6 +245,26 @@ def long_books(program):
                 warning = f"--books-out books-out.txt: {lines} lines, and no run reads books of more than 1000000"
                 if ended.returncode != 0 or lines <= 1_000_000 or not ended.stderr.endswith(f"rxbatch: {warning}\n"):
                     return f"long books: status {ended.returncode}, {lines} lines, {ended.stderr!r}"
+            run = lines_of(folder)[0]["run"]
+            if (run["counts"]["end_books_lines"], run["words"]) != (lines, {"fault": None, "warning": warning}):
+                return f"long books: {run['counts']}, {run['words']}"
+    return None
+
+
+def refused_claims(program):
+    """What is wrong with the counts by reject code of batches whose records are rejected."""
+    cases = [CASES / name for name in ("refill-too-soon", "wrong-bin-and-count", "empty-transmission")]
+    jobs = [(case, (case / "stamp").read_text(), case / "response.bin") for case in cases]
+    jobs.append((FIRST, "202603170600", FIRST / "expected" / "response.bin"))
+    for case, stamp, response in jobs:
+        with tempfile.TemporaryDirectory(prefix="rxbatch-log-") as path:
+            folder = pathlib.Path(path)
+            for file in INPUTS.values():
+                shutil.copy(case / file, folder)
+            ended, log = logged(program, folder, stamp)
+        wanted = codes_in(response.read_bytes())
+        if ended.returncode != 0 or not wanted or log["run"]["counts"]["codes"] != wanted:
+            return f"{case.name}: status {ended.returncode}, {log and log['run']['counts']}, wanted {wanted}"
     return None
 
 
@@ -242,7 +288,7 @@ def main(words):
     if len(words) != 1:
         sys.exit(__doc__)
     program = str(pathlib.Path(words[0]).resolve())
-    faults = [version_fault(program), long_books(program)]
+    faults = [version_fault(program), refused_claims(program), long_books(program)]
     for case in (CASES / "one-billing", CASES / "family-deductible-after-a-reversal"):
         for way in WAYS:
             for more in ([], ["--safe", "--sums"], ["--plain"], ["--desk", "--sums"]):

@@ -65,8 +65,9 @@ def same_line(outputs):
 
 
 def shown(text):
-    """The bytes as a terminal shows them."""
-    return b"".join(bytes([b]) if 0x20 <= b <= 0x7E and b != 0x5C else b"\\x%02X" % b for b in text)
+    """The bytes as a terminal shows them, of more than 60 the first 60 and two dots."""
+    front = b"".join(bytes([b]) if 0x20 <= b <= 0x7E and b != 0x5C else b"\\x%02X" % b for b in text[:60])
+    return front + (b".." if len(text) > 60 else b"")
 
 
 def place_line(name, ours, theirs):
@@ -111,6 +112,7 @@ def changed_texts(rng, text, settings, each):
     yield "longer by a byte", text + bytes([rng.choice(BYTES)])
     yield "a byte more", text[:cut] + bytes([other_byte(rng, text[cut])]) + text[cut:]
     yield "twice", text + text
+    yield "zeros", bytes(100_000)
 
 
 def changes_of(rng, outputs, settings, each):

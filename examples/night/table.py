@@ -21,9 +21,8 @@ def log_of(folder):
 
 
 def why_of(log):
-    if log["refused"]:
-        return "refused " + " ".join(map(str, log["refused"]))
-    return "" if log["file"] is None else f"file {log['file']}"
+    words = log["run"]["words"]
+    return (words["fault"] or words["warning"] or "").replace("\t", " ")
 
 
 def fields(folder):

@@ -1,5 +1,5 @@
 -- Meaning: what `verify` prints.
-use Rattle.std.specs.Prelude.{◌≡◌, ℕ, ◌+◌, if◌then◌else◌, List, [], ◌∷◌, ◌++◌}
+use Rattle.std.specs.Prelude.{◌≡◌, ℕ, ◌+◌, nat_lt, if◌then◌else◌, List, [], ◌∷◌, ◌++◌}
 use Rattle.std.specs.Prelude.{Option, Some, None, codes, count_by, drop, length, take}
 use Rattle.std.specs.Fmt.{decimal}
 use Rattle.rx_batch.specs.declared.layout.TheConstants.{ETX}
@@ -12,6 +12,7 @@ use Rattle.rx_commands.specs.declared.printed.Outcome.TheVariants as outcome
 use Rattle.rx_commands.specs.declared.printed.Printed.{Printed}
 use Rattle.rx_commands.specs.declared.verdict.lines.Cut.{Cut}
 use Rattle.rx_commands.specs.declared.verdict.lines.Cut.TheVariants.{Line, Record}
+use Rattle.rx_commands.specs.declared.verdict.lines.TheConstants.{LONGEST}
 use Rattle.rx_commands.specs.Difference.{is_end, piece_of}
 use Rattle.rx_commands.specs.Verified.{Differences, IsVerified, are_none}
 
@@ -37,9 +38,14 @@ abbrev pub first_of : Cut → ℕ
 first_of Line = 1
 first_of Record = 0
 
--- what stands in a file from a place to the end of its line or record, as a terminal shows it
+-- bytes as a terminal shows them, of more than 60 the first 60 and two dots
+abbrev pub front_text : List ℕ → List ℕ
+front_text bytes =
+    if nat_lt LONGEST (length bytes) then escaped Terminal (take LONGEST bytes) ++ codes ".." else escaped Terminal bytes
+
+-- what stands in a file from a place to the end of its line or record
 abbrev pub shown_piece : Cut → List ℕ → ℕ → List ℕ
-shown_piece cut text at = escaped Terminal (piece_of (end_of cut) (drop at text))
+shown_piece cut text at = front_text (piece_of (end_of cut) (drop at text))
 
 -- which line or record differs, and from which byte of the file on
 abbrev pub place_words : List ℕ → Cut → ℕ → ℕ → List ℕ

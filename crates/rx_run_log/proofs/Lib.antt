@@ -1,3 +1,4 @@
 -- Plumbing: which files there are.
+pub mod Codes
 pub mod Counts
 pub mod Kept

@@ -1,4 +1,5 @@
 -- Plumbing: which files there are.
+pub mod CodesPassed
 pub mod Header
 pub mod Lines
 pub mod Log

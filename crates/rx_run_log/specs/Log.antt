@@ -1,10 +1,12 @@
 -- Meaning: the value of a log's line: what each member says.
-use Rattle.std.specs.Prelude.{ℕ, List, Option, Some, None, codes, slice_index}
+use Rattle.std.specs.Prelude.{ℕ, List, Option, Some, None, codes, map, slice_index, string_bytes}
 use Rattle.std.specs.Borrow.{Bor}
 use Rattle.serde_json.specs.Data.{Data, null, boolean, number, unsigned, string, array, object, item, no_items, member, no_members}
 use Rattle.serde_json.specs.Find.{of_integer}
+use Rattle.serde_json.specs.View.{items_of}
 use Rattle.rx_io.specs.declared.files.Inputs.{Inputs}
 use Rattle.rx_io.specs.declared.files.Outputs.{Outputs}
+use Rattle.rx_run_log.specs.declared.log.CodeCount.{CodeCount}
 use Rattle.rx_run_log.specs.declared.log.FileLog.{FileLog}
 use Rattle.rx_run_log.specs.declared.header.Lot.{Lot}
 use Rattle.rx_run_log.specs.declared.log.RunLog.{RunLog}
@@ -68,12 +70,6 @@ steps_data s =
     (member (codes "settlement") (number_data (time_of s step.Settlement))
     (member (codes "sheet") (number_data (time_of s step.Sheet)) no_members))))))))
 
--- the words of the run
-abbrev pub words_data : RunLog → Data
-words_data r = object (member (codes "desk") (boolean r.desk) (member (codes "plain") (boolean r.plain)
-    (member (codes "safe") (boolean r.safe) (member (codes "stamp") (string r.stamp.now)
-    (member (codes "workers") (number (unsigned r.workers)) no_members)))))
-
 -- how the batch was dealt out in shards, null where it wasn't
 abbrev pub shards_data : Option Shards → Data
 shards_data None = null
@@ -81,12 +77,46 @@ shards_data (Some s) = object (member (codes "count") (number (unsigned s.count)
     (member (codes "largest") (number (unsigned s.largest))
     (member (codes "transactions") (number (unsigned s.transactions)) no_members)))
 
+-- how often a code was given
+abbrev pub code_data : CodeCount → Data
+code_data c = object (member (codes "code") (string (string_bytes c.code)) (member (codes "count") (number (unsigned c.count)) no_members))
+
+abbrev pub codes_data : Option (Bor (List CodeCount)) → Data
+codes_data None = null
+codes_data (Some counts) = array (items_of (map code_data counts.now))
+
+-- how many records and lines there are, and the codes
+abbrev pub counts_data : RunLog → Data
+counts_data r = object (member (codes "codes") (codes_data r.codes)
+    (member (codes "end_books_lines") (number_data r.end_books_lines) (member (codes "records") (number_data r.records) no_members)))
+
+-- where the run was
+abbrev pub machine_data : RunLog → Data
+machine_data r = object (member (codes "host") (text_data r.host)
+    (member (codes "process") (number (unsigned r.process)) no_members))
+
+-- when the run began, and how many microseconds it took
+abbrev pub time_data : RunLog → Data
+time_data r = object (member (codes "duration") (number_data r.duration) (member (codes "start") (text_data r.start) no_members))
+
+-- what is said of it in words
+abbrev pub said_data : RunLog → Data
+said_data r = object (member (codes "fault") (text_data r.fault) (member (codes "warning") (text_data r.warning) no_members))
+
+-- the run: its options, and what is known of it
+abbrev pub run_data : RunLog → Data
+run_data r = object (member (codes "counts") (counts_data r) (member (codes "desk") (boolean r.desk)
+    (member (codes "machine") (machine_data r) (member (codes "plain") (boolean r.plain)
+    (member (codes "safe") (boolean r.safe) (member (codes "stamp") (string r.stamp.now)
+    (member (codes "time") (time_data r) (member (codes "words") (said_data r)
+    (member (codes "workers") (number (unsigned r.workers)) no_members)))))))))
+
 -- the whole
 abbrev pub log_data : RunLog → Data
 log_data r = object (member (codes "file") (number_data r.file) (member (codes "inputs") (inputs_data r.inputs)
     (member (codes "lot") (lot_data r.lot) (member (codes "microseconds") (steps_data r.steps)
     (member (codes "outputs") (outputs_data r.outputs) (member (codes "peak_kilobytes") (number_data r.peak)
-    (member (codes "refused") (refused_data r.refused) (member (codes "run") (words_data r)
+    (member (codes "refused") (refused_data r.refused) (member (codes "run") (run_data r)
     (member (codes "shards") (shards_data r.shards) (member (codes "status") (number (unsigned r.status))
     (member (codes "totals") (totals_data r.totals)
     (member (codes "version") (string r.version.now) no_members))))))))))))

@@ -1,11 +1,13 @@
-ghost use Rattle.std.specs.Prelude.{◌≡◌, IfOk, string_bytes};
-ghost use Rattle.serde_json.specs.View.{view};
+ghost use Rattle.std.specs.Prelude.{◌≡◌, IfOk, map, string_bytes};
+ghost use Rattle.serde_json.specs.Data.{array};
+ghost use Rattle.serde_json.specs.View.{items_of, view};
 ghost use Rattle.serde_json.specs.Written.{IsInOrder};
-ghost use Rattle.rx_run_log.specs.Log.{file_data, inputs_data, log_data, lot_data, number_data, outputs_data, refused_data};
-ghost use Rattle.rx_run_log.specs.Log.{shards_data, steps_data, text_data, totals_data, words_data};
+ghost use Rattle.rx_run_log.specs.Log.{code_data, codes_data, counts_data, file_data, inputs_data, log_data, lot_data};
+ghost use Rattle.rx_run_log.specs.Log.{machine_data, number_data, outputs_data, refused_data, run_data, said_data};
+ghost use Rattle.rx_run_log.specs.Log.{shards_data, steps_data, text_data, time_data, totals_data};
 
 use crate::header::Lot;
-use crate::log::{FileLog, RunLog};
+use crate::log::{CodeCount, FileLog, RunLog};
 use crate::report::Shards;
 use crate::settlement::Totals;
 use crate::step::{Step, StepTimes};
@@ -37,7 +39,7 @@ fn value(alloc: Global, log: &RunLog<'_>) -> Result<Value, AllocError>
         "outputs": outputs(alloc, &log.outputs)?,
         "peak_kilobytes": number(log.peak),
         "refused": refused(alloc, log.refused)?,
-        "run": words(alloc, log)?,
+        "run": run(alloc, log)?,
         "shards": shards(alloc, log.shards)?,
         "status": log.status,
         "totals": totals(alloc, log.totals)?,
@@ -52,6 +54,71 @@ fn number(number: Option<u64>) -> Value
         Some(number) => Value::from(number),
         None => Value::Null,
     }
+}
+
+fn counts(alloc: Global, log: &RunLog<'_>) -> Result<Value, AllocError>
+    ensures { IfOk result (λ v. view v ≡ counts_data log.now) }
+{
+    json!(in alloc; {
+        "codes": codes(alloc, log.codes)?,
+        "end_books_lines": number(log.end_books_lines),
+        "records": number(log.records)
+    })
+}
+
+fn codes(alloc: Global, codes: Option<&[CodeCount]>) -> Result<Value, AllocError>
+    ensures { IfOk result (λ v. view v ≡ codes_data codes.entry) }
+{
+    match codes {
+        Some(codes) => list(alloc, codes),
+        None => Ok(Value::Null),
+    }
+}
+
+fn list(alloc: Global, codes: &[CodeCount]) -> Result<Value, AllocError>
+    ensures { IfOk result (λ v. view v ≡ array (items_of (map code_data codes.now))) }
+{
+    let mut list = Vec::new(alloc);
+    for code in codes {
+        list.push(counted(alloc, code)?)?;
+    }
+    Ok(Value::from(list))
+}
+
+fn counted(alloc: Global, code: &CodeCount) -> Result<Value, AllocError>
+    ensures { IfOk result (λ v. view v ≡ code_data code.now) }
+{
+    json!(in alloc; {
+        "code": code.code.as_str(),
+        "count": code.count
+    })
+}
+
+fn machine(alloc: Global, log: &RunLog<'_>) -> Result<Value, AllocError>
+    ensures { IfOk result (λ v. view v ≡ machine_data log.now) }
+{
+    json!(in alloc; {
+        "host": text(alloc, log.host)?,
+        "process": log.process
+    })
+}
+
+fn time(alloc: Global, log: &RunLog<'_>) -> Result<Value, AllocError>
+    ensures { IfOk result (λ v. view v ≡ time_data log.now) }
+{
+    json!(in alloc; {
+        "duration": number(log.duration),
+        "start": text(alloc, log.start)?
+    })
+}
+
+fn said(alloc: Global, log: &RunLog<'_>) -> Result<Value, AllocError>
+    ensures { IfOk result (λ v. view v ≡ said_data log.now) }
+{
+    json!(in alloc; {
+        "fault": text(alloc, log.fault)?,
+        "warning": text(alloc, log.warning)?
+    })
 }
 
 fn text(alloc: Global, text: Option<&str>) -> Result<Value, AllocError>
@@ -126,14 +193,18 @@ fn refused(alloc: Global, refused: Option<[u64; 3]>) -> Result<Value, AllocError
     }
 }
 
-fn words(alloc: Global, log: &RunLog<'_>) -> Result<Value, AllocError>
-    ensures { IfOk result (λ v. view v ≡ words_data log.now) }
+fn run(alloc: Global, log: &RunLog<'_>) -> Result<Value, AllocError>
+    ensures { IfOk result (λ v. view v ≡ run_data log.now) }
 {
     json!(in alloc; {
+        "counts": counts(alloc, log)?,
         "desk": log.desk,
+        "machine": machine(alloc, log)?,
         "plain": log.plain,
         "safe": log.safe,
         "stamp": log.stamp,
+        "time": time(alloc, log)?,
+        "words": said(alloc, log)?,
         "workers": log.workers
     })
 }

@@ -18,6 +18,7 @@
 //! Where the lines go is the caller's to say. A sum costs about 2.5 ns a byte.
 #![tactic(auto)]
 
+mod codes_passed;
 mod digit_text;
 mod file_sum;
 mod header;
@@ -35,11 +36,12 @@ mod times;
 mod traffic;
 mod watched;
 
+pub use codes_passed::CodesPassed;
 pub use file_sum::FileSum;
 pub use header::Lot;
 pub use json::log_line;
 pub use lines::{done_line, progress_line, shards_line, step_line};
-pub use log::{FileLog, RunLog};
+pub use log::{CodeCount, FileLog, RunLog};
 pub use report::{Counted, RunReport, Shards, StepReport};
 pub use run_traffic::{RunTraffic, details_in, input_report};
 pub use settlement::Totals;

@@ -15,17 +15,42 @@ pub struct FileLog<'a> {
     pub sha256: Option<&'a str>,
 }
 
+/// How often a reject code was given.
+#[derive(Debug, Drop)]
+pub struct CodeCount {
+    pub code: String,
+    pub count: u64,
+}
+
 /// The fields of a log's line. What isn't known is `None`.
 #[derive(Clone, Copy, Debug)]
 pub struct RunLog<'a> {
     /// The version of the program.
     pub version: &'a str,
+    /// When the run began, as RFC 3339 has it, in UTC.
+    pub start: Option<&'a str>,
+    /// How long it took, in microseconds.
+    pub duration: Option<u64>,
+    /// The name of the machine.
+    pub host: Option<&'a str>,
+    /// The number of the process.
+    pub process: u32,
     /// The exit status.
     pub status: u8,
     /// The three numbers of a refusal.
     pub refused: Option<[u64; 3]>,
     /// The number of the file that failed.
     pub file: Option<u64>,
+    /// Why the run isn't done, in words.
+    pub fault: Option<&'a str>,
+    /// What an operator should know of a run that is done, in words.
+    pub warning: Option<&'a str>,
+    /// How many records the batch has.
+    pub records: Option<u64>,
+    /// How many lines the end books have.
+    pub end_books_lines: Option<u64>,
+    /// How often each reject code was given.
+    pub codes: Option<&'a [CodeCount]>,
     pub stamp: &'a str,
     pub workers: u16,
     pub plain: bool,

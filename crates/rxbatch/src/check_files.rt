@@ -1,5 +1,5 @@
 use crate::ending::Ending;
-use crate::file_fault::{FileFault, ProgramFile};
+use crate::file_fault::ProgramFile;
 use crate::shown_path::shown_path;
 use crate::standard_output::print;
 use crate::texts::text_of;
@@ -43,26 +43,13 @@ fn text_if_given(
 // The ending where a file can't be read; why, is printed.
 fn unread(rt: &HostRuntime, words: &CheckWords<'_>, ending: Ending) -> Ending {
     let line = match &ending {
-        Ending::File(fault) => file_words(rt, words, fault),
+        Ending::File(fault) => fault.words(rt.alloc(), path_of(words, fault.file)),
         _ => return ending,
     };
     match told(rt, line) {
         Ok(()) => ending,
         Err(output) => output,
     }
-}
-
-fn file_words(
-    rt: &HostRuntime,
-    words: &CheckWords<'_>,
-    fault: &FileFault,
-) -> Result<String, Memory> {
-    let path = match fault.file {
-        ProgramFile::Of(device) => path_of(words, device),
-        _ => "",
-    };
-    let shown = shown_path(rt.alloc(), path)?;
-    fault.words(rt.alloc(), shown.as_str())
 }
 
 // Prints a line, where there was memory for it.
@@ -76,10 +63,11 @@ fn told(rt: &HostRuntime, line: Result<String, Memory>) -> Result<(), Ending> {
     print(rt, line.as_str().as_bytes())
 }
 
-fn path_of<'a>(words: &CheckWords<'a>, device: Device) -> &'a str {
-    match device {
-        Device::Books => words.books.unwrap_or(""),
-        Device::Batch => words.batch.unwrap_or(""),
+// The path of the file that failed; one of the three that are read.
+fn path_of<'a>(words: &CheckWords<'a>, file: ProgramFile) -> &'a str {
+    match file {
+        ProgramFile::Of(Device::Books) => words.books.unwrap_or(""),
+        ProgramFile::Of(Device::Batch) => words.batch.unwrap_or(""),
         _ => words.sheet,
     }
 }

@@ -28,8 +28,7 @@ pub fn file_words(
         ProgramFile::Log => words.log.unwrap_or(""),
         ProgramFile::Output => "",
     };
-    let shown = shown_path(rt.alloc(), path)?;
-    fault.words(rt.alloc(), shown.as_str())
+    fault.words(rt.alloc(), path)
 }
 
 /// What an operator should know of end books with this number of lines, in words; none where a run can read them.

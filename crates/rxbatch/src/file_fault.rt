@@ -1,4 +1,5 @@
 //! A file that failed: which one, and why.
+use crate::shown_path::shown_path;
 use rx_fields::Memory;
 use rx_io::Device;
 use std::alloc::{AllocError, Global};
@@ -82,10 +83,11 @@ impl FileFault {
     }
 
     /// The fault in words: the option, the path as it is shown, and the reason.
-    pub fn words(&self, alloc: Global, shown_path: &str) -> Result<String, Memory> {
+    pub fn words(&self, alloc: Global, path: &str) -> Result<String, Memory> {
         let option = self.file.option();
+        let shown = shown_path(alloc, path)?;
         let reason = self.reason.words(alloc)?;
-        Ok(format!(in alloc; "{option} {shown_path}: {reason}")?)
+        Ok(format!(in alloc; "{option} {shown}: {reason}")?)
     }
 }
 

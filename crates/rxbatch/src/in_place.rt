@@ -1,40 +1,51 @@
-//! The outputs of a run that writes them where they stand, and the lock that it holds meanwhile.
-use crate::beside_file::{BesideFile, NotMade, is_beside_name, name_taken};
+//! The outputs of a run that writes them where they stand, each of them locked meanwhile.
+use crate::beside_file::{BesideFile, NotMade};
 use crate::ending::Ending;
 use crate::nodes::Node;
-use crate::output_file::{OutputFile, empty_each, keep_each, open_outputs, remove_made};
-use crate::places::followed_path;
+use crate::output_file::OutputFile;
+use crate::places::{Found, followed_path};
 use rx_io::{Device, Outputs};
 use std::fs::File;
-use std::io::ErrorKind;
-use std::path::PathBuf;
-use std::{fs, io};
+use std::io;
 
-/// The outputs, and the locked file next to the end books.
+/// The outputs, opened and locked.
 #[derive(Drop)]
 pub struct InPlace {
-    files: Outputs<OutputFile>,
+    files: Outputs<LockedFile>,
+}
+
+// An output, and the locked file next to it. A device or a pipe has none.
+#[derive(Drop)]
+struct LockedFile {
+    output: OutputFile,
     lock: Option<BesideFile>,
 }
 
 impl InPlace {
-    /// Takes the lock, and opens the files in the order of their numbers. The files that are kept are those that this run
-    /// has opened.
+    /// Locks and opens the files in the order of their numbers, and empties none. Where one can't be opened, none that this
+    /// run made stays. The files that are kept are those that this run has opened.
     pub fn open(rt: &HostRuntime, paths: &Outputs<&str>, kept: &[Node]) -> Result<InPlace, Ending> {
-        paths.try_map(|device, path| refuse_name(rt, path, device))?;
-        let lock = match lock_beside(rt, paths.books, kept) {
-            Ok(lock) => lock,
-            Err(NotMade::Held(_)) => return Err(Ending::busy(Device::EndBooks)),
-            Err(NotMade::Failed(error)) => {
-                // The fault of an output that can't be opened comes first.
-                remove_made(rt, open_outputs(rt, paths)?);
-                return Err(Ending::of_output(Device::EndBooks, error));
+        let response = LockedFile::open(rt, paths.response, Device::Response, kept, &[])?;
+        let opened = [(Device::Response, &response)];
+        let books = match LockedFile::open(rt, paths.books, Device::EndBooks, kept, &opened) {
+            Ok(books) => books,
+            Err(ending) => {
+                response.remove_made(rt);
+                return Err(ending);
             }
         };
-        match open_outputs(rt, paths) {
-            Ok(files) => Ok(InPlace { files, lock }),
+        let opened = [(Device::Response, &response), (Device::EndBooks, &books)];
+        match LockedFile::open(rt, paths.settlement, Device::Settlement, kept, &opened) {
+            Ok(settlement) => Ok(InPlace {
+                files: Outputs {
+                    response,
+                    books,
+                    settlement,
+                },
+            }),
             Err(ending) => {
-                let_go(rt, lock);
+                response.remove_made(rt);
+                books.remove_made(rt);
                 Err(ending)
             }
         }
@@ -42,52 +53,96 @@ impl InPlace {
 
     /// What the system says of the files.
     pub fn nodes(&self) -> Outputs<Node> {
-        self.files.as_ref().map(|file| Node::of(&file.file))
+        self.files.as_ref().map(|file| Node::of(&file.output.file))
     }
 
     /// The files that are written.
     pub fn files(&self) -> Outputs<&File> {
-        self.files.as_ref().map(|file| &file.file)
+        self.files.as_ref().map(|file| &file.output.file)
     }
 
     /// Empties those that are regular files.
     pub fn empty(&self) -> Result<(), Ending> {
-        empty_each(&self.files)
+        self.files
+            .as_ref()
+            .try_map(|device, file| written(file.output.empty(), device))?;
+        Ok(())
     }
 
-    /// Brings those that are regular files to the disk, and lets the lock go.
+    /// Brings those that are regular files to the disk, and the names of new ones, and lets the locks go.
     pub fn keep(self, rt: &HostRuntime) -> Result<(), Ending> {
-        let done = keep_each(rt, &self.files);
-        let_go(rt, self.lock);
-        done
+        let kept = self
+            .files
+            .as_ref()
+            .try_map(|device, file| written(file.output.keep(rt), device));
+        self.leave(rt);
+        kept?;
+        Ok(())
     }
 
-    /// Lets the lock go, and leaves the files as they are.
+    /// Lets the locks go, and leaves the files as they are.
     pub fn leave(self, rt: &HostRuntime) {
-        let_go(rt, self.lock);
+        let_go(rt, self.files.response.lock);
+        let_go(rt, self.files.books.lock);
+        let_go(rt, self.files.settlement.lock);
     }
 
-    /// Removes the files that this run made, and lets the lock go.
+    /// Removes the files that this run made, and lets the locks go.
     pub fn remove_made(self, rt: &HostRuntime) {
-        remove_made(rt, self.files);
-        let_go(rt, self.lock);
+        self.files.response.remove_made(rt);
+        self.files.books.remove_made(rt);
+        self.files.settlement.remove_made(rt);
     }
 }
 
-// Refuses an output whose name can be that of a lock.
-fn refuse_name(rt: &HostRuntime, path: &str, device: Device) -> Result<(), Ending> {
-    if let Ok(Some(place)) = place_of(rt, path) {
-        if place.file_name().is_some_and(|name| is_beside_name(name)) {
-            return Err(Ending::of_output(device, name_taken()));
+impl LockedFile {
+    // Takes the lock, and opens the file.
+    fn open(
+        rt: &HostRuntime,
+        path: &str,
+        device: Device,
+        kept: &[Node],
+        opened: &[(Device, &LockedFile)],
+    ) -> Result<LockedFile, Ending> {
+        let lock = match lock_beside(rt, path, kept) {
+            Ok(lock) => lock,
+            Err(NotMade::Held(node)) => return Err(held(device, node, opened)),
+            Err(NotMade::Failed(error)) => return Err(Ending::of_output(device, error)),
+        };
+        match OutputFile::open(rt, path) {
+            Ok(output) => Ok(LockedFile { output, lock }),
+            Err(error) => {
+                let_go(rt, lock);
+                Err(Ending::of_output(device, error))
+            }
         }
     }
-    Ok(())
+
+    // Removes the file again, where this run made it, and lets the lock go.
+    fn remove_made(self, rt: &HostRuntime) {
+        self.output.remove_made(rt);
+        let_go(rt, self.lock);
+    }
 }
 
-// Takes the lock of end books that are a regular file, or aren't there yet. A device or a pipe has none.
+// How a run ends where the file next to an output is there: another output of this run, or another run.
+fn held(device: Device, node: Node, opened: &[(Device, &LockedFile)]) -> Ending {
+    for (other, file) in opened {
+        if let Some(lock) = &file.lock {
+            if node.is_same(Node::of(&lock.file)) {
+                return Ending::OneFile(other.option(), device.option());
+            }
+        }
+    }
+    Ending::busy(device)
+}
+
+// Takes the lock of an output that is a regular file or isn't there yet. A device or a pipe has none.
 fn lock_beside(rt: &HostRuntime, path: &str, kept: &[Node]) -> Result<Option<BesideFile>, NotMade> {
-    let Some(place) = place_of(rt, path)? else {
-        return Ok(None);
+    let place = match Found::at(rt, path)? {
+        Found::Plain(place) => place,
+        Found::Nothing | Found::DeadLink => followed_path(rt, path)?,
+        Found::Other => return Ok(None),
     };
     let (Some(folder), Some(name)) = (place.parent(), place.file_name()) else {
         return Ok(None);
@@ -95,18 +150,13 @@ fn lock_beside(rt: &HostRuntime, path: &str, kept: &[Node]) -> Result<Option<Bes
     Ok(Some(BesideFile::make(rt, folder, name, kept)?))
 }
 
-// The path of an output that is a regular file or isn't there yet, with no link in it.
-fn place_of(rt: &HostRuntime, path: &str) -> io::Result<Option<PathBuf>> {
-    match fs::metadata(rt, path) {
-        Ok(metadata) if metadata.is_file() => Ok(Some(fs::canonicalize(rt, path)?)),
-        Ok(_) => Ok(None),
-        Err(error) if error.kind() == ErrorKind::NotFound => Ok(Some(followed_path(rt, path)?)),
-        Err(error) => Err(error),
-    }
-}
-
 fn let_go(rt: &HostRuntime, lock: Option<BesideFile>) {
     if let Some(lock) = lock {
         lock.remove(rt);
     }
+}
+
+// What was done to an output; a fault of the system's is a fault of it.
+fn written<T: Drop>(done: io::Result<T>, device: Device) -> Result<T, Ending> {
+    done.map_err(|error| Ending::of_output(device, error))
 }

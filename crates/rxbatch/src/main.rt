@@ -23,6 +23,7 @@
 
 mod beside_file;
 mod check_files;
+mod code_counts;
 mod commands;
 mod ending;
 mod fault_line;

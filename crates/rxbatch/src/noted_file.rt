@@ -2,6 +2,7 @@
 ghost use Rattle.std.specs.Prelude.{◌≡◌, false};
 
 use rx_io::{ReaderSource, Sink, Source, WriterSink};
+use rx_run_log::CodesPassed;
 use std::cell::Cell;
 use std::fs::File;
 use std::io;
@@ -25,6 +26,16 @@ pub type LinesWritten = Cell<u64>;
 pub struct CountedFile<'a> {
     file: NotedFile<'a>,
     lines: &'a LinesWritten,
+}
+
+/// The reject codes that were written to a file; None where they aren't counted, or memory ran out for it.
+pub type CodesWritten = Cell<Option<CodesPassed>>;
+
+/// A response file of a run, which notes what the system answers and the reject codes.
+#[derive(Drop)]
+pub struct CodedFile<'a> {
+    file: NotedFile<'a>,
+    codes: &'a CodesWritten,
 }
 
 impl<'a> NotedFile<'a> {
@@ -79,6 +90,18 @@ impl<'a> CountedFile<'a> {
     }
 }
 
+/// The opened file as a response file, whose system's answers and reject codes are noted.
+pub fn coded_output<'a>(
+    file: &'a File,
+    last: &'a LastError,
+    codes: &'a CodesWritten,
+) -> WriterSink<CodedFile<'a>>
+    ensures { ⟦<WriterSink<CodedFile<'a>> as Sink>⟧.failed result ≡ false }
+{
+    let file = NotedFile::new(file, last);
+    WriterSink::new(CodedFile { file, codes })
+}
+
 impl<'a> Read for NotedFile<'a> {
     fn read(&mut self, buffer: &mut [u8]) -> io::Result<usize> {
         let mut file = self.file;
@@ -107,5 +130,27 @@ impl<'a> Write for CountedFile<'a> {
 
     fn flush(&mut self) -> io::Result<()> {
         Ok(())
+    }
+}
+
+impl<'a> Write for CodedFile<'a> {
+    fn write(&mut self, piece: &[u8]) -> io::Result<usize> {
+        let count = self.file.write(piece)?;
+        let codes = self.codes.replace(None);
+        self.codes.set(with_piece(codes, &piece[..count]));
+        Ok(count)
+    }
+
+    fn flush(&mut self) -> io::Result<()> {
+        Ok(())
+    }
+}
+
+// The codes with those of a piece; None where memory ran out for them.
+fn with_piece(codes: Option<CodesPassed>, piece: &[u8]) -> Option<CodesPassed> {
+    let mut codes = codes?;
+    match codes.add(piece) {
+        Ok(()) => Some(codes),
+        Err(_) => None,
     }
 }

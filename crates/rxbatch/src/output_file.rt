@@ -1,9 +1,6 @@
 //! An output that is written where it stands, and the log.
 use crate::beside_file::{make_new, remove_same};
-use crate::ending::Ending;
-use crate::file_fault::FileFault;
 use crate::places::{followed_path, keep_folder};
-use rx_io::{Device, Outputs};
 use std::fs::{File, OpenOptions};
 use std::io;
 use std::io::ErrorKind;
@@ -84,60 +81,4 @@ impl OutputFile {
             remove_same(rt, &self.file, place.as_path());
         }
     }
-}
-
-/// Opens the outputs, in the order of their numbers, and empties none. Where one can't be opened, none that this run
-/// made stays.
-pub fn open_outputs(
-    rt: &HostRuntime,
-    paths: &Outputs<&str>,
-) -> Result<Outputs<OutputFile>, Ending> {
-    let response = written(OutputFile::open(rt, paths.response), Device::Response)?;
-    let books = match written(OutputFile::open(rt, paths.books), Device::EndBooks) {
-        Ok(books) => books,
-        Err(ending) => {
-            response.remove_made(rt);
-            return Err(ending);
-        }
-    };
-    match written(OutputFile::open(rt, paths.settlement), Device::Settlement) {
-        Ok(settlement) => Ok(Outputs {
-            response,
-            books,
-            settlement,
-        }),
-        Err(ending) => {
-            response.remove_made(rt);
-            books.remove_made(rt);
-            Err(ending)
-        }
-    }
-}
-
-/// Empties those that are regular files.
-pub fn empty_each(files: &Outputs<OutputFile>) -> Result<(), Ending> {
-    files
-        .as_ref()
-        .try_map(|device, file| written(file.empty(), device))?;
-    Ok(())
-}
-
-/// Brings those that are regular files to the disk, and the names of new ones.
-pub fn keep_each(rt: &HostRuntime, files: &Outputs<OutputFile>) -> Result<(), Ending> {
-    files
-        .as_ref()
-        .try_map(|device, file| written(file.keep(rt), device))?;
-    Ok(())
-}
-
-/// Removes those again that this run made.
-pub fn remove_made(rt: &HostRuntime, files: Outputs<OutputFile>) {
-    files.response.remove_made(rt);
-    files.books.remove_made(rt);
-    files.settlement.remove_made(rt);
-}
-
-// What was done to an output; a fault of the system's is a fault of it.
-fn written<T: Drop>(done: io::Result<T>, device: Device) -> Result<T, Ending> {
-    done.map_err(|error| Ending::of_output(device, error))
 }

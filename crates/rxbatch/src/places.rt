@@ -1,10 +1,64 @@
-//! Where the files of a run that aren't there yet are to stand.
+//! What stands at the path of an output, and where one that isn't there yet is to stand.
 use std::io::ErrorKind;
 use std::path::{Path, PathBuf};
 use std::{fs, io};
 
 // How many links to nothing are followed, one after another.
 const LINKS: u32 = 40;
+
+// How often a path is looked at again whose file came or went between two calls.
+const TRIES: u32 = 64;
+
+/// What stands at a path.
+#[derive(Drop)]
+pub enum Found {
+    /// A regular file: its path, with no link in it.
+    Plain(PathBuf),
+    /// Nothing.
+    Nothing,
+    /// A link to nothing.
+    DeadLink,
+    /// A folder, a pipe or another device.
+    Other,
+}
+
+impl Found {
+    /// Looks at a path, until two calls agree.
+    pub fn at(rt: &HostRuntime, path: &str) -> io::Result<Found> {
+        for _ in 0..TRIES {
+            let found = match fs::metadata(rt, path) {
+                Ok(metadata) if metadata.is_file() => plain(rt, path)?,
+                Ok(_) => Some(Found::Other),
+                Err(error) if error.kind() == ErrorKind::NotFound => absent(rt, path)?,
+                Err(error) => return Err(error),
+            };
+            if let Some(found) = found {
+                return Ok(found);
+            }
+        }
+        Err(io::Error::from(ErrorKind::AlreadyExists))
+    }
+}
+
+// A regular file; None where it went away meanwhile.
+fn plain(rt: &HostRuntime, path: &str) -> io::Result<Option<Found>> {
+    match fs::canonicalize(rt, path) {
+        Ok(place) => Ok(Some(Found::Plain(place))),
+        Err(error) if error.kind() == ErrorKind::NotFound => Ok(None),
+        Err(error) => Err(error),
+    }
+}
+
+// A path that leads to nothing; None where a regular file came into being meanwhile.
+fn absent(rt: &HostRuntime, path: &str) -> io::Result<Option<Found>> {
+    match fs::symlink_metadata(rt, path) {
+        Ok(metadata) if metadata.is_file() => Ok(None),
+        Ok(metadata) if metadata.is_symlink() => Ok(Some(Found::DeadLink)),
+        Ok(_) => Ok(Some(Found::Other)),
+        Err(error) if error.kind() == ErrorKind::NotFound => Ok(Some(Found::Nothing)),
+        Err(error) => Err(error),
+    }
+}
 
 /// The path of a file that isn't there, with no link in it. One that ends as the path of a folder names no file.
 pub fn new_path(rt: &HostRuntime, path: &str) -> io::Result<PathBuf> {

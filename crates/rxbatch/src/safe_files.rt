@@ -3,7 +3,7 @@ use crate::beside_file::{BesideFile, NotMade};
 use crate::ending::Ending;
 use crate::file_fault::{FileFault, ProgramFile, Reason};
 use crate::nodes::Node;
-use crate::places::new_path;
+use crate::places::{Found, new_path};
 use rx_io::{Device, Outputs};
 use std::fs::{File, Metadata, OpenOptions, Permissions};
 use std::io::ErrorKind;
@@ -40,20 +40,13 @@ impl SafeFile {
         so_far: &SoFar<'_>,
     ) -> Result<SafeFile, Ending> {
         let failed = |error: io::Error| Ending::of_output(device, error);
-        match fs::metadata(rt, path) {
-            Ok(metadata) if metadata.is_file() => {
-                let path = fs::canonicalize(rt, path).map_err(failed)?;
-                SafeFile::over(rt, path, device, so_far)
-            }
-            Ok(_) => Err(Ending::NotPlain(device.option())),
-            Err(error) if error.kind() == ErrorKind::NotFound => {
-                if fs::symlink_metadata(rt, path).is_ok() {
-                    return Err(Ending::NotPlain(device.option()));
-                }
+        match Found::at(rt, path).map_err(failed)? {
+            Found::Plain(path) => SafeFile::over(rt, path, device, so_far),
+            Found::Nothing => {
                 let path = new_path(rt, path).map_err(failed)?;
                 SafeFile::beside(rt, path, device, so_far)
             }
-            Err(error) => Err(Ending::of_output(device, error)),
+            Found::DeadLink | Found::Other => Err(Ending::NotPlain(device.option())),
         }
     }
 
@@ -64,19 +57,28 @@ impl SafeFile {
         device: Device,
         so_far: &SoFar<'_>,
     ) -> Result<SafeFile, Ending> {
-        let failed = |error: io::Error| Ending::of_output(device, error);
-        let earlier = OpenOptions::new()
-            .write(true)
-            .open(rt, path.as_path())
-            .map_err(failed)?;
-        let metadata = earlier.metadata().map_err(failed)?;
         let mut safe = SafeFile::beside(rt, path, device, so_far)?;
-        safe.earlier = Node::of(&earlier);
-        if let Err(error) = take_rights(safe.file(), &metadata) {
-            safe.discard(rt);
-            return Err(Ending::of_output(device, error));
+        match safe.take_over(rt) {
+            Ok(()) => Ok(safe),
+            Err(error) => {
+                safe.discard(rt);
+                Err(Ending::of_output(device, error))
+            }
         }
-        Ok(safe)
+    }
+
+    // Takes the rights of the earlier file. One that went away meanwhile is none.
+    fn take_over(&mut self, rt: &HostRuntime) -> io::Result<()> {
+        let found = OpenOptions::new().write(true).open(rt, self.path.as_path());
+        let earlier = match found {
+            Ok(earlier) => earlier,
+            Err(error) if error.kind() == ErrorKind::NotFound => return Ok(()),
+            Err(error) => return Err(error),
+        };
+        let metadata = earlier.metadata()?;
+        take_rights(self.file(), &metadata)?;
+        self.earlier = Node::of(&earlier);
+        Ok(())
     }
 
     // The file, made next to the path.

@@ -1,26 +1,28 @@
 //! A run that is watched: what passes through its files is counted, reported on standard error, and kept in a log.
+use crate::code_counts::code_counts;
 use crate::ending::{Ending, Numbers};
-use crate::fault_line::{file_words, refused_words};
+use crate::fault_line::{file_words, long_books_words, refused_words};
 use crate::log_file::LogFile;
 use crate::nodes::Node;
-use crate::noted_file::{LastError, noted_output};
+use crate::noted_file::{CodesWritten, LastError, coded_output, noted_output};
 use crate::read_again::ReadInputs;
 use crate::run_files::RunFiles;
 use crate::teller::Teller;
 use crate::told_source::ToldSource;
+use jiff::Timestamp;
 use rx_cli::{RunWords, VERSION};
 use rx_io::{Inputs, Outputs};
 use rx_run_log::{
-    FileLog, FileSum, Lot, RunLog, RunTimes, RunTraffic, Shards, Step, Totals, Traffic, Watched,
-    log_line,
+    CodeCount, CodesPassed, FileLog, FileSum, Lot, RunLog, RunTimes, RunTraffic, Shards, Step,
+    Totals, Traffic, Watched, details_in, log_line, micros_between,
 };
 use rx_switch::{IoFault, run_io};
-use std::alloc::AllocError;
+use std::alloc::{AllocError, Global};
 use std::cell::Cell;
 use std::sync::Wait;
 use std::thread::Threads;
 use std::time::Clock;
-use std::{fs, io};
+use std::{fs, io, process};
 
 /// Adjudicates a batch file, and adds a line to its log, if it has one, of a refused run too. A log that fails after a run
 /// that is done ends the program as a file fault. A fault is reported in words too where that is asked for. The answer is how
@@ -58,7 +60,11 @@ struct WatchedRun {
     // Why it isn't done, in words.
     fault: Option<String>,
     traffic: RunTraffic,
+    // The reject codes in the response.
+    codes: Option<CodesPassed>,
     shards: Option<Shards>,
+    // When it began, as RFC 3339 has it.
+    start: Option<String>,
     times: RunTimes,
 }
 
@@ -69,9 +75,12 @@ fn watched<R: Threads + Wait + Sync>(
     words: &RunWords<'_>,
     log: Node,
 ) -> WatchedRun {
+    let start = time_now(rt);
     let teller = Teller::new(rt, words);
+    // Only the log has the codes.
+    let codes = Cell::new(words.log.map(|_| CodesPassed::new(rt.alloc())));
     let (done, fault, traffic) = match RunFiles::open(rt, words, log) {
-        Ok(files) => on_files(rt, threads, words, files, &teller),
+        Ok(files) => on_files(rt, threads, words, files, &teller, &codes),
         Err(ending) => (Err(ending), None, RunTraffic::nothing()),
     };
     let fault = match (&done, fault) {
@@ -90,7 +99,9 @@ fn watched<R: Threads + Wait + Sync>(
         done,
         fault,
         traffic,
+        codes: codes.into_inner(),
         shards: teller.shards(),
+        start,
         times,
     }
 }
@@ -102,6 +113,7 @@ fn on_files<R: Threads + Wait + Sync>(
     words: &RunWords<'_>,
     files: RunFiles,
     teller: &Teller<'_>,
+    codes: &CodesWritten,
 ) -> (Result<(), Ending>, Option<String>, RunTraffic) {
     let alloc = rt.alloc();
     // Only the log has sums.
@@ -116,7 +128,7 @@ fn on_files<R: Threads + Wait + Sync>(
     };
     let files = outputs.files();
     let mut sinks = Outputs {
-        response: Watched::new(noted_output(files.response, &last), rt, sums),
+        response: Watched::new(coded_output(files.response, &last, codes), rt, sums),
         books: Watched::new(noted_output(files.books, &last), rt, sums),
         settlement: Watched::new(noted_output(files.settlement, &last), rt, sums),
     };
@@ -132,7 +144,11 @@ fn on_files<R: Threads + Wait + Sync>(
     );
     let traffic = RunTraffic {
         inputs: sources.map(|source| source.into_traffic()),
-        outputs: sinks.map(|sink| sink.into_traffic()),
+        outputs: Outputs {
+            response: sinks.response.into_traffic(),
+            books: sinks.books.into_traffic(),
+            settlement: sinks.settlement.into_traffic(),
+        },
     };
     let fault = refusal_of(rt, words, &done, &read, &traffic.inputs);
     let done = done.map_err(|fault| Ending::of_run(fault, last.get()));
@@ -171,13 +187,26 @@ fn line(rt: &HostRuntime, words: &RunWords<'_>, run: &WatchedRun) -> Result<Stri
     let alloc = rt.alloc();
     let (status, refused, file) = end_of(&run.done);
     let (inputs, outputs) = (&run.traffic.inputs, &run.traffic.outputs);
+    let lines = outputs.books.last().map(|_| outputs.books.line_feeds());
+    let warning = warning_of(rt, words, &run.done, lines);
+    let host = host_name(rt);
+    let codes = given_codes(alloc, run);
     let read = inputs.as_ref().map(|file| FileSum::of(alloc, file));
     let written = outputs.as_ref().map(|file| FileSum::of(alloc, file));
     let log = RunLog {
         version: VERSION,
+        start: text_of(&run.start),
+        duration: micros_between(run.times.begin, run.times.end),
+        host: text_of(&host),
+        process: process::id(rt.process()),
         status,
         refused,
         file,
+        fault: text_of(&run.fault),
+        warning: text_of(&warning),
+        records: inputs.batch.last().map(|_| details_in(&inputs.batch)),
+        end_books_lines: lines,
+        codes: slice_of(&codes),
         stamp: words.stamp,
         workers: words.workers,
         plain: words.plain,
@@ -225,6 +254,55 @@ fn end_of(done: &Result<(), Ending>) -> (u8, Option<[u64; 3]>, Option<u64>) {
             None => (ending.status(), None, None),
         },
     }
+}
+
+// What an operator should know of the end books of a run that is done.
+fn warning_of(
+    rt: &HostRuntime,
+    words: &RunWords<'_>,
+    done: &Result<(), Ending>,
+    lines: Option<u64>,
+) -> Option<String> {
+    match (done, lines) {
+        (Ok(()), Some(lines)) => long_books_words(rt, words, lines),
+        _ => None,
+    }
+}
+
+// How often each reject code was given, where the response was written.
+fn given_codes(alloc: Global, run: &WatchedRun) -> Option<Vec<CodeCount>> {
+    run.traffic.outputs.response.last()?;
+    match &run.codes {
+        Some(codes) => code_counts(alloc, codes).ok(),
+        None => None,
+    }
+}
+
+fn slice_of(counts: &Option<Vec<CodeCount>>) -> Option<&[CodeCount]> {
+    match counts {
+        Some(counts) => Some(counts.as_slice()),
+        None => None,
+    }
+}
+
+fn text_of(text: &Option<String>) -> Option<&str> {
+    match text {
+        Some(text) => Some(text.as_str()),
+        None => None,
+    }
+}
+
+// The time of the clock, as RFC 3339 has it, in UTC.
+fn time_now(rt: &HostRuntime) -> Option<String> {
+    let seconds = rt.since_1970().ok()?.as_secs();
+    let time = Timestamp::from_second(i64::try_from(seconds).ok()?).ok()?;
+    format!(in rt.alloc(); "{time}").ok()
+}
+
+// The name of the machine, where the system says it.
+fn host_name(rt: &HostRuntime) -> Option<String> {
+    let name = fs::read_to_string(rt, "/proc/sys/kernel/hostname").ok()?;
+    String::from_str(rt.alloc(), name.as_str().trim()).ok()
 }
 
 /// The most memory that the program had, in kilobytes, where the system says it.

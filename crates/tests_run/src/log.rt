@@ -51,9 +51,18 @@ fn a_header_has_a_lot(rt: HostRuntime) {
 
 const REFUSED: RunLog<'static> = RunLog {
     version: "1.0.0",
+    start: Some("2026-03-17T05:00:00Z"),
+    duration: Some(1_234),
+    host: None,
+    process: 4711,
     status: 1,
     refused: Some([5, 1, 0]),
     file: None,
+    fault: Some("batch.bin: record 1"),
+    warning: None,
+    records: Some(12),
+    end_books_lines: None,
+    codes: None,
     stamp: "202603170600",
     workers: 4,
     plain: false,
@@ -85,9 +94,14 @@ fn a_refused_run_has_a_line(rt: HostRuntime) {
     let line = log_line(rt.alloc(), &REFUSED).expect(&rt, "memory");
     let front = "{\"file\":null,\"inputs\":{\"batch\":{\"bytes\":null,\"path\":\"a \\\"b\\\"\"";
     same(&rt, line.starts_with(front), true);
-    let inner =
-        "\"peak_kilobytes\":4096,\"refused\":[5,1,0],\"run\":{\"desk\":false,\"plain\":false,";
+    let inner = "\"peak_kilobytes\":4096,\"refused\":[5,1,0],\"run\":{\"counts\":{\"codes\":null,";
     same(&rt, line.contains(inner), true);
+    let run =
+        "\"end_books_lines\":null,\"records\":12},\"desk\":false,\"machine\":{\"host\":null,\"process\":4711},";
+    same(&rt, line.contains(run), true);
+    let words =
+        "\"start\":\"2026-03-17T05:00:00Z\"},\"words\":{\"fault\":\"batch.bin: record 1\",\"warning\":null},";
+    same(&rt, line.contains(words), true);
     let shards = "\"shards\":{\"count\":4,\"largest\":25312,\"transactions\":100000}";
     same(&rt, line.contains(shards), true);
     let end = "\"status\":1,\"totals\":null,\"version\":\"1.0.0\"}";

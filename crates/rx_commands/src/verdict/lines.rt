@@ -1,8 +1,8 @@
 ghost use Rattle.std.specs.Prelude.{◌≡◌, ◌≤◌, ◌++◌, IfOk, OnOk, codes};
 ghost use Rattle.std.specs.Fmt.{decimal};
 ghost use Rattle.rx_switch.specs.Job.{texts_in};
-ghost use Rattle.rx_commands.specs.Verdict.{difference_lines, end_of, first_of, option_line, place_line, place_words};
-ghost use Rattle.rx_commands.specs.Verdict.{same_line, shown_piece, sized, verdict_text, word_of};
+ghost use Rattle.rx_commands.specs.Verdict.{difference_lines, end_of, first_of, front_text, option_line, place_line};
+ghost use Rattle.rx_commands.specs.Verdict.{place_words, same_line, shown_piece, sized, verdict_text, word_of};
 ghost use Rattle.rx_commands.specs.Verified.{texts_in_files};
 
 use crate::pieces::{pieces_before, rest_of_piece};
@@ -13,6 +13,9 @@ use rx_io::Outputs;
 use rx_print::{Style, put_decimal, put_escaped, put_grouped};
 use rx_switch::Output;
 use std::alloc::{AllocError, Global};
+
+// How many bytes of a line or record are shown.
+const LONGEST: usize = 60;
 
 /// What a place in a file is counted in: pieces, each ended by one byte.
 #[derive(Clone, Copy, Debug)]
@@ -54,7 +57,7 @@ impl Cut {
 }
 
 /// What `verify` prints: that the files are the same, with the sizes of all three, or a line for each file that isn't,
-/// with the first line or record that differs and what stands there from the first byte on that does
+/// with the first line or record that differs and at most 60 bytes of what stands there from the first byte on that does
 /// (docs/CLI.md, "verify"). Records count from 0, the header, and bytes from 0.
 pub(crate) fn verdict_text(
     alloc: Global,
@@ -201,9 +204,21 @@ fn put_numbers(text: &mut Vec<u8>, number: u128, at: u128) -> Result<(), AllocEr
     text.extend_from_slice(b": file ")
 }
 
-// What stands from a place to the end of its line or record, as a terminal shows it.
+// What stands from a place to the end of its line or record.
 fn put_piece(text: &mut Vec<u8>, cut: Cut, file: &[u8], at: usize) -> Result<(), AllocError>
     ensures { OnOk result (text.new.items ≡ text.old.items ++ shown_piece cut file.now at) }
 {
-    put_escaped(text, Style::Terminal, rest_of_piece(file, at, cut.end()))
+    put_front(text, rest_of_piece(file, at, cut.end()))
+}
+
+// Bytes as a terminal shows them, of many the front only.
+#[tactic(auto, using(std::proofs::Common::append_assoc))]
+fn put_front(text: &mut Vec<u8>, bytes: &[u8]) -> Result<(), AllocError>
+    ensures { OnOk result (text.new.items ≡ text.old.items ++ front_text bytes.now) }
+{
+    if bytes.len() <= LONGEST {
+        return put_escaped(text, Style::Terminal, bytes);
+    }
+    put_escaped(text, Style::Terminal, &bytes[..LONGEST])?;
+    text.extend_from_slice(b"..")
 }
