@@ -47,7 +47,7 @@ module _ (r : Row) (rows : List Row) (slots : List KeySlot) (rows_rise : IsAscen
       ≡ found_under key_cmp row_key slot_key held (item_at key_cmp slot_key slots k) (item_at key_cmp row_key rows k)
   in_rest k = item_at-overlaid key_cmp key_total row_key slot_key held rows slots k rise own
 
-  -- the slot of the row's key, where there is one, hides the row
+  -- a slot of the row's key hides the row
   hidden : (s : KeySlot) → item_at key_cmp slot_key slots r.key ≡ Some s → all ≡ rest
   hidden s there = same_items key_cmp key_total row_key all rest all_rise rest_rise (λ k.
       in_all k ∙ elim (cases_Bool (has_key key_cmp row_key k r)) [
