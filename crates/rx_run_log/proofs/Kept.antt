@@ -4,8 +4,8 @@ use Rattle.std.proofs.Common.{◌∙◌, ap, inl, inr, arith, Result, Ok, Err, t
 use Rattle.std.specs.Result.{IsOk, OnOk}
 use Rattle.std.proofs.lemmas.Bool.{cases_lt}
 use native.Mathlib.Numerals.{unary_clauses}
-use Rattle.std.proofs.lemmas.List.{drop_all, take_all, drop-drop, length-append, length-drop, length-take, take-take}
-use Rattle.std.proofs.lemmas.List.Sums.{sum_by-append}
+use Rattle.std.proofs.lemmas.List.{drop_all, take_all, take-append-drop, drop-drop, length-append, length-drop, length-take, take-take}
+use Rattle.std.proofs.lemmas.List.Sums.{count_by-le-length, sum_by-append}
 use Rattle.rx_run_log.specs.Traffic.{count_of, last_of}
 
 -- a front of both is a front of the first, and of the second what there is still room for
@@ -79,3 +79,17 @@ sum-on a b m n is = rw is (omega arith)
 
 pub count-on : (mark : ℕ) (xs ys : List ℕ) → count_of mark (xs ++ ys) ≡ count_of mark xs + count_of mark ys
 count-on mark xs ys = sum_by-append _ xs ys
+
+-- what is counted at the front and in what follows is what is counted in the whole
+pub count-cut : (mark n : ℕ) (xs : List ℕ) → count_of mark (take n xs) + count_of mark (drop n xs) ≡ count_of mark xs
+count-cut mark n xs = sym (count-on mark (take n xs) (drop n xs)) ∙ ap (count_of mark) (take-append-drop n xs)
+
+-- a block more is counted, and what follows it is left
+pub count-block : (mark n count part : ℕ) (bytes rest block after : List ℕ) → count + count_of mark rest ≡ count_of mark bytes
+    → part ≡ count_of mark block → block ≡ take n rest → after ≡ drop n rest → count + part + count_of mark after ≡ count_of mark bytes
+count-block mark n count part bytes rest block after so is front back =
+    omega (arith, so, is, ap (count_of mark) front, ap (count_of mark) back, count-cut mark n rest)
+
+-- no more is counted than there is
+pub count-few : (mark : ℕ) (bytes : List ℕ) → count_of mark bytes ≤ length bytes
+count-few mark bytes = count_by-le-length _ bytes

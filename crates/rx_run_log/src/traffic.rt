@@ -6,8 +6,8 @@ ghost use Rattle.sha2.specs.Hashers.{Holds256};
 ghost use Rattle.sha2.specs.Sha256.{sha256};
 ghost use Rattle.rx_run_log.specs.Traffic.{Adds, IsTrafficOf, count_of, in_64_bits, last_of};
 
+use crate::marks::Marks;
 use arrayvec::ArrayVec;
-use rx_batch::STX;
 use sha2::{Digest, Sha256};
 use std::alloc::AllocError;
 use std::time::Duration;
@@ -66,8 +66,9 @@ impl Traffic {
     {
         update(&mut self.sum, piece);
         self.bytes = self.bytes.saturating_add(piece.len() as u64);
-        self.line_feeds = self.line_feeds.saturating_add(count_of(b'\n', piece));
-        self.starts = self.starts.saturating_add(count_of(STX, piece));
+        let marks = Marks::of(piece);
+        self.line_feeds = self.line_feeds.saturating_add(marks.line_feeds);
+        self.starts = self.starts.saturating_add(marks.starts);
         keep_front(&mut self.front, piece);
         keep_end(&mut self.end, piece);
     }
@@ -167,13 +168,6 @@ fn update(sum: &mut Option<Sha256>, piece: &[u8])
     if let Some(sum) = sum {
         sum.update(piece);
     }
-}
-
-// How many of the bytes are `mark`.
-fn count_of(mark: u8, bytes: &[u8]) -> u64
-    ensures { result ≡ count_of mark bytes.now }
-{
-    bytes.iter().filter(|byte| **byte == mark).count() as u64
 }
 
 // Keeps what a piece adds to the front.

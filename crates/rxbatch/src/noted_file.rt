@@ -2,7 +2,7 @@
 ghost use Rattle.std.specs.Prelude.{◌≡◌, false};
 
 use rx_io::{ReaderSource, Sink, Source, WriterSink};
-use rx_run_log::CodesPassed;
+use rx_run_log::{CodesPassed, line_feeds_in};
 use std::cell::Cell;
 use std::fs::File;
 use std::io;
@@ -123,7 +123,7 @@ impl<'a> Write for NotedFile<'a> {
 impl<'a> Write for CountedFile<'a> {
     fn write(&mut self, piece: &[u8]) -> io::Result<usize> {
         let count = self.file.write(piece)?;
-        let lines = piece[..count].iter().filter(|byte| **byte == b'\n').count() as u64;
+        let lines = line_feeds_in(&piece[..count]);
         self.lines.set(self.lines.get().saturating_add(lines));
         Ok(count)
     }

@@ -14,10 +14,10 @@ returns-clause-traffic c bytes before =
       end = c.keep_end.ensures ∙ ap (λ l. last_of 256 (l ++ piece)) before.end ∙ last-on 256 bytes piece;
       size = c.saturating_add-self.ensures ∙ ap (λ n. in_64_bits (n + length piece)) before.size
           ∙ sum-on (length bytes) (length piece) _ _ (length-append bytes piece);
-      line_feeds = rw c.count_of.ensures at c.saturating_add-self-2.ensures
+      line_feeds = rw c.of-marks.ensures.line_feeds at c.saturating_add-self-2.ensures
           ∙ ap (λ n. in_64_bits (n + count_of 10 piece)) before.line_feeds
           ∙ sum-on (count_of 10 bytes) (count_of 10 piece) _ _ (count-on 10 bytes piece);
-      starts = rw c.count_of-2.ensures at c.saturating_add-self-3.ensures
+      starts = rw c.of-marks.ensures.starts at c.saturating_add-self-3.ensures
           ∙ ap (λ n. in_64_bits (n + count_of STX piece)) before.starts
           ∙ sum-on (count_of STX bytes) (count_of STX piece) _ _ (count-on STX bytes piece);
     }
