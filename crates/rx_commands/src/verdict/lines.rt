@@ -219,6 +219,7 @@ fn put_front(text: &mut Vec<u8>, bytes: &[u8]) -> Result<(), AllocError>
     if bytes.len() <= LONGEST {
         return put_escaped(text, Style::Terminal, bytes);
     }
-    put_escaped(text, Style::Terminal, &bytes[..LONGEST])?;
+    let front = &bytes[..LONGEST];
+    put_escaped(text, Style::Terminal, front)?;
     text.extend_from_slice(b"..")
 }
