@@ -82,9 +82,9 @@ impl InPlace {
 
     /// Lets the locks go, and leaves the files as they are.
     pub fn leave(self, rt: &HostRuntime) {
-        let_go(rt, self.files.response.lock);
-        let_go(rt, self.files.books.lock);
-        let_go(rt, self.files.settlement.lock);
+        self.files.response.leave(rt);
+        self.files.books.leave(rt);
+        self.files.settlement.leave(rt);
     }
 
     /// Removes the files that this run made, and lets the locks go.
@@ -116,6 +116,11 @@ impl LockedFile {
                 Err(Ending::of_output(device, error))
             }
         }
+    }
+
+    // Lets the lock go, and leaves the file as it is.
+    fn leave(self, rt: &HostRuntime) {
+        let_go(rt, self.lock);
     }
 
     // Removes the file again, where this run made it, and lets the lock go.
