@@ -11,11 +11,13 @@ use Rattle.rx_fields.specs.Numbered.{LotParts, Span}
 use Rattle.rx_ledger.specs.declared.row.Row.{Row}
 use Rattle.rx_ledger.specs.Answers.{after, answer}
 use Rattle.rx_ledger.specs.Fold.{answers_from, asked, fold_ledger, fold_replies, ledger_after, ledger_from, reply_to}
-use Rattle.rx_ledger.specs.Ledger.{Ledger}
+use Rattle.rx_ledger.specs.Ledger.{Ledger, rows_of}
 use Rattle.rx_ledger.specs.Members.{is_same}
 use Rattle.rx_ledger.specs.Plan.{Plan}
+use Rattle.rx_ledger.specs.Rows.{claimed_by}
 use Rattle.rx_ledger.specs.Sums.{counted, deductible_paid, persons_deductible_paid}
-use Rattle.rx_explain.specs.Shown.{counts_in}
+use Rattle.rx_explain.specs.Shown.{counted_rows, counts_in}
+use Rattle.rx_explain.proofs.Counted.{filter_both}
 
 one_more : (place before : ℕ) → place + 1 + before ≡ place + suc before
 one_more place before = omega arith
@@ -66,7 +68,7 @@ module _ (period : Span) where
     | inr outside ↦ rw (outside, add-zero) (counted_fold figure rows a)
   ]
 
-  pub sum_of_counted : (figure : Row → ℕ) (rows : List Row)
+  sum_of_counted : (figure : Row → ℕ) (rows : List Row)
       → sum_by (counted period figure) rows ≡ sum_by figure (filter (counts_in period) rows)
   sum_of_counted figure rows = counted_fold figure rows 0
 
@@ -79,6 +81,22 @@ person_fold person (r ∷ rows) a = elim (cases_Bool (is_same r.person person)) 
   | inr other ↦ rw (other, add-zero) (person_fold person rows a)
 ]
 
-pub sum_of_person : (person : List ℕ) (rows : List Row)
+sum_of_person : (person : List ℕ) (rows : List Row)
     → sum_by (persons_deductible_paid person) rows ≡ sum_by deductible_paid (filter (λ r. is_same r.person person) rows)
 sum_of_person person rows = person_fold person rows 0
+
+-- those of the family's rows that are shown
+module _ (period : Span) (L : Ledger) (family : List ℕ) where
+  only_counted : filter (counts_in period) (rows_of L family) ≡ counted_rows period L family
+  only_counted = sym (filter_both (claimed_by family) (counts_in period) L.rows)
+
+  pub sum_of_shown : (figure : Row → ℕ) → sum_by (counted period figure) (rows_of L family)
+      ≡ sum_by figure (counted_rows period L family)
+  sum_of_shown figure = sum_of_counted period figure (rows_of L family) ∙ ap (sum_by figure) only_counted
+
+  pub sum_of_shown_person : (person : List ℕ) → sum_by (counted period (persons_deductible_paid person)) (rows_of L family)
+      ≡ sum_by deductible_paid (filter (λ r. is_same r.person person) (counted_rows period L family))
+  sum_of_shown_person person =
+      sum_of_counted period (persons_deductible_paid person) (rows_of L family)
+      ∙ sum_of_person person (filter (counts_in period) (rows_of L family))
+      ∙ ap (λ (rows : List Row). sum_by deductible_paid (filter (λ r. is_same r.person person) rows)) only_counted

@@ -5,4 +5,5 @@ pub mod ListedDrugs
 pub mod Nexts
 pub mod Opened
 pub mod Parted
+pub mod Reckoned
 pub mod Sources

@@ -1,9 +1,6 @@
 -- One more event, to the last payment before a transaction and to the first taking back after it; and rows that are found.
-use Rattle.std.specs.Prelude.{◌&&◌}
-use Rattle.std.proofs.Common.{◌≡◌, ℕ, ◌+◌, ◌<◌, ◌++◌, Bool, true, false, List, [], ◌∷◌, Some, reverse, drop}
-use Rattle.std.proofs.Common.{drop-cons, take, get_or, length, add-one, refl, sym, ap, ◌∙◌, inl, inr}
-use Rattle.std.specs.List.{filter, find}
-use Rattle.std.proofs.lemmas.Bool.{cases_Bool}
+use Rattle.std.proofs.Common.{◌≡◌, ℕ, ◌+◌, ◌<◌, ◌++◌, true, false, List, [], ◌∷◌, Some, reverse, drop}
+use Rattle.std.proofs.Common.{drop-cons, take, get_or, length, add-one, refl, sym, ap, ◌∙◌}
 use Rattle.std.proofs.lemmas.List.{reverse-append, take_more}
 use Rattle.rx_fields.specs.declared.key.Key.{Key}
 use Rattle.rx_explain.specs.declared.at.At.{At}

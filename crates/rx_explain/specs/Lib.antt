@@ -6,6 +6,7 @@ pub mod Found
 pub mod Listed
 pub mod Opens
 pub mod Parts
+pub mod Reckoned
 pub mod Shown
 pub mod Spots
 pub mod Traces

@@ -9,7 +9,13 @@ ghost use Rattle.rx_ledger.specs.Ledger.{Ledger, rows_of};
 ghost use Rattle.rx_ledger.specs.Members.{is_same};
 ghost use Rattle.rx_ledger.specs.Plan.{Plan};
 ghost use Rattle.rx_ledger.specs.Sums.{deductible, deductible_paid, family_deductible, out_of_pocket, paid_by_patient};
+ghost use Rattle.rx_explain.specs.declared.at.At.{At};
+ghost use Rattle.rx_explain.specs.declared.events.Event.{Event};
+ghost use Rattle.rx_explain.specs.declared.explanation.Explanation.{Explanation};
+ghost use Rattle.rx_explain.specs.Explained.{IsOnLedger};
+ghost use Rattle.rx_explain.specs.Reckoned.{IsAccountedFor};
 ghost use Rattle.rx_explain.specs.Shown.{counted_rows};
+ghost use Rattle.rx_explain.specs.Spots.{Spot};
 
 /// The answer that an explanation shows is the one in the batch's replies: the reply to a record is that on the ledger
 /// which the records before it leave, and its answers are each that on the ledger which the transactions before it leave
@@ -35,4 +41,12 @@ pub fn sums_are_of_counted_rows()
     ensures deductible { (period : Span) → (L : Ledger) → (family : List ℕ) → (person : List ℕ)
         → deductible period L family person
         ≡ sum_by deductible_paid (filter (λ r. is_same r.person person) (counted_rows period L family)) }
+{}
+
+/// The steps of an explanation lead to its answer: allowed, deductible, copay or coinsurance, what the member pays and what
+/// the plan pays follow from the figures that are shown; each figure that is left is the plan's less what was used, and what
+/// was used is the sum over exactly the claims that are shown (docs/RULES.md, "Rules of adjudication").
+pub fn steps_lead_to_the_answer()
+    ensures { (lot : LotParts) → (plan : Plan) → (L : Ledger) → (events : List Event) → (at : At) → (s : Spot)
+        → (x : Explanation) → IsOnLedger lot plan L events at s x → IsAccountedFor plan x }
 {}
