@@ -57,6 +57,7 @@ cases: kit cc
 	python3 tests/run_failing.py $(PROGRAM)
 	python3 tests/refused_memory.py $(PROGRAM)
 	python3 tests/refused_desk.py "$(TRIALS) orders" --jobs 3
+	python3 tests/refused_desk.py "$(TRIALS) refusals"
 
 demo: kit
 	@python3 tools/build.py

@@ -1,13 +1,16 @@
 #!/usr/bin/env python3
-"""Drives desks while the Nth request for memory is refused, for N = 1, 2 and on.
+"""Drives desks, or runs what is refused before anything is allocated, while the Nth request for memory is refused, for N = 1, 2
+and on.
 
     tests/refused_desk.py PROGRAM [--jobs N] [--step N] [--seconds S]
 
-PROGRAM is `crates/rx_bench/out/rx_bench orders`, a command line. A library is compiled with `cc` from refused_memory.c
-next to this file and preloaded into it; without `cc` nothing can be tried. The program makes a refused desk again, and asks a
-refused `next` and a refused adjudication once more; each job then ends as in file order, and it counts the refusals that
-`next` met. Where the refusal meets its own lists it says that memory ran out. Any other end fails. The sweep goes on
-until a run meets no refusal. The last line is `N passed, M failed`.
+PROGRAM is `crates/rx_bench/out/rx_bench orders`, a command line, or the same with `refusals`. A library is compiled with `cc`
+from refused_memory.c next to this file and preloaded into it; without `cc` nothing can be tried.
+
+With `orders` the program makes a refused desk again, and asks a refused `next` and a refused adjudication once more; each job
+then ends as in file order, and it counts the refusals that `next` met. With `refusals` a run with 0 workers and one with a stamp
+of no date have to be refused as such. Where the refusal meets the program's own lists it says that memory ran out. Any other
+end fails. The sweep goes on until a run meets no refusal. The last line is `N passed, M failed`.
 """
 
 import argparse

@@ -5,7 +5,8 @@ use std::io::Read;
 use std::rt::Files;
 use std::{fs, io};
 
-const SHEET: &[u8] = b"bin = \"900001\"
+/// The plan sheet of one-billing, with one drug.
+pub const SHEET: &[u8] = b"bin = \"900001\"
 pcn = \"RXDEMO\"
 period_first = \"20260101\"
 period_last = \"20261231\"
@@ -21,12 +22,14 @@ tier = \"2\"
 price = 100000
 ";
 
-const BOOKS: &[u8] = b"BOOKS|3|20260101|20261231
+/// Its opening books, with one member.
+pub const BOOKS: &[u8] = b"BOOKS|3|20260101|20261231
 M|C100|01|20260101|20261231|0
 T|C100|0|0
 ";
 
-const BATCH: &[u8] =
+/// Its batch file.
+pub const BATCH: &[u8] =
     b"\x0200TPHARMSYS                0000042202603010930P12RXSWITCH                \x03\
 \x02G10000000001900001D0B1RXDEMO    1011234567893     20260228          \x1e\x1cAM04\x1cC2C100\x1cC301\
 \x1d\x1e\x1cAM07\x1cEM1\x1cD2000000000123\x1cE103\x1cD700002000202\x1cE70000030000\x1cD5030\x1cD61\

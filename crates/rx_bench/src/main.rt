@@ -1,6 +1,7 @@
 //! Times single calls, a module for each: `rx_bench NAME [FOLDER [MICROS]]`, on the inputs of a folder as
 //! `bench/make_job.py` writes them, or on one-billing (tests/cases/README.md); `bench/README.md` has the figures.
-//! `rx_bench orders [COUNT]` is a trial, which a test starts (`tests/README.md`): it drives desks in orders drawn at random.
+//! Two trials are started by a test (`tests/README.md`): `rx_bench orders [COUNT]` drives desks in orders drawn at random, and
+//! `rx_bench refusals` runs what is refused before anything is allocated.
 //! Without a word each call is timed in a short round on one-billing, which says what it found, and the orders are driven.
 #![tactic(auto)]
 
@@ -80,6 +81,7 @@ fn done<R: Print + Clock + Files + Threads + Wait + Sync>(
     };
     match name.as_str() {
         "orders" => trials::orders(rt, words.get(2)),
+        "refusals" => trials::refusals(threads, rt.alloc()),
         name if NAMES.contains(&name) => told(
             rt,
             timed(threads, rt.alloc(), name, words.get(2), words.get(3)),
@@ -94,7 +96,7 @@ fn unknown(rt: &HostRuntime, name: &str) -> ExitCode {
     for known in NAMES {
         let _ = eprint!(rt; " {known},");
     }
-    let _ = eprintln!(rt; " and orders");
+    let _ = eprintln!(rt; " orders and refusals");
     status_of_words(false)
 }
 

@@ -1,4 +1,4 @@
-//! Desks driven in orders drawn at random, which a test starts.
+//! What a test starts: desks driven in orders drawn at random, and runs that are refused before anything is allocated.
 
 mod compared;
 mod draw;
@@ -8,5 +8,7 @@ mod miss;
 mod orders;
 mod plan;
 mod profile;
+mod refused;
 
 pub use orders::orders;
+pub use refused::refusals;
