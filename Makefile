@@ -1,12 +1,15 @@
 # make look: the first job run without proof and its outputs shown, or another job by JOB=FOLDER. make demo: proved, built, and
 # the first job run; the program stands at ./rxbatch then. make test: the gate, then the worked cases on the built program.
-# make install PREFIX=..: the built program with its manual page and completions.
-.PHONY: test all-edits cases demo look install kit cc
+# make install PREFIX=.. and make uninstall: the built program with its manual page, completions, docs and the night's scripts
+# and units. make deb: the same as a package in out/deb.
+.PHONY: test all-edits cases demo look install uninstall deb kit cc
 PROGRAM = crates/rxbatch/out/rxbatch
 TRIALS = crates/rx_bench/out/rx_bench
 FIRST = examples/first_job
 PREFIX = /usr/local
 DESTDIR =
+INTO = $(DESTDIR)$(PREFIX)
+NIGHT = $(addprefix examples/night/,night.sh pair.sh done.sh failed.sh table.py night.sbatch)
 # (the letter after the number is the kit's edition: its logic is the same)
 KIT = rattle-kit-13
 LOGIC = dac8208d650f15bf
@@ -39,6 +42,7 @@ cases: kit cc
 	python3 tools/count_dialect.py --allowed 6
 	test -x $(PROGRAM) || (cd crates/rxbatch && rt run -- sample)
 	python3 packaging/make_pages.py $(PROGRAM) --check
+	python3 tests/run_packaging.py $(PROGRAM)
 	python3 tests/run_pages.py $(PROGRAM)
 	python3 tests/run_words.py $(PROGRAM)
 	python3 tests/run_paths.py $(PROGRAM)
@@ -70,7 +74,19 @@ demo: kit
 
 install:
 	@test -x $(PROGRAM) || { echo "make: $(PROGRAM) isn't there: run make demo first" >&2; exit 1; }
-	install -D -m 755 $(PROGRAM) $(DESTDIR)$(PREFIX)/bin/rxbatch
-	install -D -m 644 packaging/rxbatch.1 $(DESTDIR)$(PREFIX)/share/man/man1/rxbatch.1
-	install -D -m 644 packaging/rxbatch.bash $(DESTDIR)$(PREFIX)/share/bash-completion/completions/rxbatch
-	install -D -m 644 packaging/_rxbatch $(DESTDIR)$(PREFIX)/share/zsh/site-functions/_rxbatch
+	install -D -m 755 $(PROGRAM) $(INTO)/bin/rxbatch
+	install -D -m 644 packaging/rxbatch.1 $(INTO)/share/man/man1/rxbatch.1
+	install -D -m 644 packaging/rxbatch.bash $(INTO)/share/bash-completion/completions/rxbatch
+	install -D -m 644 packaging/_rxbatch $(INTO)/share/zsh/site-functions/_rxbatch
+	install -D -m 644 -t $(INTO)/share/doc/rxbatch README.md CHANGELOG.md SECURITY.md docs/*.md
+	install -D -m 755 -t $(INTO)/lib/rxbatch $(NIGHT)
+	mkdir -p $(INTO)/lib/systemd/system
+	for unit in service timer; do sed 's|/usr/local/|$(PREFIX)/|g' examples/night/rxbatch-night.$$unit > $(INTO)/lib/systemd/system/rxbatch-night.$$unit; done
+
+uninstall:
+	rm -f $(INTO)/bin/rxbatch $(INTO)/share/man/man1/rxbatch.1 $(INTO)/share/bash-completion/completions/rxbatch
+	rm -f $(INTO)/share/zsh/site-functions/_rxbatch $(INTO)/lib/systemd/system/rxbatch-night.service $(INTO)/lib/systemd/system/rxbatch-night.timer
+	rm -rf $(INTO)/share/doc/rxbatch $(INTO)/lib/rxbatch
+
+deb:
+	sh packaging/make_deb.sh $(PROGRAM) out/deb

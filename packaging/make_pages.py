@@ -31,6 +31,14 @@ DIAGNOSTICS = [
                       "P: the sheet's key, the line of the books, or the byte of the batch. check and run -v print it in words."),
     ("file K", "K: 1 sheet, 2 books, 3 batch, 4 response, 5 end books, 6 settlement, 7 log, 0 standard output."),
 ]
+FILES = [
+    ("plan sheet", "TOML: the plan's BIN and processor control number, period, figures, tiers and drugs."),
+    ("books", "Text: the members with their coverage, the standing claims, the totals of each family. The end books of a run are "
+              "the opening books of the next."),
+    ("batch, response", "NCPDP Batch 1.2 with transmissions of Telecommunication D.0: billings B1 and reversals B2, and their replies."),
+    ("settlement", "Text: for each pharmacy the answers paid, duplicate, reversed and rejected, and the net in cents."),
+    ("log", "JSON, a line for each run, appended. New files have the rights 0600."),
+]
 EXAMPLES = [
     ("Check the inputs, adjudicate, and keep earlier outputs until all is done:",
      "rxbatch check --sheet sheet.toml --books books.txt --batch batch.bin",
@@ -96,7 +104,7 @@ def manual(commands):
         for short, name, value, told in command.options:
             shown = "\\fB" + escaped(", ".join(filter(None, (short, name)))) + "\\fR"
             lines += [".TP", shown + (f" \\fI{value}\\fR" if value else ""), escaped(told) + "."]
-    for heading, items in (("EXIT STATUS", STATUSES), ("DIAGNOSTICS", DIAGNOSTICS)):
+    for heading, items in (("FILES", FILES), ("EXIT STATUS", STATUSES), ("DIAGNOSTICS", DIAGNOSTICS)):
         lines.append(".SH " + heading)
         for name, meaning in items:
             lines += [".TP", escaped(name), escaped(meaning)]
@@ -110,13 +118,13 @@ def manual(commands):
 def bash(commands):
     cases = []
     for command in commands:
-        words = " ".join(name for _, name, _, _ in command.options)
+        words = " ".join(" ".join(filter(None, (short, name))) for short, name, _, _ in command.options)
         files = "|".join(name for _, name, value, _ in command.options if value == "FILE")
         cases.append(f"    {command.name}) words='{words}'; files='{files}' ;;")
     names = " ".join(command.name for command in commands)
     return f"""# Completions of rxbatch for bash.
 _rxbatch() {{
-  local word=${{COMP_WORDS[COMP_CWORD]}} before=${{COMP_WORDS[COMP_CWORD - 1]}} words files
+  local word=${{COMP_WORDS[COMP_CWORD]}} before=${{COMP_WORDS[COMP_CWORD - 1]}} words files left name
   if [ "$COMP_CWORD" -eq 1 ]; then
     mapfile -t COMPREPLY < <(compgen -W '{names}' -- "$word")
     return
@@ -127,7 +135,11 @@ _rxbatch() {{
   if [ -n "$files" ] && [[ "|$files|" == *"|$before|"* ]]; then
     mapfile -t COMPREPLY < <(compgen -f -- "$word")
   else
-    mapfile -t COMPREPLY < <(compgen -W "$words" -- "$word")
+    left=
+    for name in $words; do
+      [[ " ${{COMP_WORDS[*]:2:COMP_CWORD-2}} " == *" $name "* ]] || left+=" $name"
+    done
+    mapfile -t COMPREPLY < <(compgen -W "$left" -- "$word")
   fi
 }}
 complete -o filenames -F _rxbatch rxbatch
@@ -142,9 +154,10 @@ def zsh(commands):
     cases = []
     for command in commands:
         options = []
-        for _, name, value, text in command.options:
+        for short, name, value, text in command.options:
             action = {"FILE": ":file:_files", None: ""}.get(value, f":{value}:")
-            options.append(f"'{name}[{quoted(text)}]{action}'")
+            names = f"'({short} {name})'{{{short},{name}}}'" if short else f"'{name}"
+            options.append(f"{names}[{quoted(text)}]{action}'")
         cases.append(f"    {command.name}) _arguments {' '.join(options)} ;;")
     return f"""#compdef rxbatch
 # Completions of rxbatch for zsh.
