@@ -8,6 +8,7 @@ pub mod Opens
 pub mod Parts
 pub mod Reckoned
 pub mod Shown
+pub mod Sources
 pub mod Spots
 pub mod Traces
 pub mod Workings

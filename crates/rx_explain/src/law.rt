@@ -3,19 +3,30 @@ ghost use Rattle.rx_d0_values.specs.declared.transaction.Transaction.{Transactio
 ghost use Rattle.rx_d0_values.specs.declared.transmission.Heard.{Heard as HeardRecord};
 ghost use Rattle.rx_d0_values.specs.declared.transmission.Transmission.{Transmission};
 ghost use Rattle.rx_fields.specs.Numbered.{LotParts, Span};
+ghost use Rattle.rx_fields.specs.Order.{key_cmp};
+ghost use Rattle.rx_sorted.specs.Ascending.{IsAscending};
+ghost use Rattle.rx_ledger.specs.declared.decision.Decision.TheVariants as decision;
+ghost use Rattle.rx_ledger.specs.declared.row.Row.{Row};
 ghost use Rattle.rx_ledger.specs.Answers.{answer};
+ghost use Rattle.rx_ledger.specs.Decisions.{decision_of};
 ghost use Rattle.rx_ledger.specs.Fold.{answers_from, asked, fold_ledger, fold_replies, ledger_from, reply_to};
-ghost use Rattle.rx_ledger.specs.Ledger.{Ledger, rows_of};
+ghost use Rattle.rx_ledger.specs.Ledger.{Ledger, row_under, rows_of};
 ghost use Rattle.rx_ledger.specs.Members.{is_same};
 ghost use Rattle.rx_ledger.specs.Plan.{Plan};
+ghost use Rattle.rx_ledger.specs.Rows.{row_key};
 ghost use Rattle.rx_ledger.specs.Sums.{deductible, deductible_paid, family_deductible, out_of_pocket, paid_by_patient};
 ghost use Rattle.rx_explain.specs.declared.at.At.{At};
 ghost use Rattle.rx_explain.specs.declared.events.Event.{Event};
 ghost use Rattle.rx_explain.specs.declared.explanation.Explanation.{Explanation};
-ghost use Rattle.rx_explain.specs.Explained.{IsOnLedger};
+ghost use Rattle.rx_explain.specs.Explained.{IsExplained, IsOnLedger};
 ghost use Rattle.rx_explain.specs.Reckoned.{IsAccountedFor};
 ghost use Rattle.rx_explain.specs.Shown.{counted_rows};
-ghost use Rattle.rx_explain.specs.Spots.{Spot};
+ghost use Rattle.rx_explain.specs.Spots.{Spot, spot_at};
+ghost use Rattle.rx_explain.specs.declared.traced.Source.TheVariants as source;
+ghost use Rattle.rx_explain.specs.declared.traced.Traced.{Traced};
+ghost use Rattle.rx_explain.specs.Before.{ledger_before};
+ghost use Rattle.rx_explain.specs.Sources.{IsBefore, IsPaidAt, IsShown, IsTakenBackAt, StandsAfter, StandsBefore, StandsBetween};
+ghost use Rattle.rx_explain.specs.Sources.{StandsUpTo, TakesBack, told};
 
 /// The answer that an explanation shows is the one in the batch's replies: the reply to a record is that on the ledger
 /// which the records before it leave, and its answers are each that on the ledger which the transactions before it leave
@@ -29,6 +40,41 @@ pub fn reply_is_shown()
         → (t : Transaction) → slice_get h.list before ≡ Some t
         → slice_get (answers_from lot plan place h 1 h.list L) before
         ≡ Some (answer (asked lot plan place h (1 + before)) (ledger_from lot plan place h 1 (take before h.list) L) t) }
+{}
+
+/// Where a claim that stands before a transaction is said to come from, and when it is said to be taken back, is so: the
+/// transaction that is named paid it, else it is in the opening books, and it stood ever since; the later transaction that
+/// is named takes it back, else it stands to the end of the batch, and it stands until then. A claim that this transaction
+/// takes back itself is the one that its decision names. Each claim that an explanation shows is such a claim, and it is
+/// shown so, where the opening books are in order.
+pub fn sources_are_true()
+    ensures paid_by { (lot : LotParts) → (plan : Plan) → (ts : List Transmission) → (opening : Ledger) → (at : At)
+        → (s : Spot) → (r : Row) → spot_at ts at ≡ Some s → StandsBefore lot plan ts opening r at s
+        → (paid : At) → (told lot plan ts opening at r).source ≡ source.Record paid
+        → IsBefore paid at × IsPaidAt lot plan ts opening r paid × StandsBetween lot plan ts opening paid at r }
+    ensures opening { (lot : LotParts) → (plan : Plan) → (ts : List Transmission) → (opening : Ledger) → (at : At)
+        → (s : Spot) → (r : Row) → spot_at ts at ≡ Some s → StandsBefore lot plan ts opening r at s
+        → (told lot plan ts opening at r).source ≡ source.Opening
+        → (row_under opening r.key ≡ Some r) × StandsUpTo lot plan ts opening at r }
+    ensures taken_back { (lot : LotParts) → (plan : Plan) → (ts : List Transmission) → (opening : Ledger) → (at : At)
+        → (s : Spot) → (r : Row) → spot_at ts at ≡ Some s → StandsBefore lot plan ts opening r at s
+        → ¬ TakesBack lot plan ts opening r at s
+        → (back : At) → (told lot plan ts opening at r).taken_back ≡ Some back
+        → IsBefore at back × IsTakenBackAt lot plan ts opening r back × StandsBetween lot plan ts opening at back r }
+    ensures still_stands { (lot : LotParts) → (plan : Plan) → (ts : List Transmission) → (opening : Ledger) → (at : At)
+        → (s : Spot) → (r : Row) → spot_at ts at ≡ Some s → StandsBefore lot plan ts opening r at s
+        → ¬ TakesBack lot plan ts opening r at s
+        → (told lot plan ts opening at r).taken_back ≡ None
+        → StandsAfter lot plan ts opening at r
+        × (row_under (fold_ledger lot plan 1 ts opening) r.key ≡ Some r) }
+    ensures taken_back_now { (lot : LotParts) → (plan : Plan) → (ts : List Transmission) → (opening : Ledger) → (at : At)
+        → (s : Spot) → (r : Row) → StandsBefore lot plan ts opening r at s → TakesBack lot plan ts opening r at s
+        → decision_of (asked lot plan at.place s.heard at.nth) (ledger_before lot plan ts opening at.place s.heard at.nth)
+        s.transaction ≡ decision.TakenBack r }
+    ensures shown { (lot : LotParts) → (plan : Plan) → (ts : List Transmission) → (opening : Ledger) → (at : At)
+        → (s : Spot) → (x : Explanation) → (t : Traced) → IsAscending key_cmp row_key opening.rows
+        → IsExplained lot plan ts opening at (Some s) (Some x) → IsShown x t
+        → (t ≡ told lot plan ts opening at t.row) × StandsBefore lot plan ts opening t.row at s }
 {}
 
 /// The rows that an explanation lists for an accumulator sum to it: to a family's out of pocket and to its deductible all

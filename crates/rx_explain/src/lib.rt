@@ -34,7 +34,9 @@ pub use events::{Change, Event, Events};
 pub use explanation::Explanation;
 pub use facts::Facts;
 pub use finding::{Wanted, find};
-pub use law::{reply_is_shown, steps_lead_to_the_answer, sums_are_of_counted_rows};
+pub use law::{
+    reply_is_shown, sources_are_true, steps_lead_to_the_answer, sums_are_of_counted_rows,
+};
 pub use spot::item;
 pub use subject::Subject;
 pub use traced::{Source, Traced};
