@@ -41,8 +41,8 @@ OWN = ("src", "specs", "proofs", "must-fail")
 STATED = ("src", "specs")
 # how long the gate may take before it begins no further edit
 MINUTES = 90
-# what `rt` says of an edit that can't be applied
-BAD = "BAD EDIT"
+# what `rt` says of an edit that can't be applied, and of one that says nothing of the contract: a proof file names what it took away
+BAD = ("BAD EDIT", "only because a proof file names what the edit took away")
 # how many crates' edits are tried at once: those of one crate go one after another
 AT_ONCE = 8
 
@@ -180,16 +180,16 @@ def put_back():
 
 
 def passed_on(run, bad):
-    """Passes on what the run says, and notes each edit that can't be applied, which `rt` prints and doesn't take for a fault."""
+    """Passes on what the run says, and notes each edit that shows nothing, which `rt` prints and doesn't take for a fault."""
     for line in run.stdout:
         print(line, end="", flush=True)
-        if BAD in line:
+        if any(it in line for it in BAD):
             bad.append(line)
 
 
 def rt_ci(at, seconds=None):
-    """`rt ci` over the repository that stands there, with a check on each processor: its status, 1 where an edit can't be applied,
-    or None where it took longer."""
+    """`rt ci` over the repository that stands there, with a check on each processor: its status, 1 where an edit shows nothing, or
+    None where it took longer."""
     jobs, bad = os.environ.get("RT_JOBS") or str(len(os.sched_getaffinity(0))), []
     run = subprocess.Popen(
         ["rt", "ci"], cwd=at, env={**os.environ, "RT_JOBS": jobs}, start_new_session=True, stdout=subprocess.PIPE, stderr=subprocess.STDOUT, text=True
@@ -200,7 +200,7 @@ def rt_ci(at, seconds=None):
         status = run.wait(seconds)
         listener.join()
         if bad:
-            print(f"gate: {len(bad)} edits can't be applied", flush=True)
+            print(f"gate: {len(bad)} edits can't be applied, or break only a name in a proof:\n{''.join(bad)}", end="", flush=True)
         return status or (1 if bad else 0)
     except BaseException as stopped:
         os.killpg(run.pid, signal.SIGKILL)
@@ -266,10 +266,10 @@ def gate(now, changed):
 
 
 def are_refused(crate):
-    """Whether each edit of the crate can be applied, and is refused then."""
+    """Whether each edit of the crate can be applied, and is refused then for more than a name in a proof."""
     run = subprocess.run(["rt", "must-fail", crate], cwd=TOP, stdout=subprocess.PIPE, stderr=subprocess.STDOUT, text=True)
     print(run.stdout, end="", flush=True)
-    return run.returncode == 0 and BAD not in run.stdout
+    return run.returncode == 0 and not any(it in run.stdout for it in BAD)
 
 
 def see(now, names):
