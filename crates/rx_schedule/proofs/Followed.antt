@@ -6,7 +6,7 @@ use Rattle.std.proofs.lemmas.List.{get_or-replicate, get_or-set_other, get_or_de
 use Rattle.std.proofs.lemmas.List.{length-map, length-replicate, length-set, map-set, take_more}
 use Rattle.std.proofs.lemmas.List.Sums.{get_or-le-sum_by, sum_by_push}
 use Rattle.rx_schedule.specs.declared.links.Link.{Link}
-use Rattle.rx_schedule.specs.Links.{AreCounted, AreFree, AreRows, linked, number_of, row_of, times, total}
+use Rattle.rx_schedule.specs.Links.{AreCounted, AreFree, AreRows, linked, number_at, row_of, times, total}
 use Rattle.rx_schedule.proofs.Released.{row_read}
 use Rattle.rx_schedule.proofs.Times.{number-other, number-same, one_if, one_other, one_same, one_small}
 use Rattle.rx_schedule.proofs.Times.{row-other, row-same, times-push, total-none, total-set}
@@ -42,7 +42,7 @@ module _ (n : ℕ) (links : List Link) (rows : List (List ℕ)) (waiting : List 
   longer = set rows (l.from - 1) (row_of rows l.from ++ l.to ∷ [])
 
   abbrev raised : List ℕ
-  raised = set waiting (l.to - 1) (number_of waiting l.to + 1)
+  raised = set waiting (l.to - 1) (number_at waiting l.to + 1)
 
   own_row : row_of longer l.from ≡ row_of rows l.from ++ l.to ∷ []
   own_row = let many : length rows ≡ n = a.as_many in
@@ -83,19 +83,19 @@ module _ (n : ℕ) (links : List Link) (rows : List (List ℕ)) (waiting : List 
       let long : length waiting ≡ n = c.as_many in
       record {
         as_many_rows = length-set rows (l.from - 1) (row_of rows l.from ++ l.to ∷ []) ∙ a.as_many;
-        as_many = length-set waiting (l.to - 1) (number_of waiting l.to + 1) ∙ long;
+        as_many = length-set waiting (l.to - 1) (number_at waiting l.to + 1) ∙ long;
         counted = λ x from upto.
-            let d : number_of waiting x ≡ total x rows = c.counted x from upto in
+            let d : number_at waiting x ≡ total x rows = c.counted x from upto in
             let t : total x longer ≡ total x rows + one_if l.to x = more_total x in
             elim (cases_eq x l.to) [
               | inl here ↦
-                  let r : number_of raised x ≡ number_of waiting l.to + 1 =
-                  ap (number_of raised) here ∙ number-same waiting l.to (number_of waiting l.to + 1) low (omega arith) in
-                  let s : number_of waiting x ≡ number_of waiting l.to = ap (number_of waiting) here in
+                  let r : number_at raised x ≡ number_at waiting l.to + 1 =
+                  ap (number_at raised) here ∙ number-same waiting l.to (number_at waiting l.to + 1) low (omega arith) in
+                  let s : number_at waiting x ≡ number_at waiting l.to = ap (number_at waiting) here in
                   let o : one_if l.to x ≡ 1 = ap (one_if l.to) here ∙ one_same l.to in omega arith
               | inr other ↦
-                  let r : number_of raised x ≡ number_of waiting x =
-                  number-other waiting l.to x (number_of waiting l.to + 1) low from other in
+                  let r : number_at raised x ≡ number_at waiting x =
+                  number-other waiting l.to x (number_at waiting l.to + 1) low from other in
                   let o : one_if l.to x ≡ 0 = one_other l.to x (λ g. other (sym g)) in omega arith
             ];
         within = λ p x from upto has. elim (cases_eq x l.to) [
@@ -112,17 +112,17 @@ module _ (n : ℕ) (links : List Link) (rows : List (List ℕ)) (waiting : List 
         ];
       }
 
-  pub few_more : (k : ℕ) → ((q : ℕ) → number_of waiting q ≤ k) → (q : ℕ) → number_of raised q ≤ k + 1
+  pub few_more : (k : ℕ) → ((q : ℕ) → number_at waiting q ≤ k) → (q : ℕ) → number_at raised q ≤ k + 1
   few_more k few q = elim (cases_eq (q - 1) (l.to - 1)) [
     | inl here ↦
         let long : length waiting ≡ n = c.as_many in
-        let r : number_of raised q ≡ number_of waiting l.to + 1 =
-        ap (λ i. get_or raised i 0) here ∙ number-same waiting l.to (number_of waiting l.to + 1) low (omega arith) in
-        let f : number_of waiting l.to ≤ k = few l.to in omega arith
+        let r : number_at raised q ≡ number_at waiting l.to + 1 =
+        ap (λ i. get_or raised i 0) here ∙ number-same waiting l.to (number_at waiting l.to + 1) low (omega arith) in
+        let f : number_at waiting l.to ≤ k = few l.to in omega arith
     | inr other ↦
-        let r : number_of raised q ≡ number_of waiting q =
-        get_or-set_other waiting (l.to - 1) (q - 1) (number_of waiting l.to + 1) 0 other in
-        let f : number_of waiting q ≤ k = few q in omega arith
+        let r : number_at raised q ≡ number_at waiting q =
+        get_or-set_other waiting (l.to - 1) (q - 1) (number_at waiting l.to + 1) 0 other in
+        let f : number_at waiting q ≤ k = few q in omega arith
   ]
 
 -- no link yet
@@ -132,7 +132,7 @@ none_at n p = elim (cases_lt (p - 1) n) [
   | inr past ↦ get_or_past (replicate n []) (p - 1) [] (omega (arith, length-replicate {A = List ℕ}))
 ]
 
-zero_at : (n q : ℕ) → number_of (replicate n 0) q ≡ 0
+zero_at : (n q : ℕ) → number_at (replicate n 0) q ≡ 0
 zero_at n q = elim (cases_lt (q - 1) n) [
   | inl lt ↦ get_or-replicate n (q - 1) 0 0 lt
   | inr past ↦ get_or_past (replicate n 0) (q - 1) 0 (omega (arith, length-replicate {A = ℕ}))
@@ -152,13 +152,13 @@ counted_begins n = record {
   within = λ p q one to has. absurd (let z : times q (row_of (replicate n []) p) ≡ 0 = ap (times q) (none_at n p) in omega arith);
 }
 
-pub few_begins : (n q : ℕ) → number_of (replicate n 0) q ≤ 0
-few_begins n q = let z : number_of (replicate n 0) q ≡ 0 = zero_at n q in omega arith
+pub few_begins : (n q : ℕ) → number_at (replicate n 0) q ≤ 0
+few_begins n q = let z : number_at (replicate n 0) q ≡ 0 = zero_at n q in omega arith
 
 -- ---- the free places, one place more
 
 module _ (n : ℕ) (waiting order : List ℕ) (f : AreFree n waiting order) where
-  pub free_more : number_of waiting (suc n) ≡ 0 → AreFree (suc n) waiting (order ++ suc n ∷ [])
+  pub free_more : number_at waiting (suc n) ≡ 0 → AreFree (suc n) waiting (order ++ suc n ∷ [])
   free_more none =
       let out : times (suc n) order ≡ 0 = elim (cases_lt 0 (times (suc n) order)) [
         | inl some ↦ absurd (let t = f.there (suc n) (omega arith) in let z : suc n ≤ n = t.1 in omega arith)
@@ -175,7 +175,7 @@ module _ (n : ℕ) (waiting order : List ℕ) (f : AreFree n waiting order) wher
               let m : times x (order ++ suc n ∷ []) ≡ times x order + one_if (suc n) x = many x in omega arith
         ];
         there = λ x has. elim (cases_eq (suc n) x) [
-          | inl here ↦ subst (λ y. (1 ≤ y) × (y ≤ suc n) × (number_of waiting y ≡ 0)) here (omega arith, omega arith, none)
+          | inl here ↦ subst (λ y. (1 ≤ y) × (y ≤ suc n) × (number_at waiting y ≡ 0)) here (omega arith, omega arith, none)
           | inr other ↦
               let o : one_if (suc n) x ≡ 0 = one_other (suc n) x other in
               let m : times x (order ++ suc n ∷ []) ≡ times x order + one_if (suc n) x = many x in
@@ -195,10 +195,10 @@ module _ (n : ℕ) (waiting order : List ℕ) (f : AreFree n waiting order) wher
         ];
       }
 
-  pub free_stays : number_of waiting (suc n) ≢ 0 → AreFree (suc n) waiting order
+  pub free_stays : number_at waiting (suc n) ≢ 0 → AreFree (suc n) waiting order
   free_stays some = record {
     all = λ x low high free. elim (cases_eq x (suc n)) [
-      | inl here ↦ absurd (some (ap (number_of waiting) (sym here) ∙ free))
+      | inl here ↦ absurd (some (ap (number_at waiting) (sym here) ∙ free))
       | inr other ↦ f.all x low (omega arith) free
     ];
     there = λ x has. let t = f.there x has in let u : x ≤ n = t.1 in (t.0, (omega arith), t.2);
@@ -231,7 +231,7 @@ free_begins waiting = record {
 
 module _ {V : Type 0} (items : V → List ℕ) (n : ℕ) (links : List Link) (i : ℕ) (vectors : List V) (waiting : List ℕ) (link : Link)
     (row v : V) (number : ℕ) (a : AreRows n (take i links) (map items vectors)) (c : AreCounted n (map items vectors) waiting)
-    (small : (q : ℕ) → number_of waiting q ≤ i) (lt : i < length links) (is : link ≡ get_or links i link)
+    (small : (q : ℕ) → number_at waiting q ≤ i) (lt : i < length links) (is : link ≡ get_or links i link)
     (one : 1 ≤ link.from) (to : link.from ≤ n) (low : 1 ≤ link.to) (high : link.to ≤ n)
     (row_is : row ≡ get_or vectors (link.from - 1) row) (v_is : items v ≡ items row ++ link.to ∷ [])
     (number_is : number ≡ get_or waiting (link.to - 1) number) where
@@ -251,7 +251,7 @@ module _ {V : Type 0} (items : V → List ℕ) (n : ℕ) (links : List Link) (i 
   pub link_more : record {
     rows : AreRows n (take (i + 1) links) (map items (set vectors (link.from - 1) v));
     counted : AreCounted n (map items (set vectors (link.from - 1) v)) (set waiting (link.to - 1) (number + 1));
-    few : (q : ℕ) → number_of (set waiting (link.to - 1) (number + 1)) q ≤ i + 1;
+    few : (q : ℕ) → number_at (set waiting (link.to - 1) (number + 1)) q ≤ i + 1;
   }
   link_more = record {
     rows = rw (rows_now, take_more links i link lt, ← is)

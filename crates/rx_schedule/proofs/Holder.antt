@@ -33,7 +33,7 @@ use Rattle.rx_ledger.specs.declared.row.Row.{Row}
 use Rattle.rx_books_family.specs.Books.{IsInOrder, OfFamily, OfKey, book}
 use Rattle.rx_books_parcel.specs.Footprints.{FootprintParts, fits, fits_body, fits_one, names, names_holder}
 use Rattle.rx_books_parcel.proofs.Locality.{local_books, local_outside, local_reply, order_after}
-use Rattle.rx_schedule.specs.Billed.{is_among}
+use Rattle.rx_schedule.specs.Billed.{has_family}
 use Rattle.rx_schedule.specs.Footprints.{billed_by, billers, billers_in, families_named, family_of, footprint_at}
 use Rattle.rx_schedule.specs.Footprints.{footprint_of, holders, key_named, no_record, record_at}
 use Rattle.rx_schedule.specs.Jobs.{IsHeld, job, ledger_before, reply_at}
@@ -49,22 +49,22 @@ or_right true b h = refl
 or_right false b h = h
 
 -- a family among some, and among these and others
-among_left : (f : List ℕ) (xs ys : List (List ℕ)) → is_among xs f ≡ true → is_among (xs ++ ys) f ≡ true
-among_left f xs ys h = list_any-append (is_at (id_cmp f)) xs ys ∙ or_left (is_among xs f) (is_among ys f) h
+among_left : (f : List ℕ) (xs ys : List (List ℕ)) → has_family xs f ≡ true → has_family (xs ++ ys) f ≡ true
+among_left f xs ys h = list_any-append (is_at (id_cmp f)) xs ys ∙ or_left (has_family xs f) (has_family ys f) h
 
-among_right : (f : List ℕ) (xs ys : List (List ℕ)) → is_among ys f ≡ true → is_among (xs ++ ys) f ≡ true
-among_right f xs ys h = list_any-append (is_at (id_cmp f)) xs ys ∙ or_right (is_among xs f) (is_among ys f) h
+among_right : (f : List ℕ) (xs ys : List (List ℕ)) → has_family ys f ≡ true → has_family (xs ++ ys) f ≡ true
+among_right f xs ys h = list_any-append (is_at (id_cmp f)) xs ys ∙ or_right (has_family xs f) (has_family ys f) h
 
-among_itself : (f : List ℕ) (xs : List (List ℕ)) → is_among (f ∷ xs) f ≡ true
-among_itself f xs = or_left (is_eq (id_cmp f f)) (is_among xs f) (ap is_eq (tied_itself id_total f))
+among_itself : (f : List ℕ) (xs : List (List ℕ)) → has_family (f ∷ xs) f ≡ true
+among_itself f xs = or_left (is_eq (id_cmp f f)) (has_family xs f) (ap is_eq (tied_itself id_total f))
 
-among_first : {X : Type 0} (g : X → List (List ℕ)) (x : X) (xs : List X) (f : List ℕ) → is_among (g x) f ≡ true
-    → is_among (flat_map g (x ∷ xs)) f ≡ true
-among_first g x xs f h = ap (λ ys. is_among ys f) (flat_map-cons g x xs) ∙ among_left f (g x) (flat_map g xs) h
+among_first : {X : Type 0} (g : X → List (List ℕ)) (x : X) (xs : List X) (f : List ℕ) → has_family (g x) f ≡ true
+    → has_family (flat_map g (x ∷ xs)) f ≡ true
+among_first g x xs f h = ap (λ ys. has_family ys f) (flat_map-cons g x xs) ∙ among_left f (g x) (flat_map g xs) h
 
-among_rest : {X : Type 0} (g : X → List (List ℕ)) (x : X) (xs : List X) (f : List ℕ) → is_among (flat_map g xs) f ≡ true
-    → is_among (flat_map g (x ∷ xs)) f ≡ true
-among_rest g x xs f h = ap (λ ys. is_among ys f) (flat_map-cons g x xs) ∙ among_right f (g x) (flat_map g xs) h
+among_rest : {X : Type 0} (g : X → List (List ℕ)) (x : X) (xs : List X) (f : List ℕ) → has_family (flat_map g xs) f ≡ true
+    → has_family (flat_map g (x ∷ xs)) f ≡ true
+among_rest g x xs f h = ap (λ ys. has_family ys f) (flat_map-cons g x xs) ∙ among_right f (g x) (flat_map g xs) h
 
 -- ---- what holds of each row and each billing is kept
 
@@ -73,7 +73,7 @@ Holds P L = (key : Key) (r : Row) → row_under L key ≡ Some r → P key r.fam
 
 module _ (lot : LotParts) (plan : Plan) (place : ℕ) (h : HeardRecord) (P : Key → List ℕ → Type 0) where
   holds_after : (nth : ℕ) (L : Ledger) (t : Transaction) (given : Answer)
-      → ((key : Key) (f : List ℕ) → is_among (billed_by h key t) f ≡ true → P key f) → Holds P L
+      → ((key : Key) (f : List ℕ) → has_family (billed_by h key t) f ≡ true → P key f) → Holds P L
       → Holds P (after (asked lot plan place h nth) L t given)
   holds_after nth L (Bill b) (Paid p) bills holds = λ key r there.
       let a = asked lot plan place h nth in
@@ -103,7 +103,7 @@ module _ (lot : LotParts) (plan : Plan) (place : ℕ) (h : HeardRecord) (P : Key
   holds_after nth L (Faulty x) given bills holds = holds
 
   holds_from : (nth : ℕ) (ts : List Transaction) (L : Ledger)
-      → ((key : Key) (f : List ℕ) → is_among (flat_map (billed_by h key) ts) f ≡ true → P key f) → Holds P L
+      → ((key : Key) (f : List ℕ) → has_family (flat_map (billed_by h key) ts) f ≡ true → P key f) → Holds P L
       → Holds P (ledger_from lot plan place h nth ts L)
   holds_from nth [] L bills holds = holds
   holds_from nth (t ∷ ts) L bills holds =
@@ -112,7 +112,7 @@ module _ (lot : LotParts) (plan : Plan) (place : ℕ) (h : HeardRecord) (P : Key
       (holds_after nth L t (answer a L t) (λ key f w. bills key f (among_first (billed_by h key) t ts f w)) holds)
 
 holds_body : (lot : LotParts) (plan : Plan) (place : ℕ) (P : Key → List ℕ → Type 0) (body : Body) (L : Ledger)
-    → ((key : Key) (f : List ℕ) → is_among (billers_in key body) f ≡ true → P key f) → Holds P L
+    → ((key : Key) (f : List ℕ) → has_family (billers_in key body) f ≡ true → P key f) → Holds P L
     → Holds P (ledger_of_body lot plan place L body)
 holds_body lot plan place P (Rejected r) L bills holds = holds
 holds_body lot plan place P (Heard h) L bills holds = holds_from lot plan place h P 1 h.list L bills holds
@@ -154,20 +154,20 @@ module _ (lot : LotParts) (plan : Plan) (L : Ledger) (records : List Transmissio
       (flat_map-one (λ t. billers_in key t.body) (take (i - 1) records) (record_at records i))
 
   held_more : (i : ℕ) (key : Key) (f : List ℕ) → 1 ≤ i → i ≤ length records
-      → is_among (holders L (take (i - 1) records) key) f ≡ true → is_among (holders L (take (suc i - 1) records) key) f ≡ true
-  held_more i key f one to h = ap (λ fs. is_among fs f) (next_billers i key one to ∙ sym (append_assoc
+      → has_family (holders L (take (i - 1) records) key) f ≡ true → has_family (holders L (take (suc i - 1) records) key) f ≡ true
+  held_more i key f one to h = ap (λ fs. has_family fs f) (next_billers i key one to ∙ sym (append_assoc
       (family_of (row_under L key)) (billers key (take (i - 1) records)) (billers_in key (record_at records i).body)))
       ∙ among_left f (holders L (take (i - 1) records) key) (billers_in key (record_at records i).body) h
 
   held_new : (i : ℕ) (key : Key) (f : List ℕ) → 1 ≤ i → i ≤ length records
-      → is_among (billers_in key (record_at records i).body) f ≡ true
-      → is_among (holders L (take (suc i - 1) records) key) f ≡ true
-  held_new i key f one to h = ap (λ fs. is_among fs f) (next_billers i key one to)
+      → has_family (billers_in key (record_at records i).body) f ≡ true
+      → has_family (holders L (take (suc i - 1) records) key) f ≡ true
+  held_new i key f one to h = ap (λ fs. has_family fs f) (next_billers i key one to)
       ∙ among_right f (family_of (row_under L key)) (billers key (take (i - 1) records) ++ billers_in key (record_at records i).body)
       (among_right f (billers key (take (i - 1) records)) (billers_in key (record_at records i).body) h)
 
   opening_held : (key : Key) (r : Row) → row_under L key ≡ Some r
-      → is_among (family_of (row_under L key) ++ billers key []) r.family ≡ true
+      → has_family (family_of (row_under L key) ++ billers key []) r.family ≡ true
   opening_held key r there = rw there (among_itself r.family [])
 
   -- Holder, at the place after n records
@@ -175,11 +175,11 @@ module _ (lot : LotParts) (plan : Plan) (L : Ledger) (records : List Transmissio
   held_after zero to = opening_held
   held_after (suc n) to =
       let one : 1 ≤ suc n = omega arith in
-      let holds = holds_body lot plan (suc n) (λ key f. is_among (holders L (take (suc (suc n) - 1) records) key) f ≡ true)
+      let holds = holds_body lot plan (suc n) (λ key f. has_family (holders L (take (suc (suc n) - 1) records) key) f ≡ true)
       (record_at records (suc n)).body (ledger_before lot plan L records (suc n))
       (λ key f w. held_new (suc n) key f one to w)
       (λ key r there. held_more (suc n) key r.family one to (held_after n (omega arith) key r there)) in
-      subst (λ M. Holds (λ key f. is_among (holders L (take (suc (suc n) - 1) records) key) f ≡ true) M)
+      subst (λ M. Holds (λ key f. has_family (holders L (take (suc (suc n) - 1) records) key) f ≡ true) M)
       (sym (next_ledger (suc n) one to)) holds
 
   -- also at the place after the last record
@@ -194,10 +194,10 @@ module _ (lot : LotParts) (plan : Plan) (L : Ledger) (records : List Transmissio
 -- ---- a footprint that names what the transactions name fits
 
 module _ (L M : Ledger) (earlier : List Transmission) (h : HeardRecord) (F : FootprintParts)
-    (held_here : (key : Key) (r : Row) → row_under M key ≡ Some r → is_among (holders L earlier key) r.family ≡ true) where
+    (held_here : (key : Key) (r : Row) → row_under M key ≡ Some r → has_family (holders L earlier key) r.family ≡ true) where
   all_fit : (ts : List Transaction)
       → ((k : Key) → list_any (eq_by_cmp key_cmp k) (flat_map (key_named h) ts) ≡ true → names F (OfKey k) ≡ true)
-      → ((f : List ℕ) → is_among (flat_map (families_named L earlier h) ts) f ≡ true → names F (OfFamily f) ≡ true)
+      → ((f : List ℕ) → has_family (flat_map (families_named L earlier h) ts) f ≡ true → names F (OfFamily f) ≡ true)
       → list_all (fits_one F h M) ts ≡ true
   all_fit [] keys families = refl
   all_fit (t ∷ ts) keys families =
@@ -216,12 +216,12 @@ module _ (L M : Ledger) (earlier : List Transmission) (h : HeardRecord) (F : Foo
       key_itself k = or_left (is_eq (key_cmp k k)) false (ap is_eq (tied_itself key_total k))
 
       holder_named : (key : Key) (o : Option Row) → row_under M key ≡ o
-          → ((f : List ℕ) → is_among (holders L earlier key) f ≡ true → names F (OfFamily f) ≡ true) → names_holder F o ≡ true
+          → ((f : List ℕ) → has_family (holders L earlier key) f ≡ true → names F (OfFamily f) ≡ true) → names_holder F o ≡ true
       holder_named key None there families = refl
       holder_named key (Some r) there families = families r.family (held_here key r there)
 
       one_fits : (t : Transaction) → ((k : Key) → list_any (eq_by_cmp key_cmp k) (key_named h t) ≡ true → names F (OfKey k) ≡ true)
-          → ((f : List ℕ) → is_among (families_named L earlier h t) f ≡ true → names F (OfFamily f) ≡ true)
+          → ((f : List ℕ) → has_family (families_named L earlier h t) f ≡ true → names F (OfFamily f) ≡ true)
           → fits_one F h M t ≡ true
       one_fits (Bill b) keys families = and_from _ _ (keys (key_in h b.reference) (key_itself (key_in h b.reference)))
           (families b.family (among_itself b.family []))
@@ -230,7 +230,7 @@ module _ (L M : Ledger) (earlier : List Transmission) (h : HeardRecord) (F : Foo
       one_fits (Faulty x) keys families = refl
 
 body_fits : (L M : Ledger) (earlier : List Transmission) (body : Body)
-    → ((key : Key) (r : Row) → row_under M key ≡ Some r → is_among (holders L earlier key) r.family ≡ true)
+    → ((key : Key) (r : Row) → row_under M key ≡ Some r → has_family (holders L earlier key) r.family ≡ true)
     → fits_body (footprint_of L earlier body) M body ≡ true
 body_fits L M earlier (Rejected r) held_here = refl
 body_fits L M earlier (Heard h) held_here =

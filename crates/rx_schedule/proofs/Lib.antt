@@ -4,6 +4,7 @@ pub mod Followed
 pub mod Grouped
 pub mod Holder
 pub mod InOrder
+pub mod Interleaved
 pub mod Joined
 pub mod Linked
 pub mod Linking

@@ -13,7 +13,7 @@ use Rattle.rx_books_parcel.specs.Footprints.{FootprintParts}
 use Rattle.rx_schedule.specs.declared.links.Link.{Link}
 use Rattle.rx_schedule.specs.Footprints.{in_order}
 use Rattle.rx_schedule.specs.Links.{AreLinks, is_used, linked, links_in, use_cmp}
-use Rattle.rx_schedule.specs.Marked.{is_named}
+use Rattle.rx_schedule.specs.Marked.{has_name}
 use Rattle.rx_schedule.specs.Used.{AreWithin, footprints_used, names_at}
 use Rattle.rx_schedule.specs.Waves.{footprint_in, meet, nothing, shares}
 use Rattle.rx_schedule.proofs.InOrder.{IsAscending-in_order, among-in_order}
@@ -21,14 +21,14 @@ use Rattle.rx_schedule.proofs.Linked.{linked-append, links_forward, links_reach,
 use Rattle.rx_schedule.proofs.Scanned.{meet_by_family, meet_by_key, meet_in}
 use Rattle.rx_schedule.proofs.Spread.{named_used}
 
-some_name : {K : Type 0} (cmp : K → K → Ordering) (names : List K) (k : K) → is_named cmp names k ≡ true → 1 ≤ length names
+some_name : {K : Type 0} (cmp : K → K → Ordering) (names : List K) (k : K) → has_name cmp names k ≡ true → 1 ≤ length names
 some_name cmp [] k h = absurd (cc h)
 some_name cmp (x ∷ xs) k h = omega arith
 
 -- of one kind of names
 module _ {K : Type 0} (cmp : K → K → Ordering) (order : IsTotalOrder cmp) (exact : CmpEqualImpliesEq cmp)
     (names : FootprintParts → List K)
-    (meets : (F G : FootprintParts) (k : K) → is_named cmp (names F) k ≡ true → is_named cmp (names G) k ≡ true → meet F G ≡ true)
+    (meets : (F G : FootprintParts) (k : K) → has_name cmp (names F) k ≡ true → has_name cmp (names G) k ≡ true → meet F G ≡ true)
     (fs : List FootprintParts) (uses : List (K × ℕ))
     (here : (p : ℕ) → 1 ≤ p → p ≤ length fs → names (footprint_in fs p) ≡ names_at uses p)
     (within : AreWithin (length fs) uses) where
@@ -36,17 +36,17 @@ module _ {K : Type 0} (cmp : K → K → Ordering) (order : IsTotalOrder cmp) (e
   sorted = in_order (use_cmp cmp) uses
 
   is_there : (k : K) (p : ℕ) → is_used cmp sorted k p ≡ true
-      → (1 ≤ p) × (p ≤ length fs) × (is_named cmp (names (footprint_in fs p)) k ≡ true)
+      → (1 ≤ p) × (p ≤ length fs) × (has_name cmp (names (footprint_in fs p)) k ≡ true)
   is_there k p used =
-      let named : is_named cmp (names_at uses p) k ≡ true = named_used cmp order exact uses k p
+      let named : has_name cmp (names_at uses p) k ≡ true = named_used cmp order exact uses k p
       ∙ sym (among-in_order (use_cmp cmp) (use_total cmp order exact) (use_exact cmp order exact) uses (k, p)) ∙ used in
       let at = within.places p (some_name cmp (names_at uses p) k named) in
-      (at.0, at.1, ap (λ ns. is_named cmp ns k) (here p at.0 at.1) ∙ named)
+      (at.0, at.1, ap (λ ns. has_name cmp ns k) (here p at.0 at.1) ∙ named)
 
-  has_use : (k : K) (p : ℕ) → 1 ≤ p → p ≤ length fs → is_named cmp (names (footprint_in fs p)) k ≡ true
+  has_use : (k : K) (p : ℕ) → 1 ≤ p → p ≤ length fs → has_name cmp (names (footprint_in fs p)) k ≡ true
       → is_used cmp sorted k p ≡ true
   has_use k p one to named = among-in_order (use_cmp cmp) (use_total cmp order exact) (use_exact cmp order exact) uses (k, p)
-      ∙ sym (named_used cmp order exact uses k p) ∙ ap (λ ns. is_named cmp ns k) (sym (here p one to)) ∙ named
+      ∙ sym (named_used cmp order exact uses k p) ∙ ap (λ ns. has_name cmp ns k) (sym (here p one to)) ∙ named
 
   one_forward : (p q : ℕ) → 1 ≤ linked p q (links_in cmp sorted)
       → (1 ≤ p) × (p < q) × (q ≤ length fs) × (shares fs p q ≡ true)
@@ -57,8 +57,8 @@ module _ {K : Type 0} (cmp : K → K → Ordering) (order : IsTotalOrder cmp) (e
       let b = is_there w.0 q w.2 in
       (a.0, w.3, b.1, meets (footprint_in fs p) (footprint_in fs q) w.0 a.2 b.2)
 
-  one_reaches : (k : K) (j i : ℕ) → 1 ≤ j → j < i → i ≤ length fs → is_named cmp (names (footprint_in fs j)) k ≡ true
-      → is_named cmp (names (footprint_in fs i)) k ≡ true
+  one_reaches : (k : K) (j i : ℕ) → 1 ≤ j → j < i → i ≤ length fs → has_name cmp (names (footprint_in fs j)) k ≡ true
+      → has_name cmp (names (footprint_in fs i)) k ≡ true
       → (q : ℕ) × (1 ≤ linked j q (links_in cmp sorted)) × (q ≤ i) × ((q ≡ i) ⊎ (shares fs q i ≡ true))
   one_reaches k j i one lt to a b =
       let w = links_reach cmp order exact sorted k j i

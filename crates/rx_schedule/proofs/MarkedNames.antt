@@ -12,31 +12,31 @@ use Rattle.std.proofs.lemmas.Map.Lookups.{CmpEqualImpliesEq}
 use Rattle.rx_sorted.proofs.Keys.{Equal-from_is_eq, has_key-itself}
 use Rattle.rx_sorted.specs.Ascending.{itself}
 use Rattle.rx_schedule.specs.declared.marks.Mark.{Mark}
-use Rattle.rx_schedule.specs.Marked.{IsLastOf, best_of, better, better_of, is_named}
+use Rattle.rx_schedule.specs.Marked.{IsLastOf, best_of, better, better_of, has_name}
 
 module _ {K : Type 0} (cmp : K → K → Ordering) where
   -- one name more
-  pub is_named-more : (xs : List K) (x k : K) → is_named cmp (xs ++ x ∷ []) k ≡ is_named cmp xs k || is_eq (cmp x k)
-  is_named-more [] x k = elim (cases_Bool (is_eq (cmp x k))) [ inl t ↦ rw t refl | inr f ↦ rw f refl ]
-  is_named-more (y ∷ ys) x k = elim (cases_Bool (is_eq (cmp y k))) [
+  pub has_name-more : (xs : List K) (x k : K) → has_name cmp (xs ++ x ∷ []) k ≡ has_name cmp xs k || is_eq (cmp x k)
+  has_name-more [] x k = elim (cases_Bool (is_eq (cmp x k))) [ inl t ↦ rw t refl | inr f ↦ rw f refl ]
+  has_name-more (y ∷ ys) x k = elim (cases_Bool (is_eq (cmp y k))) [
     | inl t ↦ rw t refl
-    | inr f ↦ rw f (is_named-more ys x k)
+    | inr f ↦ rw f (has_name-more ys x k)
   ]
 
   -- a note of one name more
   pub noted_more : (names : List K) (i : ℕ) (x k : K) (mark : Mark) (first old now : Option Mark) → i < length names
       → x ≡ get_or names i x
-      → old ≡ cond (is_named cmp (take i names) k) (Some mark) first
+      → old ≡ cond (has_name cmp (take i names) k) (Some mark) first
       → now ≡ cond (is_at (cmp x) k) (Some mark) old
-      → now ≡ cond (is_named cmp (take (i + 1) names) k) (Some mark) first
+      → now ≡ cond (has_name cmp (take (i + 1) names) k) (Some mark) first
   noted_more names i x k mark first old now h item before step =
-      let more : is_named cmp (take (i + 1) names) k ≡ is_named cmp (take i names) k || is_eq (cmp x k) =
-      ap (λ ns. is_named cmp ns k) (take_more names i x h)
-      ∙ ap (λ y. is_named cmp (take i names ++ y ∷ []) k) (sym item)
-      ∙ is_named-more (take i names) x k in
+      let more : has_name cmp (take (i + 1) names) k ≡ has_name cmp (take i names) k || is_eq (cmp x k) =
+      ap (λ ns. has_name cmp ns k) (take_more names i x h)
+      ∙ ap (λ y. has_name cmp (take i names ++ y ∷ []) k) (sym item)
+      ∙ has_name-more (take i names) x k in
       elim (cases_Bool (is_eq (cmp x k))) [
-        | inl here ↦ step ∙ rw (more, here) (either (is_named cmp (take i names) k) (Some mark) first)
-        | inr other ↦ step ∙ rw (more, other) (before ∙ alone (is_named cmp (take i names) k) (Some mark) first)
+        | inl here ↦ step ∙ rw (more, here) (either (has_name cmp (take i names) k) (Some mark) first)
+        | inr other ↦ step ∙ rw (more, other) (before ∙ alone (has_name cmp (take i names) k) (Some mark) first)
       ]
     where
       either : (b : Bool) (m o : Option Mark) → m ≡ cond (b || true) m o
@@ -96,7 +96,7 @@ pub record IsBestOf {K : Type 0} (at : K → Option Mark) (has : K → Type 0) (
 module _ {K : Type 0} (cmp : K → K → Ordering) (order : IsTotalOrder cmp) (exact : CmpEqualImpliesEq cmp)
     (marks : BTreeMap K Mark) where
   abbrev Has : List K → K → Type 0
-  Has names k = is_named cmp names k ≡ true
+  Has names k = has_name cmp names k ≡ true
 
   has_rest : (x : K) (xs : List K) (k : K) → Has xs k → Has (x ∷ xs) k
   has_rest x xs k h = elim (cases_Bool (is_eq (cmp x k))) [ inl t ↦ rw t refl | inr f ↦ rw (f, h) refl ]

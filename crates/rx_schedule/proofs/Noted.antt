@@ -15,7 +15,7 @@ use Rattle.rx_fields.specs.declared.key.Key.{Key}
 use Rattle.rx_sorted.proofs.Keys.{cases_Ordering, Equal-from_is_eq}
 use Rattle.rx_ledger.specs.Ledger.{Ledger}
 use Rattle.rx_ledger.proofs.Orders.{id_exact, key_exact}
-use Rattle.rx_schedule.specs.Billed.{HasBilled, billed_families, families_kept, is_among, is_biller}
+use Rattle.rx_schedule.specs.Billed.{HasBilled, billed_families, families_kept, has_family, is_biller}
 use Rattle.rx_d0_values.specs.declared.bill.BillParts.{BillParts}
 use Rattle.rx_d0_values.specs.declared.transaction.Transaction.TheVariants.{Bill}
 use Rattle.rx_d0_values.specs.declared.transmission.Heard.{Heard as HeardRecord}
@@ -26,15 +26,15 @@ use Rattle.rx_schedule.proofs.Ors.{asked_twice, grouped, or_false, swapped, turn
 
 -- what is among the families with one more
 among-insert : (families : List (List ℕ)) (family f : List ℕ)
-    → is_among (insert_key id_cmp families family) f ≡ is_eq (id_cmp f family) || is_among families f
+    → has_family (insert_key id_cmp families family) f ≡ is_eq (id_cmp f family) || has_family families f
 among-insert [] family f = refl
 among-insert (x ∷ xs) family f = elim (cases_Ordering (id_cmp family x)) [
   | inl less ↦ rw less refl
   | inr (inl tied) ↦
       let same : family ≡ x = id_exact family x tied in
-      rw (tied, same) (asked_twice (is_eq (id_cmp f x)) (is_among xs f))
+      rw (tied, same) (asked_twice (is_eq (id_cmp f x)) (has_family xs f))
   | inr (inr more) ↦ rw (more, among-insert xs family f)
-      (turned (is_eq (id_cmp f x)) (is_eq (id_cmp f family)) (is_among xs f))
+      (turned (is_eq (id_cmp f x)) (is_eq (id_cmp f family)) (has_family xs f))
 ]
 
 -- the map whose entry of the key has one family more
@@ -47,12 +47,12 @@ noted m n key w family updates made k f = elim (cases_Bool (is_eq (key_cmp key k
   | inl here ↦
       let same : key ≡ k = key_exact key k (Equal-from_is_eq _ here) in
       let now : billed_families n k ≡ w.keys = ap families_kept (updates k) ∙ rw here refl in
-      ap (λ families. is_among families f) (now ∙ made) ∙ among-insert (billed_families m key) family f
+      ap (λ families. has_family families f) (now ∙ made) ∙ among-insert (billed_families m key) family f
       ∙ ap (λ j. is_eq (id_cmp f family) || is_biller m j f) same
       ∙ rw here refl
   | inr other ↦
       let now : billed_families n k ≡ billed_families m k = ap families_kept (updates k) ∙ rw other refl in
-      ap (λ families. is_among families f) now ∙ rw other refl
+      ap (λ families. has_family families f) now ∙ rw other refl
 ]
 
 -- ---- the items so far, and one more
@@ -65,30 +65,30 @@ pub flat_map-more : {X Y : Type 0} (f : X → List Y) (xs : List X) (i : ℕ) (d
 flat_map-more f xs i d h = ap (flat_map f) (take_more xs i d h) ∙ flat_map-one f (take i xs) (get_or xs i d)
 
 pub among-more : {X : Type 0} (g : X → List (List ℕ)) (xs : List X) (i : ℕ) (d : X) (f : List ℕ) → i < length xs
-    → is_among (flat_map g (take (i + 1) xs)) f ≡ is_among (flat_map g (take i xs)) f || is_among (g (get_or xs i d)) f
-among-more g xs i d f h = ap (λ ys. is_among ys f) (flat_map-more g xs i d h)
+    → has_family (flat_map g (take (i + 1) xs)) f ≡ has_family (flat_map g (take i xs)) f || has_family (g (get_or xs i d)) f
+among-more g xs i d f h = ap (λ ys. has_family ys f) (flat_map-more g xs i d h)
     ∙ list_any-append _ (flat_map g (take i xs)) (g (get_or xs i d))
 
 -- what is noted of one item more, and what is named by one item more
 pub more_noted : {X : Type 0} (g : X → List (List ℕ)) (xs : List X) (i : ℕ) (x : X) (f : List ℕ) (first old now : Bool)
     → i < length xs → x ≡ get_or xs i x
-    → old ≡ is_among (flat_map g (take i xs)) f || first → now ≡ is_among (g x) f || old
-    → now ≡ is_among (flat_map g (take (i + 1) xs)) f || first
+    → old ≡ has_family (flat_map g (take i xs)) f || first → now ≡ has_family (g x) f || old
+    → now ≡ has_family (flat_map g (take (i + 1) xs)) f || first
 more_noted g xs i x f first old now h item before step =
-    step ∙ ap (λ b. is_among (g x) f || b) before
-    ∙ turned (is_among (g x) f) (is_among (flat_map g (take i xs)) f) first
-    ∙ sym (grouped (is_among (flat_map g (take i xs)) f) (is_among (g x) f) first)
-    ∙ ap (λ y. (is_among (flat_map g (take i xs)) f || is_among (g y) f) || first) item
+    step ∙ ap (λ b. has_family (g x) f || b) before
+    ∙ turned (has_family (g x) f) (has_family (flat_map g (take i xs)) f) first
+    ∙ sym (grouped (has_family (flat_map g (take i xs)) f) (has_family (g x) f) first)
+    ∙ ap (λ y. (has_family (flat_map g (take i xs)) f || has_family (g y) f) || first) item
     ∙ ap (λ b. b || first) (sym (among-more g xs i x f h))
 
 pub more_named : {X : Type 0} (g : X → List (List ℕ)) (xs : List X) (i : ℕ) (x : X) (f : List ℕ) (first old now : Bool)
     → i < length xs → x ≡ get_or xs i x
-    → old ≡ first || is_among (flat_map g (take i xs)) f → now ≡ old || is_among (g x) f
-    → now ≡ first || is_among (flat_map g (take (i + 1) xs)) f
+    → old ≡ first || has_family (flat_map g (take i xs)) f → now ≡ old || has_family (g x) f
+    → now ≡ first || has_family (flat_map g (take (i + 1) xs)) f
 more_named g xs i x f first old now h item before step =
-    step ∙ ap (λ b. b || is_among (g x) f) before
-    ∙ grouped first (is_among (flat_map g (take i xs)) f) (is_among (g x) f)
-    ∙ ap (λ y. first || (is_among (flat_map g (take i xs)) f || is_among (g y) f)) item
+    step ∙ ap (λ b. b || has_family (g x) f) before
+    ∙ grouped first (has_family (flat_map g (take i xs)) f) (has_family (g x) f)
+    ∙ ap (λ y. first || (has_family (flat_map g (take i xs)) f || has_family (g y) f)) item
     ∙ ap (λ b. first || b) (sym (among-more g xs i x f h))
 
 pub more_put : {X Y : Type 0} (g : X → List Y) (xs : List X) (i : ℕ) (x : X) (first old now : List Y)
@@ -102,7 +102,7 @@ more_put g xs i x first old now h item before step =
 
 -- a billing's biller
 pub among_billed : (h : HeardRecord) (k : Key) (b : BillParts) (f : List ℕ)
-    → is_among (billed_by h k (Bill b)) f ≡ is_eq (key_cmp (key_in h b.reference) k) && is_eq (id_cmp f b.family)
+    → has_family (billed_by h k (Bill b)) f ≡ is_eq (key_cmp (key_in h b.reference) k) && is_eq (id_cmp f b.family)
 among_billed h k b f = elim (cases_Bool (is_eq (key_cmp (key_in h b.reference) k))) [
   | inl own ↦ rw own (or_false (is_eq (id_cmp f b.family)))
   | inr other ↦ rw other refl
@@ -116,13 +116,13 @@ on_ok (Err e) holds then = tt
 -- the map after one record more
 pub billed_more : (old new : BTreeMap Key (BTreeSet (List ℕ))) (earlier : List Transmission) (t : Transmission)
     → HasBilled old earlier
-    → ((k : Key) (f : List ℕ) → is_biller new k f ≡ is_among (billers_in k t.body) f || is_biller old k f)
+    → ((k : Key) (f : List ℕ) → is_biller new k f ≡ has_family (billers_in k t.body) f || is_biller old k f)
     → HasBilled new (earlier ++ t ∷ [])
 billed_more old new earlier t has step k f =
-    step k f ∙ ap (λ b. is_among (billers_in k t.body) f || b) (has k f)
-    ∙ swapped (is_among (billers_in k t.body) f) (is_among (billers k earlier) f)
+    step k f ∙ ap (λ b. has_family (billers_in k t.body) f || b) (has k f)
+    ∙ swapped (has_family (billers_in k t.body) f) (has_family (billers k earlier) f)
     ∙ sym (list_any-append _ (billers k earlier) (billers_in k t.body))
-    ∙ ap (λ families. is_among families f) (sym (flat_map-one (λ u. billers_in k u.body) earlier t))
+    ∙ ap (λ families. has_family families f) (sym (flat_map-one (λ u. billers_in k u.body) earlier t))
 
 -- the footprint at the place of the next record
 pub footprint-next : (L : Ledger) (records : List Transmission) (i : ℕ) (t : Transmission) → i < length records

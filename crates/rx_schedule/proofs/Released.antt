@@ -4,7 +4,7 @@ use Rattle.std.proofs.Common.{set, take, Option, Some, None, MatchOption, refl, 
 use Rattle.std.specs.Option.{option_to_list}
 use Rattle.std.proofs.lemmas.Bool.{cases_Bool, eqb-false, eqb-true}
 use Rattle.std.proofs.lemmas.List.{append-nil, append_assoc, get_or-map, length-map, map-set, set-get_or}
-use Rattle.rx_schedule.specs.Links.{AreCounted, AreFree, number_of, row_of}
+use Rattle.rx_schedule.specs.Links.{AreCounted, AreFree, number_at, row_of}
 use Rattle.rx_schedule.proofs.Running.{taken_free}
 use Rattle.rx_schedule.proofs.Times.{row-other, row-same}
 
@@ -25,7 +25,7 @@ others_now items rows p v one q from apart = ap (λ rs. row_of rs q) (map-set it
 -- the order after a link was taken away
 pub free_now : (n : ℕ) (rows : List (List ℕ)) (waiting order : List ℕ) (c : AreCounted n rows waiting)
     (f : AreFree n waiting order) (p q : ℕ) (rest : List ℕ) (one : 1 ≤ p) (to : p ≤ n) (popped : row_of rows p ≡ rest ++ q ∷ [])
-    (now : ℕ) (order' : List ℕ) → suc now ≡ number_of waiting q → order' ≡ cond (now == 0) (order ++ q ∷ []) order
+    (now : ℕ) (order' : List ℕ) → suc now ≡ number_at waiting q → order' ≡ cond (now == 0) (order ++ q ∷ []) order
     → AreFree n (set waiting (q - 1) now) order'
 free_now n rows waiting order c f p q rest one to popped now order' is e = elim (cases_Bool (now == 0)) [
   | inl t ↦ taken_free n rows waiting order c f p q rest one to popped now order' is

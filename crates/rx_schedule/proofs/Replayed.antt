@@ -3,10 +3,10 @@ use Rattle.rx_schedule.specs.declared.event.Event.{Event}
 use Rattle.rx_schedule.specs.declared.event.Event.TheVariants.{Take, Give}
 use Rattle.std.proofs.Common.{◌≡◌, ℕ, zero, suc, ◌<◌, ◌≤◌, ◌+◌, ◌-◌, List, [], ◌∷◌, refl, ap, sym, ◌∙◌, subst, arith, inl, inr}
 use mathlib.Core.Path.{fun_ext}
-use Rattle.std.specs.Prelude.{true, false, Some}
+use Rattle.std.specs.Prelude.{true, false, Some, None, ◌++◌}
 use Rattle.std.proofs.lemmas.Bool.{cases_Bool, cases_lt, both_ways, eq-eqb, ne_eqb}
-use Rattle.rx_schedule.specs.Machine.{Job, Store, IsPlace, cut, Share, Was, MayTake, MayGive, IsLegal}
-use Rattle.rx_schedule.specs.Machine.{IsComplete, Desk, with_at, take, give, replay, IsFoldOf}
+use Rattle.rx_schedule.specs.Machine.{Job, Store, IsPlace, own_values, Share, Was, MayTake, MayGive, IsLegal}
+use Rattle.rx_schedule.specs.Machine.{IsComplete, Reached, with_at, take, give, replay, IsFoldOf}
 
 -- what was given was taken
 pub taken : (job : Job) (i : ℕ) (past : List Event) → IsLegal job past → Was (Give i) past → Was (Take i) past
@@ -34,11 +34,25 @@ in_range job i (Take k ∷ past) l (inr w) = in_range job i past l.1 w
 in_range job i (Give k ∷ past) l (inl e) = absurd (cc e)
 in_range job i (Give k ∷ past) l (inr w) = in_range job i past l.1 w
 
+-- a start of a legal event list is legal
+pub legal_before : (job : Job) (later before : List Event) → IsLegal job (later ++ before) → IsLegal job before
+legal_before job [] before l = l
+legal_before job (Take k ∷ later) before l = legal_before job later before l.1
+legal_before job (Give k ∷ later) before l = legal_before job later before l.1
+
 at_own : {A : Type 0} (f : ℕ → A) (i j : ℕ) (x : A) → i ≡ j → with_at f i x j ≡ x
 at_own f i j x e = rw (eq-eqb j i (sym e))
 
 at_other : {A : Type 0} (f : ℕ → A) (i j : ℕ) (x : A) → (i ≡ j → ⊥) → with_at f i x j ≡ f j
 at_other f i j x n = rw (ne_eqb j i (λ e. n (sym e)))
+
+-- no reply is noted for a record that wasn't given
+pub core_unnoted : (job : Job) (past : List Event) (i : ℕ) → (Was (Give i) past → ⊥) → (replay job past).replies i ≡ None
+core_unnoted job [] i out = refl
+core_unnoted job (Take k ∷ past) i out = core_unnoted job past i (λ w. out (inr w))
+core_unnoted job (Give k ∷ past) i out =
+    at_other (replay job past).replies k i (Some (job.work k ((replay job past).parcels k)).0) (λ e. out (inl (ap Give e)))
+    ∙ core_unnoted job past i (λ w. out (inr w))
 
 module _ (job : Job) (at : ℕ → Store job) (reply : ℕ → job.Reply) (fold : IsFoldOf job at reply) where
   -- a book is the same before k as before i, where none from i up to k names it
@@ -69,9 +83,9 @@ module _ (job : Job) (at : ℕ → Store job) (reply : ℕ → job.Reply) (fold 
 
   -- each book that is in is the fold's where its next record finds it, each parcel that is out is the fold's, and so is
   -- each reply
-  record Follows (past : List Event) (d : Desk job) : Type 0 where
+  record Follows (past : List Event) (d : Reached job) : Type 0 where
     books : (b : job.Book) (k : ℕ) → Stands b k past → d.books b ≡ at k b
-    parcels : (i : ℕ) → Was (Take i) past → (Was (Give i) past → ⊥) → d.parcels i ≡ cut job i (at i)
+    parcels : (i : ℕ) → Was (Take i) past → (Was (Give i) past → ⊥) → d.parcels i ≡ own_values job i (at i)
     replies : (i : ℕ) → Was (Give i) past → d.replies i ≡ Some (reply i)
 
   Stands-before_take : (b : job.Book) (k i : ℕ) (past : List Event) → Stands b k (Take i ∷ past) → Stands b k past
@@ -95,7 +109,7 @@ module _ (job : Job) (at : ℕ → Store job) (reply : ℕ → job.Reply) (fold 
   }
 
   -- a record that is taken finds its books as the fold has them before it
-  finds : (i : ℕ) (past : List Event) (d : Desk job) → IsLegal job past → MayTake job i past → Follows past d
+  finds : (i : ℕ) (past : List Event) (d : Reached job) → IsLegal job past → MayTake job i past → Follows past d
       → (b : job.Book) → job.names i b ≡ true → d.books b ≡ at i b
   finds i past d l may f b n = f.books b i record {
     from_one = may.there.from_one;
@@ -107,10 +121,10 @@ module _ (job : Job) (at : ℕ → Store job) (reply : ℕ → job.Reply) (fold 
     ];
   }
 
-  cut_same : (i : ℕ) (s t : Store job) → ((b : job.Book) → job.names i b ≡ true → s b ≡ t b) → cut job i s ≡ cut job i t
+  cut_same : (i : ℕ) (s t : Store job) → ((b : job.Book) → job.names i b ≡ true → s b ≡ t b) → own_values job i s ≡ own_values job i t
   cut_same i s t h = fun_ext (λ b. elim (cases_Bool (job.names i b)) [ inl e ↦ rw (e, h b e) | inr e ↦ rw e ])
 
-  Follows-take : (i : ℕ) (past : List Event) (d : Desk job) → IsLegal job past → MayTake job i past → Follows past d
+  Follows-take : (i : ℕ) (past : List Event) (d : Reached job) → IsLegal job past → MayTake job i past → Follows past d
       → Follows (Take i ∷ past) (take job i d)
   Follows-take i past d l may f = record {
     books = λ b k s. elim (cases_Bool (job.names i b)) [
@@ -121,18 +135,18 @@ module _ (job : Job) (at : ℕ → Store job) (reply : ℕ → job.Reply) (fold 
       | inr n ↦ rw n (f.books b k (Stands-before_take b k i past s))
     ];
     parcels = λ j w out. elim w [
-      | inl e ↦ let same : i ≡ j = cc e in at_own d.parcels i j (cut job i d.books) same
+      | inl e ↦ let same : i ≡ j = cc e in at_own d.parcels i j (own_values job i d.books) same
           ∙ rw (← same) (cut_same i d.books (at i) (finds i past d l may f))
-      | inr v ↦ at_other d.parcels i j (cut job i d.books) (λ e. may.once (rw e v)) ∙ f.parcels j v (λ g. out (inr g))
+      | inr v ↦ at_other d.parcels i j (own_values job i d.books) (λ e. may.once (rw e v)) ∙ f.parcels j v (λ g. out (inr g))
     ];
     replies = λ j w. elim w [ inl e ↦ absurd (cc e) | inr v ↦ f.replies j v ];
   }
 
-  Follows-give : (i : ℕ) (past : List Event) (d : Desk job) → IsLegal job past → MayGive i past → Follows past d
+  Follows-give : (i : ℕ) (past : List Event) (d : Reached job) → IsLegal job past → MayGive i past → Follows past d
       → Follows (Give i ∷ past) (give job i d)
   Follows-give i past d l may f =
       let place : IsPlace job i = in_range job i past l may.taken in
-      let own : d.parcels i ≡ cut job i (at i) = f.parcels i may.taken may.once in
+      let own : d.parcels i ≡ own_values job i (at i) = f.parcels i may.taken may.once in
       record {
         books = λ b k s. elim (cases_Bool (job.names i b)) [
           | inl t ↦ rw (t, own) (fold.inside i place b t ∙ sym (unnamed_between b (suc i) k
@@ -179,12 +193,14 @@ module _ (job : Job) (at : ℕ → Store job) (reply : ℕ → job.Reply) (fold 
         let up : j ≤ job.count = (in_range job j past l w).to_count in omega arith;
   }
 
-  -- what a record was taken out with is what the fold has before it
-  pub core_parcels : (past : List Event) → IsLegal job past → (i : ℕ) → Was (Take i) past → (Was (Give i) past → ⊥)
-      → (replay job past).parcels i ≡ cut job i (at i)
-  core_parcels past l i w out = (follows past l).parcels i w out
+  -- a record that is taken finds its books as the fold has them before it
+  pub core_finds : (past : List Event) (i : ℕ) → IsLegal job (Take i ∷ past) → (b : job.Book) → job.names i b ≡ true
+      → (replay job past).books b ≡ at i b
+  core_finds past i l = finds i past (replay job past) l.1 l.0 (follows past l.1)
 
-  -- and what a record would be taken out with
-  pub core_finds : (past : List Event) → IsLegal job past → (i : ℕ) → MayTake job i past
-      → (b : job.Book) → job.names i b ≡ true → (replay job past).books b ≡ at i b
-  core_finds past l i may = finds i past (replay job past) l may (follows past l)
+  -- and where it is given, it leaves them as the fold has them after it
+  pub core_leaves : (past : List Event) (i : ℕ) → IsLegal job (Give i ∷ past) → (b : job.Book) → job.names i b ≡ true
+      → (replay job (Give i ∷ past)).books b ≡ at (suc i) b
+  core_leaves past i l b n =
+      let own : (replay job past).parcels i ≡ own_values job i (at i) = (follows past l.1).parcels i l.0.taken l.0.once in
+      rw (n, own) (fold.inside i (in_range job i past l.1 l.0.taken) b n)

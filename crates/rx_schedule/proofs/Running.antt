@@ -8,9 +8,9 @@ use Rattle.std.proofs.lemmas.List.{length-append, length-set, take-append-le, ta
 use Rattle.std.proofs.lemmas.Map.Steps.{length-le_from_distinct_below}
 use Rattle.rx_books_parcel.specs.Footprints.{FootprintParts}
 use Rattle.rx_schedule.specs.declared.links.Link.{Link}
-use Rattle.rx_schedule.specs.Links.{AreCounted, AreFree, AreLinks, AreRows, linked, number_of, row_of, times, total}
+use Rattle.rx_schedule.specs.Links.{AreCounted, AreFree, AreLinks, AreRows, linked, number_at, row_of, times, total}
 use Rattle.rx_schedule.specs.Machine.{Was}
-use Rattle.rx_schedule.specs.Queues.{AreQueues, IsNext, IsReady, IsRunning, QueueParts, next_in}
+use Rattle.rx_schedule.specs.Queues.{AreQueues, IsReadyIfAny, IsReady, IsRunning, QueueParts, next_in}
 use Rattle.rx_schedule.specs.Waves.{shares}
 use Rattle.rx_schedule.proofs.Times.{Pairs-from_times, Was-from_times, number-other, number-same, one_if, one_other}
 use Rattle.rx_schedule.proofs.Times.{one_same, one_small, row-other, row-same, times-cons, times-from_Was, times-push}
@@ -116,10 +116,10 @@ module _ (n : ℕ) (rows : List (List ℕ)) (waiting order : List ℕ) (c : AreC
   pub taken_there : (1 ≤ q) × (q ≤ n)
   taken_there = c.within p q one to taken_has
 
-  pub taken_waits : 1 ≤ number_of waiting q
+  pub taken_waits : 1 ≤ number_at waiting q
   taken_waits =
       let w = taken_there in
-      let e : number_of waiting q ≡ total q rows = c.counted q w.0 w.1 in
+      let e : number_at waiting q ≡ total q rows = c.counted q w.0 w.1 in
       let a : times q (row_of rows p) ≤ total q rows = total-row q rows p in
       let b : 1 ≤ times q (row_of rows p) = taken_has in omega arith
 
@@ -131,7 +131,7 @@ module _ (n : ℕ) (rows : List (List ℕ)) (waiting order : List ℕ) (c : AreC
       let a : times x (row_of rows p) ≡ times x rest + one_if q x = taken_times x in
       omega arith
 
-  pub taken_counted : (now : ℕ) → suc now ≡ number_of waiting q
+  pub taken_counted : (now : ℕ) → suc now ≡ number_at waiting q
       → AreCounted n (set rows (p - 1) rest) (set waiting (q - 1) now)
   taken_counted now is =
       let w = taken_there in
@@ -143,15 +143,15 @@ module _ (n : ℕ) (rows : List (List ℕ)) (waiting order : List ℕ) (c : AreC
         as_many = length-set waiting (q - 1) now ∙ long;
         counted = λ x low high.
             let e : total x (set rows (p - 1) rest) + one_if q x ≡ total x rows = left_total x in
-            let d : number_of waiting x ≡ total x rows = c.counted x low high in
+            let d : number_at waiting x ≡ total x rows = c.counted x low high in
             elim (cases_eq x q) [
               | inl here ↦
-                  let a : number_of (set waiting (q - 1) now) x ≡ now =
-                  ap (number_of (set waiting (q - 1) now)) here ∙ number-same waiting q now from (omega arith) in
+                  let a : number_at (set waiting (q - 1) now) x ≡ now =
+                  ap (number_at (set waiting (q - 1) now)) here ∙ number-same waiting q now from (omega arith) in
                   let o : one_if q x ≡ 1 = ap (one_if q) here ∙ one_same q in
-                  let g : number_of waiting x ≡ suc now = ap (number_of waiting) here ∙ sym is in omega arith
+                  let g : number_at waiting x ≡ suc now = ap (number_at waiting) here ∙ sym is in omega arith
               | inr other ↦
-                  let a : number_of (set waiting (q - 1) now) x ≡ number_of waiting x =
+                  let a : number_at (set waiting (q - 1) now) x ≡ number_at waiting x =
                   number-other waiting q x now from low other in
                   let o : one_if q x ≡ 0 = one_other q x (λ g. other (sym g)) in omega arith
             ];
@@ -170,7 +170,7 @@ module _ (n : ℕ) (rows : List (List ℕ)) (waiting order : List ℕ) (c : AreC
       }
 
   -- the place is free, or waits still
-  pub taken_free : (now : ℕ) (order' : List ℕ) → suc now ≡ number_of waiting q
+  pub taken_free : (now : ℕ) (order' : List ℕ) → suc now ≡ number_at waiting q
       → ((now ≡ 0) × (order' ≡ order ++ q ∷ [])) ⊎ ((now ≢ 0) × (order' ≡ order))
       → AreFree n (set waiting (q - 1) now) order'
   taken_free now order' is (inl (none, e)) =
@@ -178,9 +178,9 @@ module _ (n : ℕ) (rows : List (List ℕ)) (waiting order : List ℕ) (c : AreC
       let from : 1 ≤ q = w.0 in
       let up : q ≤ n = w.1 in
       let long : length waiting ≡ n = c.as_many in
-      let here_is : number_of (set waiting (q - 1) now) q ≡ now = number-same waiting q now from (omega arith) in
+      let here_is : number_at (set waiting (q - 1) now) q ≡ now = number-same waiting q now from (omega arith) in
       let out : times q order ≡ 0 = elim (cases_lt 0 (times q order)) [
-        | inl some ↦ absurd (let t = f.there q (omega arith) in let z : number_of waiting q ≡ 0 = t.2 in omega arith)
+        | inl some ↦ absurd (let t = f.there q (omega arith) in let z : number_at waiting q ≡ 0 = t.2 in omega arith)
         | inr no_more ↦ omega arith
       ] in
       let many : (x : ℕ) → times x order' ≡ times x order + one_if q x = λ x. ap (times x) e ∙ times-push x order q in
@@ -190,12 +190,12 @@ module _ (n : ℕ) (rows : List (List ℕ)) (waiting order : List ℕ) (c : AreC
               let o : one_if q x ≡ 1 = ap (one_if q) here ∙ one_same q in
               let m : times x order' ≡ times x order + one_if q x = many x in omega arith
           | inr other ↦
-              let g : number_of (set waiting (q - 1) now) x ≡ number_of waiting x = number-other waiting q x now from low other in
+              let g : number_at (set waiting (q - 1) now) x ≡ number_at waiting x = number-other waiting q x now from low other in
               let h : 1 ≤ times x order = f.all x low high (sym g ∙ free) in
               let m : times x order' ≡ times x order + one_if q x = many x in omega arith
         ];
         there = λ x has. elim (cases_eq x q) [
-          | inl here ↦ subst (λ y. (1 ≤ y) × (y ≤ n) × (number_of (set waiting (q - 1) now) y ≡ 0)) (sym here)
+          | inl here ↦ subst (λ y. (1 ≤ y) × (y ≤ n) × (number_at (set waiting (q - 1) now) y ≡ 0)) (sym here)
               (from, up, here_is ∙ none)
           | inr other ↦
               let o : one_if q x ≡ 0 = one_other q x (λ g. other (sym g)) in
@@ -219,18 +219,18 @@ module _ (n : ℕ) (rows : List (List ℕ)) (waiting order : List ℕ) (c : AreC
       let from : 1 ≤ q = w.0 in
       let up : q ≤ n = w.1 in
       let long : length waiting ≡ n = c.as_many in
-      let here_is : number_of (set waiting (q - 1) now) q ≡ now = number-same waiting q now from (omega arith) in
+      let here_is : number_at (set waiting (q - 1) now) q ≡ now = number-same waiting q now from (omega arith) in
       record {
         all = λ x low high free. elim (cases_eq x q) [
-          | inl here ↦ absurd (some (sym here_is ∙ ap (number_of (set waiting (q - 1) now)) (sym here) ∙ free))
+          | inl here ↦ absurd (some (sym here_is ∙ ap (number_at (set waiting (q - 1) now)) (sym here) ∙ free))
           | inr other ↦
-              let g : number_of (set waiting (q - 1) now) x ≡ number_of waiting x = number-other waiting q x now from low other in
+              let g : number_at (set waiting (q - 1) now) x ≡ number_at waiting x = number-other waiting q x now from low other in
               subst (λ ys. 1 ≤ times x ys) (sym e) (f.all x low high (sym g ∙ free))
         ];
         there = λ x has.
             let t = f.there x (subst (λ ys. 1 ≤ times x ys) e has) in
             elim (cases_eq x q) [
-              | inl here ↦ absurd (let z : number_of waiting q ≡ 0 = ap (number_of waiting) (sym here) ∙ t.2 in omega arith)
+              | inl here ↦ absurd (let z : number_at waiting q ≡ 0 = ap (number_at waiting) (sym here) ∙ t.2 in omega arith)
               | inr other ↦ (t.0, t.1, number-other waiting q x now from t.0 other ∙ t.2)
             ];
         once = λ x. subst (λ ys. times x ys ≤ 1) (sym e) (f.once x);
@@ -241,8 +241,8 @@ module _ (n : ℕ) (rows : List (List ℕ)) (waiting order : List ℕ) (c : AreC
   taken_room =
       let w = taken_there in
       leaves_room n order q f.once (λ x h. let t = f.there x h in (t.0, t.1)) w.0 w.1 (elim (cases_lt 0 (times q order)) [
-        | inl some ↦ absurd (let t = f.there q (omega arith) in let z : number_of waiting q ≡ 0 = t.2 in
-            let y : 1 ≤ number_of waiting q = taken_waits in omega arith)
+        | inl some ↦ absurd (let t = f.there q (omega arith) in let z : number_at waiting q ≡ 0 = t.2 in
+            let y : 1 ≤ number_at waiting q = taken_waits in omega arith)
         | inr no_more ↦ omega arith
       ])
 
@@ -259,14 +259,14 @@ module _ (fs : List FootprintParts) (rows : List (List ℕ)) (waiting order : Li
     passed = reverse passed;
   }
 
-  pub passed_free : (i : ℕ) → 1 ≤ times i passed → (1 ≤ i) × (i ≤ length fs) × (number_of waiting i ≡ 0)
+  pub passed_free : (i : ℕ) → 1 ≤ times i passed → (1 ≤ i) × (i ≤ length fs) × (number_at waiting i ≡ 0)
   passed_free i was =
       let a : 1 ≤ times i (take handed order) = r.after i was in
       let b : times i (take handed order) ≤ times i order = times-take i handed order in
       r.free.there i (omega arith)
 
   -- each earlier sharer of a place that waits for none was passed
-  settled : (steps j i : ℕ) → i ≤ j + steps → 1 ≤ j → j < i → i ≤ length fs → number_of waiting i ≡ 0
+  settled : (steps j i : ℕ) → i ≤ j + steps → 1 ≤ j → j < i → i ≤ length fs → number_at waiting i ≡ 0
       → shares fs j i ≡ true → 1 ≤ times j passed
   settled zero j i near one lt to free shared = absurd (omega arith)
   settled (suc steps) j i near one lt to free shared = elim (r.left.reaches j i one lt to shared) [
@@ -277,22 +277,22 @@ module _ (fs : List FootprintParts) (rows : List (List ℕ)) (waiting order : Li
         let on = r.left.forward j q one (omega arith) has in
         let after : j < q = on.0 in
         let there : q ≤ length fs = on.1 in
-        let counted : number_of waiting q ≡ total q rows = r.counted.counted q (omega arith) there in
+        let counted : number_at waiting q ≡ total q rows = r.counted.counted q (omega arith) there in
         let some : times q (row_of rows j) ≤ total q rows = total-row q rows j in
         let upto : q ≤ i = w.2 in
         elim (cases_eq q i) [
-          | inl here ↦ absurd (let z : number_of waiting q ≡ 0 = ap (number_of waiting) here ∙ free in omega arith)
+          | inl here ↦ absurd (let z : number_at waiting q ≡ 0 = ap (number_at waiting) here ∙ free in omega arith)
           | inr apart ↦ elim w.3 [
             | inl here ↦ absurd (apart here)
             | inr shared' ↦ absurd (
                 let was = settled steps q i (omega arith) (omega arith) (omega arith) to free shared' in
                 let z = passed_free q was in
-                let none : number_of waiting q ≡ 0 = z.2 in omega arith)
+                let none : number_at waiting q ≡ 0 = z.2 in omega arith)
           ]
         ]
   ]
 
-  is_ready : (next : Option ℕ) (i : ℕ) → 1 ≤ i → i ≤ length fs → number_of waiting i ≡ 0
+  is_ready : (next : Option ℕ) (i : ℕ) → 1 ≤ i → i ≤ length fs → number_at waiting i ≡ 0
       → (1 ≤ times i (take handed order) → ⊥) → IsReady (parts next) i
   is_ready next i one to free out = record {
     from_one = one;
@@ -306,7 +306,7 @@ module _ (fs : List FootprintParts) (rows : List (List ℕ)) (waiting order : Li
   }
 
   -- a ready place waits for none
-  waits_none : (next : Option ℕ) (i : ℕ) → IsReady (parts next) i → number_of waiting i ≡ 0
+  waits_none : (next : Option ℕ) (i : ℕ) → IsReady (parts next) i → number_at waiting i ≡ 0
   waits_none next i ready = r.counted.counted i ready.from_one ready.there ∙ total-none i rows (λ p one to.
       elim (cases_lt 0 (times i (row_of rows p))) [
         | inl some ↦
@@ -337,7 +337,7 @@ module _ (fs : List FootprintParts) (rows : List (List ℕ)) (waiting order : Li
       let e : times i (reverse (take handed order)) ≡ times i order = times-reverse i (take handed order) ∙ ap (times i) all in
       ready.unhanded (Was-from_times i (reverse (take handed order)) (omega arith))
 
-  runs_next : IsNext (parts (next_in order handed)) (next_in order handed)
+  runs_next : IsReadyIfAny (parts (next_in order handed)) (next_in order handed)
   runs_next = elim (cases_Bool (nat_lt handed (length order))) [
     | inl some ↦ rw some (next_ready (Some (get_or order handed 0)) (ltb-true handed (length order) some))
     | inr none ↦ rw none (none_ready None (ltb-false handed (length order) none))

@@ -17,7 +17,7 @@ use Rattle.rx_books_family.specs.Books.{OfFamily, OfKey}
 use Rattle.rx_sorted.specs.Ascending.{itself}
 use Rattle.rx_books_parcel.specs.Footprints.{FootprintParts, names}
 use Rattle.rx_schedule.specs.declared.marks.Mark.{Mark}
-use Rattle.rx_schedule.specs.Marked.{IsDown, IsLastOf, IsScan, best_of, families_at, is_named, keys_at, no_mark}
+use Rattle.rx_schedule.specs.Marked.{IsDown, IsLastOf, IsScan, best_of, families_at, has_name, keys_at, no_mark}
 use Rattle.rx_schedule.specs.Waves.{AreWaves, IsChain, IsFirstHighest, IsFirstSharer, footprint_in}
 use Rattle.rx_schedule.specs.Waves.{meet, member_at, nothing, number_in, shares}
 use Rattle.rx_schedule.proofs.MarkedNames.{IsAtMost, at_most_through, best_is_best, last-at_most, last-more}
@@ -25,9 +25,9 @@ use Rattle.rx_schedule.proofs.MarkedNames.{IsAtMost, at_most_through, best_is_be
 -- ---- two footprints meet in a fill key or in a family
 
 met_key : (G : FootprintParts) (ks : List Key) → list_any (names G) (map OfKey ks) ≡ true
-    → (k : Key) × (is_named key_cmp ks k ≡ true) × (is_named key_cmp G.keys k ≡ true)
+    → (k : Key) × (has_name key_cmp ks k ≡ true) × (has_name key_cmp G.keys k ≡ true)
 met_key G [] h = absurd (cc h)
-met_key G (x ∷ xs) h = elim (cases_Bool (is_named key_cmp G.keys x)) [
+met_key G (x ∷ xs) h = elim (cases_Bool (has_name key_cmp G.keys x)) [
   | inl t ↦ (x, rw (has_key-itself key_cmp key_total itself x) refl, t)
   | inr f ↦
       let rest = met_key G xs (rw f at h) in
@@ -35,9 +35,9 @@ met_key G (x ∷ xs) h = elim (cases_Bool (is_named key_cmp G.keys x)) [
 ]
 
 met_family : (G : FootprintParts) (ks : List (List ℕ)) → list_any (names G) (map OfFamily ks) ≡ true
-    → (k : List ℕ) × (is_named id_cmp ks k ≡ true) × (is_named id_cmp G.families k ≡ true)
+    → (k : List ℕ) × (has_name id_cmp ks k ≡ true) × (has_name id_cmp G.families k ≡ true)
 met_family G [] h = absurd (cc h)
-met_family G (x ∷ xs) h = elim (cases_Bool (is_named id_cmp G.families x)) [
+met_family G (x ∷ xs) h = elim (cases_Bool (has_name id_cmp G.families x)) [
   | inl t ↦ (x, rw (has_key-itself id_cmp id_total itself x) refl, t)
   | inr f ↦
       let rest = met_family G xs (rw f at h) in
@@ -56,41 +56,41 @@ or_right true b h = refl
 or_right false b h = h
 
 pub meet_in : (F G : FootprintParts) → meet F G ≡ true
-    → ((k : Key) × (is_named key_cmp F.keys k ≡ true) × (is_named key_cmp G.keys k ≡ true))
-    ⊎ ((k : List ℕ) × (is_named id_cmp F.families k ≡ true) × (is_named id_cmp G.families k ≡ true))
+    → ((k : Key) × (has_name key_cmp F.keys k ≡ true) × (has_name key_cmp G.keys k ≡ true))
+    ⊎ ((k : List ℕ) × (has_name id_cmp F.families k ≡ true) × (has_name id_cmp G.families k ≡ true))
 meet_in F G h =
     elim (or_cases _ _ (sym (list_any-append (names G) (map OfKey F.keys) (map OfFamily F.families)) ∙ h)) [
       | inl keys ↦ inl (met_key G F.keys keys)
       | inr families ↦ inr (met_family G F.families families)
     ]
 
-meets_key : (G : FootprintParts) (ks : List Key) (k : Key) → is_named key_cmp ks k ≡ true → is_named key_cmp G.keys k ≡ true
+meets_key : (G : FootprintParts) (ks : List Key) (k : Key) → has_name key_cmp ks k ≡ true → has_name key_cmp G.keys k ≡ true
     → list_any (names G) (map OfKey ks) ≡ true
 meets_key G [] k h g = absurd (cc h)
 meets_key G (x ∷ xs) k h g = elim (cases_Bool (is_eq (key_cmp x k))) [
   | inl t ↦
       let same : x ≡ k = key_exact x k (Equal-from_is_eq _ t) in
-      or_left _ _ (ap (is_named key_cmp G.keys) same ∙ g)
+      or_left _ _ (ap (has_name key_cmp G.keys) same ∙ g)
   | inr f ↦ or_right _ _ (meets_key G xs k (rw f at h) g)
 ]
 
-meets_family : (G : FootprintParts) (ks : List (List ℕ)) (k : List ℕ) → is_named id_cmp ks k ≡ true
-    → is_named id_cmp G.families k ≡ true → list_any (names G) (map OfFamily ks) ≡ true
+meets_family : (G : FootprintParts) (ks : List (List ℕ)) (k : List ℕ) → has_name id_cmp ks k ≡ true
+    → has_name id_cmp G.families k ≡ true → list_any (names G) (map OfFamily ks) ≡ true
 meets_family G [] k h g = absurd (cc h)
 meets_family G (x ∷ xs) k h g = elim (cases_Bool (is_eq (id_cmp x k))) [
   | inl t ↦
       let same : x ≡ k = id_exact x k (Equal-from_is_eq _ t) in
-      or_left _ _ (ap (is_named id_cmp G.families) same ∙ g)
+      or_left _ _ (ap (has_name id_cmp G.families) same ∙ g)
   | inr f ↦ or_right _ _ (meets_family G xs k (rw f at h) g)
 ]
 
-pub meet_by_key : (F G : FootprintParts) (k : Key) → is_named key_cmp F.keys k ≡ true → is_named key_cmp G.keys k ≡ true
+pub meet_by_key : (F G : FootprintParts) (k : Key) → has_name key_cmp F.keys k ≡ true → has_name key_cmp G.keys k ≡ true
     → meet F G ≡ true
 meet_by_key F G k h g = list_any-append (names G) (map OfKey F.keys) (map OfFamily F.families)
     ∙ or_left _ _ (meets_key G F.keys k h g)
 
-pub meet_by_family : (F G : FootprintParts) (k : List ℕ) → is_named id_cmp F.families k ≡ true
-    → is_named id_cmp G.families k ≡ true → meet F G ≡ true
+pub meet_by_family : (F G : FootprintParts) (k : List ℕ) → has_name id_cmp F.families k ≡ true
+    → has_name id_cmp G.families k ≡ true → meet F G ≡ true
 meet_by_family F G k h g = list_any-append (names G) (map OfKey F.keys) (map OfFamily F.families)
     ∙ or_right _ _ (meets_family G F.families k h g)
 
@@ -165,11 +165,11 @@ module _ (fs : List FootprintParts) (i : ℕ) (keys : BTreeMap Key Mark) (famili
       (best_of key_cmp keys (keys_at fs (suc i)) no_mark) in
       record {
         all = λ p one to shared. elim (meet_in (footprint_in fs p) (footprint_in fs (suc i)) shared) [
-          | inl w ↦ last-at_most (λ q. is_named key_cmp (keys_at fs q) w.0) N i p (get key_cmp keys w.0) by_both
+          | inl w ↦ last-at_most (λ q. has_name key_cmp (keys_at fs q) w.0) N i p (get key_cmp keys w.0) by_both
               (s.last_keys w.0)
               (λ h j low lt high a b. s.above h j low lt high (meet_by_key (footprint_in fs h) (footprint_in fs j) w.0 a b))
               (λ m e. at_most_through m by_keys by_both (first.from_each w.0 m w.2 e) second.from_there) one to w.1
-          | inr w ↦ last-at_most (λ q. is_named id_cmp (families_at fs q) w.0) N i p (get id_cmp families w.0) by_both
+          | inr w ↦ last-at_most (λ q. has_name id_cmp (families_at fs q) w.0) N i p (get id_cmp families w.0) by_both
               (s.last_families w.0)
               (λ h j low lt high a b. s.above h j low lt high (meet_by_family (footprint_in fs h) (footprint_in fs j) w.0 a b))
               (λ m e. second.from_each w.0 m w.2 e) one to w.1
@@ -183,8 +183,8 @@ module _ (fs : List FootprintParts) (i : ℕ) (keys : BTreeMap Key Mark) (famili
         ];
       }
     where
-      found_key : (k : Key) (o : Option Mark) (m : Mark) → o ≡ Some m → is_named key_cmp (keys_at fs (suc i)) k ≡ true
-          → IsLastOf (λ q. is_named key_cmp (keys_at fs q) k) (number_in numbers) i o
+      found_key : (k : Key) (o : Option Mark) (m : Mark) → o ≡ Some m → has_name key_cmp (keys_at fs (suc i)) k ≡ true
+          → IsLastOf (λ q. has_name key_cmp (keys_at fs q) k) (number_in numbers) i o
           → (1 ≤ m.place) × (m.place ≤ i) × (shares fs m.place (suc i) ≡ true) × (m.wave ≡ number_in numbers m.place)
       found_key k None m e named last = absurd (cc e)
       found_key k (Some n) m e named last =
@@ -193,8 +193,8 @@ module _ (fs : List FootprintParts) (i : ℕ) (keys : BTreeMap Key Mark) (famili
           (last.0, last.1, meet_by_key (footprint_in fs n.place) (footprint_in fs (suc i)) k last.2 named, last.3)
 
       found_family : (k : List ℕ) (o : Option Mark) (m : Mark) → o ≡ Some m
-          → is_named id_cmp (families_at fs (suc i)) k ≡ true
-          → IsLastOf (λ q. is_named id_cmp (families_at fs q) k) (number_in numbers) i o
+          → has_name id_cmp (families_at fs (suc i)) k ≡ true
+          → IsLastOf (λ q. has_name id_cmp (families_at fs q) k) (number_in numbers) i o
           → (1 ≤ m.place) × (m.place ≤ i) × (shares fs m.place (suc i) ≡ true) × (m.wave ≡ number_in numbers m.place)
       found_family k None m e named last = absurd (cc e)
       found_family k (Some n) m e named last =
@@ -208,9 +208,9 @@ module _ (fs : List FootprintParts) (i : ℕ) (keys : BTreeMap Key Mark) (famili
       (mark_is : mark ≡ record { place = suc i; wave = w })
       (top_is : new_top ≡ cond (nat_lt top.wave w) mark top)
       (keys_step : (k : Key)
-      → get key_cmp new_keys k ≡ cond (is_named key_cmp (keys_at fs (suc i)) k) (Some mark) (get key_cmp keys k))
+      → get key_cmp new_keys k ≡ cond (has_name key_cmp (keys_at fs (suc i)) k) (Some mark) (get key_cmp keys k))
       (families_step : (k : List ℕ)
-      → get id_cmp new_families k ≡ cond (is_named id_cmp (families_at fs (suc i)) k) (Some mark) (get id_cmp families k)) where
+      → get id_cmp new_families k ≡ cond (has_name id_cmp (families_at fs (suc i)) k) (Some mark) (get id_cmp families k)) where
     is_best_here : IsBest fs numbers i best
     is_best_here = subst (λ m. IsBest fs numbers i m) (sym best_is) is_best
 
@@ -373,9 +373,9 @@ module _ (fs : List FootprintParts) (i : ℕ) (keys : BTreeMap Key Mark) (famili
       within = omega arith;
       as_many = one_more numbers w i s.as_many;
       as_many_before = one_more before best.place i s.as_many_before;
-      last_keys = λ k. last-more (λ q. is_named key_cmp (keys_at fs q) k) (number_in numbers) (number_in (numbers ++ w ∷ []))
+      last_keys = λ k. last-more (λ q. has_name key_cmp (keys_at fs q) k) (number_in numbers) (number_in (numbers ++ w ∷ []))
           i mark (get key_cmp keys k) (get key_cmp new_keys k) same_before mark_of (keys_step k) (s.last_keys k);
-      last_families = λ k. last-more (λ q. is_named id_cmp (families_at fs q) k) (number_in numbers)
+      last_families = λ k. last-more (λ q. has_name id_cmp (families_at fs q) k) (number_in numbers)
           (number_in (numbers ++ w ∷ [])) i mark (get id_cmp families k) (get id_cmp new_families k) same_before mark_of
           (families_step k) (s.last_families k);
       small = small_more numbers w i s.as_many s.small wave_small;
@@ -429,9 +429,9 @@ scan_begins fs keys families numbers before e f no_key no_family = rw (e, f) rec
   within = omega arith;
   as_many = refl;
   as_many_before = refl;
-  last_keys = λ k. subst (λ o. IsLastOf (λ q. is_named key_cmp (keys_at fs q) k) (number_in []) 0 o) (sym (no_key k))
+  last_keys = λ k. subst (λ o. IsLastOf (λ q. has_name key_cmp (keys_at fs q) k) (number_in []) 0 o) (sym (no_key k))
       (λ p one to. absurd (omega arith));
-  last_families = λ k. subst (λ o. IsLastOf (λ q. is_named id_cmp (families_at fs q) k) (number_in []) 0 o)
+  last_families = λ k. subst (λ o. IsLastOf (λ q. has_name id_cmp (families_at fs q) k) (number_in []) 0 o)
       (sym (no_family k)) (λ p one to. absurd (omega arith));
   small = λ p. let r : number_in [] p ≡ 0 = none_read p in omega arith;
   above = λ h j one lt to shared. absurd (omega arith);

@@ -16,7 +16,7 @@ use Rattle.rx_sorted.proofs.KeyOrders.{number_exact, number_total}
 use Rattle.rx_sorted.proofs.Keys.{cases_Ordering, Equal-from_is_eq}
 use Rattle.rx_books_parcel.specs.Footprints.{FootprintParts}
 use Rattle.rx_schedule.specs.Links.{is_used, use_cmp}
-use Rattle.rx_schedule.specs.Marked.{is_named}
+use Rattle.rx_schedule.specs.Marked.{has_name}
 use Rattle.rx_schedule.specs.Used.{AreWithin, footprints_used, names_at}
 use Rattle.rx_schedule.specs.Waves.{nothing}
 use Rattle.rx_schedule.proofs.InOrder.{named_in}
@@ -132,7 +132,7 @@ module _ {K : Type 0} (cmp : K → K → Ordering) (order : IsTotalOrder cmp) (e
     | inr f ↦ rw (f, other_place k p u (eqb-false u.1 p f)) (any_at uses k p)
   ]
 
-  pub named_used : (uses : List (K × ℕ)) (k : K) (p : ℕ) → is_named cmp (names_at uses p) k ≡ is_used cmp uses k p
+  pub named_used : (uses : List (K × ℕ)) (k : K) (p : ℕ) → has_name cmp (names_at uses p) k ≡ is_used cmp uses k p
   named_used uses k p = named_in cmp order exact (names_at uses p) k ∙ any_at uses k p
 
 -- the names of records are used at their places only

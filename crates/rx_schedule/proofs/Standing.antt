@@ -1,11 +1,9 @@
 -- Records one by one in any order in which sharers keep file order, and by the numbers of any valid numbering.
 use Rattle.rx_schedule.specs.declared.event.Event.TheVariants.{Take, Give}
-use Rattle.std.proofs.Common.{◌≡◌, ◌≢◌, true, ℕ, suc, ◌<◌, ◌≤◌, List, [], ◌∷◌, ◌++◌, refl, ap, sym, subst, arith, inl, inr}
-use Rattle.std.specs.Prelude.{Some}
+use Rattle.std.proofs.Common.{◌≢◌, ℕ, ◌<◌, ◌≤◌, List, [], ◌∷◌, ◌++◌, refl, ap, sym, subst, arith, inl, inr}
 use Rattle.std.proofs.lemmas.Bool.{cases_order}
-use Rattle.rx_schedule.specs.Machine.{Job, Store, IsPlace, Share, Was, IsLegal, MayTake, replay, IsFoldOf, one_by_one}
-use Rattle.rx_schedule.specs.Machine.{Pairs, IsOrder, KeepsFileOrder, IsNumbering, GoesByNumber}
-use Rattle.rx_schedule.proofs.Replayed.{core_books, core_finds, core_replies}
+use Rattle.rx_schedule.specs.Machine.{Job, IsPlace, Share, Was, IsComplete, IsLegal, one_by_one}
+use Rattle.rx_schedule.specs.Machine.{Pairs, HasEachOnce, KeepsFileOrder, IsNumbering, GoesByNumber}
 
 given : (i : ℕ) (order : List ℕ) → Was i order → Was (Give i) (one_by_one order)
 given i [] w = elim w [ ]
@@ -56,42 +54,25 @@ legal job (i ∷ order) there once keeps down =
       ),
     )
 
-pub standing_legal : (job : Job) (order : List ℕ) → IsOrder job order → KeepsFileOrder job order
+pub standing_legal : (job : Job) (order : List ℕ) → HasEachOnce job order → KeepsFileOrder job order
     → IsLegal job (one_by_one order)
 standing_legal job order o keeps = legal job order o.there o.once keeps (λ i j w one h s.
     let up : i ≤ job.count = (o.there i w).to_count in
     o.all j record { from_one = one; to_count = omega arith })
 
--- a record of an order may be taken after those before it
-may_come : (job : Job) (later : List ℕ) (place : ℕ) (before : List ℕ) → IsLegal job (one_by_one (later ++ place ∷ before))
-    → MayTake job place (one_by_one before) × IsLegal job (one_by_one before)
-may_come job [] place before l = l.1
-may_come job (k ∷ later) place before l = may_come job later place before l.1.1
+pub standing_whole : (job : Job) (order : List ℕ) → HasEachOnce job order → IsComplete job (one_by_one order)
+standing_whole job order o i there = given i order (o.all i there)
 
-module _ (job : Job) (at : ℕ → Store job) (reply : ℕ → job.Reply) (fold : IsFoldOf job at reply) where
-  -- it finds its books as the fold has them before it
-  pub standing_finds : (order : List ℕ) → IsOrder job order → KeepsFileOrder job order → (later : List ℕ) (place : ℕ)
-      (before : List ℕ) → order ≡ later ++ place ∷ before → (b : job.Book) → job.names place b ≡ true
-      → (replay job (one_by_one before)).books b ≡ at place b
-  standing_finds order o keeps later place before is b named =
-      let l = may_come job later place before (subst (λ ps. IsLegal job (one_by_one ps)) is (standing_legal job order o keeps)) in
-      core_finds job at reply fold (one_by_one before) l.1 place l.0 b named
-
-  pub standing_books : (order : List ℕ) → IsOrder job order → KeepsFileOrder job order
-      → (b : job.Book) → (replay job (one_by_one order)).books b ≡ at (suc job.count) b
-  standing_books order o keeps = core_books job at reply fold (one_by_one order) (standing_legal job order o keeps)
-      (λ i h. given i order (o.all i h))
-
-  pub standing_replies : (order : List ℕ) → IsOrder job order → KeepsFileOrder job order
-      → (i : ℕ) → IsPlace job i → (replay job (one_by_one order)).replies i ≡ Some (reply i)
-  standing_replies order o keeps i h = core_replies job at reply fold (one_by_one order) (standing_legal job order o keeps) i
-      (given i order (o.all i h))
+-- what comes before a record of a legal order is legal
+pub standing_before : (job : Job) (later rest : List ℕ) → IsLegal job (one_by_one (later ++ rest)) → IsLegal job (one_by_one rest)
+standing_before job [] rest l = l
+standing_before job (k ∷ later) rest l = standing_before job later rest l.1.1
 
 -- an order by the numbers of a valid numbering keeps the file order of sharers
-by_number : (job : Job) (number : ℕ → ℕ) (order : List ℕ) → IsNumbering job number → GoesByNumber number order
+by_number_from : (job : Job) (number : ℕ → ℕ) (order : List ℕ) → IsNumbering job number → GoesByNumber number order
     → ((i : ℕ) → Was i order → IsPlace job i) → Pairs (λ later earlier. earlier ≢ later) order → KeepsFileOrder job order
-by_number job number [] v g there once = tt
-by_number job number (i ∷ order) v g there once = (
+by_number_from job number [] v g there once = tt
+by_number_from job number (i ∷ order) v g there once = (
   (λ j w s. elim (cases_order j i) [
     | inl e ↦ absurd (once.0 j w e)
     | inr o ↦ elim o [
@@ -103,15 +84,9 @@ by_number job number (i ∷ order) v g there once = (
           absurd (omega arith)
     ]
   ]),
-  by_number job number order v g.1 (λ j w. there j (inr w)) once.1,
+  by_number_from job number order v g.1 (λ j w. there j (inr w)) once.1,
 )
 
-module _ (job : Job) (at : ℕ → Store job) (reply : ℕ → job.Reply) (fold : IsFoldOf job at reply) where
-  pub numbered_books : (number : ℕ → ℕ) (order : List ℕ) → IsNumbering job number → IsOrder job order
-      → GoesByNumber number order → (b : job.Book) → (replay job (one_by_one order)).books b ≡ at (suc job.count) b
-  numbered_books number order v o g = standing_books job at reply fold order o (by_number job number order v g o.there o.once)
-
-  pub numbered_replies : (number : ℕ → ℕ) (order : List ℕ) → IsNumbering job number → IsOrder job order
-      → GoesByNumber number order → (i : ℕ) → IsPlace job i → (replay job (one_by_one order)).replies i ≡ Some (reply i)
-  numbered_replies number order v o g = standing_replies job at reply fold order o
-      (by_number job number order v g o.there o.once)
+pub by_number : (job : Job) (number : ℕ → ℕ) (order : List ℕ) → IsNumbering job number → HasEachOnce job order
+    → GoesByNumber number order → KeepsFileOrder job order
+by_number job number order v o goes = by_number_from job number order v goes o.there o.once

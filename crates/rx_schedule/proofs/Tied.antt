@@ -4,7 +4,7 @@ use Rattle.std.specs.List.{Contains}
 use Rattle.std.proofs.lemmas.Bool.{cases_lt}
 use Rattle.std.proofs.lemmas.List.{get_or_default}
 use Rattle.rx_schedule.specs.declared.mentions.Mention.{Mention}
-use Rattle.rx_schedule.specs.Mentions.{AreTied, MayFollow, number_of}
+use Rattle.rx_schedule.specs.Mentions.{AreTied, MayFollow, number_of_mention}
 
 follow_on : (numbers : List ℕ) (a b c : Mention) → MayFollow numbers a b → MayFollow numbers b c → MayFollow numbers a c
 follow_on numbers a b c ab bc =
@@ -44,7 +44,7 @@ module _ (numbers : List ℕ) (ms : List Mention)
               sym (follows.same (sym same))
           | inr no_more ↦
               let e : i ≡ j = omega arith in
-              ap (number_of numbers) (sym at_a ∙ ap (λ k. get_or ms k a) e ∙ at_b)
+              ap (number_of_mention numbers) (sym at_a ∙ ap (λ k. get_or ms k a) e ∙ at_b)
         ]
       ]
 

@@ -5,7 +5,7 @@ use Rattle.std.proofs.lemmas.Bool.{cases_Bool, cases_eq, cases_lt, eq-eqb, eqb-t
 use Rattle.std.proofs.lemmas.List.{get_or_past, get_or-set_other, get_or-set_same}
 use Rattle.std.proofs.lemmas.List.Sorted.{IsPermutation-reverse, sum_by-IsPermutation}
 use Rattle.std.proofs.lemmas.List.Sums.{get_or-le-sum_by, sum_by-append, sum_by-cons, sum_by-set, sum_by-take-le, sum_by_push}
-use Rattle.rx_schedule.specs.Links.{number_of, row_of, times, total}
+use Rattle.rx_schedule.specs.Links.{number_at, row_of, times, total}
 use Rattle.rx_schedule.specs.Machine.{Pairs, Was}
 
 -- 1 where they are one, else 0
@@ -116,10 +116,10 @@ row-other rows p q row one from h =
     let apart : q - 1 ≢ p - 1 = omega arith in get_or-set_other rows (p - 1) (q - 1) row [] apart
 
 pub number-same : (numbers : List ℕ) (p x : ℕ) → 1 ≤ p → p ≤ length numbers
-    → number_of (set numbers (p - 1) x) p ≡ x
+    → number_at (set numbers (p - 1) x) p ≡ x
 number-same numbers p x one to = get_or-set_same numbers (p - 1) x 0 (omega arith)
 
 pub number-other : (numbers : List ℕ) (p q x : ℕ) → 1 ≤ p → 1 ≤ q → q ≢ p
-    → number_of (set numbers (p - 1) x) q ≡ number_of numbers q
+    → number_at (set numbers (p - 1) x) q ≡ number_at numbers q
 number-other numbers p q x one from h =
     let apart : q - 1 ≢ p - 1 = omega arith in get_or-set_other numbers (p - 1) (q - 1) x 0 apart

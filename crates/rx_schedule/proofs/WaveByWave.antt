@@ -1,11 +1,12 @@
--- A wave's books are moved out together, and in together.
-use Rattle.std.proofs.Common.{◌≡◌, ◌≢◌, ℕ, suc, List, [], ◌∷◌, ◌++◌, map, refl, ap, inl, inr}
-use Rattle.std.specs.Prelude.{Some, ◌⊎◌}
+-- Whole waves, each of which is taken and then given, are a complete legal event list.
+use Rattle.std.proofs.Common.{◌≡◌, ◌≢◌, ℕ, suc, ◌<◌, ◌≤◌, List, [], ◌∷◌, ◌++◌, length, map, refl, ap, inl, inr, arith}
+use Rattle.std.specs.Prelude.{◌⊎◌}
+use Rattle.std.proofs.lemmas.Bool.{cases_eq}
 use Rattle.rx_schedule.specs.declared.event.Event.{Event}
 use Rattle.rx_schedule.specs.declared.event.Event.TheVariants.{Take, Give}
-use Rattle.rx_schedule.specs.Machine.{Job, Store, IsPlace, Was, IsLegal, MayTake, MayGive, replay}
-use Rattle.rx_schedule.specs.Machine.{IsFoldOf, Pairs, wave_by_wave, WasIn, AreWaves}
-use Rattle.rx_schedule.proofs.Replayed.{taken, core_replies, core_books}
+use Rattle.rx_schedule.specs.Machine.{Job, IsPlace, Share, Was, IsComplete, IsLegal, MayTake, MayGive}
+use Rattle.rx_schedule.specs.Machine.{AreNumbered, GoesInWaves, IsNumbering, Pairs, Wave, wave_by_wave}
+use Rattle.rx_schedule.proofs.Replayed.{taken}
 
 into_left : (e : Event) (xs ys : List Event) → Was e xs → Was e (xs ++ ys)
 into_left e [] ys w = elim w [ ]
@@ -67,44 +68,64 @@ gives_legal job (i ∷ g) past l may apart =
       gives_legal job g past l (λ j w. may j (inr w)) apart.1,
     )
 
-given_in : (i : ℕ) (waves : List (List ℕ)) → WasIn i waves → Was (Give i) (wave_by_wave waves)
-given_in i [] w = elim w [ ]
-given_in i (g ∷ waves) (inl w) = into_left (Give i) (map Give g) (map Take g ++ wave_by_wave waves) (event_of Give i g w)
-given_in i (g ∷ waves) (inr w) = into_right (Give i) (map Give g) (map Take g ++ wave_by_wave waves)
-    (into_right (Give i) (map Take g) (wave_by_wave waves) (given_in i waves w))
+module _ (job : Job) (number : ℕ → ℕ) where
+  -- what was taken in the waves is a record of one of their numbers
+  taken_in : (i : ℕ) (waves : List Wave) → AreNumbered job number waves → Was (Take i) (wave_by_wave waves)
+      → number i ≤ length waves
+  taken_in i [] are w = elim w [ ]
+  taken_in i (g ∷ waves) are w =
+      elim (take_there i g.takes (wave_by_wave waves) (take_behind i g.gives (map Take g.takes ++ wave_by_wave waves) w)) [
+        | inl l ↦ let e : number i ≡ suc (length waves) = ((are.0.takes i).0 l).1 in omega arith
+        | inr r ↦ let h : number i ≤ length waves = taken_in i waves are.1 r in omega arith
+      ]
 
-taken_in : (i : ℕ) (waves : List (List ℕ)) → Was (Take i) (wave_by_wave waves) → WasIn i waves
-taken_in i [] w = elim w [ ]
-taken_in i (g ∷ waves) w =
-    elim (take_there i g (wave_by_wave waves) (take_behind i g (map Take g ++ wave_by_wave waves) w)) [
-      | inl l ↦ inl l
-      | inr r ↦ inr (taken_in i waves r)
-    ]
+  -- each record of their numbers was given
+  given_in : (i : ℕ) (waves : List Wave) → AreNumbered job number waves → IsPlace job i → 1 ≤ number i
+      → number i ≤ length waves → Was (Give i) (wave_by_wave waves)
+  given_in i [] are there one to = absurd (omega arith)
+  given_in i (g ∷ waves) are there one to = elim (cases_eq (number i) (suc (length waves))) [
+    | inl e ↦ into_left (Give i) (map Give g.gives) (map Take g.takes ++ wave_by_wave waves)
+        (event_of Give i g.gives ((are.0.gives i).1 (there, e)))
+    | inr n ↦ into_right (Give i) (map Give g.gives) (map Take g.takes ++ wave_by_wave waves)
+        (into_right (Give i) (map Take g.takes) (wave_by_wave waves) (given_in i waves are.1 there one (below n to)))
+  ]
+    where
+      below : {m n : ℕ} → (m ≡ suc n → ⊥) → m ≤ suc n → m ≤ n
+      below apart to = omega arith
 
-waves_legal : (job : Job) (waves : List (List ℕ)) → AreWaves job waves → IsLegal job (wave_by_wave waves)
-waves_legal job [] a = tt
-waves_legal job (g ∷ waves) a =
-    let before : IsLegal job (wave_by_wave waves) = waves_legal job waves a.2 in
-    let out : IsLegal job (map Take g ++ wave_by_wave waves) = takes_legal job g (wave_by_wave waves) before
-    (λ i w. record {
-      there = (a.0 i w).0;
-      once = λ v. (a.0 i w).1 (taken_in i waves v);
-      sharers = λ j one h s. given_in j waves ((a.0 i w).2 j one h s);
-    }) a.1 in
-    gives_legal job g (map Take g ++ wave_by_wave waves) out
-    (λ i w. record {
-      taken = into_left (Take i) (map Take g) (wave_by_wave waves) (event_of Take i g w);
-      once = λ v. (a.0 i w).1 (taken_in i waves (taken job i (wave_by_wave waves) before (give_behind i g (wave_by_wave waves) v)));
-    }) a.1
+  legal_in : IsNumbering job number → ((i : ℕ) → IsPlace job i → 1 ≤ number i) → (waves : List Wave)
+      → AreNumbered job number waves → IsLegal job (wave_by_wave waves)
+  legal_in v from [] are = tt
+  legal_in v from (g ∷ waves) are =
+      let before : IsLegal job (wave_by_wave waves) = legal_in v from waves are.1 in
+      let out : IsLegal job (map Take g.takes ++ wave_by_wave waves) = takes_legal job g.takes (wave_by_wave waves) before
+      (λ i w. let own = (are.0.takes i).0 w in record {
+        there = own.0;
+        once = λ t. later i own.1 (taken_in i waves are.1 t);
+        sharers = λ j one h s. earlier i j own.0 own.1 one h s;
+      }) are.0.taken_once in
+      gives_legal job g.gives (map Take g.takes ++ wave_by_wave waves) out
+      (λ i w. let own = (are.0.gives i).0 w in record {
+        taken = into_left (Take i) (map Take g.takes) (wave_by_wave waves) (event_of Take i g.takes ((are.0.takes i).1 own));
+        once = λ t. later i own.1 (taken_in i waves are.1 (taken job i (wave_by_wave waves) before
+            (give_behind i g.takes (wave_by_wave waves) t)));
+      }) are.0.given_once
+    where
+      later : (i : ℕ) → number i ≡ suc (length waves) → number i ≤ length waves → ⊥
+      later i e h = absurd (omega arith)
 
--- the books and the replies after the waves are the fold's
-module _ (job : Job) (at : ℕ → Store job) (reply : ℕ → job.Reply) (fold : IsFoldOf job at reply) where
-  pub forked_books : (waves : List (List ℕ)) → AreWaves job waves → ((i : ℕ) → IsPlace job i → WasIn i waves)
-      → (b : job.Book) → (replay job (wave_by_wave waves)).books b ≡ at (suc job.count) b
-  forked_books waves a all = core_books job at reply fold (wave_by_wave waves) (waves_legal job waves a)
-      (λ i h. given_in i waves (all i h))
+      earlier : (i j : ℕ) → IsPlace job i → number i ≡ suc (length waves) → 1 ≤ j → j < i → Share job j i
+          → Was (Give j) (wave_by_wave waves)
+      earlier i j there e one h s =
+          let to : i ≤ job.count = there.to_count in
+          let less : number j < number i = v j i one h to s in
+          let other : IsPlace job j = record { from_one = one; to_count = omega arith } in
+          given_in j waves are.1 other (from j other) (omega arith)
 
-  pub forked_replies : (waves : List (List ℕ)) → AreWaves job waves → (i : ℕ) → WasIn i waves
-      → (replay job (wave_by_wave waves)).replies i ≡ Some (reply i)
-  forked_replies waves a i w = core_replies job at reply fold (wave_by_wave waves) (waves_legal job waves a) i
-      (given_in i waves w)
+  pub waves_legal : (waves : List Wave) → IsNumbering job number → GoesInWaves job number waves
+      → IsLegal job (wave_by_wave waves)
+  waves_legal waves v goes = legal_in v (λ i there. (goes.whole i there).0) waves goes.numbered
+
+  pub waves_whole : (waves : List Wave) → GoesInWaves job number waves → IsComplete job (wave_by_wave waves)
+  waves_whole waves goes i there =
+      let own = goes.whole i there in given_in i waves goes.numbered there own.0 own.1

@@ -19,13 +19,13 @@ abbrev pub billed_families : BTreeMap Key (BTreeSet (List ℕ)) → Key → List
 billed_families m key = families_kept (get key_cmp m key)
 
 -- the family is one of these
-abbrev pub is_among : List (List ℕ) → List ℕ → Bool
-is_among families f = list_any (is_at (id_cmp f)) families
+abbrev pub has_family : List (List ℕ) → List ℕ → Bool
+has_family families f = list_any (is_at (id_cmp f)) families
 
 -- the map has the family for the fill key
 abbrev pub is_biller : BTreeMap Key (BTreeSet (List ℕ)) → Key → List ℕ → Bool
-is_biller m key f = is_among (billed_families m key) f
+is_biller m key f = has_family (billed_families m key) f
 
 -- the map has the billers of each fill key in these records
 abbrev pub HasBilled : BTreeMap Key (BTreeSet (List ℕ)) → List Transmission → Type 0
-HasBilled m earlier = (key : Key) (f : List ℕ) → is_biller m key f ≡ is_among (billers key earlier) f
+HasBilled m earlier = (key : Key) (f : List ℕ) → is_biller m key f ≡ has_family (billers key earlier) f

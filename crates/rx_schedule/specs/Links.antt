@@ -49,8 +49,8 @@ total q rows = sum_by (times q) rows
 abbrev pub row_of : List (List ℕ) → ℕ → List ℕ
 row_of rows p = slice_index_or rows (p - 1) []
 
-abbrev pub number_of : List ℕ → ℕ → ℕ
-number_of numbers p = slice_index_or numbers (p - 1) 0
+abbrev pub number_at : List ℕ → ℕ → ℕ
+number_at numbers p = slice_index_or numbers (p - 1) 0
 
 -- each row has the places that its own is linked to
 pub record AreRows (n : ℕ) (links : List Link) (rows : List (List ℕ)) : Type 0 where
@@ -61,13 +61,13 @@ pub record AreRows (n : ℕ) (links : List Link) (rows : List (List ℕ)) : Type
 pub record AreCounted (n : ℕ) (rows : List (List ℕ)) (waiting : List ℕ) : Type 0 where
   pub as_many_rows : length rows ≡ n
   pub as_many : length waiting ≡ n
-  pub counted : (q : ℕ) → 1 ≤ q → q ≤ n → number_of waiting q ≡ total q rows
+  pub counted : (q : ℕ) → 1 ≤ q → q ≤ n → number_at waiting q ≡ total q rows
   pub within : (p q : ℕ) → 1 ≤ p → p ≤ n → 1 ≤ times q (row_of rows p) → (1 ≤ q) × (q ≤ n)
 
 -- the list has each place once that waits for no link, and no other
 pub record AreFree (n : ℕ) (waiting order : List ℕ) : Type 0 where
-  pub all : (q : ℕ) → 1 ≤ q → q ≤ n → number_of waiting q ≡ 0 → 1 ≤ times q order
-  pub there : (q : ℕ) → 1 ≤ times q order → (1 ≤ q) × (q ≤ n) × (number_of waiting q ≡ 0)
+  pub all : (q : ℕ) → 1 ≤ q → q ≤ n → number_at waiting q ≡ 0 → 1 ≤ times q order
+  pub there : (q : ℕ) → 1 ≤ times q order → (1 ≤ q) × (q ≤ n) × (number_at waiting q ≡ 0)
   pub once : (q : ℕ) → times q order ≤ 1
 
 -- ---- while records are passed

@@ -1,6 +1,6 @@
 -- Meaning: books that are taken out and given back, whatever books and records are.
 use Rattle.std.specs.Prelude.{◌≡◌, ◌≢◌, ℕ, ◌<◌, ◌≤◌, Bool, true, false, if◌then◌else◌, ◌==◌}
-use Rattle.std.specs.Prelude.{List, [], ◌∷◌, ◌⊎◌, Option, Some, None, suc, map, ◌++◌}
+use Rattle.std.specs.Prelude.{List, [], ◌∷◌, ◌⊎◌, ◌↔◌, Option, Some, None, suc, length, map, ◌++◌}
 use Rattle.rx_schedule.specs.declared.event.Event.{Event}
 use Rattle.rx_schedule.specs.declared.event.Event.TheVariants.{Take, Give}
 
@@ -26,8 +26,8 @@ pub record IsPlace (job : Job) (i : ℕ) : Type 0 where
   pub to_count : i ≤ job.count
 
 -- the values of a record's books, and nothing of the others
-abbrev pub cut : (job : Job) → ℕ → Store job → Store job
-cut job i s b = if job.names i b then s b else job.absent
+abbrev pub own_values : (job : Job) → ℕ → Store job → Store job
+own_values job i s b = if job.names i b then s b else job.absent
 
 -- two records share: some book is named by both
 abbrev pub Share : Job → ℕ → ℕ → Type 0
@@ -62,7 +62,7 @@ abbrev pub IsComplete : Job → List Event → Type 0
 IsComplete job past = (i : ℕ) → IsPlace job i → Was (Give i) past
 
 -- the books in place, the values that were taken out for each record, and the replies so far
-pub record Desk (job : Job) : Type 0 where
+pub record Reached (job : Job) : Type 0 where
   pub books : Store job
   pub parcels : ℕ → Store job
   pub replies : ℕ → Option job.Reply
@@ -72,16 +72,16 @@ abbrev pub with_at : {A : Type 0} → (ℕ → A) → ℕ → A → ℕ → A
 with_at f i x j = if j == i then x else f j
 
 -- the values of the record's books are set aside
-abbrev pub take : (job : Job) → ℕ → Desk job → Desk job
+abbrev pub take : (job : Job) → ℕ → Reached job → Reached job
 take job i d =
     record {
       books = λ b. if job.names i b then job.absent else d.books b;
-      parcels = with_at d.parcels i (cut job i d.books);
+      parcels = with_at d.parcels i (own_values job i d.books);
       replies = d.replies;
     }
 
 -- what the record makes of them is put back, and its reply is noted
-abbrev pub give : (job : Job) → ℕ → Desk job → Desk job
+abbrev pub give : (job : Job) → ℕ → Reached job → Reached job
 give job i d =
     record {
       books = λ b. if job.names i b then (job.work i (d.parcels i)).1 b else d.books b;
@@ -90,7 +90,7 @@ give job i d =
     }
 
 -- the events one after another, from the opening books in place
-abbrev pub replay : (job : Job) → List Event → Desk job
+abbrev pub replay : (job : Job) → List Event → Reached job
 replay job [] = record { books = job.opening; parcels = λ i b. job.absent; replies = λ i. None }
 replay job (Take i ∷ past) = take job i (replay job past)
 replay job (Give i ∷ past) = give job i (replay job past)
@@ -101,9 +101,9 @@ replay job (Give i ∷ past) = give job i (replay job past)
 -- what it makes of all, and it changes no other book
 pub record IsFoldOf (job : Job) (at : ℕ → Store job) (reply : ℕ → job.Reply) : Type 0 where
   pub begins : (b : job.Book) → at 1 b ≡ job.opening b
-  pub replies : (i : ℕ) → IsPlace job i → (job.work i (cut job i (at i))).0 ≡ reply i
+  pub replies : (i : ℕ) → IsPlace job i → (job.work i (own_values job i (at i))).0 ≡ reply i
   pub inside : (i : ℕ) → IsPlace job i → (b : job.Book) → job.names i b ≡ true
-      → (job.work i (cut job i (at i))).1 b ≡ at (suc i) b
+      → (job.work i (own_values job i (at i))).1 b ≡ at (suc i) b
   pub outside : (i : ℕ) → IsPlace job i → (b : job.Book) → job.names i b ≡ false → at (suc i) b ≡ at i b
 
 -- ---- other orders, the last record first
@@ -114,7 +114,7 @@ Pairs R [] = Unit {0}
 Pairs R (i ∷ rest) = ((j : ℕ) → Was j rest → R i j) × Pairs R rest
 
 -- each record of the job once
-pub record IsOrder (job : Job) (order : List ℕ) : Type 0 where
+pub record HasEachOnce (job : Job) (order : List ℕ) : Type 0 where
   pub all : (i : ℕ) → IsPlace job i → Was i order
   pub there : (i : ℕ) → Was i order → IsPlace job i
   pub once : Pairs (λ later earlier. earlier ≢ later) order
@@ -138,20 +138,29 @@ GoesByNumber number = Pairs (λ later earlier. number earlier ≤ number later)
 
 -- ---- wave by wave, the last wave first
 
+-- a wave's records, in the order in which they are taken, and in that in which they are given
+pub record Wave : Type 0 where
+  pub takes : List ℕ
+  pub gives : List ℕ
+
 -- a wave's records are all taken, and then all given
-abbrev pub wave_by_wave : List (List ℕ) → List Event
+abbrev pub wave_by_wave : List Wave → List Event
 wave_by_wave [] = []
-wave_by_wave (wave ∷ before) = map Give wave ++ (map Take wave ++ wave_by_wave before)
+wave_by_wave (wave ∷ before) = map Give wave.gives ++ (map Take wave.takes ++ wave_by_wave before)
 
--- this one is in one of the waves
-abbrev pub WasIn : ℕ → List (List ℕ) → Type 0
-WasIn i [] = ⊥
-WasIn i (wave ∷ before) = Was i wave ⊎ WasIn i before
+-- the wave has the records with this number, each once
+pub record IsWave (job : Job) (number : ℕ → ℕ) (n : ℕ) (wave : Wave) : Type 0 where
+  pub takes : (i : ℕ) → Was i wave.takes ↔ (IsPlace job i × (number i ≡ n))
+  pub gives : (i : ℕ) → Was i wave.gives ↔ (IsPlace job i × (number i ≡ n))
+  pub taken_once : Pairs (λ later earlier. earlier ≢ later) wave.takes
+  pub given_once : Pairs (λ later earlier. earlier ≢ later) wave.gives
 
--- each record once, and after the waves of the earlier records that it shares with
-abbrev pub AreWaves : Job → List (List ℕ) → Type 0
-AreWaves job [] = Unit {0}
-AreWaves job (wave ∷ before) =
-    ((i : ℕ) → Was i wave → IsPlace job i × (WasIn i before → ⊥)
-    × ((j : ℕ) → 1 ≤ j → j < i → Share job j i → WasIn j before))
-    × Pairs (λ i j. j ≢ i) wave × AreWaves job before
+-- the waves of the numbers from 1 on
+abbrev pub AreNumbered : Job → (ℕ → ℕ) → List Wave → Type 0
+AreNumbered job number [] = Unit {0}
+AreNumbered job number (wave ∷ before) = IsWave job number (suc (length before)) wave × AreNumbered job number before
+
+-- the records go wave by wave, each in the wave of its number
+pub record GoesInWaves (job : Job) (number : ℕ → ℕ) (waves : List Wave) : Type 0 where
+  pub numbered : AreNumbered job number waves
+  pub whole : (i : ℕ) → IsPlace job i → (1 ≤ number i) × (number i ≤ length waves)

@@ -28,8 +28,8 @@ abbrev pub best_of : {K : Type 0} → (K → K → Ordering) → BTreeMap K Mark
 best_of cmp marks names mark = fold (λ a k. better_of a (get cmp marks k)) mark names
 
 -- the name is one of these
-abbrev pub is_named : {K : Type 0} → (K → K → Ordering) → List K → K → Bool
-is_named cmp names k = contains_key cmp itself names k
+abbrev pub has_name : {K : Type 0} → (K → K → Ordering) → List K → K → Bool
+has_name cmp names k = contains_key cmp itself names k
 
 -- of the records up to place i, what is said of the last that names k, if there is one
 abbrev pub IsLastOf : (ℕ → Bool) → (ℕ → ℕ) → ℕ → Option Mark → Type 0
@@ -40,7 +40,7 @@ IsLastOf named number i (Some m) =
 
 -- the map has for each name its last record up to place i
 abbrev pub HasLast : {K : Type 0} → (K → K → Ordering) → (ℕ → List K) → (ℕ → ℕ) → ℕ → BTreeMap K Mark → Type 0
-HasLast {K} cmp lists number i marks = (k : K) → IsLastOf (λ p. is_named cmp (lists p) k) number i (get cmp marks k)
+HasLast {K} cmp lists number i marks = (k : K) → IsLastOf (λ p. has_name cmp (lists p) k) number i (get cmp marks k)
 
 -- the fill keys and the families of the record at a place
 abbrev pub keys_at : List FootprintParts → ℕ → List Key

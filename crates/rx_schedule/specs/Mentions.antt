@@ -101,15 +101,15 @@ mentions_of L records n = named_of records n ++ holders_of L (reversed_of record
 -- ---- records that mention one book are together
 
 -- the number of the record that has the mention
-abbrev pub number_of : List ℕ → Mention → ℕ
-number_of numbers m = slice_index_or numbers m.at 0
+abbrev pub number_of_mention : List ℕ → Mention → ℕ
+number_of_mention numbers m = slice_index_or numbers m.at 0
 
 -- mentions of one name are of records with one number
 abbrev pub AreTied : List ℕ → List Mention → Type 0
 AreTied numbers mentions = (a b : Mention) → Contains mentions a → Contains mentions b → a.name ≡ b.name
-    → number_of numbers a ≡ number_of numbers b
+    → number_of_mention numbers a ≡ number_of_mention numbers b
 
 -- names don't descend, and where they are the same the numbers are
 pub record MayFollow (numbers : List ℕ) (before next : Mention) : Type 0 where
   pub rise : before.name ≤ next.name
-  pub same : before.name ≡ next.name → number_of numbers before ≡ number_of numbers next
+  pub same : before.name ≡ next.name → number_of_mention numbers before ≡ number_of_mention numbers next

@@ -21,14 +21,14 @@ pub record IsReady (q : QueueParts) (i : ℕ) : Type 0 where
   pub sharers : (j : ℕ) → 1 ≤ j → j < i → shares q.footprints j i ≡ true → Was j q.passed
 
 -- the place is ready; if there is none, no place is
-abbrev pub IsNext : QueueParts → Option ℕ → Type 0
-IsNext q None = (i : ℕ) → IsReady q i → ⊥
-IsNext q (Some i) = IsReady q i
+abbrev pub IsReadyIfAny : QueueParts → Option ℕ → Type 0
+IsReadyIfAny q None = (i : ℕ) → IsReady q i → ⊥
+IsReadyIfAny q (Some i) = IsReady q i
 
 -- the next place is one that is ready, where any is; each place is issued at most once, and passed at most once, after it was
 -- issued
 pub record AreQueues (q : QueueParts) : Type 0 where
-  pub next : IsNext q q.next
+  pub next : IsReadyIfAny q q.next
   pub there : (i : ℕ) → Was i q.handed → (1 ≤ i) × (i ≤ length q.footprints)
   pub handed_once : Pairs (λ later earlier. earlier ≢ later) q.handed
   pub after : (i : ℕ) → Was i q.passed → Was i q.handed

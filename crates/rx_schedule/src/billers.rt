@@ -4,7 +4,7 @@ ghost use Rattle.std.specs.Ordering.{is_eq};
 ghost use Rattle.rx_fields.specs.Order.{id_cmp, key_cmp};
 ghost use Rattle.rx_fields.specs.declared.key.Key.{Key as KeyValue};
 ghost use Rattle.rx_d0_values.specs.declared.transmission.Transmission.{Transmission as TransmissionValue};
-ghost use Rattle.rx_schedule.specs.Billed.{HasBilled, billed_families, is_among, is_biller};
+ghost use Rattle.rx_schedule.specs.Billed.{HasBilled, billed_families, has_family, is_biller};
 ghost use Rattle.rx_schedule.specs.Footprints.{billed_by, billers_in};
 
 use rx_d0_values::{Body, Heard, Transaction, Transmission};
@@ -51,7 +51,7 @@ impl Billers {
 
     fn note_body(&mut self, alloc: Global, body: &Body) -> Result<(), Memory>
         ensures { OnOk result ((k : KeyValue) → (f : List ℕ) → is_biller self.new.families k f
-            ≡ (is_among (billers_in k body.now) f || is_biller self.old.families k f)) }
+            ≡ (has_family (billers_in k body.now) f || is_biller self.old.families k f)) }
     {
         match body {
             Body::Rejected(_) => Ok(()),
@@ -61,7 +61,7 @@ impl Billers {
 
     fn note_heard(&mut self, alloc: Global, heard: &Heard) -> Result<(), Memory>
         ensures { OnOk result ((k : KeyValue) → (f : List ℕ) → is_biller self.new.families k f
-            ≡ (is_among (flat_map (billed_by heard.now k) heard.now.list) f || is_biller self.old.families k f)) }
+            ≡ (has_family (flat_map (billed_by heard.now k) heard.now.list) f || is_biller self.old.families k f)) }
     {
         'billings: for transaction in heard.list.as_slice() {
             self.note_billing(alloc, heard, transaction)?;
@@ -77,7 +77,7 @@ impl Billers {
         transaction: &Transaction,
     ) -> Result<(), Memory>
         ensures { OnOk result ((k : KeyValue) → (f : List ℕ) → is_biller self.new.families k f
-            ≡ (is_among (billed_by heard.now k transaction.now) f || is_biller self.old.families k f)) }
+            ≡ (has_family (billed_by heard.now k transaction.now) f || is_biller self.old.families k f)) }
     {
         match transaction {
             Transaction::Bill(bill) => {

@@ -1,6 +1,6 @@
 ghost use Rattle.std.specs.Prelude.{◌≡◌, ◌≢◌, ◌++◌, ◌<◌, ◌≤◌, ◌-◌, ℕ, List, [], IfOk, OnOk, length, map};
 ghost use Rattle.std.specs.Prelude.{vec_capacity, replicate, ◌==◌, ◌∷◌, if◌then◌else◌, slice_set};
-ghost use Rattle.rx_schedule.specs.Links.{AreCounted, AreFree, AreRows, linked, number_of, row_of};
+ghost use Rattle.rx_schedule.specs.Links.{AreCounted, AreFree, AreRows, linked, number_at, row_of};
 
 use crate::links::Link;
 use rx_fields::Memory;
@@ -79,11 +79,11 @@ pub(crate) fn release(
 // Takes one link to a place away.
 fn release_one(place: usize, waiting: &mut [usize], order: &mut Vec<usize>)
     requires there { (1 ≤ place) × (place ≤ length waiting.old) }
-    requires waits { 1 ≤ number_of waiting.old place }
+    requires waits { 1 ≤ number_at waiting.old place }
     requires room { length order.old.items < vec_capacity order.old }
-    ensures waiting { waiting.new ≡ slice_set waiting.old (place - 1) (number_of waiting.old place - 1) }
+    ensures waiting { waiting.new ≡ slice_set waiting.old (place - 1) (number_at waiting.old place - 1) }
     ensures order { order.new.items
-        ≡ (if number_of waiting.old place - 1 == 0 then order.old.items ++ place ∷ [] else order.old.items) }
+        ≡ (if number_at waiting.old place - 1 == 0 then order.old.items ++ place ∷ [] else order.old.items) }
     ensures room { vec_capacity order.new ≡ vec_capacity order.old }
 {
     waiting[place - 1] -= 1;

@@ -36,7 +36,7 @@ mod wave_numbers;
 mod wave_plan;
 
 pub use event::Event;
-pub use law::{law_of_holder, law_of_shards, law_of_standing, law_of_waves};
+pub use law::{law_of_core, law_of_holder, law_of_shards, law_of_standing, law_of_waves};
 pub use naming::footprints;
 pub use queues::Queues;
 pub use shard_numbers::Shards;

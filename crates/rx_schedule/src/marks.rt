@@ -1,6 +1,6 @@
 ghost use Rattle.std.specs.Prelude.{◌≡◌, OnOk, Some, None, nat_lt, if◌then◌else◌};
 ghost use Rattle.std.specs.BTreeMap.{get};
-ghost use Rattle.rx_schedule.specs.Marked.{best_of, better, better_of, is_named};
+ghost use Rattle.rx_schedule.specs.Marked.{best_of, better, better_of, has_name};
 
 use rx_fields::Memory;
 use std::alloc::Global;
@@ -72,7 +72,7 @@ impl<K: Ord + Copy + Drop> Marks<K> {
     /// Notes these names as had by the record of the mark.
     pub(crate) fn note(&mut self, names: &[K], mark: Mark) -> Result<(), Memory>
         ensures { OnOk result ((k : K) → get K.cmp self.new.last k
-            ≡ (if is_named K.cmp names.now k then Some mark else get K.cmp self.old.last k)) }
+            ≡ (if has_name K.cmp names.now k then Some mark else get K.cmp self.old.last k)) }
     {
         'names: for name in names {
             self.last.insert(*name, mark)?;

@@ -3,7 +3,7 @@ ghost use Rattle.std.specs.List.{flat_map};
 ghost use Rattle.rx_fields.specs.Order.{id_cmp, key_cmp};
 ghost use Rattle.rx_d0_values.specs.declared.transmission.Transmission.{Transmission as TransmissionValue};
 ghost use Rattle.rx_sorted.specs.Ascending.{IsAscending, itself};
-ghost use Rattle.rx_schedule.specs.Billed.{HasBilled, is_among};
+ghost use Rattle.rx_schedule.specs.Billed.{HasBilled, has_family};
 ghost use Rattle.rx_schedule.specs.Footprints.{families_named, footprint_of, families_in, footprints_of, holders, key_named, keys_in};
 
 use crate::billers::Billers;
@@ -71,8 +71,8 @@ fn name_books(
 ) -> Result<(), Memory>
     ensures keys { OnOk result (keys.new.items ≡ keys.old.items ++ keys_in body.now) }
     ensures families { (earlier : List TransmissionValue) → HasBilled billers.now.families earlier → OnOk result
-        ((f : List ℕ) → is_among families.new.items f
-        ≡ (is_among families.old.items f || is_among (families_in books.now.ledger earlier body.now) f)) }
+        ((f : List ℕ) → has_family families.new.items f
+        ≡ (has_family families.old.items f || has_family (families_in books.now.ledger earlier body.now) f)) }
 {
     match body {
         Body::Rejected(_) => Ok(()),
@@ -90,8 +90,8 @@ fn name_all(
 ) -> Result<(), Memory>
     ensures keys { OnOk result (keys.new.items ≡ keys.old.items ++ flat_map (key_named heard.now) heard.now.list) }
     ensures families { (earlier : List TransmissionValue) → HasBilled billers.now.families earlier → OnOk result
-        ((f : List ℕ) → is_among families.new.items f ≡ (is_among families.old.items f
-        || is_among (flat_map (families_named books.now.ledger earlier heard.now) heard.now.list) f)) }
+        ((f : List ℕ) → has_family families.new.items f ≡ (has_family families.old.items f
+        || has_family (flat_map (families_named books.now.ledger earlier heard.now) heard.now.list) f)) }
 {
     'transactions: for transaction in heard.list.as_slice() {
         name_one(books, billers, heard, transaction, keys, families)?;
@@ -110,8 +110,8 @@ fn name_one(
 ) -> Result<(), Memory>
     ensures keys { OnOk result (keys.new.items ≡ keys.old.items ++ key_named heard.now transaction.now) }
     ensures families { (earlier : List TransmissionValue) → HasBilled billers.now.families earlier → OnOk result
-        ((f : List ℕ) → is_among families.new.items f ≡ (is_among families.old.items f
-        || is_among (families_named books.now.ledger earlier heard.now transaction.now) f)) }
+        ((f : List ℕ) → has_family families.new.items f ≡ (has_family families.old.items f
+        || has_family (families_named books.now.ledger earlier heard.now transaction.now) f)) }
 {
     match transaction {
         Transaction::Bill(bill) => {
@@ -137,8 +137,8 @@ fn name_holders(
     families: &mut Vec<Id>,
 ) -> Result<(), Memory>
     ensures { (earlier : List TransmissionValue) → HasBilled billers.now.families earlier → OnOk result
-        ((f : List ℕ) → is_among families.new.items f ≡ (is_among families.old.items f
-        || is_among (holders books.now.ledger earlier key.now) f)) }
+        ((f : List ℕ) → has_family families.new.items f ≡ (has_family families.old.items f
+        || has_family (holders books.now.ledger earlier key.now) f)) }
 {
     if let Some(row) = books.row(key) {
         families.push(row.family)?;

@@ -1,6 +1,6 @@
 ghost use Rattle.std.specs.Prelude.{◌≡◌, ℕ, [], ◌∷◌, IfOk, IfSome, IsSome};
 ghost use Rattle.rx_schedule.specs.Machine.{Was};
-ghost use Rattle.rx_schedule.specs.Queues.{AreQueues, IsNext};
+ghost use Rattle.rx_schedule.specs.Queues.{AreQueues, IsReadyIfAny};
 
 use crate::followers::{Followers, followers_of, free_places, release};
 use crate::uses::Uses;
@@ -67,7 +67,7 @@ impl Queues {
     /// The place of a record that is ready and wasn't issued; None only if there is none.
     pub fn ready(&self) -> Option<usize>
         ensures value { result ≡ self.now.next }
-        ensures next { IsNext self.now result }
+        ensures next { IsReadyIfAny self.now result }
         ensures within { AreQueues self.now }
     {
         if self.handed < self.order.len() {

@@ -1,5 +1,5 @@
 ghost use Rattle.std.specs.Prelude.{◌≡◌, IsTrue};
-ghost use Rattle.rx_schedule.specs.Mentions.{AreTied, MayFollow, number_of};
+ghost use Rattle.rx_schedule.specs.Mentions.{AreTied, MayFollow, number_of_mention};
 
 use crate::mentions::Mention;
 
@@ -22,12 +22,13 @@ fn may_follow(numbers: &[usize], before: &Mention, next: &Mention) -> bool
     if before.name < next.name {
         return true;
     }
-    before.name == next.name && number_of(numbers, before) == number_of(numbers, next)
+    before.name == next.name
+        && number_of_mention(numbers, before) == number_of_mention(numbers, next)
 }
 
 // The number of the record that has the mention.
-fn number_of(numbers: &[usize], mention: &Mention) -> usize
-    ensures { result ≡ number_of numbers.now mention.now }
+fn number_of_mention(numbers: &[usize], mention: &Mention) -> usize
+    ensures { result ≡ number_of_mention numbers.now mention.now }
 {
     numbers.get(mention.at as usize).copied().unwrap_or(0)
 }

@@ -1,7 +1,7 @@
 use Rattle.std.proofs.Common.{◌≡◌, ◌≤◌, ◌-◌, get_or, ◌∙◌, refl, arith}
 use Rattle.std.proofs.lemmas.List.{get_or_default, length-map}
 use Rattle.rx_schedule.specs.declared.links.Link.{Link}
-use Rattle.rx_schedule.specs.Links.{number_of}
+use Rattle.rx_schedule.specs.Links.{number_at}
 use Rattle.rx_schedule.proofs.Followed.{counted_begins, few_begins, link_more, linked-at, rows_begin}
 use Rattle.rx_schedule.proofs.followers.followers_of.Goals as goal
 
@@ -56,10 +56,10 @@ overflow_add-index_mut c =
     let many = c.links.invariant.counted.as_many in
     let one : 1 ≤ link.to = there.2 in
     let to : link.to ≤ c.args.count = there.3 in
-    let is : c.index_mut-in-links.result.now ≡ number_of c.links.waiting.items link.to =
+    let is : c.index_mut-in-links.result.now ≡ number_at c.links.waiting.items link.to =
     c.index_mut-in-links.ensures.value ∙ get_or_default c.links.waiting.items (link.to - 1)
     c.index_mut-in-links.result.now 0 (omega (arith, many)) in
-    let few : number_of c.links.waiting.items link.to ≤ c.links.link-index = c.links.invariant.few link.to in
+    let few : number_at c.links.waiting.items link.to ≤ c.links.link-index = c.links.invariant.few link.to in
     omega arith
 
 pub links-preserved : goal.links-preserved

@@ -1,6 +1,6 @@
 use Rattle.std.proofs.Common.{◌≡◌, suc, ◌-◌, ◌≤◌, [], ◌∷◌, ◌++◌, length, map, sym, ◌∙◌, arith}
 use Rattle.std.proofs.lemmas.List.{get_or-map, length_push, map-set}
-use Rattle.rx_schedule.specs.Links.{number_of, row_of}
+use Rattle.rx_schedule.specs.Links.{number_at, row_of}
 use Rattle.rx_schedule.proofs.Running.{taken_counted, taken_room, taken_there, taken_waits}
 use Rattle.rx_schedule.proofs.Released.{free_now, more_now, none_popped, others_now, row_now, same_rows}
 use Rattle.rx_schedule.proofs.followers.release.Goals as goal
@@ -45,7 +45,7 @@ links-preserved c =
     let row = c.pop.new.self.items in
     let place = c.args.place in
     let next = c.in-Some.next in
-    let now = number_of c.links.waiting next - 1 in
+    let now = number_at c.links.waiting next - 1 in
     let long : length c.links.rows ≡ n = c.links.auto.rows in
     let one : 1 ≤ place = c.requires.there.0 in
     let to : place ≤ n = c.requires.there.1 in
@@ -54,9 +54,9 @@ links-preserved c =
     ∙ c.in-Some.ensures.items in
     let counted = c.links.invariant.counted in
     let free = c.links.invariant.free in
-    let waits : 1 ≤ number_of c.links.waiting next =
+    let waits : 1 ≤ number_at c.links.waiting next =
     taken_waits n rows c.links.waiting c.links.order.items counted free place next row one to popped in
-    let is : suc now ≡ number_of c.links.waiting next = omega arith in
+    let is : suc now ≡ number_at c.links.waiting next = omega arith in
     let set_rows = map-set (λ v. v.items) c.links.rows (place - 1) c.pop.new.self in
     record {
       counted = rw (set_rows, c.release_one.ensures.waiting)

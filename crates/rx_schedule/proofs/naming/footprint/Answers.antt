@@ -1,7 +1,7 @@
 use Rattle.std.proofs.Common.{◌≡◌, ◌||◌, ◌++◌, refl, ap, ◌∙◌}
 use Rattle.rx_fields.specs.Order.{id_cmp, key_cmp}
 use Rattle.rx_ledger.proofs.Orders.{id_exact, id_total, key_exact, key_total}
-use Rattle.rx_schedule.specs.Billed.{is_among}
+use Rattle.rx_schedule.specs.Billed.{has_family}
 use Rattle.rx_schedule.specs.Footprints.{families_in, in_order, keys_in}
 use Rattle.rx_schedule.proofs.InOrder.{IsAscending-in_order, same_in_order}
 use Rattle.rx_schedule.proofs.naming.footprint.Goals as goal
@@ -29,5 +29,5 @@ returns c = λ earlier has.
     let families : c.put_in_order-2.new.items.items ≡ in_order id_cmp (families_in L earlier body) =
     c.put_in_order-2.ensures ∙ same_in_order id_cmp id_total id_exact c.name_books.new.families.items (families_in L earlier body)
     (λ f. c.in_ok-name_books.ensures.families earlier has f
-    ∙ ap (λ fs. is_among fs f || is_among (families_in L earlier body) f) c.new-families.ensures.items) in
+    ∙ ap (λ fs. has_family fs f || has_family (families_in L earlier body) f) c.new-families.ensures.items) in
     c.made_of.ensures ∙ rw (keys, families) refl

@@ -2,7 +2,7 @@ use Rattle.std.proofs.Common.{◌||◌, ap, ◌∙◌}
 use Rattle.std.specs.List.{flat_map}
 use Rattle.std.proofs.lemmas.List.{take_all}
 use Rattle.rx_schedule.specs.Footprints.{families_named, key_named}
-use Rattle.rx_schedule.specs.Billed.{is_among}
+use Rattle.rx_schedule.specs.Billed.{has_family}
 use Rattle.rx_schedule.proofs.Noted.{more_named, more_put}
 use Rattle.rx_schedule.proofs.naming.name_all.Goals as goal
 
@@ -13,7 +13,7 @@ transactions-preserved c = record {
       c.transactions-test.true c.transaction-item.is c.transactions.invariant.keys c.in_ok-name_one.ensures.keys;
   families = λ earlier has f.
       more_named (families_named c.args.books.now.ledger earlier c.args.heard.now) _ c.transactions.transaction-index
-      c.transaction-item.result f (is_among c.args.families.now.items f) (is_among c.transactions.families.items f) _
+      c.transaction-item.result f (has_family c.args.families.now.items f) (has_family c.transactions.families.items f) _
       c.transactions-test.true c.transaction-item.is (c.transactions.invariant.families earlier has f)
       (c.in_ok-name_one.ensures.families earlier has f);
 }
@@ -21,7 +21,7 @@ transactions-preserved c = record {
 pub returns-clause-families : goal.returns-clause-families
 returns-clause-families c = λ earlier has f.
     c.transactions.invariant.families earlier has f
-    ∙ ap (λ ts. is_among c.args.families.now.items f
-    || is_among (flat_map (families_named c.args.books.now.ledger earlier c.args.heard.now) ts) f)
+    ∙ ap (λ ts. has_family c.args.families.now.items f
+    || has_family (flat_map (families_named c.args.books.now.ledger earlier c.args.heard.now) ts) f)
     (take_all c.transactions.transaction-index c.as_slice-transaction-items.result.now c.transactions-test.false
     ∙ c.as_slice-transaction-items.ensures.value)

@@ -2,7 +2,7 @@ use Rattle.std.proofs.Common.{ℕ, ◌+◌, ◌≤◌, Some, cond, ap, ◌∙◌
 use Rattle.std.specs.BTreeMap.{get}
 use Rattle.rx_fields.specs.Order.{id_cmp, key_cmp}
 use Rattle.rx_schedule.specs.declared.marks.Mark.{Mark}
-use Rattle.rx_schedule.specs.Marked.{is_named}
+use Rattle.rx_schedule.specs.Marked.{has_name}
 use Rattle.rx_schedule.proofs.Scanned.{best_found, best_small, next_families, next_keys, scan_step}
 use Rattle.rx_schedule.proofs.wave_plan.Scan.pass.Goals as goal
 
@@ -45,8 +45,8 @@ returns c =
     (ap (λ (n : ℕ). let m : Mark = record { place = n; wave = c.best-best.result.wave + 1 } in m) (omega arith))
     c.or_higher-self.ensures
     (λ k. c.in_ok-note.ensures k
-    ∙ ap (λ ks. cond (is_named key_cmp ks k) (Some mark) (get key_cmp s.keys.last k)) noted_keys)
+    ∙ ap (λ ks. cond (has_name key_cmp ks k) (Some mark) (get key_cmp s.keys.last k)) noted_keys)
     (λ k. c.in_ok-note-2.ensures k
-    ∙ ap (λ ls. cond (is_named id_cmp ls k) (Some mark) (get id_cmp s.families.last k)) noted_families)
+    ∙ ap (λ ls. cond (has_name id_cmp ls k) (Some mark) (get id_cmp s.families.last k)) noted_families)
     (i + 1) c.push.new.self.items c.push-2.new.self.items (omega arith)
     c.in_ok-push.ensures.items c.in_ok-push-2.ensures.items
