@@ -29,7 +29,7 @@ use Rattle.rx_books_family.specs.Shelves.{HoldsOwnBook, HoldsOwnRow, IsShelf, Sh
 use Rattle.rx_books_family.specs.Shelves.{has_slot, is_family_out, is_key_out, is_out}
 use Rattle.rx_books_family.specs.Shelves.{key_place, key_value_or, place_family, place_key, value_of}
 use Rattle.rx_books_shelf.specs.Closed.{HasSlot}
-use Rattle.rx_books_shelf.specs.Opened.{all_families, all_keys, family_book, filled_place, full_key_place, is_named, shelf_of}
+use Rattle.rx_books_shelf.specs.Opened.{all_families, all_keys, opened_book, filled_place, full_key_place, is_named_by, shelf_of}
 use Rattle.rx_books_shelf.proofs.Ascended.{joined_has}
 use Rattle.rx_sorted.proofs.AllSlots.{map_map}
 use Rattle.rx_books_shelf.proofs.ShelfKept.{ascending_changed}
@@ -65,8 +65,8 @@ module _ (b : LedgerBooks) (footprints : List FootprintParts) where
   key_at : (k : Key) → key_place (shelf_of b footprints) k ≡ option_map (full_key_place b) (key_found k)
   key_at k = item_at-map key_cmp key_total itself place_key (full_key_place b) (λ j. refl) (all_keys footprints) k
 
-  family_at : (f : List ℕ) → family_place (shelf_of b footprints) f ≡ option_map (λ g. filled_place (family_book b g)) (family_found f)
-  family_at f = item_at-map id_cmp id_total itself place_family (λ g. filled_place (family_book b g)) (λ g. refl) (all_families
+  family_at : (f : List ℕ) → family_place (shelf_of b footprints) f ≡ option_map (λ g. filled_place (opened_book b g)) (family_found f)
+  family_at f = item_at-map id_cmp id_total itself place_family (λ g. filled_place (opened_book b g)) (λ g. refl) (all_families
       footprints) f
 
   -- ---- what they are worth
@@ -83,7 +83,7 @@ module _ (b : LedgerBooks) (footprints : List FootprintParts) where
         (ap (λ i. option_to_list (row_under b.ledger i)) same ∙ sym (row_alone b.ledger.rows k is.rows_rise))
 
     family_worth : (f : List ℕ) (o : Option (List ℕ)) → family_found f ≡ o
-        → family_value_or (option_map (λ g. filled_place (family_book b g)) o) (book (OfFamily f) b.ledger) ≡ book (OfFamily f) b.ledger
+        → family_value_or (option_map (λ g. filled_place (opened_book b g)) o) (book (OfFamily f) b.ledger) ≡ book (OfFamily f) b.ledger
     family_worth f None e = refl
     family_worth f (Some g) e =
         let found = item_at-found id_cmp id_total itself (all_families footprints) f g e in
@@ -100,11 +100,11 @@ module _ (b : LedgerBooks) (footprints : List FootprintParts) where
   some_map f None = refl
   some_map f (Some x) = refl
 
-  pub slots_opened : All IsFootprint footprints → (c : Book) → has_slot (shelf_of b footprints) c ≡ is_named footprints c
+  pub slots_opened : All IsFootprint footprints → (c : Book) → has_slot (shelf_of b footprints) c ≡ is_named_by footprints c
   slots_opened all (OfKey k) = ap is_some (key_at k) ∙ some_map (full_key_place b) (key_found k)
       ∙ joined_has key_cmp key_total key_exact (λ (F : FootprintParts). F.keys) footprints k
       (All-weaker IsFootprint (λ F. IsAscending key_cmp itself F.keys) (λ F is. is.keys_rise) footprints all)
-  slots_opened all (OfFamily f) = ap is_some (family_at f) ∙ some_map (λ g. filled_place (family_book b g)) (family_found f)
+  slots_opened all (OfFamily f) = ap is_some (family_at f) ∙ some_map (λ g. filled_place (opened_book b g)) (family_found f)
       ∙ joined_has id_cmp id_total id_exact (λ (F : FootprintParts). F.families) footprints f
       (All-weaker IsFootprint (λ F. IsAscending id_cmp itself F.families) (λ F is. is.families_rise) footprints all)
 
@@ -116,7 +116,7 @@ module _ (b : LedgerBooks) (footprints : List FootprintParts) where
       by_key (Some j) = refl
   none_out (OfFamily f) = ap is_family_out (family_at f) ∙ by_family (family_found f)
     where
-      by_family : (o : Option (List ℕ)) → is_family_out (option_map (λ g. filled_place (family_book b g)) o) ≡ false
+      by_family : (o : Option (List ℕ)) → is_family_out (option_map (λ g. filled_place (opened_book b g)) o) ≡ false
       by_family None = refl
       by_family (Some g) = refl
 
@@ -131,20 +131,20 @@ module _ (b : LedgerBooks) (footprints : List FootprintParts) where
       by_row None e = tt
       by_row (Some r) e = let found = item_at-found key_cmp key_total row_key b.ledger.rows k r e in key_exact r.key k found.1
 
-  books_own : (fs : List (List ℕ)) → All IsOwn (map (family_book b) fs)
-      → All (HoldsOwnBook b.period) (map (λ f. filled_place (family_book b f)) fs)
+  books_own : (fs : List (List ℕ)) → All IsOwn (map (opened_book b) fs)
+      → All (HoldsOwnBook b.period) (map (λ f. filled_place (opened_book b f)) fs)
   books_own [] own = All-nil (HoldsOwnBook b.period)
   books_own (f ∷ fs) own =
-      All-cons (HoldsOwnBook b.period) (filled_place (family_book b f)) (map (λ g. filled_place (family_book b g)) fs)
-      (record { name = refl; period_same = refl; own = All-head IsOwn (family_book b f) (map (family_book b) fs) own })
-      (books_own fs (All-tail IsOwn (family_book b f) (map (family_book b) fs) own))
+      All-cons (HoldsOwnBook b.period) (filled_place (opened_book b f)) (map (λ g. filled_place (opened_book b g)) fs)
+      (record { name = refl; period_same = refl; own = All-head IsOwn (opened_book b f) (map (opened_book b) fs) own })
+      (books_own fs (All-tail IsOwn (opened_book b f) (map (opened_book b) fs) own))
 
-  pub shelf_opened : IsLedger b.ledger → All IsOwn (map (family_book b) (all_families footprints)) → IsShelf (shelf_of b footprints)
+  pub shelf_opened : IsLedger b.ledger → All IsOwn (map (opened_book b) (all_families footprints)) → IsShelf (shelf_of b footprints)
   shelf_opened is own = record {
     rest_in_order = is;
     keys_rise = ascending_changed key_cmp itself place_key (full_key_place b) (λ k. refl) (all_keys footprints)
         (IsAscending-joined key_cmp key_total itself (map (λ (F : FootprintParts). F.keys) footprints));
-    families_rise = ascending_changed id_cmp itself place_family (λ g. filled_place (family_book b g)) (λ g. refl) (all_families
+    families_rise = ascending_changed id_cmp itself place_family (λ g. filled_place (opened_book b g)) (λ g. refl) (all_families
         footprints)
         (IsAscending-joined id_cmp id_total itself (map (λ (F : FootprintParts). F.families) footprints));
     rows_own = rows_own (all_keys footprints);
@@ -155,12 +155,12 @@ module _ (b : LedgerBooks) (footprints : List FootprintParts) where
 
 pub opened_parts : (b c : LedgerBooks) (footprints : List FootprintParts) (ks : List Key) (fs : List (List ℕ)) (books : List FamilyBook)
     (places : List KeyPlace) (others : List FamilyPlace) → c ≡ b → ks ≡ all_keys footprints → fs ≡ all_families footprints
-    → places ≡ map (full_key_place c) ks → books ≡ map (family_book c) fs → others ≡ map filled_place books
+    → places ≡ map (full_key_place c) ks → books ≡ map (opened_book c) fs → others ≡ map filled_place books
     → record { period = c.period; rest = c.ledger; keys = places; families = others } ≡ shelf_of b footprints
 opened_parts b c footprints ks fs books places others same ek ef pk bf pf =
     let k : places ≡ map (full_key_place c) (all_keys footprints) = pk ∙ ap (map (full_key_place c)) ek in
-    let f : others ≡ map (λ g. filled_place (family_book c g)) (all_families footprints) =
-    pf ∙ ap (map filled_place) (bf ∙ ap (map (family_book c)) ef) ∙ map_map filled_place (family_book c) (all_families footprints) in
+    let f : others ≡ map (λ g. filled_place (opened_book c g)) (all_families footprints) =
+    pf ∙ ap (map filled_place) (bf ∙ ap (map (opened_book c)) ef) ∙ map_map filled_place (opened_book c) (all_families footprints) in
     let whole : record { period = c.period; rest = c.ledger; keys = places; families = others } ≡ shelf_of c footprints =
     λ i. record { period = c.period; rest = c.ledger; keys = k i; families = f i } in
     whole ∙ ap (λ d. shelf_of d footprints) same

@@ -29,7 +29,7 @@ use Rattle.rx_books_family.specs.declared.place.KeyPlace.{KeyPlace}
 use Rattle.rx_books_family.specs.Shelves.{HoldsOwnBook, HoldsOwnRow, IsOwnBook, IsShelf, ShelfParts, is_family_out, is_key_out}
 use Rattle.rx_books_family.specs.Shelves.{is_out, place_family, place_key, row_held}
 use Rattle.rx_books_shelf.specs.Closed.{HasSlot}
-use Rattle.rx_books_shelf.specs.Taken.{are_out, family_book, family_given, family_taken, key_book, key_given, key_taken, parcel_of}
+use Rattle.rx_books_shelf.specs.Taken.{are_out, held_book, family_given, family_taken, held_key, key_given, key_taken, taken_parcel}
 use Rattle.rx_books_shelf.specs.Taken.{put_back, taken_out, with_book, with_row}
 
 -- ---- lists of places
@@ -126,13 +126,13 @@ module _ (s : ShelfParts) (p : ParcelParts) (is : IsShelf s) (books : IsParcel p
 
 -- ---- the parcel that is taken
 
-pub keys_rise : (ps : List KeyPlace) (ks : List Key) → IsAscending key_cmp itself ks → IsAscending key_cmp key_of (map (key_book ps) ks)
-keys_rise ps ks rise = ascending_changed key_cmp itself key_of (key_book ps) (λ k. refl) ks rise
+pub keys_rise : (ps : List KeyPlace) (ks : List Key) → IsAscending key_cmp itself ks → IsAscending key_cmp key_of (map (held_key ps) ks)
+keys_rise ps ks rise = ascending_changed key_cmp itself key_of (held_key ps) (λ k. refl) ks rise
 
-pub rows_own : (ps : List KeyPlace) (ks : List Key) → All HoldsOwnRow ps → All HasOwnRow (map (key_book ps) ks)
+pub rows_own : (ps : List KeyPlace) (ks : List Key) → All HoldsOwnRow ps → All HasOwnRow (map (held_key ps) ks)
 rows_own ps [] own = All-nil HasOwnRow
 rows_own ps (k ∷ ks) own =
-    All-cons HasOwnRow (key_book ps k) (map (key_book ps) ks) (by_place (item_at key_cmp place_key ps k) refl) (rows_own ps ks own)
+    All-cons HasOwnRow (held_key ps k) (map (held_key ps) ks) (by_place (item_at key_cmp place_key ps k) refl) (rows_own ps ks own)
   where
     by_place : (o : Option KeyPlace) → item_at key_cmp place_key ps k ≡ o → IfSome (option_and_then row_held o) (λ (r : Row). r.key ≡ k)
     by_place None e = tt
@@ -143,7 +143,7 @@ rows_own ps (k ∷ ks) own =
 
 module _ (period : Span) (ps : List FamilyPlace) (own : All (HoldsOwnBook period) ps) where
   -- each book that is read
-  read_own : (f : List ℕ) → All (IsOwnBook period f) (family_book ps f)
+  read_own : (f : List ℕ) → All (IsOwnBook period f) (held_book ps f)
   read_own f = by_place (item_at id_cmp place_family ps f) refl
     where
       by_book : (g : List ℕ) (o : Option FamilyBook) → IfSome o (IsOwnBook period g) → All (IsOwnBook period g) (option_to_list o)
@@ -158,12 +158,18 @@ module _ (period : Span) (ps : List FamilyPlace) (own : All (HoldsOwnBook period
           subst (λ g. All (IsOwnBook period g) (option_to_list p.held)) (id_exact p.family f found.1)
           (by_book p.family p.held (All-contains (HoldsOwnBook period) ps p own found.0))
 
-  pub one_period : (fs : List (List ℕ)) → All (λ (b : FamilyBook). b.period ≡ period) (flat_map (family_book ps) fs)
+  pub one_period : (fs : List (List ℕ)) → All (λ (b : FamilyBook). b.period ≡ period) (flat_map (held_book ps) fs)
   one_period [] = All-nil _
   one_period (f ∷ fs) =
       let P : FamilyBook → Type 0 = λ b. b.period ≡ period in
-      All-append P (family_book ps f) (flat_map (family_book ps) fs)
-      (All-weaker (IsOwnBook period f) P (λ b h. h.period_same) (family_book ps f) (read_own f)) (one_period fs)
+      All-append P (held_book ps f) (flat_map (held_book ps) fs)
+      (All-weaker (IsOwnBook period f) P (λ b h. h.period_same) (held_book ps f) (read_own f)) (one_period fs)
+
+  pub books_own : (fs : List (List ℕ)) → All IsOwn (flat_map (held_book ps) fs)
+  books_own [] = All-nil IsOwn
+  books_own (f ∷ fs) =
+      All-append IsOwn (held_book ps f) (flat_map (held_book ps) fs)
+      (All-weaker (IsOwnBook period f) IsOwn (λ b h. h.own) (held_book ps f) (read_own f)) (books_own fs)
 
   -- the books below a name
   below_read : (k : List ℕ) (f : List ℕ) (bs : List FamilyBook) → id_cmp k f ≡ Less → All (IsOwnBook period f) bs
@@ -173,10 +179,10 @@ module _ (period : Span) (ps : List FamilyPlace) (own : All (HoldsOwnBook period
       let first = All-head (IsOwnBook period f) b bs all in
       (ap (id_cmp k) first.name ∙ less, below_read k f bs less (All-tail (IsOwnBook period f) b bs all))
 
-  below_all : (k : List ℕ) (fs : List (List ℕ)) → IsBelow id_cmp itself k fs → IsBelow id_cmp family_of k (flat_map (family_book ps) fs)
+  below_all : (k : List ℕ) (fs : List (List ℕ)) → IsBelow id_cmp itself k fs → IsBelow id_cmp family_of k (flat_map (held_book ps) fs)
   below_all k [] b = tt
-  below_all k (f ∷ fs) b = IsBelow-append id_cmp id_total family_of k (family_book ps f) (flat_map (family_book ps) fs)
-      (below_read k f (family_book ps f) b.0 (read_own f)) (below_all k fs b.1)
+  below_all k (f ∷ fs) b = IsBelow-append id_cmp id_total family_of k (held_book ps f) (flat_map (held_book ps) fs)
+      (below_read k f (held_book ps f) b.0 (read_own f)) (below_all k fs b.1)
 
   before : (f : List ℕ) (o : Option FamilyBook) (rest : List FamilyBook) → All (IsOwnBook period f) (option_to_list o)
       → IsBelow id_cmp family_of f rest → IsAscending id_cmp family_of rest → IsAscending id_cmp family_of (option_to_list o ++ rest)
@@ -185,10 +191,20 @@ module _ (period : Span) (ps : List FamilyPlace) (own : All (HoldsOwnBook period
       let first = All-head (IsOwnBook period f) b [] all in
       (subst (λ k. IsBelow id_cmp family_of k rest) (sym first.name) below, rise)
 
-  pub families_rise : (fs : List (List ℕ)) → IsAscending id_cmp itself fs → IsAscending id_cmp family_of (flat_map (family_book ps) fs)
+  pub families_rise : (fs : List (List ℕ)) → IsAscending id_cmp itself fs → IsAscending id_cmp family_of (flat_map (held_book ps) fs)
   families_rise [] a = tt
   families_rise (f ∷ fs) a = before f (option_and_then (λ (p : FamilyPlace). p.held) (item_at id_cmp place_family ps f))
-      (flat_map (family_book ps) fs) (read_own f) (below_all f fs a.0) (families_rise fs a.1)
+      (flat_map (held_book ps) fs) (read_own f) (below_all f fs a.0) (families_rise fs a.1)
+
+pub parcel_own : (s : ShelfParts) (F : FootprintParts) → IsShelf s → IsAscending key_cmp itself F.keys
+    → IsAscending id_cmp itself F.families → IsParcel (taken_parcel s F)
+parcel_own s F is keys families = record {
+  keys_rise = keys_rise s.keys F.keys keys;
+  families_rise = families_rise s.period s.families is.books_own F.families families;
+  rows_own = rows_own s.keys F.keys is.rows_own;
+  families_own = books_own s.period s.families is.books_own F.families;
+  one_period = one_period s.period s.families is.books_own F.families;
+}
 
 -- ---- the parts of a shelf and of a parcel
 
@@ -206,11 +222,11 @@ taken_parts s F ks fs places others ek ef pk pf =
 
 pub parcel_parts : (s : ShelfParts) (F : FootprintParts) (p : ParcelParts) (period : Span) (ks : List Key) (fs : List (List ℕ))
     (keys : List KeyBook) (families : List FamilyBook) → p ≡ record { period = period; keys = keys; families = families }
-    → period ≡ s.period → ks ≡ F.keys → fs ≡ F.families → keys ≡ map (key_book s.keys) ks
-    → families ≡ flat_map (family_book s.families) fs → p ≡ parcel_of s F
+    → period ≡ s.period → ks ≡ F.keys → fs ≡ F.families → keys ≡ map (held_key s.keys) ks
+    → families ≡ flat_map (held_book s.families) fs → p ≡ taken_parcel s F
 parcel_parts s F p period ks fs keys families is ep ek ef bk bf =
-    let k : keys ≡ map (key_book s.keys) F.keys = bk ∙ ap (map (key_book s.keys)) ek in
-    let f : families ≡ flat_map (family_book s.families) F.families = bf ∙ ap (flat_map (family_book s.families)) ef in
+    let k : keys ≡ map (held_key s.keys) F.keys = bk ∙ ap (map (held_key s.keys)) ek in
+    let f : families ≡ flat_map (held_book s.families) F.families = bf ∙ ap (flat_map (held_book s.families)) ef in
     is ∙ (λ i. record { period = ep i; keys = k i; families = f i })
 
 pub given_parts : (s : ShelfParts) (p : ParcelParts) (ks : List KeyBook) (fs : List FamilyBook) (places : List KeyPlace)

@@ -15,7 +15,7 @@ use Rattle.rx_ledger.proofs.Orders.{id_exact}
 use Rattle.rx_books_family.specs.FamilyBook.{AreTotals, FamilyBook, IsOwn, deductibles_over, own_ledger}
 use Rattle.rx_books_store.specs.LedgerBooks.{LedgerBooks, has_members}
 use Rattle.rx_books_shelf.specs.Gathered.{own_deductible}
-use Rattle.rx_books_shelf.specs.Opened.{family_book}
+use Rattle.rx_books_shelf.specs.Opened.{opened_book}
 
 -- the members of a family are among all
 pub all_among : (L : Ledger) (f : List ℕ) → All (Contains L.members) (members_of L f)
@@ -58,14 +58,14 @@ no_rows b own none = each b.rows own.in_order.whole
     each [] h = refl
     each (r ∷ rs) h = absurd (let e = rw none at h in cc)
 
-pub no_claims : (d : LedgerBooks) (b : FamilyBook) → b ≡ family_book d b.family → IsOwn b → has_members d.ledger b.family ≡ false
+pub no_claims : (d : LedgerBooks) (b : FamilyBook) → b ≡ opened_book d b.family → IsOwn b → has_members d.ledger b.family ≡ false
     → rows_of d.ledger b.family ≡ []
 no_claims d b is own none =
     sym (ap (λ (x : FamilyBook). x.rows) is)
     ∙ no_rows b own (ap (λ (x : FamilyBook). x.members) is ∙ no_members d.ledger b.family none)
 
 -- so these are the totals of a family's book
-pub totals_stored : (d : LedgerBooks) (b : FamilyBook) → b ≡ family_book d b.family → (ds : List ℕ) → ds ≡ map (own_deductible d) b.members
+pub totals_stored : (d : LedgerBooks) (b : FamilyBook) → b ≡ opened_book d b.family → (ds : List ℕ) → ds ≡ map (own_deductible d) b.members
     → (p q : ℕ) → p ≡ out_of_pocket d.period d.ledger b.family → q ≡ family_deductible d.period d.ledger b.family
     → AreTotals b ds p q
 totals_stored d b is ds each p q pocket deductibles = record {

@@ -18,7 +18,7 @@ use Rattle.rx_books_family.specs.declared.place.KeyPlace.{KeyPlace}
 use Rattle.rx_sorted.specs.Slots.{content_at, filled_of, is_in, is_out, with_content as filled_with}
 use Rattle.rx_books_family.specs.Shelves.{ShelfParts, is_family_in, is_family_out, is_key_in, is_key_out, place_family, place_key, row_held}
 use Rattle.rx_sorted.proofs.AllSlots.{map_same}
-use Rattle.rx_books_shelf.specs.Taken.{family_given, has_all, key_book, key_given, with_book, with_row}
+use Rattle.rx_books_shelf.specs.Taken.{family_given, has_all, held_key, key_given, with_book, with_row}
 
 all_same : {A : Type 0} (p q : A → Bool) → ((x : A) → p x ≡ q x) → (xs : List A) → list_all p xs ≡ list_all q xs
 all_same p q same [] = refl
@@ -55,7 +55,7 @@ keys_out ps = all_same _ _ (λ (b : KeyBook). key_out (item_at key_cmp place_key
 
 -- a key's book is read off its place, which holds it
 key_read : (ps : List KeyPlace) (k : Key) → is_key_in (item_at key_cmp place_key ps k) ≡ true
-    → content_at key_cmp place_key key_held ps k ≡ key_book ps k ∷ []
+    → content_at key_cmp place_key key_held ps k ≡ held_key ps k ∷ []
 key_read ps k there = by_place (item_at key_cmp place_key ps k) refl there
   where
     by_held : (j : Key) (h : Option (Option Row)) → j ≡ k → is_some h ≡ true
@@ -72,13 +72,13 @@ key_read ps k there = by_place (item_at key_cmp place_key ps k) refl there
         by_held p.key p.held (key_exact p.key k found.1) held
 
 pub keys_read : (ps : List KeyPlace) (ks : List Key) → list_all (λ k. is_key_in (item_at key_cmp place_key ps k)) ks ≡ true
-    → flat_map (content_at key_cmp place_key key_held ps) ks ≡ map (key_book ps) ks
+    → flat_map (content_at key_cmp place_key key_held ps) ks ≡ map (held_key ps) ks
 keys_read ps [] there = refl
 keys_read ps (k ∷ ks) there =
     let parts = and_parts _ _ there in
     let first = key_read ps k parts.0 in
     let rest = keys_read ps ks parts.1 in
-    ap (λ bs. bs ++ flat_map (content_at key_cmp place_key key_held ps) ks) first ∙ ap (λ bs. key_book ps k ∷ bs) rest
+    ap (λ bs. bs ++ flat_map (content_at key_cmp place_key key_held ps) ks) first ∙ ap (λ bs. held_key ps k ∷ bs) rest
 
 pub keys_put : (bs : List KeyBook) (ps : List KeyPlace)
     → map (filled_of key_cmp place_key key_of key_filled bs) ps ≡ map (key_given bs) ps

@@ -30,7 +30,7 @@ use Rattle.rx_books_family.specs.Shelves.{HoldsOwnBook, IsOwnBook, IsShelf, Shel
 use Rattle.rx_books_family.specs.Shelves.{family_value_or, has_slot, is_family_in, is_family_out}
 use Rattle.rx_books_family.specs.Shelves.{is_in, is_key_in, is_key_out, is_out, key_place, key_value_or}
 use Rattle.rx_books_family.specs.Shelves.{place_family, place_key, row_held, value_of}
-use Rattle.rx_books_shelf.specs.Taken.{are_out, family_book, family_given, family_taken, has_all, key_book, key_given, key_taken, parcel_of}
+use Rattle.rx_books_shelf.specs.Taken.{are_out, held_book, family_given, family_taken, has_all, held_key, key_given, key_taken, taken_parcel}
 use Rattle.rx_books_shelf.specs.Taken.{put_back, taken_out, with_book, with_row}
 
 -- ---- names and places
@@ -164,7 +164,7 @@ module _ (s : ShelfParts) (F : FootprintParts) (all : has_all s F ≡ true) wher
 
   parcel_key : (k : Key) (o : Option Key) → item_at key_cmp itself F.keys k ≡ o → (q : Option KeyPlace) → key_place s k ≡ q
       → (is_some o ≡ true → is_key_in q ≡ true) → (L : Ledger)
-      → record { members = []; rows = option_to_list (option_and_then (λ (b : KeyBook). b.row) (option_map (key_book s.keys) o)) }
+      → record { members = []; rows = option_to_list (option_and_then (λ (b : KeyBook). b.row) (option_map (held_key s.keys) o)) }
       ≡ cond (is_some o) (key_value_or q L) empty
   parcel_key k None e q at h L = refl
   parcel_key k (Some j) e None at h L = absurd (let w : false ≡ true = h refl in cc)
@@ -208,18 +208,18 @@ module _ (s : ShelfParts) (F : FootprintParts) (all : has_all s F ≡ true) wher
         elim (cases_Bool (is_eq (id_cmp g f))) [ inl t ↦ rw (same, t) refl | inr n ↦ rw (same, n) refl ]
 
     books_found : (fs : List (List ℕ)) (f : List ℕ)
-        → item_at id_cmp family_of (flat_map (family_book s.families) fs) f
+        → item_at id_cmp family_of (flat_map (held_book s.families) fs) f
         ≡ cond (contains_key id_cmp itself fs f) (option_and_then (λ (p : FamilyPlace). p.held) (family_place s f)) None
     books_found [] f = refl
     books_found (g ∷ fs) f =
-        one_book g f (option_and_then (λ (p : FamilyPlace). p.held) (family_place s g)) (flat_map (family_book s.families) fs)
+        one_book g f (option_and_then (λ (p : FamilyPlace). p.held) (family_place s g)) (flat_map (held_book s.families) fs)
         (own_name g)
         ∙ elim (cases_Bool (is_eq (id_cmp g f))) [
           | inl t ↦
               let same : g ≡ f = id_exact g f (Equal-from_is_eq _ t) in
               let read = option_and_then (λ (p : FamilyPlace). p.held) (family_place s f) in
               rw t (ap (λ h. option_or (option_and_then (λ (p : FamilyPlace). p.held) (family_place s h))
-              (item_at id_cmp family_of (flat_map (family_book s.families) fs) f)) same
+              (item_at id_cmp family_of (flat_map (held_book s.families) fs) f)) same
               ∙ ap (option_or read) (books_found fs f) ∙ either read (contains_key id_cmp itself fs f))
           | inr n ↦ rw n (books_found fs f)
         ]
@@ -230,10 +230,10 @@ module _ (s : ShelfParts) (F : FootprintParts) (all : has_all s F ≡ true) wher
         either (Some b) t = refl
 
     -- the parcel has the values of the named books
-    pub values_taken : (b : Book) → values_of (parcel_of s F) b ≡ (if names F b then value_of s b else empty)
+    pub values_taken : (b : Book) → values_of (taken_parcel s F) b ≡ (if names F b then value_of s b else empty)
     values_taken (OfKey k) =
         ap (λ o. record { members = []; rows = option_to_list (option_and_then (λ (b : KeyBook). b.row) o) })
-        (item_at-map key_cmp key_total itself key_of (key_book s.keys) (λ j. refl) F.keys k)
+        (item_at-map key_cmp key_total itself key_of (held_key s.keys) (λ j. refl) F.keys k)
         ∙ parcel_key k (item_at key_cmp itself F.keys k) refl (key_place s k) refl (named_in_place (OfKey k)) (book (OfKey k) s.rest)
     values_taken (OfFamily f) =
         ap ledger_of_family (books_found F.families f)

@@ -34,8 +34,8 @@ are_members_kept s = list_all (is_member_held s) s.rest.members && list_all (doe
 -- ---- the rows
 
 -- open books with other rows, with what a key's place holds, and with what these places hold
-abbrev pub with_rows : OpenParts → List Row → OpenParts
-with_rows o rows =
+abbrev pub with_other_rows : OpenParts → List Row → OpenParts
+with_other_rows o rows =
     record o {
       books = record {
         period = o.books.period;
@@ -44,10 +44,10 @@ with_rows o rows =
     }
 
 abbrev pub with_place : OpenParts → KeyPlace → OpenParts
-with_place o p = with_rows o (with_slot key_cmp row_key place_key row_held o.books.ledger.rows p)
+with_place o p = with_other_rows o (with_slot key_cmp row_key place_key row_held o.books.ledger.rows p)
 
-abbrev pub open_over : OpenParts → List KeyPlace → OpenParts
-open_over o places = with_rows o (overlaid key_cmp row_key place_key row_held o.books.ledger.rows places)
+abbrev pub with_places : OpenParts → List KeyPlace → OpenParts
+with_places o places = with_other_rows o (overlaid key_cmp row_key place_key row_held o.books.ledger.rows places)
 
 -- the key of a place has a slot
 abbrev pub HasSlot : List Key → KeyPlace → Type 0

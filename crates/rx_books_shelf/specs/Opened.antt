@@ -1,4 +1,5 @@
--- Meaning: the shelf of books, with all of them in: a place for each book that a footprint names.
+-- Meaning, retraced from the code: place by place, the shelf of opened books with all of them in. The clauses of `of` on
+-- the values of all books, on which have a place, and that none is out say the same in other words.
 use Rattle.std.specs.Prelude.{ℕ, Bool, List, Some, map}
 use Rattle.std.specs.List.{list_any}
 use Rattle.rx_fields.specs.Order.{id_cmp, key_cmp}
@@ -22,12 +23,12 @@ abbrev pub all_families : List FootprintParts → List (List ℕ)
 all_families footprints = joined id_cmp itself (map (λ F. F.families) footprints)
 
 -- one of them names the book
-abbrev pub is_named : List FootprintParts → Book → Bool
-is_named footprints b = list_any (λ F. names F b) footprints
+abbrev pub is_named_by : List FootprintParts → Book → Bool
+is_named_by footprints b = list_any (λ F. names F b) footprints
 
 -- the book of a family: its members and rows
-abbrev pub family_book : LedgerBooks → List ℕ → FamilyBook
-family_book b family =
+abbrev pub opened_book : LedgerBooks → List ℕ → FamilyBook
+opened_book b family =
     record {
       family = family;
       period = b.period;
@@ -48,5 +49,5 @@ shelf_of b footprints =
       period = b.period;
       rest = b.ledger;
       keys = map (full_key_place b) (all_keys footprints);
-      families = map (λ f. filled_place (family_book b f)) (all_families footprints);
+      families = map (λ f. filled_place (opened_book b f)) (all_families footprints);
     }

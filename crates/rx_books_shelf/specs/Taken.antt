@@ -1,4 +1,5 @@
--- Meaning: what is taken from a shelf, and what is given back to it.
+-- Meaning, retraced from the code: place by place, what `take` and `give` do with a shelf. Their clauses on the values of
+-- all books, on which are out and on which have a place say the same in other words.
 use Rattle.std.specs.Prelude.{ℕ, Bool, ◌&&◌, List, Option, Some, None, if◌then◌else◌, map}
 use Rattle.std.specs.List.{flat_map, list_all}
 use Rattle.std.specs.Option.{option_and_then, option_to_list}
@@ -21,20 +22,20 @@ abbrev pub has_all : ShelfParts → FootprintParts → Bool
 has_all s F = list_all (λ k. is_in s (OfKey k)) F.keys && list_all (λ f. is_in s (OfFamily f)) F.families
 
 -- a key's book as its place holds it, and a family's book, if its place holds it
-abbrev pub key_book : List KeyPlace → Key → KeyBook
-key_book places key = record { key = key; row = option_and_then row_held (item_at key_cmp place_key places key) }
+abbrev pub held_key : List KeyPlace → Key → KeyBook
+held_key places key = record { key = key; row = option_and_then row_held (item_at key_cmp place_key places key) }
 
-abbrev pub family_book : List FamilyPlace → List ℕ → List FamilyBook
-family_book places family =
+abbrev pub held_book : List FamilyPlace → List ℕ → List FamilyBook
+held_book places family =
     option_to_list (option_and_then (λ p. p.held) (item_at id_cmp place_family places family))
 
 -- the parcel of the named books
-abbrev pub parcel_of : ShelfParts → FootprintParts → ParcelParts
-parcel_of s F =
+abbrev pub taken_parcel : ShelfParts → FootprintParts → ParcelParts
+taken_parcel s F =
     record {
       period = s.period;
-      keys = map (key_book s.keys) F.keys;
-      families = flat_map (family_book s.families) F.families;
+      keys = map (held_key s.keys) F.keys;
+      families = flat_map (held_book s.families) F.families;
     }
 
 -- the places without the named books

@@ -28,7 +28,6 @@ impl Shelf {
         ensures value { result ≡ agree self.now }
         ensures within { IsShelf self.now }
     {
-        let _period = self.period();
         self.are_all_in()
             && self.do_key_rows_stand()
             && self.do_family_rows_stand()
@@ -37,7 +36,8 @@ impl Shelf {
 
     /// Whether no book is out.
     pub(crate) fn are_all_in(&self) -> bool
-        ensures { result ≡ are_all_in self.now }
+        ensures value { result ≡ are_all_in self.now }
+        ensures within { IsShelf self.now }
     {
         are_all_keys_held(self.key_places()) && are_all_families_held(self.family_places())
     }
@@ -131,7 +131,8 @@ impl Shelf {
 
     // The places of keys.
     fn key_places(&self) -> &[KeyPlace]
-        ensures { result.now ≡ self.now.keys }
+        ensures value { result.now ≡ self.now.keys }
+        ensures within { IsShelf self.now }
     {
         self.keys.as_slice()
     }

@@ -1,11 +1,11 @@
-ghost use Rattle.std.specs.Prelude.{◌≡◌, ◌↔◌, IfErr, IfOk, IfSome, IsOk, Some, false, slice_get, true};
+ghost use Rattle.std.specs.Prelude.{◌≡◌, ◌↔◌, IfErr, IfOk, IfSome, IsOk, OnErr, Some, false, slice_get, true};
 ghost use Rattle.std.specs.List.{All, list_all};
 ghost use Rattle.rx_ledger.specs.Ledger.{IsLedger, is_listed, is_taken};
 ghost use Rattle.rx_ledger.specs.Rows.{member_of_row};
 ghost use Rattle.rx_books_family.specs.Books.{Book, book};
 ghost use Rattle.rx_books_store.specs.OpenBooks.{open_with, open_without};
 ghost use Rattle.rx_books_family.specs.Shelves.{AreAllAgreed, HoldsOwnRow, IsShelf, are_all_in, row_held, value_of};
-ghost use Rattle.rx_books_shelf.specs.Closed.{HasSlot, are_members_kept, does_book_keep, is_member_held, open_over, with_place};
+ghost use Rattle.rx_books_shelf.specs.Closed.{HasSlot, are_members_kept, does_book_keep, is_member_held, with_places, with_place};
 
 use crate::held::row_held;
 use crate::shelf::Shelf;
@@ -23,6 +23,7 @@ impl Shelf {
         ensures values { IfOk result (λ books. (b : Book) → book b books.ledger ≡ value_of self b) }
         ensures within { IfOk result (λ books. IsLedger books.ledger) }
         ensures back { IfErr result (λ shelf. shelf ≡ self) }
+        ensures kept { OnErr result (IsShelf self) }
     {
         if !self.are_all_in() {
             return Err(self);
@@ -116,7 +117,7 @@ fn brought(books: OpenBooks, places: &[KeyPlace]) -> OpenBooks
     requires slots { All (HasSlot books.slots) places.now }
     requires rows { All HoldsOwnRow places.now }
     requires listed { All (λ p. IfSome (row_held p) (λ r. is_listed books.books.ledger (member_of_row r) ≡ true)) places.now }
-    ensures { result ≡ open_over books places.now }
+    ensures { result ≡ with_places books places.now }
 {
     let mut books = books;
     let mut near = 0;

@@ -2,12 +2,12 @@ ghost use Rattle.std.specs.Prelude.{◌≡◌, [], IfOk, OnOk, map, true};
 ghost use Rattle.std.specs.List.{All};
 ghost use Rattle.rx_fields.specs.Order.{id_cmp, key_cmp};
 ghost use Rattle.rx_sorted.specs.Ascending.{IsAscending, is_past, itself};
-ghost use Rattle.rx_ledger.specs.Ledger.{is_listed, members_of};
+ghost use Rattle.rx_ledger.specs.Ledger.{IsLedger, is_listed, members_of};
 ghost use Rattle.rx_ledger.specs.Members.{member_cmp, member_key};
 ghost use Rattle.rx_ledger.specs.Rows.{member_of_row, row_key};
-ghost use Rattle.rx_books_family.specs.FamilyBook.{IsOwn, empty_book, family_of, own_ledger};
+ghost use Rattle.rx_books_family.specs.FamilyBook.{empty_book, family_of, own_ledger};
 ghost use Rattle.rx_books_shelf.specs.Gathered.{with_members, with_own_member, with_own_row, with_rows};
-ghost use Rattle.rx_books_shelf.specs.Opened.{family_book};
+ghost use Rattle.rx_books_shelf.specs.Opened.{opened_book};
 
 use crate::rooms::{home_at, homes_of, rooms_of};
 use crate::unsummed::{Room, Unsummed};
@@ -24,25 +24,15 @@ pub(crate) fn gathered(
     families: &[Id],
 ) -> Result<Vec<Unsummed>, Memory>
     requires { IsAscending id_cmp itself families.now }
-    ensures value { IfOk result (λ books. books.items ≡ map (family_book open.now.books) families.now) }
-    ensures own { IfOk result (λ books. All IsOwn books.items) }
+    ensures value { IfOk result (λ books. books.items ≡ map (opened_book open.now.books) families.now) }
+    ensures within { IfOk result (λ _. IsLedger open.now.books.ledger) }
 {
     let homes = homes_of(alloc, open.members(), families)?;
     let rooms = rooms_of(alloc, open, families, &homes)?;
     let mut books = empty_books(alloc, families, open.period(), &rooms)?;
     put_members(&mut books, open, &homes)?;
     put_rows(&mut books, open, &homes)?;
-    read_books(&books);
     Ok(books)
-}
-
-// Each book has members and rows of its own.
-fn read_books(books: &[Unsummed])
-    ensures { All IsOwn books.now }
-{
-    for book in books {
-        book.members();
-    }
 }
 
 // The books of these families, without members and rows, and with room for this many of each.

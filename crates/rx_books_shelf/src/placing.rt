@@ -3,8 +3,8 @@ ghost use Rattle.std.specs.List.{All};
 ghost use Rattle.rx_fields.specs.Order.{id_cmp, key_cmp};
 ghost use Rattle.rx_sorted.specs.Ascending.{IsAscending, itself};
 ghost use Rattle.rx_ledger.specs.Ledger.{row_under};
-ghost use Rattle.rx_books_family.specs.FamilyBook.{family_of};
-ghost use Rattle.rx_books_shelf.specs.Opened.{family_book, filled_place, full_key_place};
+ghost use Rattle.rx_books_family.specs.FamilyBook.{IsOwn, family_of};
+ghost use Rattle.rx_books_shelf.specs.Opened.{filled_place, full_key_place, opened_book};
 
 use crate::summing::{first_place, summed};
 use crate::unsummed::Unsummed;
@@ -59,8 +59,9 @@ pub(crate) fn family_places(
     books: Vec<Unsummed>,
 ) -> Result<Ascending<FamilyPlace>, Memory>
     requires rise { IsAscending id_cmp family_of books.items }
-    requires own { All (λ b. b ≡ family_book open.now.books b.family) books.items }
-    ensures { IfOk result (λ places. places ≡ map filled_place books.items) }
+    requires own { All (λ b. b ≡ opened_book open.now.books b.family) books.items }
+    ensures value { IfOk result (λ places. places ≡ map filled_place books.items) }
+    ensures own { IfOk result (λ _. All IsOwn books.items) }
 {
     let mut books = books;
     let mut places = Vec::with_capacity(alloc, books.len())?;

@@ -7,10 +7,10 @@ ghost use Rattle.rx_ledger.specs.Ledger.{IsLedger, empty};
 ghost use Rattle.rx_books_family.specs.Books.{Book, book};
 ghost use Rattle.rx_books_family.specs.FamilyBook.{IsOwn};
 ghost use Rattle.rx_books_parcel.specs.Footprints.{names};
-ghost use Rattle.rx_books_parcel.specs.Parcels.{named_in, values_of};
+ghost use Rattle.rx_books_parcel.specs.Parcels.{IsParcel, named_in, values_of};
 ghost use Rattle.rx_books_family.specs.Shelves.{AreAllAgreed, IsShelf, are_all_in, has_slot, is_out, value_of};
-ghost use Rattle.rx_books_shelf.specs.Opened.{all_families, all_keys, family_book, filled_place, full_key_place, is_named, shelf_of};
-ghost use Rattle.rx_books_shelf.specs.Taken.{are_out, has_all, parcel_of, put_back, taken_out};
+ghost use Rattle.rx_books_shelf.specs.Opened.{all_families, all_keys, filled_place, full_key_place, is_named_by, opened_book, shelf_of};
+ghost use Rattle.rx_books_shelf.specs.Taken.{are_out, has_all, put_back, taken_out, taken_parcel};
 
 use crate::fault::{GiveFault, TakeFault};
 use crate::gathering::gathered;
@@ -59,7 +59,7 @@ impl Shelf {
         ensures value { IfOk result (λ shelf. shelf ≡ shelf_of books footprints.now) }
         // Each book is worth what it is in the books; those that a footprint names have a place, and none is out.
         ensures values { IfOk result (λ shelf. (b : Book) → value_of shelf b ≡ book b books.ledger) }
-        ensures slots { IfOk result (λ shelf. (b : Book) → has_slot shelf b ≡ is_named footprints.now b) }
+        ensures slots { IfOk result (λ shelf. (b : Book) → has_slot shelf b ≡ is_named_by footprints.now b) }
         ensures inside { IfOk result (λ shelf. (b : Book) → is_out shelf b ≡ false) }
     {
         let keys = keys_named(alloc, footprints)?;
@@ -83,8 +83,6 @@ impl Shelf {
     {
         let keys = placed_keys(alloc, &books, keys)?;
         let families = placed_families(alloc, &books, footprints)?;
-        // That the books' ledger is in order is known to the prover from this clause.
-        books.period();
         Ok(Shelf {
             books,
             keys,
@@ -103,7 +101,7 @@ impl Shelf {
     /// Moves the books that the footprint names out of their places. On a refusal the shelf is unchanged.
     pub fn take(&mut self, alloc: Global, footprint: &Footprint) -> Result<Parcel, TakeFault>
         ensures absent { IsErrOf result TakeFault.Absent ↔ (has_all self.old footprint.now ≡ false) }
-        ensures parcel { IfOk result (λ parcel. parcel ≡ parcel_of self.old footprint.now) }
+        ensures parcel { IfOk result (λ parcel. parcel ≡ taken_parcel self.old footprint.now) }
         ensures ok { OnOk result (self.new ≡ taken_out self.old footprint.now) }
         ensures err { OnErr result (self.new ≡ self.old) }
         // The parcel has the values of the named books, and the shelf no longer has them.
@@ -112,6 +110,9 @@ impl Shelf {
         ensures left { OnOk result ((b : Book) → value_of self.new b ≡ (if names footprint.now b then empty else value_of self.old b)) }
         ensures out { OnOk result ((b : Book) → is_out self.new b ≡ (names footprint.now b || is_out self.old b)) }
         ensures slots { OnOk result ((b : Book) → has_slot self.new b ≡ has_slot self.old b) }
+        // What the shelf and the parcel keep as values of their types.
+        ensures within { OnOk result (IsShelf self.old) }
+        ensures own { IfOk result (λ parcel. IsParcel parcel) }
     {
         let Some(near) = self.all_in(footprint) else {
             return Err(TakeFault::Absent);
@@ -185,8 +186,9 @@ fn placed_families(
     footprints: &[Footprint],
 ) -> Result<Hinted<FamilyPlace>, Memory>
     ensures value { IfOk result (λ places.
-        places ≡ map filled_place (map (family_book books.now.books) (all_families footprints.now))) }
-    ensures own { IfOk result (λ _. All IsOwn (map (family_book books.now.books) (all_families footprints.now))) }
+        places ≡ map filled_place (map (opened_book books.now.books) (all_families footprints.now))) }
+    ensures own { IfOk result (λ _. All IsOwn (map (opened_book books.now.books) (all_families footprints.now))) }
+    ensures within { IfOk result (λ _. IsLedger books.now.books.ledger) }
 {
     let families = families_named(alloc, footprints)?;
     let gathered = gathered(alloc, books, &families)?;

@@ -2,7 +2,7 @@ ghost use Rattle.std.specs.Prelude.{◌≡◌, IfOk, map};
 ghost use Rattle.std.specs.List.{All, Contains};
 ghost use Rattle.rx_books_family.specs.FamilyBook.{AreTotals};
 ghost use Rattle.rx_books_shelf.specs.Gathered.{own_deductible};
-ghost use Rattle.rx_books_shelf.specs.Opened.{family_book};
+ghost use Rattle.rx_books_shelf.specs.Opened.{opened_book};
 
 use crate::unsummed::Unsummed;
 use rx_books_family::{Family, FamilyTotals};
@@ -19,7 +19,7 @@ pub(crate) fn summed(
     book: Unsummed,
     near: usize,
 ) -> Result<Family, Memory>
-    requires { book ≡ family_book books.now.books book.family }
+    requires { book ≡ opened_book books.now.books book.family }
     ensures { IfOk result (λ family. family ≡ book) }
 {
     let totals = totals_of(alloc, books, &book, near)?;
@@ -44,7 +44,7 @@ fn totals_of(
     book: &Unsummed,
     near: usize,
 ) -> Result<FamilyTotals, Memory>
-    requires { book.now ≡ family_book books.now.books book.now.family }
+    requires { book.now ≡ opened_book books.now.books book.now.family }
     ensures { IfOk result (λ t. AreTotals book.now t.deductibles.items t.out_of_pocket t.deductible) }
 {
     let deductibles = deductibles_of(alloc, books, book.members(), near)?;

@@ -6,11 +6,11 @@ use Rattle.rx_sorted.specs.Ascending.{IsAscending}
 use Rattle.rx_ledger.proofs.Orders.{id_exact, key_exact}
 use Rattle.rx_books_family.specs.FamilyBook.{FamilyBook, family_of}
 use Rattle.rx_sorted.specs.Few.{items_of}
-use Rattle.rx_books_parcel.specs.Parcels.{HasOwnRow, key_of, values_of}
+use Rattle.rx_books_parcel.specs.Parcels.{HasOwnRow, IsParcel, key_of, values_of}
 use Rattle.rx_books_family.specs.Shelves.{IsShelf, ShelfParts, has_slot, is_out, value_of}
 use Rattle.rx_books_shelf.specs.Closed.{HasSlot}
 use Rattle.rx_books_shelf.specs.Taken.{has_all}
-use Rattle.rx_books_shelf.proofs.ShelfKept.{families_rise, keys_rise, one_period, parcel_parts, rows_own}
+use Rattle.rx_books_shelf.proofs.ShelfKept.{families_rise, keys_rise, one_period, parcel_own, parcel_parts, rows_own}
 use Rattle.rx_books_shelf.proofs.ShelfKept.{shelf_parts, shelf_taken, slots_stay, taken_parts}
 use Rattle.rx_books_shelf.proofs.TakenPlaces.{keys_all_in, keys_read}
 use Rattle.rx_books_shelf.proofs.Worth.{out_taken, slots_taken, values_left, values_taken}
@@ -135,3 +135,20 @@ returns-clause-slots c =
     c.take_all-families.new.self
     c.keys-2.ensures.value c.families-2.ensures.value c.take_all-keys.ensures.slots c.take_all-families.ensures.slots in
     rw (← c.self.view_is) (λ b. ap (λ t. has_slot t b) taken ∙ slots_taken s F b)
+
+pub returns-clause-within : goal.returns-clause-within
+returns-clause-within c = rw (← c.self.view_is) c.self.invariant.0
+
+pub returns-clause-own : goal.returns-clause-own
+returns-clause-own c =
+    let s : ShelfParts = shelf_parts c.self.inside.books.books c.self.inside.keys c.self.inside.families in
+    let F = c.args.footprint.now in
+    let all : has_all s F ≡ true = rw (← c.self.view_is) at (sym c.all_in.ensures ∙ ap is_some c.in-Some.is) in
+    let books = c.take_all-keys.ensures.contents ∙ keys_read s.keys c.keys-2.result.now
+    (keys_all_in s F c.keys-2.result.now c.keys-2.ensures.value all) in
+    let parcel = parcel_parts s F c.new.result c.period.result c.keys-2.result.now c.families-2.result.now
+    (items_of c.take_all-keys.result)
+    (items_of c.take_all-families.result) c.new.ensures c.period.ensures.value c.keys-2.ensures.value c.families-2.ensures.value
+    books c.take_all-families.ensures.contents in
+    subst IsParcel (sym parcel)
+    (parcel_own s F c.self.invariant.0 c.keys-2.ensures.within.keys_rise c.families-2.ensures.within.families_rise)
