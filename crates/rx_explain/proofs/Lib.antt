@@ -12,5 +12,4 @@ pub mod Reckoned
 pub mod ShownRows
 pub mod Since
 pub mod SourceLaws
-pub mod Sources
 pub mod Until

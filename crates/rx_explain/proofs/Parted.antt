@@ -119,7 +119,7 @@ near events key = filter (λ e. part_of_key e.key == part_of_key key) events
 pub source_near : (events : List Event) (key : Key) (at : At) → source_of (near events key) key at ≡ source_of events key at
 source_near events key at =
     let q : Event → Bool = λ e. part_of_key e.key == part_of_key key in
-    ap source_at
+    ap (λ o. source_at (option_map (λ (e : Event). e.at) o))
     (ap (find (pays_before key at)) (reverse_kept q events)
     ∙ find_kept (pays_before key at) q (pays_near key at) (reverse events))
 

@@ -21,6 +21,9 @@ use Rattle.rx_explain.proofs.Placed.{ArePlaced, IsAmong, among, steps_placed, st
 use Rattle.rx_explain.proofs.Since.{From, pays, since}
 use Rattle.rx_explain.proofs.Until.{To, returns, until}
 
+abbrev at_of : Option Event → Option At
+at_of o = option_map (λ e. e.at) o
+
 module _ (lot : LotParts) (plan : Plan) (ts : List Transmission) (opening : Ledger) where
   there : (x : Step) (xs : List Step) (L : Ledger) → ArePlaced lot plan ts opening L xs → IsAmong x xs
       → spot_at ts x.at ≡ Some x.spot
@@ -38,7 +41,7 @@ module _ (lot : LotParts) (plan : Plan) (ts : List Transmission) (opening : Ledg
     -- ---- its source
 
     paid_by_found : (o : Option Event) → From lot plan ts opening this r opening (steps_of 1 ts) o → (paid : At)
-        → source_at o ≡ source.Record paid
+        → source_at (at_of o) ≡ source.Record paid
         → IsBefore paid at × IsPaidAt lot plan ts opening r paid × StandsBetween lot plan ts opening paid at r
     paid_by_found None from paid told_is = cc
     paid_by_found (Some e) from paid told_is =
@@ -52,7 +55,7 @@ module _ (lot : LotParts) (plan : Plan) (ts : List Transmission) (opening : Ledg
         )
 
     opening_found : (o : Option Event) → From lot plan ts opening this r opening (steps_of 1 ts) o
-        → source_at o ≡ source.Opening → (row_under opening r.key ≡ Some r) × StandsUpTo lot plan ts opening at r
+        → source_at (at_of o) ≡ source.Opening → (row_under opening r.key ≡ Some r) × StandsUpTo lot plan ts opening at r
     opening_found None from told_is =
         (from.0, λ other u u_is up. from.1 (record { at = other; spot = u }) (among ts other u u_is) up)
     opening_found (Some e) from told_is = cc
@@ -64,9 +67,9 @@ module _ (lot : LotParts) (plan : Plan) (ts : List Transmission) (opening : Ledg
         (among ts at s is) stands
 
     source_is : (told lot plan ts opening at r).source
-        ≡ source_at (find (pays lot plan ts opening this r) (reverse (events_by lot plan opening (steps_of 1 ts))))
+        ≡ source_at (at_of (find (pays lot plan ts opening this r) (reverse (events_by lot plan opening (steps_of 1 ts)))))
     source_is =
-        ap (λ (es : List Event). source_at (find (pays lot plan ts opening this r) (reverse es)))
+        ap (λ (es : List Event). source_at (at_of (find (pays lot plan ts opening this r) (reverse es))))
         (events_by_steps lot plan 1 ts opening)
 
     pub paid_by : (paid : At) → (told lot plan ts opening at r).source ≡ source.Record paid
@@ -81,7 +84,7 @@ module _ (lot : LotParts) (plan : Plan) (ts : List Transmission) (opening : Ledg
 
     module _ (leaves : ¬ TakesBack lot plan ts opening r at s) where
       taken_by_found : (o : Option Event) → To lot plan ts opening this r opening (steps_of 1 ts) o → (back : At)
-          → option_map (λ (e : Event). e.at) o ≡ Some back
+          → at_of o ≡ Some back
           → IsBefore at back × IsTakenBackAt lot plan ts opening r back × StandsBetween lot plan ts opening at back r
       taken_by_found None to back told_is = cc
       taken_by_found (Some e) to back told_is =
@@ -95,7 +98,7 @@ module _ (lot : LotParts) (plan : Plan) (ts : List Transmission) (opening : Ledg
           )
 
       stands_found : (o : Option Event) → To lot plan ts opening this r opening (steps_of 1 ts) o
-          → option_map (λ (e : Event). e.at) o ≡ None
+          → at_of o ≡ None
           → StandsAfter lot plan ts opening at r × (row_under (fold_ledger lot plan 1 ts opening) r.key ≡ Some r)
       stands_found None to told_is = (
         λ other u u_is later. to.0 (record { at = other; spot = u }) (among ts other u u_is) later,
@@ -110,10 +113,9 @@ module _ (lot : LotParts) (plan : Plan) (ts : List Transmission) (opening : Ledg
           (among ts at s is) stands leaves
 
       end_is : (told lot plan ts opening at r).taken_back
-          ≡ option_map (λ (e : Event). e.at)
-          (find (returns lot plan ts opening this r) (events_by lot plan opening (steps_of 1 ts)))
+          ≡ at_of (find (returns lot plan ts opening this r) (events_by lot plan opening (steps_of 1 ts)))
       end_is =
-          ap (λ (es : List Event). option_map (λ (e : Event). e.at) (find (returns lot plan ts opening this r) es))
+          ap (λ (es : List Event). at_of (find (returns lot plan ts opening this r) es))
           (events_by_steps lot plan 1 ts opening)
 
       pub taken_by : (back : At) → (told lot plan ts opening at r).taken_back ≡ Some back

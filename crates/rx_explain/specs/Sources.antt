@@ -44,11 +44,11 @@ pub record IsTakenBackBy (a : Asked) (L : Ledger) (t : Transaction) (r : Row) : 
 
 -- ---- places
 
--- in a batch, one place comes before another
+-- one place is before another
 abbrev pub IsBefore : At → At → Type 0
 IsBefore a b = at_cmp a b ≡ Less
 
--- or is that place
+-- one place is before another or the same
 abbrev pub IsUpTo : At → At → Type 0
 IsUpTo a b = is_le (at_cmp a b) ≡ true
 

@@ -56,13 +56,17 @@ pays_before key at e = is_payment e.change && is_eq (key_cmp e.key key) && is_lt
 abbrev pub returns_after : Key → At → Event → Bool
 returns_after key at e = is_return e.change && is_eq (key_cmp e.key key) && is_lt (at_cmp at e.at)
 
-abbrev pub source_at : Option Event → Source
-source_at None = source.Opening
-source_at (Some e) = source.Record e.at
+-- the last payment under the key before a transaction
+abbrev pub last_payment : List Event → Key → At → Option At
+last_payment events key at = option_map (λ e. e.at) (find (pays_before key at) (reverse events))
 
--- the last payment under the key before a transaction, else the opening books
+-- that payment, else the opening books
+abbrev pub source_at : Option At → Source
+source_at None = source.Opening
+source_at (Some at) = source.Record at
+
 abbrev pub source_of : List Event → Key → At → Source
-source_of events key at = source_at (find (pays_before key at) (reverse events))
+source_of events key at = source_at (last_payment events key at)
 
 -- the first taking back under the key after a transaction
 abbrev pub taken_back_at : List Event → Key → At → Option At

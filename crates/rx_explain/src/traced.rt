@@ -1,7 +1,7 @@
 ghost use Rattle.std.specs.Prelude.{◌≡◌, ◌&&◌, IfOk, map};
 ghost use Rattle.std.specs.Ordering.{is_eq};
 ghost use Rattle.rx_fields.specs.Order.{key_cmp};
-ghost use Rattle.rx_explain.specs.Traces.{pays_before, returns_after, source_of, taken_back_at, traced};
+ghost use Rattle.rx_explain.specs.Traces.{last_payment, pays_before, returns_after, source_of, taken_back_at, traced};
 
 use crate::at::At;
 use crate::events::{Change, Event, Events};
@@ -58,29 +58,34 @@ pub(crate) fn trace_each(
     Ok(all)
 }
 
-// The last payment under the key before the transaction.
+// The last payment under the key before the transaction, else the opening books.
 fn source_of(events: &[Event], key: &Key, at: At) -> Source
     ensures { result ≡ source_of events.now key.now at }
 {
-    let mut source = Source::Opening;
-    for event in events {
-        if pays_before(event, key, at) {
-            source = Source::Record(event.at);
-        }
+    match last_payment(events, key, at) {
+        Some(paid) => Source::Record(paid),
+        None => Source::Opening,
     }
-    source
+}
+
+fn last_payment(events: &[Event], key: &Key, at: At) -> Option<At>
+    ensures { result ≡ last_payment events.now key.now at }
+{
+    events
+        .iter()
+        .rev()
+        .find(|event| pays_before(event, key, at))
+        .map(|event| event.at)
 }
 
 // The first taking back under the key after the transaction.
 fn taken_back_at(events: &[Event], key: &Key, at: At) -> Option<At>
     ensures { result ≡ taken_back_at events.now key.now at }
 {
-    for event in events {
-        if returns_after(event, key, at) {
-            return Some(event.at);
-        }
-    }
-    None
+    events
+        .iter()
+        .find(|event| returns_after(event, key, at))
+        .map(|event| event.at)
 }
 
 fn pays_before(event: &Event, key: &Key, at: At) -> bool
