@@ -1,4 +1,4 @@
--- Where every record was given, the books and the replies are those of the fold.
+-- What a desk has is the fold's: the law of every interleaving, read at its history.
 use Rattle.std.proofs.Common.{◌≡◌, ℕ, zero, suc, ◌+◌, ◌-◌, ◌<◌, ◌≤◌, List, [], ◌∷◌, true, length}
 use Rattle.std.proofs.Common.{get_or, take, Some, refl, sym, ap, subst, ◌∙◌, arith, inl, inr}
 use Rattle.std.specs.List.{slice_get}
@@ -17,10 +17,10 @@ use Rattle.rx_schedule.specs.declared.event.Event.TheVariants.{Give}
 use Rattle.rx_schedule.specs.Footprints.{no_record}
 use Rattle.rx_schedule.specs.Jobs.{ledger_before, reply_at}
 use Rattle.rx_schedule.specs.Machine.{IsComplete, IsLegal, IsPlace, MayTake, Was, replay}
-use Rattle.rx_schedule.proofs.Holder.{is_fold, ledger_end, order_before}
-use Rattle.rx_schedule.proofs.Replayed.{core_books, core_finds, core_replies}
+use Rattle.rx_schedule.proofs.Holder.{ledger_end, order_before}
+use Rattle.rx_schedule.proofs.Interleaved.{ends, finds as found, noted}
 use Rattle.rx_desk.specs.Desks.{DeskJob, machine_of}
-use Rattle.rx_desk.specs.Kept.{AreNoted, IsKeptJob}
+use Rattle.rx_desk.specs.Invariant.{AreNoted, IsKeptJob}
 use Rattle.rx_desk.proofs.Lists.{same_places}
 
 -- ---- the replies of the fold
@@ -46,15 +46,12 @@ module _ (lot : LotParts) (plan : Plan) where
 module _ (j : DeskJob) (past : List Event) (fit : IsKeptJob j) (legal : IsLegal (machine_of j) past) where
   pub noted_are : (place : ℕ) → Was (Give place) past
       → (replay (machine_of j) past).replies place ≡ Some (reply_at j.lot j.plan j.books.ledger j.records place)
-  noted_are place w = core_replies (machine_of j) (λ i b. book b (ledger_before j.lot j.plan j.books.ledger j.records i))
-      (reply_at j.lot j.plan j.books.ledger j.records) (is_fold j.lot j.plan j.books.ledger j.records fit.in_order) past legal place w
+  noted_are place w = noted j.lot j.plan j.books.ledger j.records fit.in_order past legal place w
 
   pub finds : (place : ℕ) → MayTake (machine_of j) place past → (b : Book)
       → (machine_of j).names place b ≡ true
       → (replay (machine_of j) past).books b ≡ book b (ledger_before j.lot j.plan j.books.ledger j.records place)
-  finds place may b n = core_finds (machine_of j) (λ i b. book b (ledger_before j.lot j.plan j.books.ledger j.records i))
-      (reply_at j.lot j.plan j.books.ledger j.records) (is_fold j.lot j.plan j.books.ledger j.records fit.in_order) past legal place
-      may b n
+  finds place may b n = found j.lot j.plan j.books.ledger j.records fit.in_order past place (may, legal) b n
 
   pub fold_in_order : IsInOrder (fold_ledger j.lot j.plan 1 j.records j.books.ledger)
   fold_in_order = subst IsInOrder (ledger_end j.lot j.plan j.books.ledger j.records)
@@ -62,10 +59,7 @@ module _ (j : DeskJob) (past : List Event) (fit : IsKeptJob j) (legal : IsLegal 
 
   module _ (whole : IsComplete (machine_of j) past) where
     pub books_end : (b : Book) → (replay (machine_of j) past).books b ≡ book b (fold_ledger j.lot j.plan 1 j.records j.books.ledger)
-    books_end b = core_books (machine_of j) (λ i b. book b (ledger_before j.lot j.plan j.books.ledger j.records i))
-        (reply_at j.lot j.plan j.books.ledger j.records) (is_fold j.lot j.plan j.books.ledger j.records fit.in_order) past legal
-        whole b
-        ∙ ap (book b) (ledger_end j.lot j.plan j.books.ledger j.records)
+    books_end b = ends j.lot j.plan j.books.ledger j.records fit.in_order past legal whole b
 
     pub ledger_is : (L : Ledger) → IsInOrder L → ((b : Book) → book b L ≡ (replay (machine_of j) past).books b)
         → L ≡ fold_ledger j.lot j.plan 1 j.records j.books.ledger

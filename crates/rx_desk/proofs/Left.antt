@@ -10,12 +10,13 @@ use Rattle.rx_books_family.specs.Shelves.{ShelfParts}
 use Rattle.rx_schedule.specs.declared.event.Event.{Event}
 use Rattle.rx_schedule.specs.declared.event.Event.TheVariants.{Give, Take}
 use Rattle.rx_schedule.specs.Machine.{IsComplete, IsPlace, MayTake, Was}
-use Rattle.rx_schedule.specs.Queues.{IsNext as IsNextOf, QueueParts}
+use Rattle.rx_schedule.specs.Queues.{IsReadyIfAny, QueueParts}
 use Rattle.rx_schedule.proofs.Replayed.{taken}
 use Rattle.rx_desk.specs.declared.state.State.{State}
 use Rattle.rx_desk.specs.declared.state.State.TheVariants.{Given, Out, Waiting}
 use Rattle.rx_desk.specs.Desks.{DeskJob, machine_of}
-use Rattle.rx_desk.specs.Kept.{IsKept, IsState, events_left, one_waiting}
+use Rattle.rx_desk.specs.Invariant.{IsState}
+use Rattle.rx_desk.specs.Kept.{IsKept, events_left, one_waiting}
 use Rattle.rx_desk.proofs.Ready.{is_ready, may_take}
 
 -- ---- states
@@ -116,7 +117,7 @@ module _ (j : DeskJob) (capacity : ℕ) (history : List Event) (footprints : Lis
       omega arith
 
   -- a record is ready exactly where one may be taken
-  pub ready_exact : (o : Option ℕ) → IsNextOf queues o → (r : Bool) → r ≡ is_some o
+  pub ready_exact : (o : Option ℕ) → IsReadyIfAny queues o → (r : Bool) → r ≡ is_some o
       → IsTrue r ↔ ((place : ℕ) × MayTake (machine_of j) place (reverse history))
   ready_exact None none r is = (
     λ t. absurd (let e : false ≡ true = sym is ∙ t in cc),
@@ -125,6 +126,6 @@ module _ (j : DeskJob) (capacity : ℕ) (history : List Event) (footprints : Lis
   ready_exact (Some k) ready r is =
       (λ t. (k, may_take j (reverse history) queues kept.desk.handed_out (kept.queued ∙ kept.named) k ready), λ w. is)
 
-  pub none_ready : IsNextOf queues None → (place : ℕ) → MayTake (machine_of j) place (reverse history) → ⊥
+  pub none_ready : IsReadyIfAny queues None → (place : ℕ) → MayTake (machine_of j) place (reverse history) → ⊥
   none_ready none place may =
       none place (is_ready j (reverse history) queues kept.desk.handed_out (kept.queued ∙ kept.named) place may)

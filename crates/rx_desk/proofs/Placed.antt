@@ -12,12 +12,13 @@ use Rattle.rx_books_parcel.specs.Footprints.{names}
 use Rattle.rx_books_parcel.specs.Parcels.{ParcelParts}
 use Rattle.rx_schedule.specs.declared.event.Event.{Event}
 use Rattle.rx_schedule.specs.declared.event.Event.TheVariants.{Give, Take}
-use Rattle.rx_schedule.specs.Machine.{IsLegal, IsPlace, MayGive, MayTake, Was, cut, replay}
+use Rattle.rx_schedule.specs.Machine.{IsLegal, IsPlace, MayGive, MayTake, Was, own_values, replay}
 use Rattle.rx_schedule.proofs.Replayed.{in_range, taken}
 use Rattle.rx_desk.specs.declared.state.State.{State}
 use Rattle.rx_desk.specs.declared.state.State.TheVariants.{Given, Out, Waiting}
 use Rattle.rx_desk.specs.Desks.{DeskJob, footprint_in, machine_of}
-use Rattle.rx_desk.specs.Kept.{AreHanded, AreInPlace, AreNoted, AreStates, IsCounted, IsSetAside, IsState, events_left, one_waiting}
+use Rattle.rx_desk.specs.Invariant.{AreHanded, AreInPlace, AreNoted, AreStates, IsSetAside, IsState}
+use Rattle.rx_desk.specs.Kept.{IsCounted, events_left, one_waiting}
 use Rattle.rx_desk.proofs.Lists.{slice_get-set_other, slice_get-set_same}
 use Rattle.rx_desk.proofs.Passing.{alone, at_other, at_own, before_give, left_out, not_given, out_taken, still_out, was_out}
 
@@ -91,7 +92,7 @@ module _ (j : DeskJob) (past : List Event) (k : ℕ) (legal : IsLegal (machine_o
   state_take place (Out p) n h = (
     still_out k place past h.0,
     subst (λ v. IsSetAside j place v p) (sym (at_other (replay (machine_of j) past).parcels k place
-        (cut (machine_of j) k (replay (machine_of j) past).books) (λ e. n (sym e)))) h.1,
+        (own_values (machine_of j) k (replay (machine_of j) past).books) (λ e. n (sym e)))) h.1,
   )
   state_take place Given n h = inr h
 
@@ -124,12 +125,12 @@ module _ (j : DeskJob) (past : List Event) (k : ℕ) (legal : IsLegal (machine_o
     }
 
     pub states_take : MayTake (machine_of j) k past → (p : ParcelParts)
-        → IsSetAside j k (cut (machine_of j) k (replay (machine_of j) past).books) p
+        → IsSetAside j k (own_values (machine_of j) k (replay (machine_of j) past).books) p
         → AreStates j (Take k ∷ past) (set states (k - 1) (Out p))
     states_take may p is = states_with (Take k ∷ past) (Out p) (
       out_taken (machine_of j) k past legal may,
       subst (λ v. IsSetAside j k v p) (sym (at_own (replay (machine_of j) past).parcels k k
-          (cut (machine_of j) k (replay (machine_of j) past).books) refl)) is,
+          (own_values (machine_of j) k (replay (machine_of j) past).books) refl)) is,
     )
         state_take
 

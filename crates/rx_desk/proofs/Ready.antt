@@ -13,7 +13,7 @@ use Rattle.rx_schedule.specs.Queues.{IsReady, QueueParts}
 use Rattle.rx_schedule.specs.Waves.{footprint_in as read_in, meet, nothing}
 use Rattle.rx_schedule.proofs.Scanned.{meet_by_family, meet_by_key, meet_in}
 use Rattle.rx_desk.specs.Desks.{DeskJob, machine_of}
-use Rattle.rx_desk.specs.Kept.{AreHanded}
+use Rattle.rx_desk.specs.Invariant.{AreHanded}
 
 -- as many footprints as records, and each at its place
 pub count_of : (L : Ledger) (records : List Transmission) → length (footprints_of L records) ≡ length records

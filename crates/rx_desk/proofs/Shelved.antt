@@ -24,7 +24,7 @@ use Rattle.rx_books_family.specs.declared.place.KeyPlace.{KeyPlace}
 use Rattle.rx_books_family.specs.Shelves.{HoldsOwnBook, IsShelf, ShelfParts, are_all_in, family_place}
 use Rattle.rx_books_family.specs.Shelves.{has_slot, is_family_held, is_family_in, is_family_out}
 use Rattle.rx_books_family.specs.Shelves.{is_in, is_key_held, is_key_in, is_key_out, is_out, key_place, place_family, place_key}
-use Rattle.rx_books_shelf.specs.Taken.{are_out, family_book, has_all, key_book, parcel_of}
+use Rattle.rx_books_shelf.specs.Taken.{are_out, held_book, has_all, held_key, taken_parcel}
 
 -- what is true of each key that is among these is true of all
 all_named : {K : Type 0} (cmp : K → K → Ordering) → IsTotalOrder cmp → (p : K → Bool) (ks : List K)
@@ -77,24 +77,24 @@ all_in s is inside =
 
 -- ---- the names of a parcel that was taken
 
-key_names : (places : List KeyPlace) (ks : List Key) → map key_of (map (key_book places) ks) ≡ ks
+key_names : (places : List KeyPlace) (ks : List Key) → map key_of (map (held_key places) ks) ≡ ks
 key_names places [] = refl
 key_names places (k ∷ ks) = ap (λ rest. k ∷ rest) (key_names places ks)
 
 family_names : (places : List FamilyPlace) (fs : List (List ℕ))
     → ((f : List ℕ) → contains_key id_cmp itself fs f ≡ true → (b : FamilyBook)
     × (option_and_then (λ (p : FamilyPlace). p.held) (item_at id_cmp place_family places f) ≡ Some b) × (b.family ≡ f))
-    → map family_of (flat_map (family_book places) fs) ≡ fs
+    → map family_of (flat_map (held_book places) fs) ≡ fs
 family_names places [] h = refl
 family_names places (f ∷ fs) h =
     let first = h f (rw (tied_itself id_total f) refl) in
-    let rest : map family_of (flat_map (family_book places) fs) ≡ fs =
+    let rest : map family_of (flat_map (held_book places) fs) ≡ fs =
     family_names places fs (λ g among. h g (elim (cases_Bool (is_eq (id_cmp f g))) [
       | inl t ↦ rw t refl
       | inr n ↦ rw n among
     ])) in
-    let here : family_book places f ≡ first.0 ∷ [] = ap option_to_list first.1 in
-    ap (map family_of) (flat_map-cons (family_book places) f fs ∙ ap (λ books. books ++ flat_map (family_book places) fs) here)
+    let here : held_book places f ≡ first.0 ∷ [] = ap option_to_list first.1 in
+    ap (map family_of) (flat_map-cons (held_book places) f fs ∙ ap (λ books. books ++ flat_map (held_book places) fs) here)
     ∙ (λ i. first.2 i ∷ rest i)
 
 -- a family that is in its place has its own book there
@@ -117,7 +117,7 @@ own_book s is f inside = by_place (family_place s f) refl inside
     by_place (Some p) e h = by_held p e p.held refl h
 
 pub named_of_taken : (s : ShelfParts) → IsShelf s → (F : FootprintParts) → ((b : Book) → names F b ≡ true → is_in s b ≡ true)
-    → named_in (parcel_of s F) ≡ F
+    → named_in (taken_parcel s F) ≡ F
 named_of_taken s is F inside =
     let keys = key_names s.keys F.keys in
     let families = family_names s.families F.families (λ f n. own_book s is f (inside (OfFamily f) n)) in

@@ -13,7 +13,7 @@ use Rattle.rx_ledger.specs.Plan.{Plan}
 use Rattle.rx_ledger.specs.TermList.{TermParts}
 use Rattle.rx_books_family.specs.Books.{Book, IsInOrder, book}
 use Rattle.rx_books_parcel.specs.Footprints.{FootprintParts, names}
-use Rattle.rx_books_shelf.specs.Opened.{is_named}
+use Rattle.rx_books_shelf.specs.Opened.{is_named_by}
 use Rattle.rx_schedule.specs.Footprints.{footprints_of}
 use Rattle.rx_books_family.specs.Shelves.{ShelfParts, has_slot, is_out, value_of}
 use Rattle.rx_schedule.specs.declared.event.Event.{Event}
@@ -23,8 +23,8 @@ use Rattle.rx_schedule.specs.Waves.{nothing}
 use Rattle.rx_desk.specs.declared.state.State.{State}
 use Rattle.rx_desk.specs.declared.state.State.TheVariants.{Waiting}
 use Rattle.rx_desk.specs.Desks.{AreTermsOf, DeskJob, footprint_in, machine_of}
-use Rattle.rx_desk.specs.Kept.{IsCounted, IsDesk}
-use Rattle.rx_desk.specs.Kept.{IsKept, IsKeptJob, IsState, events_left, one_waiting}
+use Rattle.rx_desk.specs.Invariant.{IsDesk, IsKeptJob, IsState}
+use Rattle.rx_desk.specs.Kept.{IsCounted, IsKept, events_left, one_waiting}
 use Rattle.rx_desk.proofs.Ready.{count_of, read_is}
 
 pub ledger_in_order : (L : Ledger) → IsLedger L → IsInOrder L
@@ -32,7 +32,7 @@ ledger_in_order L is = record { members_rise = is.members_rise; rows_rise = is.r
 
 -- a footprint of the list that names the book
 named_at : (fs : List FootprintParts) (i : ℕ) (b : Book) → i < length fs → names (get_or fs i nothing) b ≡ true
-    → is_named fs b ≡ true
+    → is_named_by fs b ≡ true
 named_at [] i b h n = absurd (omega arith)
 named_at (F ∷ fs) zero b h n = rw n refl
 named_at (F ∷ fs) (suc i) b h n = elim (cases_Bool (names F b)) [
@@ -41,7 +41,7 @@ named_at (F ∷ fs) (suc i) b h n = elim (cases_Bool (names F b)) [
 ]
 
 pub named_in_all : (j : DeskJob) (place : ℕ) (b : Book) → IsPlace (machine_of j) place → names (footprint_in j place) b ≡ true
-    → is_named (footprints_of j.books.ledger j.records) b ≡ true
+    → is_named_by (footprints_of j.books.ledger j.records) b ≡ true
 named_in_all j place b at n =
     let fs = footprints_of j.books.ledger j.records in
     let one : 1 ≤ place = at.from_one in
@@ -58,9 +58,17 @@ none_there (suc n) (suc i) x = none_there n i x
 
 pub desk_start : (j : DeskJob) (value : Book → Ledger) (has_slot is_out : Book → Bool) (replies : List Reply)
     → IsKeptJob j → ((b : Book) → value b ≡ book b j.books.ledger)
-    → ((b : Book) → has_slot b ≡ is_named (footprints_of j.books.ledger j.records) b)
+    → ((b : Book) → has_slot b ≡ is_named_by (footprints_of j.books.ledger j.records) b)
     → ((b : Book) → is_out b ≡ false) → length replies ≡ length j.records
-    → IsDesk j [] value has_slot is_out [] [] (replicate (length j.records) Waiting) replies
+    → IsDesk j [] (record {
+      value = value;
+      has_slot = has_slot;
+      is_out = is_out;
+      handed = [];
+      passed = [];
+      states = replicate (length j.records) Waiting;
+      replies = replies;
+    })
 desk_start j value has_slot is_out replies fit values slots inside as_many = record {
   of_job = fit;
   legal = tt;
@@ -90,14 +98,14 @@ pub kept_start : (j : DeskJob) (capacity : ℕ) (history : List Event) (footprin
     → footprints ≡ footprints_of j.books.ledger j.records → queues.footprints ≡ footprints → queues.handed ≡ []
     → queues.passed ≡ [] → shelf.period ≡ j.books.period → shelf.rest ≡ j.books.ledger
     → ((b : Book) → value_of shelf b ≡ book b j.books.ledger)
-    → ((b : Book) → has_slot shelf b ≡ is_named footprints b) → ((b : Book) → is_out shelf b ≡ false)
+    → ((b : Book) → has_slot shelf b ≡ is_named_by footprints b) → ((b : Book) → is_out shelf b ≡ false)
     → states ≡ replicate (length j.records) Waiting → length replies ≡ length j.records → waiting ≡ length j.records
     → 2 * length j.records ≤ capacity
     → IsKept j capacity history footprints queues shelf states waiting replies
 kept_start j capacity history footprints queues shelf states waiting replies fit none named queued handed passed period beside values
     slots inside are_waiting as_many left room = record {
       desk = rw (none, handed, passed, are_waiting) (desk_start j (value_of shelf) (has_slot shelf) (is_out shelf) replies fit values
-          (λ b. slots b ∙ ap (λ fs. is_named fs b) named) inside as_many);
+          (λ b. slots b ∙ ap (λ fs. is_named_by fs b) named) inside as_many);
       named = named;
       queued = queued;
       period = period;

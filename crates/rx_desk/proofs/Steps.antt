@@ -22,14 +22,15 @@ use Rattle.rx_schedule.specs.declared.event.Event.{Event}
 use Rattle.rx_schedule.specs.declared.event.Event.TheVariants.{Give, Take}
 use Rattle.rx_schedule.specs.Footprints.{footprint_at, no_record, record_at}
 use Rattle.rx_schedule.specs.Jobs.{ledger_before}
-use Rattle.rx_schedule.specs.Machine.{IsPlace, MayGive, MayTake, Was, cut, replay}
+use Rattle.rx_schedule.specs.Machine.{IsPlace, MayGive, MayTake, Was, own_values, replay}
 use Rattle.rx_schedule.specs.Queues.{IsReady, QueueParts}
 use Rattle.rx_schedule.proofs.Holder.{fits_at, order_before}
 use Rattle.rx_schedule.proofs.Replayed.{in_range, taken}
 use Rattle.rx_desk.specs.declared.state.State.{State}
 use Rattle.rx_desk.specs.declared.state.State.TheVariants.{Given, Out, Waiting}
 use Rattle.rx_desk.specs.Desks.{DeskJob, DeskParts, IsOut, after_event, footprint_in, machine_of, parcel_of}
-use Rattle.rx_desk.specs.Kept.{IsDesk, IsKept, IsSetAside, IsState, events_left, one_waiting}
+use Rattle.rx_desk.specs.Invariant.{Holdings, IsDesk, IsSetAside, IsState}
+use Rattle.rx_desk.specs.Kept.{IsKept, events_left, one_waiting}
 use Rattle.rx_desk.specs.Moved.{IsGiven, IsSameShelf, IsTaken}
 use Rattle.rx_desk.proofs.Ended.{finds}
 use Rattle.rx_desk.proofs.Fitting.{fits_on}
@@ -105,13 +106,13 @@ module _ (j : DeskJob) (capacity : ℕ) (history : List Event) (footprints : Lis
     -- ---- it is taken
 
     module _ (after : ShelfParts) (p : ParcelParts) (moved : IsTaken shelf after (footprint_in j k) p) where
-      pub set_aside : IsSetAside j k (cut (machine_of j) k (replay (machine_of j) (reverse history)).books) p
+      pub set_aside : IsSetAside j k (own_values (machine_of j) k (replay (machine_of j) (reverse history)).books) p
       set_aside =
-          let values : (b : Book) → values_of p b ≡ cut (machine_of j) k (replay (machine_of j) (reverse history)).books b =
+          let values : (b : Book) → values_of p b ≡ own_values (machine_of j) k (replay (machine_of j) (reverse history)).books b =
           λ b. moved.values b ∙ ap (λ x. cond (names (footprint_in j k) b) x empty) (kept.desk.in_place.values b) in
           record {
             is = one_parcel p moved.parcel j.books.period (footprint_in j k)
-                (cut (machine_of j) k (replay (machine_of j) (reverse history)).books) (moved.period ∙ kept.period) moved.named values;
+                (own_values (machine_of j) k (replay (machine_of j) (reverse history)).books) (moved.period ∙ kept.period) moved.named values;
             named = moved.named;
             values = values;
           }
@@ -121,8 +122,16 @@ module _ (j : DeskJob) (capacity : ℕ) (history : List Event) (footprints : Lis
           → IsKept j more new footprints queues' after (set states (k - 1) (Out p)) (waiting - 1) replies
       took more new queues' next grows handed passed same =
           let past = reverse history in
-          let desk : IsDesk j (Take k ∷ past) (value_of after) (has_slot after) (is_out after) (k ∷ queues.handed) queues.passed
-          (set states (k - 1) (Out p)) replies = record {
+          let holds : Holdings = record {
+            value = value_of after;
+            has_slot = has_slot after;
+            is_out = is_out after;
+            handed = k ∷ queues.handed;
+            passed = queues.passed;
+            states = set states (k - 1) (Out p);
+            replies = replies;
+          } in
+          let desk : IsDesk j (Take k ∷ past) holds = record {
             of_job = kept.desk.of_job;
             legal = (may, kept.desk.legal);
             in_place = books_take j past k kept.desk.legal (value_of shelf) (value_of after) (has_slot shelf) (has_slot after)
@@ -132,8 +141,7 @@ module _ (j : DeskJob) (capacity : ℕ) (history : List Event) (footprints : Lis
             noted = noted_take j past k kept.desk.legal replies kept.desk.noted;
           } in
           record {
-            desk = rw (next, handed, passed) (subst (λ es. IsDesk j es (value_of after) (has_slot after) (is_out after)
-                (k ∷ queues.handed) queues.passed (set states (k - 1) (Out p)) replies) (sym (newest history (Take k))) desk);
+            desk = rw (next, handed, passed) (subst (λ es. IsDesk j es holds) (sym (newest history (Take k))) desk);
             named = kept.named;
             queued = same ∙ kept.queued;
             period = moved.shelf_period ∙ kept.period;
@@ -154,7 +162,7 @@ module _ (j : DeskJob) (capacity : ℕ) (history : List Event) (footprints : Lis
             record_is = is;
             terms_are = own;
             parcel_is = set_aside.is ∙ ap (parcel_of j.books.period (footprint_in j k))
-                (sym (at_own d.parcels k k (cut (machine_of j) k d.books) refl)
+                (sym (at_own d.parcels k k (own_values (machine_of j) k d.books) refl)
                 ∙ ap (λ es. (replay (machine_of j) es).parcels k) (sym new_past));
           }
 
@@ -358,8 +366,16 @@ module _ (j : DeskJob) (capacity : ℕ) (history : List Event) (footprints : Lis
           let past = reverse history in
           let k = o.place in
           let named : (b : Book) → names (named_in done.after) b ≡ names (footprint_in j k) b = λ b. ap (λ F. names F b) after_named in
-          let desk : IsDesk j (Give k ∷ past) (value_of after) (has_slot after) (is_out after) queues.handed (k ∷ queues.passed)
-          (set states (k - 1) Given) (set replies (k - 1) done.reply) = record {
+          let holds : Holdings = record {
+            value = value_of after;
+            has_slot = has_slot after;
+            is_out = is_out after;
+            handed = queues.handed;
+            passed = k ∷ queues.passed;
+            states = set states (k - 1) Given;
+            replies = set replies (k - 1) done.reply;
+          } in
+          let desk : IsDesk j (Give k ∷ past) holds = record {
             of_job = kept.desk.of_job;
             legal = (out.taken, kept.desk.legal);
             in_place = books_give j past k kept.desk.legal (value_of shelf) (value_of after) (has_slot shelf) (has_slot after)
@@ -371,9 +387,7 @@ module _ (j : DeskJob) (capacity : ℕ) (history : List Event) (footprints : Lis
             noted = noted_give j past k kept.desk.legal replies done.reply kept.desk.noted out.taken reply_made;
           } in
           record {
-            desk = rw (next, handed, passed) (subst (λ es. IsDesk j es (value_of after) (has_slot after) (is_out after)
-                queues.handed (k ∷ queues.passed) (set states (k - 1) Given) (set replies (k - 1) done.reply))
-                (sym (newest history (Give k))) desk);
+            desk = rw (next, handed, passed) (subst (λ es. IsDesk j es holds) (sym (newest history (Give k))) desk);
             named = kept.named;
             queued = same ∙ kept.queued;
             period = moved.shelf_period ∙ kept.period;

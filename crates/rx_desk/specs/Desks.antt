@@ -20,7 +20,7 @@ use Rattle.rx_schedule.specs.declared.event.Event.{Event}
 use Rattle.rx_schedule.specs.declared.event.Event.TheVariants.{Take}
 use Rattle.rx_schedule.specs.Footprints.{footprint_at, no_record, record_at}
 use Rattle.rx_schedule.specs.Jobs.{job}
-use Rattle.rx_schedule.specs.Machine.{Desk as Replayed, IsPlace, Job, MayGive, MayTake, Was, replay}
+use Rattle.rx_schedule.specs.Machine.{Reached, IsPlace, Job, MayGive, MayTake, Was, replay}
 use Rattle.rx_desk.specs.declared.next.Next.{Next}
 use Rattle.rx_desk.specs.declared.next.Next.TheVariants as next
 
@@ -71,7 +71,7 @@ after_event d e = record d { history = d.history ++ e ∷ [] }
 abbrev pub past_of : DeskParts → List Event
 past_of d = reverse d.history
 
-abbrev pub led_to : (d : DeskParts) → Replayed (machine_of d.job)
+abbrev pub led_to : (d : DeskParts) → Reached (machine_of d.job)
 led_to d = replay (machine_of d.job) (past_of d)
 
 -- ---- orders

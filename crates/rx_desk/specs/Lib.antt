@@ -1,4 +1,5 @@
 -- Plumbing: which files there are.
 pub mod Desks
+pub mod Invariant
 pub mod Kept
 pub mod Moved

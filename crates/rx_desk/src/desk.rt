@@ -54,7 +54,8 @@ impl Model for Desk {
     ghost Value = { DeskParts };
 
     ghost use Rattle.rx_books_family.specs.Shelves.{has_slot, is_out, value_of};
-    ghost use Rattle.rx_desk.specs.Kept.{IsKept, IsCounted, IsDesk, job_with};
+    ghost use Rattle.rx_desk.specs.Invariant.{IsDesk};
+    ghost use Rattle.rx_desk.specs.Kept.{IsKept, IsCounted, holdings, job_with};
 
     ghost view = { λ d. record {
       job = job_with d.lot d.figures d.drugs.items d.terms.items d.books d.transmissions.items;

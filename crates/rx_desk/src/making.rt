@@ -3,7 +3,7 @@ ghost use Rattle.rx_fields.specs.declared.limits.TheConstants.{MOST_DETAILS};
 ghost use Rattle.rx_ledger.specs.Ledger.{IsLedger};
 ghost use Rattle.rx_books_family.specs.Books.{Book, book};
 ghost use Rattle.rx_books_family.specs.Shelves.{has_slot, is_out, value_of};
-ghost use Rattle.rx_books_shelf.specs.Opened.{is_named};
+ghost use Rattle.rx_books_shelf.specs.Opened.{is_named_by};
 ghost use Rattle.rx_schedule.specs.Footprints.{footprints_of};
 ghost use Rattle.rx_desk.specs.Desks.{AreTermsOf};
 
@@ -65,7 +65,7 @@ pub(crate) fn made_of(
     ensures period { IfOk result (λ made. made.shared.shelf.period ≡ books.now.period) }
     ensures rest { IfOk result (λ made. made.shared.shelf.rest ≡ books.now.ledger) }
     ensures values { IfOk result (λ made. (b : Book) → value_of made.shared.shelf b ≡ book b books.now.ledger) }
-    ensures slots { IfOk result (λ made. (b : Book) → has_slot made.shared.shelf b ≡ is_named made.shared.footprints.items b) }
+    ensures slots { IfOk result (λ made. (b : Book) → has_slot made.shared.shelf b ≡ is_named_by made.shared.footprints.items b) }
     ensures inside { IfOk result (λ made. (b : Book) → is_out made.shared.shelf b ≡ false) }
     ensures within { IfOk result (λ _. IsLedger books.now.ledger) }
 {
@@ -107,7 +107,7 @@ fn shared_by(alloc: Global, books: &Books, transmissions: &[Transmission]) -> Re
     ensures period { IfOk result (λ shared. shared.shelf.period ≡ books.now.period) }
     ensures rest { IfOk result (λ shared. shared.shelf.rest ≡ books.now.ledger) }
     ensures values { IfOk result (λ shared. (b : Book) → value_of shared.shelf b ≡ book b books.now.ledger) }
-    ensures slots { IfOk result (λ shared. (b : Book) → has_slot shared.shelf b ≡ is_named shared.footprints.items b) }
+    ensures slots { IfOk result (λ shared. (b : Book) → has_slot shared.shelf b ≡ is_named_by shared.footprints.items b) }
     ensures inside { IfOk result (λ shared. (b : Book) → is_out shared.shelf b ≡ false) }
     ensures within { IfOk result (λ _. IsLedger books.now.ledger) }
 {
@@ -126,7 +126,7 @@ fn shelf_over(alloc: Global, books: &Books, footprints: &[Footprint]) -> Result<
     ensures period { IfOk result (λ shelf. shelf.period ≡ books.now.period) }
     ensures rest { IfOk result (λ shelf. shelf.rest ≡ books.now.ledger) }
     ensures values { IfOk result (λ shelf. (b : Book) → value_of shelf b ≡ book b books.now.ledger) }
-    ensures slots { IfOk result (λ shelf. (b : Book) → has_slot shelf b ≡ is_named footprints.now b) }
+    ensures slots { IfOk result (λ shelf. (b : Book) → has_slot shelf b ≡ is_named_by footprints.now b) }
     ensures inside { IfOk result (λ shelf. (b : Book) → is_out shelf b ≡ false) }
     ensures within { IfOk result (λ _. IsLedger books.now.ledger) }
 {

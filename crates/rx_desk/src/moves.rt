@@ -37,7 +37,7 @@ pub(crate) fn take_books(
     ensures transmission { IfOk result (λ taken. taken.transmission ≡ transmission.now) }
     ensures err { OnErr result (IsSameShelf shelf.old shelf.new) }
 {
-    let parcel = parcel_of(alloc, shelf, footprint)?;
+    let parcel = moved_out(alloc, shelf, footprint)?;
     match copies(alloc, &parcel, transmission) {
         Ok((kept, transmission)) => Ok(Taken {
             parcel,
@@ -52,19 +52,14 @@ pub(crate) fn take_books(
 }
 
 // Moves the books of a footprint, all of which are in, out of their places.
-fn parcel_of(alloc: Global, shelf: &mut Shelf, footprint: &Footprint) -> Result<Parcel, Memory>
+fn moved_out(alloc: Global, shelf: &mut Shelf, footprint: &Footprint) -> Result<Parcel, Memory>
     requires placed { (b : Book) → names footprint.now b ≡ true → has_slot shelf.old b ≡ true }
     requires inside { (b : Book) → names footprint.now b ≡ true → is_out shelf.old b ≡ false }
     ensures ok { IfOk result (IsTaken shelf.old shelf.new footprint.now) }
     ensures err { OnErr result (shelf.new ≡ shelf.old) }
 {
-    // That shelf and parcel keep what their types say is known to the prover from their periods' clauses.
-    shelf.period();
     match shelf.take(alloc, footprint) {
-        Ok(parcel) => {
-            parcel.period();
-            Ok(parcel)
-        }
+        Ok(parcel) => Ok(parcel),
         Err(TakeFault::Memory) => Err(Memory),
         Err(TakeFault::Absent) => unreachable!(),
     }
@@ -90,7 +85,6 @@ pub(crate) fn put_in(shelf: &mut Shelf, parcel: Parcel)
     requires outside { (b : Book) → names (named_in parcel) b ≡ true → is_out shelf.old b ≡ true }
     ensures { IsGiven shelf.old shelf.new parcel }
 {
-    parcel.period();
     match shelf.give(parcel) {
         Ok(()) => {}
         Err(_) => unreachable!(),
@@ -105,7 +99,6 @@ pub(crate) fn closed(shelf: Shelf) -> Books
     ensures values { (b : Book) → book b result.ledger ≡ value_of shelf b }
     ensures within { IsLedger result.ledger }
 {
-    shelf.period();
     match shelf.close() {
         Ok(books) => books,
         Err(_) => unreachable!(),

@@ -2,7 +2,7 @@ use Rattle.std.proofs.Common.{◌≡◌, true, Err, ap, ◌∙◌}
 use Rattle.rx_books_parcel.specs.Parcels.{named_in}
 use Rattle.rx_books_shelf.specs.Taken.{has_all}
 use Rattle.rx_desk.proofs.Shelved.{has_all_named, in_place_of, named_of_taken}
-use Rattle.rx_desk.proofs.moves.parcel_of.Goals as goal
+use Rattle.rx_desk.proofs.moves.moved_out.Goals as goal
 
 pub unreachable-requires : goal.unreachable-requires
 unreachable-requires c =
@@ -16,8 +16,8 @@ pub returns-in-Ok-clause-ok : goal.returns-in-Ok-clause-ok
 returns-in-Ok-clause-ok c =
     let s = c.args.shelf.now in
     record {
-      parcel = c.period-in-Ok.ensures.within;
-      named = ap named_in c.in-Ok.ensures.parcel ∙ named_of_taken s c.period.ensures.within c.args.footprint.now
+      parcel = c.in-Ok.ensures.own;
+      named = ap named_in c.in-Ok.ensures.parcel ∙ named_of_taken s c.in-Ok.ensures.within c.args.footprint.now
           (λ b n. in_place_of s b (c.requires.placed b n) (c.requires.inside b n));
       period = ap (λ p. p.period) c.in-Ok.ensures.parcel;
       values = c.in-Ok.ensures.values;
