@@ -16,7 +16,7 @@ pub record RefusesOne (starts : ℕ → Bool) (workers : ℕ) : Type 0 where
   pub refused : starts worker ≡ false
 
 -- the number of a fault
-abbrev pub number_of : RunFault → ℕ
-number_of fault.Workers = 1
-number_of fault.Memory = 2
-number_of fault.Thread = 3
+abbrev pub run_fault_number : RunFault → ℕ
+run_fault_number fault.Workers = 1
+run_fault_number fault.Memory = 2
+run_fault_number fault.Thread = 3

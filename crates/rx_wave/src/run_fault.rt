@@ -1,5 +1,5 @@
 ghost use Rattle.std.specs.Prelude.{◌≡◌};
-ghost use Rattle.rx_wave.specs.Workers.{number_of};
+ghost use Rattle.rx_wave.specs.Workers.{run_fault_number};
 
 use rx_fields::Memory;
 
@@ -17,7 +17,7 @@ pub enum RunFault {
 impl RunFault {
     /// The number of the fault.
     pub fn code(self) -> u32
-        ensures { result ≡ number_of self }
+        ensures { result ≡ run_fault_number self }
     {
         match self {
             RunFault::Workers => 1,
