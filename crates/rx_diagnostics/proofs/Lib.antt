@@ -1,2 +1,3 @@
 -- Plumbing: which files there are.
+pub mod FirstFaults
 pub mod Searches

@@ -1,17 +1,24 @@
 -- Meaning: what is said of faults of a books file: what stands there, and what is expected.
 use Rattle.std.specs.Prelude.{◌≡◌, ℕ, ◌+◌, ◌-◌, Bool, not, ◌||◌, ◌==◌, nat_lt, nat_eq, if◌then◌else◌}
-use Rattle.std.specs.Prelude.{List, [], ◌∷◌, ◌++◌, codes, count_by, length, Option, Some, None, is_err, option_map, string_bytes}
+use Rattle.std.specs.Prelude.{List, [], ◌∷◌, ◌++◌, codes, length, Option, Some, None, option_map, string_bytes}
 use Rattle.std.specs.Fmt.{decimal}
 use Rattle.std.specs.List.{ends_with}
+use Rattle.std.specs.Result.{result_unwrap_or}
 use Rattle.std.specs.Str.{bytes_eq}
 use Rattle.rx_books_text.specs.declared.fault.BooksFault.{BooksFault}
 use Rattle.rx_books_text.specs.declared.fault.BooksFault.TheVariants as fault
-use Rattle.rx_fields.specs.Calendar.{date_of}
-use Rattle.rx_fields.specs.declared.limits.TheConstants.{MOST_LINES}
-use Rattle.rx_text.specs.Bytes.{all_digits, all_printable}
+use Rattle.rx_books_text.specs.LineReading.{head_of}
+use Rattle.rx_books_text.specs.declared.head.Head.{Head}
+use Rattle.rx_books_text.specs.declared.version.Version.{Version}
+use Rattle.rx_books_text.specs.declared.version.Version.TheVariants as version
+use Rattle.rx_fields.specs.Digits.{number_of}
+use Rattle.rx_fields.specs.declared.limits.TheConstants.{MOST_CENTS, MOST_LINES}
+use Rattle.rx_diagnostics.specs.BooksFields.{claim_fields, date_fault, first_claim_fields, first_fault, member_fields}
+use Rattle.rx_diagnostics.specs.BooksFields.{short_total_fields, total_fields}
 use Rattle.rx_diagnostics.specs.Looks.{begins, has_mark, looks_like}
-use Rattle.rx_diagnostics.specs.Parts.{field_of, line_feeds, line_of}
+use Rattle.rx_diagnostics.specs.Parts.{field_of, fields, line_feeds, line_of}
 use Rattle.rx_diagnostics.specs.Quoting.{quoted_text, shown_text}
+use Rattle.rx_diagnostics.specs.declared.books_field.Field.{Field}
 use Rattle.rx_diagnostics.specs.declared.books_order.LineKind.{LineKind}
 use Rattle.rx_diagnostics.specs.declared.books_order.LineKind.TheVariants as kind
 use Rattle.rx_diagnostics.specs.declared.words.Said.{Said}
@@ -26,23 +33,6 @@ plain text = record { text = text; mend = [] }
 
 abbrev pub mended : List ℕ → List ℕ → Telling
 mended text mend = record { text = text; mend = mend }
-
--- ---- a field
-
--- an id of 1 to this many bytes
-abbrev pub id_fault : ℕ → List ℕ → Option (List ℕ)
-id_fault most field =
-    if length field == 0 then Some (codes "expected an id")
-    else (if nat_lt most (length field)
-    then Some (decimal (length field) ++ (codes " bytes, expected at most " ++ decimal most))
-    else (if ends_with nat_eq field (codes " ") then Some (codes "trailing blank")
-    else (if all_printable field then None else Some (codes "not printable ASCII"))))
-
--- a date of eight digits
-abbrev pub date_fault : List ℕ → Option (List ℕ)
-date_fault field =
-    if not (length field == 8) || not (all_digits field) then Some (codes "expected 8 digits, e.g. 20260101")
-    else (if is_err (date_of field) then Some (codes "no such date") else None)
 
 -- ---- the head line
 
@@ -59,10 +49,6 @@ days_text None (Some last) line = last
 days_text None None line =
     codes "the last day " ++ (quoted_text (field_of line 4)
     ++ (codes " is before the first, " ++ quoted_text (field_of line 3)))
-
--- a line has one field more than it has strokes
-abbrev pub fields : List ℕ → ℕ
-fields line = count_by (λ b. b == 124) line + 1
 
 abbrev pub is_version : List ℕ → Bool
 is_version field = bytes_eq field (codes "1") || bytes_eq field (codes "2") || bytes_eq field (codes "3")
@@ -145,6 +131,92 @@ order_text line above =
     ++ codes " line: first come all M, then all C, then all T")))
     else keys_text (key_of line) (key_of above) (order_of (kind_of line))
 
+-- ---- a line after the head
+
+-- the version that the head line says, 3 where it says none
+abbrev pub version_in : Option Head → Version
+version_in None = version.Three
+version_in (Some h) = h.version
+
+abbrev pub version_of : List ℕ → Version
+version_of text = version_in (head_of (line_of text 1))
+
+abbrev pub digit_of : Version → ℕ
+digit_of version.One = 1
+digit_of version.Two = 2
+digit_of version.Three = 3
+
+-- the fields of a line of a kind, after the kind
+abbrev pub fields_of : LineKind → Version → List Field
+fields_of kind.Member v = member_fields
+fields_of kind.Claim version.One = first_claim_fields
+fields_of kind.Claim v = claim_fields
+fields_of kind.Total version.Three = total_fields
+fields_of kind.Total v = short_total_fields
+
+-- a line of another number of fields
+abbrev pub count_text : ℕ → LineKind → Version → ℕ → List ℕ
+count_text count k v wanted =
+    decimal count ++ (codes " fields: a " ++ (called k ++ (codes " line of version " ++ (decimal (digit_of v)
+    ++ (codes " has " ++ decimal wanted)))))
+
+-- the number that a field is; 0 if it is none
+abbrev pub number_at : List ℕ → ℕ → ℕ
+number_at line number = result_unwrap_or (number_of 19 (field_of line number)) 0
+
+-- what the member pays of a claim: deductible and copay, and from version 2 on the coinsurance
+abbrev pub share_of : Version → List ℕ → ℕ
+share_of version.One line = number_at line 12 + number_at line 13
+share_of v line = number_at line 12 + number_at line 13 + number_at line 14
+
+abbrev pub share_name : Version → List ℕ
+share_name version.One = codes "FH + FI"
+share_name v = codes "FH + FI + 4U"
+
+-- the figures of a claim: more than may be paid, or a larger share
+abbrev pub claim_text : ℕ → List ℕ → ℕ → List ℕ
+claim_text paid name share =
+    if nat_lt MOST_CENTS paid
+    then codes "F6 + F7 = " ++ (decimal paid ++ (codes ": expected at most " ++ (decimal MOST_CENTS ++ codes " cents")))
+    else name ++ (codes " = " ++ (decimal share ++ (codes ": expected at most F6 + F7 = " ++ decimal paid)))
+
+-- a line whose fields are right one by one
+abbrev pub figures_text : List ℕ → Version → List ℕ
+figures_text line v =
+    if begins line (codes "M")
+    then codes "the last day " ++ (quoted_text (field_of line 5)
+    ++ (codes " is before the first, " ++ quoted_text (field_of line 4)))
+    else claim_text (number_at line 10 + number_at line 11) (share_name v) (share_of v line)
+
+abbrev pub first_or : Option (List ℕ) → List ℕ → List ℕ
+first_or (Some text) other = text
+first_or None other = other
+
+-- a line by its fields: how many there are, the first that is wrong, or its figures together
+unfoldable pub line_fields_text : List ℕ → LineKind → Version → List Field → List ℕ
+line_fields_text line k v fs =
+    if not (fields line == length fs + 1) then count_text (fields line) k v (length fs + 1)
+    else first_or (first_fault 2 fs line) (figures_text line v)
+
+-- a line begins with its kind
+abbrev pub has_kind : List ℕ → Bool
+has_kind line = begins line (codes "M|") || begins line (codes "C|") || begins line (codes "T|")
+
+unfoldable pub kind_text : List ℕ → Version → List ℕ
+kind_text line v =
+    if has_kind line then line_fields_text line (kind_of line) v (fields_of (kind_of line) v)
+    else quoted_text line ++ codes ": a line begins M|, C| or T|"
+
+-- a line that is none of the head's version
+unfoldable pub line_telling : List ℕ → ℕ → Telling
+line_telling text number =
+    if nat_lt (line_feeds text) number
+    then mended (codes "the last line has no line feed at its end") (codes "echo >>")
+    else (if length (line_of text number) == 0 then mended (codes "the line is empty") (codes "sed -i '/^$/d'")
+    else (if ends_with nat_eq (line_of text number) (13 ∷ [])
+    then mended (codes "the line ends with CR LF: expected LF") (codes "sed -i 's/\\r$//'")
+    else plain (kind_text (line_of text number) (version_of text))))
+
 -- ---- each fault
 
 abbrev pub too_many_text : List ℕ → List ℕ
@@ -156,9 +228,10 @@ no_memory_text = codes "out of memory"
 abbrev pub telling_of : Said → Telling
 telling_of said = record { text = string_bytes said.text; mend = said.mend.now }
 
--- what is said of a head, of lines out of order, and of too many lines; no definition fixes what is said of other faults
+-- what is said of each fault; of a member who isn't listed and of a figure, no definition fixes it
 abbrev pub TellsOfBooks : List ℕ → BooksFault → Telling → Type 0
 TellsOfBooks text fault.Head said = said ≡ head_telling text (line_of text 1)
+TellsOfBooks text (fault.Line n) said = said ≡ line_telling text n
 TellsOfBooks text (fault.Order n) said = said ≡ plain (order_text (line_of text n) (line_of text (n - 1)))
 TellsOfBooks text fault.TooMuch said = said ≡ plain (too_many_text text)
 TellsOfBooks text fault.Memory said = said ≡ plain no_memory_text

@@ -1,5 +1,6 @@
 -- Plumbing: which files there are.
 pub mod BatchTexts
+pub mod BooksFields
 pub mod BooksTexts
 pub mod Lines
 pub mod Looks

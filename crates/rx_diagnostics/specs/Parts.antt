@@ -1,5 +1,5 @@
 -- Meaning: parts of a text: its lines and their fields, and what stands at a place.
-use Rattle.std.specs.Prelude.{ℕ, ◌-◌, ◌==◌, if◌then◌else◌, List, [], count_by, drop, slice_get, take}
+use Rattle.std.specs.Prelude.{ℕ, ◌+◌, ◌-◌, ◌==◌, if◌then◌else◌, List, [], count_by, drop, slice_get, take}
 use Rattle.std.specs.List.{position_or_len}
 use Rattle.std.specs.Option.{unwrap_or}
 use Rattle.rx_text.specs.Bytes.{cut}
@@ -18,6 +18,10 @@ line_feeds text = count_by (λ b. b == 10) text
 -- a field of a line, between strokes
 abbrev pub field_of : List ℕ → ℕ → List ℕ
 field_of line number = piece 124 line number
+
+-- how many fields a line has: one more than it has strokes
+abbrev pub fields : List ℕ → ℕ
+fields line = count_by (λ b. b == 124) line + 1
 
 -- what follows the byte at a place
 abbrev pub behind : List ℕ → ℕ → List ℕ

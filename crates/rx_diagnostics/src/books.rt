@@ -1,5 +1,5 @@
 ghost use Rattle.std.specs.Prelude.{◌≡◌, [], IfOk, option_map, string_bytes};
-ghost use Rattle.rx_diagnostics.specs.BooksTexts.{TellsOfBooks, day_fault, days_text, fields, fields_text, head_fields_text, head_telling};
+ghost use Rattle.rx_diagnostics.specs.BooksTexts.{TellsOfBooks, day_fault, days_text, fields_text, head_fields_text, head_telling};
 ghost use Rattle.rx_diagnostics.specs.BooksTexts.{is_version, mended, no_label_text, plain, telling_of, too_many_text};
 ghost use Rattle.rx_diagnostics.specs.BooksTexts.{unread_books_text, version_text};
 ghost use Rattle.rx_diagnostics.specs.Parts.{line_of};
@@ -11,7 +11,7 @@ use crate::books_order::{order_words, unknown_words};
 use crate::books_totals::totals_words;
 use crate::looks::{has_mark, looks_like};
 use crate::place::Place;
-use crate::quoting::{field_of, line_feeds, line_of, quoted, said};
+use crate::quoting::{field_of, fields, line_feeds, line_of, quoted, said};
 use crate::words::{Said, Words};
 use rx_books_text::BooksFault;
 use rx_fields::{MOST_LINES, Memory};
@@ -202,13 +202,6 @@ fn day_fault(
     };
     let field = quoted(alloc, field)?;
     Ok(Some(format!(in alloc; "field {number}, {name} {field}: {fault}")?))
-}
-
-// How many fields a line has: one more than it has strokes.
-fn fields(line: &[u8]) -> usize
-    ensures { result ≡ fields line.now }
-{
-    line.iter().filter(|b| **b == b'|').count() + 1
 }
 
 fn is_version(field: &[u8]) -> bool

@@ -1,7 +1,8 @@
-ghost use Rattle.std.specs.Prelude.{◌≡◌, IfOk, option_map, string_bytes};
-ghost use Rattle.rx_diagnostics.specs.BooksTexts.{date_fault, id_fault};
+ghost use Rattle.std.specs.Prelude.{◌≡◌, IfOk, Some, option_map, string_bytes};
+ghost use Rattle.rx_diagnostics.specs.BooksFields.{date_fault, digits_fault, fault_in, field_fault, figure_fault, first_fault};
+ghost use Rattle.rx_diagnostics.specs.BooksFields.{holds_of, id_fault, is_between, name_of, number_fault};
 
-use rx_books_text::Version;
+use crate::quoting::{field_of, quoted};
 use rx_fields::{MOST_CENTS, MOST_QUANTITY, MOST_REFERENCE, date_read, number_read};
 use rx_text::{all_digits, all_printable};
 use std::alloc::{AllocError, Global};
@@ -22,58 +23,160 @@ pub(crate) enum Holds {
 }
 
 /// A field of a books line.
-#[derive(Clone, Copy, Debug, PartialEq, Eq)]
-pub(crate) struct Field {
-    pub(crate) name: &'static str,
-    pub(crate) holds: Holds,
-}
-
-const fn made(name: &'static str, holds: Holds) -> Field {
-    Field { name, holds }
+#[derive(Clone, Copy, Debug)]
+pub(crate) enum Field {
+    Family,
+    Person,
+    FirstDay,
+    LastDay,
+    Deductible,
+    OutOfPocket,
+    Provider,
+    Reference,
+    Date,
+    Product,
+    Quantity,
+    Days,
+    Cost,
+    Fee,
+    ClaimDeductible,
+    Copay,
+    Coinsurance,
+    Number,
 }
 
 /// The fields of a member line, after its kind.
-pub(crate) fn member_field(place: usize) -> Option<Field> {
-    match place {
-        0 => Some(made("family", Holds::Id(20))),
-        1 => Some(made("person", Holds::Id(3))),
-        2 => Some(made("first day", Holds::Date)),
-        3 => Some(made("last day", Holds::Date)),
-        4 => Some(made("deductible", Holds::Figure)),
-        _ => None,
+pub(crate) const MEMBER: [Field; 5] = [
+    Field::Family,
+    Field::Person,
+    Field::FirstDay,
+    Field::LastDay,
+    Field::Deductible,
+];
+
+/// The fields of a claim line, after its kind.
+pub(crate) const CLAIM: [Field; 14] = [
+    Field::Provider,
+    Field::Reference,
+    Field::Date,
+    Field::Family,
+    Field::Person,
+    Field::Product,
+    Field::Quantity,
+    Field::Days,
+    Field::Cost,
+    Field::Fee,
+    Field::ClaimDeductible,
+    Field::Copay,
+    Field::Coinsurance,
+    Field::Number,
+];
+
+/// Those of a claim line of version 1, which has none for 4U.
+pub(crate) const FIRST_CLAIM: [Field; 13] = [
+    Field::Provider,
+    Field::Reference,
+    Field::Date,
+    Field::Family,
+    Field::Person,
+    Field::Product,
+    Field::Quantity,
+    Field::Days,
+    Field::Cost,
+    Field::Fee,
+    Field::ClaimDeductible,
+    Field::Copay,
+    Field::Number,
+];
+
+/// The fields of a total line, after its kind.
+pub(crate) const TOTAL: [Field; 3] = [Field::Family, Field::OutOfPocket, Field::Deductible];
+
+/// Those of a total line of version 1 or 2, which has no deductible.
+pub(crate) const SHORT_TOTAL: [Field; 2] = [Field::Family, Field::OutOfPocket];
+
+impl Field {
+    // What the field is called.
+    fn name(self) -> &'static str
+        ensures { result.now ≡ name_of self }
+    {
+        match self {
+            Field::Family => "family",
+            Field::Person => "person",
+            Field::FirstDay => "first day",
+            Field::LastDay => "last day",
+            Field::Deductible => "deductible",
+            Field::OutOfPocket => "out of pocket",
+            Field::Provider => "provider",
+            Field::Reference => "reference",
+            Field::Date => "date",
+            Field::Product => "product",
+            Field::Quantity => "quantity",
+            Field::Days => "days",
+            Field::Cost => "F6",
+            Field::Fee => "F7",
+            Field::ClaimDeductible => "FH",
+            Field::Copay => "FI",
+            Field::Coinsurance => "4U",
+            Field::Number => "number",
+        }
+    }
+
+    // What it holds.
+    fn holds(self) -> Holds
+        ensures { result ≡ holds_of self }
+    {
+        match self {
+            Field::Family => Holds::Id(20),
+            Field::Person => Holds::Id(3),
+            Field::FirstDay | Field::LastDay | Field::Date => Holds::Date,
+            Field::Deductible | Field::OutOfPocket => Holds::Figure,
+            Field::Provider => Holds::Id(15),
+            Field::Reference => Holds::Number(0, MOST_REFERENCE),
+            Field::Product => Holds::Digits(11),
+            Field::Quantity => Holds::Number(1, MOST_QUANTITY),
+            Field::Days => Holds::Number(1, 999),
+            Field::Cost | Field::Fee | Field::ClaimDeductible | Field::Copay | Field::Coinsurance =>
+                Holds::Number(0, MOST_CENTS),
+            Field::Number => Holds::Digits(15),
+        }
     }
 }
 
-/// The fields of a claim line, after its kind; version 1 has none for 4U.
-pub(crate) fn claim_field(version: Version, place: usize) -> Option<Field> {
-    match place {
-        0 => Some(made("provider", Holds::Id(15))),
-        1 => Some(made("reference", Holds::Number(0, MOST_REFERENCE))),
-        2 => Some(made("date", Holds::Date)),
-        3 => Some(made("family", Holds::Id(20))),
-        4 => Some(made("person", Holds::Id(3))),
-        5 => Some(made("product", Holds::Digits(11))),
-        6 => Some(made("quantity", Holds::Number(1, MOST_QUANTITY))),
-        7 => Some(made("days", Holds::Number(1, 999))),
-        8 => Some(made("F6", Holds::Number(0, MOST_CENTS))),
-        9 => Some(made("F7", Holds::Number(0, MOST_CENTS))),
-        10 => Some(made("FH", Holds::Number(0, MOST_CENTS))),
-        11 => Some(made("FI", Holds::Number(0, MOST_CENTS))),
-        12 if version != Version::One => Some(made("4U", Holds::Number(0, MOST_CENTS))),
-        12 => Some(made("number", Holds::Digits(15))),
-        13 if version != Version::One => Some(made("number", Holds::Digits(15))),
-        _ => None,
+/// What is said of the first of a line's fields that is wrong; None where none is.
+pub(crate) fn first_fault(
+    alloc: Global,
+    line: &[u8],
+    fields: &[Field],
+) -> Result<Option<String>, AllocError>
+    ensures { IfOk result (λ said. option_map string_bytes said ≡ first_fault 2 fields.now line.now) }
+{
+    for (before, field) in fields.iter().enumerate() {
+        let number = before + 2;
+        match field_fault(alloc, number, *field, field_of(line, number))? {
+            Some(said) => return Ok(Some(said)),
+            None => {}
+        }
     }
+    Ok(None)
 }
 
-/// The fields of a total line, after its kind; only version 3 has the deductible.
-pub(crate) fn total_field(version: Version, place: usize) -> Option<Field> {
-    match place {
-        0 => Some(made("family", Holds::Id(20))),
-        1 => Some(made("out of pocket", Holds::Figure)),
-        2 if version == Version::Three => Some(made("deductible", Holds::Figure)),
-        _ => None,
-    }
+// What is said of a field by its number, its name and what it holds; None where nothing is wrong.
+#[tactic(auto, using(std::proofs::Common::append_assoc), unfolding(crate::specs::BooksFields::field_fault))]
+fn field_fault(
+    alloc: Global,
+    number: usize,
+    field: Field,
+    text: &[u8],
+) -> Result<Option<String>, AllocError>
+    ensures { IfOk result (λ said. option_map string_bytes said ≡ field_fault number field text.now) }
+{
+    let Some(fault) = fault_in(alloc, field.holds(), text)? else {
+        return Ok(None);
+    };
+    let name = field.name();
+    let text = quoted(alloc, text)?;
+    Ok(Some(format!(in alloc; "field {number}, {name} {text}: {fault}")?))
 }
 
 /// What is wrong with a field, and what is expected; None where nothing is.
@@ -81,18 +184,15 @@ pub(crate) fn fault_in(
     alloc: Global,
     holds: Holds,
     field: &[u8],
-) -> Result<Option<String>, AllocError> {
+) -> Result<Option<String>, AllocError>
+    ensures { IfOk result (λ fault. option_map string_bytes fault ≡ fault_in holds field.now) }
+{
     match holds {
         Holds::Id(most) => id_fault(alloc, most, field),
         Holds::Date => date_fault(alloc, field),
         Holds::Number(low, high) => number_fault(alloc, low, high, field),
         Holds::Figure => figure_fault(alloc, field),
-        Holds::Digits(count) => {
-            if field.len() == count && all_digits(field) {
-                return Ok(None);
-            }
-            Ok(Some(format!(in alloc; "expected {count} digits")?))
-        }
+        Holds::Digits(count) => digits_fault(alloc, count, field),
     }
 }
 
@@ -134,20 +234,34 @@ fn number_fault(
     low: u64,
     high: u64,
     field: &[u8],
-) -> Result<Option<String>, AllocError> {
+) -> Result<Option<String>, AllocError>
+    ensures { IfOk result (λ fault. option_map string_bytes fault ≡ number_fault low high field.now) }
+{
     if field.is_empty() || !all_digits(field) {
         return some(alloc, "expected only digits");
     }
     if field.len() > 1 && field.starts_with(b"0") {
         return some(alloc, "expected no leading zeros");
     }
+    if !is_between(low, high, field) {
+        return Ok(Some(format!(in alloc; "expected a number from {low} to {high}")?));
+    }
+    Ok(None)
+}
+
+// Whether digits are a number from low to high.
+fn is_between(low: u64, high: u64, field: &[u8]) -> bool
+    ensures { result ≡ is_between low high field.now }
+{
     match number_read(field, 19) {
-        Ok(number) if low <= number && number <= high => Ok(None),
-        _ => Ok(Some(format!(in alloc; "expected a number from {low} to {high}")?)),
+        Ok(number) => low <= number && number <= high,
+        Err(_) => false,
     }
 }
 
-fn figure_fault(alloc: Global, field: &[u8]) -> Result<Option<String>, AllocError> {
+fn figure_fault(alloc: Global, field: &[u8]) -> Result<Option<String>, AllocError>
+    ensures { IfOk result (λ fault. option_map string_bytes fault ≡ figure_fault field.now) }
+{
     if field.is_empty() || !all_digits(field) {
         return some(alloc, "expected whole cents, only digits");
     }
@@ -158,6 +272,15 @@ fn figure_fault(alloc: Global, field: &[u8]) -> Result<Option<String>, AllocErro
         return some(alloc, "expected at most 20 digits");
     }
     Ok(None)
+}
+
+fn digits_fault(alloc: Global, count: usize, field: &[u8]) -> Result<Option<String>, AllocError>
+    ensures { IfOk result (λ fault. option_map string_bytes fault ≡ digits_fault count field.now) }
+{
+    if field.len() == count && all_digits(field) {
+        return Ok(None);
+    }
+    Ok(Some(format!(in alloc; "expected {count} digits")?))
 }
 
 fn some(alloc: Global, text: &str) -> Result<Option<String>, AllocError>

@@ -1,13 +1,21 @@
-use crate::books_field::{Field, claim_field, fault_in, member_field, total_field};
+ghost use Rattle.std.specs.Prelude.{◌≡◌, ◌≤◌, IfOk, string_bytes};
+ghost use Rattle.rx_diagnostics.specs.BooksTexts.{claim_text, count_text, digit_of, figures_text, has_kind, kind_text};
+ghost use Rattle.rx_diagnostics.specs.BooksTexts.{line_fields_text, line_telling, number_at, share_name, share_of, telling_of};
+ghost use Rattle.rx_diagnostics.specs.BooksTexts.{version_of};
+
+use crate::books_field::{CLAIM, FIRST_CLAIM, Field, MEMBER, SHORT_TOTAL, TOTAL, first_fault};
 use crate::books_order::LineKind;
-use crate::quoting::{field_of, line_feeds, line_of, quoted};
+use crate::quoting::{field_of, fields, line_feeds, line_of, quoted};
 use crate::words::Said;
 use rx_books_text::{Version, read_head};
 use rx_fields::{MOST_CENTS, number_read};
 use std::alloc::{AllocError, Global};
 
 /// What is said of a line that is none of the head's version, or has no line feed.
-pub(crate) fn line_words(alloc: Global, text: &[u8], number: u64) -> Result<Said, AllocError> {
+#[tactic(auto, unfolding(crate::specs::BooksTexts::line_telling))]
+pub(crate) fn line_words(alloc: Global, text: &[u8], number: u64) -> Result<Said, AllocError>
+    ensures { IfOk result (λ said. telling_of said ≡ line_telling text.now number) }
+{
     let line = line_of(text, number);
     if (line_feeds(text) as u64) < number {
         return Said::mended(
@@ -26,28 +34,88 @@ pub(crate) fn line_words(alloc: Global, text: &[u8], number: u64) -> Result<Said
             "sed -i 's/\\r$//'",
         );
     }
-    let version = version_of(text);
-    match line {
-        [b'M', b'|', ..] | [b'C', b'|', ..] | [b'T', b'|', ..] => {
-            Ok(Said::plain(fields_words(alloc, line, version)?))
-        }
-        _ => {
-            let line = quoted(alloc, line)?;
-            Ok(Said::plain(format!(in alloc; "{line}: a line begins M|, C| or T|")?))
-        }
-    }
+    Ok(Said::plain(kind_words(alloc, line, version_of(text))?))
 }
 
 // The version that the head line says.
-fn version_of(text: &[u8]) -> Version {
+fn version_of(text: &[u8]) -> Version
+    ensures { result ≡ version_of text.now }
+{
     match read_head(line_of(text, 1)) {
         Some(head) => head.version,
         None => Version::Three,
     }
 }
 
+// What is said of a line by its kind.
+#[tactic(auto, unfolding(crate::specs::BooksTexts::kind_text))]
+fn kind_words(alloc: Global, line: &[u8], version: Version) -> Result<String, AllocError>
+    ensures { IfOk result (λ said. string_bytes said ≡ kind_text line.now version) }
+{
+    if !has_kind(line) {
+        let line = quoted(alloc, line)?;
+        return format!(in alloc; "{line}: a line begins M|, C| or T|");
+    }
+    let kind = LineKind::of(line);
+    match (kind, version) {
+        (LineKind::Member, _) => fields_words(alloc, line, kind, version, &MEMBER),
+        (LineKind::Claim, Version::One) => {
+            fields_words(alloc, line, kind, version, &FIRST_CLAIM)
+        }
+        (LineKind::Claim, _) => fields_words(alloc, line, kind, version, &CLAIM),
+        (LineKind::Total, Version::Three) => fields_words(alloc, line, kind, version, &TOTAL),
+        (LineKind::Total, _) => fields_words(alloc, line, kind, version, &SHORT_TOTAL),
+    }
+}
+
+// Whether a line begins with its kind.
+fn has_kind(line: &[u8]) -> bool
+    ensures { result ≡ has_kind line.now }
+{
+    line.starts_with(b"M|") || line.starts_with(b"C|") || line.starts_with(b"T|")
+}
+
+// What is said of a line by its fields: how many there are, the first that is wrong, or the figures together.
+#[tactic(auto, unfolding(crate::specs::BooksTexts::line_fields_text))]
+fn fields_words(
+    alloc: Global,
+    line: &[u8],
+    kind: LineKind,
+    version: Version,
+    wanted: &[Field],
+) -> Result<String, AllocError>
+    ensures { IfOk result (λ said. string_bytes said ≡ line_fields_text line.now kind version wanted.now) }
+{
+    let count = fields(line);
+    if count != wanted.len() + 1 {
+        return count_words(alloc, count, kind, version, wanted.len() + 1);
+    }
+    match first_fault(alloc, line, wanted)? {
+        Some(said) => Ok(said),
+        None => figures_words(alloc, line, version),
+    }
+}
+
+// What is said of a line with another number of fields.
+#[tactic(auto, using(std::proofs::Common::append_assoc))]
+fn count_words(
+    alloc: Global,
+    count: usize,
+    kind: LineKind,
+    version: Version,
+    wanted: usize,
+) -> Result<String, AllocError>
+    ensures { IfOk result (λ said. string_bytes said ≡ count_text count kind version wanted) }
+{
+    let kind = kind.name();
+    let digit = digit_of(version);
+    format!(in alloc; "{count} fields: a {kind} line of version {digit} has {wanted}")
+}
+
 // The digit of a version.
-fn digit_of(version: Version) -> u8 {
+fn digit_of(version: Version) -> u8
+    ensures { result ≡ digit_of version }
+{
     match version {
         Version::One => 1,
         Version::Two => 2,
@@ -55,73 +123,55 @@ fn digit_of(version: Version) -> u8 {
     }
 }
 
-// The field of a line of its kind at a place, from 0 after the kind.
-fn field_at(line: &[u8], version: Version, place: usize) -> Option<Field> {
-    match line {
-        [b'M', ..] => member_field(place),
-        [b'C', ..] => claim_field(version, place),
-        _ => total_field(version, place),
-    }
-}
-
-// How many fields a line of its kind has, the kind among them.
-fn fields_wanted(line: &[u8], version: Version) -> usize {
-    let mut wanted = 1;
-    for place in 0..14usize {
-        if field_at(line, version, place).is_some() {
-            wanted = place + 2;
-        }
-    }
-    wanted
-}
-
-// What is said of a line by its fields: how many there are, the first that is wrong, or the figures together.
-fn fields_words(alloc: Global, line: &[u8], version: Version) -> Result<String, AllocError> {
-    let count = line.split(|b| *b == b'|').count();
-    let wanted = fields_wanted(line, version);
-    if count != wanted {
-        let kind = LineKind::of(line).name();
-        let digit = digit_of(version);
-        return format!(in alloc; "{count} fields: a {kind} line of version {digit} has {wanted}");
-    }
-    for place in 0..14usize {
-        if let Some(Field { name, holds }) = field_at(line, version, place) {
-            let field = field_of(line, place + 2);
-            if let Some(fault) = fault_in(alloc, holds, field)? {
-                let number = place + 2;
-                let field = quoted(alloc, field)?;
-                return format!(in alloc; "field {number}, {name} {field}: {fault}");
-            }
-        }
-    }
-    figures_words(alloc, line, version)
-}
-
 // What is said of a line whose fields are right one by one.
-fn figures_words(alloc: Global, line: &[u8], version: Version) -> Result<String, AllocError> {
+#[tactic(auto, using(std::proofs::Common::append_assoc))]
+fn figures_words(alloc: Global, line: &[u8], version: Version) -> Result<String, AllocError>
+    ensures { IfOk result (λ said. string_bytes said ≡ figures_text line.now version) }
+{
     if line.starts_with(b"M") {
         let first = quoted(alloc, field_of(line, 4))?;
         let last = quoted(alloc, field_of(line, 5))?;
         return format!(in alloc; "the last day {last} is before the first, {first}");
     }
-    let paid = sum_of(line, 10, 11);
-    let mut share = sum_of(line, 12, 13);
-    let mut names = "FH + FI";
-    if version != Version::One {
-        share = share.saturating_add(number_at(line, 14));
-        names = "FH + FI + 4U";
-    }
-    if paid > MOST_CENTS {
-        return format!(in alloc; "F6 + F7 = {paid}: expected at most {MOST_CENTS} cents");
-    }
-    format!(in alloc; "{names} = {share}: expected at most F6 + F7 = {paid}")
+    let paid = number_at(line, 10) + number_at(line, 11);
+    claim_words(alloc, paid, share_name(version), share_of(version, line))
 }
 
-fn sum_of(line: &[u8], one: usize, other: usize) -> u64 {
-    number_at(line, one).saturating_add(number_at(line, other))
+// What is said of a claim by what is paid and the member's share of it.
+#[tactic(auto, using(std::proofs::Common::append_assoc))]
+fn claim_words(alloc: Global, paid: u128, name: &str, share: u128) -> Result<String, AllocError>
+    ensures { IfOk result (λ said. string_bytes said ≡ claim_text paid name.now share) }
+{
+    if paid > u128::from(MOST_CENTS) {
+        return format!(in alloc; "F6 + F7 = {paid}: expected at most {MOST_CENTS} cents");
+    }
+    format!(in alloc; "{name} = {share}: expected at most F6 + F7 = {paid}")
+}
+
+// What the member pays of a claim.
+fn share_of(version: Version, line: &[u8]) -> u128
+    ensures { result ≡ share_of version line.now }
+{
+    let share = number_at(line, 12) + number_at(line, 13);
+    match version {
+        Version::One => share,
+        Version::Two | Version::Three => share + number_at(line, 14),
+    }
+}
+
+fn share_name(version: Version) -> &'static str
+    ensures { result.now ≡ share_name version }
+{
+    match version {
+        Version::One => "FH + FI",
+        Version::Two | Version::Three => "FH + FI + 4U",
+    }
 }
 
 // The number that a field is; 0 if it is none.
-fn number_at(line: &[u8], number: usize) -> u64 {
-    number_read(field_of(line, number), 19).unwrap_or(0)
+fn number_at(line: &[u8], number: usize) -> u128
+    ensures value { result ≡ number_at line.now number }
+    ensures small { result ≤ 18_446_744_073_709_551_615 }
+{
+    u128::from(number_read(field_of(line, number), 19).unwrap_or(0))
 }

@@ -9,9 +9,9 @@
 //! ```
 //!
 //! The texts are for people: they quote what they found with control bytes spelled out. What is said of a batch file, of
-//! a head, of lines out of order and of a missing key, and of any fault of a file that can't be read again, is defined in
-//! `specs/BatchTexts.antt`, `BooksTexts.antt` and `SheetTexts.antt`; what is said of other faults is fixed nowhere but in
-//! the tests. Numbers of faults are left to the crates that find them.
+//! a head and lines of books, of lines out of order and of a missing key, and of any fault of a file that can't be read
+//! again, is defined in `specs/BatchTexts.antt`, `BooksTexts.antt` and `SheetTexts.antt`; what is said of other faults is
+//! fixed nowhere but in the tests. Numbers of faults are left to the crates that find them.
 #![tactic(auto)]
 
 mod batch;

@@ -1,7 +1,7 @@
 ghost use Rattle.std.specs.Prelude.{◌≡◌, ◌++◌, IfOk, OnOk, drop, option_copied, slice_get, slice_range, string_bytes};
 ghost use Rattle.rx_print.specs.Hexadecimal.{bracketed};
 ghost use Rattle.rx_text.specs.Bytes.{cut};
-ghost use Rattle.rx_diagnostics.specs.Parts.{field_of, line_feeds, line_of, piece};
+ghost use Rattle.rx_diagnostics.specs.Parts.{field_of, fields, line_feeds, line_of, piece};
 ghost use Rattle.rx_diagnostics.specs.Quoting.{byte_text, bytes_text, quoted_text, shown_text};
 
 use crate::place::front;
@@ -99,6 +99,13 @@ pub(crate) fn field_of(line: &[u8], number: usize) -> &[u8]
     ensures { result.now ≡ field_of line.now number }
 {
     piece(line, b'|', number as u64)
+}
+
+/// How many fields a line has: one more than it has strokes.
+pub(crate) fn fields(line: &[u8]) -> usize
+    ensures { result ≡ fields line.now }
+{
+    line.iter().filter(|b| **b == b'|').count() + 1
 }
 
 // The piece of this number, from 1, between separators; empty if there is none.
