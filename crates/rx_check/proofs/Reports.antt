@@ -2,7 +2,8 @@
 use Rattle.std.proofs.Common.{◌≡◌, ◌+◌, ◌<◌, ◌++◌, ◌∷◌, [], ℕ, List, String, Result, Ok, Err, IfOk, append_assoc, get_or, length}
 use Rattle.std.proofs.Common.{map, string_bytes, take, ap, sym, ◌∙◌}
 use Rattle.std.proofs.lemmas.List.{flat_map_more}
-use Rattle.rx_diagnostics.specs.Lines.{line_text}
+use Rattle.rx_check.specs.Faults.{IsLineOf}
+use Rattle.rx_diagnostics.specs.Lines.{BeginsAt, line_text}
 use Rattle.rx_diagnostics.specs.declared.place.Place.{Place}
 use Rattle.rx_diagnostics.specs.declared.words.Words.{Words}
 use Rattle.rx_check.specs.Report.{TellsAt, ignored_text, warning_line}
@@ -14,6 +15,19 @@ pub tells : {Z E : Type 0} (IsPlace : Place → Type 0) (file : List ℕ) (words
     → IfOk r (λ line. TellsAt IsPlace file (string_bytes line))
 tells IsPlace file words (Ok line) at is = (words, (at, is))
 tells IsPlace file words (Err e) at is = is
+
+-- and so it is what a refusal prints of them
+pub says : {Z E : Type 0} (Are : Words → Type 0) (file : List ℕ) (words : Words) (r : Result (String Z) E)
+    → Are words → IfOk r (λ line. string_bytes line ≡ line_text file words)
+    → IfOk r (λ line. IsLineOf Are file (string_bytes line))
+says Are file words (Ok line) so is = (words, (so, is))
+says Are file words (Err e) so is = is
+
+pub begins : {Z E : Type 0} (IsPlace : Place → Type 0) (file : List ℕ) (words : Words) (r : Result (String Z) E)
+    → IsPlace words.place → IfOk r (λ line. BeginsAt file words.place (string_bytes line))
+    → IfOk r (λ line. (at : Place) × IsPlace at × BeginsAt file at (string_bytes line))
+begins IsPlace file words (Ok line) at is = (words.place, at, is)
+begins IsPlace file words (Err e) at is = is
 
 -- the warning of one more key
 pub ignored_more : {Z : Type 0} (sheet : List ℕ) (ignored : List (String Z)) (i : ℕ) (key : String Z) (start text : List ℕ)

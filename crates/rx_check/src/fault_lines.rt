@@ -1,6 +1,9 @@
 ghost use Rattle.std.specs.Prelude.{◌≡◌, IfOk, option_copied, string_bytes};
+ghost use Rattle.rx_diagnostics.specs.Lines.{BeginsAt};
 ghost use Rattle.rx_diagnostics.specs.Places.{IsSheetPlace, books_place};
-ghost use Rattle.rx_check.specs.Faults.{IsFaultLine, batch_place_in};
+ghost use Rattle.rx_diagnostics.specs.declared.place.Place.{Place};
+ghost use Rattle.rx_check.specs.Faults.{AreBatchWords, AreBooksWords, AreSheetWords, IsFaultLine, IsFaultText, IsLineOf};
+ghost use Rattle.rx_check.specs.Faults.{batch_place_in, stamp_fault, stamp_text, workers_text};
 
 use rx_batch::BatchFault;
 use rx_books_text::BooksFault;
@@ -42,28 +45,56 @@ pub struct RunInputs<'a> {
 ///
 /// Out of memory only.
 pub fn fault_words(alloc: Global, fault: SwitchFault, run: &RunInputs<'_>) -> Result<String, Memory>
-    ensures { IfOk result (λ line. IsFaultLine run.now fault (string_bytes line)) }
+    ensures begins { IfOk result (λ line. IsFaultLine run.now fault (string_bytes line)) }
+    ensures said { IfOk result (λ line. IsFaultText run.now fault (string_bytes line)) }
 {
     match fault {
         SwitchFault::Workers => Ok(workers_words(alloc, run.workers)?),
         SwitchFault::Stamp => Ok(stamp_words(alloc, run.stamp)?),
-        SwitchFault::Sheet(fault) => {
-            words_of_sheet(alloc, fault, run.inputs.sheet.text)?.line(alloc, run.inputs.sheet.name)
-        }
-        SwitchFault::Books(fault) => {
-            words_of_books(alloc, fault, run.inputs.books.text)?.line(alloc, run.inputs.books.name)
-        }
-        SwitchFault::Batch(fault) => {
-            words_of_batch(alloc, fault, run.inputs.batch.text)?.line(alloc, run.inputs.batch.name)
-        }
+        SwitchFault::Sheet(fault) => sheet_line(alloc, fault, &run.inputs.sheet),
+        SwitchFault::Books(fault) => books_line(alloc, fault, &run.inputs.books),
+        SwitchFault::Batch(fault) => batch_line(alloc, fault, &run.inputs.batch),
         SwitchFault::Memory => Ok(String::from_str(alloc, "out of memory")?),
         SwitchFault::Thread => Ok(String::from_str(alloc, "a thread could not be started")?),
     }
 }
 
+// The line of a fault of the sheet.
+fn sheet_line(alloc: Global, fault: SheetFault, input: &Input<'_>) -> Result<String, Memory>
+    ensures begins { IfOk result (λ line.
+        (at : Place) × IsSheetPlace fault at × BeginsAt input.now.name.now at (string_bytes line)) }
+    ensures said { IfOk result (λ line.
+        IsLineOf (AreSheetWords (option_copied input.now.text) fault) input.now.name.now (string_bytes line)) }
+{
+    let words = words_of_sheet(alloc, fault, input.text)?;
+    words.line(alloc, input.name)
+}
+
+// The line of a fault of the books.
+fn books_line(alloc: Global, fault: BooksFault, input: &Input<'_>) -> Result<String, Memory>
+    ensures begins { IfOk result (λ line. BeginsAt input.now.name.now (books_place fault) (string_bytes line)) }
+    ensures said { IfOk result (λ line.
+        IsLineOf (AreBooksWords (option_copied input.now.text) fault) input.now.name.now (string_bytes line)) }
+{
+    let words = words_of_books(alloc, fault, input.text)?;
+    words.line(alloc, input.name)
+}
+
+// The line of a fault of the batch.
+fn batch_line(alloc: Global, fault: BatchFault, input: &Input<'_>) -> Result<String, Memory>
+    ensures begins { IfOk result (λ line.
+        BeginsAt input.now.name.now (batch_place_in (option_copied input.now.text) fault) (string_bytes line)) }
+    ensures said { IfOk result (λ line.
+        IsLineOf (AreBatchWords (option_copied input.now.text) fault) input.now.name.now (string_bytes line)) }
+{
+    let words = words_of_batch(alloc, fault, input.text)?;
+    words.line(alloc, input.name)
+}
+
 #[tactic(auto, using(crate::proofs::Wholes::whole_is_place))]
 fn words_of_sheet(alloc: Global, fault: SheetFault, text: Option<&[u8]>) -> Result<Words, Memory>
-    ensures { IfOk result (λ words. IsSheetPlace fault words.place) }
+    ensures place { IfOk result (λ words. IsSheetPlace fault words.place) }
+    ensures said { IfOk result (AreSheetWords (option_copied text.entry) fault) }
 {
     match text {
         Some(text) => sheet_words(alloc, fault, text),
@@ -72,7 +103,8 @@ fn words_of_sheet(alloc: Global, fault: SheetFault, text: Option<&[u8]>) -> Resu
 }
 
 fn words_of_books(alloc: Global, fault: BooksFault, text: Option<&[u8]>) -> Result<Words, Memory>
-    ensures { IfOk result (λ words. words.place ≡ books_place fault) }
+    ensures place { IfOk result (λ words. words.place ≡ books_place fault) }
+    ensures said { IfOk result (AreBooksWords (option_copied text.entry) fault) }
 {
     match text {
         Some(text) => books_words(alloc, fault, text),
@@ -81,7 +113,8 @@ fn words_of_books(alloc: Global, fault: BooksFault, text: Option<&[u8]>) -> Resu
 }
 
 fn words_of_batch(alloc: Global, fault: BatchFault, text: Option<&[u8]>) -> Result<Words, Memory>
-    ensures { IfOk result (λ words. words.place ≡ batch_place_in (option_copied text.entry) fault) }
+    ensures place { IfOk result (λ words. words.place ≡ batch_place_in (option_copied text.entry) fault) }
+    ensures said { IfOk result (AreBatchWords (option_copied text.entry) fault) }
 {
     match text {
         Some(text) => batch_words(alloc, fault, text),
@@ -89,20 +122,31 @@ fn words_of_batch(alloc: Global, fault: BatchFault, text: Option<&[u8]>) -> Resu
     }
 }
 
-fn workers_words(alloc: Global, workers: u16) -> Result<String, AllocError> {
+#[tactic(auto, using(std::proofs::Common::append_assoc))]
+fn workers_words(alloc: Global, workers: u16) -> Result<String, AllocError>
+    ensures { IfOk result (λ said. string_bytes said ≡ workers_text workers) }
+{
     format!(in alloc; "--workers {workers}: expected 1 to {MOST_WORKERS}")
 }
 
-fn stamp_words(alloc: Global, stamp: &str) -> Result<String, AllocError> {
-    let bytes = stamp.as_bytes();
-    let shown = quoted(alloc, bytes)?;
-    if bytes.len() != 12 || !all_digits(bytes) {
-        return format!(in alloc;
-            "--stamp {shown}: expected 12 digits CCYYMMDDHHMM, e.g. 202603020600"
-        );
+#[tactic(auto, using(std::proofs::Common::append_assoc))]
+fn stamp_words(alloc: Global, stamp: &str) -> Result<String, AllocError>
+    ensures { IfOk result (λ said. string_bytes said ≡ stamp_text stamp.now) }
+{
+    let wrong = stamp_fault(stamp.as_bytes());
+    let stamp = quoted(alloc, stamp.as_bytes())?;
+    format!(in alloc; "--stamp {stamp}: {wrong}")
+}
+
+// What is wrong with a stamp: how many digits it has, its date, or else its time.
+fn stamp_fault(stamp: &[u8]) -> &'static str
+    ensures { result.now ≡ stamp_fault stamp.now }
+{
+    if stamp.len() != 12 || !all_digits(stamp) {
+        return "expected 12 digits CCYYMMDDHHMM, e.g. 202603020600";
     }
-    if date_read(&bytes[..8]).is_err() {
-        return format!(in alloc; "--stamp {shown}: its first 8 digits aren't a date");
+    if date_read(&stamp[..8]).is_err() {
+        return "its first 8 digits aren't a date";
     }
-    format!(in alloc; "--stamp {shown}: its last 4 digits aren't a time from 0000 to 2359")
+    "its last 4 digits aren't a time from 0000 to 2359"
 }
