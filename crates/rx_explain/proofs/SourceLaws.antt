@@ -1,4 +1,4 @@
--- What is told of a claim that stands before a transaction, in a batch.
+-- What is said of a claim that stands before a transaction, in a batch.
 use Rattle.std.specs.Prelude.{reverse}
 use Rattle.std.specs.Option.{option_map}
 use Rattle.std.specs.List.{find}

@@ -71,7 +71,7 @@ module _ (lot : LotParts) (plan : Plan) (ts : List Transmission) (opening : Ledg
     rest.1,
   )
 
-  -- where it took nothing back, what is found is found behind it
+  -- where it took nothing back, what is found is found after it
   behind : (x : Step) (xs : List Step) (L : Ledger) → find returns (events_at lot plan L x) ≡ None
       → find returns (events_by lot plan L (x ∷ xs)) ≡ find returns (events_by lot plan (next lot plan L x) xs)
   behind x xs L none =
@@ -112,7 +112,7 @@ module _ (lot : LotParts) (plan : Plan) (ts : List Transmission) (opening : Ledg
           ];
         })
 
-  -- from behind this transaction on
+  -- from the next transaction on
   onwards : (xs : List Step) (L : Ledger) → IsBelowAll this.at xs → AreRising xs → ArePlaced lot plan ts opening L xs
       → row_under L r.key ≡ Some r → To L xs (find returns (events_by lot plan L xs))
   onwards [] L below rising placed is = (λ x among later. absurd among, is)

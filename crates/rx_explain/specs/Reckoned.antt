@@ -17,13 +17,13 @@ use Rattle.rx_ledger.specs.Sums.{deductible_paid, paid_by_patient}
 use Rattle.rx_explain.specs.declared.explanation.Explanation.{Explanation}
 use Rattle.rx_explain.specs.declared.workings.Workings.{Workings}
 
--- an amount, at most the limit where there is one
+-- an amount, at most the limit if it has one
 abbrev pub at_most : Option ℕ → ℕ → ℕ
 at_most None amount = amount
 at_most (Some limit) amount = min amount limit
 
--- a copay is at most the rest that it is of, and there is no coinsurance beside it; a coinsurance is a percentage of the
--- rest, and there is no copay beside it
+-- a copay is at most the rest that it is of, and then there is no coinsurance; a coinsurance is a percentage of the
+-- rest, and then there is no copay
 abbrev pub IsShareOf : Share → ℕ → ℕ → Amounts → Type 0
 IsShareOf (Copay cents) rest share a = (share ≡ min cents rest) × (a.coinsurance ≡ 0)
 IsShareOf (Percent percent) rest share a = (share ≡ rest * percent / 100) × (a.copay ≡ 0)

@@ -89,7 +89,7 @@ module _ (lot : LotParts) (plan : Plan) (ts : List Transmission) (opening : Ledg
   StandsBetween first last r =
       (at : At) → (s : Spot) → spot_at ts at ≡ Some s → IsBefore first at → IsUpTo at last → StandsBefore r at s
 
-  -- the claim as it is told with the transaction at a place: its source and its end, among what the batch changed
+  -- the claim as it is shown with the transaction at a place: its source and its end, among what the batch changed
   abbrev pub told : At → Row → Traced
   told at r = traced (events_of 1 ts (fold_replies lot plan 1 ts opening)) at r
 
