@@ -81,7 +81,7 @@ fn done<R: Print + Clock + Files + Threads + Wait + Sync>(
     };
     match name.as_str() {
         "orders" => trials::orders(rt, words.get(2)),
-        "refusals" => trials::refusals(threads, rt.alloc()),
+        "refusals" => trials::refusals(rt, threads),
         name if NAMES.contains(&name) => told(
             rt,
             timed(threads, rt.alloc(), name, words.get(2), words.get(3)),

@@ -10,12 +10,12 @@ use std::thread::Threads;
 const NO_DATE: &[u8] = b"202602300600";
 
 /// Runs one-billing with 0 workers and with a stamp of no date, which have to be refused as Workers and as Stamp.
-pub fn refusals<R: Print + Threads + Wait + Sync>(rt: &R, alloc: Global) -> ExitCode {
-    if !is_refused(rt, alloc, 0, STAMP, SwitchFault::Workers) {
+pub fn refusals<R: Threads + Wait + Sync>(rt: &HostRuntime, threads: &R) -> ExitCode {
+    if !is_refused(threads, rt.alloc(), 0, STAMP, SwitchFault::Workers) {
         let _ = eprintln!(rt; "a run with 0 workers isn't refused as Workers");
         return ExitCode::FAILURE;
     }
-    if !is_refused(rt, alloc, 1, NO_DATE, SwitchFault::Stamp) {
+    if !is_refused(threads, rt.alloc(), 1, NO_DATE, SwitchFault::Stamp) {
         let _ = eprintln!(rt; "a run with a stamp of no date isn't refused as Stamp");
         return ExitCode::FAILURE;
     }
