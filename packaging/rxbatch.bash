@@ -1,12 +1,12 @@
 # Completions of rxbatch for bash.
 _rxbatch() {
-  local word=${COMP_WORDS[COMP_CWORD]} before=${COMP_WORDS[COMP_CWORD - 1]} words files
+  local word=${COMP_WORDS[COMP_CWORD]} before=${COMP_WORDS[COMP_CWORD - 1]} words files left name
   if [ "$COMP_CWORD" -eq 1 ]; then
     mapfile -t COMPREPLY < <(compgen -W 'run show plan sample check explain verify report replies' -- "$word")
     return
   fi
   case ${COMP_WORDS[1]} in
-    run) words='--sheet --books --batch --response --books-out --settlement --stamp --workers --plain --desk --safe --verbose --log --sums'; files='--sheet|--books|--batch|--response|--books-out|--settlement|--log' ;;
+    run) words='--sheet --books --batch --response --books-out --settlement --stamp --workers --plain --desk --safe -v --verbose --log --sums'; files='--sheet|--books|--batch|--response|--books-out|--settlement|--log' ;;
     show) words='--sheet --batch --tsv'; files='--sheet|--batch' ;;
     plan) words='--sheet --books --batch'; files='--sheet|--books|--batch' ;;
     sample) words=''; files='' ;;
@@ -19,7 +19,11 @@ _rxbatch() {
   if [ -n "$files" ] && [[ "|$files|" == *"|$before|"* ]]; then
     mapfile -t COMPREPLY < <(compgen -f -- "$word")
   else
-    mapfile -t COMPREPLY < <(compgen -W "$words" -- "$word")
+    left=
+    for name in $words; do
+      [[ " ${COMP_WORDS[*]:2:COMP_CWORD-2} " == *" $name "* ]] || left+=" $name"
+    done
+    mapfile -t COMPREPLY < <(compgen -W "$left" -- "$word")
   fi
 }
 complete -o filenames -F _rxbatch rxbatch
