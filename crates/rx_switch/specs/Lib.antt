@@ -4,5 +4,6 @@ pub mod Fault
 pub mod Job
 pub mod Output
 pub mod Planned
+pub mod Rendered
 pub mod Shown
 pub mod Told

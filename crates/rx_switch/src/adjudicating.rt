@@ -2,11 +2,13 @@ ghost use Rattle.std.specs.Prelude.{◌≡◌, ◌≤◌, IfErr, IfOk, length, t
 ghost use Rattle.rx_books_store.specs.BooksText.{books_text};
 ghost use Rattle.rx_books_text.specs.declared.version.Version.TheVariants.{Three};
 ghost use Rattle.rx_fields.specs.declared.limits.TheConstants.{MOST_DETAILS};
+ghost use Rattle.rx_io.specs.Pieces.{text_of};
 ghost use Rattle.rx_ledger.specs.Fold.{fold_ledger, fold_replies};
 ghost use Rattle.rx_response.specs.Response.{response_text};
 ghost use Rattle.rx_settle.specs.Settlement.{settlement_text};
 ghost use Rattle.rx_switch.specs.Job.{accepted_of, texts_in_pieces};
 ghost use Rattle.rx_switch.specs.Output.{IsStopped, texts_of};
+ghost use Rattle.rx_switch.specs.Rendered.{IsOfReplies, texts_made};
 ghost use Rattle.rx_wave.specs.Decoding.{transmissions_of};
 ghost use Rattle.rx_wave.specs.Workers.{are_workers};
 
@@ -15,9 +17,9 @@ use crate::fault::SwitchFault;
 use crate::job::OutputPieces;
 use rx_batch::Batch;
 use rx_books_store::Books;
-use rx_d0_values::Transmission;
+use rx_d0_values::{Reply, Transmission};
 use rx_fields::{Lot, Memory, Stamp};
-use rx_io::Outputs;
+use rx_io::{Outputs, Pieces};
 use rx_ledger::{Sheet, plain_run};
 use rx_response::response_pieces;
 use rx_serial::Finished;
@@ -25,7 +27,8 @@ use rx_settle::settle;
 use rx_wave::{Gate, decode_in_parts, run_waves};
 use std::alloc::Global;
 use std::sync::Wait;
-use std::thread::Threads;
+use std::thread;
+use std::thread::{JoinHandle, Threads};
 
 // The fewest bytes that are worth more threads than one.
 const FEWEST_BYTES: usize = 100_000;
@@ -48,7 +51,14 @@ pub(crate) struct Manner<'a, G> {
     pub(crate) plain: bool,
 }
 
-/// The texts of adjudicating the details, as if one after another in file order. Decoding, rendering and writing go in
+/// What adjudicating a batch gives: its texts, and the thread that frees what made them, if there is one.
+#[derive(Drop)]
+pub(crate) struct Adjudicated {
+    pub(crate) pieces: OutputPieces,
+    pub(crate) freeing: Option<JoinHandle<()>>,
+}
+
+/// The texts of adjudicating the details, as if one after another in file order. Decoding, rendering and freeing go in
 /// this many parts in parallel; one part starts no thread.
 pub(crate) fn adjudicate<R: Threads + Wait + Sync, G: Gate + Sync>(
     rt: &R,
@@ -56,10 +66,10 @@ pub(crate) fn adjudicate<R: Threads + Wait + Sync, G: Gate + Sync>(
     manner: &Manner<'_, G>,
     parts: usize,
     accepted: Accepted,
-) -> Result<OutputPieces, SwitchFault>
+) -> Result<Adjudicated, SwitchFault>
     requires few { length accepted.batch.details ≤ MOST_DETAILS }
     requires workers { are_workers manner.now.workers ≡ true }
-    ensures output { IfOk result (λ output. texts_in_pieces output ≡ texts_of (accepted_of accepted)) }
+    ensures output { IfOk result (λ adjudicated. texts_made adjudicated ≡ texts_of (accepted_of accepted)) }
     ensures stopped { IfErr result (λ fault.
         IsStopped manner.now.plain (G.starts manner.now.gate.now) manner.now.workers fault) }
 {
@@ -70,9 +80,44 @@ pub(crate) fn adjudicate<R: Threads + Wait + Sync, G: Gate + Sync>(
         batch,
     } = accepted;
     let finished = finish_batch(rt, alloc, manner, parts, &sheet, books, &batch)?;
-    let pieces = render(rt, alloc, parts, &batch, &stamp, &finished);
-    drop((sheet, batch, finished));
-    Ok(pieces?)
+    let pieces = render(rt, alloc, parts, &batch, &stamp, &finished)?;
+    let remains = Remains {
+        sheet,
+        batch,
+        finished,
+    };
+    Ok(Adjudicated {
+        pieces,
+        freeing: remains.free(rt, parts),
+    })
+}
+
+/// Waits for a thread that frees, if there is one.
+pub(crate) fn wait_for<R: Threads>(rt: &R, freeing: Option<JoinHandle<()>>) {
+    if let Some(freeing) = freeing {
+        freeing.join(rt);
+    }
+}
+
+// What a run needs no more once its texts are made.
+#[derive(Drop)]
+struct Remains {
+    sheet: Sheet,
+    batch: Batch,
+    finished: Finished,
+}
+
+impl Remains {
+    // Frees them, by a thread of its own where there are several parts and one can be started.
+    fn free<R: Threads>(self, rt: &R, parts: usize) -> Option<JoinHandle<()>> {
+        if parts < 2 {
+            return None;
+        }
+        match thread::spawn(rt, move || drop(self)) {
+            Ok(freeing) => Some(freeing),
+            Err(_) => None,
+        }
+    }
 }
 
 // The texts of the replies to a batch's details, and of the books after them.
@@ -92,13 +137,84 @@ fn render<R: Threads + Sync>(
       settlement = settlement_text batch.now.head.lot stamp.now finished.now.replies.items;
     }) }
 {
-    let (details, replies) = (batch.details.as_slice(), finished.replies.as_slice());
+    if parts < 2 {
+        let replied = render_replies(rt, alloc, parts, batch, stamp, &finished.replies)?;
+        let books = finished.books.write_pieces(rt, alloc, parts)?;
+        return Ok(replied.with_books(books));
+    }
+    let (books, replied) = render_apart(rt, alloc, parts, batch, stamp, finished);
+    Ok(replied?.with_books(books?))
+}
+
+// The same texts, those of the books by a thread of their own.
+fn render_apart<R: Threads + Sync>(
+    rt: &R,
+    alloc: Global,
+    parts: usize,
+    batch: &Batch,
+    stamp: &Stamp,
+    finished: &Finished,
+) -> (Result<Pieces, Memory>, Result<Replied, Memory>)
+    requires equally_many { length batch.now.details ≡ length finished.now.replies.items }
+    requires few { length batch.now.details ≤ MOST_DETAILS }
+    ensures books { IfOk result.0 (λ books. text_of books ≡ books_text Three finished.now.books.period finished.now.books.ledger) }
+    ensures replied { IfOk result.1 (IsOfReplies batch.now stamp.now finished.now.replies.items) }
+{
+    thread::join(
+        rt,
+        || -> Result<Pieces, Memory>
+            ensures { IfOk result (λ books. text_of books
+                ≡ books_text Three finished.entry.now.books.period finished.entry.now.books.ledger) }
+        { finished.books.write_pieces(rt, alloc, parts) },
+        || -> Result<Replied, Memory>
+            requires { (length batch.now.details ≡ length finished.now.replies.items) × (length batch.now.details ≤ MOST_DETAILS) }
+            ensures { IfOk result (IsOfReplies batch.entry.now stamp.entry.now finished.entry.now.replies.items) }
+        { render_replies(rt, alloc, parts, batch, stamp, &finished.replies) },
+    )
+}
+
+// The texts of the replies to a batch's details.
+#[derive(Drop)]
+struct Replied {
+    response: Vec<Vec<u8>>,
+    settlement: Vec<u8>,
+}
+
+impl Replied {
+    // All three texts.
+    fn with_books(self, books: Pieces) -> OutputPieces
+        ensures { result ≡ record { response = self.response; books = books; settlement = self.settlement } }
+    {
+        let Replied {
+            response,
+            settlement,
+        } = self;
+        Outputs {
+            response,
+            books,
+            settlement,
+        }
+    }
+}
+
+// The response file and the settlement.
+fn render_replies<R: Threads + Sync>(
+    rt: &R,
+    alloc: Global,
+    parts: usize,
+    batch: &Batch,
+    stamp: &Stamp,
+    replies: &[Reply],
+) -> Result<Replied, Memory>
+    requires equally_many { length batch.now.details ≡ length replies.now }
+    requires few { length batch.now.details ≤ MOST_DETAILS }
+    ensures { IfOk result (IsOfReplies batch.now stamp.now replies.now) }
+{
+    let details = batch.details.as_slice();
     let response = response_pieces(rt, alloc, parts, &batch.head, *stamp, details, replies)?;
-    let books = finished.books.write_pieces(rt, alloc, parts)?;
     let settlement = settle(alloc, batch.head.lot(), *stamp, replies)?;
-    Ok(Outputs {
+    Ok(Replied {
         response,
-        books,
         settlement,
     })
 }

@@ -2,16 +2,16 @@ ghost use Rattle.std.specs.Prelude.{◌≡◌, Err, IfErr, IfOk, List, OnOk, fal
 ghost use Rattle.rx_batch.specs.Pieces.{StandsFor};
 ghost use Rattle.rx_io.specs.Reading.{AreFewReads};
 ghost use Rattle.rx_switch.specs.Devices.{IsBroken, IsDone, devices_of, has_failed};
-ghost use Rattle.rx_switch.specs.Job.{given_read, texts_in_pieces};
+ghost use Rattle.rx_switch.specs.Job.{given_read};
 ghost use Rattle.rx_switch.specs.Output.{IsOutput, IsRefused, RefusesOne};
+ghost use Rattle.rx_switch.specs.Rendered.{texts_made};
 ghost use Rattle.rx_io.specs.declared.device.Device.TheVariants as device;
 ghost use Rattle.rx_switch.specs.declared.fault.IoFault.TheVariants as io;
 
 use crate::accepting::{BatchFile, BooksFile, accept};
-use crate::adjudicating::{Manner, adjudicate, parts_of};
+use crate::adjudicating::{Adjudicated, Manner, adjudicate, parts_of, wait_for};
 use crate::fault::{IoFault, SwitchFault};
 use crate::inputs::read_inputs;
-use crate::job::OutputPieces;
 use crate::outputs::write_outputs;
 use rx_batch::Pieces;
 use rx_io::{Inputs, Outputs, Sink, Source};
@@ -81,8 +81,10 @@ pub fn run_io<
         plain,
     };
     let read = read_inputs(alloc, inputs)?;
-    let output = output_of(rt, alloc, &manner, stamp, read)?;
-    write_outputs(alloc, &output, outputs)
+    let Adjudicated { pieces, freeing } = output_of(rt, alloc, &manner, stamp, read)?;
+    let written = write_outputs(alloc, &pieces, outputs);
+    wait_for(rt, freeing);
+    written
 }
 
 // What a run gives of the inputs that were read.
@@ -92,10 +94,10 @@ fn output_of<R: Threads + Wait + Sync, G: Gate + Sync>(
     manner: &Manner<'_, G>,
     stamp: &[u8],
     read: Inputs<Vec<u8>, Vec<u8>, Pieces>,
-) -> Result<OutputPieces, SwitchFault>
+) -> Result<Adjudicated, SwitchFault>
     requires { (batch : List ℕ) × StandsFor read.batch batch }
-    ensures output { (batch : List ℕ) → StandsFor read.batch batch → IfOk result (λ output.
-        IsOutput (given_read stamp.now manner.now.workers read.sheet.items read.books.items batch) (texts_in_pieces output)) }
+    ensures output { (batch : List ℕ) → StandsFor read.batch batch → IfOk result (λ adjudicated.
+        IsOutput (given_read stamp.now manner.now.workers read.sheet.items read.books.items batch) (texts_made adjudicated)) }
     ensures refused { (batch : List ℕ) → StandsFor read.batch batch → IfErr result (λ fault.
         IsRefused (given_read stamp.now manner.now.workers read.sheet.items read.books.items batch) fault) }
     ensures thread { result ≡ Err SwitchFault.Thread

@@ -3,7 +3,7 @@ ghost use Rattle.rx_switch.specs.Job.{given_by, texts_in};
 ghost use Rattle.rx_switch.specs.Output.{IsOutput, IsRefused, RefusesOne, stamp_for};
 
 use crate::accepting::{BatchFile, BooksFile, accept};
-use crate::adjudicating::{Manner, adjudicate, parts_of};
+use crate::adjudicating::{Adjudicated, Manner, adjudicate, parts_of, wait_for};
 use crate::fault::SwitchFault;
 use crate::job::{Job, Output, joined};
 use rx_wave::Gate;
@@ -42,6 +42,8 @@ pub fn run<R: Threads + Wait + Sync, G: Gate + Sync>(
         plain: job.plain,
     };
     let parts = parts_of(job.workers, job.books.len().max(job.batch.len()));
-    let pieces = adjudicate(rt, alloc, &manner, parts, accepted)?;
-    Ok(joined(alloc, pieces)?)
+    let Adjudicated { pieces, freeing } = adjudicate(rt, alloc, &manner, parts, accepted)?;
+    let output = joined(alloc, pieces);
+    wait_for(rt, freeing);
+    Ok(output?)
 }

@@ -3,8 +3,8 @@ use Rattle.std.proofs.Common.{sym}
 use Rattle.rx_switch.proofs.Replied.{replied}
 use Rattle.rx_switch.proofs.adjudicating.adjudicate.Goals as goal
 
-pub render-pieces-requires-clause-equally_many : goal.render-pieces-requires-clause-equally_many
-render-pieces-requires-clause-equally_many g c κs within =
+pub render-requires-clause-equally_many : goal.render-requires-clause-equally_many
+render-requires-clause-equally_many g c κs within =
     let x = c.args.accepted in
     rw c.in_ok-finished.ensures.replies
     (sym (replied x.batch.head.lot x.sheet 1 x.sheet.figures.door x.batch.details x.books.ledger))

@@ -1,7 +1,8 @@
 use Rattle.std.proofs.Common.{◌≡◌, ap, refl, Err, IfErr}
 use Rattle.std.proofs.lemmas.Result.{IfErr-at_err, err_from_is_err_and}
 use Rattle.rx_switch.specs.declared.fault.SwitchFault.TheVariants as fault
-use Rattle.rx_switch.specs.Job.{accepted_of, given_read, texts_in_pieces}
+use Rattle.rx_switch.specs.Job.{accepted_of, given_read}
+use Rattle.rx_switch.specs.Rendered.{texts_made}
 use Rattle.rx_switch.proofs.Stopped.{if_output, if_refused, if_thread, workers_of_stamp}
 use Rattle.rx_switch.proofs.on_devices.output_of.Goals as goal
 
@@ -41,5 +42,5 @@ returns-clause-thread g c =
 pub returns-clause-output : goal.returns-clause-output
 returns-clause-output g c batch stands =
     let accepted = rw c.deref.ensures.value at c.in_ok-accepted.ensures.accepted batch stands in
-    if_output texts_in_pieces (given_read c.args.stamp.now c.args.manner.now.workers c.args.read.sheet.items c.args.read.books.items batch)
+    if_output texts_made (given_read c.args.stamp.now c.args.manner.now.workers c.args.read.sheet.items c.args.read.books.items batch)
     (accepted_of c.in_ok-accepted.accepted) accepted c.adjudicate.result c.adjudicate.ensures.output

@@ -40,9 +40,9 @@ returns-in_err-pieces-clause-thread g c =
     if_thread c.args.job.now.plain (g.G.Gate.starts c.args.gate.now) c.args.job.now.workers c.from_residual-in_err-pieces.result
     (rw (p.1, p.2) c.in_err-pieces.ensures.stopped)
 
-pub returns-in_err-joined-clause-refused : goal.returns-in_err-joined-clause-refused
-returns-in_err-joined-clause-refused g c =
-    let p = err_from_is_err_and c.from_residual-in_err-joined.result c.from_residual-in_err-joined.ensures.1 in
+pub returns-in_err-output-clause-refused : goal.returns-in_err-output-clause-refused
+returns-in_err-output-clause-refused g c =
+    let p = err_from_is_err_and c.from_residual-in_err-output.result c.from_residual-in_err-output.ensures.1 in
     rw (p.1, p.2)
     (memory c.in_ok-accepted.accepted.stamp (c.in_ok-accepted.ensures.accepted c.args.job.now.batch.now refl).stamp)
 
@@ -51,5 +51,5 @@ returns-clause-output g c =
     record {
       inputs = accepted_of c.in_ok-accepted.accepted;
       accepted = c.in_ok-accepted.ensures.accepted c.args.job.now.batch.now refl;
-      texts_are = c.in_ok-joined.ensures ∙ c.in_ok-pieces.ensures.output;
+      texts_are = c.in_ok-output.ensures ∙ c.in_ok-pieces.ensures.output;
     }
