@@ -3,6 +3,7 @@ ghost use Rattle.std.specs.List.{All};
 ghost use Rattle.rx_serial.specs.declared.fill.FillKey.{FillKey};
 ghost use Rattle.rx_serial.specs.Fills.{AreCounted, concerns, count_among, count_at, fill_at, fills_in, has_member_mark};
 ghost use Rattle.rx_serial.specs.Fills.{is_counted, one_of};
+ghost use Rattle.rx_ledger.specs.Ledger.{IsLedger};
 ghost use Rattle.rx_ledger.specs.Members.{member_cmp, member_key};
 ghost use Rattle.rx_ledger.specs.Rows.{member_of_row};
 ghost use Rattle.rx_sorted.specs.Ascending.{IsAscending, IsAt};
@@ -46,6 +47,7 @@ pub(crate) fn tally_of(
     ensures counted { let L = books.now.books.ledger in
         IfOk result (λ t. AreCounted (is_counted t.marks t.first_day) L.members L.rows t.fills) }
     ensures longest { IfOk result (λ t. All (λ f. f.key.when.days ≤ t.longest) t.fills) }
+    ensures within { IfOk result (λ _. IsLedger books.now.books.ledger) }
 {
     let marks = marks_of(alloc, books.members().len(), &own)?;
     let first_day = first_day_of(&own);
@@ -72,8 +74,9 @@ fn counted(
     transactions: usize,
 ) -> Result<Counts, Memory>
     requires { All (λ e. e.fill.count ≡ 0) own.items }
-    ensures { let L = books.now.books.ledger in
+    ensures counted { let L = books.now.books.ledger in
         IfOk result (λ counted. AreCounted (is_counted marks.now first_day) L.members L.rows counted.fills) }
+    ensures within { IfOk result (λ _. IsLedger books.now.books.ledger) }
 {
     let mut found = found(books, marks, first_day, own)?;
     found.sort_unstable_by_key(|entry| packed(&entry.fill.key));
@@ -155,9 +158,10 @@ fn found(
     own: Vec<Entry>,
 ) -> Result<Vec<Entry>, Memory>
     requires { All (λ e. e.fill.count ≡ 0) own.items }
-    ensures { let L = books.now.books.ledger in
+    ensures counts { let L = books.now.books.ledger in
         IfOk result (λ found. (k : FillKey) → is_counted marks.now first_day k ≡ true
         → count_among found.items k ≡ fills_in L.members L.rows k) }
+    ensures within { IfOk result (λ _. IsLedger books.now.books.ledger) }
 {
     let mut found = own;
     let mut standing = books.standing();

@@ -5,7 +5,7 @@ ghost use Rattle.rx_fields.specs.Order.{key_cmp};
 ghost use Rattle.rx_fields.specs.declared.key.Key.{Key};
 ghost use Rattle.rx_ledger.specs.Answers.{is_too_soon};
 ghost use Rattle.rx_ledger.specs.Fold.{ledger_after, reply_to};
-ghost use Rattle.rx_ledger.specs.Ledger.{rows_of};
+ghost use Rattle.rx_ledger.specs.Ledger.{IsLedger, rows_of};
 ghost use Rattle.rx_ledger.specs.Members.{is_same};
 ghost use Rattle.rx_ledger.specs.TermList.{plan_of};
 ghost use Rattle.rx_serial.specs.Underway.{IsAwaited, IsHolder, scope_of};
@@ -110,7 +110,6 @@ impl InOrder {
         ensures keys { IfOk result (λ order. order.keys ≡ names.keys.items) }
     {
         let found = found_in(alloc, &books, &names, records)?;
-        let _in_order = books.standing();
         let Names { keys, .. } = names;
         let Found {
             holders,
@@ -162,7 +161,7 @@ impl InOrder {
     {
         self.begin();
         let reply = answer_record(alloc, self, terms, place, transmission)?;
-        let _keys = &self.keys;
+        self.pass();
         Ok(reply)
     }
 
@@ -173,8 +172,15 @@ impl InOrder {
     {
         if let Some(first) = self.firsts.get(self.next) {
             self.at = *first;
-            self.next += 1;
         }
+    }
+
+    // Passes the record that was the next.
+    fn pass(&mut self)
+        ensures same { self.new ≡ self.old }
+        ensures rise { IsAscending key_cmp (λ key. key) self.new.keys }
+    {
+        self.next = self.next.saturating_add(1);
     }
 
     /// The standing claims of a family so far, ascending by fill key. All rows are visited.
@@ -241,7 +247,6 @@ impl Basis for InOrder {
             unreachable!()
         };
         let refill = Refill::of(figures, date, bill, holder);
-        let _in_order = self.fills.as_slice();
         if are_counted_for(&self.marks, self.first_day, &refill) {
             return refill.is_too_soon(&self.fills, near_of(&self.own, self.at), self.longest);
         }
@@ -304,6 +309,7 @@ fn found_in(
     ensures counted { let L = books.now.books.ledger in
         IfOk result (λ found. let t = found.tally in AreCounted (is_counted t.marks t.first_day) L.members L.rows t.fills) }
     ensures longest { IfOk result (λ found. All (λ f. f.key.when.days ≤ found.tally.longest) found.tally.fills) }
+    ensures within { IfOk result (λ _. IsLedger books.now.books.ledger) }
 {
     let Billed {
         holders,

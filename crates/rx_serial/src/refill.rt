@@ -41,7 +41,8 @@ impl Refill {
     pub(crate) fn is_too_soon(&self, fills: &Ascending<Fill>, near: &[usize], longest: Days) -> bool
         requires percent { self.now.percent ≤ 100 }
         requires within { All (λ f. f.key.when.days ≤ longest) fills.now }
-        ensures { result ≡ list_any (counts self.now) fills.now }
+        ensures value { result ≡ list_any (counts self.now) fills.now }
+        ensures within { IsAscending fill_cmp fill_key fills.now }
     {
         let list = fills.as_slice();
         let mut at = self.end(list, near);

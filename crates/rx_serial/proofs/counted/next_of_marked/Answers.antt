@@ -1,4 +1,4 @@
-use Rattle.std.proofs.Common.{◌≡◌, List, Bool, refl, ap, subst, ◌∙◌}
+use Rattle.std.proofs.Common.{List, Bool, refl, ap, subst, ◌∙◌}
 use Rattle.std.proofs.lemmas.List.Sums.{sum_by-cons}
 use Rattle.std.proofs.lemmas.Option.{IfSome_then}
 use Rattle.rx_books_store.specs.Standing.{ArePassed}

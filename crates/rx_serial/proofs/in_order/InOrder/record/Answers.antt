@@ -13,6 +13,6 @@ answer_record-requires-clause-held c = rw c.begin.ensures.same (c.requires.await
 pub returns-clause-keys : goal.returns-clause-keys
 returns-clause-keys c =
     let rising = λ (u : Underway). IsAscending key_cmp (λ key. key) u.keys in
-    same_keys c.answer_record.new.basis.keys c.args.self.now.keys (subst rising c.self.view_is c.self.invariant.rise)
-    (subst rising c.begin.ensures.same c.begin.ensures.rise)
-    (ap (λ (s : Scope). s.has_key) (c.in_ok-reply.ensures.scope ∙ ap scope_of c.begin.ensures.same))
+    same_keys c.pass.new.self.keys c.args.self.now.keys c.pass.ensures.rise (subst rising c.begin.ensures.same c.begin.ensures.rise)
+    (ap (λ (s : Scope). s.has_key)
+    (ap scope_of c.pass.ensures.same ∙ c.in_ok-reply.ensures.scope ∙ ap scope_of c.begin.ensures.same))

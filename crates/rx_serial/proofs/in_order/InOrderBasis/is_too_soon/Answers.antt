@@ -23,13 +23,13 @@ returns-then-are_counted_for c =
     let found = rw (← c.self.view_is, c.of.ensures) at c.in-Some.ensures.found in
     let covers = rw c.of-refill.ensures at c.are_counted_for.ensures in
     let filled = any_filled (is_counted c.self.inside.marks c.self.inside.first_day) L.members L.rows
-    c.self.inside.fills (concerns f) c.as_slice-in_order.ensures.ascending c.self.invariant.counted
+    c.self.inside.fills (concerns f) c.is_too_soon.ensures.within c.self.invariant.counted
     (covers c.if-are_counted_for.true) in
     let of_fill : Row → Bool = λ r. concerns f (fill_of L.members r) in
     let of_row : Row → Bool = λ r. claimed_by b.family r && is_too_soon figures date b r in
     let same : of_fill ≡ of_row = λ j r.
     concerned_row figures date b L.members i r c.self.invariant.in_order.members_rise found j in
-    let told = rw c.of-refill.ensures at c.is_too_soon.ensures in
+    let told = rw c.of-refill.ensures at c.is_too_soon.ensures.value in
     rw (← c.self.view_is)
     (told ∙ filled ∙ ap (λ (test : Row → Bool). list_any test L.rows) same
     ∙ any_of_passed (claimed_by b.family) (is_too_soon figures date b) L.rows)

@@ -21,8 +21,8 @@ fills-init c =
       before = c.end-at.ensures.before;
     }
 
-pub returns-then-is_early : goal.returns-then-is_early
-returns-then-is_early c =
+pub returns-then-is_early-clause-value : goal.returns-then-is_early-clause-value
+returns-then-is_early-clause-value c =
     let f = c.args.self.now in
     let xs = c.as_slice-list.result.now in
     let d = c.index-list-at.result in
