@@ -48,7 +48,7 @@ fn joined_books(alloc: Global, job: &Job<'_>, ended: &[Ended]) -> Result<Books, 
         books.take_over(&end.books, &end.keys);
     }
     let books = books.close();
-    let _in_order = books.period();
+    prove!(books.period() == job.sheet.period());
     Ok(books)
 }
 

@@ -39,7 +39,7 @@ pub(crate) fn run_in_shards<R: Threads + Sync, G: Gate + Sync>(
     }
     let places = shards.places(alloc)?;
     let ended = run_all(rt, alloc, gate, job, places)?;
-    let _in_order = job.books.period();
+    prove!(job.books.period() == job.sheet.period());
     let finished = joined(alloc, job, &shards, ended)?;
     Ok(Some(finished))
 }

@@ -94,7 +94,7 @@ returns c =
     let M = c.loop-end.books.books.ledger in
     let closed = c.close-books.ensures in
     let rises = subst (λ (b : LedgerBooks). IsInOrder b.ledger) closed
-    (rises_of c.close-books.result.ledger c.period-in_order.ensures.within) in
+    (rises_of c.close-books.result.ledger c.period-2.ensures.within) in
     let all : M ≡ fold_ledger job.lot job.sheet.now 1 job.transmissions.now job.books.now.ledger =
     all_joined job c.requires.0 ended c.requires.1 M rises inv.members
     (λ k end is. let low = low_of ended k end is in inv.taken k end (omega arith) is)

@@ -31,7 +31,7 @@ joined-requires g c =
     let count = c.in_ok-places.ensures.one_each in
     let long = c.in_ok-ended.ensures.one_each in
     record {
-      in_order = rises_of c.args.job.now.books.now.ledger c.period-in_order.ensures.within;
+      in_order = rises_of c.args.job.now.books.now.ledger c.period.ensures.within;
       grouped = c.in_ok-shards.ensures.together;
       one_each = c.in_ok-shards.ensures.one_each;
       within = λ i d lt. let low = c.in_ok-shards.ensures.within i d lt in omega (arith, low, count, long);
