@@ -1,2 +1,5 @@
+mod JsonGrammar
+pub mod JsonPieces
+pub mod JsonWords
 pub mod Reading
 mod Worked

@@ -4,5 +4,6 @@ pub mod Dates
 pub mod Decimal
 pub mod Escape
 pub mod Hexadecimal
+pub mod JsonData
 pub mod Money
 pub mod Said

@@ -27,7 +27,7 @@ pub use byte::{bracketed, hexadecimal};
 pub use code_list::put_codes;
 pub use date::dashed_digits;
 pub use escape::put_escaped;
-pub use law::{no_mark_is_written, read_back};
+pub use law::{no_mark_is_written, read_back, string_reads_as_json};
 pub use number::{
     put_decimal, put_dollars, put_grouped, put_hundredths, put_signed, put_signed_dollars,
 };
