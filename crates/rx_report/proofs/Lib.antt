@@ -2,6 +2,7 @@
 pub mod AddedUp
 pub mod Counted
 pub mod Grouping
+pub mod LinesRead
 pub mod Parted
 pub mod Putting
 pub mod ReadAgain

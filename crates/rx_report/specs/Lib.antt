@@ -5,5 +5,6 @@ pub mod AddsUp
 pub mod Cells
 pub mod Groups
 pub mod Lines
+pub mod LinesData
 pub mod ReadBack
 pub mod Texts

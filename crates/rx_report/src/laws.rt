@@ -1,8 +1,19 @@
+ghost use Rattle.std.specs.Prelude.{List};
+ghost use Rattle.rx_print.specs.JsonData.{ReadsAs};
 ghost use Rattle.rx_report.specs.AddsUp.{AccountsAddUp};
+ghost use Rattle.rx_report.specs.LinesData.{lines_data};
+ghost use Rattle.rx_report.specs.Texts.{lines_json};
+ghost use Rattle.rx_report.specs.declared.line.Line.{Line};
 
 /// An account adds up: each section's tally is what its lines come to, the sections together have the lines of the
 /// portion, each once, and the total is what those come to. Of a whole batch that total is the settlement's, of one
 /// provider it is its line of the settlement.
 pub fn accounts_add_up()
     ensures { AccountsAddUp }
+{}
+
+/// What is written as JSON is JSON: it is read as an array with an object for each line, in which each name has the line's
+/// own value.
+pub fn lines_read_as_json()
+    ensures { (lines : List Line) → ReadsAs (lines_json lines) (lines_data lines) }
 {}

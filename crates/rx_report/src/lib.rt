@@ -38,7 +38,7 @@ pub use accounting::account_of;
 pub use cells::{cell_of, cents_of};
 pub use column::Column;
 pub use groups::Groups;
-pub use laws::accounts_add_up;
+pub use laws::{accounts_add_up, lines_read_as_json};
 pub use line::Line;
 pub use lines::report_lines;
 pub use portion::{Portion, kept_lines};
