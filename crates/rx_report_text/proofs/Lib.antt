@@ -1,2 +1,3 @@
 -- Lemmas of what is written.
+mod AccountRead
 mod Written

@@ -1,4 +1,5 @@
 -- Plumbing: which files there are.
+pub mod AccountData
 pub mod Claims
 pub mod ClaimsShown
 pub mod Columns

@@ -22,6 +22,7 @@ mod claims;
 mod columns;
 mod html;
 mod json;
+mod laws;
 mod money;
 mod providers;
 mod shown;
@@ -32,6 +33,7 @@ mod wide;
 
 pub use columns::columns_text;
 pub use json::account_json;
+pub use laws::account_reads_as_json;
 pub use shown::{COLUMNS, Shown, shown_cell};
 pub use whole::{MOST_LINES, explained_page, report_page, shows_claims};
 pub use why::{AnswerSpot, Why, Whys, why_of};
