@@ -2,6 +2,7 @@
 pub mod Answered
 pub mod Claims
 pub mod Codes
+pub mod ExplanationData
 pub mod Figures
 pub mod Json
 pub mod Reasons

@@ -15,6 +15,7 @@ mod figures;
 mod header;
 mod json;
 mod json_list;
+mod laws;
 mod reasons;
 mod request_field;
 
@@ -22,4 +23,5 @@ pub use code_words::{name, wanted};
 pub use compared::Compared;
 pub use header::{explanation_text, rejection_text};
 pub use json::{explanation_json, rejection_json};
+pub use laws::explanations_read_as_json;
 pub use request_field::{field_bytes, field_name};
