@@ -3,6 +3,7 @@
 //! `put_escaped` takes any bytes and the style of the place where they are to stand, in HTML, in a JSON string or on a
 //! terminal; out comes printable ASCII that is read there as those bytes, and as nothing else. What is written for a byte,
 //! and how it is read back, is in `specs/Escape.antt`. The tags, quotes and colours around them are left to the caller.
+//! `specs/JsonData.antt` says as which value a text of JSON is read; `proofs/JsonPieces.antt` puts such texts together.
 //!
 //! ```rust
 //! rx_print::put_escaped(&mut text, Style::Html, family.bytes())?;
