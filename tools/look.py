@@ -49,7 +49,8 @@ def prepare(folder, arguments):
         (cases / f"{at}-{name}").touch()
         (cases / f"{at}-{name}.args").write_text(words.replace(" ", "\n") + "\n")
     data = [word for name in NAMES for word in ("--data", f"{name}={folder / name}")]
-    return ["rt", "try", *data, "--cases", str(cases)]
+    # `rt try` interprets each case too, which takes longer than all else and shows the same: that ends at its first step
+    return ["rt", "try", "--steps", "1", *data, "--cases", str(cases)]
 
 
 def show(heading, text, most):
