@@ -11,7 +11,7 @@ _rxbatch() {
     plan) words='--sheet --books --batch'; files='--sheet|--books|--batch' ;;
     sample) words=''; files='' ;;
     check) words='--sheet --books --batch'; files='--sheet|--books|--batch' ;;
-    explain) words='--sheet --books --batch --record --number --rx --provider --response --json'; files='--sheet|--books|--batch|--response' ;;
+    explain) words='--sheet --books --batch --record --number --rx --provider --response --json --all'; files='--sheet|--books|--batch|--response' ;;
     verify) words='--sheet --books --batch --response --books-out --settlement --stamp --workers --plain --desk'; files='--sheet|--books|--batch|--response|--books-out|--settlement' ;;
     report) words='--sheet --books --batch --provider --family --tsv --json --html'; files='--sheet|--books|--batch' ;;
     replies) words='--response'; files='--response' ;;

@@ -6,9 +6,10 @@
 PROGRAM is a path or a command line. Each file of tests/explain has an explanation a line, of the job of that name below
 tests/cases, tests/explain/cases or examples: what `--json` is to say of each transaction, made by a program that has no
 code in common with this one. Each transaction is asked for by its place, in words and as JSON, with the job's response
-file; then each authorization number and each prescription reference number is looked for. Response files with another
-byte and with a record less, what isn't there, damaged inputs and files that can't be read are tried; and each command
-of examples/first_job/expected/explain has to print what stands below it.
+file; the figures of a paid claim are compared line by line with texts made of these values. Then each authorization
+number and each prescription reference number is looked for. Response files with another byte, another reference, a
+record less and of another batch, a family of 29 claims, end books, what isn't there, damaged inputs and files that can't
+be read are tried; and each command of examples/first_job/expected/explain has to print what stands below it.
 
 What differs has a line. The last line is `N passed, M failed`; the exit status is 0 where M is 0, else 1.
 """
@@ -85,6 +86,104 @@ class Explain:
 
 # ---------------------------------------------------------------- one job
 
+def money(cents):
+    return f"${cents // 100:,}.{cents % 100:02d}"
+
+
+def price(hundredths):
+    return money(hundredths // 100) + (f"{hundredths % 100:02d}" if hundredths % 100 else "")
+
+
+def thousandths(number):
+    return str(number // 1000) + (f".{number % 1000:03d}" if number % 1000 else "")
+
+
+def at(place):
+    return f"{place['place']}.{place['nth']}"
+
+
+def line(label, cents, words=""):
+    return f"  {label:26}{money(cents):>14}{words}"
+
+
+def cut(limit, paid, due):
+    return f", cut to {money(paid)}: {limit}" if paid < due else ""
+
+
+def due(limit, paid, owed):
+    return f"  {money(owed)}{cut(limit, paid, owed)}" if paid < owed else ""
+
+
+def claim(one):
+    source = f"record {at(one['paid_by'])}" if "paid_by" in one else "opening books"
+    end = f"; taken back by {at(one['taken_back_by'])}" if "taken_back_by" in one else ""
+    return f"rx {one['rx']} of {one['date']} at {one['pharmacy']} for {one['family']}/{one['person']} ({source}{end})"
+
+
+def behind(claims, amounts, used, whole):
+    """The claims of a sum: the 20 that count most, or all in their order."""
+    counted = [(amount, one) for one, amount in zip(claims, amounts) if amount]
+    listed = counted if whole else sorted(counted, key=lambda pair: -pair[0])[:20]
+    lines = [f"{'':44}{money(amount):>14}  {claim(one)}" for amount, one in listed]
+    if len(counted) > len(listed):
+        rest = used - sum(amount for amount, _ in listed)
+        lines.append(f"{'':60}and {len(counted) - len(listed):,} more, {money(rest)}")
+    return lines
+
+
+def left(label, wanted, name, amounts, whole, key=None):
+    figure, used = wanted[name], wanted[name + "_used"]
+    words = f"  {money(figure)} less {money(used)}"
+    return [line(label, wanted[key or name + "_left"], words)] + behind(wanted["counted"], amounts, used, whole)
+
+
+def share_words(wanted, allowed):
+    """How the copay or the coinsurance comes about."""
+    rest = allowed - wanted["deductible_due"]
+    if rest <= 0:
+        return "  nothing is left after the deductible"
+    words = f"{money(rest)} ({money(allowed)} less {money(wanted['deductible_due'])})"
+    if "tier_percent" in wanted:
+        return f"  the tier's {wanted['tier_percent']} percent of {words} = {money(wanted['share_due'])}"
+    tier = f"  the tier's copay of {money(wanted['tier_copay'])}"
+    return tier + (f"; only {words} is left" if rest < wanted["tier_copay"] else "")
+
+
+def paid_lines(wanted, whole=False):
+    """The lines below the first of a claim that is paid, from its values."""
+    cost, fee = wanted["ingredient_cost"], wanted["dispensing_fee"]
+    lower = wanted["submitted_cost"] < wanted["cost"]
+    words = "as submitted; the plan's price is " if lower else money(wanted["submitted_cost"]) + " submitted, paid by the plan's price: "
+    words += f"{thousandths(wanted['quantity_thousandths'])} x {price(wanted['price_hundredths'])} = {money(wanted['cost'])}"
+    lines = [line("ingredient cost F6", cost, f"  {words}{cut('the charge', cost, wanted['cost_before_charge'])}")]
+    lower = wanted["submitted_fee"] < wanted["plan_fee"]
+    words = "as submitted; the plan's fee is " if lower else money(wanted["submitted_fee"]) + " submitted, paid by the plan's fee of "
+    words += money(wanted["plan_fee"])
+    lines.append(line("dispensing fee F7", fee, f"  {words}{cut('the charge', fee, wanted['fee_before_charge'])}"))
+    charge = "the usual charge DQ is " if wanted["charge_field"] == "DQ" else "the gross amount due DU, for want of a usual charge, is "
+    before = wanted["cost_before_charge"] + wanted["fee_before_charge"]
+    lines.append(line("allowed", cost + fee, f"{due('the charge', cost + fee, before)}  {charge}{money(wanted['charge'])}"))
+    deductibles = [one["deductible"] for one in wanted["counted"]]
+    own = [amount if one["person"] == wanted["person"] else 0 for one, amount in zip(wanted["counted"], deductibles)]
+    lines += left("member's deductible left", wanted, "member_deductible", own, whole, "deductible_left")
+    if "family_deductible" in wanted:
+        lines += left("family's deductible left", wanted, "family_deductible", deductibles, whole)
+    lines += left("family's maximum left", wanted, "family_maximum", [one["patient_pay"] for one in wanted["counted"]], whole)
+    maximum = "the family's maximum"
+    lines.append(line("deductible FH", wanted["deductible"], due(maximum, wanted["deductible"], wanted["deductible_due"])))
+    label, share = ("coinsurance 4U", "coinsurance") if "tier_percent" in wanted else ("copay FI", "copay")
+    lines.append(line(label, wanted[share], share_words(wanted, cost + fee) + cut(maximum, wanted[share], wanted["share_due"])))
+    return lines + [line("member pays F5", wanted["patient_pay"]), line("plan pays F9", wanted["total_paid"])]
+
+
+def billed(wanted):
+    """The end of the first line: what is billed, or taken back."""
+    words = f"  product {wanted['product']}" if "product" in wanted else ""
+    if "days" in wanted:
+        words += f", quantity {thousandths(wanted['quantity_thousandths'])}, days {wanted['days']}"
+    return words
+
+
 def without_words(told):
     """An explanation without the words for its codes."""
     codes = [{name: value for name, value in code.items() if name not in ("name", "wanted")} for code in told.get("codes", ())]
@@ -105,12 +204,14 @@ def try_transaction(explain, job, wanted):
     text = explain.expect_status(words, 0).decode("ascii")
     first = text.splitlines()[0]
     good = first.startswith(f"record {record_word(wanted)}  {ANSWERS[wanted['answer']]}") and ("byte for byte" in text) == bool(job.compared)
-    good = good and wanted.get("number", "") in first and text.endswith("\n") and "\x1b" not in text
-    if wanted.get("answer") == "paid":
-        paid = [f"${wanted[name] // 100}.{wanted[name] % 100:02d}" for name in ("patient_pay", "total_paid")]
-        good = good and all(re.search(rf"  {label} +{re.escape(amount)}\n", text)
-                            for label, amount in zip(("member pays F5", "plan pays F9"), paid))
+    good = good and wanted.get("number", "") in first and first.endswith(billed(wanted))
+    good = good and text.endswith("\n") and "\x1b" not in text
     explain.expect(good, f"{job.name} {record_word(wanted)}: {text!r}")
+    if wanted.get("answer") == "paid":
+        lines = text.splitlines()[1:len(text.splitlines()) - bool(job.compared)]
+        explain.expect(lines == paid_lines(wanted), f"{job.name} {record_word(wanted)}: {lines}, wanted {paid_lines(wanted)}")
+        whole = explain.expect_status(words + ["--all"], 0).decode("ascii").splitlines()[1:len(lines) + 1]
+        explain.expect(whole == paid_lines(wanted, True), f"{job.name} {record_word(wanted)} --all: {whole}")
 
 
 def places(told):
@@ -145,11 +246,28 @@ def try_job(explain, job):
 # ---------------------------------------------------------------- what isn't there, and damage
 
 def try_absent(explain, job):
-    """What no transaction is."""
-    for words in (["--record", "0"], ["--record", "1000000"], ["--record", "1.9"], ["--record", "x"], ["--record", "1.2.3"],
-                  ["--record", "+1"], ["--number", "999999999999999"], ["--number", "1234567890123456"], ["--rx", "999999999999"],
-                  ["--rx", "x"], ["--rx", "700231", "--provider", "9999999999"], ["--rx", "700231", "--provider", "|"]):
-        explain.expect_status(job.inputs + words, 4)
+    """What no transaction is: a line names it, and says what the batch has."""
+    def at_each(found):
+        return ", ".join(record_word(one) for one in job.wanted if found(one))
+
+    records = f"; the batch has records 1 to {max(one['place'] for one in job.wanted)}"
+    own = "; that record has " + at_each(lambda one: one["place"] == 1)
+    others = "; that prescription is in records " + at_each(lambda one: one.get("rx") == 700231)
+    nothing = "no such claim" + records
+    for words, line in ((["--record", "0"], nothing), (["--record", "1000000"], "no record 1000000" + records),
+                        (["--record", "1.9"], "no transaction 1.9" + own), (["--record", "x"], nothing),
+                        (["--record", "1000000.1"], "no transaction 1000000.1" + records),
+                        (["--record", "1.2.3"], nothing), (["--record", "+1"], nothing),
+                        (["--number", "999999999999999"], "no answer with number 999999999999999" + records),
+                        (["--number", "000001299999991"], "no answer with number 000001299999991" + records),
+                        (["--number", "1234567890123456"], nothing),
+                        (["--rx", "999999999999"], "no rx 999999999999" + records), (["--rx", "x"], nothing),
+                        (["--rx", "700231", "--provider", "9999999999"], "no rx 700231 at 9999999999" + others),
+                        (["--rx", "700231", "--provider", "|"], nothing)):
+        for form in ([], ["--json"], ["--all"]):
+            explain.expect_status(job.inputs + words + form, 4, f"rxbatch: {line}\n".encode())
+    empty = inputs_in(os.path.join(HERE, "cases", "empty-batch", "1-count-zero"))
+    explain.expect_status(empty + ["--record", "1"], 4, b"rxbatch: no record 1; the batch has no record\n")
 
 
 def try_responses(explain, job, folder):
@@ -175,9 +293,56 @@ def try_responses(explain, job, folder):
     write(records[:-3] + [trailer[:10] + b"%010d" % count + trailer[20:]] + records[-1:])
     told = explain.objects(words + ["--record", str(count - 1)], 5)
     explain.expect([one["response"] for one in told] == ["absent"], f"the last record left out: {told}")
+    write(records[:2] + [second[:3] + bytes([second[3] ^ 1]) + second[4:]] + records[3:])
+    told = explain.objects(words + ["--record", "2"], 5)
+    explain.expect([one["response"] for one in told] == ["differs"], f"another reference for record 2: {told}")
+    for other in (b"0000013", b"0000011"):
+        with open(path, "wb") as file:
+            file.write(text.replace(b"0000012", other))
+        told = explain.objects(words + ["--record", "2"], 5)
+        explain.expect([one["response"] for one in told] == ["other batch"], f"the response to batch {other}: {told}")
+        told = explain.expect_status(words + ["--record", "2"], 5)
+        last = b"  record 2 isn't this reply: the response file ANSWERS batch " + other + b"\n"
+        explain.expect(told.endswith(last), f"the response to batch {other}: {told[-90:]!r}")
     batch = job.inputs[-1]
     explain.expect_status(job.inputs + ["--record", "1", "--response", batch], 1, b"response 3 0\n")
     explain.expect_status(job.inputs + ["--record", "1", "--response", os.path.join(folder, "none")], 3, b"file 4\n")
+
+
+def try_end_books(explain):
+    """The end books of a batch, taken for the opening ones."""
+    words = inputs_in(FIRST_JOB) + ["--record", "2"]
+    again = "the opening books have it by batch 0000012: this batch was adjudicated on them already"
+    explain.expect(again not in explain.expect_status(words, 0).decode("ascii"), "opening books of the first job")
+    words[words.index("--books") + 1] = os.path.join(FIRST_JOB, "expected", "books-out.txt")
+    text = explain.expect_status(words, 0).decode("ascii")
+    explain.expect("DUPLICATE of 000001200000021" in text and f"  {again}\n" in text, f"end books of the first job: {text}")
+
+
+def try_many_claims(explain, folder):
+    """A family with more claims in a sum than are listed."""
+    case = os.path.join(HERE, "cases", "one-billing")
+    amounts = [100 + 7 * (nth % 9) for nth in range(29)]
+    with open(os.path.join(HERE, "explain", "one-billing.json"), encoding="utf-8") as file:
+        wanted = json.loads(file.readline())
+    claims = [{"pharmacy": "1234567893", "rx": 1000 + nth, "date": "2026-01-05", "family": "C100", "person": "02",
+               "deductible": 0, "patient_pay": amount} for nth, amount in enumerate(amounts)]
+    lines = [f"C|1234567893|{one['rx']}|20260105|C100|02|00001000101|30000|30|{one['patient_pay']}|0|0|{one['patient_pay']}|0"
+             f"|00000410000{one['rx']:04d}\n" for one in claims]
+    used = sum(amounts)
+    with open(os.path.join(case, "books.txt"), encoding="ascii") as file:
+        books = file.read().replace("BOOKS|1|", "BOOKS|3|").replace("T|C100|0\n", "".join(lines) + f"T|C100|{used}|0\n")
+    path = os.path.join(folder, "books.txt")
+    with open(path, "w", encoding="ascii") as file:
+        file.write(books.replace("T|C200|0\n", "T|C200|0|0\n"))
+    wanted.update(counted=claims, family_maximum_used=used, family_maximum_left=wanted["family_maximum"] - used)
+    words = inputs_in(case)
+    words[words.index("--books") + 1] = path
+    for whole in (False, True):
+        text = explain.expect_status(words + ["--record", "1"] + ["--all"] * whole, 0).decode("ascii")
+        explain.expect(text.splitlines()[1:] == paid_lines(wanted, whole), f"29 claims: {text}")
+    told = explain.objects(words + ["--record", "1"])
+    explain.expect([len(one["counted"]) for one in told] == [len(claims)], f"29 claims in JSON: {told}")
 
 
 def try_damage(explain):
@@ -221,6 +386,8 @@ def main(words):
         first = next(job for job in jobs if job.name == "first_job")
         with tempfile.TemporaryDirectory(prefix="rxbatch-explain-") as folder:
             try_responses(explain, first, folder)
+            try_many_claims(explain, folder)
+        try_end_books(explain)
         try_absent(explain, first)
         try_damage(explain)
         try_shown(explain)

@@ -9,7 +9,8 @@ with marks of HTML, JSON and terminals, and more lines than a page shows. Of eac
 
 - the lines have to be the answers of the response file, read here from its bytes, each with its figures;
 - counts and net, summed over the lines of the table, have to be the settlement's, and so has what the columns, the JSON
-  and the page say; with `--provider` its line only, with `--family` the sums of the lines that name it;
+  and the page say; with `--provider` its line only, with `--family` the sums of its lines, a reversal being of the family
+  whose claim it reverses, and of four families the claims and sums worked by hand;
 - the page may hold the elements and attributes that it is made of and no others, each closed, and nothing from outside;
   each claim on it unfolds to the lines that `explain` prints of its place, and where the job has a file in tests/explain,
   those lines have the answer, the number and the amounts that another program gives;
@@ -336,12 +337,25 @@ def check_portion(program, folder, rows, lines, words, scope, only, whys):
     check_page(program.text(folder, *report, "--html"), rows, lines, not words, whys)
 
 
-def with_members(rows, shown):
-    """The rows with the members of their requests, which `show --tsv` has."""
+def with_members(rows, shown, books):
+    """The rows with the members of their requests, which `show --tsv` has; a reversal with that of the claim that it reverses."""
     members = {(row["record"], row["nth"]): (row["family"], row["person"]) for row in shown}
+    standing = standing_in(books)
     for row in rows:
-        row["family"], row["person"] = members.get((row["record"], row["nth"]), ("", ""))
+        key = (row["provider"], row["prescription"], row["date"])
+        member = members.get((row["record"], row["nth"]), ("", ""))
+        if row["answer"] == "P":
+            standing[key] = member
+        elif row["answer"] == "A":
+            member = standing.pop(key)
+        row["family"], row["person"] = member
     return rows
+
+
+def standing_in(books):
+    """The members of the claims of a books file, by provider, prescription and date."""
+    claims = [line.split("|") for line in books.splitlines() if line.startswith("C|")]
+    return {(line[1], line[2], line[3]): (line[4], line[5]) for line in claims}
 
 
 def check_accepted(program, folder, told):
@@ -349,7 +363,9 @@ def check_accepted(program, folder, told):
         response = file.read()
     with open(os.path.join(folder, "settlement.txt"), encoding="ascii") as file:
         settlement = settlement_of(file.read())
-    rows = with_members(answers(response), check_shown(program, folder))
+    with open(os.path.join(folder, "books.txt"), encoding="ascii") as file:
+        books = file.read()
+    rows = with_members(answers(response), check_shown(program, folder), books)
     groups = by_provider(rows)
     want([(name, *sums(group)) for name, group in groups.items()] + [(None, *sums(rows))], settlement, "the sums")
     whys = Whys(program, folder, told)
@@ -366,6 +382,32 @@ def check_accepted(program, folder, told):
         lines = [(provider, *sums(group)) for provider, group in by_provider(kept).items()] + [(None, *sums(kept))]
         check_portion(program, folder, kept, lines, ["--family", name],
                       f"the lines shown, of family {terminal(name)}", {"only_family": name}, whys)
+
+
+# Families whose claims are reversed, worked by hand: the claims, and paid, duplicate, reversed, rejected and net. Of the first
+# job record 6 reverses a claim of the opening books, 283.50 + 2.00 less a copay of 35.00. In reversal-frees-a-key the claims
+# under one fill key are C100's and then C200's, of 171.75 each; so is what each reversal gives back.
+BY_HAND = {
+    FIRST_JOB: {"H1008": ([("6.1", "A", "-25050")], (0, 0, 1, 0, -25050)),
+                "H1001": ([("1.1", "P", "0"), ("8.1", "A", "0"), ("9.1", "P", "0")], (2, 0, 1, 0, 0))},
+    os.path.join(HERE, "cases", "reversal-frees-a-key"): {
+        "C100": ([("1.1", "A", "-17175"), ("4.1", "P", "17175")], (1, 0, 1, 0, 0)),
+        "C200": ([("2.1", "P", "17175"), ("3.1", "A", "-17175")], (1, 0, 1, 0, 0))},
+}
+
+
+def check_families(program):
+    """The reports of families whose claims are reversed."""
+    for source, families in BY_HAND.items():
+        inputs = [word if word.startswith("--") else os.path.abspath(os.path.join(source, word)) for word in INPUTS]
+        for name, (claims, total) in families.items():
+            report = ["report", *inputs, "--family", name]
+            rows = table(program.text(source, *report, "--tsv"), COLUMNS)
+            found = [(f"{row['record']}.{row['nth']}", row["answer"], row["plan_pays"]) for row in rows]
+            want((found, sums(rows)), (claims, total), f"the claims of {name}")
+            told = json.loads(program.text(source, *report, "--json"))["total"]
+            names = ("paid", "duplicate", "approved", "rejected", "net")
+            want(tuple(told[word] for word in names), total, f"the sums of {name}")
 
 
 def check_shown(program, folder):
@@ -519,6 +561,7 @@ def counted(program, jobs, with_words):
     checks = [(job, lambda job=job: check_job(program, job)) for job in jobs]
     if with_words:
         checks.append(("words", lambda: check_words(program)))
+        checks.append(("families", lambda: check_families(program)))
     passed = failed = 0
     for name, check in checks:
         try:

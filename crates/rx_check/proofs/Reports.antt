@@ -9,12 +9,12 @@ use Rattle.rx_diagnostics.specs.declared.words.Words.{Words}
 use Rattle.rx_check.specs.Report.{TellsAt, ignored_text, warning_line}
 use Rattle.rx_check.proofs.LeastApart.{names_more}
 
--- the line of some words is about their place
-pub tells : {Z E : Type 0} (IsPlace : Place → Type 0) (file : List ℕ) (words : Words) (r : Result (String Z) E)
-    → IsPlace words.place → IfOk r (λ line. string_bytes line ≡ line_text file words ++ 10 ∷ [])
-    → IfOk r (λ line. TellsAt IsPlace file (string_bytes line))
-tells IsPlace file words (Ok line) at is = (words, (at, is))
-tells IsPlace file words (Err e) at is = is
+-- the line of a file has such words
+pub tells : {Z E : Type 0} (Are : Words → Type 0) (file : List ℕ) (words : Words) (r : Result (String Z) E)
+    → Are words → IfOk r (λ line. string_bytes line ≡ line_text file words ++ 10 ∷ [])
+    → IfOk r (λ line. TellsAt Are file (string_bytes line))
+tells Are file words (Ok line) so is = (words, (so, is))
+tells Are file words (Err e) so is = is
 
 -- and so it is what a refusal prints of them
 pub says : {Z E : Type 0} (Are : Words → Type 0) (file : List ℕ) (words : Words) (r : Result (String Z) E)

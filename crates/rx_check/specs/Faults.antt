@@ -1,6 +1,6 @@
 -- Meaning: the line of a refusal: it begins at the place of its fault in the input that it is of, and says what is there.
-use Rattle.std.specs.Prelude.{◌≡◌, ℕ, not, ◌||◌, ◌==◌, if◌then◌else◌, List, [], ◌++◌, codes, length, take, Option, Some, None}
-use Rattle.std.specs.Prelude.{is_err, option_copied, string_bytes}
+use Rattle.std.specs.Prelude.{◌≡◌, ℕ, not, ◌||◌, ◌==◌, if◌then◌else◌, List, ◌++◌, codes, length, take, Option, Some, None}
+use Rattle.std.specs.Prelude.{is_err, option_copied}
 use Rattle.std.specs.Fmt.{decimal}
 use Rattle.rx_batch.specs.declared.fault.BatchFault.{BatchFault}
 use Rattle.rx_books_text.specs.declared.fault.BooksFault.{BooksFault}
@@ -10,13 +10,11 @@ use Rattle.rx_sheet.specs.declared.fault.SheetFault.{SheetFault}
 use Rattle.rx_switch.specs.declared.fault.SwitchFault.{SwitchFault}
 use Rattle.rx_switch.specs.declared.fault.SwitchFault.TheVariants as fault
 use Rattle.rx_diagnostics.specs.declared.place.Place.{Place}
+use Rattle.rx_check.specs.Wording.{AreBatchWords, AreBooksWords, AreSheetWords}
 use Rattle.rx_check.specs.declared.fault_lines.RunInputs.{RunInputs}
-use Rattle.rx_diagnostics.specs.BatchTexts.{batch_text, unread_batch_text}
-use Rattle.rx_diagnostics.specs.BooksTexts.{TellsOfBooks, mended, unread_books_text}
 use Rattle.rx_diagnostics.specs.Lines.{BeginsAt, line_text}
 use Rattle.rx_diagnostics.specs.Places.{IsSheetPlace, batch_place, books_place, unread_batch_place}
 use Rattle.rx_diagnostics.specs.Quoting.{quoted_text}
-use Rattle.rx_diagnostics.specs.SheetTexts.{TellsOfSheet, unread_sheet_text}
 use Rattle.rx_diagnostics.specs.declared.words.Words.{Words}
 use Rattle.rx_text.specs.Bytes.{all_digits}
 
@@ -48,19 +46,6 @@ stamp_fault stamp =
 
 abbrev pub stamp_text : List ℕ → List ℕ
 stamp_text stamp = codes "--stamp " ++ (quoted_text stamp ++ (codes ": " ++ stamp_fault stamp))
-
--- the words of a fault of an input, by its bytes where they could be read again
-abbrev pub AreSheetWords : Option (List ℕ) → SheetFault → Words → Type 0
-AreSheetWords None f words = (string_bytes words.text ≡ unread_sheet_text f) × (words.mend.now ≡ [])
-AreSheetWords (Some text) f words = TellsOfSheet f (string_bytes words.text)
-
-abbrev pub AreBooksWords : Option (List ℕ) → BooksFault → Words → Type 0
-AreBooksWords None f words = (string_bytes words.text ≡ unread_books_text f) × (words.mend.now ≡ [])
-AreBooksWords (Some text) f words = TellsOfBooks text f (mended (string_bytes words.text) words.mend.now)
-
-abbrev pub AreBatchWords : Option (List ℕ) → BatchFault → Words → Type 0
-AreBatchWords None f words = (string_bytes words.text ≡ unread_batch_text f) × (words.mend.now ≡ [])
-AreBatchWords (Some text) f words = (string_bytes words.text ≡ batch_text text f) × (words.mend.now ≡ [])
 
 -- the line has such words of a file
 abbrev pub IsLineOf : (Words → Type 0) → List ℕ → List ℕ → Type 0

@@ -8,3 +8,4 @@ pub mod Likeness
 pub mod Refusals
 pub mod Report
 pub mod Warned
+pub mod Wording

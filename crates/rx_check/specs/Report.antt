@@ -12,10 +12,9 @@ use Rattle.rx_fields.specs.Numbered.{Span}
 use Rattle.rx_fields.specs.declared.limits.TheConstants.{MOST_LINES}
 use Rattle.rx_sheet.specs.declared.fault.SheetFault.{SheetFault}
 use Rattle.rx_diagnostics.specs.Lines.{line_text}
-use Rattle.rx_diagnostics.specs.Places.{IsSheetPlace, batch_place, books_place}
-use Rattle.rx_diagnostics.specs.declared.place.Place.{Place}
 use Rattle.rx_diagnostics.specs.declared.words.Words.{Words}
 use Rattle.rx_check.specs.Warned.{has_many_lines}
+use Rattle.rx_check.specs.Wording.{AreBatchWords, AreBooksWords, AreSheetWords}
 use Rattle.rx_check.specs.Inputs.{Files}
 use Rattle.rx_check.specs.declared.found.Found.{Found}
 use Rattle.rx_check.specs.declared.warnings.Warnings.{Warnings}
@@ -26,23 +25,23 @@ Names = Inputs (Bor (List ℕ)) (Bor (List ℕ)) (Bor (List ℕ))
 
 -- ---- faults
 
--- one line of a file, which names it and such a place in it; no definition fixes what the line says of that place
-abbrev pub TellsAt : (Place → Type 0) → List ℕ → List ℕ → Type 0
-TellsAt IsPlace file line = (words : Words) × (IsPlace words.place × (line ≡ line_text file words ++ 10 ∷ []))
+-- one line of a file, with such words
+abbrev pub TellsAt : (Words → Type 0) → List ℕ → List ℕ → Type 0
+TellsAt Are file line = (words : Words) × (Are words × (line ≡ line_text file words ++ 10 ∷ []))
 
--- the line of a sheet's fault, at its place; nothing if there is none
-abbrev pub TellsSheet : List ℕ → Option SheetFault → List ℕ → Type 0
-TellsSheet file None line = line ≡ []
-TellsSheet file (Some fault) line = TellsAt (IsSheetPlace fault) file line
+-- the line of a sheet's fault; nothing if there is none
+abbrev pub TellsSheet : List ℕ → List ℕ → Option SheetFault → List ℕ → Type 0
+TellsSheet file text None line = line ≡ []
+TellsSheet file text (Some fault) line = TellsAt (AreSheetWords (Some text) fault) file line
 
 -- the same of the books, where they are given
 abbrev pub TellsBooks : List ℕ → Option (List ℕ) → Option BooksFault → List ℕ → Type 0
-TellsBooks file (Some text) (Some fault) line = TellsAt (λ at. at ≡ books_place fault) file line
+TellsBooks file (Some text) (Some fault) line = TellsAt (AreBooksWords (Some text) fault) file line
 TellsBooks file text fault line = line ≡ []
 
 -- and of the batch
 abbrev pub TellsBatch : List ℕ → Option (List ℕ) → Option BatchFault → List ℕ → Type 0
-TellsBatch file (Some text) (Some fault) line = TellsAt (λ at. at ≡ batch_place text fault) file line
+TellsBatch file (Some text) (Some fault) line = TellsAt (AreBatchWords (Some text) fault) file line
 TellsBatch file text fault line = line ≡ []
 
 -- ---- warnings
@@ -109,7 +108,7 @@ pub record IsReport (files : Files) (names : Names) (found : Found) (text : List
   pub sheet : List ℕ
   pub books : List ℕ
   pub batch : List ℕ
-  pub sheet_is : TellsSheet names.sheet.now found.sheet sheet
+  pub sheet_is : TellsSheet names.sheet.now files.sheet.now found.sheet sheet
   pub books_are : TellsBooks names.books.now (option_copied files.books) found.books books
   pub batch_is : TellsBatch names.batch.now (option_copied files.batch) found.batch batch
   pub text_is : text ≡ sheet ++ (books ++ (batch ++ warnings_text names found.warnings))

@@ -2,8 +2,8 @@ ghost use Rattle.std.specs.Prelude.{◌≡◌, IfOk, option_copied, string_bytes
 ghost use Rattle.rx_diagnostics.specs.Lines.{BeginsAt};
 ghost use Rattle.rx_diagnostics.specs.Places.{IsSheetPlace, books_place};
 ghost use Rattle.rx_diagnostics.specs.declared.place.Place.{Place};
-ghost use Rattle.rx_check.specs.Faults.{AreBatchWords, AreBooksWords, AreSheetWords, IsFaultLine, IsFaultText, IsLineOf};
-ghost use Rattle.rx_check.specs.Faults.{batch_place_in, stamp_fault, stamp_text, workers_text};
+ghost use Rattle.rx_check.specs.Faults.{IsFaultLine, IsFaultText, IsLineOf, batch_place_in, stamp_fault, stamp_text, workers_text};
+ghost use Rattle.rx_check.specs.Wording.{AreBatchWords, AreBooksWords, AreSheetWords};
 
 use rx_batch::BatchFault;
 use rx_books_text::BooksFault;
@@ -91,8 +91,13 @@ fn batch_line(alloc: Global, fault: BatchFault, input: &Input<'_>) -> Result<Str
     words.line(alloc, input.name)
 }
 
+/// The words of a fault of the sheet, by its bytes where they could be read again.
 #[tactic(auto, using(crate::proofs::Wholes::whole_is_place))]
-fn words_of_sheet(alloc: Global, fault: SheetFault, text: Option<&[u8]>) -> Result<Words, Memory>
+pub(crate) fn words_of_sheet(
+    alloc: Global,
+    fault: SheetFault,
+    text: Option<&[u8]>,
+) -> Result<Words, Memory>
     ensures place { IfOk result (λ words. IsSheetPlace fault words.place) }
     ensures said { IfOk result (AreSheetWords (option_copied text.entry) fault) }
 {
@@ -102,7 +107,12 @@ fn words_of_sheet(alloc: Global, fault: SheetFault, text: Option<&[u8]>) -> Resu
     }
 }
 
-fn words_of_books(alloc: Global, fault: BooksFault, text: Option<&[u8]>) -> Result<Words, Memory>
+/// The same of the books.
+pub(crate) fn words_of_books(
+    alloc: Global,
+    fault: BooksFault,
+    text: Option<&[u8]>,
+) -> Result<Words, Memory>
     ensures place { IfOk result (λ words. words.place ≡ books_place fault) }
     ensures said { IfOk result (AreBooksWords (option_copied text.entry) fault) }
 {
@@ -112,7 +122,12 @@ fn words_of_books(alloc: Global, fault: BooksFault, text: Option<&[u8]>) -> Resu
     }
 }
 
-fn words_of_batch(alloc: Global, fault: BatchFault, text: Option<&[u8]>) -> Result<Words, Memory>
+/// The same of the batch.
+pub(crate) fn words_of_batch(
+    alloc: Global,
+    fault: BatchFault,
+    text: Option<&[u8]>,
+) -> Result<Words, Memory>
     ensures place { IfOk result (λ words. words.place ≡ batch_place_in (option_copied text.entry) fault) }
     ensures said { IfOk result (AreBatchWords (option_copied text.entry) fault) }
 {

@@ -112,6 +112,7 @@ pub record HoldsExplain (rows : List Row) (e : ExplainWords) : Type 0 where
   pub asked : HoldsAsked rows e.asked
   pub response : MayHaveText rows (codes "response") e.response
   pub json : e.json ≡ is_set (codes "json") rows
+  pub all : e.all ≡ is_set (codes "all") rows
 
 -- what `verify` takes is the values of its options
 pub record HoldsVerify (rows : List Row) (v : VerifyWords) : Type 0 where

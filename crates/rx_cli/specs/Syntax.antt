@@ -82,10 +82,10 @@ with_asked line = with_rule (with_rule (with_rule (with_rule line (optional_opti
     (optional_option (codes "number"))) (optional_option (codes "rx"))) (optional_option (codes "provider"))
 
 -- `explain --sheet F --books F --batch F [--record PLACE] [--number AUTHORIZATION] [--rx REFERENCE] [--provider ID]
--- [--response F] [--json]`
+-- [--response F] [--json] [--all]`
 abbrev pub explain_line : App
-explain_line = with_rule (with_rule (with_asked (with_inputs (new_app (codes "explain")))) (optional_option (codes "response")))
-    (flag (codes "json"))
+explain_line = with_rule (with_rule (with_rule (with_asked (with_inputs (new_app (codes "explain"))))
+    (optional_option (codes "response"))) (flag (codes "json"))) (flag (codes "all"))
 
 -- the line with the options of `verify` that are no files
 abbrev pub with_verify_options : App → App

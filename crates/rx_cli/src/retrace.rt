@@ -26,6 +26,8 @@ pub struct ExplainWords<'a> {
     pub response: Option<&'a str>,
     /// `--json`: the answer in JSON.
     pub json: bool,
+    /// `--all`: all claims of a sum, and not only the largest.
+    pub all: bool,
 }
 
 /// The words of `verify`.

@@ -39,6 +39,7 @@ pub(crate) fn explain<'a>(found: &ArgMatches<'a>) -> Option<ExplainWords<'a>>
         asked,
         response: text(found, "response"),
         json: flag(found, "json"),
+        all: flag(found, "all"),
     })
 }
 

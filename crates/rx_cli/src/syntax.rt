@@ -246,7 +246,8 @@ pub(crate) fn explain<'a>(alloc: Global) -> Draft<'a>
     let asked = takes_asked(alloc, inputs);
     let response = optional(alloc, "response", "FILE", "Response file to compare");
     let json = flag(alloc, "json", "Print JSON");
-    asked.arg(response).arg(json)
+    let all = flag(alloc, "all", "List all claims of each sum");
+    asked.arg(response).arg(json).arg(all)
 }
 
 /// A line with the options of `verify` that are no files.

@@ -7,11 +7,11 @@ use Rattle.rx_batch.specs.declared.fault.BatchFault.TheVariants as batch
 use Rattle.rx_show.specs.ResponseFile.{as_batch}
 use Rattle.rx_switch.specs.Planned.IsNotPlanned.{memory}
 use Rattle.rx_commands.specs.ExplainFault.{of_response}
-use Rattle.rx_commands.specs.Told.{IsNotTold}
+use Rattle.rx_commands.specs.Explaining.{IsNotExplained}
 
 module _ (sheet books given bytes : List ℕ) where
   pub no_response : (f : BatchFault) → UnlessMemory f (HasFault (as_batch bytes) f)
-      → IsNotTold sheet books given (Some bytes) (of_response f)
+      → IsNotExplained sheet books given (Some bytes) (of_response f)
   no_response (batch.Outside at) e = e
   no_response (batch.NoHeader at) e = e
   no_response (batch.HeaderShape at) e = e

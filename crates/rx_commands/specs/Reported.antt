@@ -1,5 +1,5 @@
 -- Meaning: the lines of a report, and the table of a batch's transactions.
-use Rattle.std.specs.Prelude.{◌≡◌, ℕ, List, Ok}
+use Rattle.std.specs.Prelude.{◌≡◌, ℕ, List, Ok, map}
 use Rattle.rx_fields.specs.Numbered.{Span}
 use Rattle.rx_batch.specs.Grammar.{IsFile}
 use Rattle.rx_batch.specs.declared.detail.Detail.{Detail}
@@ -10,6 +10,7 @@ use Rattle.rx_d0_values.specs.declared.transmission.Transmission.{Transmission}
 use Rattle.rx_ledger.specs.Fold.{fold_replies}
 use Rattle.rx_ledger.specs.Plan.{Plan}
 use Rattle.rx_report.specs.Lines.{lines_of}
+use Rattle.rx_commands.specs.Reversed.{with_reversed}
 use Rattle.rx_commands.specs.declared.batch_report.Report.{Report}
 use Rattle.rx_settle.specs.Answers.{answers_of, tally}
 use Rattle.rx_settle.specs.Counting.{tallies_of}
@@ -17,9 +18,10 @@ use Rattle.rx_sheet.specs.SheetText.{sheet_of_text}
 use Rattle.rx_show.specs.Table.{shown_table}
 use Rattle.rx_wave.specs.Decoding.{transmissions_of}
 
--- the lines of the batch's answers, and what its settlement says of each provider and of all
+-- the lines of the batch's answers, those of reversals with the members of their claims, and what its settlement says of each
+-- provider and of all
 pub record IsTold (asked : List Transmission) (replies : List Reply) (r : Report) : Type 0 where
-  pub lines_are : r.lines.items ≡ lines_of asked replies
+  pub lines_are : r.lines.items ≡ map (with_reversed r.batch) (lines_of asked replies)
   pub providers_are : r.settled.providers.entries ≡ tallies_of replies
   pub total_is : r.settled.total ≡ tally (answers_of replies)
 

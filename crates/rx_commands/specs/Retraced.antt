@@ -1,5 +1,5 @@
 -- Meaning: the transactions of a job that are asked for, explained.
-use Rattle.std.specs.Prelude.{◌≡◌, ℕ, List, Option, Ok}
+use Rattle.std.specs.Prelude.{◌≡◌, ℕ, List, [], Option, Ok}
 use Rattle.std.specs.List.{AllZip}
 use Rattle.rx_fields.specs.Numbered.{LotParts, Span}
 use Rattle.rx_batch.specs.Grammar.{IsFile}
@@ -10,8 +10,10 @@ use Rattle.rx_d0_values.specs.declared.transmission.Transmission.{Transmission}
 use Rattle.rx_explain.specs.Explained.{IsExplained}
 use Rattle.rx_explain.specs.Found.{found_in}
 use Rattle.rx_explain.specs.Spots.{spot_at}
+use Rattle.rx_explain.specs.declared.at.At.{At}
 use Rattle.rx_explain.specs.declared.explanation.Explanation.{Explanation}
 use Rattle.rx_explain.specs.declared.finding.Wanted.{Wanted}
+use Rattle.rx_explain.specs.declared.finding.Wanted.TheVariants as wanted
 use Rattle.rx_ledger.specs.Fold.{fold_replies}
 use Rattle.rx_ledger.specs.Ledger.{Ledger}
 use Rattle.rx_ledger.specs.Plan.{Plan}
@@ -22,12 +24,18 @@ use Rattle.rx_commands.specs.declared.retraced.Retraced.{Retraced}
 -- of each transaction that is asked for, in order, its explanation
 abbrev pub AreExplained : LotParts → Plan → List Transmission → Ledger → Wanted → List Reply → List (Option Explanation)
     → Type 0
-AreExplained lot plan asked opening wanted replies explanations =
-    AllZip (λ at x. IsExplained lot plan asked opening at (spot_at asked at) x) (found_in wanted 1 asked replies) explanations
+AreExplained lot plan asked opening w replies explanations =
+    AllZip (λ at x. IsExplained lot plan asked opening at (spot_at asked at) x) (found_in w 1 asked replies) explanations
+
+-- what may be meant where nothing is found: the transactions of the record, or those of the prescription at any pharmacy
+abbrev pub near_in : Wanted → List Transmission → List Reply → List At
+near_in (wanted.One at) asked replies = found_in (wanted.Place at.place) 1 asked replies
+near_in (wanted.ReferenceAt reference provider) asked replies = found_in (wanted.Reference reference) 1 asked replies
+near_in other asked replies = []
 
 -- sheet, books and batch are accepted; these are what the batch asks at the plan's door, the replies of adjudicating that
 -- one record after another, and the explanations of what is asked for
-pub record IsRetraced (sheet books batch : List ℕ) (wanted : Wanted) (r : Retraced) : Type 0 where
+pub record IsRetraced (sheet books batch : List ℕ) (w : Wanted) (r : Retraced) : Type 0 where
   pub plan : Plan
   pub period : Span
   pub opening : Ledger
@@ -39,4 +47,5 @@ pub record IsRetraced (sheet books batch : List ℕ) (wanted : Wanted) (r : Retr
   pub figures_are : r.figures ≡ plan.figures
   pub asked_are : r.asked.items ≡ transmissions_of plan.figures.door r.details
   pub replies_are : r.replies.items ≡ fold_replies head.lot plan 1 r.asked.items opening
-  pub explanations_are : AreExplained head.lot plan r.asked.items opening wanted r.replies.items r.explanations.items
+  pub explanations_are : AreExplained head.lot plan r.asked.items opening w r.replies.items r.explanations.items
+  pub near_are : r.near.items ≡ near_in w r.asked.items r.replies.items

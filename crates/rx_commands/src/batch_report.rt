@@ -1,12 +1,15 @@
-ghost use Rattle.std.specs.Prelude.{◌≡◌, ◌≤◌, IfErr, IfOk, length};
+ghost use Rattle.std.specs.Prelude.{◌≡◌, ◌≤◌, IfErr, IfOk, length, map};
 ghost use Rattle.rx_fields.specs.declared.limits.TheConstants.{MOST_DETAILS};
 ghost use Rattle.rx_explain_replay.specs.Adjudicated.{IsAdjudicated};
 ghost use Rattle.rx_ledger.specs.Fold.{fold_replies};
 ghost use Rattle.rx_commands.specs.Reported.{IsReported, IsTold};
+ghost use Rattle.rx_commands.specs.Reversed.{with_reversed};
+ghost use Rattle.rx_report.specs.Lines.{lines_of};
 ghost use Rattle.rx_switch.specs.Planned.{IsNotPlanned};
 ghost use Rattle.rx_wave.specs.Decoding.{transmissions_of};
 
 use crate::inputs::read_inputs;
+use crate::reversed::with_reversed;
 use rx_batch::Batch;
 use rx_books_store::Books;
 use rx_d0_values::{Reply, Transmission};
@@ -146,13 +149,12 @@ fn replies_to(
 }
 
 // What a batch is answered.
-#[tactic(auto, using(rx_explain_replay::proofs::Replied::one_each))]
 fn told(alloc: Global, batch: Adjudicated) -> Result<Report, Memory>
     requires { IsAdjudicated batch }
     ensures same { IfOk result (λ report. report.batch ≡ batch) }
     ensures told { IfOk result (λ report. IsTold batch.asked.items batch.replies.items report) }
 {
-    let Ok(lines) = report_lines(alloc, &batch.asked, &batch.replies) else {
+    let Ok(lines) = lines_of(alloc, &batch) else {
         drop(batch);
         return Err(Memory);
     };
@@ -165,4 +167,15 @@ fn told(alloc: Global, batch: Adjudicated) -> Result<Report, Memory>
         lines,
         settled,
     })
+}
+
+// The lines of its answers, those of reversals with the members of their claims.
+#[tactic(auto, using(rx_explain_replay::proofs::Replied::one_each))]
+fn lines_of(alloc: Global, batch: &Adjudicated) -> Result<Vec<Line>, Memory>
+    requires { IsAdjudicated batch.now }
+    ensures { IfOk result (λ lines.
+        lines.items ≡ map (with_reversed batch.now) (lines_of batch.now.asked.items batch.now.replies.items)) }
+{
+    let lines = report_lines(alloc, &batch.asked, &batch.replies)?;
+    with_reversed(alloc, batch, &lines)
 }

@@ -1,19 +1,22 @@
-ghost use Rattle.std.specs.Prelude.{◌≡◌, ◌++◌, ◌||◌, IfErr, IfOk, List, None, OnOk, Some, ℕ};
+ghost use Rattle.std.specs.Prelude.{◌≡◌, ◌++◌, ◌||◌, IfErr, IfOk, List, None, OnOk, Some, is_some, ℕ};
 ghost use Rattle.std.specs.List.{flat_map, list_any};
 ghost use Rattle.std.specs.Option.{option_copied};
-ghost use Rattle.rx_commands.specs.Told.{IsNotTold, IsPrinted, Tells, TellsWith, compared_in, is_other, is_told_other};
-ghost use Rattle.rx_commands.specs.Told.{one_text, option_is_other, option_text, outcome_by, place_wanted};
-ghost use Rattle.rx_commands.specs.Told.{rejected_if_other, rejected_is_other, rejected_part, rejected_text, rejected_text_if, told_text};
+ghost use Rattle.rx_commands.specs.Explaining.{IsNotExplained, IsPrinted, Prints, PrintsWith, compared_in, is_any_other};
+ghost use Rattle.rx_commands.specs.Explaining.{is_found, is_other, one_text, option_is_other, option_text, outcome_by};
+ghost use Rattle.rx_commands.specs.Explaining.{place_asked, rejected_if_other, rejected_is_found, rejected_is_other};
+ghost use Rattle.rx_commands.specs.Explaining.{rejected_part, rejected_text, rejected_text_if, shown_text, text_if};
 
 use crate::explain_fault::ExplainFault;
+use crate::manner::Manner;
 use crate::printed::{Outcome, Printed};
 use crate::record_words::{rejected_at, request_at};
-use crate::retraced::{Retraced, compare, retrace};
-use rx_batch::Detail;
+use crate::retraced::{Retraced, retrace};
+use rx_batch::Batch;
 use rx_d0_values::Rejected;
 use rx_explain::{At, Explanation, Wanted};
 use rx_explain_text::{
-    Compared, explanation_json, explanation_text, rejection_json, rejection_text,
+    Compared, Listing, absent_text, explanation_json, explanation_text, rejection_json,
+    rejection_text,
 };
 use rx_fields::Memory;
 use rx_io::Inputs;
@@ -21,12 +24,13 @@ use rx_show::read_response;
 use std::alloc::{AllocError, Global};
 use std::thread::Threads;
 
-/// What `explain` prints: why the transactions that are asked for were answered as they were, in words, or as JSON, an object
-/// a line; of a record whose header is rejected, why that was. Where the bytes of a response file are given, each says
-/// whether the reply there is this one, byte for byte. It starts no thread.
+/// What `explain` prints: why the transactions that are asked for were answered as they were, in words or as JSON; of a
+/// record whose header is rejected, why that was. Where the bytes of a response file are given, each says whether the reply
+/// there is this one, byte for byte. It starts no thread.
 ///
-/// It ends with NotFound exactly where no transaction is what is asked for, and else with Differs exactly where the response
-/// file has another reply to one of them, or none.
+/// It ends with NotFound exactly where no transaction, and no record whose header is rejected, is what is asked for: then the
+/// text is a line that says what that is, and what the batch has. Else it ends with Differs exactly where the response file has
+/// another reply to one of them or another reference, or none, or answers a batch of another number.
 ///
 /// # Errors
 ///
@@ -38,15 +42,15 @@ pub fn explain<R: Threads + Sync>(
     inputs: &Inputs<&[u8]>,
     wanted: &Wanted,
     response: Option<&[u8]>,
-    json: bool,
+    manner: Manner,
 ) -> Result<Printed, ExplainFault>
-    ensures told { let given = inputs.now in IfOk result (Tells given.sheet.now given.books.now given.batch.now
-        wanted.now (option_copied response.entry) json) }
-    ensures refused { let given = inputs.now in IfErr result (IsNotTold given.sheet.now given.books.now given.batch.now
+    ensures printed { let given = inputs.now in IfOk result (Prints given.sheet.now given.books.now given.batch.now
+        wanted.now (option_copied response.entry) manner) }
+    ensures refused { let given = inputs.now in IfErr result (IsNotExplained given.sheet.now given.books.now given.batch.now
         (option_copied response.entry)) }
 {
     let retraced = retrace(rt, alloc, inputs, wanted)?;
-    let printed = printed_beside(alloc, &retraced, wanted, response, json);
+    let printed = printed_beside(alloc, &retraced, wanted, response, manner);
     drop(retraced);
     printed
 }
@@ -57,15 +61,15 @@ fn printed_beside(
     retraced: &Retraced,
     wanted: &Wanted,
     response: Option<&[u8]>,
-    json: bool,
+    manner: Manner,
 ) -> Result<Printed, ExplainFault>
-    ensures told { IfOk result (TellsWith retraced.now wanted.now (option_copied response.entry) json) }
+    ensures printed { IfOk result (PrintsWith retraced.now wanted.now (option_copied response.entry) manner) }
     ensures refused { (sheet books batch : List ℕ)
-        → IfErr result (IsNotTold sheet books batch (option_copied response.entry)) }
+        → IfErr result (IsNotExplained sheet books batch (option_copied response.entry)) }
 {
     match response {
-        None => printed_alone(alloc, retraced, wanted, json),
-        Some(bytes) => printed_with(alloc, retraced, wanted, bytes, json),
+        None => printed_alone(alloc, retraced, wanted, manner),
+        Some(bytes) => printed_with(alloc, retraced, wanted, bytes, manner),
     }
 }
 
@@ -74,15 +78,15 @@ fn printed_alone(
     alloc: Global,
     retraced: &Retraced,
     wanted: &Wanted,
-    json: bool,
+    manner: Manner,
 ) -> Result<Printed, ExplainFault>
-    ensures told { IfOk result (IsPrinted json retraced.now wanted.now None) }
-    ensures refused { (sheet books batch : List ℕ) → IfErr result (IsNotTold sheet books batch None) }
+    ensures printed { IfOk result (IsPrinted manner retraced.now wanted.now None) }
+    ensures refused { (sheet books batch : List ℕ) → IfErr result (IsNotExplained sheet books batch None) }
 {
     let task = Task {
         retraced,
         response: None,
-        json,
+        manner,
     };
     let printed = printed_by(alloc, &task, wanted)?;
     Ok(printed)
@@ -94,17 +98,16 @@ fn printed_with(
     retraced: &Retraced,
     wanted: &Wanted,
     bytes: &[u8],
-    json: bool,
+    manner: Manner,
 ) -> Result<Printed, ExplainFault>
-    ensures told { IfOk result (TellsWith retraced.now wanted.now (Some bytes.now) json) }
-    ensures refused { (sheet books batch : List ℕ) → IfErr result (IsNotTold sheet books batch (Some bytes.now)) }
+    ensures printed { IfOk result (PrintsWith retraced.now wanted.now (Some bytes.now) manner) }
+    ensures refused { (sheet books batch : List ℕ) → IfErr result (IsNotExplained sheet books batch (Some bytes.now)) }
 {
     let response = read_response(alloc, bytes)?;
-    let details = Some(response.details.as_slice());
     let task = Task {
         retraced,
-        response: details,
-        json,
+        response: Some(&response),
+        manner,
     };
     let printed = printed_by(alloc, &task, wanted)?;
     Ok(printed)
@@ -114,24 +117,66 @@ fn printed_with(
 #[derive(Clone, Copy, Debug)]
 struct Task<'a, 'b> {
     retraced: &'a Retraced,
-    // The details of the response file that is compared, if one is.
-    response: Option<&'b [Detail]>,
-    json: bool,
+    // The response file that is compared, if one is.
+    response: Option<&'b Batch>,
+    manner: Manner,
 }
 
 // The text, and how the command ends.
 fn printed_by(alloc: Global, task: &Task<'_, '_>, wanted: &Wanted) -> Result<Printed, Memory>
-    ensures { IfOk result (IsPrinted task.now.json task.now.retraced.now wanted.now (option_copied task.now.response)) }
+    ensures { IfOk result (IsPrinted task.now.manner task.now.retraced.now wanted.now (option_copied task.now.response)) }
 {
-    let Told { text, differs } = tell(alloc, task, wanted)?;
-    let outcome = outcome_by(text.as_slice().is_empty(), differs);
+    let Shown { text, differs } = show(alloc, task, wanted)?;
+    let is_found = is_found(task.retraced, wanted);
+    let text = text_if(alloc, task.retraced, wanted, is_found, text)?;
+    let outcome = outcome_by(is_found, differs);
     Ok(Printed { text, outcome })
 }
 
-fn outcome_by(is_empty: bool, differs: bool) -> Outcome
-    ensures { result ≡ outcome_by is_empty differs }
+// Whether a transaction, or a record whose header is rejected, is what is asked for.
+fn is_found(retraced: &Retraced, wanted: &Wanted) -> bool
+    ensures { result ≡ is_found retraced.now wanted.now }
 {
-    if is_empty {
+    rejected_is_found(retraced, place_asked(wanted)) || any_is_some(&retraced.explanations)
+}
+
+fn rejected_is_found(retraced: &Retraced, at: Option<At>) -> bool
+    ensures { result ≡ rejected_is_found retraced.now at }
+{
+    match at {
+        Some(at) => rejected_at(&retraced.asked, at).is_some(),
+        None => false,
+    }
+}
+
+fn any_is_some(explanations: &[Option<Explanation>]) -> bool
+    ensures { result ≡ list_any is_some explanations.now }
+{
+    explanations.iter().any(|explanation| explanation.is_some())
+}
+
+// The text of what is found, or what isn't.
+fn text_if(
+    alloc: Global,
+    retraced: &Retraced,
+    wanted: &Wanted,
+    is_found: bool,
+    text: Vec<u8>,
+) -> Result<Vec<u8>, Memory>
+    ensures { IfOk result (λ printed. printed.items ≡ text_if retraced.now wanted.now is_found text.items) }
+{
+    if is_found {
+        return Ok(text);
+    }
+    drop(text);
+    let records = retraced.details.as_slice().len();
+    absent_text(alloc, wanted, records, &retraced.near)
+}
+
+fn outcome_by(is_found: bool, differs: bool) -> Outcome
+    ensures { result ≡ outcome_by is_found differs }
+{
+    if !is_found {
         Outcome::NotFound
     } else if differs {
         Outcome::Differs
@@ -142,13 +187,13 @@ fn outcome_by(is_empty: bool, differs: bool) -> Outcome
 
 // What is explained so far.
 #[derive(Debug, Drop)]
-struct Told {
+struct Shown {
     text: Vec<u8>,
     // Whether the response file hasn't the reply to one of the transactions.
     differs: bool,
 }
 
-impl Told {
+impl Shown {
     // Puts the text of a transaction after the others.
     fn put(&mut self, text: &[u8], compared: Option<Compared>) -> Result<(), AllocError>
         ensures text { OnOk result (self.new.text.items ≡ self.old.text.items ++ text.now) }
@@ -165,29 +210,29 @@ fn is_other(compared: Option<Compared>) -> bool
 {
     match compared {
         None | Some(Compared::Same) => false,
-        Some(Compared::Differs) | Some(Compared::Absent) => true,
+        Some(Compared::Differs) | Some(Compared::Absent) | Some(Compared::OtherBatch(_)) => true,
     }
 }
 
 // The record that was asked for, where its header is rejected, and the explanations.
-fn tell(alloc: Global, task: &Task<'_, '_>, wanted: &Wanted) -> Result<Told, Memory>
+fn show(alloc: Global, task: &Task<'_, '_>, wanted: &Wanted) -> Result<Shown, Memory>
     ensures text { let t = task.now in
-        IfOk result (λ told. told.text.items ≡ told_text t.json t.retraced.now wanted.now (option_copied t.response)) }
+        IfOk result (λ shown. shown.text.items ≡ shown_text t.manner t.retraced.now wanted.now (option_copied t.response)) }
     ensures differs { let t = task.now in
-        IfOk result (λ told. told.differs ≡ is_told_other t.retraced.now wanted.now (option_copied t.response)) }
+        IfOk result (λ shown. shown.differs ≡ is_any_other t.retraced.now wanted.now (option_copied t.response)) }
 {
-    let mut told = Told {
+    let mut shown = Shown {
         text: Vec::new(alloc),
         differs: false,
     };
-    put_rejection(alloc, &mut told, task, place_wanted(wanted))?;
-    put_each(alloc, &mut told, task, &task.retraced.explanations)?;
-    Ok(told)
+    put_rejection(alloc, &mut shown, task, place_asked(wanted))?;
+    put_each(alloc, &mut shown, task, &task.retraced.explanations)?;
+    Ok(shown)
 }
 
 // Where a record, or one of its transactions, is asked for by its place.
-fn place_wanted(wanted: &Wanted) -> Option<At>
-    ensures { result ≡ place_wanted wanted.now }
+fn place_asked(wanted: &Wanted) -> Option<At>
+    ensures { result ≡ place_asked wanted.now }
 {
     match wanted {
         Wanted::Place(place) => Some(At {
@@ -202,32 +247,32 @@ fn place_wanted(wanted: &Wanted) -> Option<At>
 // The record at this place, where its header is rejected.
 fn put_rejection(
     alloc: Global,
-    told: &mut Told,
+    shown: &mut Shown,
     task: &Task<'_, '_>,
     at: Option<At>,
 ) -> Result<(), Memory>
-    ensures text { let t = task.now in OnOk result (told.new.text.items
-        ≡ told.old.text.items ++ rejected_part t.json t.retraced.now (option_copied t.response) at) }
-    ensures differs { let t = task.now in OnOk result (told.new.differs
-        ≡ (told.old.differs || rejected_is_other t.retraced.now (option_copied t.response) at)) }
+    ensures text { let t = task.now in OnOk result (shown.new.text.items
+        ≡ shown.old.text.items ++ rejected_part t.manner t.retraced.now (option_copied t.response) at) }
+    ensures differs { let t = task.now in OnOk result (shown.new.differs
+        ≡ (shown.old.differs || rejected_is_other t.retraced.now (option_copied t.response) at)) }
 {
     let Some(at) = at else {
         return Ok(());
     };
     let rejected = rejected_at(&task.retraced.asked, at);
-    put_rejected(alloc, told, task, at.place, rejected)
+    put_rejected(alloc, shown, task, at.place, rejected)
 }
 
 fn put_rejected(
     alloc: Global,
-    told: &mut Told,
+    shown: &mut Shown,
     task: &Task<'_, '_>,
     place: u64,
     rejected: Option<&Rejected>,
 ) -> Result<(), Memory>
-    ensures text { let t = task.now in OnOk result (told.new.text.items ≡ told.old.text.items
-        ++ rejected_text_if t.json t.retraced.now (option_copied t.response) place (option_copied rejected.entry)) }
-    ensures differs { let t = task.now in OnOk result (told.new.differs ≡ (told.old.differs
+    ensures text { let t = task.now in OnOk result (shown.new.text.items ≡ shown.old.text.items
+        ++ rejected_text_if t.manner t.retraced.now (option_copied t.response) place (option_copied rejected.entry)) }
+    ensures differs { let t = task.now in OnOk result (shown.new.differs ≡ (shown.old.differs
         || rejected_if_other t.retraced.now (option_copied t.response) place (option_copied rejected.entry))) }
 {
     let Some(rejected) = rejected else {
@@ -235,36 +280,36 @@ fn put_rejected(
     };
     let compared = task.compared(alloc, place)?;
     let text = task.rejected_text(alloc, place, rejected, compared)?;
-    Ok(told.put(&text, compared)?)
+    Ok(shown.put(&text, compared)?)
 }
 
 // The explanations, one after another.
 fn put_each(
     alloc: Global,
-    told: &mut Told,
+    shown: &mut Shown,
     task: &Task<'_, '_>,
     explanations: &[Option<Explanation>],
 ) -> Result<(), Memory>
-    ensures text { let t = task.now in OnOk result (told.new.text.items ≡ told.old.text.items
-        ++ flat_map (option_text t.json t.retraced.now (option_copied t.response)) explanations.now) }
-    ensures differs { let t = task.now in OnOk result (told.new.differs ≡ (told.old.differs
+    ensures text { let t = task.now in OnOk result (shown.new.text.items ≡ shown.old.text.items
+        ++ flat_map (option_text t.manner t.retraced.now (option_copied t.response)) explanations.now) }
+    ensures differs { let t = task.now in OnOk result (shown.new.differs ≡ (shown.old.differs
         || list_any (option_is_other t.retraced.now (option_copied t.response)) explanations.now)) }
 {
     for explanation in explanations {
-        put_one(alloc, told, task, explanation)?;
+        put_one(alloc, shown, task, explanation)?;
     }
     Ok(())
 }
 
 fn put_one(
     alloc: Global,
-    told: &mut Told,
+    shown: &mut Shown,
     task: &Task<'_, '_>,
     explanation: &Option<Explanation>,
 ) -> Result<(), Memory>
-    ensures text { let t = task.now in OnOk result (told.new.text.items ≡ told.old.text.items
-        ++ option_text t.json t.retraced.now (option_copied t.response) explanation.now) }
-    ensures differs { let t = task.now in OnOk result (told.new.differs ≡ (told.old.differs
+    ensures text { let t = task.now in OnOk result (shown.new.text.items ≡ shown.old.text.items
+        ++ option_text t.manner t.retraced.now (option_copied t.response) explanation.now) }
+    ensures differs { let t = task.now in OnOk result (shown.new.differs ≡ (shown.old.differs
         || option_is_other t.retraced.now (option_copied t.response) explanation.now)) }
 {
     let Some(explanation) = explanation else {
@@ -272,7 +317,7 @@ fn put_one(
     };
     let compared = task.compared(alloc, explanation.at.place)?;
     let text = task.text_of(alloc, explanation, compared)?;
-    Ok(told.put(&text, compared)?)
+    Ok(shown.put(&text, compared)?)
 }
 
 impl Task<'_, '_> {
@@ -283,10 +328,7 @@ impl Task<'_, '_> {
     {
         match self.response {
             None => Ok(None),
-            Some(details) => {
-                let compared = compare(alloc, &self.retraced.replies, details, place)?;
-                Ok(Some(compared))
-            }
+            Some(file) => Ok(Some(self.retraced.compare(alloc, file, place)?)),
         }
     }
 
@@ -299,14 +341,15 @@ impl Task<'_, '_> {
         compared: Option<Compared>,
     ) -> Result<Vec<u8>, Memory>
         ensures { IfOk result (λ text.
-            text.items ≡ rejected_text self.now.json self.now.retraced.now place rejected.now compared) }
+            text.items ≡ rejected_text self.now.manner self.now.retraced.now place rejected.now compared) }
     {
         let request = request_at(&self.retraced.details, place);
         let figures = &self.retraced.figures;
-        if self.json {
-            rejection_json(alloc, place, rejected, request, compared)
-        } else {
-            rejection_text(alloc, figures, place, rejected, request, compared)
+        match self.manner {
+            Manner::Json => rejection_json(alloc, place, rejected, request, compared),
+            Manner::Words | Manner::Full => {
+                rejection_text(alloc, figures, place, rejected, request, compared)
+            }
         }
     }
 
@@ -318,14 +361,22 @@ impl Task<'_, '_> {
         compared: Option<Compared>,
     ) -> Result<Vec<u8>, Memory>
         ensures { IfOk result (λ text.
-            text.items ≡ one_text self.now.json self.now.retraced.now explanation.now compared) }
+            text.items ≡ one_text self.now.manner self.now.retraced.now explanation.now compared) }
     {
         let request = request_at(&self.retraced.details, explanation.at.place);
         let (lot, figures) = (self.retraced.lot, &self.retraced.figures);
-        if self.json {
-            explanation_json(alloc, lot, figures, explanation, request, compared)
-        } else {
-            explanation_text(alloc, lot, figures, explanation, request, compared)
-        }
+        let listing = match self.manner {
+            Manner::Json => return explanation_json(
+                alloc,
+                lot,
+                figures,
+                explanation,
+                request,
+                compared,
+            ),
+            Manner::Words => Listing::Largest,
+            Manner::Full => Listing::All,
+        };
+        explanation_text(alloc, lot, figures, explanation, request, compared, listing)
     }
 }

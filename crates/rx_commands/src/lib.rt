@@ -7,7 +7,7 @@
 //! - `report` has a line for each answer of the batch, in one of the forms of `Form` (`specs/Reported.antt` has the lines,
 //!   `specs/Forms.antt` the texts).
 //! - `explain` says why the transactions that are asked for were answered as they were (`specs/Retraced.antt` has the
-//!   explanations, `specs/Told.antt` the text). The records are adjudicated once, in file order, and explained on the way
+//!   explanations, `specs/Explaining.antt` the text). The records are adjudicated once, in file order, and explained on the way
 //!   where the requests say that a transaction is asked for. `record_asked`, `number_asked` and `reference_asked` read what
 //!   is asked for.
 //! - `verify` does the run again and compares the texts of an earlier one's three files with it: the files are found the same
@@ -16,7 +16,7 @@
 //!
 //! ```rust
 //! let text = rx_commands::report(rt, alloc, &inputs, Portion::Whole, Form::Json)?;
-//! let printed = rx_commands::explain(rt, alloc, &inputs, &record_asked("4.2"), None, false)?;
+//! let printed = rx_commands::explain(rt, alloc, &inputs, &record_asked("4.2"), None, Manner::Words)?;
 //! let printed = rx_commands::verify(rt, alloc, &NoGate, &job, &files)?;
 //! ```
 //!
@@ -32,11 +32,13 @@ mod difference;
 mod explain_fault;
 mod explanations;
 mod inputs;
+mod manner;
 mod pieces;
 mod printed;
 mod record_words;
 mod report_forms;
 mod retraced;
+mod reversed;
 mod table;
 mod verdict;
 mod whys;
@@ -45,6 +47,7 @@ pub use asked_words::{number_asked, record_asked, reference_asked};
 pub use difference::first_difference;
 pub use explain_fault::ExplainFault;
 pub use explanations::explain;
+pub use manner::Manner;
 pub use pieces::{pieces_before, rest_of_piece};
 pub use printed::{Outcome, Printed};
 pub use report_forms::{Form, report};

@@ -1,7 +1,7 @@
 /// What a command prints on standard output, and how it ends.
 #[derive(Debug, Drop)]
 pub struct Printed {
-    /// The text.
+    /// The text; where nothing is found, a line for standard error.
     pub text: Vec<u8>,
     /// How the command ends.
     pub outcome: Outcome,
@@ -12,7 +12,7 @@ pub struct Printed {
 pub enum Outcome {
     /// It is done.
     Done,
-    /// No transaction is what was asked for, and the text is empty.
+    /// No transaction is what was asked for; the text says so.
     NotFound,
     /// A file isn't what the inputs give; the text says where.
     Differs,

@@ -1,30 +1,70 @@
-ghost use Rattle.std.specs.Prelude.{◌≡◌};
+ghost use Rattle.std.specs.Prelude.{◌≡◌, IfOk};
 ghost use Rattle.std.specs.Option.{option_copied};
-ghost use Rattle.rx_commands.specs.Told.{rejected_at, rejected_in, request_at};
+ghost use Rattle.rx_commands.specs.Explaining.{rejected_at, rejected_in, request_at};
+ghost use Rattle.rx_commands.specs.Whys.{header_words, words_at};
 
 use rx_batch::Details;
 use rx_d0_values::{Body, Rejected, Transmission};
 use rx_explain::{At, Explanation, item};
-use rx_explain_replay::Adjudicated;
-use rx_explain_text::{explanation_text, rejection_text};
+use rx_explain_replay::Batch;
+use rx_explain_text::{Listing, explanation_text, rejection_text};
 use rx_fields::Memory;
+use rx_ledger::Figures;
 use std::alloc::Global;
 
-/// The explanation of an answer of a batch in words, as `explain` prints it where no response file is given; of an answer
+/// The explanation of an answer of a batch, as `explain` prints it in words where no response file is given; of an answer
 /// to a record whose header is rejected, which has no explanation, that of the record.
 pub(crate) fn words_of(
     alloc: Global,
-    batch: &Adjudicated,
+    batch: &Batch<'_>,
+    details: &Details,
     at: At,
     explanation: Option<&Explanation>,
-) -> Result<Vec<u8>, Memory> {
+) -> Result<Vec<u8>, Memory>
+    ensures { let b = batch.now in IfOk result (λ text. text.items
+        ≡ words_at b.lot b.sheet.now b.asked.now details.now at (option_copied explanation.entry)) }
+{
     let figures = batch.sheet.figures();
-    let request = request_at(&batch.details, at.place);
-    if let Some(explanation) = explanation {
-        return explanation_text(alloc, batch.lot, figures, explanation, request, None);
+    match explanation {
+        Some(explanation) => {
+            let request = request_at(details, at.place);
+            let listing = Listing::Largest;
+            explanation_text(
+                alloc,
+                batch.lot,
+                figures,
+                explanation,
+                request,
+                None,
+                listing,
+            )
+        }
+        None => header_words(
+            alloc,
+            figures,
+            details,
+            at.place,
+            rejected_at(batch.asked, at),
+        ),
     }
-    match rejected_at(&batch.asked, at) {
-        Some(rejected) => rejection_text(alloc, figures, at.place, rejected, request, None),
+}
+
+// Of the record at a place, where its header is rejected.
+fn header_words(
+    alloc: Global,
+    figures: &Figures,
+    details: &Details,
+    place: u64,
+    rejected: Option<&Rejected>,
+) -> Result<Vec<u8>, Memory>
+    ensures { IfOk result (λ text. text.items
+        ≡ header_words figures.now.door details.now place (option_copied rejected.entry)) }
+{
+    match rejected {
+        Some(rejected) => {
+            let request = request_at(details, place);
+            rejection_text(alloc, figures, place, rejected, request, None)
+        }
         None => Ok(Vec::new(alloc)),
     }
 }

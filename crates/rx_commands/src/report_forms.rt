@@ -1,6 +1,7 @@
 ghost use Rattle.std.specs.Prelude.{IfErr, IfOk};
 ghost use Rattle.rx_explain_replay.specs.Adjudicated.{IsAdjudicated};
 ghost use Rattle.rx_commands.specs.Forms.{HasWhys, IsInForm, IsPage, IsReportText, IsText};
+ghost use Rattle.rx_commands.specs.Reported.{IsTold};
 ghost use Rattle.rx_report_text.specs.ClaimsShown.{shows_claims};
 ghost use Rattle.rx_switch.specs.Planned.{IsNotPlanned};
 
@@ -59,7 +60,8 @@ fn text_in_form(
     form: Form,
     report: &Report,
 ) -> Result<Vec<u8>, Memory>
-    requires { IsAdjudicated report.now.batch }
+    requires adjudicated { IsAdjudicated report.now.batch }
+    requires counted { IsTold report.now.batch.asked.items report.now.batch.replies.items report.now }
     ensures { IfOk result (λ text. IsInForm portion.entry form report.now text.items) }
 {
     let kept = kept_lines(alloc, portion, &report.lines)?;
@@ -79,7 +81,7 @@ fn text_of_account(
 ) -> Result<Vec<u8>, Memory>
     requires { IsAdjudicated batch.now }
     ensures { IfOk result (λ text.
-        IsText portion.entry form batch.now.lot kept.now account.now text.items) }
+        IsText portion.entry form batch.now kept.now account.now text.items) }
 {
     match form {
         Form::Tsv => tsv_text(alloc, kept),
@@ -98,7 +100,7 @@ fn page_text(
     account: &Account<'_>,
 ) -> Result<Vec<u8>, Memory>
     requires { IsAdjudicated batch.now }
-    ensures { IfOk result (λ text. IsPage portion.entry batch.now.lot kept.now account.now text.items) }
+    ensures { IfOk result (λ text. IsPage portion.entry batch.now kept.now account.now text.items) }
 {
     let whys = whys_shown(alloc, batch, kept, shows_claims(portion, account))?;
     explained_page(alloc, batch.lot, portion, account, &whys)
@@ -112,7 +114,7 @@ fn whys_shown(
     are_shown: bool,
 ) -> Result<Whys, Memory>
     requires { IsAdjudicated batch.now }
-    ensures { IfOk result (HasWhys are_shown kept.now) }
+    ensures { IfOk result (HasWhys are_shown batch.now kept.now) }
 {
     if are_shown {
         whys_of(alloc, batch, kept)

@@ -5,14 +5,13 @@ ghost use Rattle.rx_explain_replay.specs.Records.{AreDecided, IsAt};
 ghost use Rattle.rx_fields.specs.declared.limits.TheConstants.{MOST_DETAILS};
 ghost use Rattle.rx_ledger.specs.Fold.{fold_replies};
 ghost use Rattle.rx_switch.specs.Planned.{IsNotPlanned};
-ghost use Rattle.rx_commands.specs.Retraced.{AreExplained, IsRetraced};
+ghost use Rattle.rx_commands.specs.Retraced.{AreExplained, IsRetraced, near_in};
 
 mod asked;
 mod response;
 
 use crate::inputs::read_inputs;
 use asked::asked_in;
-pub(crate) use response::compare;
 use rx_batch::Details;
 use rx_books_store::Books;
 use rx_d0_values::{Reply, Transmission};
@@ -41,6 +40,8 @@ pub(crate) struct Retraced {
     pub replies: Vec<Reply>,
     /// An explanation of each transaction that was asked for, in order.
     pub explanations: Vec<Option<Explanation>>,
+    /// Where transactions stand that may be meant, if there is none: of the record, or of the prescription at any pharmacy.
+    pub near: Vec<At>,
 }
 
 /// The transactions that are asked for, explained, from the texts of a job. It starts no thread.
@@ -83,6 +84,7 @@ pub(crate) fn retrace<R: Threads + Sync>(
         asked,
         replies: answered.replies,
         explanations: answered.explanations,
+        near: answered.near,
     })
 }
 
@@ -91,9 +93,11 @@ pub(crate) fn retrace<R: Threads + Sync>(
 struct Answered {
     replies: Vec<Reply>,
     explanations: Vec<Option<Explanation>>,
+    near: Vec<At>,
 }
 
 // The replies to the records, one after another, and the explanations that are asked for.
+#[tactic(auto, using(rx_explain_replay::proofs::Replied::one_each))]
 fn answer(
     alloc: Global,
     lot: Lot,
@@ -106,6 +110,7 @@ fn answer(
     ensures replies { IfOk result (λ a. a.replies.items ≡ fold_replies lot sheet.now 1 asked.now books.ledger) }
     ensures explained { IfOk result (λ a.
         AreExplained lot sheet.now asked.now books.ledger wanted.now a.replies.items a.explanations.items) }
+    ensures near { IfOk result (λ a. a.near.items ≡ near_in wanted.now asked.now a.replies.items) }
 {
     let opening = books.with_period(alloc, sheet.period())?;
     let batch = Batch {
@@ -119,10 +124,34 @@ fn answer(
     drop(opening);
     let Replayed { replies, explained } = replayed;
     drop(explained);
+    let explanations = explanations?;
+    let near = near_in(alloc, wanted, asked, &replies)?;
     Ok(Answered {
         replies,
-        explanations: explanations?,
+        explanations,
+        near,
     })
+}
+
+// Where transactions stand that may be meant, where none is what is asked for.
+#[tactic(auto, using(rx_explain_replay::proofs::Replied::one_each))]
+fn near_in(
+    alloc: Global,
+    wanted: &Wanted,
+    asked: &[Transmission],
+    replies: &[Reply],
+) -> Result<Vec<At>, Memory>
+    requires few { length asked.now ≤ MOST_DETAILS }
+    requires each { length replies.now ≡ length asked.now }
+    ensures { IfOk result (λ near. near.items ≡ near_in wanted.now asked.now replies.now) }
+{
+    match wanted {
+        Wanted::One(at) => find(alloc, &Wanted::Place(at.place), asked, replies),
+        Wanted::ReferenceAt(reference, _) => {
+            find(alloc, &Wanted::Reference(*reference), asked, replies)
+        }
+        _ => Ok(Vec::new(alloc)),
+    }
 }
 
 // The replies to the records, and what decided those that are asked for, as far as the requests say.

@@ -1,28 +1,33 @@
-ghost use Rattle.std.specs.Prelude.{◌≡◌, IfOk, map, true};
+ghost use Rattle.std.specs.Prelude.{◌≡◌, ◌≤◌, IfOk, length, true};
+ghost use Rattle.std.specs.List.{AllZip};
+ghost use Rattle.std.specs.Option.{option_copied};
 ghost use Rattle.rx_explain_replay.specs.Adjudicated.{IsAdjudicated};
+ghost use Rattle.rx_explain_replay.specs.Records.{IsPass};
+ghost use Rattle.rx_fields.specs.declared.limits.TheConstants.{MOST_DETAILS};
 ghost use Rattle.rx_sorted.specs.Ascending.{is_ascending};
 ghost use Rattle.rx_report_text.specs.Whys.{spot_cmp, spot_of};
 ghost use Rattle.rx_commands.specs.Lines.{at_of};
+ghost use Rattle.rx_commands.specs.Whys.{AreWhys, IsWhyAmong, words_at};
 
 use crate::record_words::words_of;
-use rx_explain::{At, Explanation};
-use rx_explain_replay::{Adjudicated, explanations};
+use rx_batch::Details;
+use rx_explain::{At, Events, Explanation};
+use rx_explain_replay::{Adjudicated, Batch, Pass};
 use rx_fields::Memory;
 use rx_report::Line;
 use rx_report_text::{AnswerSpot, Why, Whys};
 use rx_sorted::Ascending;
 use std::alloc::Global;
 
-/// Why the answers of these lines of a batch were given, in the words of `explain`. Lines that aren't in the order of the
-/// batch have none.
+/// Why the answers of these lines of a batch were given, in the words of `explain`, each by the explanation of its own
+/// transaction. Lines that aren't in the order of the batch have none. One explanation is held at a time.
+#[tactic(auto, using(rx_explain_replay::proofs::Replied::one_each))]
 pub(crate) fn whys_of(alloc: Global, batch: &Adjudicated, lines: &[Line]) -> Result<Whys, Memory>
     requires { IsAdjudicated batch.now }
-    ensures { is_ascending spot_cmp spot_of lines.now ≡ true
-        → IfOk result (λ whys. map (λ w. w.spot) whys ≡ map spot_of lines.now) }
+    ensures { is_ascending spot_cmp spot_of lines.now ≡ true → IfOk result (λ whys. AreWhys batch.now lines.now whys) }
 {
-    let places = places_of(alloc, lines)?;
-    let explanations = explanations(alloc, batch, &places)?;
-    let whys = told_each(alloc, batch, lines, &explanations)?;
+    let events = Events::of(alloc, &batch.asked, &batch.replies)?;
+    let whys = whys_each(alloc, batch, &events, lines)?;
     Ok(in_order(alloc, whys))
 }
 
@@ -36,15 +41,50 @@ fn in_order(alloc: Global, whys: Vec<Why>) -> Whys
     }
 }
 
-// Where the answers of these lines stand.
-fn places_of(alloc: Global, lines: &[Line]) -> Result<Vec<At>, Memory>
-    ensures { IfOk result (λ places. places.items ≡ map at_of lines.now) }
+// Each line's explanation in words, among these events.
+fn whys_each(
+    alloc: Global,
+    batch: &Adjudicated,
+    events: &Events,
+    lines: &[Line],
+) -> Result<Vec<Why>, Memory>
+    requires { length batch.now.asked.items ≤ MOST_DETAILS }
+    ensures { let b = batch.now in IfOk result (λ whys. AllZip
+        (IsWhyAmong b.lot b.sheet b.asked.items b.opening.ledger b.details events.now) lines.now whys.items) }
 {
-    let mut places = Vec::with_capacity(alloc, lines.len())?;
+    let details = &batch.details;
+    let batch = Batch {
+        lot: batch.lot,
+        sheet: &batch.sheet,
+        opening: &batch.opening,
+        asked: &batch.asked,
+    };
+    let mut pass = Pass::begun(alloc, &batch)?;
+    let whys = whys_on(alloc, &batch, details, events, &mut pass, lines);
+    drop(pass);
+    whys
+}
+
+// The same as a pass over the batch comes to them.
+fn whys_on(
+    alloc: Global,
+    batch: &Batch<'_>,
+    details: &Details,
+    events: &Events,
+    pass: &mut Pass,
+    lines: &[Line],
+) -> Result<Vec<Why>, Memory>
+    requires { IsPass batch.now pass.old }
+    ensures { let b = batch.now in IfOk result (λ whys. AllZip
+        (IsWhyAmong b.lot b.sheet.now b.asked.now b.opening.now.ledger details.now events.now) lines.now whys.items) }
+{
+    let mut whys = Vec::with_capacity(alloc, lines.len())?;
     for line in lines {
-        places.push(at_of(line))?;
+        let explanation = pass.explain(alloc, batch, events, at_of(line))?;
+        let why = why_of(alloc, batch, details, line, &explanation)?;
+        whys.push(why)?;
     }
-    Ok(places)
+    Ok(whys)
 }
 
 fn at_of(line: &Line) -> At
@@ -56,36 +96,18 @@ fn at_of(line: &Line) -> At
     }
 }
 
-// Each line's explanation in words, where these are their explanations, in order.
-fn told_each(
+fn why_of(
     alloc: Global,
-    batch: &Adjudicated,
-    lines: &[Line],
-    explanations: &[Option<Explanation>],
-) -> Result<Vec<Why>, Memory>
-    ensures { IfOk result (λ whys. map (λ w. w.spot) whys.items ≡ map spot_of lines.now) }
-{
-    let mut whys = Vec::with_capacity(alloc, lines.len())?;
-    for (nth, line) in lines.iter().enumerate() {
-        let why = told(alloc, batch, line, explanation_at(explanations, nth))?;
-        whys.push(why)?;
-    }
-    Ok(whys)
-}
-
-fn explanation_at(explanations: &[Option<Explanation>], nth: usize) -> Option<&Explanation> {
-    explanations.get(nth)?.as_ref()
-}
-
-fn told(
-    alloc: Global,
-    batch: &Adjudicated,
+    batch: &Batch<'_>,
+    details: &Details,
     line: &Line,
-    explanation: Option<&Explanation>,
+    explanation: &Option<Explanation>,
 ) -> Result<Why, Memory>
-    ensures { IfOk result (λ why. why.spot ≡ spot_of line.now) }
+    ensures spot { IfOk result (λ why. why.spot ≡ spot_of line.now) }
+    ensures text { let b = batch.now in IfOk result (λ why. why.text.items
+        ≡ words_at b.lot b.sheet.now b.asked.now details.now (at_of line.now) explanation.now) }
 {
-    let text = words_of(alloc, batch, at_of(line), explanation)?;
+    let text = words_of(alloc, batch, details, at_of(line), explanation.as_ref())?;
     let spot = AnswerSpot {
         place: line.place,
         nth: line.nth,

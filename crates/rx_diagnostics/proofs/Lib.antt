@@ -1,3 +1,6 @@
 -- Plumbing: which files there are.
 pub mod FirstFaults
+pub mod Lacking
+pub mod Listings
 pub mod Searches
+pub mod Totals

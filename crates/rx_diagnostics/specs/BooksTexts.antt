@@ -15,6 +15,8 @@ use Rattle.rx_fields.specs.Digits.{number_of}
 use Rattle.rx_fields.specs.declared.limits.TheConstants.{MOST_CENTS, MOST_LINES}
 use Rattle.rx_diagnostics.specs.BooksFields.{claim_fields, date_fault, first_claim_fields, first_fault, member_fields}
 use Rattle.rx_diagnostics.specs.BooksFields.{short_total_fields, total_fields}
+use Rattle.rx_diagnostics.specs.BooksMembers.{nearest, persons_above}
+use Rattle.rx_diagnostics.specs.BooksTotals.{totals_text}
 use Rattle.rx_diagnostics.specs.Looks.{begins, has_mark, looks_like}
 use Rattle.rx_diagnostics.specs.Parts.{field_of, fields, line_feeds, line_of}
 use Rattle.rx_diagnostics.specs.Quoting.{quoted_text, shown_text}
@@ -217,6 +219,28 @@ line_telling text number =
     then mended (codes "the line ends with CR LF: expected LF") (codes "sed -i 's/\\r$//'")
     else plain (kind_text (line_of text number) (version_of text))))
 
+-- ---- a member who isn't listed
+
+abbrev pub memberless_text : List ℕ → List ℕ
+memberless_text family =
+    codes "family " ++ (shown_text family ++ codes " has a total line and no member: no M line above has this family")
+
+-- with the nearest person of the family, where there is one
+abbrev pub unlisted_text : List ℕ → List ℕ → Option (List ℕ) → List ℕ
+unlisted_text family person (Some listed) =
+    codes "member " ++ (shown_text family ++ (codes "/" ++ (shown_text person
+    ++ (codes " isn't listed: the nearest person of the family is " ++ (shown_text family ++ (codes "/" ++ shown_text listed))))))
+unlisted_text family person None =
+    codes "member " ++ (shown_text family ++ (codes "/" ++ (shown_text person
+    ++ (codes " isn't listed: no M line above has family " ++ shown_text family))))
+
+-- a total whose family has no member, or a claim whose member isn't listed
+unfoldable pub unknown_text : List ℕ → ℕ → List ℕ
+unknown_text text number =
+    let line = line_of text number in let family = field_of line 5 in let person = field_of line 6 in
+    if begins line (codes "T") then memberless_text (field_of line 2)
+    else unlisted_text family person (nearest person (persons_above text number family))
+
 -- ---- each fault
 
 abbrev pub too_many_text : List ℕ → List ℕ
@@ -228,14 +252,15 @@ no_memory_text = codes "out of memory"
 abbrev pub telling_of : Said → Telling
 telling_of said = record { text = string_bytes said.text; mend = said.mend.now }
 
--- what is said of each fault; of a member who isn't listed and of a figure, no definition fixes it
-abbrev pub TellsOfBooks : List ℕ → BooksFault → Telling → Type 0
-TellsOfBooks text fault.Head said = said ≡ head_telling text (line_of text 1)
-TellsOfBooks text (fault.Line n) said = said ≡ line_telling text n
-TellsOfBooks text (fault.Order n) said = said ≡ plain (order_text (line_of text n) (line_of text (n - 1)))
-TellsOfBooks text fault.TooMuch said = said ≡ plain (too_many_text text)
-TellsOfBooks text fault.Memory said = said ≡ plain no_memory_text
-TellsOfBooks text other said = Unit {0}
+-- what is said of each fault
+abbrev pub books_telling : List ℕ → BooksFault → Telling
+books_telling text fault.Head = head_telling text (line_of text 1)
+books_telling text (fault.Line n) = line_telling text n
+books_telling text (fault.Order n) = plain (order_text (line_of text n) (line_of text (n - 1)))
+books_telling text (fault.UnknownMember n) = plain (unknown_text text n)
+books_telling text (fault.Totals n) = plain (totals_text text n)
+books_telling text fault.TooMuch = plain (too_many_text text)
+books_telling text fault.Memory = plain no_memory_text
 
 -- the same where the text can't be read again
 abbrev pub unread_books_text : BooksFault → List ℕ

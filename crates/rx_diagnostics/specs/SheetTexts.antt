@@ -1,5 +1,5 @@
 -- Meaning: what is said of faults of a plan sheet: the key, and what is expected under it.
-use Rattle.std.specs.Prelude.{◌≡◌, ℕ, List, ◌++◌, codes}
+use Rattle.std.specs.Prelude.{ℕ, List, ◌++◌, codes}
 use Rattle.std.specs.Fmt.{decimal}
 use Rattle.rx_fields.specs.declared.limits.TheConstants.{MOST_CENTS}
 use Rattle.rx_ledger.specs.declared.drug.TheConstants.{MOST_PRICE}
@@ -45,18 +45,6 @@ wrong_text k = name_of k ++ (codes " is wrong: " ++ wanted_at k)
 
 abbrev pub no_memory_text : List ℕ
 no_memory_text = codes "out of memory"
-
--- a key of the sheet itself that isn't there; which drug lacks one of its keys, no definition fixes
-abbrev pub TellsMissing : SheetKey → List ℕ → Type 0
-TellsMissing key.Tier said = Unit {0}
-TellsMissing key.Price said = Unit {0}
-TellsMissing k said = said ≡ missing_text k
-
--- no definition fixes what is said of a text that is no TOML, and of a value
-abbrev pub TellsOfSheet : SheetFault → List ℕ → Type 0
-TellsOfSheet (fault.Missing k) said = TellsMissing k said
-TellsOfSheet fault.Memory said = said ≡ no_memory_text
-TellsOfSheet other said = Unit {0}
 
 -- what is said where the text can't be read again
 abbrev pub unread_sheet_text : SheetFault → List ℕ

@@ -1,5 +1,5 @@
 ghost use Rattle.std.specs.Prelude.{◌≡◌, [], IfOk, option_map, string_bytes};
-ghost use Rattle.rx_diagnostics.specs.BooksTexts.{TellsOfBooks, day_fault, days_text, fields_text, head_fields_text, head_telling};
+ghost use Rattle.rx_diagnostics.specs.BooksTexts.{books_telling, day_fault, days_text, fields_text, head_fields_text, head_telling};
 ghost use Rattle.rx_diagnostics.specs.BooksTexts.{is_version, mended, no_label_text, plain, telling_of, too_many_text};
 ghost use Rattle.rx_diagnostics.specs.BooksTexts.{unread_books_text, version_text};
 ghost use Rattle.rx_diagnostics.specs.Parts.{line_of};
@@ -25,7 +25,7 @@ use std::alloc::{AllocError, Global};
 /// Only Memory.
 pub fn books_words(alloc: Global, fault: BooksFault, text: &[u8]) -> Result<Words, Memory>
     ensures place { IfOk result (λ words. words.place ≡ books_place fault) }
-    ensures said { IfOk result (λ words. TellsOfBooks text.now fault (mended (string_bytes words.text) words.mend.now)) }
+    ensures said { IfOk result (λ words. mended (string_bytes words.text) words.mend.now ≡ books_telling text.now fault) }
 {
     let said = said_of(alloc, fault, text)?;
     Ok(Words::of(Place::of_books(fault), said))
@@ -64,7 +64,7 @@ pub fn unread_books_words(alloc: Global, fault: BooksFault) -> Result<Words, Mem
 }
 
 fn said_of(alloc: Global, fault: BooksFault, text: &[u8]) -> Result<Said, Memory>
-    ensures { IfOk result (λ said. TellsOfBooks text.now fault (telling_of said)) }
+    ensures { IfOk result (λ said. telling_of said ≡ books_telling text.now fault) }
 {
     match fault {
         BooksFault::Head => Ok(head_words(alloc, text, line_of(text, 1))?),

@@ -1,8 +1,10 @@
-ghost use Rattle.std.specs.Prelude.{◌≡◌, ◌-◌, IfOk, string_bytes};
+ghost use Rattle.std.specs.Prelude.{◌≡◌, ◌-◌, IfOk, option_copied, string_bytes};
 ghost use Rattle.rx_diagnostics.specs.BooksTexts.{after_text, called, key_of, keys_text};
+ghost use Rattle.rx_diagnostics.specs.BooksTexts.{memberless_text, unknown_text, unlisted_text};
 ghost use Rattle.rx_diagnostics.specs.BooksTexts.{kind_of, order_of, order_text, rank_of, twice_text};
 ghost use Rattle.rx_diagnostics.specs.Parts.{line_of};
 
+use crate::books_members::nearest;
 use crate::quoting::{field_of, line_of, shown};
 use std::alloc::{AllocError, Global};
 
@@ -140,18 +142,44 @@ fn key_of(alloc: Global, line: &[u8]) -> Result<String, AllocError>
 }
 
 /// What is said of a claim whose member isn't listed, or of a total whose family has no member.
-pub(crate) fn unknown_words(alloc: Global, text: &[u8], number: u64) -> Result<String, AllocError> {
+#[tactic(auto, unfolding(crate::specs::BooksTexts::unknown_text))]
+pub(crate) fn unknown_words(alloc: Global, text: &[u8], number: u64) -> Result<String, AllocError>
+    ensures { IfOk result (λ said. string_bytes said ≡ unknown_text text.now number) }
+{
     let line = line_of(text, number);
     if line.starts_with(b"T") {
-        let family = shown(alloc, field_of(line, 2))?;
-        return format!(in alloc;
-            "family {family} has a total line and no member: no M line above has this family"
-        );
+        return memberless_words(alloc, field_of(line, 2));
     }
     let family = field_of(line, 5);
-    let person = shown(alloc, field_of(line, 6))?;
+    let person = field_of(line, 6);
+    let above = number.saturating_sub(1) as usize;
+    unlisted_words(alloc, family, person, nearest(text, above, family, person))
+}
+
+// What is said of a total line of a family that has no member.
+#[tactic(auto, using(std::proofs::Common::append_assoc))]
+fn memberless_words(alloc: Global, family: &[u8]) -> Result<String, AllocError>
+    ensures { IfOk result (λ said. string_bytes said ≡ memberless_text family.now) }
+{
+    let family = shown(alloc, family)?;
+    format!(in alloc;
+        "family {family} has a total line and no member: no M line above has this family"
+    )
+}
+
+// What is said of a member who isn't listed.
+#[tactic(auto, using(std::proofs::Common::append_assoc))]
+fn unlisted_words(
+    alloc: Global,
+    family: &[u8],
+    person: &[u8],
+    nearest: Option<&[u8]>,
+) -> Result<String, AllocError>
+    ensures { IfOk result (λ said. string_bytes said ≡ unlisted_text family.now person.now (option_copied nearest.entry)) }
+{
+    let person = shown(alloc, person)?;
     let name = shown(alloc, family)?;
-    match nearest(text, family, field_of(line, 6)) {
+    match nearest {
         Some(listed) => {
             let listed = shown(alloc, listed)?;
             format!(in alloc;
@@ -162,18 +190,4 @@ pub(crate) fn unknown_words(alloc: Global, text: &[u8], number: u64) -> Result<S
             "member {name}/{person} isn't listed: no M line above has family {name}"
         ),
     }
-}
-
-// The listed person of the family that comes last before this one, or else the first.
-fn nearest<'t>(text: &'t [u8], family: &[u8], person: &[u8]) -> Option<&'t [u8]> {
-    let mut found: Option<&'t [u8]> = None;
-    for line in text.split(|b| *b == b'\n') {
-        if line.starts_with(b"M|") && field_of(line, 2) == family {
-            let listed = field_of(line, 3);
-            if found.is_none() || listed <= person {
-                found = Some(listed);
-            }
-        }
-    }
-    found
 }

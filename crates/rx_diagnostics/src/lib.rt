@@ -8,10 +8,10 @@
 //! let line = words.line(alloc, "books.txt")?;
 //! ```
 //!
-//! The texts are for people: they quote what they found with control bytes spelled out. What is said of a batch file, of
-//! a head and lines of books, of lines out of order and of a missing key, and of any fault of a file that can't be read
-//! again, is defined in `specs/BatchTexts.antt`, `BooksTexts.antt` and `SheetTexts.antt`; what is said of other faults is
-//! fixed nowhere but in the tests. Numbers of faults are left to the crates that find them.
+//! The texts are for people: they quote what they found with control bytes spelled out. What is said of each fault is
+//! defined in `specs/BatchTexts.antt`, `BooksTexts.antt` and `SheetWords.antt`, and that of a file that can't be read again
+//! in the first two and `SheetTexts.antt`. Only the digits of a sheet's number with a point, and where TOML's reader stopped
+//! and why, are fixed nowhere but in the tests. Numbers of faults are left to the crates that find them.
 #![tactic(auto)]
 
 mod batch;
@@ -19,6 +19,7 @@ mod batch_record;
 mod books;
 mod books_field;
 mod books_line;
+mod books_members;
 mod books_order;
 mod books_totals;
 mod looks;

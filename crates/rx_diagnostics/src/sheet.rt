@@ -1,14 +1,25 @@
-ghost use Rattle.std.specs.Prelude.{◌≡◌, ◌++◌, [], IfOk, string_bytes};
+ghost use Rattle.std.specs.Prelude.{◌≡◌, ◌+◌, ◌++◌, ◌≤◌, ℕ, [], IfOk, List, None, codes, count_by, length, option_map, string_bytes};
+ghost use Rattle.std.specs.Result.{result_ok};
+ghost use Rattle.std.specs.Str.{IsValidUpTo};
+ghost use Rattle.toml.specs.Errors.{IsMemory, IsWithin};
+ghost use Rattle.toml.specs.Parse.{parse_document};
+ghost use Rattle.toml.specs.View.{table_view, view};
+ghost use Rattle.rx_sheet.specs.SheetText.{tree_of};
+ghost use Rattle.rx_diagnostics.specs.Looks.{looks_like};
 ghost use Rattle.rx_diagnostics.specs.Places.{IsSheetPlace};
-ghost use Rattle.rx_diagnostics.specs.SheetTexts.{TellsMissing, TellsOfSheet, missing_text, unread_sheet_text, wrong_text};
+ghost use Rattle.rx_diagnostics.specs.SheetTexts.{unread_sheet_text};
+ghost use Rattle.rx_diagnostics.specs.SheetValues.{TellsDay, TellsDayText, TellsValue};
+ghost use Rattle.rx_diagnostics.specs.SheetWords.{AreAfter, AreOfWhole, TellsOfBytes, TellsOfKind, TellsOfReading, TellsOfSheet};
+ghost use Rattle.rx_diagnostics.specs.SheetWords.{TellsWrong, TellsWrongIn, begins_character, line_after, missing_said};
+ghost use Rattle.rx_diagnostics.specs.SheetWords.{place_after, unless_sheet};
 ghost use Rattle.rx_diagnostics.specs.declared.place.Place.{Place};
 
 use crate::looks::looks_like;
-use crate::place::Place;
-use crate::quoting::{line_of, quoted, said};
+use crate::place::{Place, front};
+use crate::quoting::{line_feeds, line_of, quoted, said};
 use crate::sheet_drugs::{drug_words, no_drug_key};
-use crate::sheet_keys::{name_of, wanted_at};
-use crate::sheet_values::{found, shown_value};
+use crate::sheet_keys::{missing_key, name_of, wrong_key};
+use crate::sheet_values::{backwards_words, expected_words, found, no_date, value_words};
 use crate::words::Words;
 use rx_fields::{Memory, date_read};
 use rx_ledger::SheetKey;
@@ -26,13 +37,13 @@ use toml::{Table, Value};
 /// Only Memory.
 pub fn sheet_words(alloc: Global, fault: SheetFault, text: &[u8]) -> Result<Words, Memory>
     ensures place { IfOk result (λ words. IsSheetPlace fault words.place) }
-    ensures text { IfOk result (λ words. TellsOfSheet fault (string_bytes words.text)) }
+    ensures said { IfOk result (TellsOfSheet text.now fault) }
 {
     match fault {
         SheetFault::NotToml => not_toml(alloc, text),
-        SheetFault::Missing(key) => Ok(Words::new(Place::Whole, missing(alloc, key, text)?)),
-        SheetFault::Wrong(key) => Ok(Words::new(Place::Whole, wrong(alloc, key, text)?)),
-        SheetFault::Memory => Ok(Words::new(Place::Whole, said(alloc, "out of memory")?)),
+        SheetFault::Missing(key) => Ok(of_whole(missing(alloc, key, text)?)),
+        SheetFault::Wrong(key) => wrong_words(alloc, key, text),
+        SheetFault::Memory => Ok(of_whole(said(alloc, "out of memory")?)),
     }
 }
 
@@ -47,7 +58,14 @@ pub fn unread_sheet_words(alloc: Global, fault: SheetFault) -> Result<Words, Mem
     ensures mend { IfOk result (λ words. words.mend.now ≡ []) }
 {
     let text = unread_text(alloc, fault)?;
-    Ok(Words::new(Place::Whole, text))
+    Ok(of_whole(text))
+}
+
+// Words of the whole sheet, which no one step mends.
+fn of_whole(said: String) -> Words
+    ensures { AreOfWhole (string_bytes said) result }
+{
+    Words::new(Place::Whole, said)
 }
 
 // What is said where the text isn't known.
@@ -63,64 +81,130 @@ fn unread_text(alloc: Global, fault: SheetFault) -> Result<String, AllocError>
 }
 
 // The words of a text that is no TOML.
-fn not_toml(alloc: Global, text: &[u8]) -> Result<Words, Memory> {
-    if let Some(kind) = looks_like(text)
-        && kind != "a plan sheet"
-    {
-        return Ok(Words::new(
-            Place::Whole,
-            format!(in alloc; "not TOML: this looks like {kind}")?,
-        ));
+fn not_toml(alloc: Global, text: &[u8]) -> Result<Words, Memory>
+    ensures { IfOk result (TellsOfKind text.now (unless_sheet (looks_like text.now))) }
+{
+    match other_kind(text) {
+        Some(kind) => kind_words(alloc, kind),
+        None => reading_words(alloc, text),
     }
+}
+
+// What the text looks like, unless like a sheet.
+fn other_kind(text: &[u8]) -> Option<&'static str>
+    ensures { option_map (λ kind. kind.now) result ≡ unless_sheet (looks_like text.now) }
+{
+    let kind = looks_like(text)?;
+    if kind == "a plan sheet" {
+        None
+    } else {
+        Some(kind)
+    }
+}
+
+#[tactic(auto, using(std::proofs::Common::append_assoc))]
+fn kind_words(alloc: Global, kind: &str) -> Result<Words, Memory>
+    ensures { IfOk result (AreOfWhole (codes "not TOML: this looks like " ++ kind.now)) }
+{
+    Ok(of_whole(format!(in alloc; "not TOML: this looks like {kind}")?))
+}
+
+// The words of a text by the place up to which it can be read.
+fn reading_words(alloc: Global, text: &[u8]) -> Result<Words, Memory>
+    ensures { IfOk result (TellsOfKind text.now None) }
+{
     match from_utf8(text) {
-        Ok(_) => Ok(parse_words(alloc, text)?),
-        Err(error) => Ok(encoding_words(alloc, text, error.valid_up_to())?),
+        Ok(text) => parse_words(alloc, text),
+        Err(error) => encoding_words(alloc, text, error.valid_up_to()),
     }
 }
 
 // The words of a text that isn't UTF-8 from a place on.
-fn encoding_words(alloc: Global, text: &[u8], place: usize) -> Result<Words, AllocError> {
-    let (place, line) = place_at(text, place);
-    let line = quoted(alloc, line)?;
-    Ok(Words {
-        place,
-        text: format!(in alloc; "not UTF-8: {line}")?,
-        mend: "iconv -f latin1 -t utf-8",
-    })
+fn encoding_words(alloc: Global, text: &[u8], bytes: usize) -> Result<Words, Memory>
+    requires { IsValidUpTo text.now bytes }
+    ensures { IfOk result (TellsOfBytes text.now) }
+{
+    words_after(alloc, text, bytes, "not UTF-8", "iconv -f latin1 -t utf-8")
 }
 
 // The words of a text that TOML's reader refuses.
-fn parse_words(alloc: Global, text: &[u8]) -> Result<Words, Memory> {
-    let Err(error) = toml::table_from_slice(alloc, text) else {
-        return Ok(Words::new(Place::Whole, said(alloc, "not TOML")?));
-    };
+fn parse_words(alloc: Global, text: &str) -> Result<Words, Memory>
+    ensures { IfOk result (TellsOfReading text.now (parse_document text.now)) }
+{
+    match toml::table_from_str(alloc, text) {
+        Ok(_) => Ok(of_whole(said(alloc, "not TOML")?)),
+        Err(error) => refused_words(alloc, text.as_bytes(), &error),
+    }
+}
+
+// The words of a text at which TOML's reader stopped.
+#[tactic(auto, using(std::proofs::Common::append_assoc))]
+fn refused_words(alloc: Global, text: &[u8], error: &toml::de::Error) -> Result<Words, Memory>
+    requires { IsWithin text.now error.now }
+    ensures read { IfOk result (λ _. ¬ IsMemory error.now) }
+    ensures said { IfOk result (TellsOfReading text.now None) }
+{
     let Some(span) = error.span() else {
         return Err(Memory);
     };
-    let (place, line) = place_at(text, span.start);
-    let line = quoted(alloc, line)?;
     let message = error.message();
-    Ok(Words::new(place, format!(in alloc; "not TOML: {message}: {line}")?))
+    let message = format!(in alloc; "not TOML: {message}")?;
+    words_after(alloc, text, span.start, message.as_str(), "")
 }
 
-// The line and the column after this many bytes, and the text of the line.
-fn place_at(text: &[u8], bytes: usize) -> (Place, &[u8]) {
-    let mut line = 1u64;
-    let mut column = 1u64;
-    for byte in text.iter().take(bytes) {
-        if *byte == b'\n' {
-            line = line.saturating_add(1);
-            column = 1;
-        } else if *byte & 0xC0 != 0x80 {
-            column = column.saturating_add(1);
-        }
-    }
-    (Place::Column { line, column }, line_of(text, line))
+// Words about the place after this many bytes, with its line.
+#[tactic(auto, using(std::proofs::Common::append_assoc))]
+fn words_after(
+    alloc: Global,
+    text: &[u8],
+    bytes: usize,
+    said: &str,
+    mend: &'static str,
+) -> Result<Words, Memory>
+    requires { bytes ≤ length text.now }
+    ensures { IfOk result (AreAfter text.now bytes said.now mend.now) }
+{
+    let line = quoted(alloc, line_of(text, line_after(text, bytes)))?;
+    Ok(Words {
+        place: place_after(text, bytes),
+        text: format!(in alloc; "{said}: {line}")?,
+        mend,
+    })
+}
+
+// The line and the column after this many bytes.
+fn place_after(text: &[u8], bytes: usize) -> Place
+    ensures { result ≡ place_after text.now bytes }
+{
+    let line = line_after(text, bytes);
+    let column = characters(line_of(front(text, bytes), line)) as u64 + 1;
+    Place::Column { line, column }
+}
+
+// The number of the line that goes on after this many bytes.
+fn line_after(text: &[u8], bytes: usize) -> u64
+    ensures { result ≡ line_after text.now bytes }
+{
+    line_feeds(front(text, bytes)) as u64 + 1
+}
+
+// How many characters begin in a text.
+fn characters(bytes: &[u8]) -> usize
+    ensures value { result ≡ count_by begins_character bytes.now }
+    ensures few { result ≤ length bytes.now }
+{
+    bytes.iter().filter(|b| begins_character(**b)).count()
+}
+
+fn begins_character(byte: u8) -> bool
+    ensures { result ≡ begins_character byte }
+{
+    byte & 0xC0 != 0x80
 }
 
 // What is said of a key that isn't there.
 fn missing(alloc: Global, key: SheetKey, text: &[u8]) -> Result<String, Memory>
-    ensures { IfOk result (λ said. TellsMissing key (string_bytes said)) }
+    ensures { IfOk result (λ said. string_bytes said ≡ missing_said key (tree_of text.now)) }
 {
     let Some(sheet) = tree_of(alloc, text)? else {
         return Ok(missing_key(alloc, key)?);
@@ -131,30 +215,11 @@ fn missing(alloc: Global, key: SheetKey, text: &[u8]) -> Result<String, Memory>
     }
 }
 
-fn missing_key(alloc: Global, key: SheetKey) -> Result<String, AllocError>
-    ensures { IfOk result (λ said. string_bytes said ≡ missing_text key) }
-{
-    let wanted = wanted_at(alloc, key)?;
-    key_words(alloc, name_of(key), " is missing: ", wanted.as_str())
-}
-
-fn wrong_key(alloc: Global, key: SheetKey) -> Result<String, AllocError>
-    ensures { IfOk result (λ said. string_bytes said ≡ wrong_text key) }
-{
-    let wanted = wanted_at(alloc, key)?;
-    key_words(alloc, name_of(key), " is wrong: ", wanted.as_str())
-}
-
-// A key, what is wrong with it, and what is expected.
-#[tactic(auto, using(std::proofs::Common::append_assoc))]
-fn key_words(alloc: Global, name: &str, wrong: &str, wanted: &str) -> Result<String, AllocError>
-    ensures { IfOk result (λ said. string_bytes said ≡ name.now ++ (wrong.now ++ wanted.now)) }
-{
-    format!(in alloc; "{name}{wrong}{wanted}")
-}
-
 // The table that the text stands for; None if it is no longer TOML.
-fn tree_of(alloc: Global, text: &[u8]) -> Result<Option<Table>, Memory> {
+#[tactic(auto, using(rx_sheet::proofs::Documents::document_read, rx_sheet::proofs::Documents::document_refused))]
+fn tree_of(alloc: Global, text: &[u8]) -> Result<Option<Table>, Memory>
+    ensures { IfOk result (λ tree. option_map table_view tree ≡ result_ok (tree_of text.now)) }
+{
     match toml::table_from_slice(alloc, text) {
         Ok(tree) => Ok(Some(tree)),
         Err(error) if error.is_memory() => Err(Memory),
@@ -162,48 +227,86 @@ fn tree_of(alloc: Global, text: &[u8]) -> Result<Option<Table>, Memory> {
     }
 }
 
-// What is said of a value of another kind or outside its range.
-fn wrong(alloc: Global, key: SheetKey, text: &[u8]) -> Result<String, Memory> {
-    let Some(sheet) = tree_of(alloc, text)? else {
-        return Ok(wrong_key(alloc, key)?);
-    };
+// The words of a value of another kind or outside its range.
+fn wrong_words(alloc: Global, key: SheetKey, text: &[u8]) -> Result<Words, Memory>
+    ensures { IfOk result (λ words. (said : List ℕ) × (TellsWrong key (tree_of text.now) said × AreOfWhole said words)) }
+{
+    let said = wrong(alloc, key, text)?;
+    Ok(of_whole(said))
+}
+
+// What is said of it.
+fn wrong(alloc: Global, key: SheetKey, text: &[u8]) -> Result<String, Memory>
+    ensures { IfOk result (λ said. TellsWrong key (tree_of text.now) (string_bytes said)) }
+{
+    match tree_of(alloc, text)? {
+        Some(sheet) => wrong_in(alloc, key, &sheet),
+        None => Ok(wrong_key(alloc, key)?),
+    }
+}
+
+// What is said of it in a sheet.
+fn wrong_in(alloc: Global, key: SheetKey, sheet: &Table) -> Result<String, Memory>
+    ensures { IfOk result (λ said. TellsWrongIn key (table_view sheet.now) (string_bytes said)) }
+{
     match key {
         SheetKey::Tiers | SheetKey::Drugs | SheetKey::Tier | SheetKey::Price => {
-            Ok(drug_words(alloc, key, &sheet)?)
+            Ok(drug_words(alloc, key, sheet)?)
         }
-        SheetKey::PeriodFirst | SheetKey::PeriodLast => Ok(wrong_date(alloc, key, &sheet)?),
-        _ => Ok(wrong_value(alloc, key, &sheet)?),
+        SheetKey::PeriodFirst | SheetKey::PeriodLast => {
+            let day = found(sheet, name_of(key));
+            Ok(wrong_day(alloc, key, day, found(sheet, "period_first"))?)
+        }
+        _ => Ok(wrong_value(alloc, key, found(sheet, name_of(key)))?),
     }
 }
 
 // A value, and what is expected in its place.
-fn wrong_value(alloc: Global, key: SheetKey, sheet: &Table) -> Result<String, AllocError> {
-    let name = name_of(key);
-    let Some(value) = found(sheet, name) else {
-        return wrong_key(alloc, key);
-    };
-    let value = shown_value(alloc, value)?;
-    let wanted = wanted_at(alloc, key)?;
-    format!(in alloc; "{name} = {value}: {wanted}")
+fn wrong_value(alloc: Global, key: SheetKey, value: Option<&Value>) -> Result<String, AllocError>
+    ensures { IfOk result (λ said. TellsValue key (option_map (λ v. view v.now) value.entry) (string_bytes said)) }
+{
+    match value {
+        Some(value) => value_words(alloc, key, value),
+        None => wrong_key(alloc, key),
+    }
 }
 
-// A value that is no date, or a last day before the first.
-fn wrong_date(alloc: Global, key: SheetKey, sheet: &Table) -> Result<String, AllocError> {
-    let name = name_of(key);
-    let Some(Value::String(value)) = found(sheet, name) else {
-        return wrong_value(alloc, key, sheet);
-    };
-    let bytes = value.as_str().as_bytes();
-    if bytes.len() != 8 || !all_digits(bytes) {
-        return wrong_value(alloc, key, sheet);
+// A day that is no text, or a text that is no day.
+fn wrong_day(
+    alloc: Global,
+    key: SheetKey,
+    day: Option<&Value>,
+    first: Option<&Value>,
+) -> Result<String, AllocError>
+    ensures { IfOk result (λ said. TellsDay key (option_map (λ v. view v.now) day.entry)
+        (option_map (λ v. view v.now) first.entry) (string_bytes said)) }
+{
+    match day {
+        Some(Value::String(day)) => day_words(alloc, key, day.as_str().as_bytes(), first),
+        _ => wrong_value(alloc, key, day),
     }
-    let value = quoted(alloc, bytes)?;
-    if date_read(bytes).is_err() {
-        return format!(in alloc; "{name} = {value}: no such date");
+}
+
+// A text that is no date, or a last day before the first.
+#[tactic(auto, unfolding(crate::specs::SheetValues::TellsDayText))]
+fn day_words(
+    alloc: Global,
+    key: SheetKey,
+    day: &[u8],
+    first: Option<&Value>,
+) -> Result<String, AllocError>
+    ensures { IfOk result (λ said.
+        TellsDayText key day.now (option_map (λ v. view v.now) first.entry) (string_bytes said)) }
+{
+    let shown = quoted(alloc, day)?;
+    if day.len() != 8 || !all_digits(day) {
+        return expected_words(alloc, key, &shown);
     }
-    let Some(first) = found(sheet, "period_first") else {
-        return wrong_value(alloc, key, sheet);
-    };
-    let first = shown_value(alloc, first)?;
-    format!(in alloc; "{name} = {value}: the last day is before the first, {first}")
+    if date_read(day).is_err() {
+        return no_date(alloc, key, &shown);
+    }
+    match first {
+        Some(first) => backwards_words(alloc, key, &shown, first),
+        None => expected_words(alloc, key, &shown),
+    }
 }

@@ -1,5 +1,19 @@
+ghost use Rattle.std.specs.Prelude.{◌≡◌, IfOk, is_some, option_map, string_bytes};
+ghost use Rattle.std.specs.Option.{option_and_then};
+ghost use Rattle.toml.specs.View.{table_view, view};
+ghost use Rattle.rx_sheet.specs.Drugs.{percent_in, share_in};
+ghost use Rattle.rx_sheet.specs.Values.{number};
+ghost use Rattle.rx_diagnostics.specs.SheetDrugs.{TellsDrug, TellsDrugs, TellsFirstDrug, TellsFirstPrice, TellsFirstShare};
+ghost use Rattle.rx_diagnostics.specs.SheetDrugs.{TellsFirstTier, TellsOfDrugs, TellsPercent, TellsShare, TellsTier, TellsTierOf};
+ghost use Rattle.rx_diagnostics.specs.SheetDrugs.{TellsTiers, drug_text, drugs_key_text, lacking_key_text, lacking_text};
+ghost use Rattle.rx_diagnostics.specs.SheetDrugs.{missing_of_drug_text, no_key_text, no_name_text};
+ghost use Rattle.rx_diagnostics.specs.SheetDrugs.{no_percent_text, no_table_text, percent_text, price_text, product_text};
+ghost use Rattle.rx_diagnostics.specs.SheetDrugs.{table_under, tier_text, unknown_tier_text};
+ghost use Rattle.rx_diagnostics.specs.SheetEntries.{entry_of, wrong_in};
+ghost use Rattle.rx_diagnostics.specs.SheetValues.{TellsOf, first_wrong, is_product, is_tier, lacks, of_drug, unless};
+
 use crate::quoting::quoted;
-use crate::sheet_keys::{name_of, wanted_at};
+use crate::sheet_keys::{key_words, name_of, wanted_at, wrong_key};
 use crate::sheet_values::{found, is_number, shown_value, table_at};
 use rx_fields::MOST_CENTS;
 use rx_ledger::{MOST_PRICE, SheetKey};
@@ -8,166 +22,443 @@ use std::alloc::{AllocError, Global};
 use toml::{Table, Value};
 
 /// What is said of tiers and drugs: the first tier or drug at fault by name, and its value.
-pub(crate) fn drug_words(
-    alloc: Global,
-    key: SheetKey,
-    sheet: &Table,
-) -> Result<String, AllocError> {
+#[tactic(auto, unfolding(crate::specs::SheetDrugs::TellsOfDrugs))]
+pub(crate) fn drug_words(alloc: Global, key: SheetKey, sheet: &Table) -> Result<String, AllocError>
+    ensures { IfOk result (λ said. TellsOfDrugs key (table_view sheet.now) (string_bytes said)) }
+{
+    let drugs = table_under(sheet, SheetKey::Drugs);
     match key {
-        SheetKey::Tiers => tiers_words(alloc, sheet),
-        SheetKey::Drugs => drugs_words(alloc, sheet),
-        SheetKey::Tier => tier_words(alloc, sheet),
-        _ => price_words(alloc, sheet),
+        SheetKey::Tiers => tiers_words(alloc, table_under(sheet, SheetKey::Tiers)),
+        SheetKey::Drugs => drugs_words(alloc, drugs),
+        SheetKey::Tier => tier_words(alloc, table_under(sheet, SheetKey::Tiers), drugs),
+        _ => price_words(alloc, first_in(drugs, Looked::Price)),
     }
 }
 
 /// What is said of the first drug that hasn't this key.
-pub(crate) fn no_drug_key(
-    alloc: Global,
-    key: SheetKey,
-    sheet: &Table,
-) -> Result<String, AllocError> {
-    let name = name_of(key);
-    let wanted = wanted_at(alloc, key)?;
-    if let Some(drugs) = table_at(sheet, "drugs") {
-        for (product, drug) in drugs.iter() {
-            if lacks(drug, name) {
-                let product = product.as_str();
-                return format!(in alloc; "drug {product}: {name} is missing: {wanted}");
-            }
-        }
-    }
-    format!(in alloc; "{name} of a drug is missing: {wanted}")
+#[tactic(auto, unfolding(crate::specs::SheetDrugs::no_key_text))]
+pub(crate) fn no_drug_key(alloc: Global, key: SheetKey, sheet: &Table) -> Result<String, AllocError>
+    ensures { IfOk result (λ said. string_bytes said ≡ no_key_text key (table_under SheetKey.Drugs (table_view sheet.now))) }
+{
+    let drugs = table_under(sheet, SheetKey::Drugs);
+    lacking_words(alloc, key, first_in(drugs, Looked::Lacking(key)))
 }
 
-fn lacks(drug: &Value, name: &str) -> bool {
-    match drug.as_table() {
-        Some(drug) => found(drug, name).is_none(),
-        None => false,
+// ---- the first that is wrong
+
+/// What is looked for among the entries of a table.
+#[derive(Clone, Copy)]
+pub(crate) enum Looked<'t> {
+    /// A tier that says no share.
+    Share,
+    /// A drug that is no table, or whose name is no product.
+    Drug,
+    /// A drug's tier that is none of these.
+    Tier(&'t Table),
+    /// A drug's price that is no price.
+    Price,
+    /// A drug without this key.
+    Lacking(SheetKey),
+}
+
+/// An entry of a table in which something is wrong.
+#[derive(Clone, Copy)]
+pub(crate) struct Entry<'t> {
+    pub(crate) name: &'t str,
+    /// What is wrong.
+    pub(crate) value: &'t Value,
+}
+
+// The first entry of a table in which something is wrong.
+fn first_wrong<'t>(table: &'t Table, looked: Looked<'_>) -> Option<Entry<'t>>
+    ensures { option_map entry_of result ≡ first_wrong (wrong_in looked.entry) (table_view table.now) }
+{
+    for (name, value) in table.iter() {
+        if let Some(value) = wrong_in(looked, name.as_str(), value) {
+            return Some(Entry {
+                name: name.as_str(),
+                value,
+            });
+        }
+    }
+    None
+}
+
+// The same, where there is a table.
+fn first_in<'t>(table: Option<&'t Table>, looked: Looked<'_>) -> Option<Entry<'t>>
+    ensures { option_map entry_of result
+        ≡ option_and_then (first_wrong (wrong_in looked.entry)) (option_map (λ t. table_view t.now) table.entry) }
+{
+    match table {
+        Some(table) => first_wrong(table, looked),
+        None => None,
     }
 }
 
-// The first tier that says no share.
-fn tiers_words(alloc: Global, sheet: &Table) -> Result<String, AllocError> {
-    let wanted = wanted_at(alloc, SheetKey::Tiers)?;
-    let Some(tiers) = table_at(sheet, "tiers") else {
-        return format!(in alloc; "tiers isn't a table: {wanted}");
-    };
-    for (name, tier) in tiers.iter() {
-        if !is_share(tier) {
-            return share_words(alloc, name.as_str(), tier);
-        }
+// What is wrong in an entry, if something is.
+fn wrong_in<'t>(looked: Looked<'_>, name: &str, value: &'t Value) -> Option<&'t Value>
+    ensures { option_map (λ v. view v.now) result ≡ wrong_in looked.entry name.now (view value.entry.now) }
+{
+    match looked {
+        Looked::Share => unless(is_share(value), value),
+        Looked::Drug => unless(is_product(name) && value.as_table().is_some(), value),
+        Looked::Tier(tiers) => wrong_tier(tiers, of_drug(value, SheetKey::Tier)),
+        Looked::Price => wrong_price(of_drug(value, SheetKey::Price)),
+        Looked::Lacking(key) => unless(!lacks(value, key), value),
     }
-    format!(in alloc; "tiers is wrong: {wanted}")
+}
+
+fn unless(is_fine: bool, value: &Value) -> Option<&Value>
+    ensures { option_map (λ v. view v.now) result ≡ unless is_fine (view value.entry.now) }
+{
+    if is_fine { None } else { Some(value) }
 }
 
 // Whether a copay, or a table with a percentage.
-fn is_share(tier: &Value) -> bool {
+fn is_share(tier: &Value) -> bool
+    ensures { result ≡ is_some (share_in (view tier.now)) }
+{
     match tier.as_table() {
         None => is_number(tier, MOST_CENTS),
-        Some(table) => match found(table, "percent") {
-            Some(percent) => is_number(percent, 100),
-            None => false,
-        },
+        Some(table) => has_percent(table),
     }
 }
 
-// What is said of a tier that says no share.
-fn share_words(alloc: Global, name: &str, tier: &Value) -> Result<String, AllocError> {
-    let name = quoted(alloc, name.as_bytes())?;
-    let Some(table) = tier.as_table() else {
-        let value = shown_value(alloc, tier)?;
-        return format!(in alloc;
-            "tier {name} = {value}: expected whole cents from 0 to {MOST_CENTS}, e.g. 1000, or {{ percent = 20 }}"
-        );
-    };
-    if let Some(percent) = found(table, "percent") {
-        let value = shown_value(alloc, percent)?;
-        return format!(in alloc;
-            "tier {name}: percent = {value}: expected a whole number from 0 to 100, e.g. 20"
-        );
-    }
-    format!(in alloc; "tier {name} is a table without percent: expected {{ percent = 20 }}")
-}
-
-// The first drug whose product is no product, or that is no table.
-fn drugs_words(alloc: Global, sheet: &Table) -> Result<String, AllocError> {
-    let wanted = wanted_at(alloc, SheetKey::Drugs)?;
-    let Some(drugs) = table_at(sheet, "drugs") else {
-        return format!(in alloc; "drugs isn't a table: {wanted}");
-    };
-    for (product, drug) in drugs.iter() {
-        let bytes = product.as_str().as_bytes();
-        if bytes.len() != 11 || !all_digits(bytes) {
-            let product = quoted(alloc, bytes)?;
-            return format!(in alloc;
-                "drug {product}: a product is 11 digits without dashes, as 00001000101"
-            );
-        }
-        if drug.as_table().is_none() {
-            let product = product.as_str();
-            let value = shown_value(alloc, drug)?;
-            return format!(in alloc;
-                "drug {product} = {value}: expected a table with tier and price"
-            );
-        }
-    }
-    format!(in alloc; "drugs is wrong: {wanted}")
-}
-
-// The first drug whose tier is no tier.
-fn tier_words(alloc: Global, sheet: &Table) -> Result<String, AllocError> {
-    if let (Some(drugs), Some(tiers)) = (table_at(sheet, "drugs"), table_at(sheet, "tiers")) {
-        for (product, drug) in drugs.iter() {
-            let product = product.as_str();
-            if let Some(drug) = drug.as_table()
-                && let Some(tier) = found(drug, "tier")
-                && !is_tier(tiers, tier)
-            {
-                return no_tier(alloc, product, tier);
-            }
-        }
-    }
-    said_wrong(alloc, SheetKey::Tier)
-}
-
-fn is_tier(tiers: &Table, tier: &Value) -> bool {
-    match tier.as_str() {
-        Some(name) => found(tiers, name).is_some(),
+fn has_percent(tier: &Table) -> bool
+    ensures { result ≡ is_some (percent_in (table_view tier.now)) }
+{
+    match found(tier, "percent") {
+        Some(percent) => is_number(percent, 100),
         None => false,
     }
 }
 
-fn no_tier(alloc: Global, product: &str, tier: &Value) -> Result<String, AllocError> {
-    let value = shown_value(alloc, tier)?;
-    match tier.as_str() {
-        Some(_) => format!(in alloc; "drug {product}: tier = {value}: no tier has this name"),
-        None => format!(in alloc;
-            "drug {product}: tier = {value}: expected the name of a tier in quotes, e.g. \"1\""
-        ),
+fn is_product(name: &str) -> bool
+    ensures { result ≡ is_product name.now }
+{
+    name.len() == 11 && all_digits(name.as_bytes())
+}
+
+// The value at a key of a drug, where it is a table.
+fn of_drug<'t>(drug: &'t Value, key: SheetKey) -> Option<&'t Value>
+    ensures { option_map (λ v. view v.now) result ≡ of_drug key (view drug.entry.now) }
+{
+    found(drug.as_table()?, name_of(key))
+}
+
+fn wrong_tier<'t>(tiers: &Table, tier: Option<&'t Value>) -> Option<&'t Value>
+    ensures { option_map (λ v. view v.now) result ≡ option_and_then (λ t. unless (is_tier (table_view tiers.now) t) t)
+        (option_map (λ v. view v.now) tier.entry) }
+{
+    match tier {
+        Some(tier) => unless(is_tier(tiers, tier), tier),
+        None => None,
     }
 }
 
-// The first drug whose price is no price.
-fn price_words(alloc: Global, sheet: &Table) -> Result<String, AllocError> {
+fn is_tier(tiers: &Table, tier: &Value) -> bool
+    ensures { result ≡ is_tier (table_view tiers.now) (view tier.now) }
+{
+    match tier {
+        Value::String(name) => found(tiers, name.as_str()).is_some(),
+        _ => false,
+    }
+}
+
+fn wrong_price(price: Option<&Value>) -> Option<&Value>
+    ensures { option_map (λ v. view v.now) result ≡ option_and_then (λ p. unless (is_some (number 0 MOST_PRICE p)) p)
+        (option_map (λ v. view v.now) price.entry) }
+{
+    match price {
+        Some(price) => unless(is_number(price, MOST_PRICE), price),
+        None => None,
+    }
+}
+
+// Whether a drug is a table without the key.
+fn lacks(drug: &Value, key: SheetKey) -> bool
+    ensures { result ≡ lacks key (view drug.now) }
+{
+    drug.as_table().is_some() && of_drug(drug, key).is_none()
+}
+
+// The table at a key of the sheet.
+fn table_under(sheet: &Table, key: SheetKey) -> Option<&Table>
+    ensures { option_map (λ t. table_view t.now) result ≡ table_under key (table_view sheet.entry.now) }
+{
+    table_at(sheet, name_of(key))
+}
+
+// ---- tiers
+
+fn tiers_words(alloc: Global, tiers: Option<&Table>) -> Result<String, AllocError>
+    ensures { IfOk result (λ said. TellsTiers (option_map (λ t. table_view t.now) tiers.entry) (string_bytes said)) }
+{
+    match tiers {
+        Some(tiers) => share_words(alloc, first_wrong(tiers, Looked::Share)),
+        None => no_table(alloc, SheetKey::Tiers),
+    }
+}
+
+#[tactic(auto, using(std::proofs::Common::append_assoc))]
+fn no_table(alloc: Global, key: SheetKey) -> Result<String, AllocError>
+    ensures { IfOk result (λ said. string_bytes said ≡ no_table_text key) }
+{
+    let name = name_of(key);
+    let wanted = wanted_at(alloc, key)?;
+    format!(in alloc; "{name} isn't a table: {wanted}")
+}
+
+// What is said of the first tier that says no share.
+fn share_words(alloc: Global, wrong: Option<Entry<'_>>) -> Result<String, AllocError>
+    ensures { IfOk result (λ said. TellsFirstShare (option_map entry_of wrong.entry) (string_bytes said)) }
+{
+    match wrong {
+        Some(tier) => kind_words(alloc, tier.name, tier.value),
+        None => wrong_key(alloc, SheetKey::Tiers),
+    }
+}
+
+// A table by its percentage, another value as it stands.
+fn kind_words(alloc: Global, name: &str, tier: &Value) -> Result<String, AllocError>
+    ensures { IfOk result (λ said. TellsShare name.now (view tier.now) (string_bytes said)) }
+{
+    match tier.as_table() {
+        Some(table) => percent_words(alloc, name, found(table, "percent")),
+        None => cents_words(alloc, name, tier),
+    }
+}
+
+fn percent_words(alloc: Global, name: &str, percent: Option<&Value>) -> Result<String, AllocError>
+    ensures { IfOk result (λ said.
+        TellsPercent name.now (option_map (λ v. view v.now) percent.entry) (string_bytes said)) }
+{
+    match percent {
+        Some(percent) => wrong_percent(alloc, name, percent),
+        None => no_percent(alloc, name),
+    }
+}
+
+fn wrong_percent(alloc: Global, name: &str, percent: &Value) -> Result<String, AllocError>
+    ensures { IfOk result (λ said. TellsOf (view percent.now) (percent_text name.now) (string_bytes said)) }
+{
+    let shown = shown_value(alloc, percent)?;
+    percent_text(alloc, name, &shown)
+}
+
+#[tactic(auto, using(std::proofs::Common::append_assoc), unfolding(crate::specs::SheetDrugs::percent_text))]
+fn percent_text(alloc: Global, name: &str, shown: &str) -> Result<String, AllocError>
+    ensures { IfOk result (λ said. string_bytes said ≡ percent_text name.now shown.now) }
+{
+    let name = quoted(alloc, name.as_bytes())?;
+    format!(in alloc;
+        "tier {name}: percent = {shown}: expected a whole number from 0 to 100, e.g. 20"
+    )
+}
+
+#[tactic(auto, using(std::proofs::Common::append_assoc), unfolding(crate::specs::SheetDrugs::no_percent_text))]
+fn no_percent(alloc: Global, name: &str) -> Result<String, AllocError>
+    ensures { IfOk result (λ said. string_bytes said ≡ no_percent_text name.now) }
+{
+    let name = quoted(alloc, name.as_bytes())?;
+    format!(in alloc; "tier {name} is a table without percent: expected {{ percent = 20 }}")
+}
+
+fn cents_words(alloc: Global, name: &str, tier: &Value) -> Result<String, AllocError>
+    ensures { IfOk result (λ said. TellsOf (view tier.now) (tier_text name.now) (string_bytes said)) }
+{
+    let shown = shown_value(alloc, tier)?;
+    tier_text(alloc, name, &shown)
+}
+
+#[tactic(auto, using(std::proofs::Common::append_assoc), unfolding(crate::specs::SheetDrugs::tier_text))]
+fn tier_text(alloc: Global, name: &str, shown: &str) -> Result<String, AllocError>
+    ensures { IfOk result (λ said. string_bytes said ≡ tier_text name.now shown.now) }
+{
+    let name = quoted(alloc, name.as_bytes())?;
+    format!(in alloc;
+        "tier {name} = {shown}: expected whole cents from 0 to {MOST_CENTS}, e.g. 1000, or {{ percent = 20 }}"
+    )
+}
+
+// ---- drugs
+
+fn drugs_words(alloc: Global, drugs: Option<&Table>) -> Result<String, AllocError>
+    ensures { IfOk result (λ said. TellsDrugs (option_map (λ t. table_view t.now) drugs.entry) (string_bytes said)) }
+{
+    match drugs {
+        Some(drugs) => shape_words(alloc, first_wrong(drugs, Looked::Drug)),
+        None => no_table(alloc, SheetKey::Drugs),
+    }
+}
+
+// What is said of the first drug that is no table, or whose name is no product.
+fn shape_words(alloc: Global, wrong: Option<Entry<'_>>) -> Result<String, AllocError>
+    ensures { IfOk result (λ said. TellsFirstDrug (option_map entry_of wrong.entry) (string_bytes said)) }
+{
+    match wrong {
+        Some(drug) => named_words(alloc, drug.name, drug.value),
+        None => wrong_key(alloc, SheetKey::Drugs),
+    }
+}
+
+fn named_words(alloc: Global, name: &str, drug: &Value) -> Result<String, AllocError>
+    ensures { IfOk result (λ said. TellsDrug name.now (view drug.now) (string_bytes said)) }
+{
+    if is_product(name) {
+        no_drug(alloc, name, drug)
+    } else {
+        no_product(alloc, name)
+    }
+}
+
+#[tactic(auto, using(std::proofs::Common::append_assoc), unfolding(crate::specs::SheetDrugs::product_text))]
+fn no_product(alloc: Global, name: &str) -> Result<String, AllocError>
+    ensures { IfOk result (λ said. string_bytes said ≡ product_text name.now) }
+{
+    let name = quoted(alloc, name.as_bytes())?;
+    format!(in alloc; "drug {name}: a product is 11 digits without dashes, as 00001000101")
+}
+
+fn no_drug(alloc: Global, name: &str, drug: &Value) -> Result<String, AllocError>
+    ensures { IfOk result (λ said. TellsOf (view drug.now) (drug_text name.now) (string_bytes said)) }
+{
+    let shown = shown_value(alloc, drug)?;
+    drug_text(alloc, name, &shown)
+}
+
+#[tactic(auto, using(std::proofs::Common::append_assoc), unfolding(crate::specs::SheetDrugs::drug_text))]
+fn drug_text(alloc: Global, name: &str, shown: &str) -> Result<String, AllocError>
+    ensures { IfOk result (λ said. string_bytes said ≡ drug_text name.now shown.now) }
+{
+    format!(in alloc; "drug {name} = {shown}: expected a table with tier and price")
+}
+
+// ---- a drug's tier and price
+
+fn tier_words(
+    alloc: Global,
+    tiers: Option<&Table>,
+    drugs: Option<&Table>,
+) -> Result<String, AllocError>
+    ensures { IfOk result (λ said. TellsTierOf (option_map (λ t. table_view t.now) tiers.entry)
+        (option_map (λ t. table_view t.now) drugs.entry) (string_bytes said)) }
+{
+    match (tiers, drugs) {
+        (Some(tiers), Some(drugs)) => first_tier(alloc, first_wrong(drugs, Looked::Tier(tiers))),
+        _ => first_tier(alloc, None),
+    }
+}
+
+// What is said of the first drug whose tier is no tier.
+fn first_tier(alloc: Global, wrong: Option<Entry<'_>>) -> Result<String, AllocError>
+    ensures { IfOk result (λ said. TellsFirstTier (option_map entry_of wrong.entry) (string_bytes said)) }
+{
+    match wrong {
+        Some(drug) => no_tier(alloc, drug.name, drug.value),
+        None => wrong_of_drug(alloc, SheetKey::Tier),
+    }
+}
+
+fn no_tier(alloc: Global, drug: &str, tier: &Value) -> Result<String, AllocError>
+    ensures { IfOk result (λ said. TellsTier drug.now (view tier.now) (string_bytes said)) }
+{
+    match tier {
+        Value::String(name) => unknown_tier(alloc, drug, name.as_str()),
+        _ => no_name(alloc, drug, tier),
+    }
+}
+
+#[tactic(auto, using(std::proofs::Common::append_assoc), unfolding(crate::specs::SheetDrugs::unknown_tier_text))]
+fn unknown_tier(alloc: Global, drug: &str, tier: &str) -> Result<String, AllocError>
+    ensures { IfOk result (λ said. string_bytes said ≡ unknown_tier_text drug.now tier.now) }
+{
+    let tier = quoted(alloc, tier.as_bytes())?;
+    format!(in alloc; "drug {drug}: tier = {tier}: no tier has this name")
+}
+
+fn no_name(alloc: Global, drug: &str, tier: &Value) -> Result<String, AllocError>
+    ensures { IfOk result (λ said. TellsOf (view tier.now) (no_name_text drug.now) (string_bytes said)) }
+{
+    let shown = shown_value(alloc, tier)?;
+    no_name_text(alloc, drug, &shown)
+}
+
+#[tactic(auto, using(std::proofs::Common::append_assoc), unfolding(crate::specs::SheetDrugs::no_name_text))]
+fn no_name_text(alloc: Global, drug: &str, shown: &str) -> Result<String, AllocError>
+    ensures { IfOk result (λ said. string_bytes said ≡ no_name_text drug.now shown.now) }
+{
+    format!(in alloc;
+        "drug {drug}: tier = {shown}: expected the name of a tier in quotes, e.g. \"1\""
+    )
+}
+
+// What is said of the first drug whose price is no price.
+fn price_words(alloc: Global, wrong: Option<Entry<'_>>) -> Result<String, AllocError>
+    ensures { IfOk result (λ said. TellsFirstPrice (option_map entry_of wrong.entry) (string_bytes said)) }
+{
+    match wrong {
+        Some(drug) => no_price(alloc, drug.name, drug.value),
+        None => wrong_of_drug(alloc, SheetKey::Price),
+    }
+}
+
+fn no_price(alloc: Global, drug: &str, price: &Value) -> Result<String, AllocError>
+    ensures { IfOk result (λ said. TellsOf (view price.now) (price_text drug.now) (string_bytes said)) }
+{
+    let shown = shown_value(alloc, price)?;
+    price_text(alloc, drug, &shown)
+}
+
+#[tactic(auto, using(std::proofs::Common::append_assoc), unfolding(crate::specs::SheetDrugs::price_text))]
+fn price_text(alloc: Global, drug: &str, shown: &str) -> Result<String, AllocError>
+    ensures { IfOk result (λ said. string_bytes said ≡ price_text drug.now shown.now) }
+{
     let wanted = wanted_at(alloc, SheetKey::Price)?;
-    if let Some(drugs) = table_at(sheet, "drugs") {
-        for (product, drug) in drugs.iter() {
-            let product = product.as_str();
-            if let Some(drug) = drug.as_table()
-                && let Some(price) = found(drug, "price")
-                && !is_number(price, MOST_PRICE)
-            {
-                let value = shown_value(alloc, price)?;
-                return format!(in alloc; "drug {product}: price = {value}: {wanted}");
-            }
-        }
-    }
-    said_wrong(alloc, SheetKey::Price)
+    format!(in alloc; "drug {drug}: price = {shown}: {wanted}")
 }
 
-fn said_wrong(alloc: Global, key: SheetKey) -> Result<String, AllocError> {
+// What is said of a key that is wrong in no drug.
+#[tactic(auto, using(std::proofs::Common::append_assoc))]
+fn wrong_of_drug(alloc: Global, key: SheetKey) -> Result<String, AllocError>
+    ensures { IfOk result (λ said. string_bytes said ≡ drugs_key_text key) }
+{
     let name = name_of(key);
     let wanted = wanted_at(alloc, key)?;
     format!(in alloc; "{name} of a drug is wrong: {wanted}")
+}
+
+// What is said of the first drug without a key.
+fn lacking_words(
+    alloc: Global,
+    key: SheetKey,
+    lacking: Option<Entry<'_>>,
+) -> Result<String, AllocError>
+    ensures { IfOk result (λ said. string_bytes said ≡ lacking_text key (option_map entry_of lacking.entry)) }
+{
+    match lacking {
+        Some(drug) => lacking_key(alloc, key, drug.name),
+        None => missing_of_drug(alloc, key),
+    }
+}
+
+#[tactic(auto, using(std::proofs::Common::append_assoc))]
+fn lacking_key(alloc: Global, key: SheetKey, drug: &str) -> Result<String, AllocError>
+    ensures { IfOk result (λ said. string_bytes said ≡ lacking_key_text key drug.now) }
+{
+    let name = name_of(key);
+    let wanted = wanted_at(alloc, key)?;
+    format!(in alloc; "drug {drug}: {name} is missing: {wanted}")
+}
+
+fn missing_of_drug(alloc: Global, key: SheetKey) -> Result<String, AllocError>
+    ensures { IfOk result (λ said. string_bytes said ≡ missing_of_drug_text key) }
+{
+    let wanted = wanted_at(alloc, key)?;
+    key_words(
+        alloc,
+        name_of(key),
+        " of a drug is missing: ",
+        wanted.as_str(),
+    )
 }

@@ -1,6 +1,6 @@
-ghost use Rattle.std.specs.Prelude.{◌≡◌, IfOk, string_bytes};
+ghost use Rattle.std.specs.Prelude.{◌≡◌, ◌++◌, IfOk, string_bytes};
 ghost use Rattle.rx_sheet.specs.Names.{name_of};
-ghost use Rattle.rx_diagnostics.specs.SheetTexts.{cents_wanted, price_wanted, wanted_at};
+ghost use Rattle.rx_diagnostics.specs.SheetTexts.{cents_wanted, missing_text, price_wanted, wanted_at, wrong_text};
 
 use crate::quoting::said;
 use rx_fields::MOST_CENTS;
@@ -70,4 +70,33 @@ fn price_wanted(alloc: Global) -> Result<String, AllocError>
     format!(in alloc;
         "expected hundredths of a cent per unit, a whole number from 0 to {MOST_PRICE}"
     )
+}
+
+/// What is said of a key that isn't there.
+pub(crate) fn missing_key(alloc: Global, key: SheetKey) -> Result<String, AllocError>
+    ensures { IfOk result (λ said. string_bytes said ≡ missing_text key) }
+{
+    let wanted = wanted_at(alloc, key)?;
+    key_words(alloc, name_of(key), " is missing: ", wanted.as_str())
+}
+
+/// What is said of a key whose value isn't known.
+pub(crate) fn wrong_key(alloc: Global, key: SheetKey) -> Result<String, AllocError>
+    ensures { IfOk result (λ said. string_bytes said ≡ wrong_text key) }
+{
+    let wanted = wanted_at(alloc, key)?;
+    key_words(alloc, name_of(key), " is wrong: ", wanted.as_str())
+}
+
+/// A key, what is wrong with it, and what is expected.
+#[tactic(auto, using(std::proofs::Common::append_assoc))]
+pub(crate) fn key_words(
+    alloc: Global,
+    name: &str,
+    wrong: &str,
+    wanted: &str,
+) -> Result<String, AllocError>
+    ensures { IfOk result (λ said. string_bytes said ≡ name.now ++ (wrong.now ++ wanted.now)) }
+{
+    format!(in alloc; "{name}{wrong}{wanted}")
 }

@@ -13,6 +13,8 @@ use Rattle.rx_ledger.specs.Fold.{ledger_from}
 use Rattle.rx_ledger.specs.Ledger.{Ledger}
 use Rattle.rx_ledger.specs.Plan.{Plan}
 use Rattle.rx_explain_replay.specs.declared.batch.Batch.{Batch}
+use Rattle.rx_explain_replay.specs.declared.explaining.Pass.{Pass}
+use Rattle.rx_explain_replay.specs.Courses.{IsCourse}
 
 -- what decided the transaction at a place of a batch
 abbrev pub IsDecided : Batch → At → Option Facts → Type 0
@@ -21,6 +23,11 @@ IsDecided b at = AreFactsAt b.lot b.sheet.now b.asked.now b.opening.now.ledger a
 -- what decided each transaction of the record at a place
 abbrev pub AreDecided : Batch → ℕ → List Facts → Type 0
 AreDecided b place xs = (nth : ℕ) → IsDecided b (record { place = place; nth = nth }) (item xs nth)
+
+-- a pass over the batch: its first records are done, and it is known what decided the transactions of the one at its place
+pub record IsPass (b : Batch) (p : Pass) : Type 0 where
+  pub course : IsCourse b p.course
+  pub latest : AreDecided b p.place p.latest.items
 
 -- of the transaction at a place, its explanation among these events
 abbrev pub IsAt : Batch → List Event → At → Option Explanation → Type 0

@@ -1,41 +1,20 @@
 ghost use Rattle.std.specs.Prelude.{◌≡◌, ◌≤◌, IfOk, OnOk, Option, length};
 ghost use Rattle.std.specs.List.{AllZip};
 ghost use Rattle.std.specs.Option.{option_copied};
-ghost use Rattle.rx_explain_replay.specs.Adjudicated.{AreExplained, IsAdjudicated};
 ghost use Rattle.rx_explain_replay.specs.Courses.{IsCourse};
-ghost use Rattle.rx_explain_replay.specs.Records.{AreDecided, IsAt, IsDecided};
+ghost use Rattle.rx_explain_replay.specs.Records.{AreDecided, IsAt, IsDecided, IsPass};
 ghost use Rattle.rx_explain_replay.specs.declared.batch.Batch.{Batch as BatchRecord};
 ghost use Rattle.rx_fields.specs.declared.limits.TheConstants.{MOST_DETAILS};
 
-use crate::batch::{Adjudicated, Batch};
+use crate::batch::Batch;
 use crate::course::{Course, begun, go_to};
 use crate::record::explain_record;
 use rx_explain::{At, Events, Explanation, Facts, item, place_at};
 use rx_fields::Memory;
 use std::alloc::Global;
 
-/// An explanation of the transaction at each of these places of a batch, None if there is none. Places in the order of
-/// the batch take one more pass over it.
-#[tactic(auto, using(crate::proofs::Replied::one_each))]
-pub fn explanations(
-    alloc: Global,
-    batch: &Adjudicated,
-    places: &[At],
-) -> Result<Vec<Option<Explanation>>, Memory>
-    requires { IsAdjudicated batch.now }
-    ensures { IfOk result (λ all. AreExplained batch.now places.now all.items) }
-{
-    let events = Events::of(alloc, &batch.asked, &batch.replies)?;
-    let batch = Batch {
-        lot: batch.lot,
-        sheet: &batch.sheet,
-        opening: &batch.opening,
-        asked: &batch.asked,
-    };
-    explain_each(alloc, &batch, &events, places)
-}
-
-/// The same among these events.
+/// An explanation of the transaction at each of these places of a batch among these events, None if there is none. Places in
+/// the order of the batch take one more pass over it.
 pub fn explain_each(
     alloc: Global,
     batch: &Batch<'_>,
@@ -45,7 +24,7 @@ pub fn explain_each(
     requires { length batch.now.asked.now ≤ MOST_DETAILS }
     ensures { IfOk result (λ all. AllZip (IsAt batch.now events.now) places.now all.items) }
 {
-    let mut pass = pass_begun(alloc, batch)?;
+    let mut pass = Pass::begun(alloc, batch)?;
     let explanations = explain_on(alloc, batch, events, &mut pass, places);
     drop(pass);
     explanations
@@ -59,15 +38,14 @@ fn explain_on(
     pass: &mut Pass,
     places: &[At],
 ) -> Result<Vec<Option<Explanation>>, Memory>
-    requires course { IsCourse batch.now pass.old.course }
-    requires latest { AreDecided batch.now pass.old.place pass.old.latest.items }
+    requires { IsPass batch.now pass.old }
     ensures { IfOk result (λ all. AllZip (IsAt batch.now events.now) places.now all.items) }
 {
     let mut explanations = Vec::with_capacity(alloc, places.len())?;
     for nth in 0..places.len() {
         let at = place_at(places, nth);
-        pass_to(alloc, batch, pass, at.place)?;
-        explanations.push(traced(alloc, events, item(&pass.latest, at.nth))?)?;
+        let explanation = pass.explain(alloc, batch, events, at)?;
+        explanations.push(explanation)?;
     }
     Ok(explanations)
 }
@@ -87,25 +65,44 @@ pub fn traced(
     }
 }
 
-// A batch replayed, and what decided the transactions of the record at a place of it.
+/// A pass over a batch, which explains transactions as it comes to their records.
 #[derive(Drop)]
-struct Pass {
+pub struct Pass {
     course: Course,
+    // The place of the record that was explained last, and what decided its transactions.
     place: u64,
     latest: Vec<Facts>,
 }
 
-// A batch of which no record is done, nor explained.
-fn pass_begun(alloc: Global, batch: &Batch<'_>) -> Result<Pass, Memory>
-    requires { length batch.now.asked.now ≤ MOST_DETAILS }
-    ensures course { IfOk result (λ pass. IsCourse batch.now pass.course) }
-    ensures latest { IfOk result (λ pass. AreDecided batch.now pass.place pass.latest.items) }
-{
-    Ok(Pass {
-        course: begun(alloc, batch)?,
-        place: 0,
-        latest: Vec::new(alloc),
-    })
+impl Pass {
+    /// A pass that has come to no record yet.
+    pub fn begun(alloc: Global, batch: &Batch<'_>) -> Result<Pass, Memory>
+        requires { length batch.now.asked.now ≤ MOST_DETAILS }
+        ensures { IfOk result (IsPass batch.now) }
+    {
+        Ok(Pass {
+            course: begun(alloc, batch)?,
+            place: 0,
+            latest: Vec::new(alloc),
+        })
+    }
+
+    /// An explanation of the transaction at a place of the batch among these events, None if there is none. Where the pass
+    /// is past the place, it begins again.
+    pub fn explain(
+        &mut self,
+        alloc: Global,
+        batch: &Batch<'_>,
+        events: &Events,
+        at: At,
+    ) -> Result<Option<Explanation>, Memory>
+        requires { IsPass batch.now self.old }
+        ensures pass { OnOk result (IsPass batch.now self.new) }
+        ensures explained { IfOk result (IsAt batch.now events.now at) }
+    {
+        pass_to(alloc, batch, self, at.place)?;
+        traced(alloc, events, item(&self.latest, at.nth))
+    }
 }
 
 // The pass goes on to the record at a place, and explains it; where it is past it, it begins again.

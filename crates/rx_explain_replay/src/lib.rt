@@ -1,13 +1,13 @@
 //! A batch replayed: the replies to its records, and explanations of any of its transactions.
 //!
 //! In come the opening books and what a batch asks; out come the replies to it, with explanations of the records at some
-//! places (`replay`), or, once the replies are known, the explanations of the transactions at some places
-//! (`explanations`), in the order of the batch in one pass over it. What an explanation says is in `rx_explain`; what a
+//! places (`replay`), or, once the replies are known, explanations of transactions in the order of the batch, in one pass
+//! over it, all at once (`explain_each`) or one after another (`Pass`). What an explanation says is in `rx_explain`; what a
 //! record is explained on is the books themselves, as they are when its turn comes.
 //!
 //! ```rust
 //! let replayed = rx_explain_replay::replay(alloc, batch, &places)?;
-//! let explanations = rx_explain_replay::explanations(alloc, &adjudicated, &places)?;
+//! let explanations = rx_explain_replay::explain_each(alloc, batch, &events, &places)?;
 //! ```
 //!
 //! Which transactions are asked for is left to the caller, and so are words for people.
@@ -20,5 +20,5 @@ mod record;
 mod replaying;
 
 pub use batch::{Adjudicated, Batch};
-pub use explaining::{explain_each, explanations, traced};
+pub use explaining::{Pass, explain_each, traced};
 pub use replaying::{Explained, Replayed, replay};

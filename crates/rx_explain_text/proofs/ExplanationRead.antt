@@ -31,7 +31,7 @@ use Rattle.rx_explain_text.specs.RequestField.{field_bytes, field_number}
 use Rattle.rx_print.specs.Said.{said}
 use Rattle.rx_explain_text.specs.Words.{case_name_of, name_of, wanted_for}
 use Rattle.rx_explain_text.specs.declared.compared.Compared.{Compared}
-use Rattle.rx_explain_text.specs.declared.compared.Compared.TheVariants.{Same, Differs, Absent}
+use Rattle.rx_explain_text.specs.declared.compared.Compared.TheVariants.{Same, Differs, Absent, OtherBatch}
 use Rattle.rx_fields.specs.Calendar.{Civil}
 use Rattle.rx_fields.specs.Codes.{code_text}
 use Rattle.rx_fields.specs.Digits.{digits_text}
@@ -134,6 +134,7 @@ compared_is d None = no_members_are d
 compared_is d (Some Same) = said_is d (codes "response") (codes "same") refl refl
 compared_is d (Some Differs) = said_is d (codes "response") (codes "differs") refl refl
 compared_is d (Some Absent) = said_is d (codes "response") (codes "absent") refl refl
+compared_is d (Some (OtherBatch lot)) = said_is d (codes "response") (codes "other batch") refl refl
 
 -- ---- codes
 

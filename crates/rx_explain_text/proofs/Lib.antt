@@ -2,4 +2,5 @@
 mod ExplanationRead
 pub mod Joined
 mod JsonNames
+pub mod Largest
 mod Worked

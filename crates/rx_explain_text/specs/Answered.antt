@@ -1,6 +1,7 @@
 -- Meaning: the line that says the answer and the pharmacy.
 use Rattle.std.specs.Prelude.{ℕ, List, [], ◌∷◌, ◌++◌, Option, Some, None, codes, length}
 use Rattle.std.specs.Fmt.{decimal}
+use Rattle.rx_d0_values.specs.declared.bill.BillParts.{BillParts}
 use Rattle.rx_d0_values.specs.declared.reply.Answer.{Answer}
 use Rattle.rx_d0_values.specs.declared.reply.Answer.TheVariants.{Paid, Twice, Approved, Refused}
 use Rattle.rx_d0_values.specs.declared.transaction.Transaction.{Transaction}
@@ -11,6 +12,7 @@ use Rattle.rx_explain.specs.declared.explanation.Explanation.{Explanation}
 use Rattle.rx_explain_text.specs.Claims.{at_text, whose_member}
 use Rattle.rx_explain_text.specs.Codes.{named_code, shown}
 use Rattle.rx_print.specs.Dates.{dashed}
+use Rattle.rx_print.specs.Money.{thousandths_text}
 use Rattle.rx_explain_text.specs.Said.{said, say}
 use Rattle.rx_fields.specs.Digits.{digits_text}
 use Rattle.rx_fields.specs.declared.code.Code.{Code}
@@ -50,14 +52,30 @@ reference_of (Faulty f) = f.reference
 abbrev pub member_text : List ℕ → List ℕ → List ℕ
 member_text family person = whose_member (codes "  family ") (codes ", person ") family person
 
--- the family and the person of a billing, or of the claim that is taken back
+-- the 11 digits of a product
+unfoldable pub product_said : ℕ → List ℕ
+product_said product = say "  product " ++ digits_text 11 product
+
+-- what is dispensed
+unfoldable pub supply_said : BillParts → List ℕ
+supply_said b =
+    product_said b.product ++ (say ", quantity " ++ (thousandths_text b.quantity ++ (say ", days " ++ decimal b.days)))
+
+-- who a billing is for, and of what
+unfoldable pub billed_text : BillParts → List ℕ
+billed_text b = member_text b.family b.person ++ supply_said b
+
+-- the family and the person of the claim that is taken back
 abbrev pub taken_from : Decision → List ℕ
 taken_from (decision.TakenBack r) = member_text r.family r.person
 taken_from other = []
 
+unfoldable pub reversed_text : ℕ → Decision → List ℕ
+reversed_text product c = taken_from c ++ product_said product
+
 abbrev pub whose_text : Transaction → Decision → List ℕ
-whose_text (Bill b) c = member_text b.family b.person
-whose_text (Reverse v) c = taken_from c
+whose_text (Bill b) c = billed_text b
+whose_text (Reverse v) c = reversed_text v.product c
 whose_text (Faulty f) c = taken_from c
 
 unfoldable pub answered_line : Explanation → List ℕ

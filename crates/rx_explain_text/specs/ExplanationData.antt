@@ -22,7 +22,7 @@ use Rattle.rx_explain_text.specs.Reasons.{days_between}
 use Rattle.rx_explain_text.specs.RequestField.{field_bytes, field_number}
 use Rattle.rx_explain_text.specs.Words.{case_name_of, name_of, wanted_for}
 use Rattle.rx_explain_text.specs.declared.compared.Compared.{Compared}
-use Rattle.rx_explain_text.specs.declared.compared.Compared.TheVariants.{Same, Differs, Absent}
+use Rattle.rx_explain_text.specs.declared.compared.Compared.TheVariants.{Same, Differs, Absent, OtherBatch}
 use Rattle.rx_fields.specs.Calendar.{Civil}
 use Rattle.rx_fields.specs.Codes.{code_text}
 use Rattle.rx_fields.specs.Digits.{digits_text}
@@ -68,6 +68,7 @@ compared_data None = []
 compared_data (Some Same) = text (codes "response") (codes "same") ∷ []
 compared_data (Some Differs) = text (codes "response") (codes "differs") ∷ []
 compared_data (Some Absent) = text (codes "response") (codes "absent") ∷ []
+compared_data (Some (OtherBatch lot)) = text (codes "response") (codes "other batch") ∷ []
 
 -- ---- codes
 

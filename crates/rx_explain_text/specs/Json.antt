@@ -31,7 +31,7 @@ use Rattle.rx_explain_text.specs.RequestField.{field_bytes, field_number}
 use Rattle.rx_explain_text.specs.Said.{said, say}
 use Rattle.rx_explain_text.specs.Words.{case_name_of, name_of, wanted_for}
 use Rattle.rx_explain_text.specs.declared.compared.Compared.{Compared}
-use Rattle.rx_explain_text.specs.declared.compared.Compared.TheVariants.{Same, Differs, Absent}
+use Rattle.rx_explain_text.specs.declared.compared.Compared.TheVariants.{Same, Differs, Absent, OtherBatch}
 use Rattle.rx_fields.specs.Calendar.{Civil}
 use Rattle.rx_fields.specs.Codes.{code_text}
 use Rattle.rx_fields.specs.Digits.{digits_text}
@@ -99,6 +99,7 @@ compared_json None = []
 compared_json (Some Same) = said_member (codes "response") (codes "same")
 compared_json (Some Differs) = said_member (codes "response") (codes "differs")
 compared_json (Some Absent) = said_member (codes "response") (codes "absent")
+compared_json (Some (OtherBatch lot)) = said_member (codes "response") (codes "other batch")
 
 -- ---- codes
 

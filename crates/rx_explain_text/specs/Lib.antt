@@ -1,7 +1,9 @@
 -- Plumbing: which files there are.
+pub mod Absent
 pub mod Answered
 pub mod Claims
 pub mod Codes
+pub mod Counted
 pub mod ExplanationData
 pub mod Figures
 pub mod Json

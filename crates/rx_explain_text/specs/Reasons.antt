@@ -1,5 +1,5 @@
 -- Meaning: why it was decided so, in words; nothing of a claim that is paid, whose figures say it.
-use Rattle.std.specs.Prelude.{ℕ, ◌*◌, ◌-ℤ◌, unsigned_abs, if◌then◌else◌, List, [], ◌++◌, Option, Some, None, codes}
+use Rattle.std.specs.Prelude.{ℕ, ◌*◌, ◌/◌, ◌==◌, ◌-ℤ◌, unsigned_abs, Bool, false, if◌then◌else◌, List, [], ◌++◌, Option, Some, None, codes}
 use Rattle.std.specs.Fmt.{decimal}
 use Rattle.rx_d0_values.specs.Priced.{patient_pay, total_paid}
 use Rattle.rx_d0_values.specs.declared.bill.BillParts.{BillParts}
@@ -9,6 +9,8 @@ use Rattle.rx_d0_values.specs.declared.transaction.Transaction.TheVariants.{Bill
 use Rattle.rx_ledger.specs.declared.decision.Decision.{Decision}
 use Rattle.rx_ledger.specs.declared.decision.Decision.TheVariants as decision
 use Rattle.rx_explain.specs.declared.explanation.Explanation.{Explanation}
+use Rattle.rx_explain.specs.declared.traced.Source.{Source}
+use Rattle.rx_explain.specs.declared.traced.Source.TheVariants.{Opening, Record}
 use Rattle.rx_explain.specs.declared.traced.Traced.{Traced}
 use Rattle.rx_explain_text.specs.Claims.{standing_text, traced_text}
 use Rattle.rx_explain_text.specs.Codes.{code_lines, shown}
@@ -18,6 +20,7 @@ use Rattle.rx_explain_text.specs.Said.{said, say}
 use Rattle.rx_fields.specs.Calendar.{Civil, day_number}
 use Rattle.rx_fields.specs.Digits.{digits_text}
 use Rattle.rx_fields.specs.Numbered.{LotParts, Span, is_within}
+use Rattle.rx_fields.specs.declared.limits.TheConstants.{NUMBERS_OF_A_BATCH}
 use Rattle.rx_ledger.specs.declared.figures.Figures.{Figures}
 
 -- ---- a billing that isn't paid
@@ -80,6 +83,26 @@ person_text family person =
 unfoldable pub same_text : Explanation → Amounts → List ℕ
 same_text e a = say "  this claim stands already: " ++ (standing_text e.decision e.standing ++ paid_text a)
 
+-- the opening books have the claim by an answer of this batch's number
+abbrev pub is_of_batch : LotParts → Source → ℕ → Bool
+is_of_batch lot Opening number = number / NUMBERS_OF_A_BATCH == lot.number
+is_of_batch lot (Record at) number = false
+
+-- so the batch was adjudicated on them
+unfoldable pub again_text : ℕ → List ℕ
+again_text number =
+    say "  the opening books have it by batch " ++ (digits_text 7 number ++ say ": this batch was adjudicated on them already\n")
+
+abbrev pub again_if : LotParts → Traced → List ℕ
+again_if lot t = if is_of_batch lot t.source t.row.number then again_text lot.number else []
+
+abbrev pub again_of : LotParts → Option Traced → List ℕ
+again_of lot None = []
+again_of lot (Some t) = again_if lot t
+
+unfoldable pub stands_text : LotParts → Explanation → Amounts → List ℕ
+stands_text lot e a = same_text e a ++ again_of lot e.standing
+
 unfoldable pub other_text : Explanation → List ℕ
 other_text e =
     say "  another claim stands under this pharmacy, prescription and date: "
@@ -95,7 +118,7 @@ supply_text days most =
 abbrev pub bill_reason : Decision → LotParts → Figures → Explanation → BillParts → List ℕ
 bill_reason decision.NoFamily lot figures e b = family_text b.family
 bill_reason decision.NoPerson lot figures e b = person_text b.family b.person
-bill_reason (decision.SameStands r) lot figures e b = same_text e r.pricing
+bill_reason (decision.SameStands r) lot figures e b = stands_text lot e r.pricing
 bill_reason (decision.OtherStands r) lot figures e b = other_text e
 bill_reason decision.BeforePeriod lot figures e b = dated_text (codes "  the benefit period begins on ") figures.period.first
 bill_reason decision.AfterCreation lot figures e b = dated_text (codes "  the batch was created on ") lot.created

@@ -1,10 +1,14 @@
+use rx_fields::Lot;
+
 /// What a response file has at the place of a record, against the reply that the replay gives.
 #[derive(Clone, Copy, Debug, PartialEq, Eq)]
 pub enum Compared {
-    /// The same text, byte for byte.
+    /// The reference of the request and the same reply, byte for byte.
     Same,
-    /// Another text.
+    /// Another reference or another reply.
     Differs,
     /// No record.
     Absent,
+    /// Whatever is there, the file answers another batch: one of this lot.
+    OtherBatch(Lot),
 }

@@ -1,22 +1,23 @@
 ghost use Rattle.std.specs.Prelude.{◌≡◌, ◌+◌, ◌++◌, OnOk};
 ghost use Rattle.std.specs.Option.{option_map, unwrap_or};
-ghost use Rattle.rx_explain_text.specs.Figures.{accumulator_lines, allowed_line, charge_text, coinsurance_line, copay_line};
-ghost use Rattle.rx_explain_text.specs.Figures.{cost_line, counted_line, counted_lines, counted_of, cut_text};
-ghost use Rattle.rx_explain_text.specs.Figures.{family_left_lines, family_lines, fee_line, figure_lines, labelled, left_lines};
-ghost use Rattle.rx_explain_text.specs.Figures.{less_text, paid_lines, payer_lines, payment_lines, paid_of, pays_line, priced_text};
-ghost use Rattle.rx_explain_text.specs.Figures.{share_line, submitted_text};
+ghost use Rattle.rx_explain_text.specs.Figures.{accumulator_lines, allowed_line, allowed_of, charge_text, coinsurance_line};
+ghost use Rattle.rx_explain_text.specs.Figures.{copay_line, copay_text, cost_line, cut_text, due_text, family_left_lines};
+ghost use Rattle.rx_explain_text.specs.Figures.{family_lines, fee_line, figure_lines, labelled, left_lines, less_text, paid_lines};
+ghost use Rattle.rx_explain_text.specs.Figures.{paid_of, payer_lines, payment_lines, pays_line, percent_text, priced_text};
+ghost use Rattle.rx_explain_text.specs.Figures.{product_text, rest_text, share_line, short_copay_text, submitted_text, tier_text};
 
-use crate::reasons::put_traced;
+use crate::counted::{Claims, Counts, Listing, put_claims};
 use rx_d0_values::{Bill, Transaction};
 use rx_explain::{Explanation, Traced, Workings};
 use rx_ledger::{Figures, Share};
 use rx_print::Page;
 use std::alloc::AllocError;
 
-// How wide the labels and the amounts are, in bytes.
-const LABEL: usize = 26;
+/// How wide the labels are, in bytes.
+pub(crate) const LABEL: usize = 26;
 
-const AMOUNT: usize = 14;
+/// How wide the amounts are, in bytes.
+pub(crate) const AMOUNT: usize = 14;
 
 /// The billing that is paid, and the steps to its amounts; None of another transaction.
 pub(crate) fn paid(explanation: &Explanation) -> Option<(&Bill, &Workings)>
@@ -33,12 +34,13 @@ pub(crate) fn put_figures(
     page: &mut Page,
     figures: &Figures,
     explanation: &Explanation,
+    listing: Listing,
 ) -> Result<(), AllocError>
     ensures { OnOk result (page.new.bytes.items
-        ≡ page.old.bytes.items ++ figure_lines explanation.now.transaction figures.now explanation.now) }
+        ≡ page.old.bytes.items ++ figure_lines listing explanation.now.transaction figures.now explanation.now) }
 {
     match paid(explanation) {
-        Some((bill, workings)) => put_paid(page, figures, explanation, bill, workings),
+        Some((bill, workings)) => put_paid(page, figures, explanation, bill, workings, listing),
         None => Ok(()),
     }
 }
@@ -50,14 +52,15 @@ fn put_paid(
     explanation: &Explanation,
     bill: &Bill,
     workings: &Workings,
+    listing: Listing,
 ) -> Result<(), AllocError>
     ensures { OnOk result (page.new.bytes.items
-        ≡ page.old.bytes.items ++ paid_lines figures.now explanation.now bill.now workings.now) }
+        ≡ page.old.bytes.items ++ paid_lines listing figures.now explanation.now bill.now workings.now) }
 {
     put_cost(page, bill, workings)?;
     put_fee(page, figures, bill, workings)?;
     put_allowed(page, bill, workings)?;
-    put_accumulators(page, figures, explanation, bill, workings)?;
+    put_accumulators(page, figures, explanation, bill, workings, listing)?;
     put_payment(page, workings)
 }
 
@@ -80,10 +83,23 @@ fn put_cut(page: &mut Page, limit: &str, paid: u128, due: u128) -> Result<(), Al
     if paid >= due {
         return Ok(());
     }
-    page.say("  CUT by ")?;
-    page.say(limit)?;
-    page.say(" from ")?;
-    page.money(due)
+    page.say(", cut to ")?;
+    page.money(paid)?;
+    page.say(": ")?;
+    page.say(limit)
+}
+
+// What is due, where a limit cuts it.
+#[tactic(auto, using(std::proofs::Common::append_assoc), unfolding(crate::specs::Figures::due_text))]
+fn put_due(page: &mut Page, limit: &str, paid: u128, due: u128) -> Result<(), AllocError>
+    ensures { OnOk result (page.new.bytes.items ≡ page.old.bytes.items ++ due_text limit.now paid due) }
+{
+    if paid >= due {
+        return Ok(());
+    }
+    page.say("  ")?;
+    page.money(due)?;
+    put_cut(page, limit, paid, due)
 }
 
 // What was submitted, where the plan's figure isn't above it, with words for either case.
@@ -112,12 +128,6 @@ fn put_cost(page: &mut Page, bill: &Bill, workings: &Workings) -> Result<(), All
     let submitted = bill.parts().ingredient_cost.get();
     let paid = u128::from(workings.payment.pricing.amounts().ingredient_cost);
     line(page, "ingredient cost F6", paid)?;
-    put_cut(
-        page,
-        "the charge",
-        paid,
-        u128::from(workings.ingredient_cost),
-    )?;
     page.say("  ")?;
     put_submitted(
         page,
@@ -126,7 +136,9 @@ fn put_cost(page: &mut Page, bill: &Bill, workings: &Workings) -> Result<(), All
         "as submitted; the plan's price is ",
         " submitted, paid by the plan's price: ",
     )?;
-    put_priced(page, bill, workings)
+    put_priced(page, bill, workings)?;
+    put_cut(page, CHARGE, paid, u128::from(workings.ingredient_cost))?;
+    page.say("\n")
 }
 
 // The quantity at the plan's price.
@@ -138,8 +150,7 @@ fn put_priced(page: &mut Page, bill: &Bill, workings: &Workings) -> Result<(), A
     page.say(" x ")?;
     page.price(workings.payment.drug.price)?;
     page.say(" = ")?;
-    page.money(u128::from(workings.cost))?;
-    page.say("\n")
+    page.money(u128::from(workings.cost))
 }
 
 // The dispensing fee: which of two is lower, and what the charge cuts off.
@@ -154,12 +165,6 @@ fn put_fee(
 {
     let paid = u128::from(workings.payment.pricing.amounts().dispensing_fee);
     line(page, "dispensing fee F7", paid)?;
-    put_cut(
-        page,
-        "the charge",
-        paid,
-        u128::from(workings.dispensing_fee),
-    )?;
     page.say("  ")?;
     put_submitted(
         page,
@@ -169,6 +174,7 @@ fn put_fee(
         " submitted, paid by the plan's fee of ",
     )?;
     page.money(u128::from(figures.fee))?;
+    put_cut(page, CHARGE, paid, u128::from(workings.dispensing_fee))?;
     page.say("\n")
 }
 
@@ -191,7 +197,7 @@ fn put_allowed(page: &mut Page, bill: &Bill, workings: &Workings) -> Result<(), 
     let allowed = both(amounts.ingredient_cost, amounts.dispensing_fee);
     let before = both(workings.ingredient_cost, workings.dispensing_fee);
     line(page, "allowed", allowed)?;
-    put_cut(page, "the charge", allowed, before)?;
+    put_due(page, CHARGE, allowed, before)?;
     put_charge(page, bill)?;
     page.money(u128::from(workings.cap))?;
     page.say("\n")
@@ -214,14 +220,6 @@ fn put_charge(page: &mut Page, bill: &Bill) -> Result<(), AllocError>
     }
 }
 
-// Which figure of a claim an accumulator adds up.
-#[derive(Clone, Copy)]
-enum Counts {
-    MemberDeductible,
-    FamilyDeductible,
-    OutOfPocket,
-}
-
 // What is left of the plan's figures, with the claims that used them.
 #[tactic(auto, using(std::proofs::Common::append_assoc), unfolding(crate::specs::Figures::accumulator_lines))]
 fn put_accumulators(
@@ -230,9 +228,10 @@ fn put_accumulators(
     explanation: &Explanation,
     bill: &Bill,
     workings: &Workings,
+    listing: Listing,
 ) -> Result<(), AllocError>
-    ensures { OnOk result (page.new.bytes.items
-        ≡ page.old.bytes.items ++ accumulator_lines figures.now explanation.now.counted.items bill.now workings.now) }
+    ensures { OnOk result (page.new.bytes.items ≡ page.old.bytes.items
+        ++ accumulator_lines listing figures.now explanation.now.counted.items bill.now workings.now) }
 {
     let used = &workings.payment.used;
     let counted = explanation.counted.as_slice();
@@ -245,19 +244,32 @@ fn put_accumulators(
         page,
         figures.member_deductible,
         used.deductible,
+        &Claims {
+            counted,
+            bill,
+            counts: Counts::MemberDeductible,
+            listing,
+        },
+    )?;
+    put_family(
+        page,
+        figures.family_deductible,
         counted,
         bill,
-        Counts::MemberDeductible,
+        workings,
+        listing,
     )?;
-    put_family(page, figures.family_deductible, counted, bill, workings)?;
     line(page, "family's maximum left", u128::from(workings.room))?;
     put_left(
         page,
         figures.family_maximum,
         used.out_of_pocket,
-        counted,
-        bill,
-        Counts::OutOfPocket,
+        &Claims {
+            counted,
+            bill,
+            counts: Counts::OutOfPocket,
+            listing,
+        },
     )
 }
 
@@ -269,13 +281,21 @@ fn put_family(
     counted: &[Traced],
     bill: &Bill,
     workings: &Workings,
+    listing: Listing,
 ) -> Result<(), AllocError>
     ensures { OnOk result (page.new.bytes.items ≡ page.old.bytes.items
-        ++ family_lines figure workings.now.family_deductible_left counted.now bill.now workings.now) }
+        ++ family_lines listing figure workings.now.family_deductible_left counted.now bill.now workings.now) }
 {
     match (figure, workings.family_deductible_left) {
         (Some(figure), Some(left)) => {
-            put_family_left(page, figure, left, counted, bill, workings)
+            let used = workings.payment.used.family_deductible;
+            let claims = Claims {
+                counted,
+                bill,
+                counts: Counts::FamilyDeductible,
+                listing,
+            };
+            put_family_left(page, figure, left, used, &claims)
         }
         _ => Ok(()),
     }
@@ -286,32 +306,25 @@ fn put_family_left(
     page: &mut Page,
     figure: u64,
     left: u64,
-    counted: &[Traced],
-    bill: &Bill,
-    workings: &Workings,
+    used: u128,
+    claims: &Claims<'_>,
 ) -> Result<(), AllocError>
-    ensures { OnOk result (page.new.bytes.items ≡ page.old.bytes.items
-        ++ family_left_lines figure left counted.now bill.now workings.now) }
+    ensures { let b = claims.now in OnOk result (page.new.bytes.items ≡ page.old.bytes.items
+        ++ family_left_lines b.listing figure left used b.counts b.bill.now b.counted.now) }
 {
-    let used = workings.payment.used.family_deductible;
-    line(page, "family's deductible left", u128::from(left))?;
-    put_left(page, figure, used, counted, bill, Counts::FamilyDeductible)
+    let left = u128::from(left);
+    line(page, "family's deductible left", left)?;
+    put_left(page, figure, used, claims)
 }
 
 // What an amount left is the rest of, and the claims that used it.
 #[tactic(auto, using(std::proofs::Common::append_assoc), unfolding(crate::specs::Figures::left_lines))]
-fn put_left(
-    page: &mut Page,
-    figure: u64,
-    used: u128,
-    counted: &[Traced],
-    bill: &Bill,
-    counts: Counts,
-) -> Result<(), AllocError>
-    ensures { OnOk result (page.new.bytes.items ≡ page.old.bytes.items ++ left_lines figure used counts bill.now counted.now) }
+fn put_left(page: &mut Page, figure: u64, used: u128, claims: &Claims<'_>) -> Result<(), AllocError>
+    ensures { let b = claims.now in OnOk result (page.new.bytes.items ≡ page.old.bytes.items
+        ++ left_lines b.listing figure used b.counts b.bill.now b.counted.now) }
 {
     put_less(page, figure, used)?;
-    put_claims(page, counted, bill, counts)
+    put_claims(page, used, claims)
 }
 
 #[tactic(auto, using(std::proofs::Common::append_assoc), unfolding(crate::specs::Figures::less_text))]
@@ -325,49 +338,6 @@ fn put_less(page: &mut Page, figure: u64, used: u128) -> Result<(), AllocError>
     page.say("\n")
 }
 
-// A line for each claim that counts, with what it counts.
-fn put_claims(
-    page: &mut Page,
-    counted: &[Traced],
-    bill: &Bill,
-    counts: Counts,
-) -> Result<(), AllocError>
-    ensures { OnOk result (page.new.bytes.items ≡ page.old.bytes.items ++ counted_lines counts bill.now counted.now) }
-{
-    for traced in counted {
-        put_claim(page, traced, counted_of(traced, bill, counts))?;
-    }
-    Ok(())
-}
-
-// The claim with what it counts, in cents; nothing where it counts nothing.
-#[tactic(auto, using(std::proofs::Common::append_assoc), unfolding(crate::specs::Figures::counted_line))]
-fn put_claim(page: &mut Page, traced: &Traced, cents: u64) -> Result<(), AllocError>
-    ensures { OnOk result (page.new.bytes.items ≡ page.old.bytes.items ++ counted_line cents traced.now) }
-{
-    if cents == 0 {
-        return Ok(());
-    }
-    page.blanks(4 + LABEL + AMOUNT)?;
-    page.column(AMOUNT, u128::from(cents))?;
-    page.say("  ")?;
-    put_traced(page, traced)?;
-    page.say("\n")
-}
-
-// What the claim counts, in cents.
-#[tactic(auto, using(rx_ledger::proofs::SameText::same_text))]
-fn counted_of(traced: &Traced, bill: &Bill, counts: Counts) -> u64
-    ensures { result ≡ counted_of counts bill.now traced.now }
-{
-    let row = &traced.row;
-    match counts {
-        Counts::MemberDeductible if row.person != bill.parts().person => 0,
-        Counts::MemberDeductible | Counts::FamilyDeductible => row.pricing.amounts().deductible,
-        Counts::OutOfPocket => row.pricing.patient_pay(),
-    }
-}
-
 // The deductible, the copay or coinsurance, and who pays what.
 #[tactic(auto, using(std::proofs::Common::append_assoc), unfolding(crate::specs::Figures::payment_lines))]
 fn put_payment(page: &mut Page, workings: &Workings) -> Result<(), AllocError>
@@ -375,7 +345,7 @@ fn put_payment(page: &mut Page, workings: &Workings) -> Result<(), AllocError>
 {
     let deductible = u128::from(workings.payment.pricing.amounts().deductible);
     line(page, "deductible FH", deductible)?;
-    put_cut(page, MAXIMUM, deductible, u128::from(workings.under))?;
+    put_due(page, MAXIMUM, deductible, u128::from(workings.under))?;
     page.say("\n")?;
     put_share(page, workings)?;
     page.say("\n")?;
@@ -398,9 +368,70 @@ fn put_copay(page: &mut Page, workings: &Workings, cents: u64) -> Result<(), All
 {
     let paid = u128::from(workings.payment.pricing.amounts().copay);
     line(page, "copay FI", paid)?;
-    put_cut(page, MAXIMUM, paid, u128::from(workings.share))?;
-    page.say("  tier of ")?;
-    page.money(u128::from(cents))
+    put_copay_of(
+        page,
+        u128::from(cents),
+        allowed(workings),
+        u128::from(workings.under),
+    )?;
+    put_cut(page, MAXIMUM, paid, u128::from(workings.share))
+}
+
+// What is allowed, in cents.
+fn allowed(workings: &Workings) -> u128
+    ensures { result ≡ allowed_of workings.now }
+{
+    let amounts = workings.payment.pricing.amounts();
+    both(amounts.ingredient_cost, amounts.dispensing_fee)
+}
+
+// The tier's copay, against what is left of an allowed amount.
+fn put_copay_of(page: &mut Page, cents: u128, allowed: u128, under: u128) -> Result<(), AllocError>
+    ensures { OnOk result (page.new.bytes.items ≡ page.old.bytes.items ++ copay_text cents allowed under) }
+{
+    if allowed <= under {
+        page.say("  nothing is left after the deductible")
+    } else if allowed - under < cents {
+        put_short_copay(page, cents, allowed, under)
+    } else {
+        put_tier(page, cents)
+    }
+}
+
+#[tactic(auto, using(std::proofs::Common::append_assoc), unfolding(crate::specs::Figures::tier_text))]
+fn put_tier(page: &mut Page, cents: u128) -> Result<(), AllocError>
+    ensures { OnOk result (page.new.bytes.items ≡ page.old.bytes.items ++ tier_text cents) }
+{
+    page.say("  the tier's copay of ")?;
+    page.money(cents)
+}
+
+#[tactic(auto, using(std::proofs::Common::append_assoc), unfolding(crate::specs::Figures::short_copay_text))]
+fn put_short_copay(
+    page: &mut Page,
+    cents: u128,
+    allowed: u128,
+    under: u128,
+) -> Result<(), AllocError>
+    ensures { OnOk result (page.new.bytes.items ≡ page.old.bytes.items ++ short_copay_text cents allowed under) }
+{
+    put_tier(page, cents)?;
+    page.say("; only ")?;
+    put_rest(page, allowed, under)?;
+    page.say(" is left")
+}
+
+// What is left of an allowed amount after the deductible.
+#[tactic(auto, using(std::proofs::Common::append_assoc), unfolding(crate::specs::Figures::rest_text))]
+fn put_rest(page: &mut Page, allowed: u128, under: u128) -> Result<(), AllocError>
+    ensures { OnOk result (page.new.bytes.items ≡ page.old.bytes.items ++ rest_text allowed under) }
+{
+    page.money(allowed.saturating_sub(under))?;
+    page.say(" (")?;
+    page.money(allowed)?;
+    page.say(" less ")?;
+    page.money(under)?;
+    page.say(")")
 }
 
 #[tactic(auto, using(std::proofs::Common::append_assoc), unfolding(crate::specs::Figures::coinsurance_line))]
@@ -409,10 +440,44 @@ fn put_coinsurance(page: &mut Page, workings: &Workings, percent: u8) -> Result<
 {
     let paid = u128::from(workings.payment.pricing.amounts().coinsurance);
     line(page, "coinsurance 4U", paid)?;
-    put_cut(page, MAXIMUM, paid, u128::from(workings.share))?;
-    page.say("  tier of ")?;
-    page.number(u128::from(percent))?;
-    page.say(" percent")
+    put_percent_of(page, workings, percent)?;
+    put_cut(page, MAXIMUM, paid, u128::from(workings.share))
+}
+
+// The tier's percentage of what is left of an allowed amount.
+fn put_percent_of(page: &mut Page, workings: &Workings, percent: u8) -> Result<(), AllocError>
+    ensures { OnOk result (page.new.bytes.items ≡ page.old.bytes.items ++ percent_text percent workings.now) }
+{
+    let (allowed, under) = (allowed(workings), u128::from(workings.under));
+    if allowed <= under {
+        page.say("  nothing is left after the deductible")
+    } else {
+        put_product(
+            page,
+            u128::from(percent),
+            allowed,
+            under,
+            u128::from(workings.share),
+        )
+    }
+}
+
+#[tactic(auto, using(std::proofs::Common::append_assoc), unfolding(crate::specs::Figures::product_text))]
+fn put_product(
+    page: &mut Page,
+    percent: u128,
+    allowed: u128,
+    under: u128,
+    share: u128,
+) -> Result<(), AllocError>
+    ensures { OnOk result (page.new.bytes.items ≡ page.old.bytes.items ++ product_text percent allowed under share) }
+{
+    page.say("  the tier's ")?;
+    page.number(percent)?;
+    page.say(" percent of ")?;
+    put_rest(page, allowed, under)?;
+    page.say(" = ")?;
+    page.money(share)
 }
 
 #[tactic(auto, using(std::proofs::Common::append_assoc), unfolding(crate::specs::Figures::payer_lines))]
@@ -436,3 +501,5 @@ fn put_pays(page: &mut Page, label: &str, cents: u64) -> Result<(), AllocError>
 }
 
 const MAXIMUM: &str = "the family's maximum";
+
+const CHARGE: &str = "the charge";

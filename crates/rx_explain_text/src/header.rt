@@ -1,26 +1,30 @@
 ghost use Rattle.std.specs.Prelude.{◌≡◌, ◌++◌, Some, IfOk, OnOk, option_map};
-ghost use Rattle.rx_explain_text.specs.Answered.{answer_text, answered_line, member_text, numbered_text, reference_of};
-ghost use Rattle.rx_explain_text.specs.Answered.{refused_count, refused_for, refused_text, rx_text, whose_text};
+ghost use Rattle.rx_explain_text.specs.Answered.{answer_text, answered_line, billed_text, numbered_text, product_said};
+ghost use Rattle.rx_explain_text.specs.Answered.{reference_of, refused_count, refused_for, refused_text, reversed_text, rx_text};
+ghost use Rattle.rx_explain_text.specs.Answered.{supply_said, taken_from, whose_text};
 ghost use Rattle.rx_explain_text.specs.Claims.{at_text};
-ghost use Rattle.rx_explain_text.specs.Rejections.{compared_line, compared_words, rejected_line, rejection_words, sent_text};
-ghost use Rattle.rx_explain_text.specs.Rejections.{trimmed_text};
+ghost use Rattle.rx_explain_text.specs.Rejections.{compared_line, compared_words, other_batch_text, rejected_line, rejection_words};
+ghost use Rattle.rx_explain_text.specs.Rejections.{sent_text, trimmed_text};
 ghost use Rattle.rx_explain_text.specs.Texts.{explanation_words};
 
 use crate::codes::{put_codes, put_named};
 use crate::compared::Compared;
+use crate::counted::Listing;
 use crate::figures::put_figures;
 use crate::reasons::{put_member, put_reason};
 use crate::request_field::field_bytes;
-use rx_d0_values::{Answer, Bill, Rejected, Transaction};
+use rx_d0_values::{Answer, Bill, BillParts, Rejected, Transaction};
 use rx_explain::{At, Explanation};
-use rx_fields::{Authorization, Code, Id, Lot, Memory, Person, Reference, trimmed};
+use rx_fields::{
+    Authorization, Code, Id, Lot, Memory, Person, Product, Reference, digits_write, trimmed,
+};
 use rx_ledger::{Decision, Figures};
 use rx_print::{Page, Style};
 use std::alloc::{AllocError, Global};
 
 /// An explanation in words: a line that says the answer and the pharmacy, and below it, set in, why (docs/RULES.md,
 /// "Rules of adjudication"). `request` is the text of the record's transmission; the last line says what a response
-/// file has there, where one was looked at.
+/// file has there, where one was looked at. Of the claims of a sum the largest are listed, or all.
 #[tactic(auto, using(std::proofs::Common::append_assoc))]
 pub fn explanation_text(
     alloc: Global,
@@ -29,13 +33,14 @@ pub fn explanation_text(
     explanation: &Explanation,
     request: &[u8],
     compared: Option<Compared>,
+    listing: Listing,
 ) -> Result<Vec<u8>, Memory>
-    ensures { IfOk result (λ text. text.items ≡ explanation_words lot figures.now explanation.now request.now compared) }
+    ensures { IfOk result (λ text. text.items ≡ explanation_words listing lot figures.now explanation.now request.now compared) }
 {
     let mut page = Page::new(alloc);
     put_header(&mut page, explanation)?;
     put_reason(&mut page, lot, figures, explanation, request)?;
-    put_figures(&mut page, figures, explanation)?;
+    put_figures(&mut page, figures, explanation, listing)?;
     put_compared(&mut page, explanation.at.place, compared)?;
     Ok(page.into_bytes())
 }
@@ -129,9 +134,13 @@ fn put_answer(page: &mut Page, answer: &Answer) -> Result<(), AllocError>
     }
 }
 
-// Words and an authorization number.
+/// Words and an authorization number.
 #[tactic(auto, using(std::proofs::Common::append_assoc), unfolding(crate::specs::Answered::numbered_text))]
-fn put_numbered(page: &mut Page, words: &str, number: Authorization) -> Result<(), AllocError>
+pub(crate) fn put_numbered(
+    page: &mut Page,
+    words: &str,
+    number: Authorization,
+) -> Result<(), AllocError>
     ensures { OnOk result (page.new.bytes.items ≡ page.old.bytes.items ++ numbered_text words.now number) }
 {
     page.say(words)?;
@@ -192,7 +201,7 @@ fn put_rx(page: &mut Page, reference: Reference) -> Result<(), AllocError>
     page.number(u128::from(reference.get()))
 }
 
-// The family and person: of a claim that is taken back those of the claim.
+// Who the transaction is for, and of what; of a claim that is taken back whose it is.
 fn put_whose(
     page: &mut Page,
     transaction: &Transaction,
@@ -200,20 +209,60 @@ fn put_whose(
 ) -> Result<(), AllocError>
     ensures { OnOk result (page.new.bytes.items ≡ page.old.bytes.items ++ whose_text transaction.now decision.now) }
 {
-    match (transaction, decision) {
-        (Transaction::Bill(bill), _) => put_billed(page, bill),
-        (_, Decision::TakenBack(row)) => {
+    match transaction {
+        Transaction::Bill(bill) => put_billed(page, bill),
+        Transaction::Reverse(reversal) => put_reversed(page, reversal.product, decision),
+        Transaction::Faulty(_) => put_taken_from(page, decision),
+    }
+}
+
+#[tactic(auto, using(std::proofs::Common::append_assoc), unfolding(crate::specs::Answered::billed_text))]
+fn put_billed(page: &mut Page, bill: &Bill) -> Result<(), AllocError>
+    ensures { OnOk result (page.new.bytes.items ≡ page.old.bytes.items ++ billed_text bill.now) }
+{
+    let parts = bill.parts();
+    put_member(page, "  family ", ", person ", &parts.family, &parts.person)?;
+    put_supply(page, parts)
+}
+
+// What is dispensed.
+#[tactic(auto, using(std::proofs::Common::append_assoc), unfolding(crate::specs::Answered::supply_said))]
+fn put_supply(page: &mut Page, parts: &BillParts) -> Result<(), AllocError>
+    ensures { OnOk result (page.new.bytes.items ≡ page.old.bytes.items ++ supply_said parts.now) }
+{
+    put_product(page, parts.product)?;
+    page.say(", quantity ")?;
+    page.thousandths(parts.quantity.get())?;
+    page.say(", days ")?;
+    page.number(u128::from(parts.days.get()))
+}
+
+#[tactic(auto, using(std::proofs::Common::append_assoc), unfolding(crate::specs::Answered::product_said))]
+fn put_product(page: &mut Page, product: Product) -> Result<(), AllocError>
+    ensures { OnOk result (page.new.bytes.items ≡ page.old.bytes.items ++ product_said product) }
+{
+    page.say("  product ")?;
+    page.put(&product.digits())
+}
+
+#[tactic(auto, using(std::proofs::Common::append_assoc), unfolding(crate::specs::Answered::reversed_text))]
+fn put_reversed(page: &mut Page, product: Product, decision: &Decision) -> Result<(), AllocError>
+    ensures { OnOk result (page.new.bytes.items ≡ page.old.bytes.items ++ reversed_text product decision.now) }
+{
+    put_taken_from(page, decision)?;
+    put_product(page, product)
+}
+
+// The family and the person of the claim that is taken back.
+fn put_taken_from(page: &mut Page, decision: &Decision) -> Result<(), AllocError>
+    ensures { OnOk result (page.new.bytes.items ≡ page.old.bytes.items ++ taken_from decision.now) }
+{
+    match decision {
+        Decision::TakenBack(row) => {
             put_member(page, "  family ", ", person ", &row.family, &row.person)
         }
         _ => Ok(()),
     }
-}
-
-fn put_billed(page: &mut Page, bill: &Bill) -> Result<(), AllocError>
-    ensures { OnOk result (page.new.bytes.items ≡ page.old.bytes.items ++ member_text bill.now.family bill.now.person) }
-{
-    let parts = bill.parts();
-    put_member(page, "  family ", ", person ", &parts.family, &parts.person)
 }
 
 // What a response file has at the place of the record, where one was looked at.
@@ -232,15 +281,26 @@ fn put_found(page: &mut Page, place: u64, compared: Compared) -> Result<(), Allo
 {
     page.say("  record ")?;
     page.number(u128::from(place))?;
-    page.say(compared_words(compared))
+    put_compared_words(page, compared)
 }
 
-fn compared_words(compared: Compared) -> &'static str
-    ensures { result.now ≡ compared_words compared }
+fn put_compared_words(page: &mut Page, compared: Compared) -> Result<(), AllocError>
+    ensures { OnOk result (page.new.bytes.items ≡ page.old.bytes.items ++ compared_words compared) }
 {
     match compared {
-        Compared::Same => " of the response file is this reply, byte for byte\n",
-        Compared::Differs => " of the response file DIFFERS from this reply\n",
-        Compared::Absent => " isn't there in the response file\n",
+        Compared::Same => page.say(" of the response file is this reply, byte for byte\n"),
+        Compared::Differs => page.say(" of the response file DIFFERS from this reply\n"),
+        Compared::Absent => page.say(" isn't there in the response file\n"),
+        Compared::OtherBatch(lot) => put_other_batch(page, lot),
     }
+}
+
+#[tactic(auto, using(std::proofs::Common::append_assoc), unfolding(crate::specs::Rejections::other_batch_text))]
+fn put_other_batch(page: &mut Page, lot: Lot) -> Result<(), AllocError>
+    ensures { OnOk result (page.new.bytes.items ≡ page.old.bytes.items ++ other_batch_text lot.number) }
+{
+    let digits: [u8; 7] = digits_write(u64::from(lot.number()));
+    page.say(" isn't this reply: the response file ANSWERS batch ")?;
+    page.put(&digits)?;
+    page.say("\n")
 }

@@ -104,6 +104,7 @@ fn put_compared(page: &mut Page, compared: Option<Compared>) -> Result<(), Alloc
         Some(Compared::Same) => put_said(page, "response", "same"),
         Some(Compared::Differs) => put_said(page, "response", "differs"),
         Some(Compared::Absent) => put_said(page, "response", "absent"),
+        Some(Compared::OtherBatch(_)) => put_said(page, "response", "other batch"),
     }
 }
 

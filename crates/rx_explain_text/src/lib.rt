@@ -1,16 +1,18 @@
 //! An explanation in words, for people in dollars and cents, and as JSON for programs, in cents.
 //!
 //! ```rust
-//! let text = rx_explain_text::explanation_text(alloc, lot, sheet.figures(), &explanation, request, None)?;
+//! let text = rx_explain_text::explanation_text(alloc, lot, figures, &explanation, request, None, Listing::All)?;
 //! ```
 //!
 //! What is explained is decided by `rx_explain`; nothing is adjudicated here. Each text is the one of `specs/Texts.antt`,
 //! `specs/Rejections.antt` or `specs/Json.antt`, byte for byte.
 #![tactic(auto)]
 
+mod absent;
 mod code_words;
 mod codes;
 mod compared;
+mod counted;
 mod figures;
 mod header;
 mod json;
@@ -19,8 +21,10 @@ mod laws;
 mod reasons;
 mod request_field;
 
+pub use absent::absent_text;
 pub use code_words::{name, wanted};
 pub use compared::Compared;
+pub use counted::Listing;
 pub use header::{explanation_text, rejection_text};
 pub use json::{explanation_json, rejection_json};
 pub use laws::explanations_read_as_json;

@@ -1,7 +1,8 @@
 ghost use Rattle.std.specs.Prelude.{◌≡◌, ◌++◌, OnOk};
 ghost use Rattle.rx_explain_text.specs.Claims.{as_decided, end_text, from_text, source_text, standing_text, whose_member};
 ghost use Rattle.rx_explain_text.specs.Claims.{traced_text};
-ghost use Rattle.rx_explain_text.specs.Reasons.{bill_reason, coverage_text, covered_text, dated_text, days_between};
+ghost use Rattle.rx_explain_text.specs.Reasons.{again_of, again_text, bill_reason, coverage_text, covered_text, dated_text};
+ghost use Rattle.rx_explain_text.specs.Reasons.{days_between, is_of_batch, stands_text};
 ghost use Rattle.rx_explain_text.specs.Reasons.{earlier_text, ended_text, family_text, open_text, other_text, paid_text};
 ghost use Rattle.rx_explain_text.specs.Reasons.{person_text, product_text, reason_text, reversal_reason, same_text, soon_text};
 ghost use Rattle.rx_explain_text.specs.Reasons.{sum_text, supply_text, taken_text, unlisted_text};
@@ -10,7 +11,9 @@ use crate::codes::put_codes;
 use crate::header::put_at;
 use rx_d0_values::{Bill, BillParts, Pricing, Transaction};
 use rx_explain::{At, Explanation, Source, Traced};
-use rx_fields::{Day, Days, Id, Lot, Period, Person, Product};
+use rx_fields::{
+    Authorization, Day, Days, Id, Lot, NUMBERS_OF_A_BATCH, Period, Person, Product, digits_write,
+};
 use rx_ledger::{Decision, Figures};
 use rx_print::{Page, Style};
 use std::alloc::AllocError;
@@ -47,7 +50,7 @@ fn put_bill_reason(
     match &explanation.decision {
         Decision::NoFamily => put_family(page, &bill.parts().family),
         Decision::NoPerson => put_person(page, bill.parts()),
-        Decision::SameStands(row) => put_same(page, explanation, &row.pricing),
+        Decision::SameStands(row) => put_stands(page, lot, explanation, &row.pricing),
         Decision::OtherStands(_) => put_other(page, explanation),
         Decision::BeforePeriod => {
             put_dated(
@@ -172,6 +175,49 @@ fn put_taken(
     page.say(" stands no longer; the plan gets back ")?;
     page.money(u128::from(pricing.total_paid()))?;
     page.say("\n")
+}
+
+// The claim that stands, and whether the batch was adjudicated on the books already.
+#[tactic(auto, using(std::proofs::Common::append_assoc), unfolding(crate::specs::Reasons::stands_text))]
+fn put_stands(
+    page: &mut Page,
+    lot: Lot,
+    explanation: &Explanation,
+    pricing: &Pricing,
+) -> Result<(), AllocError>
+    ensures { OnOk result (page.new.bytes.items ≡ page.old.bytes.items ++ stands_text lot explanation.now pricing.now) }
+{
+    put_same(page, explanation, pricing)?;
+    put_again_of(page, lot, &explanation.standing)
+}
+
+fn put_again_of(page: &mut Page, lot: Lot, standing: &Option<Traced>) -> Result<(), AllocError>
+    ensures { OnOk result (page.new.bytes.items ≡ page.old.bytes.items ++ again_of lot standing.now) }
+{
+    match standing {
+        Some(traced) if is_of_batch(lot, traced.source, traced.row.number) => put_again(page, lot),
+        _ => Ok(()),
+    }
+}
+
+// Whether the opening books have the claim by an answer of this batch's number.
+fn is_of_batch(lot: Lot, source: Source, number: Authorization) -> bool
+    ensures { result ≡ is_of_batch lot source number }
+{
+    match source {
+        Source::Opening => number.get() / NUMBERS_OF_A_BATCH == u64::from(lot.number()),
+        Source::Record(_) => false,
+    }
+}
+
+#[tactic(auto, using(std::proofs::Common::append_assoc), unfolding(crate::specs::Reasons::again_text))]
+fn put_again(page: &mut Page, lot: Lot) -> Result<(), AllocError>
+    ensures { OnOk result (page.new.bytes.items ≡ page.old.bytes.items ++ again_text lot.number) }
+{
+    let digits: [u8; 7] = digits_write(u64::from(lot.number()));
+    page.say("  the opening books have it by batch ")?;
+    page.put(&digits)?;
+    page.say(": this batch was adjudicated on them already\n")
 }
 
 #[tactic(auto, using(std::proofs::Common::append_assoc), unfolding(crate::specs::Reasons::same_text))]

@@ -19,6 +19,10 @@ amount : money_text 12_705 ≡ codes "$127.05"
 unfolding digits
 amount = refl
 
+amount-of-thousands : money_text 135_200 ≡ codes "$1,352.00"
+unfolding digits
+amount-of-thousands = refl
+
 large-amount : hundredths_text 123_450 ≡ codes "1,234.50"
 unfolding digits
 large-amount = refl

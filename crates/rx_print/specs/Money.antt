@@ -17,13 +17,13 @@ abbrev pub signed_dollars : ℤ → List ℕ
 signed_dollars (pos n) = dollars n
 signed_dollars (negsuc n) = 45 ∷ dollars (suc n)
 
--- after a dollar sign
-abbrev pub money_text : ℕ → List ℕ
-money_text cents = codes "$" ++ dollars cents
-
 -- hundredths as a number with two digits after the point, and commas before it
 abbrev pub hundredths_text : ℕ → List ℕ
 hundredths_text n = grouped (n / 100) ++ cents_text (n % 100)
+
+-- cents as dollars and cents after a dollar sign, with the commas
+abbrev pub money_text : ℕ → List ℕ
+money_text cents = codes "$" ++ hundredths_text cents
 
 -- at the right end of a column: blanks before it, as many as the width leaves; none before a text that is wider
 abbrev pub right_in : ℕ → List ℕ → List ℕ

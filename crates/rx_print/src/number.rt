@@ -26,6 +26,13 @@ pub fn put_signed(text: &mut Vec<u8>, number: i128) -> Result<(), AllocError>
 pub fn put_grouped(text: &mut Vec<u8>, number: u64) -> Result<(), AllocError>
     ensures { OnOk result (text.new.items ≡ text.old.items ++ grouped number) }
 {
+    put_large(text, u128::from(number))
+}
+
+// The same of a number that may be larger.
+fn put_large(text: &mut Vec<u8>, number: u128) -> Result<(), AllocError>
+    ensures { OnOk result (text.new.items ≡ text.old.items ++ grouped number) }
+{
     let mut buffer = Buffer::new();
     put_threes(text, buffer.format(number).as_bytes())
 }
@@ -74,12 +81,19 @@ pub fn put_signed_dollars(text: &mut Vec<u8>, cents: i128) -> Result<(), AllocEr
 }
 
 /// Puts a number of hundredths with commas before the point, as `1,234.50`.
-#[tactic(auto, using(std::proofs::Common::append_assoc))]
 pub fn put_hundredths(text: &mut Vec<u8>, hundredths: u64) -> Result<(), AllocError>
     ensures { OnOk result (text.new.items ≡ text.old.items ++ hundredths_text hundredths) }
 {
-    put_grouped(text, hundredths / 100)?;
-    text.extend_from_slice(&cents_text((hundredths % 100) as u8))
+    put_amount(text, u128::from(hundredths))
+}
+
+/// The same of cents, which may be more.
+#[tactic(auto, using(std::proofs::Common::append_assoc))]
+pub(crate) fn put_amount(text: &mut Vec<u8>, cents: u128) -> Result<(), AllocError>
+    ensures { OnOk result (text.new.items ≡ text.old.items ++ hundredths_text cents) }
+{
+    put_large(text, cents / 100)?;
+    text.extend_from_slice(&cents_text((cents % 100) as u8))
 }
 
 // A point and two digits.

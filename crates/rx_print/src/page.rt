@@ -2,13 +2,14 @@ ghost use Rattle.std.specs.Prelude.{◌≡◌, ◌++◌, [], OnOk, replicate};
 ghost use Rattle.std.specs.Fmt.{decimal};
 ghost use Rattle.rx_fields.specs.Digits.{digits_text};
 ghost use Rattle.rx_print.specs.Dates.{dashed};
+ghost use Rattle.rx_print.specs.Decimal.{grouped};
 ghost use Rattle.rx_print.specs.Escape.{escaped};
 ghost use Rattle.rx_print.specs.Money.{money_text, price_text, right_in, thousandths_text};
 ghost use Rattle.rx_print.specs.Said.{said};
 
 use crate::date::dashed_digits;
 use crate::escape::put_escaped;
-use crate::number::{put_decimal, put_dollars};
+use crate::number::{put_amount, put_decimal, put_grouped};
 use crate::style::Style;
 use rx_fields::{Authorization, Day, date_write, digits_write};
 use std::alloc::{AllocError, Global};
@@ -80,13 +81,20 @@ impl Page {
         put_decimal(&mut self.bytes, number)
     }
 
-    /// Writes an amount of cents as dollars and cents, as `$127.05`.
+    /// Writes a number with a comma before each three digits from its end, as `1,980`.
+    pub fn grouped(&mut self, number: u64) -> Result<(), AllocError>
+        ensures { OnOk result (self.new.bytes.items ≡ self.old.bytes.items ++ grouped number) }
+    {
+        put_grouped(&mut self.bytes, number)
+    }
+
+    /// Writes an amount of cents as dollars and cents, as `$1,127.05`.
     #[tactic(auto, using(std::proofs::Common::append_assoc))]
     pub fn money(&mut self, cents: u128) -> Result<(), AllocError>
         ensures { OnOk result (self.new.bytes.items ≡ self.old.bytes.items ++ money_text cents) }
     {
         self.put(b"$")?;
-        put_dollars(&mut self.bytes, cents)
+        put_amount(&mut self.bytes, cents)
     }
 
     /// Writes an amount at the right end of a column of this width, in bytes.

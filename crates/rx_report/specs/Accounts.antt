@@ -20,7 +20,7 @@ abbrev pub has_family : List ℕ → Option (List ℕ × List ℕ) → Bool
 has_family id None = false
 has_family id (Some m) = is_same id m.0
 
--- the line's request names the family
+-- the line's member is of the family
 abbrev pub names_family : List ℕ → Line → Bool
 names_family id l = has_family id l.member
 

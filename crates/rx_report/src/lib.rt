@@ -10,7 +10,7 @@
 //!
 //! Of these lines and the tallies of the batch's settlement an account is made: sections, each a provider with its tally
 //! and its lines, and the tally of all. Of a whole batch and of one provider the tallies are the settlement's; of a
-//! family they are those of the lines that name it. `specs/Accounts.antt` says both.
+//! family they are those of its lines. `specs/Accounts.antt` says both.
 //!
 //! ```rust
 //! let kept = rx_report::kept_lines(alloc, portion, &lines)?;

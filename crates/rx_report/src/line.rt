@@ -12,7 +12,7 @@ pub struct Line {
     pub provider: [u8; 15],
     /// The date of service of the reply, CCYYMMDD, or what stood there.
     pub date: [u8; 8],
-    /// The family and the person that a billing names.
+    /// The family and the person: those that a billing names, or those of the claim that a reversal takes back.
     pub member: Option<(Id, Person)>,
     /// What is answered.
     pub answer: Answer,

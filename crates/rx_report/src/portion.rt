@@ -13,7 +13,7 @@ pub enum Portion<'a> {
     Whole,
     /// Those of this provider; the empty text stands for all that name none.
     Provider(&'a [u8]),
-    /// Those that name this family.
+    /// Those of this family.
     Family(&'a [u8]),
 }
 

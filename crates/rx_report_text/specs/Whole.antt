@@ -36,7 +36,7 @@ abbrev pub portion_text : Portion → List ℕ
 portion_text portion.Whole = codes ", all providers"
 portion_text (portion.Provider id) = codes ", provider " ++ (escaped Html id.now ++ codes " alone")
 portion_text (portion.Family id) =
-    codes ", the lines that name family " ++ (escaped Html id.now ++ codes "; counts and net are of these alone")
+    codes ", the lines of family " ++ (escaped Html id.now ++ codes "; counts and net are of these alone")
 
 -- the batch, its date, and whose lines the page has
 unfoldable pub title_text : LotParts → Portion → List ℕ

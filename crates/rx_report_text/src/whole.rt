@@ -162,7 +162,7 @@ fn put_portion(page: &mut Page, portion: Portion<'_>) -> Result<(), AllocError>
         Portion::Provider(id) => put_within(page, ", provider ", id, " alone"),
         Portion::Family(id) => put_within(
             page,
-            ", the lines that name family ",
+            ", the lines of family ",
             id,
             "; counts and net are of these alone",
         ),

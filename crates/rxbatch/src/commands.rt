@@ -8,7 +8,7 @@ use rx_cli::{
     Asked, ExplainWords, Form as FormWords, Portion as PortionWords, ReportWords, ShowWords,
     VerifyWords, WordsFault,
 };
-use rx_commands::{Form, number_asked, record_asked, reference_asked, show_table};
+use rx_commands::{Form, Manner, number_asked, record_asked, reference_asked, show_table};
 use rx_explain::Wanted;
 use rx_fields::Memory;
 use rx_io::{Device, Inputs};
@@ -84,10 +84,18 @@ pub fn explain<R: Threads + Sync>(
         &slices(&texts),
         &wanted_by(&words.asked),
         response.as_ref().map(|text| text.as_slice()),
-        words.json,
+        manner_by(words),
     );
     drop((texts, response));
-    print_outcome(rt, &printed?)
+    print_outcome(rt, printed?)
+}
+
+fn manner_by(words: &ExplainWords<'_>) -> Manner {
+    match (words.json, words.all) {
+        (true, _) => Manner::Json,
+        (false, true) => Manner::Full,
+        (false, false) => Manner::Words,
+    }
 }
 
 fn wanted_by(asked: &Asked<'_>) -> Wanted {
@@ -154,5 +162,5 @@ pub fn verify<R: Threads + Wait + Sync>(
     };
     let files = outputs.as_ref().map(|text| text.as_slice());
     let printed = rx_commands::verify(threads, rt.alloc(), &gate, &job, &files)?;
-    print_outcome(rt, &printed)
+    print_outcome(rt, printed)
 }

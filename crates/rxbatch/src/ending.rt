@@ -7,6 +7,7 @@ use rx_io::Device;
 use rx_switch::{IoFault, SwitchFault, told};
 use std::alloc::Global;
 use std::io;
+use std::io::Write;
 
 /// How the program ends where its work isn't done (docs/CLI.md, "Exit statuses").
 #[derive(Drop)]
@@ -29,8 +30,8 @@ pub enum Ending {
     Response(BatchFault),
     /// A check found only warnings.
     Warned,
-    /// No transaction is what was asked for.
-    NotFound,
+    /// No transaction is what was asked for: the line that says so.
+    NotFound(Vec<u8>),
     /// A file isn't what the inputs give; what differs was printed.
     Differs,
 }
@@ -130,7 +131,7 @@ impl Ending {
             Ending::Refused(_) | Ending::InWords(Numbers::Refused(_), _) => 1,
             Ending::File(_) | Ending::InWords(Numbers::File(_), _) => 3,
             Ending::Response(_) => 1,
-            Ending::Warned | Ending::NotFound => 4,
+            Ending::Warned | Ending::NotFound(_) => 4,
             Ending::Differs => 5,
         }
     }
@@ -184,7 +185,7 @@ impl Ending {
                 let (number, place) = (fault.code(), fault.place().unwrap_or(0));
                 eprintln!(rt; "response {number} {place}")
             }
-            Ending::NotFound => eprintln!(rt; "rxbatch: no such claim"),
+            Ending::NotFound(line) => rt.stderr().write_all(line.as_slice()),
             Ending::Warned | Ending::Differs => Ok(()),
         };
     }

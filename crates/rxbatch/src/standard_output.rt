@@ -11,10 +11,10 @@ pub fn print(rt: &HostRuntime, text: &[u8]) -> Result<(), Ending> {
 }
 
 /// Writes what a command prints, and ends as the command does.
-pub fn print_outcome(rt: &HostRuntime, printed: &Printed) -> Result<(), Ending> {
+pub fn print_outcome(rt: &HostRuntime, printed: Printed) -> Result<(), Ending> {
     match printed.outcome {
         Outcome::Done => print(rt, &printed.text),
-        Outcome::NotFound => Err(Ending::NotFound),
+        Outcome::NotFound => Err(Ending::NotFound(printed.text)),
         Outcome::Differs => {
             print(rt, &printed.text)?;
             Err(Ending::Differs)

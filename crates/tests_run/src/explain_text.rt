@@ -9,6 +9,10 @@ fn figures(alloc: Global) -> Result<Vec<u8>, AllocError> {
     page.money(12705)?;
     page.say(" ")?;
     page.money(5)?;
+    page.say(" ")?;
+    page.money(135_200)?;
+    page.say(" ")?;
+    page.grouped(1_980)?;
     page.column(8, 195)?;
     page.say(" ")?;
     page.price(95_000)?;
@@ -24,7 +28,7 @@ fn figures(alloc: Global) -> Result<Vec<u8>, AllocError> {
 #[test]
 fn amounts_have_two_digits_of_cents(rt: HostRuntime) {
     let text = figures(rt.alloc()).expect(&rt, "memory");
-    let wanted = b"$127.05 $0.05   $1.95 $9.50 $0.0375 30.500 a\\u0022\\u001B";
+    let wanted = b"$127.05 $0.05 $1,352.00 1,980   $1.95 $9.50 $0.0375 30.500 a\\u0022\\u001B";
     same(&rt, text.as_slice(), wanted.as_slice());
 }
 

@@ -1,5 +1,5 @@
 use Rattle.std.specs.Prelude.{option_copied}
-use Rattle.rx_check.specs.Faults.{AreBatchWords}
+use Rattle.rx_check.specs.Wording.{AreBatchWords}
 use Rattle.rx_check.proofs.Reports.{says}
 use Rattle.rx_check.proofs.fault_lines.batch_line.Goals as goal
 

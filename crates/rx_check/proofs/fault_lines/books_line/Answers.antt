@@ -1,5 +1,5 @@
 use Rattle.std.specs.Prelude.{option_copied}
-use Rattle.rx_check.specs.Faults.{AreBooksWords}
+use Rattle.rx_check.specs.Wording.{AreBooksWords}
 use Rattle.rx_check.proofs.Reports.{says}
 use Rattle.rx_check.proofs.fault_lines.books_line.Goals as goal
 

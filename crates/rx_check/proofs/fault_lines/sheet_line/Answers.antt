@@ -1,5 +1,5 @@
 use Rattle.std.specs.Prelude.{option_copied}
-use Rattle.rx_check.specs.Faults.{AreSheetWords}
+use Rattle.rx_check.specs.Wording.{AreSheetWords}
 use Rattle.rx_check.proofs.Reports.{begins, says}
 use Rattle.rx_check.proofs.fault_lines.sheet_line.Goals as goal
 use Rattle.rx_diagnostics.specs.Places.{IsSheetPlace}

@@ -2,14 +2,14 @@
 use Rattle.std.proofs.lemmas.Result.{IfOk-weaker}
 use Rattle.rx_commands.proofs.explanations.explain.Goals as goal
 
-pub returns-clause-told : goal.returns-clause-told
-returns-clause-told g c =
+pub returns-clause-printed : goal.returns-clause-printed
+returns-clause-printed g c =
     IfOk-weaker c.printed_beside-printed.result _ _
-    (λ printed told. record {
+    (λ result printed. record {
       retraced = c.in_ok-retraced.retraced;
       retraced_is = c.in_ok-retraced.ensures.retraced;
-      told = told;
-    }) c.printed_beside-printed.ensures.told
+      printed = printed;
+    }) c.printed_beside-printed.ensures.printed
 
 pub returns-clause-refused : goal.returns-clause-refused
 returns-clause-refused g c =

@@ -1,10 +1,16 @@
 -- The text of the lines that are kept, with the account of just these.
-use Rattle.std.proofs.Common.{◌≡◌, ◌∙◌, List, ap, map, subst}
+use Rattle.std.proofs.Common.{◌≡◌, ◌∙◌, List, ap, length, map, refl, subst, sym}
 use Rattle.std.specs.List.{filter}
 use Rattle.std.proofs.lemmas.Result.{IfOk-weaker}
+use Rattle.rx_explain_replay.proofs.Replied.{one_each}
+use Rattle.rx_report.proofs.AddedUp.{accounts_add_up}
+use Rattle.rx_report.proofs.Counted.{paired}
+use Rattle.rx_report.specs.Lines.{lines_of}
 use Rattle.rx_report.specs.Accounts.{IsAccount, is_in, parts_of}
+use Rattle.rx_report.specs.AddsUp.{AddsUp, AreLinesOf, IsSettlementOf, entry_of}
 use Rattle.rx_report.specs.Groups.{grouped}
 use Rattle.rx_report.specs.declared.line.Line.{Line}
+use Rattle.rx_commands.proofs.MembersBack.{same_entries}
 use Rattle.rx_commands.specs.Forms.{IsText, kept_of}
 use Rattle.rx_commands.proofs.report_forms.text_in_form.Goals as goal
 
@@ -20,10 +26,22 @@ returns c =
     let of_lines = subst (λ (ls : List Line). IsAccount p r.settled ls groups sections account.total)
     (c.deref-3.ensures.value ∙ lines) c.in_ok-account.ensures in
     let of_groups = subst (λ gs. IsAccount p r.settled (kept_of p r) gs sections account.total) grouped_so of_lines in
+    let b = r.batch in
+    let counted = c.requires.counted in
+    let replied : length b.asked.items ≡ length b.replies.items =
+    sym (ap length c.requires.adjudicated.replies_are ∙ one_each b.lot b.sheet 1 b.asked.items b.opening.ledger) in
+    let settlement : IsSettlementOf b.replies.items r.settled =
+    record { providers_are = counted.providers_are; total_is = counted.total_is } in
+    let paired_so : AreLinesOf r.lines.items b.replies.items =
+    ap (map entry_of) counted.lines_are ∙ same_entries b (lines_of b.asked.items b.replies.items)
+    ∙ paired b.asked.items b.replies.items (lines_of b.asked.items b.replies.items) refl replied in
+    let sums : AddsUp (kept_of p r) sections account.total =
+    accounts_add_up p r.settled b.replies.items r.lines.items sections account.total settlement paired_so of_groups in
     IfOk-weaker c.text_of_account.result _ _
     (λ text is. record {
       account = account;
       account_is = of_groups;
-      text_is = subst (λ (ls : List Line). IsText p c.args.form r.batch.lot ls account text.items)
+      adds_up = sums;
+      text_is = subst (λ (ls : List Line). IsText p c.args.form r.batch ls account text.items)
           (c.deref-4.ensures.value ∙ lines) is;
     }) c.text_of_account.ensures

@@ -1,5 +1,0 @@
-use Rattle.rx_diagnostics.proofs.sheet.missing_key.Goals as goal
-
-pub returns : goal.returns
-returns c =
-    rw (← c.name_of.ensures, ← c.in_ok-wanted.ensures, ← c.as_str.ensures.value) c.key_words.ensures

@@ -1,0 +1,156 @@
+ghost use Rattle.std.specs.Prelude.{◌≡◌, ◌∷◌, ◌++◌, IfOk, OnOk};
+ghost use Rattle.std.specs.List.{flat_map};
+ghost use Rattle.rx_explain_text.specs.Absent.{absent_line, after_comma, has_text, places_left, named_text, near_text, near_words};
+ghost use Rattle.rx_explain_text.specs.Absent.{pharmacy_text, prescription_text, record_text, records_text, transaction_text};
+
+use crate::header::{put_at, put_numbered};
+use rx_explain::{At, Wanted};
+use rx_fields::{Memory, Provider, Reference};
+use rx_print::{Page, Style};
+use std::alloc::{AllocError, Global};
+
+/// How many places are listed after the first.
+pub(crate) const MOST_OTHERS: usize = 19;
+
+/// The line where no transaction is what was asked for: what that was, and what the batch has. `records` is how many records
+/// that is; `near` are the transactions of the record, where one of them was asked for, and those of the prescription at any
+/// pharmacy, where it was asked for at one.
+#[tactic(auto, using(std::proofs::Common::append_assoc), unfolding(crate::specs::Absent::absent_line))]
+pub fn absent_text(
+    alloc: Global,
+    wanted: &Wanted,
+    records: usize,
+    near: &[At],
+) -> Result<Vec<u8>, Memory>
+    ensures { IfOk result (λ text. text.items ≡ absent_line wanted.now records near.now) }
+{
+    let mut page = Page::new(alloc);
+    page.say("rxbatch: ")?;
+    put_named(&mut page, wanted)?;
+    put_has(&mut page, wanted, records, near)?;
+    page.say("\n")?;
+    Ok(page.into_bytes())
+}
+
+// What was asked for.
+fn put_named(page: &mut Page, wanted: &Wanted) -> Result<(), AllocError>
+    ensures { OnOk result (page.new.bytes.items ≡ page.old.bytes.items ++ named_text wanted.now) }
+{
+    match wanted {
+        Wanted::Place(place) => put_record(page, *place),
+        Wanted::One(at) => put_transaction(page, *at),
+        Wanted::Number(number) => put_numbered(page, "no answer with number ", *number),
+        Wanted::Reference(reference) => put_prescription(page, *reference),
+        Wanted::ReferenceAt(reference, provider) => put_pharmacy(page, *reference, provider),
+    }
+}
+
+#[tactic(auto, using(std::proofs::Common::append_assoc), unfolding(crate::specs::Absent::record_text))]
+fn put_record(page: &mut Page, place: u64) -> Result<(), AllocError>
+    ensures { OnOk result (page.new.bytes.items ≡ page.old.bytes.items ++ record_text place) }
+{
+    if place == 0 {
+        return page.say("no such claim");
+    }
+    page.say("no record ")?;
+    page.number(u128::from(place))
+}
+
+#[tactic(auto, using(std::proofs::Common::append_assoc), unfolding(crate::specs::Absent::transaction_text))]
+fn put_transaction(page: &mut Page, at: At) -> Result<(), AllocError>
+    ensures { OnOk result (page.new.bytes.items ≡ page.old.bytes.items ++ transaction_text at) }
+{
+    page.say("no transaction ")?;
+    put_at(page, at)
+}
+
+#[tactic(auto, using(std::proofs::Common::append_assoc), unfolding(crate::specs::Absent::prescription_text))]
+fn put_prescription(page: &mut Page, reference: Reference) -> Result<(), AllocError>
+    ensures { OnOk result (page.new.bytes.items ≡ page.old.bytes.items ++ prescription_text reference) }
+{
+    page.say("no rx ")?;
+    page.number(u128::from(reference.get()))
+}
+
+#[tactic(auto, using(std::proofs::Common::append_assoc), unfolding(crate::specs::Absent::pharmacy_text))]
+fn put_pharmacy(
+    page: &mut Page,
+    reference: Reference,
+    provider: &Provider,
+) -> Result<(), AllocError>
+    ensures { OnOk result (page.new.bytes.items ≡ page.old.bytes.items ++ pharmacy_text reference provider.now) }
+{
+    put_prescription(page, reference)?;
+    page.say(" at ")?;
+    page.escaped(Style::Terminal, provider.bytes())
+}
+
+// What the batch has.
+fn put_has(page: &mut Page, wanted: &Wanted, records: usize, near: &[At]) -> Result<(), AllocError>
+    ensures { OnOk result (page.new.bytes.items ≡ page.old.bytes.items ++ has_text wanted.now records near.now) }
+{
+    match near {
+        [] => put_records(page, records),
+        [first, others @ ..] => put_near(page, wanted, *first, others),
+    }
+}
+
+#[tactic(auto, using(std::proofs::Common::append_assoc), unfolding(crate::specs::Absent::records_text))]
+fn put_records(page: &mut Page, records: usize) -> Result<(), AllocError>
+    ensures { OnOk result (page.new.bytes.items ≡ page.old.bytes.items ++ records_text records) }
+{
+    if records == 0 {
+        return page.say("; the batch has no record");
+    }
+    page.say("; the batch has records 1 to ")?;
+    page.number(records as u128)
+}
+
+// The first places of those near, and how many more there are.
+#[tactic(auto, using(std::proofs::Common::append_assoc), unfolding(crate::specs::Absent::near_text))]
+fn put_near(page: &mut Page, wanted: &Wanted, first: At, others: &[At]) -> Result<(), AllocError>
+    ensures { OnOk result (page.new.bytes.items ≡ page.old.bytes.items ++ near_text wanted.now first others.now) }
+{
+    page.say(near_words(wanted))?;
+    put_at(page, first)?;
+    put_others(page, &others[..others.len().min(MOST_OTHERS)])?;
+    put_more(page, others.len().saturating_sub(MOST_OTHERS))
+}
+
+fn near_words(wanted: &Wanted) -> &'static str
+    ensures { result.now ≡ near_words wanted.now }
+{
+    match wanted {
+        Wanted::One(_) => "; that record has ",
+        _ => "; that prescription is in records ",
+    }
+}
+
+fn put_others(page: &mut Page, others: &[At]) -> Result<(), AllocError>
+    ensures { OnOk result (page.new.bytes.items ≡ page.old.bytes.items ++ flat_map after_comma others.now) }
+{
+    for at in others {
+        put_other(page, *at)?;
+    }
+    Ok(())
+}
+
+#[tactic(auto, using(std::proofs::Common::append_assoc), unfolding(crate::specs::Absent::places_left))]
+fn put_more(page: &mut Page, more: usize) -> Result<(), AllocError>
+    ensures { OnOk result (page.new.bytes.items ≡ page.old.bytes.items ++ places_left more) }
+{
+    if more == 0 {
+        return Ok(());
+    }
+    page.say(" and ")?;
+    page.number(more as u128)?;
+    page.say(" more")
+}
+
+#[tactic(auto, using(std::proofs::Common::append_assoc))]
+fn put_other(page: &mut Page, at: At) -> Result<(), AllocError>
+    ensures { OnOk result (page.new.bytes.items ≡ page.old.bytes.items ++ after_comma at) }
+{
+    page.say(", ")?;
+    put_at(page, at)
+}
