@@ -91,13 +91,8 @@ fn batch_line(alloc: Global, fault: BatchFault, input: &Input<'_>) -> Result<Str
     words.line(alloc, input.name)
 }
 
-/// The words of a fault of the sheet, by its bytes where they could be read again.
 #[tactic(auto, using(crate::proofs::Wholes::whole_is_place))]
-pub(crate) fn words_of_sheet(
-    alloc: Global,
-    fault: SheetFault,
-    text: Option<&[u8]>,
-) -> Result<Words, Memory>
+fn words_of_sheet(alloc: Global, fault: SheetFault, text: Option<&[u8]>) -> Result<Words, Memory>
     ensures place { IfOk result (λ words. IsSheetPlace fault words.place) }
     ensures said { IfOk result (AreSheetWords (option_copied text.entry) fault) }
 {
@@ -107,12 +102,7 @@ pub(crate) fn words_of_sheet(
     }
 }
 
-/// The same of the books.
-pub(crate) fn words_of_books(
-    alloc: Global,
-    fault: BooksFault,
-    text: Option<&[u8]>,
-) -> Result<Words, Memory>
+fn words_of_books(alloc: Global, fault: BooksFault, text: Option<&[u8]>) -> Result<Words, Memory>
     ensures place { IfOk result (λ words. words.place ≡ books_place fault) }
     ensures said { IfOk result (AreBooksWords (option_copied text.entry) fault) }
 {
@@ -122,12 +112,7 @@ pub(crate) fn words_of_books(
     }
 }
 
-/// The same of the batch.
-pub(crate) fn words_of_batch(
-    alloc: Global,
-    fault: BatchFault,
-    text: Option<&[u8]>,
-) -> Result<Words, Memory>
+fn words_of_batch(alloc: Global, fault: BatchFault, text: Option<&[u8]>) -> Result<Words, Memory>
     ensures place { IfOk result (λ words. words.place ≡ batch_place_in (option_copied text.entry) fault) }
     ensures said { IfOk result (AreBatchWords (option_copied text.entry) fault) }
 {

@@ -4,13 +4,12 @@ ghost use Rattle.rx_diagnostics.specs.Lines.{line_text};
 ghost use Rattle.rx_check.specs.Report.{IsReport, TellsBatch, TellsBooks, TellsSheet, adjudicated_text, ignored_text};
 ghost use Rattle.rx_check.specs.Report.{lines_text, may_pass_text, none_under_text, period_text, period_words, warning_line, warnings_text};
 
-use crate::fault_lines::{words_of_batch, words_of_books, words_of_sheet};
 use crate::findings::Files;
 use crate::found::Found;
 use crate::warnings::Warnings;
 use rx_batch::BatchFault;
 use rx_books_text::BooksFault;
-use rx_diagnostics::Words;
+use rx_diagnostics::{Words, batch_words, books_words, sheet_words};
 use rx_fields::{Day, MOST_LINES, Memory, Period, date_write};
 use rx_io::Inputs;
 use rx_sheet::SheetFault;
@@ -51,7 +50,7 @@ fn sheet_line(
     ensures { IfOk result (λ line. TellsSheet name.now text.now fault (string_bytes line)) }
 {
     match fault {
-        Some(fault) => line_of(alloc, name, &words_of_sheet(alloc, fault, Some(text))?),
+        Some(fault) => line_of(alloc, name, &sheet_words(alloc, fault, text)?),
         None => Ok(String::new(alloc)),
     }
 }
@@ -66,11 +65,7 @@ fn books_line(
     ensures { IfOk result (λ line. TellsBooks name.now (option_copied text.entry) fault (string_bytes line)) }
 {
     match (text, fault) {
-        (Some(text), Some(fault)) => line_of(
-            alloc,
-            name,
-            &words_of_books(alloc, fault, Some(text))?,
-        ),
+        (Some(text), Some(fault)) => line_of(alloc, name, &books_words(alloc, fault, text)?),
         _ => Ok(String::new(alloc)),
     }
 }
@@ -85,11 +80,7 @@ fn batch_line(
     ensures { IfOk result (λ line. TellsBatch name.now (option_copied text.entry) fault (string_bytes line)) }
 {
     match (text, fault) {
-        (Some(text), Some(fault)) => line_of(
-            alloc,
-            name,
-            &words_of_batch(alloc, fault, Some(text))?,
-        ),
+        (Some(text), Some(fault)) => line_of(alloc, name, &batch_words(alloc, fault, text)?),
         _ => Ok(String::new(alloc)),
     }
 }

@@ -225,7 +225,7 @@ abbrev pub memberless_text : List ℕ → List ℕ
 memberless_text family =
     codes "family " ++ (shown_text family ++ codes " has a total line and no member: no M line above has this family")
 
--- with the nearest person of the family, where there is one
+-- with the nearest person of the family that is listed
 abbrev pub unlisted_text : List ℕ → List ℕ → Option (List ℕ) → List ℕ
 unlisted_text family person (Some listed) =
     codes "member " ++ (shown_text family ++ (codes "/" ++ (shown_text person

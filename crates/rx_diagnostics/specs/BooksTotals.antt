@@ -49,8 +49,8 @@ unfoldable pub family_said : List ℕ → List ℕ → List ℕ → List ℕ
 family_said family name sum = codes "family " ++ (shown_text family ++ (codes ", " ++ (name ++ (codes " " ++ sum))))
 
 -- the figures of a total line, with what each should be
-unfoldable pub paid_text : TotalLine → Span → ℕ → List ℕ
-paid_text t period sum = family_said t.family (codes "out of pocket") (sum_text t.out_of_pocket period sum)
+unfoldable pub paid_text : List ℕ → ℕ → Span → ℕ → List ℕ
+paid_text family paid period sum = family_said family (codes "out of pocket") (sum_text paid period sum)
 
 -- 0 where the line's version has none
 unfoldable pub deductible_of : TotalLine → ℕ
@@ -64,7 +64,7 @@ unfoldable pub total_text : PrintedParts → TotalLine → List ℕ
 total_text p t =
     if out_of_pocket p.head.period p.ledger t.family == t.out_of_pocket
     then deductible_text t p.head.period (family_deductible p.head.period p.ledger t.family)
-    else paid_text t p.head.period (out_of_pocket p.head.period p.ledger t.family)
+    else paid_text t.family t.out_of_pocket p.head.period (out_of_pocket p.head.period p.ledger t.family)
 
 -- ---- a family without its total line
 

@@ -9,6 +9,8 @@ use Rattle.rx_ledger.specs.declared.sheet_key.SheetKey.TheVariants as key
 use Rattle.rx_sheet.specs.Names.{name_of}
 use Rattle.rx_diagnostics.specs.Quoting.{quoted_text}
 use Rattle.rx_diagnostics.specs.SheetTexts.{wanted_at, wrong_text}
+use Rattle.rx_diagnostics.specs.declared.sheet_drugs.Faulty.{Faulty}
+use Rattle.rx_diagnostics.specs.declared.sheet_drugs.Faulty.TheVariants as faulty
 use Rattle.rx_diagnostics.specs.SheetValues.{TellsOf, first_wrong, is_product, lacking, wrong_drug, wrong_price, wrong_share}
 use Rattle.rx_diagnostics.specs.SheetValues.{wrong_tier}
 
@@ -19,17 +21,21 @@ table_under k sheet = option_and_then as_table (get_member (name_of k) sheet)
 abbrev pub no_table_text : SheetKey → List ℕ
 no_table_text k = name_of k ++ (codes " isn't a table: " ++ wanted_at k)
 
--- ---- tiers
-
-unfoldable pub tier_text : List ℕ → List ℕ → List ℕ
-tier_text name shown =
-    codes "tier " ++ (quoted_text name ++ (codes " = " ++ (shown ++ (codes ": expected whole cents from 0 to "
+-- what is said of a value: of a tier, named in quotes; of a drug, of its tier and of its price, by the drug's name
+unfoldable pub said_of : Faulty → List ℕ → List ℕ → List ℕ
+said_of faulty.Cents name shown =
+    codes "tier " ++ (name ++ (codes " = " ++ (shown ++ (codes ": expected whole cents from 0 to "
     ++ (decimal MOST_CENTS ++ codes ", e.g. 1000, or { percent = 20 }")))))
+said_of faulty.Percent name shown =
+    codes "tier " ++ (name ++ (codes ": percent = " ++ (shown ++ codes ": expected a whole number from 0 to 100, e.g. 20")))
+said_of faulty.Drug name shown =
+    codes "drug " ++ (name ++ (codes " = " ++ (shown ++ codes ": expected a table with tier and price")))
+said_of faulty.Tier name shown =
+    codes "drug " ++ (name ++ (codes ": tier = " ++ (shown ++ codes ": expected the name of a tier in quotes, e.g. \"1\"")))
+said_of faulty.Price name shown =
+    codes "drug " ++ (name ++ (codes ": price = " ++ (shown ++ (codes ": " ++ wanted_at key.Price))))
 
-unfoldable pub percent_text : List ℕ → List ℕ → List ℕ
-percent_text name shown =
-    codes "tier " ++ (quoted_text name ++ (codes ": percent = " ++ (shown
-    ++ codes ": expected a whole number from 0 to 100, e.g. 20")))
+-- ---- tiers and drugs
 
 unfoldable pub no_percent_text : List ℕ → List ℕ
 no_percent_text name =
@@ -37,40 +43,33 @@ no_percent_text name =
 
 abbrev pub TellsPercent : List ℕ → Option Data → List ℕ → Type 0
 TellsPercent name None said = said ≡ no_percent_text name
-TellsPercent name (Some percent) said = TellsOf percent (percent_text name) said
+TellsPercent name (Some percent) said = TellsOf percent (said_of faulty.Percent (quoted_text name)) said
 
 -- a tier that says no share: a table by its percentage, another value as it stands
 abbrev pub TellsShare : List ℕ → Data → List ℕ → Type 0
 TellsShare name (table tier) said = TellsPercent name (get_member (codes "percent") tier) said
-TellsShare name other said = TellsOf other (tier_text name) said
-
-abbrev pub TellsFirstShare : Option (List ℕ × Data) → List ℕ → Type 0
-TellsFirstShare None said = said ≡ wrong_text key.Tiers
-TellsFirstShare (Some tier) said = TellsShare tier.0 tier.1 said
-
-abbrev pub TellsTiers : Option Members → List ℕ → Type 0
-TellsTiers None said = said ≡ no_table_text key.Tiers
-TellsTiers (Some tiers) said = TellsFirstShare (first_wrong wrong_share tiers) said
-
--- ---- drugs
+TellsShare name other said = TellsOf other (said_of faulty.Cents (quoted_text name)) said
 
 unfoldable pub product_text : List ℕ → List ℕ
 product_text name = codes "drug " ++ (quoted_text name ++ codes ": a product is 11 digits without dashes, as 00001000101")
 
-unfoldable pub drug_text : List ℕ → List ℕ → List ℕ
-drug_text name shown =
-    codes "drug " ++ (name ++ (codes " = " ++ (shown ++ codes ": expected a table with tier and price")))
-
+-- a drug that is no table, or whose name is no product
 abbrev pub TellsDrug : List ℕ → Data → List ℕ → Type 0
-TellsDrug name drug said = MatchBool (is_product name) (TellsOf drug (drug_text name) said) (said ≡ product_text name)
+TellsDrug name drug said = MatchBool (is_product name) (TellsOf drug (said_of faulty.Drug name) said) (said ≡ product_text name)
 
-abbrev pub TellsFirstDrug : Option (List ℕ × Data) → List ℕ → Type 0
-TellsFirstDrug None said = said ≡ wrong_text key.Drugs
-TellsFirstDrug (Some drug) said = TellsDrug drug.0 drug.1 said
+-- of the tiers, or of the drugs
+abbrev pub TellsEntry : SheetKey → List ℕ → Data → List ℕ → Type 0
+TellsEntry key.Tiers name tier said = TellsShare name tier said
+TellsEntry other name drug said = TellsDrug name drug said
 
-abbrev pub TellsDrugs : Option Members → List ℕ → Type 0
-TellsDrugs None said = said ≡ no_table_text key.Drugs
-TellsDrugs (Some drugs) said = TellsFirstDrug (first_wrong wrong_drug drugs) said
+-- the first that is wrong
+abbrev pub TellsFirst : SheetKey → Option (List ℕ × Data) → List ℕ → Type 0
+TellsFirst k None said = said ≡ wrong_text k
+TellsFirst k (Some entry) said = TellsEntry k entry.0 entry.1 said
+
+abbrev pub TellsTable : SheetKey → (List ℕ → Data → Option Data) → Option Members → List ℕ → Type 0
+TellsTable k test None said = said ≡ no_table_text k
+TellsTable k test (Some entries) said = TellsFirst k (first_wrong test entries) said
 
 -- ---- a drug's tier and price
 
@@ -80,13 +79,9 @@ drugs_key_text k = name_of k ++ (codes " of a drug is wrong: " ++ wanted_at k)
 unfoldable pub unknown_tier_text : List ℕ → List ℕ → List ℕ
 unknown_tier_text drug tier = codes "drug " ++ (drug ++ (codes ": tier = " ++ (quoted_text tier ++ codes ": no tier has this name")))
 
-unfoldable pub no_name_text : List ℕ → List ℕ → List ℕ
-no_name_text drug shown =
-    codes "drug " ++ (drug ++ (codes ": tier = " ++ (shown ++ codes ": expected the name of a tier in quotes, e.g. \"1\"")))
-
 abbrev pub TellsTier : List ℕ → Data → List ℕ → Type 0
 TellsTier drug (string tier) said = said ≡ unknown_tier_text drug tier
-TellsTier drug other said = TellsOf other (no_name_text drug) said
+TellsTier drug other said = TellsOf other (said_of faulty.Tier drug) said
 
 abbrev pub TellsFirstTier : Option (List ℕ × Data) → List ℕ → Type 0
 TellsFirstTier None said = said ≡ drugs_key_text key.Tier
@@ -97,12 +92,9 @@ abbrev pub TellsTierOf : Option Members → Option Members → List ℕ → Type
 TellsTierOf (Some tiers) (Some drugs) said = TellsFirstTier (first_wrong (wrong_tier tiers) drugs) said
 TellsTierOf tiers drugs said = TellsFirstTier None said
 
-unfoldable pub price_text : List ℕ → List ℕ → List ℕ
-price_text drug shown = codes "drug " ++ (drug ++ (codes ": price = " ++ (shown ++ (codes ": " ++ wanted_at key.Price))))
-
 abbrev pub TellsFirstPrice : Option (List ℕ × Data) → List ℕ → Type 0
 TellsFirstPrice None said = said ≡ drugs_key_text key.Price
-TellsFirstPrice (Some price) said = TellsOf price.1 (price_text price.0) said
+TellsFirstPrice (Some price) said = TellsOf price.1 (said_of faulty.Price price.0) said
 
 abbrev pub TellsPrice : Option Members → List ℕ → Type 0
 TellsPrice drugs said = TellsFirstPrice (option_and_then (first_wrong wrong_price) drugs) said
@@ -126,7 +118,7 @@ no_key_text k drugs = lacking_text k (option_and_then (first_wrong (lacking k)) 
 -- ---- each key
 
 unfoldable pub TellsOfDrugs : SheetKey → Members → List ℕ → Type 0
-TellsOfDrugs key.Tiers sheet said = TellsTiers (table_under key.Tiers sheet) said
-TellsOfDrugs key.Drugs sheet said = TellsDrugs (table_under key.Drugs sheet) said
+TellsOfDrugs key.Tiers sheet said = TellsTable key.Tiers wrong_share (table_under key.Tiers sheet) said
+TellsOfDrugs key.Drugs sheet said = TellsTable key.Drugs wrong_drug (table_under key.Drugs sheet) said
 TellsOfDrugs key.Tier sheet said = TellsTierOf (table_under key.Tiers sheet) (table_under key.Drugs sheet) said
 TellsOfDrugs other sheet said = TellsPrice (table_under key.Drugs sheet) said

@@ -207,7 +207,13 @@ fn total_words(alloc: Global, printed: &Printed, line: &TotalLine) -> Result<Str
     if is_sum(sums.out_of_pocket, line.out_of_pocket) {
         deductible_words(alloc, line, period, sums.deductible)
     } else {
-        paid_words(alloc, line, period, sums.out_of_pocket)
+        paid_words(
+            alloc,
+            &line.family,
+            line.out_of_pocket,
+            period,
+            sums.out_of_pocket,
+        )
     }
 }
 
@@ -220,14 +226,15 @@ fn is_sum(sum: u128, figure: u128) -> bool
 #[tactic(auto, unfolding(crate::specs::BooksTotals::paid_text))]
 fn paid_words(
     alloc: Global,
-    line: &TotalLine,
+    family: &Id,
+    paid: u128,
     period: Period,
     sum: u128,
 ) -> Result<String, AllocError>
-    ensures { IfOk result (λ said. string_bytes said ≡ paid_text line.now period sum) }
+    ensures { IfOk result (λ said. string_bytes said ≡ paid_text family.now paid period sum) }
 {
-    let said = sum_words(alloc, line.out_of_pocket, period, sum)?;
-    family_said(alloc, &line.family, "out of pocket", &said)
+    let said = sum_words(alloc, paid, period, sum)?;
+    family_said(alloc, family, "out of pocket", &said)
 }
 
 #[tactic(auto, unfolding(crate::specs::BooksTotals::deductible_text))]

@@ -271,7 +271,7 @@ fn wrong_value(alloc: Global, key: SheetKey, value: Option<&Value>) -> Result<St
     }
 }
 
-// A day that is no text, or a text that is no day.
+// A day that isn't written as a text, or a text that names no day.
 fn wrong_day(
     alloc: Global,
     key: SheetKey,

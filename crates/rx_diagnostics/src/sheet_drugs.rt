@@ -3,12 +3,12 @@ ghost use Rattle.std.specs.Option.{option_and_then};
 ghost use Rattle.toml.specs.View.{table_view, view};
 ghost use Rattle.rx_sheet.specs.Drugs.{percent_in, share_in};
 ghost use Rattle.rx_sheet.specs.Values.{number};
-ghost use Rattle.rx_diagnostics.specs.SheetDrugs.{TellsDrug, TellsDrugs, TellsFirstDrug, TellsFirstPrice, TellsFirstShare};
-ghost use Rattle.rx_diagnostics.specs.SheetDrugs.{TellsFirstTier, TellsOfDrugs, TellsPercent, TellsShare, TellsTier, TellsTierOf};
-ghost use Rattle.rx_diagnostics.specs.SheetDrugs.{TellsTiers, drug_text, drugs_key_text, lacking_key_text, lacking_text};
-ghost use Rattle.rx_diagnostics.specs.SheetDrugs.{missing_of_drug_text, no_key_text, no_name_text};
-ghost use Rattle.rx_diagnostics.specs.SheetDrugs.{no_percent_text, no_table_text, percent_text, price_text, product_text};
-ghost use Rattle.rx_diagnostics.specs.SheetDrugs.{table_under, tier_text, unknown_tier_text};
+ghost use Rattle.rx_diagnostics.specs.Quoting.{quoted_text};
+ghost use Rattle.rx_diagnostics.specs.SheetDrugs.{TellsDrug, TellsEntry, TellsFirst, TellsFirstPrice, TellsFirstTier, TellsOfDrugs};
+ghost use Rattle.rx_diagnostics.specs.SheetDrugs.{TellsPercent, TellsShare, TellsTable, TellsTier, TellsTierOf, drugs_key_text};
+ghost use Rattle.rx_diagnostics.specs.SheetDrugs.{lacking_key_text, lacking_text, missing_of_drug_text, no_key_text};
+ghost use Rattle.rx_diagnostics.specs.SheetDrugs.{no_percent_text, no_table_text, product_text, said_of, table_under};
+ghost use Rattle.rx_diagnostics.specs.SheetDrugs.{unknown_tier_text};
 ghost use Rattle.rx_diagnostics.specs.SheetEntries.{entry_of, wrong_in};
 ghost use Rattle.rx_diagnostics.specs.SheetValues.{TellsOf, first_wrong, is_product, is_tier, lacks, of_drug, unless};
 
@@ -26,11 +26,12 @@ use toml::{Table, Value};
 pub(crate) fn drug_words(alloc: Global, key: SheetKey, sheet: &Table) -> Result<String, AllocError>
     ensures { IfOk result (λ said. TellsOfDrugs key (table_view sheet.now) (string_bytes said)) }
 {
+    let tiers = table_under(sheet, SheetKey::Tiers);
     let drugs = table_under(sheet, SheetKey::Drugs);
     match key {
-        SheetKey::Tiers => tiers_words(alloc, table_under(sheet, SheetKey::Tiers)),
-        SheetKey::Drugs => drugs_words(alloc, drugs),
-        SheetKey::Tier => tier_words(alloc, table_under(sheet, SheetKey::Tiers), drugs),
+        SheetKey::Tiers => table_words(alloc, SheetKey::Tiers, Looked::Share, tiers),
+        SheetKey::Drugs => table_words(alloc, SheetKey::Drugs, Looked::Drug, drugs),
+        SheetKey::Tier => tier_words(alloc, tiers, drugs),
         _ => price_words(alloc, first_in(drugs, Looked::Price)),
     }
 }
@@ -189,14 +190,75 @@ fn table_under(sheet: &Table, key: SheetKey) -> Option<&Table>
     table_at(sheet, name_of(key))
 }
 
-// ---- tiers
+// ---- what is said of a value
 
-fn tiers_words(alloc: Global, tiers: Option<&Table>) -> Result<String, AllocError>
-    ensures { IfOk result (λ said. TellsTiers (option_map (λ t. table_view t.now) tiers.entry) (string_bytes said)) }
+/// What is wrong about a value of a tier or a drug.
+#[derive(Clone, Copy)]
+pub(crate) enum Faulty {
+    /// A tier that is neither cents nor a table.
+    Cents,
+    /// A tier's percentage.
+    Percent,
+    /// A drug that is no table.
+    Drug,
+    /// A drug's tier that is no name.
+    Tier,
+    /// A drug's price.
+    Price,
+}
+
+// A value under this name.
+fn value_said(
+    alloc: Global,
+    faulty: Faulty,
+    name: &str,
+    value: &Value,
+) -> Result<String, AllocError>
+    ensures { IfOk result (λ said. TellsOf (view value.now) (said_of faulty name.now) (string_bytes said)) }
 {
-    match tiers {
-        Some(tiers) => share_words(alloc, first_wrong(tiers, Looked::Share)),
-        None => no_table(alloc, SheetKey::Tiers),
+    let shown = shown_value(alloc, value)?;
+    said_of(alloc, faulty, name, &shown)
+}
+
+#[tactic(auto, using(std::proofs::Common::append_assoc), unfolding(crate::specs::SheetDrugs::said_of))]
+fn said_of(alloc: Global, faulty: Faulty, name: &str, shown: &str) -> Result<String, AllocError>
+    ensures { IfOk result (λ said. string_bytes said ≡ said_of faulty name.now shown.now) }
+{
+    match faulty {
+        Faulty::Cents => format!(in alloc;
+            "tier {name} = {shown}: expected whole cents from 0 to {MOST_CENTS}, e.g. 1000, or {{ percent = 20 }}"
+        ),
+        Faulty::Percent => format!(in alloc;
+            "tier {name}: percent = {shown}: expected a whole number from 0 to 100, e.g. 20"
+        ),
+        Faulty::Drug => format!(in alloc;
+            "drug {name} = {shown}: expected a table with tier and price"
+        ),
+        Faulty::Tier => format!(in alloc;
+            "drug {name}: tier = {shown}: expected the name of a tier in quotes, e.g. \"1\""
+        ),
+        Faulty::Price => {
+            let wanted = wanted_at(alloc, SheetKey::Price)?;
+            format!(in alloc; "drug {name}: price = {shown}: {wanted}")
+        }
+    }
+}
+
+// ---- tiers and drugs
+
+// What is said of a table, or of a value that is none.
+fn table_words(
+    alloc: Global,
+    key: SheetKey,
+    looked: Looked<'_>,
+    table: Option<&Table>,
+) -> Result<String, AllocError>
+    ensures { IfOk result (λ said. TellsTable key (wrong_in looked.entry)
+        (option_map (λ t. table_view t.now) table.entry) (string_bytes said)) }
+{
+    match table {
+        Some(table) => first_words(alloc, key, first_wrong(table, looked)),
+        None => no_table(alloc, key),
     }
 }
 
@@ -209,18 +271,32 @@ fn no_table(alloc: Global, key: SheetKey) -> Result<String, AllocError>
     format!(in alloc; "{name} isn't a table: {wanted}")
 }
 
-// What is said of the first tier that says no share.
-fn share_words(alloc: Global, wrong: Option<Entry<'_>>) -> Result<String, AllocError>
-    ensures { IfOk result (λ said. TellsFirstShare (option_map entry_of wrong.entry) (string_bytes said)) }
+// What is said of the first that is wrong.
+fn first_words(alloc: Global, key: SheetKey, wrong: Option<Entry<'_>>) -> Result<String, AllocError>
+    ensures { IfOk result (λ said. TellsFirst key (option_map entry_of wrong.entry) (string_bytes said)) }
 {
     match wrong {
-        Some(tier) => kind_words(alloc, tier.name, tier.value),
-        None => wrong_key(alloc, SheetKey::Tiers),
+        Some(entry) => entry_words(alloc, key, entry.name, entry.value),
+        None => wrong_key(alloc, key),
+    }
+}
+
+fn entry_words(
+    alloc: Global,
+    key: SheetKey,
+    name: &str,
+    value: &Value,
+) -> Result<String, AllocError>
+    ensures { IfOk result (λ said. TellsEntry key name.now (view value.now) (string_bytes said)) }
+{
+    match key {
+        SheetKey::Tiers => share_words(alloc, name, value),
+        _ => drug_entry(alloc, name, value),
     }
 }
 
 // A table by its percentage, another value as it stands.
-fn kind_words(alloc: Global, name: &str, tier: &Value) -> Result<String, AllocError>
+fn share_words(alloc: Global, name: &str, tier: &Value) -> Result<String, AllocError>
     ensures { IfOk result (λ said. TellsShare name.now (view tier.now) (string_bytes said)) }
 {
     match tier.as_table() {
@@ -229,31 +305,23 @@ fn kind_words(alloc: Global, name: &str, tier: &Value) -> Result<String, AllocEr
     }
 }
 
+fn cents_words(alloc: Global, name: &str, tier: &Value) -> Result<String, AllocError>
+    ensures { IfOk result (λ said.
+        TellsOf (view tier.now) (said_of Faulty.Cents (quoted_text name.now)) (string_bytes said)) }
+{
+    let name = quoted(alloc, name.as_bytes())?;
+    value_said(alloc, Faulty::Cents, &name, tier)
+}
+
 fn percent_words(alloc: Global, name: &str, percent: Option<&Value>) -> Result<String, AllocError>
     ensures { IfOk result (λ said.
         TellsPercent name.now (option_map (λ v. view v.now) percent.entry) (string_bytes said)) }
 {
-    match percent {
-        Some(percent) => wrong_percent(alloc, name, percent),
-        None => no_percent(alloc, name),
-    }
-}
-
-fn wrong_percent(alloc: Global, name: &str, percent: &Value) -> Result<String, AllocError>
-    ensures { IfOk result (λ said. TellsOf (view percent.now) (percent_text name.now) (string_bytes said)) }
-{
-    let shown = shown_value(alloc, percent)?;
-    percent_text(alloc, name, &shown)
-}
-
-#[tactic(auto, using(std::proofs::Common::append_assoc), unfolding(crate::specs::SheetDrugs::percent_text))]
-fn percent_text(alloc: Global, name: &str, shown: &str) -> Result<String, AllocError>
-    ensures { IfOk result (λ said. string_bytes said ≡ percent_text name.now shown.now) }
-{
+    let Some(percent) = percent else {
+        return no_percent(alloc, name);
+    };
     let name = quoted(alloc, name.as_bytes())?;
-    format!(in alloc;
-        "tier {name}: percent = {shown}: expected a whole number from 0 to 100, e.g. 20"
-    )
+    value_said(alloc, Faulty::Percent, &name, percent)
 }
 
 #[tactic(auto, using(std::proofs::Common::append_assoc), unfolding(crate::specs::SheetDrugs::no_percent_text))]
@@ -264,49 +332,11 @@ fn no_percent(alloc: Global, name: &str) -> Result<String, AllocError>
     format!(in alloc; "tier {name} is a table without percent: expected {{ percent = 20 }}")
 }
 
-fn cents_words(alloc: Global, name: &str, tier: &Value) -> Result<String, AllocError>
-    ensures { IfOk result (λ said. TellsOf (view tier.now) (tier_text name.now) (string_bytes said)) }
-{
-    let shown = shown_value(alloc, tier)?;
-    tier_text(alloc, name, &shown)
-}
-
-#[tactic(auto, using(std::proofs::Common::append_assoc), unfolding(crate::specs::SheetDrugs::tier_text))]
-fn tier_text(alloc: Global, name: &str, shown: &str) -> Result<String, AllocError>
-    ensures { IfOk result (λ said. string_bytes said ≡ tier_text name.now shown.now) }
-{
-    let name = quoted(alloc, name.as_bytes())?;
-    format!(in alloc;
-        "tier {name} = {shown}: expected whole cents from 0 to {MOST_CENTS}, e.g. 1000, or {{ percent = 20 }}"
-    )
-}
-
-// ---- drugs
-
-fn drugs_words(alloc: Global, drugs: Option<&Table>) -> Result<String, AllocError>
-    ensures { IfOk result (λ said. TellsDrugs (option_map (λ t. table_view t.now) drugs.entry) (string_bytes said)) }
-{
-    match drugs {
-        Some(drugs) => shape_words(alloc, first_wrong(drugs, Looked::Drug)),
-        None => no_table(alloc, SheetKey::Drugs),
-    }
-}
-
-// What is said of the first drug that is no table, or whose name is no product.
-fn shape_words(alloc: Global, wrong: Option<Entry<'_>>) -> Result<String, AllocError>
-    ensures { IfOk result (λ said. TellsFirstDrug (option_map entry_of wrong.entry) (string_bytes said)) }
-{
-    match wrong {
-        Some(drug) => named_words(alloc, drug.name, drug.value),
-        None => wrong_key(alloc, SheetKey::Drugs),
-    }
-}
-
-fn named_words(alloc: Global, name: &str, drug: &Value) -> Result<String, AllocError>
+fn drug_entry(alloc: Global, name: &str, drug: &Value) -> Result<String, AllocError>
     ensures { IfOk result (λ said. TellsDrug name.now (view drug.now) (string_bytes said)) }
 {
     if is_product(name) {
-        no_drug(alloc, name, drug)
+        value_said(alloc, Faulty::Drug, name, drug)
     } else {
         no_product(alloc, name)
     }
@@ -318,20 +348,6 @@ fn no_product(alloc: Global, name: &str) -> Result<String, AllocError>
 {
     let name = quoted(alloc, name.as_bytes())?;
     format!(in alloc; "drug {name}: a product is 11 digits without dashes, as 00001000101")
-}
-
-fn no_drug(alloc: Global, name: &str, drug: &Value) -> Result<String, AllocError>
-    ensures { IfOk result (λ said. TellsOf (view drug.now) (drug_text name.now) (string_bytes said)) }
-{
-    let shown = shown_value(alloc, drug)?;
-    drug_text(alloc, name, &shown)
-}
-
-#[tactic(auto, using(std::proofs::Common::append_assoc), unfolding(crate::specs::SheetDrugs::drug_text))]
-fn drug_text(alloc: Global, name: &str, shown: &str) -> Result<String, AllocError>
-    ensures { IfOk result (λ said. string_bytes said ≡ drug_text name.now shown.now) }
-{
-    format!(in alloc; "drug {name} = {shown}: expected a table with tier and price")
 }
 
 // ---- a drug's tier and price
@@ -365,7 +381,7 @@ fn no_tier(alloc: Global, drug: &str, tier: &Value) -> Result<String, AllocError
 {
     match tier {
         Value::String(name) => unknown_tier(alloc, drug, name.as_str()),
-        _ => no_name(alloc, drug, tier),
+        _ => value_said(alloc, Faulty::Tier, drug, tier),
     }
 }
 
@@ -377,45 +393,14 @@ fn unknown_tier(alloc: Global, drug: &str, tier: &str) -> Result<String, AllocEr
     format!(in alloc; "drug {drug}: tier = {tier}: no tier has this name")
 }
 
-fn no_name(alloc: Global, drug: &str, tier: &Value) -> Result<String, AllocError>
-    ensures { IfOk result (λ said. TellsOf (view tier.now) (no_name_text drug.now) (string_bytes said)) }
-{
-    let shown = shown_value(alloc, tier)?;
-    no_name_text(alloc, drug, &shown)
-}
-
-#[tactic(auto, using(std::proofs::Common::append_assoc), unfolding(crate::specs::SheetDrugs::no_name_text))]
-fn no_name_text(alloc: Global, drug: &str, shown: &str) -> Result<String, AllocError>
-    ensures { IfOk result (λ said. string_bytes said ≡ no_name_text drug.now shown.now) }
-{
-    format!(in alloc;
-        "drug {drug}: tier = {shown}: expected the name of a tier in quotes, e.g. \"1\""
-    )
-}
-
 // What is said of the first drug whose price is no price.
 fn price_words(alloc: Global, wrong: Option<Entry<'_>>) -> Result<String, AllocError>
     ensures { IfOk result (λ said. TellsFirstPrice (option_map entry_of wrong.entry) (string_bytes said)) }
 {
     match wrong {
-        Some(drug) => no_price(alloc, drug.name, drug.value),
+        Some(drug) => value_said(alloc, Faulty::Price, drug.name, drug.value),
         None => wrong_of_drug(alloc, SheetKey::Price),
     }
-}
-
-fn no_price(alloc: Global, drug: &str, price: &Value) -> Result<String, AllocError>
-    ensures { IfOk result (λ said. TellsOf (view price.now) (price_text drug.now) (string_bytes said)) }
-{
-    let shown = shown_value(alloc, price)?;
-    price_text(alloc, drug, &shown)
-}
-
-#[tactic(auto, using(std::proofs::Common::append_assoc), unfolding(crate::specs::SheetDrugs::price_text))]
-fn price_text(alloc: Global, drug: &str, shown: &str) -> Result<String, AllocError>
-    ensures { IfOk result (λ said. string_bytes said ≡ price_text drug.now shown.now) }
-{
-    let wanted = wanted_at(alloc, SheetKey::Price)?;
-    format!(in alloc; "drug {drug}: price = {shown}: {wanted}")
 }
 
 // What is said of a key that is wrong in no drug.

@@ -3,10 +3,11 @@ use Rattle.rx_check.specs.Wording.{AreBatchWords}
 use Rattle.rx_check.proofs.Reports.{tells}
 use Rattle.rx_check.proofs.report_lines.batch_line.Goals as goal
 
-pub returns-in_ok-words_of_batch-in-Some-Some : goal.returns-in_ok-words_of_batch-in-Some-Some
-returns-in_ok-words_of_batch-in-Some-Some c =
+pub returns-in_ok-batch_words-in-Some-Some : goal.returns-in_ok-batch_words-in-Some-Some
+returns-in_ok-batch_words-in-Some-Some c =
     let given = c.in-Some-Some in
-    let words = c.in_ok-words_of_batch-in-Some-Some in
+    let words = c.in_ok-batch_words-in-Some-Some in
     rw (given.is-0, given.is-1)
-    (tells (AreBatchWords (Some given.text.now) given.fault) c.args.name.now words.field-0 c.line_of.result words.ensures.said
+    (tells (AreBatchWords (Some given.text.now) given.fault) c.args.name.now words.field-0 c.line_of.result
+    (words.ensures.place, (words.ensures.text, words.ensures.mend))
     c.line_of.ensures)
