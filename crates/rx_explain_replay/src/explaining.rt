@@ -1,20 +1,41 @@
 ghost use Rattle.std.specs.Prelude.{◌≡◌, ◌≤◌, IfOk, OnOk, Option, length};
 ghost use Rattle.std.specs.List.{AllZip};
 ghost use Rattle.std.specs.Option.{option_copied};
+ghost use Rattle.rx_explain_replay.specs.Adjudicated.{AreExplained, IsAdjudicated};
 ghost use Rattle.rx_explain_replay.specs.Courses.{IsCourse};
 ghost use Rattle.rx_explain_replay.specs.Records.{AreDecided, IsAt, IsDecided, IsPass};
 ghost use Rattle.rx_explain_replay.specs.declared.batch.Batch.{Batch as BatchRecord};
 ghost use Rattle.rx_fields.specs.declared.limits.TheConstants.{MOST_DETAILS};
 
-use crate::batch::Batch;
+use crate::batch::{Adjudicated, Batch};
 use crate::course::{Course, begun, go_to};
 use crate::record::explain_record;
 use rx_explain::{At, Events, Explanation, Facts, item, place_at};
 use rx_fields::Memory;
 use std::alloc::Global;
 
-/// An explanation of the transaction at each of these places of a batch among these events, None if there is none. Places in
-/// the order of the batch take one more pass over it.
+/// An explanation of the transaction at each of these places of a batch, None if there is none. Places in the order of
+/// the batch take one more pass over it.
+#[tactic(auto, using(crate::proofs::Replied::one_each))]
+pub fn explanations(
+    alloc: Global,
+    batch: &Adjudicated,
+    places: &[At],
+) -> Result<Vec<Option<Explanation>>, Memory>
+    requires { IsAdjudicated batch.now }
+    ensures { IfOk result (λ all. AreExplained batch.now places.now all.items) }
+{
+    let events = Events::of(alloc, &batch.asked, &batch.replies)?;
+    let batch = Batch {
+        lot: batch.lot,
+        sheet: &batch.sheet,
+        opening: &batch.opening,
+        asked: &batch.asked,
+    };
+    explain_each(alloc, &batch, &events, places)
+}
+
+/// The same among these events.
 pub fn explain_each(
     alloc: Global,
     batch: &Batch<'_>,

@@ -2,12 +2,12 @@
 //!
 //! In come the opening books and what a batch asks; out come the replies to it, with explanations of the records at some
 //! places (`replay`), or, once the replies are known, explanations of transactions in the order of the batch, in one pass
-//! over it, all at once (`explain_each`) or one after another (`Pass`). What an explanation says is in `rx_explain`; what a
+//! over it, all at once (`explanations`) or one after another (`Pass`). What an explanation says is in `rx_explain`; what a
 //! record is explained on is the books themselves, as they are when its turn comes.
 //!
 //! ```rust
 //! let replayed = rx_explain_replay::replay(alloc, batch, &places)?;
-//! let explanations = rx_explain_replay::explain_each(alloc, batch, &events, &places)?;
+//! let explanations = rx_explain_replay::explanations(alloc, &adjudicated, &places)?;
 //! ```
 //!
 //! Which transactions are asked for is left to the caller, and so are words for people.
@@ -20,5 +20,5 @@ mod record;
 mod replaying;
 
 pub use batch::{Adjudicated, Batch};
-pub use explaining::{Pass, explain_each, traced};
+pub use explaining::{Pass, explain_each, explanations, traced};
 pub use replaying::{Explained, Replayed, replay};
