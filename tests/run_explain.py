@@ -114,10 +114,15 @@ def due(limit, paid, owed):
     return f"  {money(owed)}{cut(limit, paid, owed)}" if paid < owed else ""
 
 
+def shown(text):
+    """A text of a file as a terminal shows it."""
+    return re.sub(r"[^ -\[\]-~]", lambda byte: f"\\x{ord(byte[0]):02X}", text)
+
+
 def claim(one):
     source = f"record {at(one['paid_by'])}" if "paid_by" in one else "opening books"
     end = f"; taken back by {at(one['taken_back_by'])}" if "taken_back_by" in one else ""
-    return f"rx {one['rx']} of {one['date']} at {one['pharmacy']} for {one['family']}/{one['person']} ({source}{end})"
+    return f"rx {one['rx']} of {one['date']} at {one['pharmacy']} for {shown(one['family'])}/{shown(one['person'])} ({source}{end})"
 
 
 def behind(claims, amounts, used, whole):

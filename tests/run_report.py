@@ -325,7 +325,7 @@ def check_told(text, told):
     if told["answer"] == "paid":
         for label, name in (("member pays F5", "patient_pay"), ("plan pays F9", "total_paid")):
             found = re.search(rf"(?m)^  {label} +(\S+)$", text)
-            want(found and found[1], "$" + dollars(told[name]), label)
+            want(found and found[1], f"${told[name] // 100:,}.{told[name] % 100:02d}", label)
 
 
 def check_portion(program, folder, rows, lines, words, scope, only, whys):
