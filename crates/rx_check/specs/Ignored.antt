@@ -1,4 +1,4 @@
--- Meaning: the lines about the keys of a plan sheet that are ignored.
+-- Text: the lines about the keys of a plan sheet that are ignored.
 use Rattle.std.specs.Prelude.{ℕ, Bool, nat_eq, if◌then◌else◌, List, [], ◌∷◌, ◌++◌, codes, map}
 use Rattle.std.specs.Prelude.{Option, Some, None, Result, Ok, Err, option_and_then}
 use Rattle.std.specs.Borrow.{Bor}

@@ -1,4 +1,4 @@
--- Meaning: what is printed of a check: a line for the first fault of each file, and then one for each warning.
+-- Text: what is printed of a check: a line for the first fault of each file, and then one for each warning.
 use Rattle.std.specs.Prelude.{◌≡◌, ℕ, Bool, nat_lt, if◌then◌else◌, List, [], ◌∷◌, ◌++◌, codes, map, string_bytes}
 use Rattle.std.specs.Prelude.{Option, Some, None, option_copied}
 use Rattle.std.specs.Fmt.{decimal}

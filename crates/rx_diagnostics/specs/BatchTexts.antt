@@ -1,4 +1,4 @@
--- Meaning: what is said of a fault of a batch file: what stands there, and what is expected.
+-- Text: what is said of a fault of a batch file: what stands there, and what is expected.
 use Rattle.std.specs.Prelude.{ℕ, ◌+◌, ◌-◌, Bool, true, false, not, ◌&&◌, ◌||◌, ◌==◌, nat_le, nat_lt}
 use Rattle.std.specs.Prelude.{if◌then◌else◌, List, [], ◌∷◌, ◌++◌, codes, drop, length, slice_range, take}
 use Rattle.std.specs.Prelude.{Option, Some, None, is_err, is_none}

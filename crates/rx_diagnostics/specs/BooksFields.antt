@@ -1,4 +1,4 @@
--- Meaning: what is said of the fields of a books line: each has a name and holds a kind of text.
+-- Text: what is said of the fields of a books line: each has a name and holds a kind of text.
 use Rattle.std.specs.Prelude.{ℕ, ◌+◌, Bool, false, not, ◌&&◌, ◌||◌, ◌==◌, nat_eq, nat_le, nat_lt, if◌then◌else◌}
 use Rattle.std.specs.Prelude.{List, [], ◌∷◌, ◌++◌, codes, length, Option, Some, None, option_map}
 use Rattle.std.specs.Prelude.{Result, Ok, Err, is_err}

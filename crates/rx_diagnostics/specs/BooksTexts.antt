@@ -1,4 +1,4 @@
--- Meaning: what is said of faults of a books file: what stands there, and what is expected.
+-- Text: what is said of faults of a books file: what stands there, and what is expected.
 use Rattle.std.specs.Prelude.{◌≡◌, ℕ, ◌+◌, ◌-◌, Bool, not, ◌||◌, ◌==◌, nat_lt, nat_eq, if◌then◌else◌}
 use Rattle.std.specs.Prelude.{List, [], ◌∷◌, ◌++◌, codes, length, Option, Some, None, option_map, string_bytes}
 use Rattle.std.specs.Fmt.{decimal}

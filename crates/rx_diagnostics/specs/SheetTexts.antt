@@ -1,4 +1,4 @@
--- Meaning: what is said of faults of a plan sheet: the key, and what is expected under it.
+-- Text: what is said of faults of a plan sheet: the key, and what is expected under it.
 use Rattle.std.specs.Prelude.{ℕ, List, ◌++◌, codes}
 use Rattle.std.specs.Fmt.{decimal}
 use Rattle.rx_fields.specs.declared.limits.TheConstants.{MOST_CENTS}

@@ -1,4 +1,4 @@
--- Meaning: what is said where no transaction is what was asked for: what that was, and what the batch has.
+-- Text: what is said where no transaction is what was asked for: what that was, and what the batch has.
 use Rattle.std.specs.Prelude.{ℕ, ◌-◌, ◌==◌, if◌then◌else◌, List, [], ◌∷◌, ◌++◌, codes, length, take}
 use Rattle.std.specs.Fmt.{decimal}
 use Rattle.std.specs.List.{flat_map}

@@ -1,4 +1,4 @@
--- Meaning: the line that says the answer and the pharmacy.
+-- Text: the line that says the answer and the pharmacy.
 use Rattle.std.specs.Prelude.{ℕ, List, [], ◌∷◌, ◌++◌, Option, Some, None, codes, length}
 use Rattle.std.specs.Fmt.{decimal}
 use Rattle.rx_d0_values.specs.declared.bill.BillParts.{BillParts}

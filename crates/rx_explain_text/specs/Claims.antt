@@ -1,4 +1,4 @@
--- Meaning: how a standing claim is described.
+-- Text: how a standing claim is described.
 use Rattle.std.specs.Prelude.{ℕ, List, [], ◌++◌, Option, Some, None, codes}
 use Rattle.std.specs.Fmt.{decimal}
 use Rattle.rx_explain.specs.declared.at.At.{At}

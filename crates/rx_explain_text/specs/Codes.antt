@@ -1,4 +1,4 @@
--- Meaning: what is said of each reject code of a request that can't be read.
+-- Text: what is said of each reject code of a request that can't be read.
 use Rattle.std.specs.Prelude.{ℕ, List, [], ◌++◌, Option, Some, None, codes}
 use Rattle.std.specs.List.{flat_map}
 use Rattle.std.specs.Option.{unwrap_or}

@@ -1,4 +1,4 @@
--- Meaning: the claims of a sum, each with what it counts.
+-- Text: the claims of a sum, each with what it counts.
 use Rattle.std.specs.Prelude.{ℕ, ◌+◌, ◌-◌, ◌==◌, nat_lt, not, Bool, if◌then◌else◌, List, [], ◌∷◌, ◌++◌, count_by, replicate, take}
 use Rattle.std.specs.List.{flat_map, fold}
 use Rattle.rx_d0_values.specs.Priced.{patient_pay}

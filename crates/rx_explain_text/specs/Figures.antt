@@ -1,4 +1,4 @@
--- Meaning: the figures of a claim that is paid, a line each, with where each comes from.
+-- Text: the figures of a claim that is paid, a line each, with where each comes from.
 use Rattle.std.specs.Prelude.{ℕ, ◌+◌, ◌-◌, nat_le, nat_lt, if◌then◌else◌, List, [], ◌++◌, Option, Some, None}
 use Rattle.std.specs.Prelude.{codes, length, replicate}
 use Rattle.std.specs.Fmt.{decimal}

@@ -1,4 +1,4 @@
--- Meaning: an explanation as one JSON object on one line. Amounts are in cents.
+-- Text: an explanation as one JSON object on one line. Amounts are in cents.
 use Rattle.std.specs.Prelude.{ℕ, List, [], ◌∷◌, ◌++◌, Option, Some, None, codes}
 use Rattle.std.specs.Fmt.{decimal}
 use Rattle.std.specs.List.{flat_map}

@@ -1,4 +1,4 @@
--- Meaning: why it was decided so, in words; nothing of a claim that is paid, whose figures say it.
+-- Text: why it was decided so, in words; nothing of a claim that is paid, whose figures say it.
 use Rattle.std.specs.Prelude.{ℕ, ◌*◌, ◌/◌, ◌==◌, ◌-ℤ◌, unsigned_abs, Bool, false, if◌then◌else◌, List, [], ◌++◌, Option, Some, None, codes}
 use Rattle.std.specs.Fmt.{decimal}
 use Rattle.rx_d0_values.specs.Priced.{patient_pay, total_paid}

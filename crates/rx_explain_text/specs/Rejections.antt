@@ -1,4 +1,4 @@
--- Meaning: what is said of a record whose header is rejected.
+-- Text: what is said of a record whose header is rejected.
 use Rattle.std.specs.Prelude.{ℕ, List, [], ◌++◌, Option, Some, None, codes}
 use Rattle.std.specs.Fmt.{decimal}
 use Rattle.rx_d0_values.specs.declared.transmission.Rejected.{Rejected}

@@ -1,4 +1,4 @@
--- Meaning: an explanation in words: the answer and the pharmacy, why, and where the figures of a claim that is paid come from.
+-- Text: an explanation in words: the answer and the pharmacy, why, and where the figures of a claim that is paid come from.
 use Rattle.std.specs.Prelude.{ℕ, List, ◌++◌, Option}
 use Rattle.rx_explain.specs.declared.explanation.Explanation.{Explanation}
 use Rattle.rx_explain_text.specs.Answered.{answered_line}

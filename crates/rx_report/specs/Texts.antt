@@ -1,4 +1,4 @@
--- Meaning: a report as a table of tabs, and as JSON.
+-- Text: a report as a table of tabs, and as JSON.
 use Rattle.std.specs.Prelude.{ℕ, ◌==◌, if◌then◌else◌, List, [], ◌∷◌, ◌++◌, codes, length}
 use Rattle.std.specs.List.{flat_map}
 use Rattle.rx_print.specs.Escape.{escaped}

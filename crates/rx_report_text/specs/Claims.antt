@@ -1,4 +1,4 @@
--- Meaning: how a page has a provider's claims. Each unfolds to its figures, and to why its answer was given.
+-- Text: how a page has a provider's claims. Each unfolds to its figures, and to why its answer was given.
 use Rattle.std.specs.Prelude.{ℕ, List, ◌++◌, codes}
 use Rattle.std.specs.Fmt.{decimal}
 use Rattle.std.specs.List.{flat_map}

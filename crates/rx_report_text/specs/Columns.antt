@@ -1,4 +1,4 @@
--- Meaning: an account in aligned columns, for people.
+-- Text: an account in aligned columns, for people.
 use Rattle.std.specs.Prelude.{ℕ, ◌-◌, Bool, true, if◌then◌else◌, List, [], ◌∷◌, ◌++◌, codes, length, map, max, replicate, take}
 use Rattle.std.specs.Char.{is_ascii_whitespace}
 use Rattle.std.specs.Fmt.{decimal}

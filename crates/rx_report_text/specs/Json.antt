@@ -1,4 +1,4 @@
--- Meaning: an account as a JSON object. Amounts are in cents.
+-- Text: an account as a JSON object. Amounts are in cents.
 use Rattle.std.specs.Prelude.{ℕ, List, [], ◌∷◌, ◌++◌, Option, Some, None, codes}
 use Rattle.std.specs.Fmt.{decimal, signed_decimal}
 use Rattle.std.specs.List.{flat_map}

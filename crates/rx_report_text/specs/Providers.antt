@@ -1,4 +1,4 @@
--- Meaning: how a page has the table of providers.
+-- Text: how a page has the table of providers.
 use Rattle.std.specs.Prelude.{ℕ, ◌*◌, ◌/◌, ◌^◌, ◌==◌, nat_lt, if◌then◌else◌, Bool, true, false}
 use Rattle.std.specs.Prelude.{List, [], ◌++◌, codes, max}
 use Rattle.std.specs.Fmt.{decimal}

@@ -1,4 +1,4 @@
--- Meaning: the whole page of an account.
+-- Text: the whole page of an account.
 use Rattle.std.specs.Prelude.{ℕ, Bool, true, false, List, ◌++◌, codes}
 use Rattle.std.specs.List.{enumerate_from}
 use Rattle.rx_print.specs.Dates.{dashed}

@@ -1,4 +1,4 @@
--- Meaning: the lines that report how a run goes.
+-- Text: the lines that report how a run goes.
 use Rattle.std.specs.Prelude.{ℕ, ◌==◌, if◌then◌else◌, List, [], ◌∷◌, ◌++◌, codes, Option, Some, None}
 use Rattle.rx_run_log.specs.declared.settlement.Totals.{Totals}
 use Rattle.rx_run_log.specs.declared.report.Counted.{Counted}

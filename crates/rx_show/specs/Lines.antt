@@ -1,4 +1,4 @@
--- Meaning: the lines of `show`: words with a blank between each two, and the line's end.
+-- Text: the lines of `show`: words with a blank between each two, and the line's end.
 use Rattle.std.specs.Prelude.{ℕ, ◌+◌, List, [], ◌∷◌, ◌++◌, codes}
 use Rattle.std.specs.List.{join_with_byte}
 use Rattle.std.specs.Fmt.{decimal}

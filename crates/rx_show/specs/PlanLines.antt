@@ -1,4 +1,4 @@
--- Meaning: the lines of `plan`: a line for each record with its place and wave, then the number of waves, then the chain.
+-- Text: the lines of `plan`: a line for each record with its place and wave, then the number of waves, then the chain.
 use Rattle.std.specs.Prelude.{ℕ, ◌+◌, List, [], ◌∷◌, ◌++◌, codes}
 use Rattle.std.specs.List.{flat_map}
 use Rattle.std.specs.Fmt.{decimal}

@@ -1,4 +1,4 @@
--- Meaning: the lines of `replies`: words with a blank between each two, and the line's end.
+-- Text: the lines of `replies`: words with a blank between each two, and the line's end.
 use Rattle.std.specs.Prelude.{ℕ, ◌+◌, List, [], ◌∷◌, ◌++◌, Option, Some, None, codes}
 use Rattle.std.specs.List.{flat_map, join_with_byte}
 use Rattle.std.specs.Fmt.{decimal}

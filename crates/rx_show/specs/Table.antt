@@ -1,4 +1,4 @@
--- Meaning: the table of `show --tsv`: a heading, and a row for each transaction or rejected header, with a tab between each two
+-- Text: the table of `show --tsv`: a heading, and a row for each transaction or rejected header, with a tab between each two
 -- cells. What isn't asked stays blank.
 use Rattle.std.specs.Prelude.{ℕ, ◌+◌, List, [], ◌∷◌, ◌++◌, Option, Some, None, codes}
 use Rattle.std.specs.List.{flat_map, join_with_byte}
