@@ -28,8 +28,10 @@ look: kit
 	@python3 tools/look.py $(JOB) $(if $(RECORD),--record $(RECORD)) $(if $(STAMP),--stamp $(STAMP))
 
 test: kit cc
+	rm -f out/gate-minutes
 	python3 .ci/gate.py
 	$(MAKE) --silent cases
+	cat out/gate-minutes
 
 # The gate again, with the must-fail edits of those crates too that are as they were when these were last tried.
 all-edits: kit cc
@@ -38,13 +40,14 @@ all-edits: kit cc
 
 cases: kit cc
 	python3 tools/check_docs.py
-	python3 tools/find_doubles.py --allowed 52
+	python3 tools/find_doubles.py --allowed 51
 	python3 tools/count_dialect.py --allowed 6
 	test -x $(PROGRAM) || (cd crates/rxbatch && rt run -- sample)
 	python3 packaging/make_pages.py $(PROGRAM) --check
 	python3 tests/run_packaging.py $(PROGRAM)
 	python3 tests/run_pages.py $(PROGRAM)
 	python3 tests/run_words.py $(PROGRAM)
+	python3 tests/run_people.py $(PROGRAM)
 	python3 tests/run_paths.py $(PROGRAM)
 	python3 tests/run_safe.py $(PROGRAM)
 	python3 tests/run_log.py $(PROGRAM)
@@ -57,6 +60,7 @@ cases: kit cc
 	python3 tests/run_verify.py $(PROGRAM)
 	python3 tests/run_replies.py $(PROGRAM)
 	python3 tests/run_report.py $(PROGRAM)
+	python3 tests/run_upkeep.py $(PROGRAM)
 	test -x $(TRIALS) || (cd crates/rx_bench && rt run -- orders 1 > /dev/null)
 	python3 tests/run_failing.py $(PROGRAM)
 	python3 tests/refused_memory.py $(PROGRAM)

@@ -18,7 +18,7 @@ names, by which the digests are made: what was seen refused under an old name st
 
 The proofs, tests and programs come first. Edits are tried then, of a few crates at a time and the lowest first, for as long as
 GATE_MINUTES (90) since the start aren't over. After the first part and at the end one line says how many minutes it took, by the
-clock and of processors.
+clock and of processors; out/gate-minutes keeps these lines.
 """
 
 import argparse
@@ -240,9 +240,12 @@ def try_edits(changed, end):
 
 
 def print_minutes(what, start):
-    """Prints how many minutes have passed since the start, and how many of processors the ended commands took."""
+    """Prints how many minutes have passed since the start, and how many of processors the ended commands took, and keeps it."""
     by_processors = os.times().children_user + os.times().children_system
-    print(f"gate: {what} took {by_processors / 60:.1f} processor minutes, {(time.monotonic() - start) / 60:.1f} by the clock", flush=True)
+    line = f"gate: {what} took {by_processors / 60:.1f} processor minutes, {(time.monotonic() - start) / 60:.1f} by the clock"
+    print(line, flush=True)
+    with open(f"{TOP}/out/gate-minutes", "a", encoding="utf-8") as kept:
+        print(line, file=kept)
 
 
 def gate(now, changed):

@@ -14,7 +14,7 @@ import re
 import subprocess
 import sys
 
-OPTION = re.compile(r"^ +(?:(-\w), )? *(--[\w-]+)(?: <(\w+)>)? {2,}(.*)$")
+OPTION = re.compile(r"^ +(?:(-\w), )? *(--[\w-]+)(?: <([\w-]+)>)? {2,}(.*)$")
 COMMAND = re.compile(r"^  (\w+) {2,}(.*)$")
 # What `--help` doesn't say.
 STATUSES = [
@@ -22,29 +22,44 @@ STATUSES = [
     ("1", "An input is refused: the line \"refused N M P\" on standard error, or \"response M P\" for a response file."),
     ("2", "The arguments aren't understood or ask for help, or two options of run lead to one file."),
     ("3", "A file failed: the line \"file K\" on standard error."),
-    ("4", "check: warnings, and no fault. explain: no such transaction."),
+    ("4", "check: warnings, and no fault. adjudicate: a warning stops it. explain, fault: nothing of the kind."),
     ("5", "verify: a file differs from the run's. explain: the response file doesn't have this reply."),
 ]
 # The numbers of the lines on standard error.
 DIAGNOSTICS = [
-    ("refused N M P", "N: 1 workers, 2 stamp, 3 sheet, 4 books, 5 batch, 6 out of memory, 7 thread. M: the fault of that input. "
-                      "P: the sheet's key, the line of the books, or the byte of the batch. check and run -v print it in words."),
-    ("file K", "K: 1 sheet, 2 books, 3 batch, 4 response, 5 end books, 6 settlement, 7 log, 0 standard output."),
+    ("refused N M P", "N: 1 workers, 2 stamp, 3 sheet, 4 books, 5 batch, 6 out of memory, 7 thread, 8 members table, 9 books that "
+                      "aren't kept up. M: the fault of that input. P: the sheet's key, the line of books or table, or the byte of the "
+                      "batch. The words follow; of run, show and plan "
+                      "with -v or on a terminal. fault N M P prints them."),
+    ("file K", "K: 1 sheet, 2 books, 3 batch, 4 response, 5 end books, 6 settlement, 7 log, 8 members table, 9 claims that left, "
+               "0 standard output."),
 ]
 FILES = [
     ("plan sheet", "TOML: the plan's BIN and processor control number, period, figures, tiers and drugs."),
     ("books", "Text: the members with their coverage, the standing claims, the totals of each family. The end books of a run are "
               "the opening books of the next."),
     ("batch, response", "NCPDP Batch 1.2 with transmissions of Telecommunication D.0: billings B1 and reversals B2, and their replies."),
+    ("members table", "Text, tabs between the fields: the heading family, person, first, last, then a line for each member."),
     ("settlement", "Text: for each pharmacy the answers paid, duplicate, reversed and rejected, and the net in cents."),
     ("log", "JSON, a line for each run, appended. New files have the rights 0600."),
 ]
 EXAMPLES = [
-    ("Check the inputs, adjudicate, and keep earlier outputs until all is done:",
-     "rxbatch check --sheet sheet.toml --books books.txt --batch batch.bin",
+    ("Adjudicate a batch, with the outputs in a folder:",
+     "rxbatch adjudicate --sheet sheet.toml --books books.txt --batch batch.bin --out out"),
+    ("The next day, on the end books:",
+     "rxbatch adjudicate --sheet sheet.toml --books out/books.txt --batch next.bin --out next"),
+    ("The same from a program, each file by an option:",
      "rxbatch run --safe --sheet sheet.toml --books books.txt --batch batch.bin \\",
      "    --stamp 202603170600 --workers 4 --response response.bin \\",
      "    --books-out books-out.txt --settlement settlement.txt"),
+    ("A plan's first books, and each week the members who come and go:",
+     "rxbatch members --period 20260101-20261231 --members members.tsv --books-out books.txt",
+     "rxbatch members --books books.txt --members members.tsv --books-out next.txt"),
+    ("In January, the year's claims but its last quarter's leave, and the new benefit period begins:",
+     "rxbatch age --books books.txt --before 20261001 --period 20270101-20271231 \\",
+     "    --sheet sheet.toml --books-out next.txt --dropped claims-2026.txt"),
+    ("What does refused 4 5 6 mean?",
+     "rxbatch fault 4 5 6"),
     ("Why was the second record answered so?",
      "rxbatch explain --sheet sheet.toml --books books.txt --batch batch.bin --record 2"),
 ]
@@ -119,7 +134,7 @@ def bash(commands):
     cases = []
     for command in commands:
         words = " ".join(" ".join(filter(None, (short, name))) for short, name, _, _ in command.options)
-        files = "|".join(name for _, name, value, _ in command.options if value == "FILE")
+        files = "|".join(name for _, name, value, _ in command.options if value in ("FILE", "DIR"))
         cases.append(f"    {command.name}) words='{words}'; files='{files}' ;;")
     names = " ".join(command.name for command in commands)
     return f"""# Completions of rxbatch for bash.
@@ -155,7 +170,7 @@ def zsh(commands):
     for command in commands:
         options = []
         for short, name, value, text in command.options:
-            action = {"FILE": ":file:_files", None: ""}.get(value, f":{value}:")
+            action = {"FILE": ":file:_files", "DIR": ":folder:_files -/", None: ""}.get(value, f":{value}:")
             names = f"'({short} {name})'{{{short},{name}}}'" if short else f"'{name}"
             options.append(f"{names}[{quoted(text)}]{action}'")
         cases.append(f"    {command.name}) _arguments {' '.join(options)} ;;")

@@ -2,7 +2,7 @@
 _rxbatch() {
   local word=${COMP_WORDS[COMP_CWORD]} before=${COMP_WORDS[COMP_CWORD - 1]} words files left name
   if [ "$COMP_CWORD" -eq 1 ]; then
-    mapfile -t COMPREPLY < <(compgen -W 'run show plan sample check explain verify report replies' -- "$word")
+    mapfile -t COMPREPLY < <(compgen -W 'run show plan sample check explain verify report replies adjudicate fault members age' -- "$word")
     return
   fi
   case ${COMP_WORDS[1]} in
@@ -13,8 +13,12 @@ _rxbatch() {
     check) words='--sheet --books --batch'; files='--sheet|--books|--batch' ;;
     explain) words='--sheet --books --batch --record --number --rx --provider --response --json --all'; files='--sheet|--books|--batch|--response' ;;
     verify) words='--sheet --books --batch --response --books-out --settlement --stamp --workers --plain --desk'; files='--sheet|--books|--batch|--response|--books-out|--settlement' ;;
-    report) words='--sheet --books --batch --provider --family --tsv --json --html'; files='--sheet|--books|--batch' ;;
+    report) words='--sheet --books --batch --provider --family --tsv --json --jsonl --html'; files='--sheet|--books|--batch' ;;
     replies) words='--response'; files='--response' ;;
+    adjudicate) words='--sheet --books --batch --out --stamp --workers --again --strict --quiet'; files='--sheet|--books|--batch|--out' ;;
+    fault) words=''; files='' ;;
+    members) words='--books --period --members --books-out --safe'; files='--books|--members|--books-out' ;;
+    age) words='--books --before --period --sheet --refill-percent --books-out --dropped --safe'; files='--books|--sheet|--books-out|--dropped' ;;
   esac
   if [ -n "$files" ] && [[ "|$files|" == *"|$before|"* ]]; then
     mapfile -t COMPREPLY < <(compgen -f -- "$word")

@@ -6,6 +6,12 @@ import shlex
 import shutil
 
 
+def is_line_with_words(told, line):
+    """Whether standard error has this line of numbers, and words after it."""
+    front, _, words = told.partition(b"\n")
+    return front + b"\n" == line and words.endswith(b"\n") and len(words) > 8
+
+
 def parser_of(what):
     """A parser of PROGRAM, `--only`, `--jobs` and `--seconds`; `what` says what the script does."""
     parser = argparse.ArgumentParser(description=what, formatter_class=argparse.RawDescriptionHelpFormatter)

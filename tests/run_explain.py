@@ -1,15 +1,18 @@
 #!/usr/bin/env python3
 """Runs a program's `explain` on the worked cases and the first job, and compares it with explanations of another program.
 
-    tests/run_explain.py PROGRAM [--only WORD] [--jobs J] [--seconds S]
+    tests/run_explain.py PROGRAM [--only WORD] [--jobs J] [--seconds S] [--random N --seed S --reference FILE]
 
 PROGRAM is a path or a command line. Each file of tests/explain has an explanation a line, of the job of that name below
 tests/cases, tests/explain/cases or examples: what `--json` is to say of each transaction, made by a program that has no
-code in common with this one. Each transaction is asked for by its place, in words and as JSON, with the job's response
+code in common with this one; the tier's name is read from the sheet here. Each transaction is asked for by its place, in words and as JSON, with the job's response
 file; the figures of a paid claim are compared line by line with texts made of these values. Then each authorization
 number and each prescription reference number is looked for. Response files with another byte, another reference, a
 record less and of another batch, a family of 29 claims, end books, what isn't there, damaged inputs and files that can't
 be read are tried; and each command of examples/first_job/expected/explain has to print what stands below it.
+
+`--random N` explains N random jobs in place of these, each record with the reply of another program: FILE is a Python
+module that reads and adjudicates (explained.py says what it has to offer). A job that differs is kept in a folder.
 
 What differs has a line. The last line is `N passed, M failed`; the exit status is 0 where M is 0, else 1.
 """
@@ -18,11 +21,17 @@ import argparse
 import concurrent.futures
 import json
 import os
+import random
 import re
 import shlex
+import shutil
 import subprocess
 import sys
 import tempfile
+
+import explained
+import random_runs
+from options import is_line_with_words
 
 HERE = os.path.dirname(os.path.abspath(__file__))
 TOP = os.path.dirname(HERE)
@@ -38,8 +47,6 @@ class Job:
 
     def __init__(self, name):
         self.name = name[:-len(".json")]
-        with open(os.path.join(HERE, "explain", name), encoding="utf-8") as file:
-            self.wanted = [json.loads(line) for line in file]
         path = self.name.replace("--", os.sep)
         own = os.path.join(HERE, "explain", "cases", path)
         self.folder = FIRST_JOB if self.name == "first_job" else own if os.path.isdir(own) else os.path.join(HERE, "cases", path)
@@ -47,6 +54,16 @@ class Job:
         self.response = os.path.join(self.folder, response)
         self.compared = ["--response", self.response] if os.path.exists(self.response) else []
         self.inputs = inputs_in(self.folder)
+        self.wanted = with_tiers(self.folder, name)
+
+
+def with_tiers(folder, name):
+    """The explanations of a file, those of claims that are paid with the tier that the job's sheet names."""
+    with open(os.path.join(folder, "sheet.toml"), "rb") as file:
+        tiers = explained.tier_names(file.read())
+    with open(os.path.join(HERE, "explain", name), encoding="utf-8") as file:
+        wanted = [json.loads(line) for line in file]
+    return [{**one, "tier": tiers[one["product"]]} if one.get("answer") == "paid" else one for one in wanted]
 
 
 def inputs_in(folder):
@@ -71,11 +88,11 @@ class Explain:
         else:
             self.failures.append(line)
 
-    def expect_status(self, words, status, stderr=None):
+    def expect_status(self, words, status, stderr=None, is_told=is_line_with_words):
         """The words answer this status; nothing is on standard output but at 0 and 5."""
         ended = self.run(words)
         good = ended.returncode == status and (status in (0, 5) or ended.stdout == b"")
-        good = good and (stderr is None or ended.stderr == stderr)
+        good = good and (stderr is None or is_told(ended.stderr, stderr))
         self.expect(good, f"status {ended.returncode}, wanted {status}: {ended.stderr[:60]!r} {' '.join(words)}")
         return ended.stdout
 
@@ -149,9 +166,9 @@ def share_words(wanted, allowed):
         return "  nothing is left after the deductible"
     words = f"{money(rest)} ({money(allowed)} less {money(wanted['deductible_due'])})"
     if "tier_percent" in wanted:
-        return f"  the tier's {wanted['tier_percent']} percent of {words} = {money(wanted['share_due'])}"
-    tier = f"  the tier's copay of {money(wanted['tier_copay'])}"
-    return tier + (f"; only {words} is left" if rest < wanted["tier_copay"] else "")
+        return f"  {wanted['tier_percent']} percent of {words} = {money(wanted['share_due'])}"
+    copay = f"  copay of {money(wanted['tier_copay'])}"
+    return copay + (f"; only {words} is left" if rest < wanted["tier_copay"] else "")
 
 
 def paid_lines(wanted, whole=False):
@@ -177,7 +194,8 @@ def paid_lines(wanted, whole=False):
     maximum = "the family's maximum"
     lines.append(line("deductible FH", wanted["deductible"], due(maximum, wanted["deductible"], wanted["deductible_due"])))
     label, share = ("coinsurance 4U", "coinsurance") if "tier_percent" in wanted else ("copay FI", "copay")
-    lines.append(line(label, wanted[share], share_words(wanted, cost + fee) + cut(maximum, wanted[share], wanted["share_due"])))
+    words = f'{share_words(wanted, cost + fee)}, tier "{shown(wanted["tier"])}"'
+    lines.append(line(label, wanted[share], words + cut(maximum, wanted[share], wanted["share_due"])))
     return lines + [line("member pays F5", wanted["patient_pay"]), line("plan pays F9", wanted["total_paid"])]
 
 
@@ -260,19 +278,18 @@ def try_absent(explain, job):
     others = "; that prescription is in records " + at_each(lambda one: one.get("rx") == 700231)
     nothing = "no such claim" + records
     for words, line in ((["--record", "0"], nothing), (["--record", "1000000"], "no record 1000000" + records),
-                        (["--record", "1.9"], "no transaction 1.9" + own), (["--record", "x"], nothing),
+                        (["--record", "1.9"], "no transaction 1.9" + own),
                         (["--record", "1000000.1"], "no transaction 1000000.1" + records),
-                        (["--record", "1.2.3"], nothing), (["--record", "+1"], nothing),
                         (["--number", "999999999999999"], "no answer with number 999999999999999" + records),
                         (["--number", "000001299999991"], "no answer with number 000001299999991" + records),
                         (["--number", "1234567890123456"], nothing),
-                        (["--rx", "999999999999"], "no rx 999999999999" + records), (["--rx", "x"], nothing),
+                        (["--rx", "999999999999"], "no rx 999999999999" + records),
                         (["--rx", "700231", "--provider", "9999999999"], "no rx 700231 at 9999999999" + others),
                         (["--rx", "700231", "--provider", "|"], nothing)):
         for form in ([], ["--json"], ["--all"]):
-            explain.expect_status(job.inputs + words + form, 4, f"rxbatch: {line}\n".encode())
+            explain.expect_status(job.inputs + words + form, 4, f"rxbatch: {line}\n".encode(), bytes.__eq__)
     empty = inputs_in(os.path.join(HERE, "cases", "empty-batch", "1-count-zero"))
-    explain.expect_status(empty + ["--record", "1"], 4, b"rxbatch: no record 1; the batch has no record\n")
+    explain.expect_status(empty + ["--record", "1"], 4, b"rxbatch: no record 1; the batch has no record\n", bytes.__eq__)
 
 
 def try_responses(explain, job, folder):
@@ -328,8 +345,7 @@ def try_many_claims(explain, folder):
     """A family with more claims in a sum than are listed."""
     case = os.path.join(HERE, "cases", "one-billing")
     amounts = [100 + 7 * (nth % 9) for nth in range(29)]
-    with open(os.path.join(HERE, "explain", "one-billing.json"), encoding="utf-8") as file:
-        wanted = json.loads(file.readline())
+    wanted = with_tiers(case, "one-billing.json")[0]
     claims = [{"pharmacy": "1234567893", "rx": 1000 + nth, "date": "2026-01-05", "family": "C100", "person": "02",
                "deductible": 0, "patient_pay": amount} for nth, amount in enumerate(amounts)]
     lines = [f"C|1234567893|{one['rx']}|20260105|C100|02|00001000101|30000|30|{one['patient_pay']}|0|0|{one['patient_pay']}|0"
@@ -372,15 +388,83 @@ def try_shown(explain):
         explain.expect(ended.stdout.decode("ascii") == shown, f"{words}: {ended.stdout.decode('ascii')!r}")
 
 
+# ---------------------------------------------------------------- random jobs
+
+def without_bytes(told):
+    """An explanation with no more than its codes, and of a rejected header what isn't cut out of the request."""
+    codes = {"codes": [{"code": code["code"]} for code in told["codes"]]} if "codes" in told else {}
+    sent = ("pharmacy", "date") if "nth" not in told else ()
+    return {**{name: value for name, value in told.items() if name not in sent}, **codes}
+
+
+def try_record(explain, name, words, wanted):
+    """A record with its transactions, as JSON and in words."""
+    told = explain.objects(words)
+    same = all(one.pop("response", None) == "same" for one in told) and [without_bytes(one) for one in told] == wanted
+    explain.expect(same, f"{name}: {told}, wanted {wanted}")
+    for form in ([], ["--all"]):
+        texts = re.split(r"^(?=record )", explain.expect_status(words + form, 0).decode("ascii"), flags=re.M)[1:]
+        explain.expect(len(texts) == len(wanted), f"{name}: {texts}")
+        for one, text in zip(wanted, texts):
+            lines = text.splitlines()
+            good = lines[0].startswith(f"record {record_word(one)}  {ANSWERS[one['answer']]}") and "byte for byte" in lines[-1]
+            good = good and (one["answer"] != "paid" or lines[1:-1] == paid_lines(one, bool(form)))
+            explain.expect(good, f"{name} {form}: {lines}, wanted {one}")
+
+
+def try_random(explain, reference, seed, keep):
+    """A random job: each record with its reply of the other program, or the refusal of the inputs."""
+    files = explained.random_files(random.Random(seed))
+    folder = os.path.join(keep, seed)
+    failures = len(explain.failures)
+    try:
+        job = explained.Explained(reference, files)
+        random_runs.write(folder, {**files, "response.bin": job.response})
+        words = inputs_in(folder) + ["--response", os.path.join(folder, "response.bin"), "--record"]
+        for place in sorted({one["place"] for one in job.wanted}):
+            try_record(explain, f"{seed}, record {place}", words + [str(place)], [one for one in job.wanted if one["place"] == place])
+    except reference.SwitchFault as fault:
+        random_runs.write(folder, files)
+        explain.expect_status(inputs_in(folder) + ["--record", "1"], 1, b"refused %d %d %d\n" % fault.numbers)
+    if len(explain.failures) == failures:
+        shutil.rmtree(folder)
+
+
+def try_all_random(explain, options):
+    reference = explained.reference_of(options.reference)
+    keep = tempfile.mkdtemp(prefix="rxbatch-explain-")
+    seeds = [f"{options.seed}.{place}" for place in range(1, options.random + 1)]
+    with concurrent.futures.ThreadPoolExecutor(options.jobs) as pool:
+        list(pool.map(lambda seed: try_random(explain, reference, seed, keep), seeds))
+    print(f"what differs is kept in {keep}" if explain.failures else f"{options.random} random jobs")
+
+
 def main(words):
     parser = argparse.ArgumentParser(description=__doc__, formatter_class=argparse.RawDescriptionHelpFormatter)
     parser.add_argument("program", metavar="PROGRAM")
     parser.add_argument("--only", default="", help="only jobs with this word in their name")
     parser.add_argument("--jobs", type=int, default=2)
     parser.add_argument("--seconds", type=float, default=60, help="for one run of the program; default: 60")
+    parser.add_argument("--random", type=int, metavar="N", help="explain N random jobs")
+    parser.add_argument("--seed", default="1", help="of the random jobs; default: 1")
+    parser.add_argument("--reference", metavar="FILE", help="the Python module that adjudicates the random jobs")
     options = parser.parse_args(words)
+    if options.random is not None and options.reference is None:
+        parser.error("--random needs --reference")
     program = [os.path.abspath(word) if os.path.exists(word) else word for word in shlex.split(options.program)]
     explain = Explain(program, options.seconds)
+    if options.random is not None:
+        try_all_random(explain, options)
+    else:
+        try_kept(explain, options)
+    for line in explain.failures:
+        print(line)
+    print(f"{explain.passed} passed, {len(explain.failures)} failed")
+    return 1 if explain.failures else 0
+
+
+def try_kept(explain, options):
+    """The jobs whose explanations are kept, and what isn't there."""
     names = sorted(name for name in os.listdir(os.path.join(HERE, "explain")) if name.endswith(".json"))
     jobs = [Job(name) for name in names]
     with concurrent.futures.ThreadPoolExecutor(options.jobs) as pool:
@@ -396,10 +480,6 @@ def main(words):
         try_absent(explain, first)
         try_damage(explain)
         try_shown(explain)
-    for line in explain.failures:
-        print(line)
-    print(f"{explain.passed} passed, {len(explain.failures)} failed")
-    return 1 if explain.failures else 0
 
 
 if __name__ == "__main__":

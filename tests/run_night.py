@@ -53,7 +53,7 @@ class Night:
 
     def lines(self, name):
         """The lines of a pair's log."""
-        log = self.path / "out" / name / "log.json"
+        log = self.path / "out" / name / "log.jsonl"
         return [json.loads(line) for line in log.read_text().splitlines()] if log.exists() else []
 
     def fault(self, done=tuple(PAIRS)):
@@ -65,7 +65,7 @@ class Night:
                      "--settlement", out / "settlement.txt"]
             if subprocess.run([self.program, *words], capture_output=True).returncode != 0:
                 return f"{name}: verify finds a difference"
-            left = {path.name for path in out.iterdir()} - {*OUTPUTS, "log.json", "check.txt", "run.txt"}
+            left = {path.name for path in out.iterdir()} - {*OUTPUTS, "log.jsonl", "run.txt"}
             if left:
                 return f"{name}: {left} left"
         return None
@@ -111,7 +111,7 @@ def changed_output(night):
 
 
 def refused_pair(night):
-    """A pair that `check` refuses: the journal has its name and the reason, the others are done."""
+    """A pair that is refused: the journal has its name and the reason, the others are done."""
     sheet = night.path / "jobs" / "two" / "sheet.toml"
     sheet.write_text("".join(line for line in sheet.read_text().splitlines(True) if not line.startswith("fee")))
     return ended(night.go(), 1, "two: jobs/two/sheet.toml") or night.fault(("one", "three"))
@@ -120,7 +120,7 @@ def refused_pair(night):
 def failed_run(night):
     """A pair whose run fails: the journal has its name and the reason."""
     (night.path / "out" / "two" / "response.bin").mkdir(parents=True)
-    return ended(night.go(), 1, "two: rxbatch: --response isn't a regular file") or night.fault(("one", "three"))
+    return ended(night.go(), 1, "two: rxbatch: response.bin in --out isn't a regular file") or night.fault(("one", "three"))
 
 
 def adjudicated_already(night):

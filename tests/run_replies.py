@@ -182,7 +182,11 @@ def fault_of(settings, case):
             return f"no end after {settings.seconds:g} s"
         if ended.returncode != case.status:
             return f"status {ended.returncode} ({ended.stderr[:60]!r}), wanted {case.status}"
-        for what, got, wanted in (("output", ended.stdout, case.stdout), ("error", ended.stderr, case.stderr)):
+        line, words = (ended.stderr + b"\n").split(b"\n", 1) if case.status in (1, 3) else (ended.stderr, b"no words here")
+        if len(words) < 9:
+            return f"no words after {line!r}"
+        line = line + b"\n" if case.status in (1, 3) else line
+        for what, got, wanted in (("output", ended.stdout, case.stdout), ("error", line, case.stderr)):
             if wanted is not None and got != wanted:
                 at = next((i for i, (a, b) in enumerate(zip(got, wanted)) if a != b), min(len(got), len(wanted)))
                 start = wanted.rfind(b"\n", 0, at) + 1
@@ -195,7 +199,7 @@ def full_fault(settings):
     """What is wrong where standard output is full."""
     with open("/dev/full", "wb") as full:
         ended = answer_of(settings, WORDS, JOB, full)
-    good = (ended.returncode, ended.stderr) == (3, b"file 0\n")
+    good = (ended.returncode, ended.stderr) == (3, b"file 0\nstandard output: no space left on device\n")
     return None if good else f"status {ended.returncode}, {ended.stderr!r}"
 
 

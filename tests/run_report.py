@@ -11,9 +11,12 @@ with marks of HTML, JSON and terminals, and more lines than a page shows. Of eac
 - counts and net, summed over the lines of the table, have to be the settlement's, and so has what the columns, the JSON
   and the page say; with `--provider` its line only, with `--family` the sums of its lines, a reversal being of the family
   whose claim it reverses, and of four families the claims and sums worked by hand;
-- the page may hold the elements and attributes that it is made of and no others, each closed, and nothing from outside;
-  each claim on it unfolds to the lines that `explain` prints of its place, and where the job has a file in tests/explain,
-  those lines have the answer, the number and the amounts that another program gives;
+- the page's origin has to be the sheet's BIN and PCN, the paths as given, the files' SHA-256, the version and the time;
+- the page may hold the elements and attributes that it is made of and no others, each closed and in its place, and nothing
+  from outside; its texts have a contrast of 4.5; its script is the same everywhere and the only one that its policy allows; each cell has its heading, each
+  link its anchor; counts, codes and bars are those of the lines; each claim is a row, and unfolds to the lines that `explain`
+  prints of its place, and where the job has a file in tests/explain, those lines have the answer, the number and the
+  amounts that another program gives;
 - no form may hold a byte that isn't printable, but line feeds and the table's tabs;
 - `show --tsv` has to say what `show` says, and of a billing the amounts of its request;
 - a refused input has to be refused as by `run`.
@@ -22,6 +25,9 @@ The last line is `N passed, M failed`; the exit status is 0 where M is 0, else 1
 """
 
 import argparse
+import base64
+import datetime
+import hashlib
 import html.parser
 import json
 import os
@@ -30,12 +36,17 @@ import shlex
 import subprocess
 import sys
 import tempfile
+import tomllib
+
+from options import is_line_with_words
 
 HERE = os.path.dirname(os.path.abspath(__file__))
 FIRST_JOB = os.path.join(HERE, "..", "examples", "first_job")
 STX, ETX, FS, GS, SS = b"\x02", b"\x03", b"\x1c", b"\x1d", b"\x1e"
 COLUMNS = ("record nth answer codes provider prescription date family person allowed deductible copay coinsurance "
-           "member_pays plan_pays").split()
+           "member_pays plan_pays authorization product quantity days").split()
+AMOUNTS = COLUMNS[9:15]
+TABLE = COLUMNS + ["lot", "created"]
 SHOWN = "record nth kind provider prescription date family person product quantity days D9 DC DQ DU codes".split()
 HEADINGS = "record ans codes rx date member allowed deduct. copay coins. member pays plan pays"
 INPUTS = ["--sheet", "sheet.toml", "--books", "books.txt", "--batch", "batch.bin"]
@@ -109,6 +120,7 @@ def answers(response):
             row.update(date=head[23:31].decode())
             row.update(codes=",".join(value.decode() for name, value in fields if name == b"FB"))
             row.update(prescription=str(int(first[b"D2"])) if b"D2" in first else "")
+            row.update(authorization=first.get(b"F3", b"").decode().strip())
             figures(row, first)
             rows.append(row)
     return rows
@@ -160,8 +172,23 @@ def table(text, columns):
     return [dict(zip(columns, line.split("\t"))) for line in lines]
 
 
-def check_json(text, rows, lines, only):
+def told_of(line):
+    """A line of JSON as a row of the table."""
+    return {name: "" if line[name] is None else str(line[name]) for name in COLUMNS}
+
+
+def check_lines_of_json(text, rows, lot):
+    """Each line is an object: a row, and its batch."""
+    lines = [json.loads(line) for line in text.splitlines()]
+    want(text.count("\n"), len(rows), "lines of JSON")
+    want([line.pop("lot") for line in lines], [lot] * len(rows), "the batch in each line of JSON")
+    want([list(line) for line in lines], [COLUMNS] * len(rows), "the names in a line of JSON")
+    want([told_of(line) for line in lines], rows, "the lines of JSON")
+
+
+def check_json(text, rows, lines, only, lot):
     report = json.loads(text)
+    want(report["lot"], lot, "the batch in JSON")
     want({name: report[name] for name in report if name.startswith("only")}, only, "the portion in JSON")
     counts = ("paid", "duplicate", "approved", "rejected", "net")
     groups = by_provider(rows)
@@ -169,8 +196,7 @@ def check_json(text, rows, lines, only):
     want(found, lines[:-1], "sections in JSON")
     want((None, *(report["total"][name] for name in counts)), lines[-1], "the total in JSON")
     for part in report["sections"]:
-        told = [{name: "" if line[name] is None else str(line[name]) for name in COLUMNS} for line in part["lines"]]
-        want(told, groups[part["provider"] or ""], "lines in JSON")
+        want([told_of(line) for line in part["lines"]], groups[part["provider"] or ""], "lines in JSON")
 
 
 def terminal(text):
@@ -198,93 +224,294 @@ def check_columns(text, rows, lines, scope):
 def check_line(line, row):
     member = [terminal(f"{row['family']}/{row['person']}")] if row["family"] else []
     date = f"{row['date'][:4]}-{row['date'][4:6]}-{row['date'][6:]}"
-    amounts = [dollars(int(row[name])) for name in COLUMNS[9:] if row[name]]
+    amounts = [dollars(int(row[name])) for name in AMOUNTS if row[name]]
     words = [f"{row['record']}.{row['nth']}", row["answer"], row["codes"], row["prescription"], date]
     want(" ".join(line.split()), " ".join(" ".join(words + member + amounts).split()), "a line in columns")
 
 
-class Page(html.parser.HTMLParser):
-    """The cells of the table of providers and the texts of the claims of a page that is made as it has to be."""
-    LONE = {"meta"}
-    KNOWN = set("html head meta title style body header main h1 h2 p table thead tbody tfoot tr th td i a span section "
-                "div b details summary dl dt dd pre".split())
-    ATTRIBUTES = set("lang charset http-equiv content name scope class style href id".split())
+class Node:
+    """An element of a page: its tag, its attributes, and the elements and texts in it."""
 
-    def __init__(self):
+    def __init__(self, tag, attributes, above):
+        self.tag, self.attributes, self.above, self.parts = tag, dict(attributes), above, []
+
+    def below(self, *tags):
+        """The elements with these tags in it, but for those in a table that is in it."""
+        found = []
+        for part in self.parts:
+            if isinstance(part, Node):
+                found += [part] if part.tag in tags else []
+                found += part.below(*tags) if part.tag != "table" else []
+        return found
+
+    def text(self):
+        return "".join(part if isinstance(part, str) else part.text() for part in self.parts)
+
+    def words(self):
+        return " ".join(self.text().split())
+
+
+class Page(html.parser.HTMLParser):
+    """The elements of a page that is made as it has to be: each known, each closed, in a place where it may stand."""
+    LONE = {"meta", "input"}
+    KNOWN = {"html": "", "head": "html", "meta": "head", "title": "head", "style": "head", "body": "html", "header": "body",
+             "main": "body", "h1": "header", "h2": "section", "p": "header main div details", "table": "main section details",
+             "caption": "table", "thead": "table", "tbody": "table", "tfoot": "table", "tr": "thead tbody tfoot", "th": "tr",
+             "td": "tr", "a": "body th td", "i": "td", "span": "td p div", "b": "span", "section": "div", "div": "main",
+             "details": "td", "summary": "details", "dl": "header details", "dt": "dl", "dd": "dl", "pre": "div", "code": "p dd",
+             "label": "header", "input": "label", "script": "body"}
+    ATTRIBUTES = set("lang charset http-equiv content name scope class style href id colspan type".split())
+
+    def __init__(self, text):
         super().__init__(convert_charrefs=True)
-        self.open, self.rows, self.claims, self.anchors = [], [], [], {"href": [], "id": []}
+        self.top = self.here = Node("", {}, None)
+        self.ids, self.links, self.script = [], [], ""
+        self.feed(text)
+        self.close()
+        want(self.here is self.top, True, "elements left open")
 
     def handle_starttag(self, tag, attributes):
-        want(tag in self.KNOWN, True, f"element {tag}")
+        want(self.here.tag in self.KNOWN.get(tag, "?").split() or self.here.tag == self.KNOWN.get(tag), True,
+             f"element {tag} in {self.here.tag}")
         for name, value in attributes:
             want(name in self.ATTRIBUTES, True, f"attribute {name} of {tag}")
-            if name in self.anchors:
-                self.anchors[name].append(value)
             if name == "style":
-                want(bool(re.fullmatch(r"width:\d{1,3}%", value)), True, f"style {value}")
-        if tag == "tr":
-            self.rows.append([])
-        if tag in ("th", "td"):
-            self.rows[-1].append("")
-        if tag == "details":
-            self.claims.append([])
-        if tag in ("span", "dt", "dd", "pre") and self.claims:
-            self.claims[-1].append("")
+                want(bool(re.fullmatch(r"--share:\d{1,5}|flex-grow:\d+", value)), True, f"style {value}")
+        node = Node(tag, attributes, self.here)
+        self.ids += [node.attributes["id"]] if "id" in node.attributes else []
+        self.links += [node.attributes["href"]] if "href" in node.attributes else []
+        self.here.parts.append(node)
         if tag not in self.LONE:
-            self.open.append(tag)
+            self.here = node
 
     def handle_endtag(self, tag):
-        want(self.open and self.open.pop(), tag, "the element closed")
+        want(self.here.tag, tag, "the element closed")
+        self.here = self.here.above
 
     def handle_data(self, data):
-        inside = self.open[-1] if self.open else ""
-        if inside in ("th", "td", "a"):
-            self.rows[-1][-1] += data
-        elif inside in ("span", "dt", "dd", "pre") and self.claims:
-            self.claims[-1][-1] += data
-        elif inside == "style":
+        self.here.parts.append(data)
+        if self.here.tag == "style":
             want([word for word in ("url", "@import", "expression", "//") if word in data], [], "parts from outside")
+        if self.here.tag == "script":
+            self.script += data
+
+    def tables(self, kind):
+        return [node for node in self.all("table") if node.attributes.get("class") == kind]
+
+    def all(self, tag, node=None):
+        found = []
+        for part in (node or self.top).parts:
+            if isinstance(part, Node):
+                found += ([part] if part.tag == tag else []) + self.all(tag, part)
+        return found
 
 
-def check_page(text, rows, lines, whole, whys):
-    page = Page()
-    page.feed(text)
-    page.close()
-    want(page.open, [], "elements left open")
+def headed_cells(table):
+    """The cells of each row of a table by their headings; each cell has to have one, in its columns or in its row."""
+    heading = [row for part in table.below("thead") for row in part.below("tr")]
+    want(len(heading), 1, "rows of headings")
+    titles = [cell.words() for cell in heading[0].below("th")]
+    want([cell.attributes.get("scope") for cell in heading[0].below("th", "td")], ["col"] * len(titles), "scopes of headings")
+    rows = []
+    for row in [row for part in table.below("tbody", "tfoot") for row in part.below("tr")]:
+        cells, at = {}, 0
+        of_row = [cell for cell in row.below("th") if cell.attributes.get("scope") == "row"]
+        want(len(of_row) == len(row.below("th")), True, "the scope of a row's heading")
+        for cell in row.below("th", "td"):
+            width = int(cell.attributes.get("colspan", 1))
+            want(any(titles[at:at + width]) or bool(of_row), True, "a cell's heading")
+            cells[" ".join(titles[at:at + width])] = cell
+            at += width
+        want(at, len(titles), "cells in a row")
+        rows.append(cells)
+    return rows
+
+
+TITLES = ["Record", "Answer", "Authorization", "Rx", "Date", "Member", "Product", "Quantity", "Days", "Member pays", "Plan pays"]
+WORD = {"P": "paid", "D": "duplicate", "A": "reversed", "R": "rejected"}
+
+
+def check_page(text, rows, lines, whole, whys, origin):
     want(text.startswith("<!DOCTYPE html>\n"), True, "the page's first line")
-    want(page.rows[0][:6], ["Provider", "Paid", "Duplicate", "Reversed", "Rejected", "Net"], "the table's heading")
-    cells = [[row[0], *map(int, row[1:5]), row[5]] for row in page.rows[1:]]
-    names = [line[0] or "(no id)" for line in lines[:-1]] + [cells[-1][0]]
-    want(cells, [[name, *line[1:5], dollars(line[5])] for name, line in zip(names, lines)], "the table of providers")
+    page = Page(text)
+    check_origin(page, origin)
+    want(len(set(page.ids)), len(page.ids), "anchors that are the same")
+    want([link for link in page.links if link[:1] != "#" or link[1:] not in page.ids], [], "links that lead nowhere")
+    check_script(page)
+    check_contrast(page)
+    check_summary(page, lines[-1])
+    check_rejects(page, rows, not (whole and len(rows) > MOST_LINES))
+    (providers,) = [table for table in page.all("table") if table.attributes.get("class", "").startswith("providers")]
+    below = any(line[5] < 0 for line in lines[:-1])
+    want(providers.attributes["class"], "providers signed" if below else "providers", "room for nets below zero")
+    want(bool(providers.below("caption")[0].words()), True, "the caption")
+    longest = max([abs(line[5]) for line in lines[:-1]], default=0)
+    bars = [(span.attributes.get("class"), span.attributes["style"]) for span in page.all("span", providers)]
+    want(bars, [("minus" if line[5] < 0 else None, f"--share:{abs(line[5]) * 10000 // longest}") for line in lines[:-1] if line[5]],
+         "the bars")
+    cells = [[cell for cell in row.values()] for row in headed_cells(providers)]
+    found = [[row[0].words(), *(int(count_in(cell)) for cell in row[1:5]), row[5].words()] for row in cells]
+    names = [line[0] or "(no id)" for line in lines[:-1]] + [found[-1][0]]
+    want(found, [[name, *line[1:5], dollars(line[5])] for name, line in zip(names, lines)], "the table of providers")
+    tables = page.tables("claims")
     if whole and len(rows) > MOST_LINES:
-        want((page.claims, page.anchors["href"], "--provider ID" in text), ([], [], True), "the table alone")
+        want((tables, "--provider ID" in text), ([], True), "the table alone")
         return
-    want(page.anchors["href"], ["#" + name for name in page.anchors["id"]], "the anchors")
-    wanted = [row for group in by_provider(rows).values() for row in group]
-    want(len(page.claims), len(wanted), "claims on the page")
-    for claim, row in zip(page.claims, wanted):
-        check_claim(claim, row)
-        whys.check(claim[-1], claim[0])
+    groups = list(by_provider(rows).items())
+    want([node.words() for node in page.all("h2")], [f"Provider {name or '(no id)'}" for name, _ in groups], "the headings")
+    want(len(tables), len(groups), "tables of claims")
+    for table, (_, group) in zip(tables, groups):
+        check_claims(page, table, group, whys)
 
 
-WORD = {"P": "paid", "D": "duplicate", "A": "reversed", "R": "rejected "}
+def check_origin(page, wanted):
+    """The plan, the files with their sums, the program, and a time of the last minutes."""
+    (origin,) = [node for node in page.all("dl") if node.attributes.get("class") == "origin"]
+    found = dict(zip([node.words() for node in origin.below("dt")], [node.words() for node in origin.below("dd")]))
+    made = datetime.datetime.strptime(found.pop("Made"), "%Y-%m-%d %H:%M")
+    want(abs((datetime.datetime.now() - made).total_seconds()) < 600, True, "the time of the page")
+    want(found, wanted, "the origin of the page")
 
 
-def check_claim(claim, row):
+def origin_of(program, folder, inputs):
+    """What a page of these files says of its origin, by the files themselves."""
+    paths = dict(zip(("Sheet", "Books", "Batch file"), inputs[1::2]))
+    texts = {}
+    for name, path in paths.items():
+        with open(os.path.join(folder, path), "rb") as file:
+            texts[name] = file.read()
+    sheet = tomllib.loads(texts["Sheet"].decode())
+    sums = {name: f"{as_bytes_shown(path)} {hashlib.sha256(texts[name]).hexdigest()}" for name, path in paths.items()}
+    plan = {"Plan": f"BIN {sheet['bin']}, PCN {sheet['pcn']}".strip()}
+    return plan | sums | {"Program": program.text(folder, "--version").strip()}
+
+
+def as_bytes_shown(path):
+    """A path as a page has it: each byte a character."""
+    return " ".join(path.encode().decode("latin-1").split())
+
+
+def check_script(page):
+    """The script is the same on each page, and the only one that the policy allows."""
+    (policy,) = [node.attributes["content"] for node in page.all("meta") if "http-equiv" in node.attributes]
+    digest = base64.b64encode(hashlib.sha256(page.script.encode()).digest()).decode()
+    want(policy, f"default-src 'none'; style-src 'unsafe-inline'; script-src 'sha256-{digest}'", "the policy")
+    SCRIPTS.add(page.script)
+    want(len(SCRIPTS), 1, "scripts")
+
+
+SCRIPTS = set()
+
+
+def luminance(colour):
+    parts = [int(part * 2 if len(colour) == 4 else part, 16) / 255
+             for part in re.findall(r"." if len(colour) == 4 else r"..", colour[1:])]
+    linear = [part / 12.92 if part <= 0.03928 else ((part + 0.055) / 1.055) ** 2.4 for part in parts]
+    return 0.2126 * linear[0] + 0.7152 * linear[1] + 0.0722 * linear[2]
+
+
+def check_contrast(page):
+    """Text is at least 4.5 times as light or dark as what it stands on (WCAG 1.4.3), on a light and on a dark screen."""
+    (style,) = [node.text() for node in page.all("style")]
+    screens = re.findall(r":root\{([^}]*--ink:[^}]*--mark:[^}]*)\}", style)
+    want(len(screens), 2, "colours of light and dark screens")
+    for screen in screens:
+        colours = dict(re.findall(r"--(\w+):(#\w+)", screen))
+        for text in ("ink", "soft", "minus"):
+            for ground in ("paper", "tint", "mark"):
+                light, dark = sorted((luminance(colours[text]), luminance(colours[ground])), reverse=True)
+                want((light + 0.05) / (dark + 0.05) >= 4.5, True, f"the contrast of {text} on {ground} in {screen}")
+
+
+def check_summary(page, total):
+    words = "{} paid {} duplicate {} reversed {} rejected net {}".format(*total[1:5], dollars(total[5]))
+    (summary,) = [node.words() for node in page.all("p") if node.attributes.get("class") == "sum"]
+    want(summary, words, "the counts at the head")
+    (bar,) = [node for node in page.all("div") if node.attributes.get("class") == "shares"]
+    parts = [(span.attributes["class"], span.attributes["style"]) for span in bar.below("span")]
+    want(parts, [(name, f"flex-grow:{count}") for name, count in zip(WORD.values(), total[1:5])], "the bar of the counts")
+
+
+def check_rejects(page, rows, linked):
+    """Each code that an answer has, with its name, how many have it, and links to them."""
+    (rejects,) = page.tables("rejects")
+    wanted = {}
+    for row in [row for group in by_provider(rows).values() for row in group]:
+        for code in dict.fromkeys(row["codes"].split(",") if row["codes"] else []):
+            wanted.setdefault(code, []).append(f"{row['record']}.{row['nth']}")
+    found = headed_cells(rejects)
+    want([row["Code"].words() for row in found], sorted(wanted), "the codes of rejects")
+    for row in found:
+        code = row["Code"].words()
+        want(NAMES[code] in row["Meaning"].words(), True, f"the words of {code}")
+        want(int(row["Answers"].words()), len(wanted[code]), f"the answers with {code}")
+        links = [(link.attributes["href"], link.words()) for link in page.all("a", row["Records"])]
+        want(links, [("#r" + record, record) for record in wanted[code]] if linked else [], f"the records with {code}")
+
+
+def count_in(cell):
+    """A count without its label, which is seen on a phone only."""
+    return "".join(part for part in cell.parts if isinstance(part, str))
+
+
+def check_claims(page, table, rows, whys):
+    want(bool(table.below("caption")[0].words()), True, "the caption")
+    bodies = table.below("tbody")
+    want(len(bodies), len(rows), "claims on the page")
+    shown = headed_cells(table)
+    for body, cells, why, row in zip(bodies, shown[::2], shown[1::2], rows):
+        record = f"{row['record']}.{row['nth']}"
+        want(list(cells), TITLES, "the columns of a claim")
+        want(body.attributes, {"class": WORD[row["answer"]], "id": "r" + record}, "the anchor of a claim")
+        want([link.attributes["href"] for link in page.all("a", cells["Record"])], ["#r" + record], "the link of a claim")
+        check_claim({title: cell.words() for title, cell in cells.items()}, row)
+        (cell,) = why.values()
+        check_figures(cell, row)
+        tables = [node for node in page.all("table", cell)]
+        want([node.attributes.get("class") for node in tables], ["reasons"], f"why of {record}")
+        whys.check([[part.words() for part in reason.values()] for reason in headed_cells(tables[0])], record)
+
+
+# of each reject code a word of its name in the standard's list (NCPDP, reject codes)
+NAMES = {"01": "BIN", "02": "version", "03": "transaction code", "04": "processor control number", "05": "provider",
+         "07": "cardholder", "13": "other coverage", "15": "date of service", "16": "reference number", "19": "days supply",
+         "20": "compound", "21": "product", "23": "ingredient cost", "52": "non-matched cardholder", "53": "person code",
+         "65": "not covered", "70": "product not covered", "76": "plan limitations", "79": "refill too soon",
+         "81": "too old", "82": "post-dated", "83": "duplicate", "87": "reversal not processed", "A9": "transaction count",
+         "DC": "dispensing fee", "DQ": "usual and customary", "DU": "gross amount", "E1": "qualifier", "E7": "quantity",
+         "EM": "reference qualifier", "R8": "syntax"}
+
+
+def check_answer(found, row):
+    """The answer in words; of a reject each code, and after it its name."""
+    word, *named = re.split(r" (?=[0-9A-Z]{2} )", found)
+    want((word, [one[:2] for one in named]), (WORD[row["answer"]], row["codes"].split(",") if row["codes"] else []), "the answer")
+    for one in named:
+        want(NAMES[one[:2]] in one[3:], True, f"the words of {one}")
+
+
+def check_claim(cells, row):
     member = f"{row['family']}/{row['person']}" if row["family"] else ""
-    amounts = [dollars(int(row[name])) if row[name] else "" for name in COLUMNS[9:]]
+    thousandths = int(row["quantity"] or 0)
+    quantity = f"{thousandths // 1000}" + (f".{thousandths % 1000:03d}" if thousandths % 1000 else "")
+    pays = [dollars(int(row[name])) if row[name] else "" for name in ("member_pays", "plan_pays")]
     date = f"{row['date'][:4]}-{row['date'][4:6]}-{row['date'][6:]}"
-    record = f"{row['record']}.{row['nth']}"
-    wanted = [record, WORD[row["answer"]] + row["codes"], row["prescription"], date, member, amounts[4], amounts[5]]
+    check_answer(cells["Answer"], row)
+    wanted = [row["authorization"], row["prescription"], " ".join(date.split()), " ".join(member.split()), row["product"],
+              quantity if row["quantity"] else "", row["days"], *pays]
+    want([cells[title] for title in TITLES[2:]], wanted, "a claim on the page")
+
+
+def check_figures(cell, row):
+    """The figures that a claim unfolds to, each after its name."""
+    amounts = [dollars(int(row[name])) if row[name] else "" for name in AMOUNTS]
+    (figures,) = [part for node in cell.below("details") for part in node.below("dl")]
+    wanted = [("Reject codes", row["codes"])] if row["answer"] == "R" else [("Given back", amounts[5])]
     if row["answer"] in "PD":
         names = ["Allowed", "Deductible", "Copay", "Coinsurance", "Member pays"]
-        names.append("Plan pays" if row["answer"] == "P" else "Plan paid before")
-        wanted += [word for pair in zip(names, amounts) for word in pair]
-    elif row["answer"] == "A":
-        wanted += ["Given back", amounts[5]]
-    else:
-        wanted += ["Reject codes", row["codes"]]
-    want(claim[:-1], wanted, "a claim on the page")
+        wanted = list(zip(names + ["Plan pays" if row["answer"] == "P" else "Plan paid before"], amounts))
+    found = list(zip([node.words() for node in figures.below("dt")], [node.words() for node in figures.below("dd")]))
+    want(found, wanted, "the figures of a claim")
 
 
 # ---------------------------------------------------------------- a job
@@ -305,41 +532,56 @@ class Whys:
         return self.records[place]
 
     def check(self, found, record):
-        """A claim's lines on the page, against those of `explain` and against the other program's explanation."""
+        """The rows of a claim's reasons, against the lines of `explain` and against the other program's explanation."""
         place, nth = record.split(".")
-        want(found[:len("record ")], "record ", "why a claim was answered so")
+        want(found[0][0][:len("record ")], "record ", "why a claim was answered so")
         if place in self.records or len(self.records) < self.MOST_RECORDS:
             blocks = self.blocks(place)
-            want(found, blocks[int(nth) - 1] if len(blocks) > 1 else blocks[0], f"why of {record}")
+            block = blocks[int(nth) - 1] if len(blocks) > 1 else blocks[0]
+            want([" ".join(" ".join(row).split()) for row in found], [" ".join(line.split()) for line in block.splitlines()],
+                 f"why of {record}")
+            parts = [row for row in found if len(row) == 3]
+            want([re.fullmatch(r"\$[\d,]+\.\d\d", row[1]) is None for row in parts], [False] * len(parts), "the amounts")
         for told in self.told:
             if told["place"] == int(place) and told.get("nth", int(nth)) == int(nth) and "answer" in told:
                 check_told(found, told)
 
 
-def check_told(text, told):
+def check_told(rows, told):
     """Answer, number and amounts of an explanation that another program made."""
-    first = text.split("\n")[0]
+    first = rows[0][0]
     record = str(told["place"]) + (f".{told['nth']}" if "nth" in told else "")
-    want(first.startswith(f"record {record}  {ANSWERS[told['answer']]}"), True, f"the answer in {first}")
+    want(first.startswith(f"record {record} {ANSWERS[told['answer']]}"), True, f"the answer in {first}")
     want(told.get("number", "") in first, True, f"the number in {first}")
     if told["answer"] == "paid":
         for label, name in (("member pays F5", "patient_pay"), ("plan pays F9", "total_paid")):
-            found = re.search(rf"(?m)^  {label} +(\S+)$", text)
-            want(found and found[1], f"${told[name] // 100:,}.{told[name] % 100:02d}", label)
+            found = [row[1] for row in rows if len(row) == 3 and row[0] == label]
+            want(found, [f"${told[name] // 100:,}.{told[name] % 100:02d}"], label)
+
+
+def lot_of(folder):
+    """The number and the day of the batch's header."""
+    with open(os.path.join(folder, "batch.bin"), "rb") as file:
+        header = re.search(rb"\x02([^\x03]*)\x03", file.read())[1].decode()
+    return {"number": header[27:34], "created": f"{header[34:38]}-{header[38:40]}-{header[40:42]}"}
 
 
 def check_portion(program, folder, rows, lines, words, scope, only, whys):
-    """The four forms of the report of these lines."""
+    """The five forms of the report of these lines."""
     report = ["report", *INPUTS, *words]
-    want(table(program.text(folder, *report, "--tsv"), COLUMNS), rows, "the table")
-    check_json(program.text(folder, *report, "--json"), rows, lines, only)
+    lot = lot_of(folder)
+    batch = {"lot": lot["number"], "created": lot["created"]}
+    want(table(program.text(folder, *report, "--tsv"), TABLE), [row | batch for row in rows], "the table")
+    check_json(program.text(folder, *report, "--json"), rows, lines, only, lot)
+    check_lines_of_json(program.text(folder, *report, "--jsonl"), rows, lot)
     check_columns(program.text(folder, *report), rows, lines, scope)
-    check_page(program.text(folder, *report, "--html"), rows, lines, not words, whys)
+    check_page(program.text(folder, *report, "--html"), rows, lines, not words, whys, origin_of(program, folder, INPUTS))
 
 
 def with_members(rows, shown, books):
-    """The rows with the members of their requests, which `show --tsv` has; a reversal with that of the claim that it reverses."""
+    """The rows with what their requests name, which `show --tsv` has; a reversal with the member of the claim that it reverses."""
     members = {(row["record"], row["nth"]): (row["family"], row["person"]) for row in shown}
+    asked = {(row["record"], row["nth"]): row for row in shown}
     standing = standing_in(books)
     for row in rows:
         key = (row["provider"], row["prescription"], row["date"])
@@ -349,6 +591,7 @@ def with_members(rows, shown, books):
         elif row["answer"] == "A":
             member = standing.pop(key)
         row["family"], row["person"] = member
+        row.update({name: asked.get((row["record"], row["nth"]), row)[name] for name in ("product", "quantity", "days")})
     return rows
 
 
@@ -371,17 +614,23 @@ def check_accepted(program, folder, told):
     whys = Whys(program, folder, told)
     check_portion(program, folder, rows, settlement, [], "all", {}, whys)
     some = 4 if len(rows) < 500 else 1
-    for name in [*list(groups)[:some], "no such id"]:
+    for name in list(groups)[:some]:
         line = [line for line in settlement if line[0] == name]
         total = (None, *(line[0][1:] if line else (0, 0, 0, 0, 0)))
         check_portion(program, folder, groups.get(name, []), line + [total], ["--provider", name],
                       f"all of provider {terminal(name)}", {"only_provider": name}, whys)
     families = list(dict.fromkeys(row["family"] for row in rows if row["family"]))
-    for name in [*families[:some], "no such id"]:
+    for name in families[:some]:
         kept = [row for row in rows if row["family"] == name]
         lines = [(provider, *sums(group)) for provider, group in by_provider(kept).items()] + [(None, *sums(kept))]
         check_portion(program, folder, kept, lines, ["--family", name],
                       f"the lines shown, of family {terminal(name)}", {"only_family": name}, whys)
+        padded = program.text(folder, "report", *INPUTS, "--family", name + "  ", "--tsv")
+        want(padded, program.text(folder, "report", *INPUTS, "--family", name, "--tsv"), "blanks after the id")
+    for option in ("--provider", "--family"):
+        for form in ([], ["--tsv"], ["--json"], ["--html"]):
+            line = f"rxbatch: {option} 'no such id': the batch has no answer of it\n".encode()
+            want(program.answer(folder, "report", *INPUTS, option, "no such id", *form), (4, b"", line), "no answer")
 
 
 # Families whose claims are reversed, worked by hand: the claims, and paid, duplicate, reversed, rejected and net. Of the first
@@ -402,7 +651,7 @@ def check_families(program):
         inputs = [word if word.startswith("--") else os.path.abspath(os.path.join(source, word)) for word in INPUTS]
         for name, (claims, total) in families.items():
             report = ["report", *inputs, "--family", name]
-            rows = table(program.text(source, *report, "--tsv"), COLUMNS)
+            rows = table(program.text(source, *report, "--tsv"), TABLE)
             found = [(f"{row['record']}.{row['nth']}", row["answer"], row["plan_pays"]) for row in rows]
             want((found, sums(rows)), (claims, total), f"the claims of {name}")
             told = json.loads(program.text(source, *report, "--json"))["total"]
@@ -466,8 +715,9 @@ def check_copied(program, folder, stamp, told):
     if status == 0:
         check_accepted(program, folder, told)
     elif re.match(rb"refused [345] ", err):
-        for form in ([], ["--tsv"], ["--json"], ["--html"]):
-            want(program.answer(folder, "report", *INPUTS, *form), (1, b"", err), "a refused report")
+        for form in ([], ["--tsv"], ["--json"], ["--jsonl"], ["--html"]):
+            status, out, told = program.answer(folder, "report", *INPUTS, *form)
+            want((status, out, is_line_with_words(told, err)), (1, b"", True), "a refused report")
     else:
         return False
     return True
@@ -516,11 +766,26 @@ def longer(batch, times):
 def check_words(program):
     """What the words of `report` allow, and files that aren't there."""
     with tempfile.TemporaryDirectory() as folder:
-        for words in (["--tsv", "--json"], ["--json", "--html"], ["--provider", "A", "--family", "B"], ["--plain"]):
+        for words in (["--tsv", "--json"], ["--json", "--jsonl"], ["--json", "--html"], ["--provider", "A", "--family", "B"], ["--plain"]):
             status, out, err = program.answer(folder, "report", *INPUTS, *words)
             want((status, out, bool(err)), (2, b"", True), "words of report")
-        want(program.answer(folder, "report", *INPUTS), (3, b"", b"file 1\n"), "a sheet that isn't there")
+        missing = b"file 1\n--sheet sheet.toml: no such file or directory\n"
+        want(program.answer(folder, "report", *INPUTS), (3, b"", missing), "a sheet that isn't there")
         want(program.answer(folder, "show", "--sheet", "s", "--batch", "b", "--tsv"), (3, b"", b"file 1\n"), "no sheet")
+
+
+def check_paths(program):
+    """A page of files whose paths hold marks of HTML, blanks and letters beyond ASCII."""
+    names = {"sheet.toml": "<b>&\"' sheet.toml", "books.txt": "--><script>alert(1)", "batch.bin": "f\u00fcr M\u00e4rz.bin"}
+    with tempfile.TemporaryDirectory() as folder:
+        for name, other in names.items():
+            with open(os.path.join(FIRST_JOB, name), "rb") as old, open(os.path.join(folder, other), "wb") as new:
+                new.write(old.read())
+        inputs = [names.get(word, word) for word in INPUTS]
+        inputs = [f"{word}={path}" for word, path in zip(inputs[::2], inputs[1::2])]
+        page = Page(program.text(folder, "report", *inputs, "--html"))
+        check_origin(page, origin_of(program, folder, [names.get(word, word) for word in INPUTS]))
+        check_script(page)
 
 
 def jobs_below(top):
@@ -562,6 +827,7 @@ def counted(program, jobs, with_words):
     if with_words:
         checks.append(("words", lambda: check_words(program)))
         checks.append(("families", lambda: check_families(program)))
+        checks.append(("paths", lambda: check_paths(program)))
     passed = failed = 0
     for name, check in checks:
         try:

@@ -52,7 +52,7 @@ def closed_streams(program, folder):
                 return f"{streams}: lines of -v in the log"
     ended = subprocess.run([program, "replies", "--response", JOB / "response.bin"], cwd=folder, stderr=subprocess.PIPE,
                            preexec_fn=closed((1,)))
-    return None if (ended.returncode, ended.stderr) == (3, b"file 0\n") else f"a closed output: {ended}"
+    return None if (ended.returncode, ended.stderr) == (3, b"file 0\nstandard output: bad file descriptor\n") else f"a closed output: {ended}"
 
 
 def streams_on_outputs(program, folder):

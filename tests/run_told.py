@@ -115,14 +115,20 @@ def warned(name, *lines, of_sheet=SHEET, of_books=BOOKS, of_batch=BATCH):
     CASES.append(Case("warning " + name, of_sheet, of_books, of_batch, lines, None))
 
 
+# The command that writes a file anew by another one, and the one that sorts books.
+RENEWED = """(sh -c '%s "$1" > "$1.new" && mv "$1.new" "$1"' sh %s)"""
+SORTED = (r"""(LC_ALL=C sh -c 'for k in B M C "[^BMC]"; do grep "^$k" "$1" | sort -t"|" -k2,2 -k3,3$([ "$k" = C ] && echo n) -k4,4; """
+          r"""done > "$1.new" && mv "$1.new" "$1"' sh books.txt)""")
+
 # ---- the plan sheet
 
 sheet_with("a quote missing", b'bin = "900001"', b'bin = "900001', ':1:14: not TOML: invalid string: "bin = "900001"', 3, 1, 0)
-sheet_with("a comma in a figure", b"fee = 175", b"fee = 5,000", ':9:8: not TOML: unexpected key or value, expected newline, `#`: "fee = 5,000"', 3, 1, 0)
+sheet_with("a comma in a figure", b"fee = 175", b"fee = 5,000",
+           ':9:8: not TOML: unexpected key or value, expected newline, `#`: "fee = 5,000": a number has no comma', 3, 1, 0)
 sheet("a drug twice", SHEET + b'[drugs.00001000101]\ntier = "1"\nprice = 2500\n',
       ':20:1: not TOML: duplicate key: "[drugs.00001000101]"', 3, 1, 0)
 sheet_with("Latin-1", b"fee = 175", b"fee = 175 # g\xe9n",
-           ':9:14: not UTF-8: "fee = 175 # g<E9>n" (iconv -f latin1 -t utf-8 sheet.toml)', 3, 1, 0)
+           ':9:14: not UTF-8: "fee = 175 # g<E9>n" ' + RENEWED % ("iconv -f latin1 -t utf-8", "sheet.toml"), 3, 1, 0)
 sheet("a books file", BOOKS, ": not TOML: this looks like a books file", 3, 1, 0)
 sheet("a batch file", BATCH, ": not TOML: this looks like a batch file", 3, 1, 0)
 for key, old, wanted, number in (
@@ -137,6 +143,8 @@ for key, old, wanted, number in (
         ("fee", b"fee = 175\n", "expected whole cents from 0 to 99999999, e.g. 150", 9)):
     sheet_with(f"no {key}", old, b"", f": {key} is missing: {wanted}", 3, 2, number)
 NO_TIERS = SHEET[:SHEET.index(b"[tiers]")]
+sheet_with("a misspelt key", b"refill_percent", b"refil_percent", ": refill_percent is missing: expected a whole number from "
+           "0 to 100, e.g. 75; refil_percent is no key of a sheet: is it meant?", 3, 2, 7)
 sheet("no tiers", NO_TIERS, ": tiers is missing: expected a table, e.g. [tiers] with a line 1 = 1000", 3, 2, 10)
 sheet("no drugs", SHEET[:SHEET.index(b"[drugs")],
       ": drugs is missing: expected tables, e.g. [drugs.00001000101] with tier and price", 3, 2, 11)
@@ -188,7 +196,7 @@ sheet_with("a product of ten digits", b"[drugs.00002000202]", b"[drugs.000200020
            ': drug "0002000202": a product is 11 digits without dashes, as 00001000101', 3, 3, 11)
 sheet("a drug that is no table", SHEET[:SHEET.index(b"[drugs")] + b"[drugs]\n00001000101 = 3\n",
       ": drug 00001000101 = 3: expected a table with tier and price", 3, 3, 11)
-sheet_with("no such tier", b'tier = "2"', b'tier = "9"', ': drug 00002000202: tier = "9": no tier has this name', 3, 3, 12)
+sheet_with("no such tier", b'tier = "2"', b'tier = "9"', ': drug 00002000202: tier = "9": no tier has this name; the tiers are 1 2 4', 3, 3, 12)
 sheet_with("a tier without quotes", b'tier = "2"', b"tier = 2",
            ': drug 00002000202: tier = 2: expected the name of a tier in quotes, e.g. "1"', 3, 3, 12)
 sheet_with("a price with a point", b"price = 100000", b"price = 10.5",
@@ -226,7 +234,7 @@ books_with("a product with dashes", b"|00002000202|", b"|0000-2000-202|",
            ':5: field 7, product "0000-2000-202": expected 11 digits', 4, 2, 5)
 books_with("no days", b"|30000|30|", b"|30000|0|", ':5: field 9, days "0": expected a number from 1 to 999', 4, 2, 5)
 books_with("an amount with a point", b"|9000|0|9000|", b"|90.00|0|9000|",
-           ':5: field 10, F6 "90.00": expected only digits', 4, 2, 5)
+           ':5: field 10, ingredient cost (F6) "90.00": expected cents, without a point, e.g. 15000 for 150.00', 4, 2, 5)
 books_with("a provider too long", b"C|1234567893|", b"C|1234567893123456|",
            ':5: field 2, provider "1234567893123456": 16 bytes, expected at most 15', 4, 2, 5)
 books_with("a family with a blank at its end", b"|20260110|F1|", b"|20260110|F1 |",
@@ -252,16 +260,17 @@ books_with("CR LF in one line", b"T|F2|0|0\n", b"T|F2|0|0\r\n",
            ":7: the line ends with CR LF: expected LF (sed -i 's/\\r$//' books.txt)", 4, 2, 7)
 MEMBERS = BOOKS.split(b"\n")
 books("members out of order", b"\n".join([MEMBERS[0], MEMBERS[1], MEMBERS[3], MEMBERS[2]] + MEMBERS[4:]),
-      ":4: F1/02 comes after F2/01: members ascend by family, then person (LC_ALL=C sort -t'|' -k2,2 -k3,3)", 4, 3, 4)
+      ":4: F1/02 comes after F2/01: members ascend by family, then person " + SORTED, 4, 3, 4)
 books("a member twice", b"\n".join(MEMBERS[:3] + [MEMBERS[2]] + MEMBERS[3:]),
-      ":4: F1/02 is listed twice: members ascend by family, then person (LC_ALL=C sort -t'|' -k2,2 -k3,3)", 4, 3, 4)
+      ":4: F1/02 is listed twice, first at line 3: delete one of these lines", 4, 3, 4)
 books("a claim twice", b"\n".join(MEMBERS[:5] + [MEMBERS[4]] + MEMBERS[5:]),
-      ":6: 1234567893/90/20260110 is listed twice: claims ascend by provider, reference and date "
-      "(LC_ALL=C sort -t'|' -k2,2 -k3,3n -k4,4)", 4, 3, 6)
+      ":6: 1234567893/90/20260110 is listed twice, first at line 5: delete one of these lines", 4, 3, 6)
 books("totals out of order", b"\n".join(MEMBERS[:5] + [MEMBERS[6], MEMBERS[5], b""]),
-      ":7: F1 comes after F2: totals ascend by family (LC_ALL=C sort -t'|' -k2,2)", 4, 3, 7)
+      ":7: F1 comes after F2: totals ascend by family " + SORTED, 4, 3, 7)
 books("a member behind a claim", b"\n".join(MEMBERS[:3] + [MEMBERS[4], MEMBERS[3]] + MEMBERS[5:]),
-      ":5: a member line comes after a claim line: first come all M, then all C, then all T", 4, 3, 5)
+      ":5: a member line comes after a claim line: first come all M, then all C, then all T " + SORTED, 4, 3, 5)
+books("a claim above its member", b"\n".join([MEMBERS[0], MEMBERS[4]] + MEMBERS[1:4] + MEMBERS[5:]),
+      ":2: member F1/01 is listed only below this claim: first come all M, then all C, then all T " + SORTED, 4, 4, 2)
 books_with("a claim of an unknown family", b"|20260110|F1|01|", b"|20260110|F9|01|",
            ":5: member F9/01 isn't listed: no M line above has family F9", 4, 4, 5)
 books_with("a claim of an unknown person", b"|20260110|F1|01|", b"|20260110|F1|03|",
@@ -275,7 +284,8 @@ books_with("a wrong out of pocket", b"T|F1|9000|9000", b"T|F1|9001|9000",
 books_with("a wrong deductible of a family", b"T|F1|9000|9000", b"T|F1|9000|8999",
            ":6: family F1, deductible 8999: the claims of 20260101 to 20261231 sum to 9000", 4, 5, 6)
 books_with("a head of another year", b"BOOKS|3|20260101|20261231", b"BOOKS|3|20270101|20271231",
-           ":2: member F1/01, deductible 9000: the claims of 20270101 to 20271231 sum to 0", 4, 5, 2)
+           ":2: member F1/01, deductible 9000: the claims of 20270101 to 20271231 sum to 0; "
+           "no claim is within the days of line 1: are they right?", 4, 5, 2)
 books_with("no last total line", b"T|F2|0|0\n", b"",
            ":7: family F2 has no total line: expected T|F2|0|0 at line 7", 4, 5, 7)
 books_with("no first total line", b"T|F1|9000|9000\n", b"",
@@ -285,9 +295,10 @@ books("too many lines", BOOKS + b"\n" * 1_000_000, ": 1000007 line feeds: at mos
 # ---- the batch
 
 batch("a byte order mark", b"\xef\xbb\xbf" + BATCH,
-      ": header, byte 0: the file begins with a byte order mark (EF BB BF): expected STX (X'02')", 5, 1, 0)
+      ": header, byte 0: the file begins with a byte order mark (EF BB BF): expected STX (X'02') "
+      r"(sed -i '1s/^\xef\xbb\xbf//' batch.bin)", 5, 1, 0)
 batch("gzip", b"\x1f\x8b\x08\0\0\0\0\0\2\3", ': header, byte 0: "<1F><8B><08><00><00><00><00><00><02><03>": '
-      "expected STX (X'02'); this looks like gzip", 5, 1, 0)
+      "expected STX (X'02'); this looks like gzip " + RENEWED.replace('%s "$1"', 'zcat < "$1"') % "batch.bin", 5, 1, 0)
 batch("spelled control bytes", BATCH.replace(b"\x02", b"<02>").replace(b"\x03", b"<03>"),
       ': header, byte 0: "<02>00TPHARMSYS ": expected STX (X\'02\'); '
       "this looks like a batch file whose control bytes are spelled out", 5, 1, 0)
@@ -357,7 +368,8 @@ warned("a key of the sheet in a drug", "sheet.toml: warning: drug 00002000202: k
 warned("another key", "sheet.toml: warning: key remark is ignored", of_sheet=b'remark = "x"\n' + SHEET)
 OTHER_YEAR = SHEET.replace(b"2026", b"2027")
 warned("books of another period",
-       "books.txt:1: warning: the books are of 20260101 to 20261231, another period than the sheet's", of_sheet=OTHER_YEAR)
+       "books.txt:1: warning: the books are of 20260101 to 20261231, another period than the sheet's: sums start "
+       "again at 0, claims before it are rejected (81)", of_sheet=OTHER_YEAR)
 warned("another plan", "batch.bin: warning: no record names the sheet's bin and pcn: each would be rejected",
        of_sheet=changed(SHEET, b"900001", b"900002"))
 warned("another processor control number",
@@ -376,8 +388,8 @@ def many_books(families, *further):
     return b"BOOKS|3|20260101|20261231\n" + first + members + totals
 
 
-warned("books that are near their limit", "books.txt: warning: 900001 lines of at most 1000000", of_books=many_books(450_000))
-warned("books that a batch could fill", "books.txt: warning: 1000000 lines of at most 1000000",
+warned("books that are near their limit", "books.txt: warning: 900001 lines of at most 1000000 (age takes claims out)", of_books=many_books(450_000))
+warned("books that a batch could fill", "books.txt: warning: 1000000 lines of at most 1000000 (age takes claims out)",
        "books.txt: warning: with this batch the end books could have more than 1000000 lines, which no run reads",
        of_books=many_books(499_999, b"02"))
 CASES.append(Case("each file refused", changed(SHEET, b"fee = 175\n", b""), b"", BATCH[:270], (
@@ -442,7 +454,9 @@ def end_steps(folder, records):
 
 
 def without_times(text):
+    """The lines without their times, and without the progress that only a slow run prints."""
     text = re.sub(r"  peak [0-9,.]+ (MB|bytes)", "  peak P", text)
+    text = re.sub(r"(?m)^adjudicated +[0-9,]+ of [0-9,]+ records?\n", "", text)
     return re.sub(r"(?m)  [0-9,]+\.[0-9][0-9] s$", "  T s", text)
 
 
@@ -509,7 +523,7 @@ ENDINGS = (
     Ending("check of the sheet alone", ("check", "--sheet", "sheet.toml"), 0, "", ""),
     Ending("check of sheet and batch", ("check", "--sheet", "sheet.toml", "--batch", "batch.bin"), 0, "", ""),
     Ending("check of an empty sheet", ("check", "--sheet", "/dev/null"), 1,
-           '/dev/null: bin is missing: expected 6 digits in quotes, e.g. "900001"\n', "refused 3 2 1\n"),
+           '/dev/null: the file is empty: expected a plan sheet, which has a line as bin = "900001"\n', "refused 3 2 1\n"),
     Ending("run -v without a sheet", with_words(("run", "-v") + INPUTS + RUN, sheet="none.toml"), 3, "",
            "file 1\n--sheet none.toml: no such file or directory\n"),
     Ending("run -v into a folder that isn't there", with_words(("run", "-v") + INPUTS + RUN, response="none/r"), 3, "",

@@ -25,7 +25,7 @@ import sys
 import tempfile
 from typing import NamedTuple
 
-from options import parser_of, read_options
+from options import is_line_with_words, parser_of, read_options
 from run_cases import HERE, INPUTS, OUTPUTS, case_folders, read, ways_of
 
 # The files of a run by their options, in the order of their numbers: 1 is the sheet, 6 the settlement.
@@ -147,13 +147,13 @@ def answer_of(settings, words, folder, stdout=subprocess.PIPE):
     return Answer(ended.returncode, ended.stdout, ended.stderr)
 
 
-def fault_of(settings, folder, what, words, files, wanted):
-    """What is wrong with an answer, None where nothing is."""
+def fault_of(settings, folder, what, words, files, wanted, is_told=bytes.__eq__):
+    """What is wrong with an answer, None where nothing is; how standard error is compared may be given."""
     try:
         got = answer_of(settings, words, folder)
     except subprocess.TimeoutExpired:
         return f"{what}: no end after {settings.seconds:g} s"
-    if got != wanted:
+    if got._replace(stderr=b"") != wanted._replace(stderr=b"") or not is_told(got.stderr, wanted.stderr):
         return f"{what}: {got}, wanted {wanted}"
     changed = [name for name, text in files.items() if read(folder, name) != text]
     return f"{what}: {changed[0]} was changed" if changed or set(os.listdir(folder)) != set(files) else None
@@ -181,7 +181,7 @@ def try_refused(settings, case, folder, files):
     stamp, wanted = os.fsdecode(read(case, "stamp")), Answer(int(read(case, "status")), b"", read(case, "refused"))
     for number, way in ways_of(case)[:2 if settings.brief else None]:
         words = verify_words(stamp, number, way)
-        yield fault_of(settings, folder, f"refused, {number} workers {way or ''}", words, files, wanted)
+        yield fault_of(settings, folder, f"refused, {number} workers {way or ''}", words, files, wanted, is_line_with_words)
 
 
 def try_case(settings, case):
@@ -203,16 +203,17 @@ def try_case(settings, case):
 
 def refused_words(stamp):
     """Words that are refused, or name a file that can't be opened: a name, the words, the status that is expected, and
-    the line on standard error, None where that is left open."""
+    the lines on standard error, None where they are left open."""
     yield "no words", ["verify"], 2, None
     yield "workers with a sign", verify_words(stamp, "+1"), 2, None
-    yield "no workers", verify_words(stamp, "0"), 1, b"refused 1 0 0\n"
-    yield "65 workers", verify_words(stamp, "65"), 1, b"refused 1 0 0\n"
-    yield "no date", verify_words("202602300600"), 1, b"refused 2 0 0\n"
+    yield "no workers", verify_words(stamp, "0"), 1, b"refused 1 0 0\n--workers 0: expected 1 to 64\n"
+    yield "65 workers", verify_words(stamp, "65"), 1, b"refused 1 0 0\n--workers 65: expected 1 to 64\n"
+    yield ("no date", verify_words("202602300600"), 1,
+           b'refused 2 0 0\n--stamp "202602300600": its first 8 digits aren\'t a date\n')
     for number, (option, name) in enumerate(FILES.items(), 1):
-        for path in ("not-there", "."):
+        for path, why in (("not-there", "no such file or directory"), (".", "is a directory")):
             words = [path if word == name else word for word in verify_words(stamp, "65")]
-            yield f"{option} {path}", words, 3, b"file %d\n" % number
+            yield f"{option} {path}", words, 3, f"file {number}\n{option} {path}: {why}\n".encode()
 
 
 def try_words(settings, case):
@@ -227,7 +228,7 @@ def try_words(settings, case):
         if os.path.exists("/dev/full"):
             with open("/dev/full", "wb") as full:
                 count, got = count + 1, answer_of(settings, verify_words(stamp), folder, full)
-            if (got.status, got.stderr) != (3, b"file 0\n"):
+            if (got.status, got.stderr) != (3, b"file 0\nstandard output: no space left on device\n"):
                 return count, f"a full standard output: {got}"
     return count, None
 

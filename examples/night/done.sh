@@ -3,7 +3,7 @@
 # The sums in the last line of the log decide, of the inputs and of the outputs that lie there.
 set -u
 out=out/$1
-log=$(tail -n 1 "$out/log.json" 2> /dev/null) || exit 1
+log=$(tail -n 1 "$out/log.jsonl" 2> /dev/null) || exit 1
 case $log in *'"status":0'*) ;; *) exit 1 ;; esac
 for file in "$2" "$3" "$4"; do
   sum=$(sha256sum < "$file") || exit 1

@@ -13,15 +13,11 @@ case $? in
 3) stop "$out has the outputs of other inputs: move it away" ;;
 esac
 mkdir -p "$out" || stop "$out can't be made"
-"$rxbatch" check --sheet "$2" --books "$3" --batch "$4" > "$out/check.txt" 2> "$out/run.txt"
+"$rxbatch" adjudicate --sheet "$2" --books "$3" --batch "$4" --out "$out" --stamp "${STAMP:-$(date -u +%Y%m%d%H%M)}" \
+  --workers "${WORKERS:-4}" ${ACCEPT_WARNINGS:+--again} 2> "$out/run.txt"
 case $? in
 0) ;;
-4)
-  grave=$(grep -m 1 -e 'it was adjudicated already' -e "no record names the sheet's bin and pcn" "$out/check.txt")
-  if [ -n "$grave" ] && [ -z "${ACCEPT_WARNINGS:-}" ]; then stop "$grave"; fi
-  ;;
-*) stop "$(head -n 1 "$out/check.txt")" ;;
+4) stop "$(tail -n 2 "$out/run.txt" | head -n 1)" ;;
+1 | 3) stop "$(sed -n -E '/^(refused|file) /{n;p;q}' "$out/run.txt")" ;;
+*) stop "$(tail -n 1 "$out/run.txt")" ;;
 esac
-"$rxbatch" run --safe -v --log "$out/log.json" --sums --sheet "$2" --books "$3" --batch "$4" \
-  --stamp "${STAMP:-$(date -u +%Y%m%d%H%M)}" --workers "${WORKERS:-4}" --response "$out/response.bin" \
-  --books-out "$out/books.txt" --settlement "$out/settlement.txt" 2> "$out/run.txt" || stop "$(tail -n 1 "$out/run.txt")"

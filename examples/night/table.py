@@ -3,7 +3,7 @@
 
     table.py FOLDER..      the folders of the pairs, out/*/
 
-The last line of a log counts. A pair without a log was stopped by `check`; one whose last line isn't whole was cut.
+The last line of a log counts. A pair without a log was stopped before its run; one whose last line isn't whole was cut.
 """
 import json
 import pathlib
@@ -15,7 +15,7 @@ COUNTS = ("paid", "duplicate", "approved", "rejected", "net")
 def log_of(folder):
     """The last line of a pair's log; None if it was cut or isn't there."""
     try:
-        return json.loads((folder / "log.json").read_text().splitlines()[-1])
+        return json.loads((folder / "log.jsonl").read_text().splitlines()[-1])
     except (OSError, ValueError, IndexError):
         return None
 
@@ -28,7 +28,7 @@ def why_of(log):
 def fields(folder):
     log = log_of(folder)
     if log is None:
-        return [folder.name, "cut" if (folder / "log.json").exists() else "check", "", *[""] * len(COUNTS), "", ""]
+        return [folder.name, "cut" if (folder / "log.jsonl").exists() else "stopped", "", *[""] * len(COUNTS), "", ""]
     totals = log["totals"] or {}
     counts = [totals.get(name, "") for name in COUNTS]
     seconds = sum(step or 0 for step in log["microseconds"].values()) / 1e6

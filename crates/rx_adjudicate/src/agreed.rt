@@ -2,7 +2,7 @@ ghost use Rattle.std.specs.Prelude.{◌≡◌, ◌≤◌, true};
 ghost use Rattle.std.specs.List.{list_any};
 ghost use Rattle.rx_ledger.specs.Answers.{is_too_soon};
 ghost use Rattle.rx_books_family.specs.FamilyBook.{has_person};
-ghost use Rattle.rx_books_parcel.specs.Parcels.{Agrees, IsParcel};
+ghost use Rattle.rx_books_parcel.specs.Parcels.{IsParcel};
 ghost use Rattle.rx_adjudicate.specs.Scopes.{IsAgreed, used_over};
 
 use rx_books_family::Family;
@@ -32,11 +32,10 @@ impl Model for Agreed {
 impl Agreed {
     // The parcel, to be adjudicated on.
     pub(crate) fn new(parcel: Parcel) -> Agreed
-        requires { Agrees parcel }
+        requires { IsAgreed parcel }
         ensures value { result ≡ parcel }
         ensures within { IsAgreed result }
     {
-        parcel.period();
         Agreed { parcel }
     }
 
@@ -87,13 +86,11 @@ impl Basis for Agreed {
 
     fn add(&mut self, row: Row) -> Result<(), Memory> {
         self.parcel.add(row)?;
-        self.parcel.period();
         Ok(())
     }
 
     fn remove(&mut self, key: &Key) -> Result<(), Memory> {
         self.parcel.remove(key);
-        self.parcel.period();
         Ok(())
     }
 }

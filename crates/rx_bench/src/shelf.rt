@@ -17,16 +17,10 @@ const STEP: usize = 7919;
 /// Makes the shelf, and uses it.
 pub fn round<R: Clock + Threads + Sync>(watch: &mut Watch<R>, inputs: &Inputs) -> Option<()> {
     let job = Job::of(watch.rt, watch.alloc, inputs)?;
-    let made = made(watch, &job);
-    drop(job);
-    made
-}
-
-// A shelf for the footprints of the records.
-fn made<R: Clock>(watch: &mut Watch<R>, job: &Job) -> Option<()> {
     let named = footprints(watch.alloc, &job.books, &job.asked).ok()?;
-    let used = used(watch, job, &named);
+    let used = used(watch, &job, &named);
     drop(named);
+    drop(job);
     used
 }
 

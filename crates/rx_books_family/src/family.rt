@@ -109,7 +109,8 @@ impl Family {
 
     /// The period that the totals are of.
     pub fn period(&self) -> Period
-        ensures { result ≡ self.now.period }
+        ensures value { result ≡ self.now.period }
+        ensures within { IsOwn self.now }
     {
         self.period
     }
@@ -192,6 +193,7 @@ impl Family {
         requires past { IsTrue (is_past member_cmp member_key self.old.members member.key) }
         ensures ok { OnOk result (self.new ≡ book_with_member self.old member) }
         ensures err { OnErr result (self.new ≡ self.old) }
+        ensures within { IsOwn self.new }
     {
         self.deductibles.reserve(1)?;
         self.members.push(member)?;
@@ -214,6 +216,7 @@ impl Family {
         requires listed { is_listed (own_ledger self.old) (member_of_row row) ≡ true }
         ensures ok { OnOk result (self.new ≡ book_with_row self.old row) }
         ensures err { OnErr result (self.new ≡ self.old) }
+        ensures within { IsOwn self.new }
     {
         let at = place_of_member(&self.members, &row.member());
         let counted = counted_in(self.period, &row);
@@ -232,6 +235,7 @@ impl Family {
     pub fn remove(&mut self, key: &Key) -> Option<Row>
         ensures value { result ≡ row_under (own_ledger self.old) key.now }
         ensures rows { self.new ≡ book_without_row self.old key.now }
+        ensures within { IsOwn self.new }
     {
         let row = self.rows.remove(key)?;
         let at = place_of_member(&self.members, &row.member());

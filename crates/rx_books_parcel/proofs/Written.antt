@@ -1,6 +1,5 @@
 -- What is written into a parcel: a key's book, and a family's book.
 use Rattle.std.proofs.Common.{◌≡◌, ℕ, zero, suc, List, [], ◌∷◌, get_or, set, Some, refl, sym, ap, ◌∙◌}
-use Rattle.std.specs.List.{All}
 use Rattle.std.specs.Option.{option_map}
 use Rattle.std.proofs.lemmas.List.Elements.{All-set}
 use Rattle.rx_fields.specs.Order.{id_cmp, key_cmp}
@@ -36,13 +35,13 @@ module _ (p : ParcelParts) (is : IsParcel p) (family : List ℕ) (at : ℕ)
 
   -- with a new book of the family in its place, and a new book of a key, it is a parcel
   pub written : (slot : KeyBook) → HasOwnRow slot → (c : FamilyBook) → c.family ≡ b.family → c.period ≡ b.period
-      → All IsOwn (set p.families at c)
+      → IsOwn c
       → IsParcel (record p { keys = put key_cmp key_of p.keys slot; families = set p.families at c })
   written slot own c named period owned = record {
     keys_rise = IsAscending-put key_cmp key_total key_of p.keys slot is.keys_rise;
     families_rise = IsAscending-set id_cmp id_total family_of p.families c at is.families_rise (placed c named);
     rows_own = All-put key_cmp key_total key_of HasOwnRow p.keys slot is.rows_own own;
-    families_own = owned;
+    families_own = All-set IsOwn p.families at c owned is.families_own;
     one_period = All-set (λ (d : FamilyBook). d.period ≡ p.period) p.families at c
         (period ∙ period_found p is family b book_there) is.one_period;
   }

@@ -31,13 +31,6 @@ key_of b = b.key
 abbrev pub HasOwnRow : KeyBook → Type 0
 HasOwnRow b = IfSome b.row (λ r. r.key ≡ b.key)
 
--- the books of a parcel: the keys ascend, each with its own row, and so do the families, with totals of the period
-pub record AreBooks (period : Span) (keys : List KeyBook) (families : List FamilyBook) : Type 0 where
-  pub keys_rise : IsAscending key_cmp key_of keys
-  pub rows_own : All HasOwnRow keys
-  pub families_rise : IsAscending id_cmp family_of families
-  pub one_period : All (λ b. b.period ≡ period) families
-
 -- what a parcel keeps: its books are in order, one of a name; each has rows of its own, and totals of the period
 pub record IsParcel (p : ParcelParts) : Type 0 where
   pub keys_rise : IsAscending key_cmp key_of p.keys

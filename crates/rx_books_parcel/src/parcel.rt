@@ -7,7 +7,7 @@ ghost use Rattle.rx_books_family.specs.Books.{OfFamily, OfKey};
 ghost use Rattle.rx_books_family.specs.FamilyBook.{IsOwn, family_of};
 ghost use Rattle.rx_sorted.specs.Few.{items_of};
 ghost use Rattle.rx_books_parcel.specs.Footprints.{names};
-ghost use Rattle.rx_books_parcel.specs.Parcels.{Agrees, AreBooks, HasOwnRow, IsParcel, family_at, family_deductible_at, key_of};
+ghost use Rattle.rx_books_parcel.specs.Parcels.{Agrees, HasOwnRow, IsParcel, family_at, family_deductible_at, key_of};
 ghost use Rattle.rx_books_parcel.specs.Parcels.{member_at, member_deductible, named_in, parcel_with_row, parcel_without_row, pocket_at};
 ghost use Rattle.rx_books_parcel.specs.Parcels.{row_at, rows_at};
 
@@ -40,10 +40,10 @@ impl Model for Parcel {
 }
 
 impl Parcel {
-    /// Whether these books make a parcel: the keys ascend, each with its own row, and so do the families, with totals of
-    /// the period.
+    /// Whether these books make a parcel: the keys ascend, each with its own row, and so do the families, each with members
+    /// and rows of its own and totals of the period.
     pub fn are_books(period: Period, keys: &[KeyBook], families: &[Family]) -> bool
-        ensures { IsTrue result ↔ AreBooks period keys.now families.now }
+        ensures { IsTrue result ↔ IsParcel (record { period = period; keys = keys.now; families = families.now }) }
     {
         are_key_books(keys) && are_family_books(families, period)
     }
@@ -54,10 +54,10 @@ impl Parcel {
         requires keys_rise { IsAscending key_cmp key_of (items_of keys) }
         requires rows_own { All HasOwnRow (items_of keys) }
         requires families_rise { IsAscending id_cmp family_of (items_of families) }
+        requires families_own { All IsOwn (items_of families) }
         requires one_period { All (λ b. b.period ≡ period) (items_of families) }
         ensures { result ≡ record { period = period; keys = items_of keys; families = items_of families } }
     {
-        read_families(families.as_slice());
         Parcel {
             period,
             keys,
@@ -189,11 +189,11 @@ impl Parcel {
         requires listed { IsSome (member_at self.old row.family row.person) }
         ensures ok { OnOk result (self.new ≡ parcel_with_row self.old row) }
         ensures err { OnErr result (self.new ≡ self.old) }
+        ensures within { IsParcel self.new }
     {
         let at = held_place(self.families.as_slice(), &row.family);
         let family = self.families.at_mut(at);
         family.add(row)?;
-        read_families(self.families.as_slice());
         let book = KeyBook {
             key: row.key,
             row: Some(row),
@@ -208,7 +208,8 @@ impl Parcel {
         requires key { names (named_in self.old) (OfKey key.now) ≡ true }
         requires there { IsSome (row_at self.old key.now) }
         requires family { IfSome (row_at self.old key.now) (λ r. names (named_in self.old) (OfFamily r.family) ≡ true) }
-        ensures { self.new ≡ parcel_without_row self.old key.now }
+        ensures books { self.new ≡ parcel_without_row self.old key.now }
+        ensures within { IsParcel self.new }
     {
         let Some(row) = self.row(key) else {
             return;
@@ -216,7 +217,6 @@ impl Parcel {
         let at = held_place(self.families.as_slice(), &row.family);
         let family = self.families.at_mut(at);
         let _removed = family.remove(key);
-        read_families(self.families.as_slice());
         let book = KeyBook {
             key: *key,
             row: None,
@@ -227,7 +227,8 @@ impl Parcel {
     /// An equal parcel.
     #[inline(always)]
     pub fn copy(&self, alloc: Global) -> Result<Parcel, Memory>
-        ensures { IfOk result (λ parcel. parcel ≡ self.now) }
+        ensures value { IfOk result (λ parcel. parcel ≡ self.now) }
+        ensures within { IfOk result IsParcel }
     {
         let keys = self.keys.to_copy(alloc)?;
         let families = families_copied(alloc, &self.families)?;
@@ -270,23 +271,23 @@ fn is_own_row(book: &KeyBook) -> bool
     }
 }
 
-// Whether the families ascend, and the totals of each are of the period.
+// Whether the families ascend, and the totals of each are of the period; its members and rows are its own.
 fn are_family_books(families: &[Family], period: Period) -> bool
-    ensures { IsTrue result ↔ (IsAscending id_cmp family_of families.now × All (λ b. b.period ≡ period) families.now) }
+    ensures { IsTrue result ↔ (IsAscending id_cmp family_of families.now × All (λ b. IsOwn b × (b.period ≡ period)) families.now) }
 {
     are_ascending(families) && are_of_period(families, period)
 }
 
 // Whether each family's totals are of the period.
 fn are_of_period(families: &[Family], period: Period) -> bool
-    ensures { IsTrue result ↔ All (λ b. b.period ≡ period) families.now }
+    ensures { IsTrue result ↔ All (λ b. IsOwn b × (b.period ≡ period)) families.now }
 {
     families.iter().all(|family| is_of_period(family, period))
 }
 
 // Whether the family's totals are of the period.
 fn is_of_period(family: &Family, period: Period) -> bool
-    ensures { IsTrue result ↔ (family.now.period ≡ period) }
+    ensures { IsTrue result ↔ (IsOwn family.now × (family.now.period ≡ period)) }
 {
     family.period() == period
 }
@@ -296,15 +297,6 @@ fn are_ascending(families: &[Family]) -> bool
     ensures { IsTrue result ↔ IsAscending id_cmp family_of families.now }
 {
     is_ascending(families)
-}
-
-// Each family's book has members and rows of its own.
-fn read_families(families: &[Family])
-    ensures { All IsOwn families.now }
-{
-    for family in families {
-        family.rows();
-    }
 }
 
 // The place of an item whose key is there.

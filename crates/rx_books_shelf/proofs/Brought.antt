@@ -1,5 +1,5 @@
 -- Open books while the slot of a key is brought to what the key's place holds.
-use Rattle.std.proofs.Common.{◌≡◌, false, Some, None, sym, ap, subst, ◌∙◌}
+use Rattle.std.proofs.Common.{◌≡◌, false, true, Option, Some, None, sym, ap, subst, ◌∙◌}
 use Rattle.std.specs.Prelude.{IfSome}
 use Rattle.std.specs.Option.{is_some}
 use Rattle.rx_fields.specs.Order.{key_cmp}
@@ -9,8 +9,9 @@ use Rattle.rx_sorted.specs.Overlaid.{written}
 use Rattle.rx_sorted.proofs.Edits.{put-without, without_absent}
 use Rattle.rx_sorted.proofs.LookUps.{item_at-without_same}
 use Rattle.rx_ledger.specs.declared.row.Row.{Row}
-use Rattle.rx_ledger.specs.Ledger.{is_taken, row_under}
-use Rattle.rx_ledger.specs.Rows.{row_key}
+use Rattle.rx_ledger.specs.Ledger.{IsLedger, is_listed, is_taken, row_under}
+use Rattle.rx_ledger.specs.Rows.{member_of_row, row_key}
+use Rattle.rx_ledger.proofs.Ledgers.{IsLedger-with_row, IsLedger-without_row}
 use Rattle.rx_ledger.proofs.Orders.{key_total}
 use Rattle.rx_books_store.specs.OpenBooks.{OpenParts, open_with, open_without}
 use Rattle.rx_books_family.specs.declared.place.KeyPlace.{KeyPlace}
@@ -46,3 +47,12 @@ pub brought_none : (o : OpenParts) (p : KeyPlace) → row_held p ≡ None → op
 brought_none o p e =
     ap (λ rs. record o { books = record o.books { ledger = record o.books.ledger { rows = rs } } })
     (ap (written key_cmp row_key place_key row_held o.books.ledger.rows p.key) (sym e))
+
+-- the ledger stays in order, where the member of the row that a place holds is listed
+pub brought_ledger : (o : OpenParts) (p : KeyPlace) → IsLedger o.books.ledger
+    → IfSome (row_held p) (λ (r : Row). is_listed o.books.ledger (member_of_row r) ≡ true) → IsLedger (with_place o p).books.ledger
+brought_ledger o p is = by_row (row_held p) where
+  by_row : (h : Option Row) → IfSome h (λ (r : Row). is_listed o.books.ledger (member_of_row r) ≡ true)
+      → IsLedger (record { members = o.books.ledger.members; rows = written key_cmp row_key place_key row_held o.books.ledger.rows p.key h })
+  by_row None listed = IsLedger-without_row o.books.ledger p.key is
+  by_row (Some r) listed = IsLedger-with_row o.books.ledger r is listed

@@ -1,7 +1,9 @@
 ghost use Rattle.std.specs.Prelude.{◌≡◌, ◌↔◌, IfErr, IfOk, IfSome, IsOk, OnErr, Some, false, slice_get, true};
 ghost use Rattle.std.specs.List.{All, list_all};
 ghost use Rattle.rx_ledger.specs.Ledger.{IsLedger, is_listed, is_taken};
-ghost use Rattle.rx_ledger.specs.Rows.{member_of_row};
+ghost use Rattle.rx_fields.specs.Order.{key_cmp};
+ghost use Rattle.rx_sorted.specs.Ascending.{IsAscending};
+ghost use Rattle.rx_ledger.specs.Rows.{member_of_row, row_key};
 ghost use Rattle.rx_books_family.specs.Books.{Book, book};
 ghost use Rattle.rx_books_store.specs.OpenBooks.{open_with, open_without};
 ghost use Rattle.rx_books_family.specs.Shelves.{AreAllAgreed, HoldsOwnRow, IsShelf, are_all_in, row_held, value_of};
@@ -44,10 +46,7 @@ impl Shelf {
         ensures within { IsLedger result.ledger }
     {
         let Shelf { books, keys, .. } = self;
-        let books = brought(books, keys.as_slice());
-        // That the books' ledger is in order is known to the prover from this clause.
-        books.period();
-        books.close()
+        brought(books, keys.as_slice()).close()
     }
 
     // The opened books with the places, which stand instead of what the books hold.
@@ -117,7 +116,9 @@ fn brought(books: OpenBooks, places: &[KeyPlace]) -> OpenBooks
     requires slots { All (HasSlot books.slots) places.now }
     requires rows { All HoldsOwnRow places.now }
     requires listed { All (λ p. IfSome (row_held p) (λ r. is_listed books.books.ledger (member_of_row r) ≡ true)) places.now }
-    ensures { result ≡ with_places books places.now }
+    requires in_order { IsLedger books.books.ledger }
+    ensures value { result ≡ with_places books places.now }
+    ensures in_order { IsLedger result.books.ledger }
 {
     let mut books = books;
     let mut near = 0;
@@ -133,25 +134,18 @@ fn bring(books: &mut OpenBooks, near: &mut usize, place: &KeyPlace)
     requires slot { HasSlot books.old.slots place.now }
     requires row { HoldsOwnRow place.now }
     requires listed { IfSome (row_held place.now) (λ r. is_listed books.old.books.ledger (member_of_row r) ≡ true) }
+    requires rise { IsAscending key_cmp row_key books.old.books.ledger.rows }
     ensures { books.new ≡ with_place books.old place.now }
 {
     let Some(slot) = books.slot_near(*near, &place.key) else {
         unreachable!()
     };
     *near = slot.saturating_add(1);
-    read_rows(books);
     empty_slot(books, slot, &place.key);
     let Some(row) = row_held(*place) else {
         return;
     };
     fill_slot(books, slot, row);
-}
-
-// The rows that stand are in order.
-fn read_rows(books: &OpenBooks)
-    ensures { IsLedger books.now.books.ledger }
-{
-    books.period();
 }
 
 // Takes the row out of the slot of a key, if there is one.

@@ -1,10 +1,12 @@
-ghost use Rattle.std.specs.Prelude.{◌≡◌, [], IfOk, OnOk, map, true};
+ghost use Rattle.std.specs.Prelude.{◌≡◌, ◌≤◌, [], IfOk, OnOk, map, true};
 ghost use Rattle.std.specs.List.{All};
+ghost use Rattle.rx_fields.specs.declared.limits.TheConstants.{MOST_CENTS};
 ghost use Rattle.rx_fields.specs.Order.{id_cmp, key_cmp};
 ghost use Rattle.rx_sorted.specs.Ascending.{IsAscending, is_past, itself};
 ghost use Rattle.rx_ledger.specs.Ledger.{IsLedger, is_listed, members_of};
 ghost use Rattle.rx_ledger.specs.Members.{member_cmp, member_key};
 ghost use Rattle.rx_ledger.specs.Rows.{member_of_row, row_key};
+ghost use Rattle.rx_ledger.specs.Sums.{paid_by_patient};
 ghost use Rattle.rx_books_family.specs.FamilyBook.{empty_book, family_of, own_ledger};
 ghost use Rattle.rx_books_shelf.specs.Gathered.{with_members, with_own_member, with_own_row, with_rows};
 ghost use Rattle.rx_books_shelf.specs.Opened.{opened_book};
@@ -115,6 +117,7 @@ fn put_row(books: &mut Vec<Unsummed>, home: usize, row: Row) -> Result<(), Memor
     requires rise { IsAscending id_cmp family_of books.old.items }
     requires past { All (λ b. is_past key_cmp row_key b.rows row.key ≡ true) books.old.items }
     requires listed { All (λ b. b.family ≡ row.family → is_listed (own_ledger b) (member_of_row row) ≡ true) books.old.items }
+    requires small { paid_by_patient row ≤ MOST_CENTS }
     ensures { OnOk result (books.new.items ≡ map (with_own_row row) books.old.items) }
 {
     match place_near(books, home, &row.family) {

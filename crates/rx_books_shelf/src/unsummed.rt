@@ -1,14 +1,16 @@
-ghost use Rattle.std.specs.Prelude.{◌≡◌, ◌<◌, ◌^◌, [], IfOk, IsTrue, OnErr, OnOk, length, true};
+ghost use Rattle.std.specs.Prelude.{◌≡◌, ◌<◌, ◌≤◌, ◌^◌, [], IfOk, IsTrue, OnErr, OnOk, length, true};
+ghost use Rattle.rx_fields.specs.declared.limits.TheConstants.{MOST_CENTS};
 ghost use Rattle.rx_fields.specs.Order.{key_cmp};
 ghost use Rattle.rx_sorted.specs.Ascending.{is_past, put};
 ghost use Rattle.rx_ledger.specs.Ledger.{is_listed};
 ghost use Rattle.rx_ledger.specs.Members.{member_cmp, member_key};
 ghost use Rattle.rx_ledger.specs.Rows.{member_of_row, row_key};
+ghost use Rattle.rx_ledger.specs.Sums.{paid_by_patient};
 ghost use Rattle.rx_books_family.specs.FamilyBook.{AreTotals, IsOwn, book_with_member, book_with_row, empty_book, own_ledger};
 
 use rx_books_family::{Family, FamilyTotals};
 use rx_fields::{Id, Memory, Period};
-use rx_ledger::{Member, Row, counted_in};
+use rx_ledger::{Member, Row};
 use rx_sorted::{Ascending, Keyed};
 use std::alloc::Global;
 use std::marker::Model;
@@ -93,10 +95,10 @@ impl Unsummed {
     pub(crate) fn add(&mut self, row: Row) -> Result<(), Memory>
         requires past { IsTrue (is_past key_cmp row_key self.old.rows row.key) }
         requires listed { is_listed (own_ledger self.old) (member_of_row row) ≡ true }
+        requires small { paid_by_patient row ≤ MOST_CENTS }
         ensures ok { OnOk result (self.new ≡ book_with_row self.old row) }
         ensures err { OnErr result (self.new ≡ self.old) }
     {
-        let _small = counted_in(self.period, &row);
         put_behind(&mut self.rows, row)?;
         Ok(())
     }

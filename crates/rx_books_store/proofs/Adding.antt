@@ -83,7 +83,7 @@ all_counted period ms all rest done ds os fs so_far none =
 -- ---- one row more
 
 -- the rows in front of others
-front_rises : (xs ys : List Row) → IsAscending key_cmp row_key (xs ++ ys) → IsAscending key_cmp row_key xs
+pub front_rises : (xs ys : List Row) → IsAscending key_cmp row_key (xs ++ ys) → IsAscending key_cmp row_key xs
 front_rises [] ys rise = tt
 front_rises (x ∷ xs) ys rise = (below xs rise.0, front_rises xs ys rise.1)
   where

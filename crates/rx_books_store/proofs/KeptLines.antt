@@ -1,9 +1,11 @@
 -- The lines of claims in the text that they were read from.
 use Rattle.std.proofs.Common.{◌≡◌, ◌≤◌, ℕ, ◌+◌, List, [], ◌∷◌, ◌++◌, length, take, drop, map, Option, Some, None, Ok}
 use Rattle.std.proofs.Common.{refl, sym, ap, subst, ◌∙◌, arith, append_assoc, length-append}
-use Rattle.std.specs.Prelude.{IfSome}
+use Rattle.std.specs.Prelude.{IfOk, IfSome, Result, Err}
+use Rattle.std.specs.Result.{result_ok}
 use Rattle.std.proofs.lemmas.Grind.{flat_map-append}
 use Rattle.std.proofs.lemmas.List.{drop_at, take_at}
+use Rattle.rx_books_text.specs.declared.head.Head.{Head}
 use Rattle.rx_books_text.specs.declared.line.Line.{Line}
 use Rattle.rx_books_text.specs.declared.line.Line.TheVariants as line
 use Rattle.rx_books_text.specs.declared.version.Version.{Version}
@@ -11,15 +13,20 @@ use Rattle.rx_books_text.specs.declared.version.Version.TheVariants.{Three}
 use Rattle.rx_books_text.specs.LineText.{ended, head_text, line_text}
 use Rattle.rx_books_text.specs.Printed.{PrintedParts, member_lines, printed_text}
 use Rattle.rx_books_scan.specs.Lists.{AreLists, AreMeasured, claim_lengths, lines_text}
+use Rattle.rx_books_scan.specs.Parts.{printed_lists}
+use Rattle.rx_books_scan.specs.declared.lists.Lists.{Lists}
+use Rattle.rx_ledger.specs.Ledger.{Ledger}
 use Rattle.rx_ledger.specs.declared.row.Row.{Row}
 use Rattle.rx_books_store.specs.declared.reader.Quick.{Quick}
+use Rattle.rx_books_store.specs.declared.reader.Rest.{Rest}
 use Rattle.rx_books_store.specs.declared.slot.KeySlot.{KeySlot}
 use Rattle.rx_books_store.specs.BooksText.{claims_text}
 use Rattle.rx_books_store.specs.Figures.{unsummed}
 use Rattle.rx_books_store.specs.Kept.{HoldsLines}
 use Rattle.rx_books_store.specs.LedgerBooks.{LedgerBooks}
 use Rattle.rx_books_store.specs.Lists.{AreSummed}
-use Rattle.rx_books_store.specs.Quick.{IsQuick}
+use Rattle.rx_books_store.specs.OpenBooks.{OpenParts}
+use Rattle.rx_books_store.specs.Quick.{IsQuick, printed_with, rest_of}
 use Rattle.rx_books_store.specs.Store.{slot_keys, standing_rows}
 use Rattle.rx_books_store.proofs.ReadLists.{books-lists}
 use Rattle.rx_books_store.proofs.Written.{claims-map}
@@ -85,3 +92,31 @@ quick-read text p above lengths (Some q) lists measured books none sums version 
       (subst (λ (ls : List ℕ). HoldsLines text q.above ls p.ledger.rows) (sym each)
       (subst (λ (n : ℕ). HoldsLines text n lengths p.ledger.rows) (sym begin) held));
 }
+
+-- what an Ok result holds, as an option
+made_ok : {X E : Type 0} (P : X → Type 0) (r : Result X E) → IfOk r P → IfSome (result_ok r) P
+made_ok P (Ok x) is = is
+made_ok P (Err e) is = tt
+
+pub if_made : {X E : Type 0} (P : X → Type 0) (r : Result X E) (x : X) → Some x ≡ result_ok r → IfOk r P → P x
+if_made P r x made is = subst (λ o. IfSome o P) (sym made) (made_ok P r is)
+
+-- books of the opening lists of a text, where its figures are the sums, are read quickly
+pub quick-opened : (text : List ℕ) (lists : Lists) (opening : Ledger) (head : Head) (rest : Rest) (b : OpenParts) (r : Option Quick)
+    → AreLists text (printed_lists lists) → AreMeasured (printed_lists lists) lists.above lists.lengths.items
+    → opening ≡ record { members = lists.members; rows = lists.rows } → head ≡ lists.head → rest ≡ rest_of lists
+    → b.books ≡ record { period = head.period; ledger = opening } → b.slots ≡ []
+    → IfSome r (λ q. q ≡ record { books = b; version = head.version; above = rest.above; lengths = rest.lengths })
+    → IfSome r (λ q. AreSummed (printed_with head.version b.books rest)) → IfSome r (IsQuick text)
+quick-opened text lists opening head rest b None are measured whole first others books none made sums = tt
+quick-opened text lists opening head rest b (Some q) are measured whole first others books none made sums =
+    let p = printed_lists lists in
+    let same : b.books ≡ unsummed p = books ∙ (λ i. record { period = (first i).period; ledger = whole i }) in
+    let prints : printed_with head.version b.books rest ≡ p = λ i. printed_with (first i).version (same i) (others i) in
+    quick-read text p lists.above lists.lengths.items (Some q) are measured
+    (ap (λ (x : Quick). x.books.books) made ∙ same)
+    (ap (λ (x : Quick). x.books.slots) made ∙ none)
+    (subst AreSummed prints sums)
+    (ap (λ (x : Quick). x.version) made ∙ ap (λ (h : Head). h.version) first)
+    (ap (λ (x : Quick). x.above) made ∙ ap (λ (x : Rest). x.above) others)
+    (ap (λ (x : Quick). x.lengths.items) made ∙ ap (λ (x : Rest). x.lengths.items) others)

@@ -1,6 +1,8 @@
+pub mod Added
 pub mod Adding
 pub mod BooksFile
 pub mod Columns
+pub mod Cut
 pub mod FamilyOrder
 pub mod Figured
 pub mod KeptFigures

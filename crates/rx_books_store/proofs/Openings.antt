@@ -86,7 +86,7 @@ AreHolders-push ms rs hs r h are at = record {
 
 -- ---- the rows of another run
 
-get-left : {X : Type 0} (xs ys : List X) (i : ℕ) → i < length xs → slice_get (xs ++ ys) i ≡ slice_get xs i
+pub get-left : {X : Type 0} (xs ys : List X) (i : ℕ) → i < length xs → slice_get (xs ++ ys) i ≡ slice_get xs i
 get-left [] ys i lt = absurd (omega arith)
 get-left (x ∷ xs) ys zero lt = refl
 get-left (x ∷ xs) ys (suc i) lt = get-left xs ys i (omega arith)

@@ -185,8 +185,21 @@ impl Books {
         }
     }
 
+    // Whether these are the same books.
+    fn is_same(&self, other: &Books) -> bool
+        requires ours { IsLedger self.now.ledger }
+        requires theirs { IsLedger other.now.ledger }
+        ensures { IsTrue result ↔ (self.now ≡ other.now) }
+    {
+        match (self.plain(), other.plain()) {
+            (Some(ours), Some(theirs)) => ours.is_same(theirs),
+            _ => self.whole().is_same(&other.whole()),
+        }
+    }
+
     // All of them, in whichever form.
     fn whole(&self) -> Whole<'_>
+        requires { IsLedger self.now.ledger }
         ensures { result ≡ self.now }
     {
         match &self.form {
@@ -207,10 +220,7 @@ impl PartialEq for Books {
     fn eq(&self, other: &Books) -> bool
         ensures { IsTrue result ↔ (self.now ≡ other.now) }
     {
-        match (self.plain(), other.plain()) {
-            (Some(ours), Some(theirs)) => ours.is_same(theirs),
-            _ => self.whole().is_same(&other.whole()),
-        }
+        self.period() == other.period() && self.is_same(other)
     }
 }
 

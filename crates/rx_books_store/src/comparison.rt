@@ -2,6 +2,7 @@ ghost use Rattle.std.specs.Prelude.{◌≡◌, ◌↔◌, IsTrue};
 ghost use Rattle.std.specs.List.{list_all};
 ghost use Rattle.rx_fields.specs.Order.{id_cmp, key_cmp};
 ghost use Rattle.rx_sorted.specs.Ascending.{IsAscending};
+ghost use Rattle.rx_ledger.specs.Ledger.{IsLedger};
 ghost use Rattle.rx_books_family.specs.Amended.{is_among, members_held};
 ghost use Rattle.rx_books_family.specs.Shelves.{place_family, place_key, row_held};
 ghost use Rattle.rx_books_store.specs.WholeBooks.{are_members_in, are_one, are_rows_in, has_if_row, has_unkeyed, has_unplaced, is_within};
@@ -17,21 +18,23 @@ impl<'a> Whole<'a> {
     pub(crate) fn is_same(&self, other: &Whole<'_>) -> bool
         ensures { IsTrue result ↔ (self.now ≡ other.now) }
     {
-        self.is_in_order();
-        other.is_in_order();
         self.are_one(other)
     }
 
     // Whether each has what the other has.
     fn are_one(&self, other: &Whole<'_>) -> bool
-        ensures { result ≡ are_one self.now other.now }
+        ensures value { result ≡ are_one self.now other.now }
+        ensures ours { IsLedger self.now.ledger }
+        ensures theirs { IsLedger other.now.ledger }
     {
         self.is_within(other) && other.is_within(self)
     }
 
     // Whether the other has the same period, each member and each row.
     fn is_within(&self, other: &Whole<'_>) -> bool
-        ensures { result ≡ is_within self.now other.now }
+        ensures value { result ≡ is_within self.now other.now }
+        ensures ours { IsLedger self.now.ledger }
+        ensures theirs { IsLedger other.now.ledger }
     {
         self.period() == other.period() && self.are_members_in(other) && self.are_rows_in(other)
     }

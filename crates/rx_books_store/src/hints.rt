@@ -2,12 +2,15 @@ ghost use Rattle.std.specs.Prelude.{◌≡◌, ◌<◌, ◌^◌, IfSome, IsTrue,
 ghost use Rattle.rx_sorted.specs.Ascending.{IsAt, contains_key};
 ghost use Rattle.rx_ledger.specs.Members.{member_cmp, member_key};
 
-use rx_ledger::{Member, MemberKey};
+use rx_ledger::{Member, MemberKey, Row};
 use rx_sorted::Ascending;
 use std::alloc::Global;
 
 // How many places a member is looked for at, before the members are searched.
 const TRIES: u64 = 8;
+
+/// How many rows' members are looked up ahead.
+pub(crate) const AHEAD: usize = 32;
 
 // A place at which no member is.
 const EMPTY: u32 = u32::MAX;
@@ -60,6 +63,32 @@ impl Places {
     {
         let place = self.place_of(members, key)?;
         u32::try_from(place).ok()
+    }
+
+    /// The same, where a place is looked at before the others.
+    pub(crate) fn place_near(
+        &self,
+        members: &Ascending<Member>,
+        near: u32,
+        key: &MemberKey,
+    ) -> Option<u32>
+        ensures { IfSome result (IsAt member_cmp member_key members.now key.now) }
+    {
+        if is_at(members.as_slice(), near as usize, key) {
+            return Some(near);
+        }
+        self.kept_place_of(members, key)
+    }
+
+    /// Where the members of the first of these rows probably are. No guess hangs on another, so the processor waits for many
+    /// of them at once.
+    pub(crate) fn guesses(&self, rows: &[Row]) -> [u32; AHEAD] {
+        let mut guesses = [EMPTY; AHEAD];
+        for (guess, row) in guesses.iter_mut().zip(rows) {
+            let at = nth_try(self.places.len(), hash_of(&row.member()), 0);
+            *guess = self.places.get(at).copied().unwrap_or(EMPTY);
+        }
+        guesses
     }
 
     // The place of a member, where it is at one of those that its hash gives.

@@ -1,9 +1,10 @@
 ghost use Rattle.std.specs.Prelude.{◌≡◌, ◌<◌, ◌^◌, IfOk, IfSome, length};
 ghost use Rattle.std.specs.List.{AllZip, flat_map};
 ghost use Rattle.std.specs.Vec.{vec_items};
+ghost use Rattle.rx_books_store.specs.Held.{AreHeld};
 ghost use Rattle.rx_books_store.specs.Store.{AreHolders};
 
-use crate::hints::Places;
+use crate::hints::{AHEAD, Places};
 use rayon::prelude::*;
 use rx_fields::Memory;
 use rx_ledger::{Member, Row};
@@ -18,7 +19,7 @@ pub(crate) fn holders_of(
     members: &Ascending<Member>,
     rows: &Runs<Row>,
 ) -> Option<Vec<u32>>
-    ensures { IfSome result (λ holders. AreHolders members.now rows.now holders.items) }
+    ensures { IfSome result (λ holders. AreHeld members.now rows.now holders.items) }
 {
     let mut holders = Vec::with_capacity(alloc, rows.len()).ok()?;
     let runs = rows.runs();
@@ -39,7 +40,7 @@ pub(crate) fn holders_in_parts<R: Threads + Sync>(
     members: &Ascending<Member>,
     rows: &Runs<Row>,
 ) -> Option<Vec<u32>>
-    ensures { IfSome result (λ holders. AreHolders members.now rows.now holders.items) }
+    ensures { IfSome result (λ holders. AreHeld members.now rows.now holders.items) }
 {
     let found = found_in_parts(rt, alloc, places, members, rows.runs())?;
     joined(alloc, rows.len(), &found)
@@ -100,8 +101,12 @@ fn holders_in(
     ensures { IfSome result (λ holders. AreHolders members.now run.now holders.items) }
 {
     let mut holders = Vec::with_capacity(alloc, run.len()).ok()?;
-    for row in run {
-        let place = places.kept_place_of(members, &row.member())?;
+    let mut guesses = [0; AHEAD];
+    for (at, row) in run.iter().enumerate() {
+        if at % AHEAD == 0 {
+            guesses = places.guesses(&run[at..]);
+        }
+        let place = places.place_near(members, guesses[at % AHEAD], &row.member())?;
         let Ok(()) = holders.push(place) else {
             return None;
         };
@@ -114,8 +119,7 @@ pub(crate) fn one_run(alloc: Global, rows: Ascending<Row>) -> Result<Runs<Row>, 
     ensures { IfOk result (λ runs. runs ≡ rows) }
 {
     let mut runs = Vec::new(alloc);
-    let _rows = rows.as_slice();
-    if !rows.is_empty() {
+    if !rows.as_slice().is_empty() {
         runs.push(rows.into_vec())?;
     }
     match Runs::from_runs(runs) {

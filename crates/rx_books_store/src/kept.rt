@@ -61,7 +61,6 @@ impl Kept {
         requires room { begin + sum (slice_range self.now.lengths.items first last) ≤ length (kept_text self.now) }
         ensures { result ≡ begin + sum (slice_range self.now.lengths.items first last) }
     {
-        let _few = self.text.len();
         begin + bytes_of(&self.lengths[first..last])
     }
 }

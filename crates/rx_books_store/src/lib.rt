@@ -16,7 +16,8 @@
 //! these, its own places stand instead (`specs/WholeBooks.antt`).
 //!
 //! - `books`: `Books`, in one of two forms; `open_books`: `OpenBooks`, with the members, families and slots at their places
-//! - `plain`: books of the first form made of a ledger, copied and compared; `figures`, `amounts`, `sums`: their totals
+//! - `plain`: books of the first form made of a ledger, copied and compared; `figures`, `amounts`, `sums`, `opening_sums`: their
+//!   totals
 //! - `opening`: the lists that books were made from, and `kept`: the text that they were read from
 //! - `holders`, `hints`, `search`: where members and rows are in these lists
 //! - `slot`, `slots`: what stands under a fill key of the batch; `standing`: a pass over the rows that stand
@@ -43,6 +44,7 @@ mod law;
 mod lent;
 mod open_books;
 mod opening;
+mod opening_sums;
 mod parts;
 mod patching;
 mod plain;

@@ -1,12 +1,13 @@
-ghost use Rattle.std.specs.Prelude.{◌≡◌, ◌<◌, ◌^◌, ◌↔◌, IfOk, IfSome, IfNone, IsTrue, Some, true, false, is_some, length, slice_get};
+ghost use Rattle.std.specs.Prelude.{◌≡◌, ◌<◌, ◌≤◌, ◌^◌, ◌↔◌, IfOk, IfSome, IfNone, IsTrue, Some, true, false, is_some, length, slice_get};
 ghost use Rattle.std.specs.List.{All, Contains};
 ghost use Rattle.std.specs.Option.{option_copied};
+ghost use Rattle.rx_fields.specs.declared.limits.TheConstants.{MOST_CENTS};
 ghost use Rattle.rx_fields.specs.Order.{key_cmp};
 ghost use Rattle.rx_sorted.specs.Ascending.{IsAscending, IsAt};
 ghost use Rattle.rx_ledger.specs.Ledger.{IsLedger, is_listed, is_taken, row_under};
 ghost use Rattle.rx_ledger.specs.Members.{member_cmp, member_key};
 ghost use Rattle.rx_ledger.specs.Rows.{member_of_row};
-ghost use Rattle.rx_ledger.specs.Sums.{deductible, family_deductible, out_of_pocket};
+ghost use Rattle.rx_ledger.specs.Sums.{deductible, family_deductible, out_of_pocket, paid_by_patient};
 ghost use Rattle.rx_books_store.specs.BooksText.{families_of};
 ghost use Rattle.rx_books_store.specs.LedgerBooks.{has_members};
 ghost use Rattle.rx_books_store.specs.OpenBooks.{open_with, open_without};
@@ -214,6 +215,7 @@ impl OpenBooks {
     pub fn standing(&self) -> Standing<'_>
         ensures value { result ≡ self.now.books.ledger }
         ensures within { IsLedger self.now.books.ledger }
+        ensures small { All (λ r. paid_by_patient r ≤ MOST_CENTS) self.now.books.ledger.rows }
         ensures few { length self.now.books.ledger.rows < 2 ^ 64 }
     {
         Standing::of(&self.opening, self.changed.as_slice())
@@ -285,8 +287,6 @@ impl OpenBooks {
         } = self;
         let fresh = fresh_slots(alloc, &opening, keys)?;
         let changed = merged(alloc, fresh, changed.as_slice())?;
-        let _rows = opening.rows().len();
-        let _slots = changed.len();
         Ok(OpenBooks {
             period,
             opening,

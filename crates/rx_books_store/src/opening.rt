@@ -11,6 +11,7 @@ ghost use Rattle.rx_books_store.specs.Kept.{IsKept};
 ghost use Rattle.rx_books_store.specs.LedgerBooks.{has_members};
 ghost use Rattle.rx_books_store.specs.Opening.{name_of, names_of};
 ghost use Rattle.rx_books_store.specs.Standing.{IsNextMarked, is_marked};
+ghost use Rattle.rx_books_store.specs.Held.{AreHeld};
 ghost use Rattle.rx_books_store.specs.Store.{AreHolders, AreHomes};
 
 use crate::hints::Places;
@@ -94,7 +95,7 @@ impl Opening {
         places: Places,
     ) -> Result<Opening, Memory>
         requires few { length members < 2 ^ 32 }
-        requires held { AreHolders members rows holders.items }
+        requires held { AreHeld members rows holders.items }
         ensures value { IfOk result (λ opening. opening ≡ record { members = members; rows = rows }) }
         ensures within { IfOk result (λ opening. IsLedger opening) }
     {
@@ -185,8 +186,7 @@ impl Opening {
         requires { member < length self.now.members }
         ensures { result ≡ member }
     {
-        let _members = self.members();
-        member as u32
+        self.lists.kept_place(member)
     }
 
     /// The place of the family of the member at a place.
@@ -203,6 +203,13 @@ impl Opening {
         ensures { IfSome (slice_get self.now.rows row) (λ r. IsAt member_cmp member_key self.now.members (member_of_row r) result) }
     {
         self.lists.holder(row)
+    }
+
+    /// For each row the place of its member.
+    pub(crate) fn holders(&self) -> &[u32]
+        ensures { AreHolders self.now.members self.now.rows result.now }
+    {
+        self.lists.holders()
     }
 
     /// The place of the first row from a place on whose member has a mark; how many rows there are if none has.
@@ -223,12 +230,11 @@ impl Lists {
         places: Places,
     ) -> Result<Lists, Memory>
         requires few { length members < 2 ^ 32 }
-        requires held { AreHolders members rows holders.items }
+        requires held { AreHeld members rows holders.items }
         ensures value { IfOk result (λ lists. lists ≡ record { members = members; rows = rows }) }
         ensures within { IfOk result (λ lists. IsLedger lists) }
     {
         let (families, homes) = homes_of(alloc, members.as_slice())?;
-        let _rows = rows.runs();
         Ok(Lists {
             members,
             rows,
@@ -277,6 +283,14 @@ impl Lists {
         self.places.place_of(&self.members, key)
     }
 
+    fn kept_place(&self, member: usize) -> u32
+        requires { member < length self.now.members }
+        ensures { result ≡ member }
+    {
+        prove!(member < self.homes.len());
+        member as u32
+    }
+
     fn home(&self, member: usize) -> usize
         requires { member < length self.now.members }
         ensures { IfSome (slice_get self.now.members member) (λ m. slice_get (families_of self.now.members) result ≡ Some m.key.family) }
@@ -289,6 +303,12 @@ impl Lists {
         ensures { IfSome (slice_get self.now.rows row) (λ r. IsAt member_cmp member_key self.now.members (member_of_row r) result) }
     {
         self.holders[row] as usize
+    }
+
+    fn holders(&self) -> &[u32]
+        ensures { AreHolders self.now.members self.now.rows result.now }
+    {
+        &self.holders
     }
 
     fn next_marked(&self, from: usize, marks: &[bool]) -> usize

@@ -64,11 +64,11 @@ struct Run {
 
 // The rows with lesser keys, from a row on.
 fn run_before(rows: &Runs<Row>, row: usize, key: &Key) -> Run
-    requires { AreBefore key_cmp row_key rows.now key.now row }
+    requires rise { IsAscending key_cmp row_key rows.now }
+    requires before { AreBefore key_cmp row_key rows.now key.now row }
     ensures { IsRun rows.now row key.now result.last result.next }
 {
-    let _few = rows.len();
-    match place_near(rows, guess_from(rows, row, key), key) {
+    match place_near(rows, guess_from(rows, rows.len(), row, key), key) {
         Ok(at) => Run {
             last: at,
             next: at + 1,

@@ -1,4 +1,4 @@
-ghost use Rattle.std.specs.Prelude.{◌≡◌, ◌↔◌, IfOk, IsTrue};
+ghost use Rattle.std.specs.Prelude.{◌≡◌, ◌+◌, ◌<◌, ◌^◌, ◌↔◌, [], IfOk, IsTrue, length};
 ghost use Rattle.std.specs.List.{All, list_all};
 ghost use Rattle.std.specs.Option.{option_copied};
 ghost use Rattle.rx_fields.specs.Order.{id_cmp};
@@ -7,13 +7,14 @@ ghost use Rattle.rx_ledger.specs.Ledger.{IsLedger, row_under};
 ghost use Rattle.rx_books_text.specs.Printed.{total_family};
 ghost use Rattle.rx_books_store.specs.BooksText.{families_of};
 ghost use Rattle.rx_books_store.specs.Figures.{has_total};
-ghost use Rattle.rx_books_store.specs.Store.{IsSlot, slot_keys, standing};
+ghost use Rattle.rx_books_store.specs.Store.{IsSlot, IsStore, slot_keys, standing};
 
 use crate::figures::has_total;
 use crate::hints::Places;
 use crate::holders::{holders_of, one_run};
 use crate::open_books::OpenBooks;
 use crate::opening::{FamilyName, Opening};
+use crate::opening_sums::opening_sums_in_parts;
 use crate::slot::KeySlot;
 use crate::standing::Standing;
 use crate::sums::{Figures, summed};
@@ -22,6 +23,7 @@ use rx_fields::{Key, Memory, Period};
 use rx_ledger::{Ledger, Row};
 use rx_sorted::Ascending;
 use std::alloc::Global;
+use std::thread::Threads;
 
 impl OpenBooks {
     /// The books of a ledger, each total summed once over the rows of the period.
@@ -49,22 +51,52 @@ impl OpenBooks {
     ) -> Result<OpenBooks, Memory>
         requires in_order { IsLedger (standing opening changed) }
         requires own { All (IsSlot opening.members) changed }
+        requires few { length opening.rows + length changed < 2 ^ 64 }
         ensures books { IfOk result (λ b. b.books ≡ record { period = period; ledger = standing opening changed }) }
         ensures slots { IfOk result (λ b. b.slots ≡ slot_keys changed) }
+    {
+        let figures = summed(alloc, period, &opening, &changed)?;
+        Ok(OpenBooks::with_figures(period, opening, changed, figures))
+    }
+
+    /// The books of the opening lists, with no slot, the rows of each run added up by a thread of its own.
+    pub(crate) fn added_up_in_parts<R: Threads + Sync>(
+        rt: &R,
+        alloc: Global,
+        period: Period,
+        opening: Opening,
+    ) -> Result<OpenBooks, Memory>
+        ensures books { IfOk result (λ b. b.books ≡ record { period = period; ledger = opening }) }
+        ensures slots { IfOk result (λ b. b.slots ≡ []) }
+    {
+        let figures = opening_sums_in_parts(rt, alloc, period, &opening)?;
+        Ok(OpenBooks::with_figures(period, opening, Ascending::new(alloc), figures))
+    }
+
+    // The books of what stands, with these figures.
+    fn with_figures(
+        period: Period,
+        opening: Opening,
+        changed: Ascending<KeySlot>,
+        figures: Figures,
+    ) -> OpenBooks
+        requires figures { IsStore period opening changed figures.deductibles.items figures.out_of_pockets.items
+            figures.family_deductibles.items }
+        ensures { result ≡ record { books = record { period = period; ledger = standing opening changed }; slots = slot_keys changed } }
     {
         let Figures {
             deductibles,
             out_of_pockets,
             family_deductibles,
-        } = summed(alloc, period, &opening, &changed)?;
-        Ok(OpenBooks {
+        } = figures;
+        OpenBooks {
             period,
             opening,
             changed,
             deductibles,
             out_of_pockets,
             family_deductibles,
-        })
+        }
     }
 
     /// The same books, with the totals of this period.

@@ -1,5 +1,6 @@
 use crate::open_books::OpenBooks;
-use rx_books_text::Version;
+use rx_books_text::{Head, TotalLine, Version};
+use rx_sorted::Ascending;
 
 /// Books that were read quickly, and where the lines of their claims are in the text that they were read from: below this
 /// many bytes of it, and each has this many.
@@ -11,16 +12,25 @@ pub(crate) struct Quick {
     lengths: Vec<u8>,
 }
 
+/// What a text has besides its head, its members and its claims, and where the lines of its claims are.
+#[derive(Debug, Drop)]
+pub(crate) struct Rest {
+    deductibles: Vec<u128>,
+    above: usize,
+    lengths: Vec<u8>,
+    totals: Ascending<TotalLine>,
+}
+
 ghost use Rattle.std.specs.Prelude.{◌≡◌, ◌<◌, ◌^◌, [], IfSome, IsTrue, length, map};
 ghost use Rattle.std.specs.Arc.{arc_value};
 ghost use Rattle.rx_books_text.specs.Fault.{Gives};
-ghost use Rattle.rx_books_scan.specs.Parts.{printed_lists};
+ghost use Rattle.rx_ledger.specs.Ledger.{IsLedger};
 ghost use Rattle.rx_books_store.specs.BooksText.{deductibles_of, families_of, from_three, total_of};
-ghost use Rattle.rx_books_store.specs.Figures.{books_of, unsummed};
+ghost use Rattle.rx_books_store.specs.Figures.{books_of};
+ghost use Rattle.rx_books_store.specs.Held.{AreHeld};
 ghost use Rattle.rx_books_store.specs.Kept.{IsKept};
 ghost use Rattle.rx_books_store.specs.Lists.{AreSummed, totals_in};
-ghost use Rattle.rx_books_store.specs.Quick.{IsQuick};
-ghost use Rattle.rx_books_store.specs.Store.{AreHolders};
+ghost use Rattle.rx_books_store.specs.Quick.{IsQuick, printed_with, rest_of};
 
 use crate::books::Books;
 use crate::hints::Places;
@@ -28,8 +38,7 @@ use crate::holders::{holders_in_parts, holders_of};
 use crate::kept::Kept;
 use crate::opening::{FamilyName, Opening};
 use rx_books_scan::{Lists, read_lists, read_lists_in_parts};
-use rx_books_text::{BooksFault, TotalLine};
-use rx_sorted::Ascending;
+use rx_books_text::BooksFault;
 use std::alloc::Global;
 use std::sync::Arc;
 use std::thread::Threads;
@@ -41,9 +50,11 @@ impl Quick {
         ensures { IfSome result (IsQuick text.now) }
     {
         let lists = read_lists(alloc, text)?;
-        let places = Places::of(alloc, lists.members.as_slice())?;
-        let holders = holders_of(alloc, &places, &lists.members, &lists.rows)?;
-        Quick::of_lists(alloc, lists, holders, places)
+        let (places, holders) = placed(alloc, &lists)?;
+        let (opening, head, rest) = opened(alloc, lists, holders, places)?;
+        let slots = Ascending::new(alloc);
+        let books = OpenBooks::added_up(alloc, head.period, opening, slots).ok()?;
+        Quick::of_books(books, head.version, rest)
     }
 
     /// The same, by a thread for each of this many parts of the lines; one part is read on the calling thread.
@@ -59,40 +70,36 @@ impl Quick {
             return Quick::read(alloc, text);
         }
         let lists = read_lists_in_parts(rt, alloc, parts, text)?;
-        let places = Places::of(alloc, lists.members.as_slice())?;
-        let holders = holders_in_parts(rt, alloc, &places, &lists.members, &lists.rows)?;
-        Quick::of_lists(alloc, lists, holders, places)
+        let (places, holders) = placed_in_parts(rt, alloc, &lists)?;
+        let (opening, head, rest) = opened(alloc, lists, holders, places)?;
+        let books = OpenBooks::added_up_in_parts(rt, alloc, head.period, opening).ok()?;
+        Quick::of_books(books, head.version, rest)
     }
 
-    // The books of these lists, where each figure is the sum. None where one isn't, or a family has no total line, or where
+    // These books, where each figure of the text is the sum. None where one isn't, or a family has no total line, or where
     // memory runs out.
-    fn of_lists(alloc: Global, lists: Lists, holders: Vec<u32>, places: Places) -> Option<Quick>
-        requires few { length lists.members < 2 ^ 32 }
-        requires held { AreHolders lists.members lists.rows holders.items }
-        ensures books { IfSome result (λ quick. quick.books.books ≡ unsummed (printed_lists lists)) }
-        ensures none_open { IfSome result (λ quick. quick.books.slots ≡ []) }
-        ensures sums { IfSome result (λ quick. AreSummed (printed_lists lists)) }
-        ensures version { IfSome result (λ quick. quick.version ≡ lists.head.version) }
-        ensures above { IfSome result (λ quick. quick.above ≡ lists.above) }
-        ensures lengths { IfSome result (λ quick. quick.lengths.items ≡ lists.lengths.items) }
+    fn of_books(books: OpenBooks, version: Version, rest: Rest) -> Option<Quick>
+        requires { IsLedger books.books.ledger }
+        ensures made { IfSome result (λ quick. quick ≡ record {
+          books = books;
+          version = version;
+          above = rest.above;
+          lengths = rest.lengths;
+        }) }
+        ensures sums { IfSome result (λ _. AreSummed (printed_with version books.books rest)) }
     {
-        let Lists {
-            head,
-            members,
+        let Rest {
             deductibles,
-            rows,
             above,
             lengths,
             totals,
-        } = lists;
-        let opening = Opening::of(alloc, members, rows, holders, places).ok()?;
-        let books = OpenBooks::added_up(alloc, head.period, opening, Ascending::new(alloc)).ok()?;
-        if !books.prints(head.version, &deductibles, totals.as_slice()) {
+        } = rest;
+        if !books.prints(version, &deductibles, totals.as_slice()) {
             return None;
         }
         Some(Quick {
             books,
-            version: head.version,
+            version,
             above,
             lengths,
         })
@@ -117,6 +124,64 @@ impl Quick {
             Version::One | Version::Two => books.close(),
         }
     }
+}
+
+// Where the members of these lists are, and for each row the place of its member.
+fn placed(alloc: Global, lists: &Lists) -> Option<(Places, Vec<u32>)>
+    ensures few { IfSome result (λ _. length lists.now.members < 2 ^ 32) }
+    ensures held { IfSome result (λ found. AreHeld lists.now.members lists.now.rows found.1.items) }
+{
+    let places = Places::of(alloc, lists.members.as_slice())?;
+    let holders = holders_of(alloc, &places, &lists.members, &lists.rows)?;
+    Some((places, holders))
+}
+
+// The same, where the rows of each run are looked at by a thread of its own.
+fn placed_in_parts<R: Threads + Sync>(
+    rt: &R,
+    alloc: Global,
+    lists: &Lists,
+) -> Option<(Places, Vec<u32>)>
+    ensures few { IfSome result (λ _. length lists.now.members < 2 ^ 32) }
+    ensures held { IfSome result (λ found. AreHeld lists.now.members lists.now.rows found.1.items) }
+{
+    let places = Places::of(alloc, lists.members.as_slice())?;
+    let holders = holders_in_parts(rt, alloc, &places, &lists.members, &lists.rows)?;
+    Some((places, holders))
+}
+
+// The opening lists of these lists, with the head and the rest of these.
+fn opened(
+    alloc: Global,
+    lists: Lists,
+    holders: Vec<u32>,
+    places: Places,
+) -> Option<(Opening, Head, Rest)>
+    requires few { length lists.members < 2 ^ 32 }
+    requires held { AreHeld lists.members lists.rows holders.items }
+    ensures opening { IfSome result (λ parts. parts.0 ≡ record { members = lists.members; rows = lists.rows }) }
+    ensures in_order { IfSome result (λ parts. IsLedger parts.0) }
+    ensures few { IfSome result (λ parts. length parts.0.rows < 2 ^ 63) }
+    ensures head { IfSome result (λ parts. parts.1 ≡ lists.head) }
+    ensures rest { IfSome result (λ parts. parts.2 ≡ rest_of lists) }
+{
+    let Lists {
+        head,
+        members,
+        deductibles,
+        rows,
+        above,
+        lengths,
+        totals,
+    } = lists;
+    let opening = Opening::of(alloc, members, rows, holders, places).ok()?;
+    let rest = Rest {
+        deductibles,
+        above,
+        lengths,
+        totals,
+    };
+    Some((opening, head, rest))
 }
 
 impl Books {

@@ -11,9 +11,9 @@ use rx_ledger::Row;
 use rx_sorted::Runs;
 
 /// About where the row with the key is, or where it would go: it is looked for from a place on, in steps that double, as
-/// if all rows before had lesser keys. It promises nothing: what is near is compared.
-pub(crate) fn guess_from(rows: &Runs<Row>, from: usize, key: &Key) -> usize {
-    guess(rows.len(), from, |place| is_before(rows, place, key))
+/// if all rows before had lesser keys. `len` is how many rows there are. It promises nothing: what is near is compared.
+pub(crate) fn guess_from(rows: &Runs<Row>, len: usize, from: usize, key: &Key) -> usize {
+    guess(len, from, |place| is_before(rows, place, key))
 }
 
 /// The same of the slot that has the key.
@@ -45,6 +45,7 @@ fn guess<F: Fn(usize) -> bool>(len: usize, from: usize, is_before: F) -> usize
 
 /// Where the row with the key is, or where it would go: at this place, or else it is searched for.
 pub(crate) fn place_near(rows: &Runs<Row>, near: usize, key: &Key) -> Result<usize, usize>
+    requires { IsAscending key_cmp row_key rows.now }
     ensures found { IfOk result (IsAt key_cmp row_key rows.now key.now) }
     ensures absent { IfErr result (IsGap key_cmp row_key rows.now key.now) }
 {
@@ -86,11 +87,11 @@ fn is_at(rows: &Runs<Row>, place: usize, key: &Key) -> bool
 
 // Whether there are this many rows, all with lesser keys: the last of them decides.
 fn are_below(rows: &Runs<Row>, end: usize, key: &Key) -> bool
+    requires { IsAscending key_cmp row_key rows.now }
     ensures within { IsTrue result → end ≤ length rows.now }
     ensures below { IsTrue result → (i : ℕ) → (d : Row) → i < end
         → key_cmp (row_key (slice_index_or rows.now i d)) key.now ≡ Less }
 {
-    let _in_order = rows.runs();
     if end == 0 {
         return true;
     }
@@ -99,10 +100,10 @@ fn are_below(rows: &Runs<Row>, end: usize, key: &Key) -> bool
 
 // Whether all rows from a place on have greater keys: the first of them decides.
 fn are_above(rows: &Runs<Row>, from: usize, key: &Key) -> bool
+    requires { IsAscending key_cmp row_key rows.now }
     ensures { IsTrue result → (i : ℕ) → (d : Row) → from ≤ i → i < length rows.now
         → key_cmp (row_key (slice_index_or rows.now i d)) key.now ≡ Greater }
 {
-    let _in_order = rows.runs();
     if from >= rows.len() {
         return true;
     }

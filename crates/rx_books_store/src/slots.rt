@@ -1,4 +1,4 @@
-ghost use Rattle.std.specs.Prelude.{◌≡◌, ◌+◌, ◌<◌, ◌≤◌, ◌∷◌, [], IfNone, IfOk, IfSome, drop, length};
+ghost use Rattle.std.specs.Prelude.{◌≡◌, ◌+◌, ◌<◌, ◌≤◌, ◌^◌, ◌∷◌, [], IfNone, IfOk, IfSome, drop, length};
 ghost use Rattle.std.specs.List.{All};
 ghost use Rattle.rx_fields.specs.Order.{key_cmp};
 ghost use Rattle.rx_sorted.specs.Ascending.{IsAscending, put_all};
@@ -23,11 +23,14 @@ pub(crate) fn fresh_slots(
     ensures keys { IfOk result (λ slots. slot_keys slots.items ≡ keys.now) }
     ensures own { IfOk result (λ slots. All (IsSlot opening.now.members) slots.items) }
     ensures there { IfOk result (λ slots. All (λ s. row_under opening.now s.key ≡ s.held) slots.items) }
+    ensures few { IfOk result (λ _. length opening.now.rows < 2 ^ 63) }
 {
     let mut slots = Vec::with_capacity(alloc, keys.len())?;
+    let rows = opening.rows();
+    let len = rows.len();
     let mut near = 0;
     for key in keys {
-        near = guess_from(opening.rows(), near, key);
+        near = guess_from(rows, len, near, key);
         let KeySlot { key, held, holder } = fresh_slot(opening, near, key);
         slots.push(KeySlot { key, held, holder })?;
     }
@@ -62,7 +65,8 @@ pub(crate) fn merged(
 ) -> Result<Ascending<KeySlot>, Memory>
     requires under { IsAscending key_cmp slot_key under.items }
     requires over { IsAscending key_cmp slot_key over.now }
-    ensures { IfOk result (λ slots. slots ≡ put_all key_cmp slot_key under.items over.now) }
+    ensures slots { IfOk result (λ slots. slots ≡ put_all key_cmp slot_key under.items over.now) }
+    ensures few { IfOk result (λ slots. length slots < 2 ^ 63) }
 {
     if over.is_empty() {
         return match Ascending::from_vec(under) {
@@ -81,7 +85,8 @@ fn merged_lists(
 ) -> Result<Ascending<KeySlot>, Memory>
     requires under { IsAscending key_cmp slot_key under.now }
     requires over { IsAscending key_cmp slot_key over.now }
-    ensures { IfOk result (λ slots. slots ≡ put_all key_cmp slot_key under.now over.now) }
+    ensures slots { IfOk result (λ slots. slots ≡ put_all key_cmp slot_key under.now over.now) }
+    ensures few { IfOk result (λ slots. length slots < 2 ^ 63) }
 {
     let mut slots = Vec::with_capacity(alloc, under.len().saturating_add(over.len()))?;
     let (mut low, mut high) = (0, 0);

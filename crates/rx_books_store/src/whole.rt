@@ -56,18 +56,10 @@ impl<'a> Whole<'a> {
 
     /// The books without any places.
     pub(crate) fn alone(books: &'a OpenBooks) -> Whole<'a>
+        requires { IsLedger books.now.books.ledger }
         ensures { result ≡ books.now.books }
     {
-        // That the ledger is in order is known to the prover from this clause.
-        books.period();
         Whole::of(books, &[], &[])
-    }
-
-    /// The members and rows are in order, and the member of each row is listed.
-    pub(crate) fn is_in_order(&self)
-        ensures { IsLedger self.now.ledger }
-    {
-        let _books = &self.books;
     }
 
     /// The period that the totals are of.

@@ -1,5 +1,5 @@
 -- Worked cases of the definitions: keys of a plan sheet that are ignored, and warnings.
-use Rattle.std.proofs.Common.{◌≡◌, [], ◌∷◌, Some, pos, true, refl, codes}
+use Rattle.std.proofs.Common.{◌≡◌, [], ◌∷◌, ◌++◌, Some, pos, true, refl, codes}
 use Rattle.std.specs.Fmt.{digits}
 use Rattle.std.specs.Str.{is_utf8, chars}
 use Rattle.toml.proofs.OnLiterals.{toml_on_literals}
@@ -37,7 +37,8 @@ keys-of-all = refl
 -- warnings of books and of a batch
 other-period : period_text (codes "books.txt")
     (Some (record { first = record { year = 2025; month = 1; day = 1 }; last = record { year = 2025; month = 12; day = 31 } }))
-    ≡ codes "books.txt:1: warning: the books are of 20250101 to 20251231, another period than the sheet's\n"
+    ≡ codes "books.txt:1: warning: the books are of 20250101 to 20251231"
+    ++ codes ", another period than the sheet's: sums start again at 0, claims before it are rejected (81)\n"
 unfolding date_text digits_text
 other-period = refl
 

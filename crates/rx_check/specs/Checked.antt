@@ -14,3 +14,4 @@ pub record IsChecked (files : Files) (names : Names) (c : Checked) : Type 0 wher
   pub text_is : IsReport files names found (string_bytes c.text)
   pub refusal_is : c.refusal ≡ refusal_of found
   pub warnings_are : c.has_warnings ≡ not (warns_of_nothing found.warnings)
+  pub all_are : c.warnings ≡ found.warnings

@@ -1,33 +1,21 @@
 -- Text: the lines about the keys of a plan sheet that are ignored.
-use Rattle.std.specs.Prelude.{ℕ, Bool, nat_eq, if◌then◌else◌, List, [], ◌∷◌, ◌++◌, codes, map}
+use Rattle.std.specs.Prelude.{ℕ, if◌then◌else◌, List, [], ◌∷◌, ◌++◌, codes, map}
 use Rattle.std.specs.Prelude.{Option, Some, None, Result, Ok, Err, option_and_then}
-use Rattle.std.specs.Borrow.{Bor}
-use Rattle.std.specs.Cmp.Lexicographic.{pointwise}
-use Rattle.std.specs.List.{list_any}
 use Rattle.toml.specs.Data.{Data, Members, no_members, member, as_table, get_member}
 use Rattle.rx_sheet.specs.SheetText.{tree_of}
 use Rattle.rx_sheet.specs.declared.fault.SheetFault.{SheetFault}
+pub use Rattle.rx_diagnostics.specs.KnownKeys.{is_among, sheet_keys, texts_of}
 use Rattle.rx_check.specs.Likeness.{nearest}
 use Rattle.rx_check.specs.declared.ignored.Part.{Part}
 use Rattle.rx_check.specs.declared.ignored.Part.TheVariants as part
-use Rattle.rx_check.specs.declared.ignored.TheConstants.{DRUG_KEYS, KEYS, TIER_KEYS}
+use Rattle.rx_check.specs.declared.ignored.TheConstants.{DRUG_KEYS, TIER_KEYS}
 
-abbrev pub texts_of : List (Bor (List ℕ)) → List (List ℕ)
-texts_of texts = map (λ t. t.now) texts
-
--- the keys of the sheet itself, of a drug, and of a tier that is a table
-abbrev pub sheet_keys : List (List ℕ)
-sheet_keys = map (λ t. t.now) KEYS
-
+-- the keys of a drug, and of a tier that is a table
 abbrev pub drug_keys : List (List ℕ)
 drug_keys = map (λ t. t.now) DRUG_KEYS
 
 abbrev pub tier_keys : List (List ℕ)
 tier_keys = map (λ t. t.now) TIER_KEYS
-
--- a name is one of these
-abbrev pub is_among : List ℕ → List (List ℕ) → Bool
-is_among name names = list_any (λ known. pointwise nat_eq known name) names
 
 -- which key may be meant, or where a key of the sheet belongs
 abbrev pub hint : List ℕ → Option (List ℕ) → List ℕ

@@ -5,7 +5,10 @@ pub mod Found
 pub mod Ignored
 pub mod Inputs
 pub mod Likeness
+pub mod Numbered
 pub mod Refusals
 pub mod Report
+pub mod Stamping
+pub mod Stopping
 pub mod Warned
 pub mod Wording

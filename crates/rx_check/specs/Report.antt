@@ -61,7 +61,7 @@ ignored_text sheet ignored = flat_map (warning_line sheet) ignored
 abbrev pub period_words : Span → List ℕ
 period_words period =
     codes "the books are of " ++ (date_text period.first ++ (codes " to " ++ (date_text period.last
-    ++ codes ", another period than the sheet's")))
+    ++ codes ", another period than the sheet's: sums start again at 0, claims before it are rejected (81)")))
 
 -- the books' period, which stands in their first line
 abbrev pub period_text : List ℕ → Option Span → List ℕ
@@ -71,7 +71,8 @@ period_text books (Some period) = warning_line (books ++ codes ":1") (period_wor
 -- how many lines the books have, where these are many
 unfoldable pub lines_text : List ℕ → ℕ → List ℕ
 lines_text books lines =
-    line_if (has_many_lines lines) (warning_line books (decimal lines ++ (codes " lines of at most " ++ decimal MOST_LINES)))
+    line_if (has_many_lines lines)
+    (warning_line books (decimal lines ++ (codes " lines of at most " ++ (decimal MOST_LINES ++ codes " (age takes claims out)"))))
 
 -- the batch is of another plan
 unfoldable pub none_under_text : List ℕ → Bool → List ℕ

@@ -3,7 +3,7 @@
 use Rattle.std.specs.Prelude.{◌≡◌, ℕ, List, [], Option, Some, None, string_bytes}
 use Rattle.rx_batch.specs.declared.fault.BatchFault.{BatchFault}
 use Rattle.rx_books_text.specs.declared.fault.BooksFault.{BooksFault}
-use Rattle.rx_diagnostics.specs.BatchTexts.{batch_text, unread_batch_text}
+use Rattle.rx_diagnostics.specs.BatchTexts.{batch_mend, batch_text, unread_batch_text}
 use Rattle.rx_diagnostics.specs.BooksTexts.{books_telling, mended, unread_books_text}
 use Rattle.rx_diagnostics.specs.Places.{batch_place, books_place, unread_batch_place}
 use Rattle.rx_diagnostics.specs.SheetTexts.{unread_sheet_text}
@@ -27,4 +27,5 @@ AreBooksWords (Some text) f words =
 
 abbrev pub AreBatchWords : Option (List ℕ) → BatchFault → Words → Type 0
 AreBatchWords None f words = ArePlain (unread_batch_place f) (unread_batch_text f) words
-AreBatchWords (Some text) f words = ArePlain (batch_place text f) (batch_text text f) words
+AreBatchWords (Some text) f words =
+    (words.place ≡ batch_place text f) × ((string_bytes words.text ≡ batch_text text f) × (words.mend.now ≡ batch_mend text f))

@@ -4,6 +4,7 @@ ghost use Rattle.rx_check.specs.Checked.{IsChecked};
 use crate::findings::{Files, find};
 use crate::refusals::refusal;
 use crate::report_lines::{Names, report};
+use crate::warnings::Warnings;
 use rx_fields::Memory;
 use rx_switch::SwitchFault;
 use std::alloc::Global;
@@ -17,6 +18,8 @@ pub struct Checked {
     pub refusal: Option<SwitchFault>,
     /// Whether there are warnings.
     pub has_warnings: bool,
+    /// What is warned of.
+    pub warnings: Warnings,
 }
 
 /// Looks at the inputs of a run: the first fault of each, and warnings of what a run would take and an operator would hardly
@@ -32,11 +35,12 @@ pub fn check(alloc: Global, files: &Files<'_>, names: &Names<'_>) -> Result<Chec
     let found = find(alloc, files)?;
     let text = report(alloc, files, names, &found);
     let refusal = refusal(&found);
-    let has_warnings = !found.warnings.is_empty();
-    drop(found);
+    let warnings = found.warnings;
+    let has_warnings = !warnings.is_empty();
     Ok(Checked {
         text: text?,
         refusal,
         has_warnings,
+        warnings,
     })
 }

@@ -1,30 +1,15 @@
 ghost use Rattle.std.specs.Prelude.{◌≡◌, ◌++◌, IfOk, OnOk, map, string_bytes};
 ghost use Rattle.std.specs.Option.{option_copied, option_map};
 ghost use Rattle.toml.specs.View.{table_view, view};
-ghost use Rattle.rx_check.specs.Ignored.{drug_lines, each_of, hint, ignored_line, ignored_lines, is_among, line_with};
+ghost use Rattle.rx_check.specs.Ignored.{drug_lines, each_of, hint, ignored_line, ignored_lines, line_with};
 ghost use Rattle.rx_check.specs.Ignored.{lines_of, misplaced_line, misplaced_lines, name_lines, part_lines, sheet_lines};
 ghost use Rattle.rx_check.specs.Ignored.{table_at, table_lines, texts_of, tier_lines};
 
 use crate::likeness::nearest;
+use rx_diagnostics::{SHEET_KEYS, is_among};
 use rx_fields::Memory;
 use std::alloc::{AllocError, Global};
 use toml::{Table, Value};
-
-// The keys of a plan sheet (docs/FORMATS.md, "Plan sheet").
-const KEYS: [&str; 12] = [
-    "bin",
-    "pcn",
-    "period_first",
-    "period_last",
-    "member_deductible",
-    "family_maximum",
-    "refill_percent",
-    "max_days",
-    "fee",
-    "tiers",
-    "drugs",
-    "family_deductible",
-];
 
 const DRUG_KEYS: [&str; 2] = ["tier", "price"];
 
@@ -55,7 +40,7 @@ fn put_sheet(alloc: Global, lines: &mut Vec<String>, sheet: &Table) -> Result<()
     ensures { OnOk result
         (map string_bytes lines.new.items ≡ map string_bytes lines.old.items ++ sheet_lines (table_view sheet.now)) }
 {
-    put_table(alloc, lines, "", sheet, &KEYS)?;
+    put_table(alloc, lines, "", sheet, &SHEET_KEYS)?;
     put_parts(alloc, lines, Part::Tier, table_at(sheet, "tiers"))?;
     put_parts(alloc, lines, Part::Drug, table_at(sheet, "drugs"))
 }
@@ -106,13 +91,6 @@ fn put_name(
     Ok(())
 }
 
-// Whether a name is one of these.
-fn is_among(name: &str, names: &[&'static str]) -> bool
-    ensures { result ≡ is_among name.now (texts_of names.now) }
-{
-    names.iter().any(|known| *known == name)
-}
-
 // What is said of a name that is ignored.
 fn ignored_line(
     alloc: Global,
@@ -140,7 +118,7 @@ fn hint(alloc: Global, name: &str, like: Option<&'static str>) -> Result<String,
     if let Some(like) = like {
         return format!(in alloc; ": {like} may be meant");
     }
-    if is_among(name, &KEYS) {
+    if is_among(name, &SHEET_KEYS) {
         String::from_str(alloc, ": it belongs above the first table")
     } else {
         Ok(String::new(alloc))
@@ -224,7 +202,7 @@ fn put_misplaced(alloc: Global, lines: &mut Vec<String>, name: &str) -> Result<(
     ensures { OnOk result
         (map string_bytes lines.new.items ≡ map string_bytes lines.old.items ++ misplaced_lines name.now) }
 {
-    if is_among(name, &KEYS) {
+    if is_among(name, &SHEET_KEYS) {
         let line = misplaced_line(alloc, name)?;
         lines.push(line)?;
     }

@@ -17,6 +17,9 @@
 //! let line = rx_check::fault_words(alloc, fault, &run)?;
 //! ```
 //!
+//! `Warnings::stop` says at which warnings an adjudication ends before it writes anything (`specs/Stopping.antt`), and
+//! `fault_numbered` which refusal three numbers are of.
+//!
 //! Nothing is adjudicated.
 #![tactic(auto)]
 
@@ -27,9 +30,12 @@ mod found;
 mod ignored;
 mod laws;
 mod likeness;
+mod numbered;
 mod reading;
 mod refusals;
 mod report_lines;
+mod stamping;
+mod stopping;
 mod warned;
 mod warnings;
 
@@ -40,6 +46,8 @@ pub use found::{Found, InputFault};
 pub use ignored::ignored_keys;
 pub use laws::{faults_of_some_are_the_runs, first_fault_is_the_runs};
 pub use likeness::nearest;
+pub use numbered::fault_numbered;
 pub use report_lines::Names;
+pub use stamping::{early_stamp, stamp_line};
 pub use warned::{adjudicated, feeds, has_none_under, may_pass, period_apart};
 pub use warnings::Warnings;

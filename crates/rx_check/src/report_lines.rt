@@ -154,7 +154,7 @@ fn put_lines(
         return Ok(());
     }
     let lines = warnings.lines;
-    let said = format!(in alloc; "{lines} lines of at most {MOST_LINES}")?;
+    let said = format!(in alloc; "{lines} lines of at most {MOST_LINES} (age takes claims out)")?;
     put_warning(text, books, said.as_str())
 }
 
@@ -228,11 +228,13 @@ fn period_words(alloc: Global, period: Period) -> Result<String, AllocError>
 {
     let first = date(alloc, period.first())?;
     let last = date(alloc, period.last())?;
-    format!(in alloc; "the books are of {first} to {last}, another period than the sheet's")
+    format!(in alloc;
+        "the books are of {first} to {last}, another period than the sheet's: sums start again at 0, claims before it are rejected (81)"
+    )
 }
 
-// A day in its digits, which are ASCII.
-fn date(alloc: Global, day: Day) -> Result<String, AllocError>
+/// A day in its digits, which are ASCII.
+pub(crate) fn date(alloc: Global, day: Day) -> Result<String, AllocError>
     ensures { IfOk result (λ text. string_bytes text ≡ date_text day) }
 {
     let digits = date_write(day);

@@ -1,3 +1,4 @@
 pub mod DraftLemmas
+pub mod NamedFault
 pub mod PathLemmas
 pub mod SubcommandMet

@@ -1,6 +1,9 @@
 -- Plumbing: what a command holds of the words' matches: the subcommand's name and its options' values.
-use Rattle.std.specs.Prelude.{◌≡◌, ◌≤◌, ◌⊎◌, ℕ, Bool, true, false, List, Option, Some, None, codes, option_map}
+use Rattle.std.specs.Prelude.{◌≡◌, ◌≤◌, ◌⊎◌, ℕ, Bool, true, false, not, ◌&&◌, ◌==◌, nat_le, List, length, Option, Some, None, codes}
+use Rattle.std.specs.Prelude.{option_map}
+use Rattle.std.specs.List.{list_all}
 use Rattle.std.specs.Option.{option_map_or}
+use Rattle.rx_text.specs.Bytes.{all_digits, cut}
 use Rattle.std.specs.Str.{bytes_eq}
 use Rattle.std.specs.Borrow.{Bor}
 use Rattle.std.specs.Str.Parse.{IsNumeral, digits_value}
@@ -10,17 +13,26 @@ use Rattle.rx_io.specs.declared.files.Outputs.{Outputs}
 use Rattle.rx_cli.specs.Paths.{has_twice, paths_of}
 use Rattle.rx_cli.specs.declared.asked.Command.{Command}
 use Rattle.rx_cli.specs.declared.asked.Command.TheVariants.{Run, Show, Plan, Sample, Check, Explain, Verify, Report, Replies}
+use Rattle.rx_cli.specs.declared.asked.Command.TheVariants.{Adjudicate, Age, Fault, Members}
+use Rattle.rx_cli.specs.declared.people.AdjudicateWords.{AdjudicateWords}
+use Rattle.rx_cli.specs.declared.people.FaultNumbers.{FaultNumbers}
 use Rattle.rx_cli.specs.declared.asked.RunWords.{RunWords}
 use Rattle.rx_cli.specs.declared.asked.ShowWords.{ShowWords}
 use Rattle.rx_cli.specs.declared.retrace.Asked.{Asked}
 use Rattle.rx_cli.specs.declared.retrace.Asked.TheVariants.{Record, Number, Rx}
 use Rattle.rx_cli.specs.declared.retrace.ExplainWords.{ExplainWords}
 use Rattle.rx_cli.specs.declared.retrace.Form.{Form}
-use Rattle.rx_cli.specs.declared.retrace.Form.TheVariants.{Columns, Tsv, Json, Html}
+use Rattle.rx_cli.specs.declared.retrace.Form.TheVariants.{Columns, Tsv, Json, Jsonl, Html}
 use Rattle.rx_cli.specs.declared.retrace.Portion.{Portion}
 use Rattle.rx_cli.specs.declared.retrace.Portion.TheVariants.{Whole, Provider, Family}
 use Rattle.rx_cli.specs.declared.retrace.ReportWords.{ReportWords}
 use Rattle.rx_cli.specs.declared.retrace.VerifyWords.{VerifyWords}
+use Rattle.rx_cli.specs.declared.upkeep.AgeWords.{AgeWords}
+use Rattle.rx_cli.specs.declared.upkeep.MembersWords.{MembersWords}
+use Rattle.rx_cli.specs.declared.upkeep.Origin.{Origin}
+use Rattle.rx_cli.specs.declared.upkeep.Origin.TheVariants.{Books, Period}
+use Rattle.rx_cli.specs.declared.upkeep.Percent.{Percent}
+use Rattle.rx_cli.specs.declared.upkeep.Percent.TheVariants as percent
 
 -- the option's value is this text
 abbrev pub HasText : List Row → Text → Text → Type 0
@@ -46,6 +58,16 @@ HasNumber rows name n = (text : Text) × HasText rows name text × IsNumeral 10 
 -- the option's number, or another where the option doesn't stand
 abbrev pub HasNumberOr : List Row → Text → ℕ → ℕ → Type 0
 HasNumberOr rows name other n = (IsAbsent rows name × (n ≡ other)) ⊎ HasNumber rows name n
+
+-- the option's number, 0 to 65535, or it doesn't stand and there is none
+abbrev pub MayHaveNumber : List Row → Text → Option ℕ → Type 0
+MayHaveNumber rows name None = IsAbsent rows name
+MayHaveNumber rows name (Some n) = HasNumber rows name n
+
+-- the value is a number below 2 ^ 64, in digits only
+abbrev pub HasLongNumber : List Row → Text → ℕ → Type 0
+HasLongNumber rows name n = (text : Text) × HasText rows name text × IsNumeral 10 text × (n ≡ digits_value 10 text)
+    × (n ≤ 18446744073709551615)
 
 -- the paths of the input files, and of the output files
 abbrev pub InputPaths : Type 0
@@ -84,8 +106,8 @@ pub record HoldsCheck (rows : List Row) (c : CheckWords) : Type 0 where
 pub record HoldsRun (rows : List Row) (r : RunWords) : Type 0 where
   pub inputs : HoldsInputs rows r.inputs
   pub outputs : HoldsOutputs rows r.outputs
-  pub stamp : HasText rows (codes "stamp") r.stamp.now
-  pub workers : HasNumber rows (codes "workers") r.workers
+  pub stamp : MayHaveText rows (codes "stamp") r.stamp
+  pub workers : MayHaveNumber rows (codes "workers") r.workers
   pub plain : r.plain ≡ is_set (codes "plain") rows
   pub desk : r.desk ≡ is_set (codes "desk") rows
   pub safe : r.safe ≡ is_set (codes "safe") rows
@@ -97,14 +119,23 @@ pub record HoldsRun (rows : List Row) (r : RunWords) : Type 0 where
 abbrev pub HoldsRunApart : List Row → RunWords → Type 0
 HoldsRunApart rows r = HoldsRun rows r × (has_twice (paths_of r) ≡ false)
 
--- exactly one of `--record`, `--number` and `--rx` stands, and `--provider` only next to `--rx`
+-- one digit or more, and nothing else
+abbrev pub is_number : Text → Bool
+is_number text = not (length text == 0) && all_digits text
+
+-- a number, or two with a point between them
+abbrev pub is_record : Text → Bool
+is_record text = nat_le (length (cut 46 text)) 2 && list_all is_number (cut 46 text)
+
+-- exactly one of `--record`, `--number` and `--rx` stands, in digits, and `--provider` only next to `--rx`
 abbrev pub HoldsAsked : List Row → Asked → Type 0
 HoldsAsked rows (Record place) = HasText rows (codes "record") place.now × IsAbsent rows (codes "number")
-    × IsAbsent rows (codes "rx") × IsAbsent rows (codes "provider")
+    × IsAbsent rows (codes "rx") × IsAbsent rows (codes "provider") × (is_record place.now ≡ true)
 HoldsAsked rows (Number number) = HasText rows (codes "number") number.now × IsAbsent rows (codes "record")
-    × IsAbsent rows (codes "rx") × IsAbsent rows (codes "provider")
+    × IsAbsent rows (codes "rx") × IsAbsent rows (codes "provider") × (is_number number.now ≡ true)
 HoldsAsked rows (Rx reference provider) = HasText rows (codes "rx") reference.now
     × MayHaveText rows (codes "provider") provider × IsAbsent rows (codes "record") × IsAbsent rows (codes "number")
+    × (is_number reference.now ≡ true)
 
 -- what `explain` takes is the values of its options
 pub record HoldsExplain (rows : List Row) (e : ExplainWords) : Type 0 where
@@ -129,23 +160,68 @@ HoldsPortion rows Whole = IsAbsent rows (codes "provider") × IsAbsent rows (cod
 HoldsPortion rows (Provider id) = HasText rows (codes "provider") id.now × IsAbsent rows (codes "family")
 HoldsPortion rows (Family id) = HasText rows (codes "family") id.now × IsAbsent rows (codes "provider")
 
--- the form, by whether `--tsv`, `--json` and `--html` stand, of which at most one may
-abbrev pub form_of : Bool → Bool → Bool → Option Form
-form_of false false false = Some Columns
-form_of true false false = Some Tsv
-form_of false true false = Some Json
-form_of false false true = Some Html
-form_of _ _ _ = None
+-- the form, by whether `--tsv`, `--json`, `--jsonl` and `--html` stand, of which at most one may
+abbrev pub form_of : Bool → Bool → Bool → Bool → Option Form
+form_of false false false false = Some Columns
+form_of true false false false = Some Tsv
+form_of false true false false = Some Json
+form_of false false true false = Some Jsonl
+form_of false false false true = Some Html
+form_of _ _ _ _ = None
 
 -- the form that is asked for
 abbrev pub form_in : List Row → Option Form
-form_in rows = form_of (is_set (codes "tsv") rows) (is_set (codes "json") rows) (is_set (codes "html") rows)
+form_in rows = form_of (is_set (codes "tsv") rows) (is_set (codes "json") rows) (is_set (codes "jsonl") rows)
+    (is_set (codes "html") rows)
 
 -- what `report` takes is the values of its options
 pub record HoldsReport (rows : List Row) (r : ReportWords) : Type 0 where
   pub inputs : HoldsInputs rows r.inputs
   pub portion : HoldsPortion rows r.portion
   pub form : form_in rows ≡ Some r.form
+
+-- what `adjudicate` takes is the values of its options
+pub record HoldsAdjudicate (rows : List Row) (a : AdjudicateWords) : Type 0 where
+  pub inputs : HoldsInputs rows a.inputs
+  pub out : HasText rows (codes "out") a.out.now
+  pub stamp : MayHaveText rows (codes "stamp") a.stamp
+  pub workers : MayHaveNumber rows (codes "workers") a.workers
+  pub again : a.again ≡ is_set (codes "again") rows
+  pub strict : a.strict ≡ is_set (codes "strict") rows
+  pub quiet : a.quiet ≡ is_set (codes "quiet") rows
+
+-- the three numbers of a refusal
+pub record HoldsFault (rows : List Row) (f : FaultNumbers) : Type 0 where
+  pub kind : HasLongNumber rows (codes "N") f.kind
+  pub within : HasLongNumber rows (codes "M") f.within
+  pub place : HasLongNumber rows (codes "P") f.place
+
+-- exactly one of `--books` and `--period` stands
+abbrev pub HoldsOrigin : List Row → Origin → Type 0
+HoldsOrigin rows (Books path) = HasText rows (codes "books") path.now × IsAbsent rows (codes "period")
+HoldsOrigin rows (Period text) = HasText rows (codes "period") text.now × IsAbsent rows (codes "books")
+
+-- what `members` takes is the values of its options
+pub record HoldsMembers (rows : List Row) (m : MembersWords) : Type 0 where
+  pub origin : HoldsOrigin rows m.origin
+  pub members : HasText rows (codes "members") m.members.now
+  pub books_out : HasText rows (codes "books-out") m.books_out.now
+  pub safe : m.safe ≡ is_set (codes "safe") rows
+
+-- exactly one of `--sheet` and `--refill-percent` stands
+abbrev pub HoldsPercent : List Row → Percent → Type 0
+HoldsPercent rows (percent.Sheet path) = HasText rows (codes "sheet") path.now × IsAbsent rows (codes "refill-percent")
+HoldsPercent rows (percent.Number text) = HasText rows (codes "refill-percent") text.now × IsAbsent rows (codes "sheet")
+
+-- what `age` takes is the values of its options
+pub record HoldsAge (rows : List Row) (a : AgeWords) : Type 0 where
+  pub books : HasText rows (codes "books") a.books.now
+  pub before : HasText rows (codes "before") a.before.now
+  pub period : MayHaveText rows (codes "period") a.period
+  pub percent : HoldsPercent rows a.percent
+  pub books_out : HasText rows (codes "books-out") a.books_out.now
+  pub dropped : HasText rows (codes "dropped") a.dropped.now
+  pub safe : a.safe ≡ is_set (codes "safe") rows
 
 -- the command has the name of this subcommand, and the values of its options
 abbrev pub HoldsNamed : Text → List Row → Command → Type 0
@@ -157,6 +233,10 @@ HoldsNamed name rows (Check c) = (name ≡ codes "check") × HoldsCheck rows c
 HoldsNamed name rows (Explain e) = (name ≡ codes "explain") × HoldsExplain rows e
 HoldsNamed name rows (Verify v) = (name ≡ codes "verify") × HoldsVerify rows v
 HoldsNamed name rows (Report r) = (name ≡ codes "report") × HoldsReport rows r
+HoldsNamed name rows (Adjudicate a) = (name ≡ codes "adjudicate") × HoldsAdjudicate rows a
+HoldsNamed name rows (Fault f) = (name ≡ codes "fault") × HoldsFault rows f
+HoldsNamed name rows (Members m) = (name ≡ codes "members") × HoldsMembers rows m
+HoldsNamed name rows (Age a) = (name ≡ codes "age") × HoldsAge rows a
 HoldsNamed name rows (Replies path) = (name ≡ codes "replies") × HasText rows (codes "response") path.now
 
 -- the command is the subcommand that was found, with the values of its options

@@ -1,9 +1,9 @@
 -- Meaning: the faults of the command words.
-use Rattle.std.specs.Prelude.{◌≡◌, ℕ, ⊤, Bool, true, false, List, [], ◌∷◌, ◌++◌, codes, Option, None, Some, Result, Ok, Err}
+use Rattle.std.specs.Prelude.{◌≡◌, ◌⊎◌, ℕ, ⊤, Bool, true, false, List, [], ◌∷◌, ◌++◌, codes, Option, None, Some, Result, Ok, Err}
 use Rattle.clap.specs.Words.{kind_of}
 use Rattle.clap.specs.declared.error.Error.{Error}
 use Rattle.clap.specs.declared.error.kind.ErrorKind.{ErrorKind}
-use Rattle.clap.specs.declared.error.kind.ErrorKind.TheVariants.{DisplayVersion, OutOfMemory}
+use Rattle.clap.specs.declared.error.kind.ErrorKind.TheVariants.{DisplayHelp, DisplayVersion, OutOfMemory}
 use Rattle.rx_cli.specs.declared.fault.WordsFault.{WordsFault}
 use Rattle.rx_cli.specs.declared.fault.WordsFault.TheVariants.{Words, Memory}
 
@@ -23,21 +23,36 @@ told_text (Words (Some told)) = None
 told_text (Words None) = Some []
 told_text Memory = Some (codes "refused 6 0 0" ++ 10 ∷ [])
 
--- what `clap` says where the words ask for the version
-abbrev pub is_version_kind : ErrorKind → Bool
-is_version_kind DisplayVersion = true
-is_version_kind _ = false
+-- what `clap` says is of such a kind
+abbrev pub is_of : (ErrorKind → Bool) → WordsFault → Bool
+is_of is_such (Words (Some told)) = is_such (kind_of told)
+is_of is_such _ = false
 
 -- the words ask for the version
+abbrev pub is_version : ErrorKind → Bool
+is_version DisplayVersion = true
+is_version _ = false
+
 abbrev pub asks_version : WordsFault → Bool
-asks_version (Words (Some told)) = is_version_kind (kind_of told)
-asks_version _ = false
+asks_version fault = is_of is_version fault
+
+-- and for help
+abbrev pub is_help : ErrorKind → Bool
+is_help DisplayHelp = true
+is_help _ = false
+
+abbrev pub asks_help : WordsFault → Bool
+asks_help fault = is_of is_help fault
 
 -- the words are misused, which `clap` reports as a fault of this kind, unless memory ran out
 abbrev pub IsMisuse : ErrorKind → WordsFault → Type 0
 IsMisuse kind (Words (Some told)) = kind_of told ≡ kind
 IsMisuse kind (Words None) = ⊥
 IsMisuse kind Memory = ⊤
+
+-- the same with one of two kinds
+abbrev pub IsMisuseOfOne : ErrorKind → ErrorKind → WordsFault → Type 0
+IsMisuseOfOne one other fault = IsMisuse one fault ⊎ IsMisuse other fault
 
 abbrev pub misuse_of : {E : Type 0} → Result Error E → WordsFault
 misuse_of (Ok told) = Words (Some told)

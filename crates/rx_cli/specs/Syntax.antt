@@ -1,23 +1,26 @@
 -- Meaning: the command line: its subcommands and their options (docs/CLI.md, "Commands").
-use Rattle.std.specs.Prelude.{◌≡◌, true, false, pos, IfOk, Some, codes}
+use Rattle.std.specs.Prelude.{◌≡◌, true, false, IfOk, Some, codes}
 use Rattle.clap.specs.Words.{App, Rule, Text, app_of, new_app, new_rule, with_rule, with_subcommand}
 use Rattle.clap.specs.declared.builder.command.Command.{Command}
 use Rattle.clap.specs.declared.builder.command.Command.TheViews.{out-Command}
 use Rattle.clap.specs.declared.builder.action.ArgAction.TheVariants.{SetTrue}
-use Rattle.clap.specs.declared.builder.value_parser.ValueParser.TheVariants as vp
 use Rattle.rx_cli.specs.declared.draft.Draft.{Draft}
 
 -- `--name VALUE`, which has to stand
 abbrev pub required_option : Text → Rule
 required_option name = record (new_rule name) { long = Some name; value_names = 1; required = true }
 
--- `--workers N`, a number from 0 to 65535
-abbrev pub workers_option : Rule
-workers_option = record (required_option (codes "workers")) { parser = Some (vp.Signed (pos 0) (pos 65535)) }
-
 -- `--name VALUE`, which may stand
 abbrev pub optional_option : Text → Rule
 optional_option name = record (required_option name) { required = false }
+
+-- `--workers N`, which may stand
+abbrev pub workers_option : Rule
+workers_option = optional_option (codes "workers")
+
+-- VALUE, which has to stand
+abbrev pub positional : Text → Rule
+positional name = record (new_rule name) { value_names = 1; required = true }
 
 -- `--name`, which may stand
 abbrev pub flag : Text → Rule
@@ -43,7 +46,7 @@ with_ways line = with_rule (with_rule line (flag (codes "plain"))) (flag (codes 
 
 -- the line with the options of `run` that are no files
 abbrev pub with_run_options : App → App
-with_run_options line = with_ways (with_rule (with_rule line (required_option (codes "stamp"))) workers_option)
+with_run_options line = with_ways (with_rule (with_rule line (optional_option (codes "stamp"))) workers_option)
 
 -- the line with the options of a log
 abbrev pub with_log : App → App
@@ -53,7 +56,7 @@ with_log line = with_rule (with_rule line (optional_option (codes "log"))) (flag
 abbrev pub with_watch : App → App
 with_watch line = with_log (with_rule (with_rule line (flag (codes "safe"))) verbose_flag)
 
--- `run --sheet F --books F --batch F --response F --books-out F --settlement F --stamp S --workers N [--plain] [--desk]
+-- `run --sheet F --books F --batch F --response F --books-out F --settlement F [--stamp S] [--workers N] [--plain] [--desk]
 -- [--safe] [-v] [--log F] [--sums]`
 abbrev pub run_line : App
 run_line = with_watch (with_run_options (with_outputs (with_inputs (new_app (codes "run")))))
@@ -89,18 +92,18 @@ explain_line = with_rule (with_rule (with_rule (with_asked (with_inputs (new_app
 
 -- the line with the options of `verify` that are no files
 abbrev pub with_verify_options : App → App
-with_verify_options line = with_ways (with_rule (with_rule line (required_option (codes "stamp")))
-    (record workers_option { required = false }))
+with_verify_options line = with_ways (with_rule (with_rule line (required_option (codes "stamp"))) workers_option)
 
 -- `verify --sheet F --books F --batch F --response F --books-out F --settlement F --stamp S [--workers N] [--plain] [--desk]`
 abbrev pub verify_line : App
 verify_line = with_verify_options (with_outputs (with_inputs (new_app (codes "verify"))))
 
--- the line with the three forms of a report
+-- the line with the four forms of a report
 abbrev pub with_forms : App → App
-with_forms line = with_rule (with_rule (with_rule line (flag (codes "tsv"))) (flag (codes "json"))) (flag (codes "html"))
+with_forms line = with_rule (with_rule (with_rule (with_rule line (flag (codes "tsv"))) (flag (codes "json")))
+    (flag (codes "jsonl"))) (flag (codes "html"))
 
--- `report --sheet F --books F --batch F [--provider ID] [--family ID] [--tsv] [--json] [--html]`
+-- `report --sheet F --books F --batch F [--provider ID] [--family ID] [--tsv] [--json] [--jsonl] [--html]`
 abbrev pub report_line : App
 report_line = with_forms (with_rule (with_rule (with_inputs (new_app (codes "report"))) (optional_option (codes "provider")))
     (optional_option (codes "family")))
@@ -108,6 +111,37 @@ report_line = with_forms (with_rule (with_rule (with_inputs (new_app (codes "rep
 -- `replies --response F`
 abbrev pub replies_line : App
 replies_line = with_rule (new_app (codes "replies")) (required_option (codes "response"))
+
+-- the line with what `adjudicate` may be asked for
+abbrev pub with_wishes : App → App
+with_wishes line = with_rule (with_rule (with_rule (with_rule (with_rule line (optional_option (codes "stamp")))
+    workers_option) (flag (codes "again"))) (flag (codes "strict"))) (flag (codes "quiet"))
+
+-- `adjudicate --sheet F --books F --batch F --out DIR [--stamp S] [--workers N] [--again] [--strict] [--quiet]`
+abbrev pub adjudicate_line : App
+adjudicate_line = with_wishes (with_rule (with_inputs (new_app (codes "adjudicate"))) (required_option (codes "out")))
+
+-- `fault N M P`
+abbrev pub fault_line : App
+fault_line = with_rule (with_rule (with_rule (new_app (codes "fault")) (positional (codes "N")))
+    (positional (codes "M"))) (positional (codes "P"))
+
+-- `members [--books F] [--period FIRST-LAST] --members F --books-out F [--safe]`
+abbrev pub members_line : App
+members_line = with_rule (with_rule (with_rule (with_rule (with_rule (new_app (codes "members"))
+    (optional_option (codes "books"))) (optional_option (codes "period"))) (required_option (codes "members")))
+    (required_option (codes "books-out"))) (flag (codes "safe"))
+
+-- the line with the books, the day, the period and the refill percentage
+abbrev pub with_aged : App → App
+with_aged line = with_rule (with_rule (with_rule (with_rule (with_rule line (required_option (codes "books")))
+    (required_option (codes "before"))) (optional_option (codes "period"))) (optional_option (codes "sheet")))
+    (optional_option (codes "refill-percent"))
+
+-- `age --books F --before DAY [--period FIRST-LAST] [--sheet F] [--refill-percent N] --books-out F --dropped F [--safe]`
+abbrev pub age_line : App
+age_line = with_rule (with_rule (with_rule (with_aged (new_app (codes "age"))) (required_option (codes "books-out")))
+    (required_option (codes "dropped"))) (flag (codes "safe"))
 
 -- the line of which a subcommand has to stand
 abbrev pub with_subcommand_required : App → App
@@ -131,9 +165,17 @@ abbrev pub with_retracing : App → App
 with_retracing line = with_subcommand (with_subcommand (with_subcommand (with_subcommand (with_subcommand line
     check_line.top) explain_line.top) verify_line.top) report_line.top) replies_line.top
 
+-- the line with the subcommands that people need and no program
+abbrev pub with_people : App → App
+with_people line = with_subcommand (with_subcommand line adjudicate_line.top) fault_line.top
+
+-- the line with the subcommands that keep books up
+abbrev pub with_upkeep : App → App
+with_upkeep line = with_subcommand (with_subcommand line members_line.top) age_line.top
+
 -- `rxbatch run ..` and so on, or `rxbatch --version`
 abbrev pub whole_line : App
-whole_line = with_retracing (with_adjudication program)
+whole_line = with_upkeep (with_people (with_retracing (with_adjudication program)))
 
 -- no option of the line is one of its subcommands' too
 abbrev pub IsLocal : Command → Type 0

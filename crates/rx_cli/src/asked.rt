@@ -3,7 +3,9 @@ ghost use Rattle.std.specs.Prelude.{◌≡◌, map};
 ghost use Rattle.rx_cli.specs.Paths.{files_of, has_twice, paths_of};
 
 use crate::paths::has_one_twice;
+use crate::people::{AdjudicateWords, FaultNumbers};
 use crate::retrace::{ExplainWords, ReportWords, VerifyWords};
+use crate::upkeep::{AgeWords, MembersWords};
 use rx_io::{Inputs, Outputs};
 
 /// The words of `run`. Its six files and its log are different texts.
@@ -11,10 +13,10 @@ use rx_io::{Inputs, Outputs};
 pub struct RunWords<'a> {
     pub inputs: Inputs<&'a str>,
     pub outputs: Outputs<&'a str>,
-    /// `--stamp`, as it was written; whether it is a stamp is the run's to say.
-    pub stamp: &'a str,
-    /// `--workers`, 0 to 65535; whether this many can work is the run's to say.
-    pub workers: u16,
+    /// `--stamp`, as it was written; whether it is a stamp is the run's to say. Without it the run's is the time when it begins.
+    pub stamp: Option<&'a str>,
+    /// `--workers`, 0 to 65535; whether this many can work is the run's to say. Without it there are as many as processors.
+    pub workers: Option<u16>,
     /// `--plain`: adjudicate over plain lists, one record after another.
     pub plain: bool,
     /// `--desk`: hand the records out to the workers one by one.
@@ -90,6 +92,14 @@ pub enum Command<'a> {
     Verify(VerifyWords<'a>),
     /// `report`: a line for each answer, by provider.
     Report(ReportWords<'a>),
+    /// `adjudicate`: checks a batch, adjudicates it and writes the outputs into a folder.
+    Adjudicate(AdjudicateWords<'a>),
+    /// `fault`: the numbers of a refusal in words.
+    Fault(FaultNumbers),
+    /// `members`: a table loaded into books.
+    Members(MembersWords<'a>),
+    /// `age`: books without claims before a day.
+    Age(AgeWords<'a>),
     /// `replies`: one line per reply of this response file.
     Replies(&'a str),
 }

@@ -1,7 +1,7 @@
 //! Why there is no command.
 ghost use Rattle.std.specs.Prelude.{◌≡◌, ◌≢◌};
 ghost use Rattle.clap.specs.Words.{kind_of};
-ghost use Rattle.rx_cli.specs.Faults.{IsWords, asks_version, memory_fault, number_of, out_of_memory, told_text};
+ghost use Rattle.rx_cli.specs.Faults.{IsWords, asks_help, asks_version, memory_fault, number_of, out_of_memory, told_text};
 
 use clap::error::ErrorKind;
 use std::alloc::AllocError;
@@ -36,6 +36,16 @@ impl WordsFault {
     {
         match self {
             WordsFault::Words(Some(told)) => matches!(told.kind(), ErrorKind::DisplayVersion),
+            _ => false,
+        }
+    }
+
+    /// Says whether the words ask for help: the text is the help.
+    pub fn is_help(&self) -> bool
+        ensures { result ≡ asks_help self.now }
+    {
+        match self {
+            WordsFault::Words(Some(told)) => matches!(told.kind(), ErrorKind::DisplayHelp),
             _ => false,
         }
     }

@@ -1,31 +1,80 @@
 //! The faults that are found after `clap`'s, in its form: a text, and the usage of the subcommand.
 ghost use Rattle.std.specs.Prelude.{◌≡◌, IfOk};
 ghost use Rattle.clap.specs.Words.{kind_of};
-ghost use Rattle.rx_cli.specs.Faults.{IsMisuse, misuse_of};
+ghost use Rattle.rx_cli.specs.Faults.{IsMisuse, IsMisuseOfOne, misuse_of};
 
 use crate::fault::WordsFault;
 use crate::options::text;
+use crate::people_syntax::{adjudicate, fault as fault_line};
 use crate::syntax::{explain, report, run, verify};
+use crate::upkeep_syntax::{age, members};
 use clap::error::ErrorKind;
 use clap::{ArgMatches, Command as Line};
 use std::alloc::{AllocError, Global};
 
-/// The fault of `run` whose number of workers `clap` lets through though it has a sign.
-pub(crate) fn run_signed(alloc: Global, found: &ArgMatches<'_>) -> WordsFault
+/// The fault of `run` with workers that are no number.
+pub(crate) fn run_miscounted(alloc: Global, found: &ArgMatches<'_>) -> WordsFault
     ensures { IsMisuse ErrorKind.ValueValidation result }
 {
-    signed(alloc, run(alloc).line(), "rxbatch run", found)
+    miscounted(alloc, run(alloc).line(), "rxbatch run", found)
 }
 
-/// The fault of `verify` with such a number.
-pub(crate) fn verify_signed(alloc: Global, found: &ArgMatches<'_>) -> WordsFault
+/// The fault of `verify` with such workers.
+pub(crate) fn verify_miscounted(alloc: Global, found: &ArgMatches<'_>) -> WordsFault
     ensures { IsMisuse ErrorKind.ValueValidation result }
 {
-    signed(alloc, verify(alloc).line(), "rxbatch verify", found)
+    miscounted(alloc, verify(alloc).line(), "rxbatch verify", found)
 }
 
-/// The fault of `explain` that is asked after no thing or more than one.
-pub(crate) fn explain_conflict(alloc: Global) -> WordsFault
+/// The fault of `adjudicate` with such workers.
+pub(crate) fn adjudicate_miscounted(alloc: Global, found: &ArgMatches<'_>) -> WordsFault
+    ensures { IsMisuse ErrorKind.ValueValidation result }
+{
+    miscounted(alloc, adjudicate(alloc).line(), "rxbatch adjudicate", found)
+}
+
+/// The fault of `fault` with a value that is not a number.
+pub(crate) fn fault_no_number(alloc: Global) -> WordsFault
+    ensures { IsMisuse ErrorKind.ValueValidation result }
+{
+    let text = "expected the three numbers of a line 'refused N M P'";
+    invalid(fault_line(alloc).line(), "rxbatch fault", text)
+}
+
+/// The fault of `explain`: it is asked after no thing or more than one, or after what isn't a number.
+pub(crate) fn explain_misuse(alloc: Global, found: &ArgMatches<'_>) -> WordsFault
+    ensures { IsMisuseOfOne ErrorKind.ArgumentConflict ErrorKind.ValueValidation result }
+{
+    if is_asked_once(found) {
+        explain_no_number(alloc)
+    } else {
+        explain_conflict(alloc)
+    }
+}
+
+// Whether one thing is asked after, and nothing with it that excludes it.
+fn is_asked_once(found: &ArgMatches<'_>) -> bool {
+    let record = text(found, "record").is_some();
+    let number = text(found, "number").is_some();
+    let rx = text(found, "rx").is_some();
+    let provider = text(found, "provider").is_some();
+    match (record, number, rx) {
+        (true, false, false) | (false, true, false) => !provider,
+        (false, false, true) => true,
+        _ => false,
+    }
+}
+
+fn explain_no_number(alloc: Global) -> WordsFault
+    ensures { IsMisuse ErrorKind.ValueValidation result }
+{
+    let text =
+        "expected only digits after '--record', '--number' and '--rx', or after '--record' two numbers \
+                with a point between them, as 5.3";
+    invalid(explain(alloc).line(), "rxbatch explain", text)
+}
+
+fn explain_conflict(alloc: Global) -> WordsFault
     ensures { IsMisuse ErrorKind.ArgumentConflict result }
 {
     let text =
@@ -39,11 +88,27 @@ pub(crate) fn report_conflict(alloc: Global) -> WordsFault
     ensures { IsMisuse ErrorKind.ArgumentConflict result }
 {
     let text =
-        "at most one of '--provider <ID>' and '--family <ID>' is taken, and of '--tsv', '--json' and '--html'";
+        "at most one of '--provider <ID>' and '--family <ID>' is taken, and of '--tsv', '--json', '--jsonl' and '--html'";
     conflict(report(alloc).line(), "rxbatch report", text)
 }
 
-fn signed(
+/// The fault of `members` of no books and no period, or of both.
+pub(crate) fn members_conflict(alloc: Global) -> WordsFault
+    ensures { IsMisuse ErrorKind.ArgumentConflict result }
+{
+    let text = "expected one of '--books <FILE>' and '--period <FIRST-LAST>'";
+    conflict(members(alloc).line(), "rxbatch members", text)
+}
+
+/// The fault of `age` with no sheet and no percentage, or with both.
+pub(crate) fn age_conflict(alloc: Global) -> WordsFault
+    ensures { IsMisuse ErrorKind.ArgumentConflict result }
+{
+    let text = "expected one of '--sheet <FILE>' and '--refill-percent <N>'";
+    conflict(age(alloc).line(), "rxbatch age", text)
+}
+
+fn miscounted(
     alloc: Global,
     line: Result<Line<'_>, AllocError>,
     program: &str,
@@ -52,7 +117,7 @@ fn signed(
     ensures { IsMisuse ErrorKind.ValueValidation result }
 {
     let number = text(found, "workers").unwrap_or("");
-    fault(told_signed(alloc, line, program, number))
+    fault(told_miscounted(alloc, line, program, number))
 }
 
 // Of options that exclude or require each other.
@@ -60,6 +125,13 @@ fn conflict(line: Result<Line<'_>, AllocError>, program: &str, text: &str) -> Wo
     ensures { IsMisuse ErrorKind.ArgumentConflict result }
 {
     fault(told(line, program, ErrorKind::ArgumentConflict, text))
+}
+
+// Of a value that isn't understood.
+fn invalid(line: Result<Line<'_>, AllocError>, program: &str, text: &str) -> WordsFault
+    ensures { IsMisuse ErrorKind.ValueValidation result }
+{
+    fault(told(line, program, ErrorKind::ValueValidation, text))
 }
 
 fn fault(told: Result<clap::Error, AllocError>) -> WordsFault
@@ -71,7 +143,7 @@ fn fault(told: Result<clap::Error, AllocError>) -> WordsFault
     }
 }
 
-fn told_signed(
+fn told_miscounted(
     alloc: Global,
     line: Result<Line<'_>, AllocError>,
     program: &str,
@@ -80,7 +152,7 @@ fn told_signed(
     ensures { IfOk result (λ told. kind_of told ≡ ErrorKind.ValueValidation) }
 {
     let text = format!(in alloc;
-        "invalid value '{number}' for '--workers <N>': expected only digits"
+        "invalid value '{number}' for '--workers <N>': expected a number from 1 to 64"
     )?;
     told(line, program, ErrorKind::ValueValidation, text.as_str())
 }

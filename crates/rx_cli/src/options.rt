@@ -1,7 +1,8 @@
 //! The options read, one at a time.
 ghost use Rattle.std.specs.Prelude.{◌≡◌, IfNone, IfSome, option_map};
 ghost use Rattle.clap.specs.Words.{first_of, found_of, rows_of};
-ghost use Rattle.rx_cli.specs.Asked.{HasNumber, HasNumberOr, HoldsInputs, HoldsOutputs, NoneHolds, is_set};
+ghost use Rattle.rx_cli.specs.Asked.{HasLongNumber, HasNumber, HasNumberOr, HoldsInputs, HoldsOutputs, MayHaveNumber, NoneHolds};
+ghost use Rattle.rx_cli.specs.Asked.{is_set};
 
 use clap::ArgMatches;
 use rx_io::{Inputs, Outputs};
@@ -20,7 +21,7 @@ pub(crate) fn flag(found: &ArgMatches<'_>, name: &str) -> bool
     matches!(text(found, name), Some("true"))
 }
 
-/// The number of an option that is written in digits only: `clap`'s numbers may have a sign.
+/// The number of an option, 0 to 65535, that is written in digits only.
 pub(crate) fn number(found: &ArgMatches<'_>, name: &str) -> Option<u16>
     ensures some { IfSome result (HasNumber (rows_of (found_of found.now)) name.now) }
     ensures none { IfNone result (NoneHolds (HasNumber (rows_of (found_of found.now)) name.now)) }
@@ -30,6 +31,29 @@ pub(crate) fn number(found: &ArgMatches<'_>, name: &str) -> Option<u16>
         return None;
     }
     written.parse().ok()
+}
+
+/// The number of an option, if it stands; None where what stands is no such number.
+pub(crate) fn number_if_given(found: &ArgMatches<'_>, name: &str) -> Option<Option<u16>>
+    ensures some { IfSome result (MayHaveNumber (rows_of (found_of found.now)) name.now) }
+    ensures none { IfNone result (NoneHolds (MayHaveNumber (rows_of (found_of found.now)) name.now)) }
+{
+    match text(found, name) {
+        None => Some(None),
+        Some(_) => Some(Some(number(found, name)?)),
+    }
+}
+
+/// A value that is a number below 2 ^ 64, written in digits only.
+pub(crate) fn long_number(found: &ArgMatches<'_>, name: &str) -> Option<u64>
+    ensures some { IfSome result (HasLongNumber (rows_of (found_of found.now)) name.now) }
+    ensures none { IfNone result (NoneHolds (HasLongNumber (rows_of (found_of found.now)) name.now)) }
+{
+    let written = text(found, name)?;
+    match written.as_bytes() {
+        [b'+', ..] => None,
+        _ => written.parse().ok(),
+    }
 }
 
 /// The number of an option, or the other where the option doesn't stand.

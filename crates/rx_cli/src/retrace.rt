@@ -66,6 +66,8 @@ pub enum Form {
     Tsv,
     /// `--json`.
     Json,
+    /// `--jsonl`: JSON, an object a line.
+    Jsonl,
     /// `--html`: one page.
     Html,
 }

@@ -1,12 +1,15 @@
 //! The words of the commands that retrace a run, read.
-ghost use Rattle.std.specs.Prelude.{◌≡◌, IfNone, IfSome};
+ghost use Rattle.std.specs.Prelude.{◌≡◌, IfNone, IfSome, length};
+ghost use Rattle.std.specs.List.{list_all};
+ghost use Rattle.rx_text.specs.Bytes.{cut};
 ghost use Rattle.clap.specs.Words.{found_of, rows_of};
 ghost use Rattle.rx_cli.specs.Asked.{HoldsAsked, HoldsExplain, HoldsPortion, HoldsReport, HoldsVerify, NoneHolds};
-ghost use Rattle.rx_cli.specs.Asked.{form_in};
+ghost use Rattle.rx_cli.specs.Asked.{form_in, is_number, is_record};
 
 use crate::options::{flag, inputs, number_or, outputs, text};
 use crate::retrace::{Asked, ExplainWords, Form, Portion, ReportWords, VerifyWords};
 use clap::ArgMatches;
+use rx_text::all_digits;
 
 fn asked<'a>(found: &ArgMatches<'a>) -> Option<Asked<'a>>
     ensures some { IfSome result (HoldsAsked (rows_of (found_of found.now))) }
@@ -17,14 +20,49 @@ fn asked<'a>(found: &ArgMatches<'a>) -> Option<Asked<'a>>
     let rx = text(found, "rx");
     let provider = text(found, "provider");
     match (record, number, rx, provider) {
-        (Some(place), None, None, None) => Some(Asked::Record(place)),
-        (None, Some(number), None, None) => Some(Asked::Number(number)),
-        (None, None, Some(reference), provider) => Some(Asked::Rx {
+        (Some(place), None, None, None) if is_record(place) => Some(Asked::Record(place)),
+        (None, Some(number), None, None) if is_number(number) => Some(Asked::Number(number)),
+        (None, None, Some(reference), provider) if is_number(reference) => Some(Asked::Rx {
             reference,
             provider,
         }),
         _ => None,
     }
+}
+
+// Whether a text is a number.
+fn is_number(text: &str) -> bool
+    ensures { result ≡ is_number text.now }
+{
+    is_number_in(text.as_bytes())
+}
+
+fn is_number_in(bytes: &[u8]) -> bool
+    ensures { result ≡ is_number bytes.now }
+{
+    !bytes.is_empty() && all_digits(bytes)
+}
+
+// Whether a text is a number, or two with a point between them.
+fn is_record(text: &str) -> bool
+    ensures { result ≡ is_record text.now }
+{
+    let bytes = text.as_bytes();
+    pieces_in(bytes) <= 2 && are_numbers(bytes)
+}
+
+fn pieces_in(bytes: &[u8]) -> usize
+    ensures { result ≡ length (cut 46 bytes.now) }
+{
+    bytes.split(|byte| *byte == b'.').count()
+}
+
+fn are_numbers(bytes: &[u8]) -> bool
+    ensures { result ≡ list_all is_number (cut 46 bytes.now) }
+{
+    bytes
+        .split(|byte| *byte == b'.')
+        .all(|piece| is_number_in(piece))
 }
 
 /// What `explain` is asked after, which is one thing.
@@ -77,11 +115,13 @@ fn portion<'a>(found: &ArgMatches<'a>) -> Option<Portion<'a>>
 fn form(found: &ArgMatches<'_>) -> Option<Form>
     ensures { result ≡ form_in (rows_of (found_of found.now)) }
 {
-    match (flag(found, "tsv"), flag(found, "json"), flag(found, "html")) {
-        (false, false, false) => Some(Form::Columns),
-        (true, false, false) => Some(Form::Tsv),
-        (false, true, false) => Some(Form::Json),
-        (false, false, true) => Some(Form::Html),
+    let (tsv, json) = (flag(found, "tsv"), flag(found, "json"));
+    match (tsv, json, flag(found, "jsonl"), flag(found, "html")) {
+        (false, false, false, false) => Some(Form::Columns),
+        (true, false, false, false) => Some(Form::Tsv),
+        (false, true, false, false) => Some(Form::Json),
+        (false, false, true, false) => Some(Form::Jsonl),
+        (false, false, false, true) => Some(Form::Html),
         _ => None,
     }
 }

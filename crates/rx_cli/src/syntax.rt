@@ -8,7 +8,9 @@ ghost use Rattle.rx_cli.specs.Syntax.{explain_line, replies_line, report_line, v
 ghost use Rattle.rx_cli.specs.Syntax.{whole_line, with_asked, with_forms, with_verify_options};
 
 use crate::draft::Draft;
-use clap::{Arg, ArgAction, Command as Line, value_parser};
+use crate::people_syntax::takes_people;
+use crate::upkeep_syntax::takes_upkeep;
+use clap::{Arg, ArgAction, Command as Line};
 use std::alloc::{AllocError, Global};
 
 /// What `rxbatch --version` prints after the program's name: the version, and the kit that proved it, without the letter of
@@ -29,8 +31,13 @@ const COMPARED: [&'static str; 3] = [
     "Settlement to compare",
 ];
 
+// What is said of options that may be left out.
+pub(crate) const STAMP_OR_NOW: &'static str = "Date and time, CCYYMMDDHHMM; else now";
+
+pub(crate) const WORKERS_OR_ALL: &'static str = "Number of threads, 1 to 64; else the processors";
+
 /// The option `--name VALUE`.
-fn option<'a>(alloc: Global, name: &'a str, value: &'a str, help: &'a str) -> Arg<'a>
+pub(crate) fn option<'a>(alloc: Global, name: &'a str, value: &'a str, help: &'a str) -> Arg<'a>
     ensures rule { rule_of result ≡ required_option name.entry.now }
     ensures local { result.global ≡ false }
 {
@@ -42,7 +49,7 @@ fn option<'a>(alloc: Global, name: &'a str, value: &'a str, help: &'a str) -> Ar
 }
 
 /// The option `--name FILE`.
-fn file<'a>(alloc: Global, name: &'a str, help: &'a str) -> Arg<'a>
+pub(crate) fn file<'a>(alloc: Global, name: &'a str, help: &'a str) -> Arg<'a>
     ensures rule { rule_of result ≡ required_option name.entry.now }
     ensures local { result.global ≡ false }
 {
@@ -50,23 +57,23 @@ fn file<'a>(alloc: Global, name: &'a str, help: &'a str) -> Arg<'a>
 }
 
 /// The option `--name VALUE`, which may be absent.
-fn optional<'a>(alloc: Global, name: &'a str, value: &'a str, help: &'a str) -> Arg<'a>
+pub(crate) fn optional<'a>(alloc: Global, name: &'a str, value: &'a str, help: &'a str) -> Arg<'a>
     ensures rule { rule_of result ≡ optional_option name.entry.now }
     ensures local { result.global ≡ false }
 {
     option(alloc, name, value, help).required(false)
 }
 
-/// The option `--workers N`.
-fn workers<'a>(alloc: Global) -> Arg<'a>
+/// The option `--workers N`, which may be absent.
+pub(crate) fn workers<'a>(alloc: Global, help: &'a str) -> Arg<'a>
     ensures rule { rule_of result ≡ workers_option }
     ensures local { result.global ≡ false }
 {
-    option(alloc, "workers", "N", "Number of threads, 1 to 64").value_parser(value_parser!(u16))
+    optional(alloc, "workers", "N", help)
 }
 
 /// The flag `--name`.
-fn flag<'a>(alloc: Global, name: &'a str, help: &'a str) -> Arg<'a>
+pub(crate) fn flag<'a>(alloc: Global, name: &'a str, help: &'a str) -> Arg<'a>
     ensures rule { rule_of result ≡ flag name.entry.now }
     ensures local { result.global ≡ false }
 {
@@ -85,14 +92,14 @@ fn named<'a>(alloc: Global, name: &'a str, about: &'a str) -> Line<'a>
 }
 
 /// A draft of the line of this name.
-fn draft<'a>(alloc: Global, name: &'a str, about: &'a str) -> Draft<'a>
+pub(crate) fn draft<'a>(alloc: Global, name: &'a str, about: &'a str) -> Draft<'a>
     ensures { Draws (new_app name.entry.now) result }
 {
     Draft::of(named(alloc, name, about))
 }
 
 /// A line with the three input files.
-fn takes_inputs<'a>(alloc: Global, line: Draft<'a>) -> Draft<'a>
+pub(crate) fn takes_inputs<'a>(alloc: Global, line: Draft<'a>) -> Draft<'a>
     ensures { (app : App) → Draws app line.entry → Draws (with_inputs app) result }
 {
     line.arg(file(alloc, "sheet", "Plan sheet"))
@@ -122,8 +129,8 @@ fn takes_files<'a>(alloc: Global, line: Draft<'a>, told: [&'a str; 3]) -> Draft<
 fn takes_run_options<'a>(alloc: Global, line: Draft<'a>) -> Draft<'a>
     ensures { (app : App) → Draws app line.entry → Draws (with_run_options app) result }
 {
-    let stamp = option(alloc, "stamp", "STAMP", "Date and time, CCYYMMDDHHMM");
-    takes_ways(alloc, line.arg(stamp).arg(workers(alloc)))
+    let stamp = optional(alloc, "stamp", "STAMP", STAMP_OR_NOW);
+    takes_ways(alloc, line.arg(stamp).arg(workers(alloc, WORKERS_OR_ALL)))
 }
 
 /// A line with the other ways to adjudicate, which change no byte of an output.
@@ -255,7 +262,7 @@ fn takes_verify_options<'a>(alloc: Global, line: Draft<'a>) -> Draft<'a>
     ensures { (app : App) → Draws app line.entry → Draws (with_verify_options app) result }
 {
     let stamp = option(alloc, "stamp", "STAMP", "Date and time, CCYYMMDDHHMM");
-    let workers = workers(alloc).required(false);
+    let workers = workers(alloc, "Number of threads, 1 to 64");
     takes_ways(alloc, line.arg(stamp).arg(workers))
 }
 
@@ -268,14 +275,15 @@ pub(crate) fn verify<'a>(alloc: Global) -> Draft<'a>
     takes_verify_options(alloc, files)
 }
 
-/// A line with the three forms of a report.
+/// A line with the four forms of a report.
 fn takes_forms<'a>(alloc: Global, line: Draft<'a>) -> Draft<'a>
     ensures { (app : App) → Draws app line.entry → Draws (with_forms app) result }
 {
     let tsv = flag(alloc, "tsv", "Print tab-separated values");
     let json = flag(alloc, "json", "Print JSON");
+    let jsonl = flag(alloc, "jsonl", "Print JSON, a line for each answer");
     let html = flag(alloc, "html", "Print one HTML page");
-    line.arg(tsv).arg(json).arg(html)
+    line.arg(tsv).arg(json).arg(jsonl).arg(html)
 }
 
 /// The subcommand `report`.
@@ -336,5 +344,7 @@ pub(crate) fn line<'a>(alloc: Global) -> Result<Line<'a>, AllocError>
         .subcommand_required(true)
         .version(VERSION);
     let adjudicates = takes_adjudication(alloc, Draft::of(top));
-    takes_retracing(alloc, adjudicates).line()
+    let retraces = takes_retracing(alloc, adjudicates);
+    let peopled = takes_people(alloc, retraces);
+    takes_upkeep(alloc, peopled).line()
 }

@@ -7,10 +7,15 @@ ghost use Rattle.rx_cli.specs.Faults.{IsWords};
 
 use crate::asked::{CheckWords, Command, RunWords, ShowWords};
 use crate::fault::WordsFault;
-use crate::misuse::{explain_conflict, report_conflict, run_signed, verify_signed};
-use crate::options::{flag, inputs, number, outputs, text};
+use crate::misuse::{
+    age_conflict, explain_misuse, fault_no_number, members_conflict, report_conflict,
+    run_miscounted, verify_miscounted,
+};
+use crate::options::{flag, inputs, number_if_given, outputs, text};
+use crate::people_words::{adjudicate_taken, fault};
 use crate::retracing::{explain, report, verify};
 use crate::syntax::line;
+use crate::upkeeping::{age, members};
 use clap::ArgMatches;
 use rx_io::Inputs;
 use std::alloc::Global;
@@ -46,12 +51,11 @@ fn run<'a>(found: &ArgMatches<'a>) -> Option<RunWords<'a>>
 {
     let inputs = inputs(found)?;
     let outputs = outputs(found)?;
-    let stamp = text(found, "stamp")?;
-    let workers = number(found, "workers")?;
+    let workers = number_if_given(found, "workers")?;
     Some(RunWords {
         inputs,
         outputs,
-        stamp,
+        stamp: text(found, "stamp"),
         workers,
         plain: flag(found, "plain"),
         desk: flag(found, "desk"),
@@ -68,7 +72,7 @@ fn run_apart<'a>(alloc: Global, found: &ArgMatches<'a>) -> Result<RunWords<'a>, 
     ensures words { IfErr result (λ e. IsWords e → NoneHolds (HoldsRunApart (rows_of (found_of found.now)))) }
 {
     let Some(run) = run(found) else {
-        return Err(run_signed(alloc, found));
+        return Err(run_miscounted(alloc, found));
     };
     if run.names_one_twice() {
         return Err(WordsFault::Words(None));
@@ -98,15 +102,28 @@ fn named<'a>(alloc: Global, name: &str, found: &ArgMatches<'a>) -> Result<Comman
         },
         "explain" => match explain(found) {
             Some(explain) => Ok(Command::Explain(explain)),
-            None => Err(explain_conflict(alloc)),
+            None => Err(explain_misuse(alloc, found)),
         },
         "verify" => match verify(found) {
             Some(verify) => Ok(Command::Verify(verify)),
-            None => Err(verify_signed(alloc, found)),
+            None => Err(verify_miscounted(alloc, found)),
         },
         "report" => match report(found) {
             Some(report) => Ok(Command::Report(report)),
             None => Err(report_conflict(alloc)),
+        },
+        "adjudicate" => Ok(Command::Adjudicate(adjudicate_taken(alloc, found)?)),
+        "fault" => match fault(found) {
+            Some(numbers) => Ok(Command::Fault(numbers)),
+            None => Err(fault_no_number(alloc)),
+        },
+        "members" => match members(found) {
+            Some(members) => Ok(Command::Members(members)),
+            None => Err(members_conflict(alloc)),
+        },
+        "age" => match age(found) {
+            Some(age) => Ok(Command::Age(age)),
+            None => Err(age_conflict(alloc)),
         },
         "replies" => match text(found, "response") {
             Some(response) => Ok(Command::Replies(response)),

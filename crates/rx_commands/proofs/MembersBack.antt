@@ -7,8 +7,8 @@ use Rattle.rx_explain.specs.Explained.{IsExplained}
 use Rattle.rx_explain.specs.Spots.{Spot, spot_at}
 use Rattle.rx_explain.specs.declared.at.At.{At}
 use Rattle.rx_explain.specs.declared.explanation.Explanation.{Explanation}
-use Rattle.rx_explain_replay.specs.Adjudicated.{AreExplained}
-use Rattle.rx_explain_replay.specs.declared.batch.Adjudicated.{Adjudicated}
+use Rattle.rx_commands.specs.Adjudicated.{AreExplained}
+use Rattle.rx_commands.specs.declared.replay.batch.Adjudicated.{Adjudicated}
 use Rattle.rx_report.specs.AddsUp.{entry_of}
 use Rattle.rx_report.specs.declared.line.Line.{Line}
 use Rattle.rx_settle.specs.Answers.{is_approved}

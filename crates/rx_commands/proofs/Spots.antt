@@ -8,7 +8,8 @@ use Rattle.rx_sorted.specs.Ascending.{is_ascending}
 use Rattle.rx_report.specs.declared.line.Line.{Line}
 use Rattle.rx_report_text.specs.Whys.{spot_cmp, spot_of}
 use Rattle.rx_report_text.specs.declared.why.Why.{Why}
-use Rattle.rx_explain_replay.specs.declared.batch.Adjudicated.{Adjudicated}
+use Rattle.rx_commands.specs.declared.replay.batch.Adjudicated.{Adjudicated}
+use Rattle.rx_commands.specs.Tiers.{SheetTable}
 use Rattle.rx_commands.specs.Whys.{AreWhys}
 
 module _ {X K : Type 0} (cmp : K → K → Ordering) (key : X → K) where
@@ -34,6 +35,6 @@ module _ (R : Line → Why → Type 0) (spots : (l : Line) (w : Why) → R l w �
       ap (λ s. s ∷ map (λ (v : Why). v.spot) ws) (spots l w are.0) ∙ ap (λ ss. spot_of l ∷ ss) (spots_of ls ws are.1)
 
 -- the words under the lines of a batch stand where the lines do
-pub spots_of_whys : (b : Adjudicated) (lines : List Line) (whys : List Why) → AreWhys b lines whys
+pub spots_of_whys : (tiers : SheetTable) (b : Adjudicated) (lines : List Line) (whys : List Why) → AreWhys tiers b lines whys
     → map (λ (w : Why). w.spot) whys ≡ map spot_of lines
-spots_of_whys b lines whys are = spots_of _ (λ l w why. why.spot_is) lines whys are
+spots_of_whys tiers b lines whys are = spots_of _ (λ l w why. why.spot_is) lines whys are

@@ -1,9 +1,11 @@
--- Meaning: what the words of `explain` ask for. Words that aren't such numbers or ids ask for nothing: no record is at place 0.
+-- Meaning: what the words of `explain` and `report` ask for. Words that aren't such numbers or ids ask for nothing: no record is at place 0.
 use Rattle.std.specs.Prelude.{◌≡◌, ℕ, List, ◌∷◌, ◌++◌, ◌⊎◌, Option, Some, None, Ok}
 use Rattle.std.specs.Str.Parse.{IsNumeral, digits_value}
-use Rattle.rx_fields.specs.Text.{id_of}
+use Rattle.rx_fields.specs.Text.{id_of, trimmed}
 use Rattle.rx_explain.specs.declared.finding.Wanted.{Wanted}
 use Rattle.rx_explain.specs.declared.finding.Wanted.TheVariants as wanted
+use Rattle.rx_report.specs.declared.portion.Portion.{Portion}
+use Rattle.rx_report.specs.declared.portion.Portion.TheVariants as portion
 
 -- the number, in digits only
 abbrev pub IsDigits : List ℕ → ℕ → Type 0
@@ -28,3 +30,12 @@ AsksReference text provider (wanted.Place n) = n ≡ 0
 AsksReference text None (wanted.Reference n) = IsDigits text n
 AsksReference text (Some id) (wanted.ReferenceAt n p) = IsDigits text n × (id_of 15 id ≡ Ok p)
 AsksReference text provider other = ⊥
+
+-- the lines of the pharmacy, or of the family, with this id, without the blanks at its end
+abbrev pub AsksProvider : List ℕ → Portion → Type 0
+AsksProvider text (portion.Provider id) = id.now ≡ trimmed text
+AsksProvider text other = ⊥
+
+abbrev pub AsksFamily : List ℕ → Portion → Type 0
+AsksFamily text (portion.Family id) = id.now ≡ trimmed text
+AsksFamily text other = ⊥

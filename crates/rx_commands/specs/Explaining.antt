@@ -27,6 +27,7 @@ use Rattle.rx_show.specs.ResponseFile.{IsResponse, as_batch}
 use Rattle.rx_switch.specs.Planned.{IsNotPlanned}
 use Rattle.rx_commands.specs.Compared.{compared_of}
 use Rattle.rx_commands.specs.Retraced.{IsRetraced}
+use Rattle.rx_commands.specs.Tiers.{table_of, tier_of}
 use Rattle.rx_commands.specs.declared.explain_fault.ExplainFault.{ExplainFault}
 use Rattle.rx_commands.specs.declared.explain_fault.ExplainFault.TheVariants as fault
 use Rattle.rx_commands.specs.declared.manner.Manner.{Manner}
@@ -99,11 +100,14 @@ abbrev pub rejected_part : Manner → Retraced → Option Batch → Option At �
 rejected_part m r response None = []
 rejected_part m r response (Some at) = rejected_text_if m r response at.place (rejected_at r.asked.items at)
 
--- of a transaction, with the bytes of its own record
+-- of a transaction, with the bytes of its own record and the tier of its own product
 abbrev pub one_text : Manner → Retraced → Explanation → Option Compared → List ℕ
-one_text manner.Json r x c = explanation_object r.lot r.figures x (request_at r.details x.at.place) c
-one_text manner.Words r x c = explanation_words Largest r.lot r.figures x (request_at r.details x.at.place) c
-one_text manner.Full r x c = explanation_words All r.lot r.figures x (request_at r.details x.at.place) c
+one_text manner.Json r x c =
+    explanation_object r.lot r.figures x (request_at r.details x.at.place) (tier_of (table_of r.tiers) x.transaction) c
+one_text manner.Words r x c = explanation_words Largest r.lot r.figures x (request_at r.details x.at.place)
+    (tier_of (table_of r.tiers) x.transaction) c
+one_text manner.Full r x c = explanation_words All r.lot r.figures x (request_at r.details x.at.place)
+    (tier_of (table_of r.tiers) x.transaction) c
 
 abbrev pub option_text : Manner → Retraced → Option Batch → Option Explanation → List ℕ
 option_text m r response None = []

@@ -1,14 +1,19 @@
 -- Plumbing: which files there are.
+pub mod Adjudicated
 pub mod Asked
 pub mod Compared
+pub mod Courses
 pub mod Difference
 pub mod ExplainFault
 pub mod Explaining
 pub mod Forms
 pub mod Lines
+pub mod Places
+pub mod Records
 pub mod Reported
 pub mod Retraced
 pub mod Reversed
+pub mod Tiers
 pub mod Verdict
 pub mod Verified
 pub mod Whys

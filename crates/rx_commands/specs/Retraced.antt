@@ -18,6 +18,7 @@ use Rattle.rx_ledger.specs.Fold.{fold_replies}
 use Rattle.rx_ledger.specs.Ledger.{Ledger}
 use Rattle.rx_ledger.specs.Plan.{Plan}
 use Rattle.rx_sheet.specs.SheetText.{sheet_of_text}
+use Rattle.rx_commands.specs.Tiers.{table_of, table_of_text}
 use Rattle.rx_wave.specs.Decoding.{transmissions_of}
 use Rattle.rx_commands.specs.declared.retraced.Retraced.{Retraced}
 
@@ -33,8 +34,8 @@ near_in (wanted.One at) asked replies = found_in (wanted.Place at.place) 1 asked
 near_in (wanted.ReferenceAt reference provider) asked replies = found_in (wanted.Reference reference) 1 asked replies
 near_in other asked replies = []
 
--- sheet, books and batch are accepted; these are what the batch asks at the plan's door, the replies of adjudicating that
--- one record after another, and the explanations of what is asked for
+-- sheet, books and batch are accepted; the tiers are the sheet's; these are what the batch asks at the plan's door, the
+-- replies of adjudicating that one record after another, and the explanations of what is asked for
 pub record IsRetraced (sheet books batch : List ℕ) (w : Wanted) (r : Retraced) : Type 0 where
   pub plan : Plan
   pub period : Span
@@ -45,6 +46,7 @@ pub record IsRetraced (sheet books batch : List ℕ) (w : Wanted) (r : Retraced)
   pub batch_is : IsFile batch head r.details
   pub lot_is : r.lot ≡ head.lot
   pub figures_are : r.figures ≡ plan.figures
+  pub tiers_are : table_of r.tiers ≡ table_of_text sheet
   pub asked_are : r.asked.items ≡ transmissions_of plan.figures.door r.details
   pub replies_are : r.replies.items ≡ fold_replies head.lot plan 1 r.asked.items opening
   pub explanations_are : AreExplained head.lot plan r.asked.items opening w r.replies.items r.explanations.items

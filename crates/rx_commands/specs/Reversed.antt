@@ -4,7 +4,7 @@ use Rattle.rx_explain.specs.Before.{ledger_before}
 use Rattle.rx_explain.specs.Spots.{Spot, spot_at}
 use Rattle.rx_explain.specs.declared.at.At.{At}
 use Rattle.rx_explain.specs.declared.explanation.Explanation.{Explanation}
-use Rattle.rx_explain_replay.specs.declared.batch.Adjudicated.{Adjudicated}
+use Rattle.rx_commands.specs.declared.replay.batch.Adjudicated.{Adjudicated}
 use Rattle.rx_ledger.specs.Decisions.{decision_of}
 use Rattle.rx_ledger.specs.Fold.{asked}
 use Rattle.rx_ledger.specs.declared.decision.Decision.{Decision}

@@ -1,9 +1,10 @@
 ghost use Rattle.std.specs.Prelude.{◌≡◌, IfSome};
 ghost use Rattle.std.specs.Option.{option_copied};
-ghost use Rattle.rx_commands.specs.Asked.{AsksNumber, AsksRecord, AsksReference, IsDigits};
+ghost use Rattle.rx_commands.specs.Asked.{AsksFamily, AsksNumber, AsksProvider, AsksRecord, AsksReference, IsDigits};
 
 use rx_explain::{At, Wanted};
-use rx_fields::{Authorization, Provider, Reference};
+use rx_fields::{Authorization, Provider, Reference, trimmed};
+use rx_report::Portion;
 
 // Nothing: no record is at place 0.
 const NOTHING: Wanted = Wanted::Place(0);
@@ -60,6 +61,21 @@ fn reference_in(text: &str, provider: Option<&str>) -> Option<Wanted>
             Some(Wanted::ReferenceAt(reference, provider))
         }
     }
+}
+
+/// What `--provider` asks a report for: the lines of a pharmacy. Blanks at the end of its ID don't count, as for `explain`; an
+/// empty one is for all that name none.
+pub fn provider_asked(id: &str) -> Portion<'_>
+    ensures { AsksProvider id.now result }
+{
+    Portion::Provider(trimmed(id.as_bytes()))
+}
+
+/// What `--family` asks a report for: the lines of a family. Blanks at the end of its ID don't count.
+pub fn family_asked(id: &str) -> Portion<'_>
+    ensures { AsksFamily id.now result }
+{
+    Portion::Family(trimmed(id.as_bytes()))
 }
 
 // A number that is written in digits only.

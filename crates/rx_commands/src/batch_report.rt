@@ -1,6 +1,6 @@
 ghost use Rattle.std.specs.Prelude.{◌≡◌, ◌≤◌, IfErr, IfOk, length, map};
 ghost use Rattle.rx_fields.specs.declared.limits.TheConstants.{MOST_DETAILS};
-ghost use Rattle.rx_explain_replay.specs.Adjudicated.{IsAdjudicated};
+ghost use Rattle.rx_commands.specs.Adjudicated.{IsAdjudicated};
 ghost use Rattle.rx_ledger.specs.Fold.{fold_replies};
 ghost use Rattle.rx_commands.specs.Reported.{IsReported, IsTold};
 ghost use Rattle.rx_commands.specs.Reversed.{with_reversed};
@@ -9,11 +9,11 @@ ghost use Rattle.rx_switch.specs.Planned.{IsNotPlanned};
 ghost use Rattle.rx_wave.specs.Decoding.{transmissions_of};
 
 use crate::inputs::read_inputs;
+use crate::replay::Adjudicated;
 use crate::reversed::with_reversed;
 use rx_batch::Batch;
 use rx_books_store::Books;
 use rx_d0_values::{Reply, Transmission};
-use rx_explain_replay::Adjudicated;
 use rx_fields::{Lot, Memory};
 use rx_io::Inputs;
 use rx_ledger::Sheet;
@@ -170,7 +170,7 @@ fn told(alloc: Global, batch: Adjudicated) -> Result<Report, Memory>
 }
 
 // The lines of its answers, those of reversals with the members of their claims.
-#[tactic(auto, using(rx_explain_replay::proofs::Replied::one_each))]
+#[tactic(auto, using(crate::proofs::Replied::one_each))]
 fn lines_of(alloc: Global, batch: &Adjudicated) -> Result<Vec<Line>, Memory>
     requires { IsAdjudicated batch.now }
     ensures { IfOk result (λ lines.

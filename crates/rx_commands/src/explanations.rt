@@ -15,7 +15,7 @@ use rx_batch::Batch;
 use rx_d0_values::Rejected;
 use rx_explain::{At, Explanation, Wanted};
 use rx_explain_text::{
-    Compared, Listing, absent_text, explanation_json, explanation_text, rejection_json,
+    Cited, Compared, Listing, absent_text, explanation_json, explanation_text, rejection_json,
     rejection_text,
 };
 use rx_fields::Memory;
@@ -364,19 +364,16 @@ impl Task<'_, '_> {
             text.items ≡ one_text self.now.manner self.now.retraced.now explanation.now compared) }
     {
         let request = request_at(&self.retraced.details, explanation.at.place);
+        let tier = self.retraced.tiers.of(&explanation.transaction);
+        let cited = Cited { request, tier };
         let (lot, figures) = (self.retraced.lot, &self.retraced.figures);
         let listing = match self.manner {
-            Manner::Json => return explanation_json(
-                alloc,
-                lot,
-                figures,
-                explanation,
-                request,
-                compared,
-            ),
+            Manner::Json => {
+                return explanation_json(alloc, lot, figures, explanation, cited, compared);
+            }
             Manner::Words => Listing::Largest,
             Manner::Full => Listing::All,
         };
-        explanation_text(alloc, lot, figures, explanation, request, compared, listing)
+        explanation_text(alloc, lot, figures, explanation, cited, compared, listing)
     }
 }

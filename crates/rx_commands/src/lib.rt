@@ -13,6 +13,7 @@
 //! - `verify` does the run again and compares the texts of an earlier one's three files with it: the files are found the same
 //!   exactly where they are what the rules of docs/ make of the inputs (`specs/Verified.antt`, `specs/Verdict.antt`).
 //! - `show_table` has the table of `show --tsv`.
+//! - Module `replay` has what `report` and `explain` stand on: a batch replayed, with explanations of any of its transactions.
 //!
 //! ```rust
 //! let text = rx_commands::report(rt, alloc, &inputs, Portion::Whole, Form::Json)?;
@@ -36,20 +37,22 @@ mod manner;
 mod pieces;
 mod printed;
 mod record_words;
+pub mod replay;
 mod report_forms;
 mod retraced;
 mod reversed;
 mod table;
+mod tiers;
 mod verdict;
 mod whys;
 
-pub use asked_words::{number_asked, record_asked, reference_asked};
+pub use asked_words::{family_asked, number_asked, provider_asked, record_asked, reference_asked};
 pub use difference::first_difference;
 pub use explain_fault::ExplainFault;
 pub use explanations::explain;
 pub use manner::Manner;
 pub use pieces::{pieces_before, rest_of_piece};
 pub use printed::{Outcome, Printed};
-pub use report_forms::{Form, report};
+pub use report_forms::{Form, PrintedReport, report};
 pub use table::show_table;
 pub use verdict::verify;

@@ -1,43 +1,48 @@
 ghost use Rattle.std.specs.Prelude.{◌≡◌, IfOk};
 ghost use Rattle.std.specs.Option.{option_copied};
 ghost use Rattle.rx_commands.specs.Explaining.{rejected_at, rejected_in, request_at};
+ghost use Rattle.rx_commands.specs.Tiers.{table_of};
 ghost use Rattle.rx_commands.specs.Whys.{header_words, words_at};
 
+use crate::replay::Batch;
+use crate::tiers::Tiers;
 use rx_batch::Details;
 use rx_d0_values::{Body, Rejected, Transmission};
 use rx_explain::{At, Explanation, item};
-use rx_explain_replay::Batch;
-use rx_explain_text::{Listing, explanation_text, rejection_text};
+use rx_explain_text::{Cited, Listing, explanation_text, rejection_text};
 use rx_fields::Memory;
 use rx_ledger::Figures;
 use std::alloc::Global;
+
+/// What the words under an answer quote of the inputs: names of tiers, and the details of the batch.
+#[derive(Clone, Copy, Debug)]
+pub(crate) struct Quoted<'a> {
+    pub(crate) tiers: &'a Tiers,
+    pub(crate) details: &'a Details,
+}
 
 /// The explanation of an answer of a batch, as `explain` prints it in words where no response file is given; of an answer
 /// to a record whose header is rejected, which has no explanation, that of the record.
 pub(crate) fn words_of(
     alloc: Global,
     batch: &Batch<'_>,
-    details: &Details,
+    quoted: Quoted<'_>,
     at: At,
     explanation: Option<&Explanation>,
 ) -> Result<Vec<u8>, Memory>
-    ensures { let b = batch.now in IfOk result (λ text. text.items
-        ≡ words_at b.lot b.sheet.now b.asked.now details.now at (option_copied explanation.entry)) }
+    ensures { let b = batch.now in let q = quoted.entry in IfOk result (λ text. text.items ≡ words_at
+        b.lot b.sheet.now (table_of q.tiers.now) b.asked.now q.details.now at (option_copied explanation.entry)) }
 {
+    let Quoted { tiers, details } = quoted;
     let figures = batch.sheet.figures();
     match explanation {
         Some(explanation) => {
-            let request = request_at(details, at.place);
+            let cited = Cited {
+                request: request_at(details, at.place),
+                tier: tiers.of(&explanation.transaction),
+            };
             let listing = Listing::Largest;
-            explanation_text(
-                alloc,
-                batch.lot,
-                figures,
-                explanation,
-                request,
-                None,
-                listing,
-            )
+            explanation_text(alloc, batch.lot, figures, explanation, cited, None, listing)
         }
         None => header_words(
             alloc,

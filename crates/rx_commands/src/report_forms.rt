@@ -1,32 +1,45 @@
-ghost use Rattle.std.specs.Prelude.{IfErr, IfOk};
-ghost use Rattle.rx_explain_replay.specs.Adjudicated.{IsAdjudicated};
-ghost use Rattle.rx_commands.specs.Forms.{HasWhys, IsInForm, IsPage, IsReportText, IsText};
+ghost use Rattle.std.specs.Prelude.{◌≡◌, ◌==◌, IfErr, IfOk, Ok, length, not};
+ghost use Rattle.rx_commands.specs.Adjudicated.{IsAdjudicated};
+ghost use Rattle.rx_commands.specs.Forms.{HasWhys, IsPrintedReport, IsReportText, IsText, head_of};
 ghost use Rattle.rx_commands.specs.Reported.{IsTold};
 ghost use Rattle.rx_report_text.specs.ClaimsShown.{shows_claims};
+ghost use Rattle.rx_commands.specs.Tiers.{table_of_text};
 ghost use Rattle.rx_switch.specs.Planned.{IsNotPlanned};
 
 use crate::batch_report::{Report, job_report};
+use crate::replay::Adjudicated;
+use crate::tiers::Tiers;
 use crate::whys::whys_of;
-use rx_explain_replay::Adjudicated;
 use rx_fields::Memory;
 use rx_io::Inputs;
-use rx_report::{Account, Groups, Line, Portion, account_of, kept_lines, tsv_text};
-use rx_report_text::{Whys, account_json, columns_text, explained_page, shows_claims};
+use rx_report::{Account, Groups, Line, Portion, account_of, claims_json, kept_lines, tsv_text};
+use rx_report_text::{
+    Origin, PageHead, Whys, account_json, columns_text, explained_page, shows_claims,
+};
 use rx_switch::SwitchFault;
 use std::alloc::Global;
 use std::thread::Threads;
 
 /// What a report is written as.
-#[derive(Clone, Copy, Debug, PartialEq, Eq)]
-pub enum Form {
+#[derive(Clone, Copy, Debug)]
+pub enum Form<'a> {
     /// Aligned columns.
     Columns,
     /// A line for each answer, with a tab between fields.
     Tsv,
     /// JSON.
     Json,
-    /// One HTML page, on which each claim unfolds to why it was answered so.
-    Html,
+    /// JSON, an object a line.
+    Jsonl,
+    /// One HTML page, on which each claim unfolds to why it was answered so; at its head it says this origin.
+    Html(Origin<'a>),
+}
+
+/// What `report` prints, and whether a line is in it: a portion may have none.
+#[derive(Debug, Drop)]
+pub struct PrintedReport {
+    pub text: Vec<u8>,
+    pub has_lines: bool,
 }
 
 /// What `report` prints: a line for each answer of a portion of a batch, by provider, with what they come to. The batch is
@@ -40,85 +53,103 @@ pub fn report<R: Threads + Sync>(
     alloc: Global,
     inputs: &Inputs<&[u8]>,
     portion: Portion<'_>,
-    form: Form,
-) -> Result<Vec<u8>, SwitchFault>
-    ensures reported { let given = inputs.now in IfOk result (λ text.
-        IsReportText given.sheet.now given.books.now given.batch.now portion.entry form text.items) }
+    form: Form<'_>,
+) -> Result<PrintedReport, SwitchFault>
+    ensures reported { let given = inputs.now in IfOk result
+        (IsReportText given.sheet.now given.books.now given.batch.now portion.entry form.entry) }
     ensures refused { let given = inputs.now in
         IfErr result (λ fault. IsNotPlanned given.sheet.now given.books.now given.batch.now fault) }
 {
     let report = job_report(rt, alloc, inputs)?;
-    let text = text_in_form(alloc, portion, form, &report);
+    let printed = text_in_form(alloc, portion, form, inputs.sheet, &report);
     drop(report);
-    Ok(text?)
+    Ok(printed?)
 }
 
-// The text of a portion in a form.
+// The text of a portion in a form, with the tiers of the sheet's text, and whether the portion has lines.
 fn text_in_form(
     alloc: Global,
     portion: Portion<'_>,
-    form: Form,
+    form: Form<'_>,
+    sheet: &[u8],
     report: &Report,
-) -> Result<Vec<u8>, Memory>
+) -> Result<PrintedReport, Memory>
     requires adjudicated { IsAdjudicated report.now.batch }
     requires counted { IsTold report.now.batch.asked.items report.now.batch.replies.items report.now }
-    ensures { IfOk result (λ text. IsInForm portion.entry form report.now text.items) }
+    ensures { IfOk result (IsPrintedReport portion.entry form.entry (table_of_text sheet.now) report.now) }
 {
     let kept = kept_lines(alloc, portion, &report.lines)?;
     let groups = Groups::new(alloc, &kept)?;
     let account = account_of(alloc, portion, &report.settled, &kept, &groups)?;
-    text_of_account(alloc, portion, form, &report.batch, &kept, &account)
+    let batch = &report.batch;
+    let text = text_of_account(alloc, portion, form, sheet, batch, &kept, &account);
+    with_lines(text, &kept)
+}
+
+// The text, and whether there are lines.
+fn with_lines(text: Result<Vec<u8>, Memory>, kept: &[Line]) -> Result<PrintedReport, Memory>
+    ensures { IfOk result (λ printed. (printed.has_lines ≡ not (length kept.now == 0)) × (text ≡ Ok printed.text)) }
+{
+    match text {
+        Ok(text) => Ok(PrintedReport {
+            text,
+            has_lines: !kept.is_empty(),
+        }),
+        Err(refused) => Err(refused),
+    }
 }
 
 // The text of lines and their account.
 fn text_of_account(
     alloc: Global,
     portion: Portion<'_>,
-    form: Form,
+    form: Form<'_>,
+    sheet: &[u8],
     batch: &Adjudicated,
     kept: &[Line],
     account: &Account<'_>,
 ) -> Result<Vec<u8>, Memory>
     requires { IsAdjudicated batch.now }
     ensures { IfOk result (λ text.
-        IsText portion.entry form batch.now kept.now account.now text.items) }
+        IsText portion.entry form.entry (table_of_text sheet.now) batch.now kept.now account.now text.items) }
 {
     match form {
-        Form::Tsv => tsv_text(alloc, kept),
+        Form::Tsv => tsv_text(alloc, batch.lot, kept),
         Form::Columns => columns_text(alloc, portion, account),
-        Form::Json => account_json(alloc, portion, account),
-        Form::Html => page_text(alloc, portion, batch, kept, account),
+        Form::Json => account_json(alloc, batch.lot, portion, account),
+        Form::Jsonl => claims_json(alloc, batch.lot, kept),
+        Form::Html(origin) => {
+            let whys = whys_shown(alloc, sheet, batch, kept, shows_claims(portion, account))?;
+            explained_page(alloc, &head_of(batch, origin), portion, account, &whys)
+        }
     }
 }
 
-// The page of an account, with the explanation of each claim that it shows.
-fn page_text(
-    alloc: Global,
-    portion: Portion<'_>,
-    batch: &Adjudicated,
-    kept: &[Line],
-    account: &Account<'_>,
-) -> Result<Vec<u8>, Memory>
-    requires { IsAdjudicated batch.now }
-    ensures { IfOk result (λ text. IsPage portion.entry batch.now kept.now account.now text.items) }
+// What the page of a batch says at its head.
+fn head_of<'a>(batch: &Adjudicated, origin: Origin<'a>) -> PageHead<'a>
+    ensures { result ≡ head_of batch.now origin.entry }
 {
-    let whys = whys_shown(alloc, batch, kept, shows_claims(portion, account))?;
-    explained_page(alloc, batch.lot, portion, account, &whys)
+    PageHead {
+        lot: batch.lot,
+        door: *batch.sheet.door(),
+        origin,
+    }
 }
 
 // Why the answers of these lines were given, where they are shown.
 fn whys_shown(
     alloc: Global,
+    sheet: &[u8],
     batch: &Adjudicated,
     kept: &[Line],
     are_shown: bool,
 ) -> Result<Whys, Memory>
     requires { IsAdjudicated batch.now }
-    ensures { IfOk result (HasWhys are_shown batch.now kept.now) }
+    ensures { IfOk result (HasWhys are_shown (table_of_text sheet.now) batch.now kept.now) }
 {
-    if are_shown {
-        whys_of(alloc, batch, kept)
-    } else {
-        Ok(Whys::new(alloc))
+    if !are_shown {
+        return Ok(Whys::new(alloc));
     }
+    let tiers = Tiers::read(alloc, sheet)?;
+    whys_of(alloc, batch, &tiers, kept)
 }

@@ -1,7 +1,7 @@
 ghost use Rattle.std.specs.Prelude.{◌≡◌, ◌≤◌, ◌==◌, IfErr, IfOk, length};
 ghost use Rattle.std.specs.List.{All, AllZip, find};
 ghost use Rattle.std.specs.Option.{option_copied};
-ghost use Rattle.rx_explain_replay.specs.Records.{AreDecided, IsAt};
+ghost use Rattle.rx_commands.specs.Records.{AreDecided, IsAt};
 ghost use Rattle.rx_fields.specs.declared.limits.TheConstants.{MOST_DETAILS};
 ghost use Rattle.rx_ledger.specs.Fold.{fold_replies};
 ghost use Rattle.rx_switch.specs.Planned.{IsNotPlanned};
@@ -11,12 +11,13 @@ mod asked;
 mod response;
 
 use crate::inputs::read_inputs;
+use crate::replay::{Batch, Explained, Replayed, explain_each, replay, traced};
+use crate::tiers::Tiers;
 use asked::asked_in;
 use rx_batch::Details;
 use rx_books_store::Books;
 use rx_d0_values::{Reply, Transmission};
 use rx_explain::{At, Events, Explanation, Wanted, find, item, place_at};
-use rx_explain_replay::{Batch, Explained, Replayed, explain_each, replay, traced};
 use rx_fields::{Lot, Memory};
 use rx_io::Inputs;
 use rx_ledger::{Figures, Sheet};
@@ -32,6 +33,8 @@ pub(crate) struct Retraced {
     pub lot: Lot,
     /// The plan's figures.
     pub figures: Figures,
+    /// The names of its tiers.
+    pub tiers: Tiers,
     /// The details of the batch.
     pub details: Details,
     /// What they ask.
@@ -77,9 +80,14 @@ pub(crate) fn retrace<R: Threads + Sync>(
         drop((batch, asked));
         return Err(SwitchFault::Memory);
     };
+    let Ok(tiers) = Tiers::read(alloc, inputs.sheet) else {
+        drop((batch, asked, answered));
+        return Err(SwitchFault::Memory);
+    };
     Ok(Retraced {
         lot,
         figures,
+        tiers,
         details: batch.details,
         asked,
         replies: answered.replies,
@@ -97,7 +105,7 @@ struct Answered {
 }
 
 // The replies to the records, one after another, and the explanations that are asked for.
-#[tactic(auto, using(rx_explain_replay::proofs::Replied::one_each))]
+#[tactic(auto, using(crate::proofs::Replied::one_each))]
 fn answer(
     alloc: Global,
     lot: Lot,
@@ -134,7 +142,7 @@ fn answer(
 }
 
 // Where transactions stand that may be meant, where none is what is asked for.
-#[tactic(auto, using(rx_explain_replay::proofs::Replied::one_each))]
+#[tactic(auto, using(crate::proofs::Replied::one_each))]
 fn near_in(
     alloc: Global,
     wanted: &Wanted,
@@ -166,7 +174,7 @@ fn replay_asked(alloc: Global, batch: &Batch<'_>, wanted: &Wanted) -> Result<Rep
 }
 
 // The explanations that are asked for, of a batch that was replayed.
-#[tactic(auto, using(rx_explain_replay::proofs::Replied::one_each))]
+#[tactic(auto, using(crate::proofs::Replied::one_each))]
 fn explain_wanted(
     alloc: Global,
     batch: &Batch<'_>,

@@ -1,12 +1,12 @@
 ghost use Rattle.std.specs.Prelude.{◌≡◌, ◌++◌, IfOk, OnOk, drop, map};
 ghost use Rattle.std.specs.List.{flat_map};
-ghost use Rattle.rx_explain_replay.specs.Adjudicated.{IsAdjudicated};
+ghost use Rattle.rx_commands.specs.Adjudicated.{IsAdjudicated};
 ghost use Rattle.rx_settle.specs.Answers.{is_approved};
 ghost use Rattle.rx_commands.specs.Reversed.{first_member, member_back, place_of, told_lines, with_member, with_reversed};
 
+use crate::replay::{Adjudicated, explanations};
 use rx_d0_values::Answer;
 use rx_explain::{At, Explanation};
-use rx_explain_replay::{Adjudicated, explanations};
 use rx_fields::{Id, Memory, Person};
 use rx_ledger::Decision;
 use rx_report::Line;

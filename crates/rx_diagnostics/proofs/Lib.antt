@@ -1,5 +1,6 @@
 -- Plumbing: which files there are.
 pub mod FirstFaults
+pub mod KnownNames
 pub mod Lacking
 pub mod Listings
 pub mod Searches

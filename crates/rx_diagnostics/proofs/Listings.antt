@@ -1,11 +1,11 @@
 -- The nearest person, line by line.
-use Rattle.std.proofs.Common.{◌≡◌, ℕ, true, cond, List, [], ◌∷◌, ◌++◌, Option, Some, None, map, refl, ap, ◌∙◌, sym, inl, inr}
+use Rattle.std.proofs.Common.{◌≡◌, ℕ, true, cond, List, [], ◌∷◌, ◌++◌, Option, Some, refl, ap, ◌∙◌, sym, inl, inr}
 use Rattle.std.specs.List.{filter, last_or}
 use Rattle.std.proofs.lemmas.Bool.{cases_Bool}
 use Rattle.std.proofs.lemmas.List.{append-nil}
 use Rattle.std.proofs.lemmas.List.Elements.{filter-append}
 use Rattle.rx_diagnostics.specs.Parts.{field_of}
-use Rattle.rx_diagnostics.specs.BooksMembers.{is_member_of, is_until, first_of, nearest, persons_in, nearer}
+use Rattle.rx_diagnostics.specs.BooksMembers.{is_member_of, is_until, nearest, persons_in, nearer}
 
 last_or-last : (o : Option (List ℕ)) (xs : List (List ℕ)) (x : List ℕ) → last_or o (xs ++ x ∷ []) ≡ Some x
 last_or-last o [] x = refl

@@ -208,6 +208,17 @@ batch_text text (fault.AfterTrailer at) = after_text text at
 batch_text text (fault.TooMuch at) = too_much_text
 batch_text text fault.Memory = no_memory_text
 
+-- the command that takes away a byte order mark, or unpacks a file
+abbrev pub front_mend : List ℕ → List ℕ
+front_mend text =
+    if has_mark text then codes "sed -i '1s/^\\xef\\xbb\\xbf//'"
+    else (if begins text (31 ∷ 139 ∷ []) then codes "sh -c 'zcat < \"$1\" > \"$1.new\" && mv \"$1.new\" \"$1\"' sh" else [])
+
+-- the command that mends the file, empty where no one step does
+abbrev pub batch_mend : List ℕ → BatchFault → List ℕ
+batch_mend text (fault.Outside at) = if at == 0 then front_mend text else []
+batch_mend text other = []
+
 -- the same where the text can't be read again
 abbrev pub unread_batch_text : BatchFault → List ℕ
 unread_batch_text (fault.Outside at) = codes "a byte where a record could begin: expected STX (X'02')"

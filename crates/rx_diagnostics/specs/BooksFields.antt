@@ -3,7 +3,7 @@ use Rattle.std.specs.Prelude.{ℕ, ◌+◌, Bool, false, not, ◌&&◌, ◌||◌
 use Rattle.std.specs.Prelude.{List, [], ◌∷◌, ◌++◌, codes, length, Option, Some, None, option_map}
 use Rattle.std.specs.Prelude.{Result, Ok, Err, is_err}
 use Rattle.std.specs.Fmt.{decimal}
-use Rattle.std.specs.List.{ends_with}
+use Rattle.std.specs.List.{ends_with, list_any}
 use Rattle.rx_fields.specs.Calendar.{date_of}
 use Rattle.rx_fields.specs.Digits.{number_of}
 use Rattle.rx_fields.specs.declared.fault.FieldFault.{FieldFault}
@@ -30,12 +30,12 @@ name_of field.Date = codes "date"
 name_of field.Product = codes "product"
 name_of field.Quantity = codes "quantity"
 name_of field.Days = codes "days"
-name_of field.Cost = codes "F6"
-name_of field.Fee = codes "F7"
-name_of field.ClaimDeductible = codes "FH"
-name_of field.Copay = codes "FI"
-name_of field.Coinsurance = codes "4U"
-name_of field.Number = codes "number"
+name_of field.Cost = codes "ingredient cost (F6)"
+name_of field.Fee = codes "dispensing fee (F7)"
+name_of field.ClaimDeductible = codes "deductible (FH)"
+name_of field.Copay = codes "copay (FI)"
+name_of field.Coinsurance = codes "coinsurance (4U)"
+name_of field.Number = codes "authorization number"
 
 abbrev pub holds_of : Field → Holds
 holds_of field.Family = holds.Id 20
@@ -50,11 +50,11 @@ holds_of field.Date = holds.Date
 holds_of field.Product = holds.Digits 11
 holds_of field.Quantity = holds.Number 1 MOST_QUANTITY
 holds_of field.Days = holds.Number 1 999
-holds_of field.Cost = holds.Number 0 MOST_CENTS
-holds_of field.Fee = holds.Number 0 MOST_CENTS
-holds_of field.ClaimDeductible = holds.Number 0 MOST_CENTS
-holds_of field.Copay = holds.Number 0 MOST_CENTS
-holds_of field.Coinsurance = holds.Number 0 MOST_CENTS
+holds_of field.Cost = holds.Cents
+holds_of field.Fee = holds.Cents
+holds_of field.ClaimDeductible = holds.Cents
+holds_of field.Copay = holds.Cents
+holds_of field.Coinsurance = holds.Cents
 holds_of field.Number = holds.Digits 15
 
 -- ---- the fields of each kind of line, after the kind
@@ -120,6 +120,15 @@ figure_fault field =
     else (if nat_lt 1 (length field) && begins field (codes "0") then Some (codes "expected no leading zeros")
     else (if nat_lt 20 (length field) then Some (codes "expected at most 20 digits") else None))
 
+-- an amount in dollars has a point
+abbrev pub has_point : List ℕ → Bool
+has_point field = list_any (λ b. b == 46) field
+
+abbrev pub cents_fault : List ℕ → Option (List ℕ)
+cents_fault field =
+    if has_point field then Some (codes "expected cents, without a point, e.g. 15000 for 150.00")
+    else number_fault 0 MOST_CENTS field
+
 abbrev pub digits_fault : ℕ → List ℕ → Option (List ℕ)
 digits_fault count field =
     if length field == count && all_digits field then None
@@ -129,6 +138,7 @@ abbrev pub fault_in : Holds → List ℕ → Option (List ℕ)
 fault_in (holds.Id most) field = id_fault most field
 fault_in holds.Date field = date_fault field
 fault_in (holds.Number low high) field = number_fault low high field
+fault_in holds.Cents field = cents_fault field
 fault_in holds.Figure field = figure_fault field
 fault_in (holds.Digits count) field = digits_fault count field
 

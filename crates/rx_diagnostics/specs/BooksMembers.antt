@@ -1,5 +1,5 @@
 -- Meaning: which persons of a family the lines of a books file list, and which of them is nearest to a person.
-use Rattle.std.specs.Prelude.{ℕ, ◌-◌, Bool, ◌&&◌, if◌then◌else◌, List, [], ◌∷◌, codes, map, take, Option, Some, None}
+use Rattle.std.specs.Prelude.{ℕ, ◌-◌, Bool, false, ◌&&◌, if◌then◌else◌, List, [], ◌∷◌, codes, length, map, take, Option, Some, None}
 use Rattle.std.specs.List.{filter, last_or}
 use Rattle.std.specs.Ordering.{is_le}
 use Rattle.std.specs.Str.{bytes_eq}
@@ -31,6 +31,17 @@ first_of (x ∷ xs) = Some x
 -- the last of the listed ones that doesn't come after the person, or else the first
 abbrev pub nearest : List ℕ → List (List ℕ) → Option (List ℕ)
 nearest person listed = last_or (first_of listed) (filter (is_until person) listed)
+
+-- those listed in the whole file, and whether this one is among them
+abbrev pub persons_listed : List ℕ → List ℕ → List (List ℕ)
+persons_listed text family = persons_in family (take (length text) (cut 10 text))
+
+abbrev pub is_found : List ℕ → Option (List ℕ) → Bool
+is_found person None = false
+is_found person (Some listed) = bytes_eq listed person
+
+abbrev pub is_listed : List ℕ → List ℕ → List ℕ → Bool
+is_listed text family person = is_found person (nearest person (persons_listed text family))
 
 -- ---- one listed person after another
 

@@ -1,5 +1,5 @@
 -- Text: what is said of faults of a books file: what stands there, and what is expected.
-use Rattle.std.specs.Prelude.{◌≡◌, ℕ, ◌+◌, ◌-◌, Bool, not, ◌||◌, ◌==◌, nat_lt, nat_eq, if◌then◌else◌}
+use Rattle.std.specs.Prelude.{ℕ, ◌+◌, ◌-◌, Bool, not, ◌||◌, ◌==◌, nat_lt, nat_eq, if◌then◌else◌}
 use Rattle.std.specs.Prelude.{List, [], ◌∷◌, ◌++◌, codes, length, Option, Some, None, option_map, string_bytes}
 use Rattle.std.specs.Fmt.{decimal}
 use Rattle.std.specs.List.{ends_with}
@@ -15,7 +15,7 @@ use Rattle.rx_fields.specs.Digits.{number_of}
 use Rattle.rx_fields.specs.declared.limits.TheConstants.{MOST_CENTS, MOST_LINES}
 use Rattle.rx_diagnostics.specs.BooksFields.{claim_fields, date_fault, first_claim_fields, first_fault, member_fields}
 use Rattle.rx_diagnostics.specs.BooksFields.{short_total_fields, total_fields}
-use Rattle.rx_diagnostics.specs.BooksMembers.{nearest, persons_above}
+use Rattle.rx_diagnostics.specs.BooksMembers.{is_listed, nearest, persons_above}
 use Rattle.rx_diagnostics.specs.BooksTotals.{totals_text}
 use Rattle.rx_diagnostics.specs.Looks.{begins, has_mark, looks_like}
 use Rattle.rx_diagnostics.specs.Parts.{field_of, fields, line_feeds, line_of}
@@ -102,11 +102,17 @@ called kind.Member = codes "member"
 called kind.Claim = codes "claim"
 called kind.Total = codes "total"
 
--- in what order the lines of a kind stand, and the command that sorts these lines
+-- in what order the lines of a kind stand
 abbrev pub order_of : LineKind → List ℕ
-order_of kind.Member = codes "members ascend by family, then person (LC_ALL=C sort -t'|' -k2,2 -k3,3)"
-order_of kind.Claim = codes "claims ascend by provider, reference and date (LC_ALL=C sort -t'|' -k2,2 -k3,3n -k4,4)"
-order_of kind.Total = codes "totals ascend by family (LC_ALL=C sort -t'|' -k2,2)"
+order_of kind.Member = codes "members ascend by family, then person"
+order_of kind.Claim = codes "claims ascend by provider, reference and date"
+order_of kind.Total = codes "totals ascend by family"
+
+-- the command that puts the head line first, then the members, the claims and all other lines, each of them by their key
+abbrev pub sort_command : List ℕ
+sort_command =
+    codes "LC_ALL=C sh -c 'for k in B M C \"[^BMC]\"; do grep \"^$k\" \"$1\" | sort -t\"|\" -k2,2 -k3,3$([ \"$k\" = C ] && echo n)"
+    ++ codes " -k4,4; done > \"$1.new\" && mv \"$1.new\" \"$1\"' sh"
 
 -- the key of a line: family and person, or provider, reference and date, or family
 abbrev pub key_of : List ℕ → List ℕ
@@ -116,22 +122,29 @@ key_of line =
     else (if begins line (codes "C") then second ++ (codes "/" ++ (third ++ (codes "/" ++ shown_text (field_of line 4))))
     else second)
 
-abbrev pub twice_text : List ℕ → List ℕ → List ℕ
-twice_text key order = key ++ (codes " is listed twice: " ++ order)
+-- a line and the one above it with the same key
+abbrev pub twice_text : List ℕ → ℕ → List ℕ
+twice_text key number =
+    key ++ (codes " is listed twice, first at line " ++ (decimal (number - 1) ++ codes ": delete one of these lines"))
 
 abbrev pub after_text : List ℕ → List ℕ → List ℕ → List ℕ
 after_text key before order = key ++ (codes " comes after " ++ (before ++ (codes ": " ++ order)))
 
-unfoldable pub keys_text : List ℕ → List ℕ → List ℕ → List ℕ
-keys_text key before order = if bytes_eq key before then twice_text key order else after_text key before order
+unfoldable pub keys_telling : List ℕ → List ℕ → List ℕ → ℕ → Telling
+keys_telling key before order number =
+    if bytes_eq key before then plain (twice_text key number) else mended (after_text key before order) sort_command
 
--- a line that stands out of order, and the line above
-unfoldable pub order_text : List ℕ → List ℕ → List ℕ
-order_text line above =
-    if not (rank_of (kind_of line) == rank_of (kind_of above))
-    then codes "a " ++ (called (kind_of line) ++ (codes " line comes after a " ++ (called (kind_of above)
+abbrev pub kinds_text : LineKind → LineKind → List ℕ
+kinds_text one other =
+    codes "a " ++ (called one ++ (codes " line comes after a " ++ (called other
     ++ codes " line: first come all M, then all C, then all T")))
-    else keys_text (key_of line) (key_of above) (order_of (kind_of line))
+
+-- a line of this number that stands out of order, and the line above
+unfoldable pub order_telling : List ℕ → List ℕ → ℕ → Telling
+order_telling line above number =
+    if not (rank_of (kind_of line) == rank_of (kind_of above))
+    then mended (kinds_text (kind_of line) (kind_of above)) sort_command
+    else keys_telling (key_of line) (key_of above) (order_of (kind_of line)) number
 
 -- ---- a line after the head
 
@@ -234,12 +247,23 @@ unlisted_text family person None =
     codes "member " ++ (shown_text family ++ (codes "/" ++ (shown_text person
     ++ (codes " isn't listed: no M line above has family " ++ shown_text family))))
 
--- a total whose family has no member, or a claim whose member isn't listed
-unfoldable pub unknown_text : List ℕ → ℕ → List ℕ
-unknown_text text number =
-    let line = line_of text number in let family = field_of line 5 in let person = field_of line 6 in
-    if begins line (codes "T") then memberless_text (field_of line 2)
-    else unlisted_text family person (nearest person (persons_above text number family))
+-- a claim above the line of its member
+abbrev pub below_text : List ℕ → List ℕ → List ℕ
+below_text family person =
+    codes "member " ++ (shown_text family ++ (codes "/" ++ (shown_text person
+    ++ codes " is listed only below this claim: first come all M, then all C, then all T")))
+
+abbrev pub claim_telling : List ℕ → ℕ → List ℕ → List ℕ → Telling
+claim_telling text number family person =
+    if is_listed text family person then mended (below_text family person) sort_command
+    else plain (unlisted_text family person (nearest person (persons_above text number family)))
+
+-- a total whose family has no member, or a claim whose member isn't listed, or only below
+unfoldable pub unknown_telling : List ℕ → ℕ → Telling
+unknown_telling text number =
+    let line = line_of text number in
+    if begins line (codes "T") then plain (memberless_text (field_of line 2))
+    else claim_telling text number (field_of line 5) (field_of line 6)
 
 -- ---- each fault
 
@@ -256,8 +280,8 @@ telling_of said = record { text = string_bytes said.text; mend = said.mend.now }
 abbrev pub books_telling : List ℕ → BooksFault → Telling
 books_telling text fault.Head = head_telling text (line_of text 1)
 books_telling text (fault.Line n) = line_telling text n
-books_telling text (fault.Order n) = plain (order_text (line_of text n) (line_of text (n - 1)))
-books_telling text (fault.UnknownMember n) = plain (unknown_text text n)
+books_telling text (fault.Order n) = order_telling (line_of text n) (line_of text (n - 1)) n
+books_telling text (fault.UnknownMember n) = unknown_telling text n
 books_telling text (fault.Totals n) = plain (totals_text text n)
 books_telling text fault.TooMuch = plain (too_many_text text)
 books_telling text fault.Memory = plain no_memory_text

@@ -1,7 +1,8 @@
 -- Meaning: what is said of a figure of a books file that isn't the sum over the claims, and of a total line that is lacking.
-use Rattle.std.specs.Prelude.{ℕ, ◌+◌, ◌-◌, Bool, false, not, ◌==◌, if◌then◌else◌, List, [], ◌∷◌, ◌++◌, codes, count_by, find}
+use Rattle.std.specs.Prelude.{ℕ, ◌+◌, ◌-◌, Bool, false, not, ◌&&◌, ◌==◌, if◌then◌else◌, List, [], ◌∷◌, ◌++◌, codes, count_by, find}
 use Rattle.std.specs.Prelude.{length, slice_get, Option, Some, None, Result, Ok, Err}
 use Rattle.std.specs.Fmt.{decimal}
+use Rattle.std.specs.List.{list_any}
 use Rattle.std.specs.Option.{unwrap_or}
 use Rattle.std.specs.Ordering.{is_lt}
 use Rattle.rx_books_text.specs.Printed.{PrintedParts, total_family}
@@ -11,7 +12,7 @@ use Rattle.rx_books_text.specs.declared.line.TotalLine.{TotalLine}
 use Rattle.rx_books_text.specs.declared.version.Version.{Version}
 use Rattle.rx_books_text.specs.declared.version.Version.TheVariants as version
 use Rattle.rx_fields.specs.Calendar.{date_text}
-use Rattle.rx_fields.specs.Numbered.{Span}
+use Rattle.rx_fields.specs.Numbered.{Span, is_within}
 use Rattle.rx_fields.specs.Order.{id_cmp}
 use Rattle.rx_ledger.specs.Members.{is_same}
 use Rattle.rx_ledger.specs.Rows.{claimed_by}
@@ -122,8 +123,16 @@ figure_text p number =
     figure_or p (slice_get p.ledger.members (number - 2)) (slice_get p.deductibles (number - 2))
     (slice_get p.totals (number - 2 - length p.ledger.members - length p.ledger.rows))
 
+-- there are claims, and none is within the period
+abbrev pub has_none_within : Span → List Row → Bool
+has_none_within period rows = not (length rows == 0) && not (list_any (λ r. is_within period r.key.date) rows)
+
+-- none of the file is within the period that its head says
+unfoldable pub head_doubt : PrintedParts → List ℕ
+head_doubt p = if has_none_within p.head.period p.ledger.rows then codes "; no claim is within the days of line 1: are they right?" else []
+
 abbrev pub printed_text : Result PrintedParts BooksFault → ℕ → List ℕ
-printed_text (Ok p) number = figure_text p number
+printed_text (Ok p) number = figure_text p number ++ head_doubt p
 printed_text (Err f) number = codes "a figure isn't the sum over the claims"
 
 -- a figure that isn't the sum, or the family without its total line

@@ -1,5 +1,5 @@
 -- Meaning: what is said of faults of a plan sheet: where each stands, what is there, and what is expected.
-use Rattle.std.specs.Prelude.{◌≡◌, ℕ, ◌+◌, ◌≤◌, not, ◌==◌, if◌then◌else◌, List, [], ◌++◌, bit_and, codes, count_by, length, take}
+use Rattle.std.specs.Prelude.{◌≡◌, ℕ, ◌+◌, ◌≤◌, not, ◌==◌, if◌then◌else◌, List, [], ◌++◌, bit_and, codes, count_by, drop, length, take}
 use Rattle.std.specs.Prelude.{Bool, MatchBool, Option, Some, None, Result, Ok, Err, string_bytes}
 use Rattle.std.specs.Str.{IsValidUpTo, bytes_eq, is_utf8}
 use Rattle.toml.specs.Data.{Members, get_member}
@@ -10,12 +10,12 @@ use Rattle.rx_sheet.specs.Names.{name_of}
 use Rattle.rx_sheet.specs.SheetText.{tree_of}
 use Rattle.rx_sheet.specs.declared.fault.SheetFault.{SheetFault}
 use Rattle.rx_sheet.specs.declared.fault.SheetFault.TheVariants as fault
-use Rattle.rx_diagnostics.specs.Looks.{looks_like}
+use Rattle.rx_diagnostics.specs.Looks.{begins, looks_like}
 use Rattle.rx_diagnostics.specs.Parts.{line_feeds, line_of}
 use Rattle.rx_diagnostics.specs.Quoting.{quoted_text}
-use Rattle.rx_diagnostics.specs.SheetDrugs.{TellsOfDrugs, no_key_text, table_under}
+use Rattle.rx_diagnostics.specs.SheetDrugs.{TellsOfDrugs, no_key_text, stranger_text, table_under}
 use Rattle.rx_diagnostics.specs.SheetTexts.{missing_text, no_memory_text, wrong_text}
-use Rattle.rx_diagnostics.specs.SheetValues.{TellsDay, TellsValue}
+use Rattle.rx_diagnostics.specs.SheetValues.{TellsDay, TellsValue, first_wrong, stranger}
 use Rattle.rx_diagnostics.specs.declared.place.Place.{Place}
 use Rattle.rx_diagnostics.specs.declared.place.Place.TheVariants as place
 use Rattle.rx_diagnostics.specs.declared.words.Words.{Words}
@@ -40,21 +40,30 @@ place_after text n =
     place.Column (line_after text n) (count_by begins_character (line_of (take n text) (line_after text n)) + 1)
 
 -- the words are about the place after this many bytes, and quote its line
-pub record AreAfter (text : List ℕ) (n : ℕ) (said mend : List ℕ) (words : Words) : Type 0 where
+pub record AreAfter (text : List ℕ) (n : ℕ) (said more mend : List ℕ) (words : Words) : Type 0 where
   pub within : n ≤ length text
   pub place_is : words.place ≡ place_after text n
-  pub text_is : string_bytes words.text ≡ said ++ (codes ": " ++ quoted_text (line_of text (line_after text n)))
+  pub text_is : string_bytes words.text
+      ≡ said ++ (codes ": " ++ (quoted_text (line_of text (line_after text n)) ++ more))
   pub mend_is : words.mend.now ≡ mend
+
+-- what follows begins with the comma of a number
+abbrev pub comma_text : List ℕ → List ℕ
+comma_text rest = if begins rest (codes ",") then codes ": a number has no comma" else []
+
+-- the command that writes a text in Latin-1 as UTF-8
+abbrev pub utf8_command : List ℕ
+utf8_command = codes "sh -c 'iconv -f latin1 -t utf-8 \"$1\" > \"$1.new\" && mv \"$1.new\" \"$1\"' sh"
 
 -- the longest front that is UTF-8 ends there
 abbrev pub TellsOfBytes : List ℕ → Words → Type 0
 TellsOfBytes text words =
-    (n : ℕ) × (IsValidUpTo text n × AreAfter text n (codes "not UTF-8") (codes "iconv -f latin1 -t utf-8") words)
+    (n : ℕ) × (IsValidUpTo text n × AreAfter text n (codes "not UTF-8") [] utf8_command words)
 
 -- where TOML's reader stopped, and its message; which these are, no definition fixes
 abbrev pub TellsOfReading : List ℕ → Option Members → Words → Type 0
 TellsOfReading text None words =
-    (n : ℕ) × ((message : List ℕ) × AreAfter text n (codes "not TOML: " ++ message) [] words)
+    (n : ℕ) × ((message : List ℕ) × AreAfter text n (codes "not TOML: " ++ message) (comma_text (drop n text)) [] words)
 TellsOfReading text (Some sheet) words = AreOfWhole (codes "not TOML") words
 
 -- what a text looks like, unless like a sheet
@@ -90,17 +99,23 @@ TellsWrong k (Err f) said = said ≡ wrong_text k
 abbrev pub missing_in : SheetKey → Members → List ℕ
 missing_in key.Tier sheet = no_key_text key.Tier (table_under key.Drugs sheet)
 missing_in key.Price sheet = no_key_text key.Price (table_under key.Drugs sheet)
-missing_in k sheet = missing_text k
+missing_in k sheet = missing_text k ++ stranger_text (first_wrong stranger sheet)
 
 abbrev pub missing_said : SheetKey → Result Members SheetFault → List ℕ
 missing_said k (Ok sheet) = missing_in k sheet
 missing_said k (Err f) = missing_text k
 
+-- the same, unless the file is empty
+abbrev pub missing_of : SheetKey → List ℕ → List ℕ
+missing_of k text =
+    if length text == 0 then codes "the file is empty: expected a plan sheet, which has a line as bin = \"900001\""
+    else missing_said k (tree_of text)
+
 -- ---- each fault
 
 abbrev pub TellsOfSheet : List ℕ → SheetFault → Words → Type 0
 TellsOfSheet text fault.NotToml words = TellsOfKind text (unless_sheet (looks_like text)) words
-TellsOfSheet text (fault.Missing k) words = AreOfWhole (missing_said k (tree_of text)) words
+TellsOfSheet text (fault.Missing k) words = AreOfWhole (missing_of k text) words
 TellsOfSheet text (fault.Wrong k) words =
     (said : List ℕ) × (TellsWrong k (tree_of text) said × AreOfWhole said words)
 TellsOfSheet text fault.Memory words = AreOfWhole no_memory_text words

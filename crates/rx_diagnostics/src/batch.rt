@@ -1,5 +1,6 @@
 ghost use Rattle.std.specs.Prelude.{◌≡◌, [], IfOk, option_copied, option_map, string_bytes};
-ghost use Rattle.rx_diagnostics.specs.BatchTexts.{after_text, batch_text, details_before, ends_before, kind_at, no_header_text};
+ghost use Rattle.rx_diagnostics.specs.BatchTexts.{after_text, batch_mend, batch_text, details_before, ends_before};
+ghost use Rattle.rx_diagnostics.specs.BatchTexts.{front_mend, kind_at, no_header_text};
 ghost use Rattle.rx_diagnostics.specs.BatchTexts.{no_trailer_text, outside_text, outside_with, seen_at, too_much_text, unread_batch_text};
 ghost use Rattle.rx_diagnostics.specs.Places.{batch_place, unread_batch_place};
 
@@ -24,10 +25,36 @@ use std::alloc::{AllocError, Global};
 pub fn batch_words(alloc: Global, fault: BatchFault, text: &[u8]) -> Result<Words, Memory>
     ensures place { IfOk result (λ words. words.place ≡ batch_place text.now fault) }
     ensures text { IfOk result (λ words. string_bytes words.text ≡ batch_text text.now fault) }
-    ensures mend { IfOk result (λ words. words.mend.now ≡ []) }
+    ensures mend { IfOk result (λ words. words.mend.now ≡ batch_mend text.now fault) }
 {
-    let said = said_of(alloc, fault, text)?;
-    Ok(Words::of(Place::of_batch(fault, text), Said::plain(said)))
+    let said = Said {
+        text: said_of(alloc, fault, text)?,
+        mend: mend_of(fault, text),
+    };
+    Ok(Words::of(Place::of_batch(fault, text), said))
+}
+
+// The command that mends the file, empty where no one step does.
+fn mend_of(fault: BatchFault, text: &[u8]) -> &'static str
+    ensures { result.now ≡ batch_mend text.now fault }
+{
+    match fault {
+        BatchFault::Outside { at: 0 } => front_mend(text),
+        _ => "",
+    }
+}
+
+// The command that takes away a byte order mark, or unpacks a file.
+fn front_mend(text: &[u8]) -> &'static str
+    ensures { result.now ≡ front_mend text.now }
+{
+    if has_mark(text) {
+        "sed -i '1s/^\\xef\\xbb\\xbf//'"
+    } else if text.starts_with(b"\x1F\x8B") {
+        "sh -c 'zcat < \"$1\" > \"$1.new\" && mv \"$1.new\" \"$1\"' sh"
+    } else {
+        ""
+    }
 }
 
 /// The words of a fault of a batch file that can't be read again.

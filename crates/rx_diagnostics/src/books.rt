@@ -69,8 +69,8 @@ fn said_of(alloc: Global, fault: BooksFault, text: &[u8]) -> Result<Said, Memory
     match fault {
         BooksFault::Head => Ok(head_words(alloc, text, line_of(text, 1))?),
         BooksFault::Line(line) => Ok(line_words(alloc, text, line)?),
-        BooksFault::Order(line) => Ok(Said::plain(order_words(alloc, text, line)?)),
-        BooksFault::UnknownMember(line) => Ok(Said::plain(unknown_words(alloc, text, line)?)),
+        BooksFault::Order(line) => Ok(order_words(alloc, text, line)?),
+        BooksFault::UnknownMember(line) => Ok(unknown_words(alloc, text, line)?),
         BooksFault::Totals(line) => Ok(Said::plain(totals_words(alloc, text, line)?)),
         BooksFault::TooMuch => Ok(Said::plain(too_many_words(alloc, text)?)),
         BooksFault::Memory => Ok(Said::plain(said(alloc, "out of memory")?)),

@@ -1,6 +1,6 @@
 ghost use Rattle.std.specs.Prelude.{◌≡◌, IfOk, Some, option_map, string_bytes};
-ghost use Rattle.rx_diagnostics.specs.BooksFields.{date_fault, digits_fault, fault_in, field_fault, figure_fault, first_fault};
-ghost use Rattle.rx_diagnostics.specs.BooksFields.{holds_of, id_fault, is_between, name_of, number_fault};
+ghost use Rattle.rx_diagnostics.specs.BooksFields.{cents_fault, date_fault, digits_fault, fault_in, field_fault, figure_fault};
+ghost use Rattle.rx_diagnostics.specs.BooksFields.{first_fault, has_point, holds_of, id_fault, is_between, name_of, number_fault};
 
 use crate::quoting::{field_of, quoted};
 use rx_fields::{MOST_CENTS, MOST_QUANTITY, MOST_REFERENCE, date_read, number_read};
@@ -16,6 +16,8 @@ pub(crate) enum Holds {
     Date,
     /// A whole number from low to high, without leading zeros.
     Number(u64, u64),
+    /// An amount in cents, without leading zeros.
+    Cents,
     /// A figure of at most 20 digits, without leading zeros.
     Figure,
     /// This many digits.
@@ -113,12 +115,12 @@ impl Field {
             Field::Product => "product",
             Field::Quantity => "quantity",
             Field::Days => "days",
-            Field::Cost => "F6",
-            Field::Fee => "F7",
-            Field::ClaimDeductible => "FH",
-            Field::Copay => "FI",
-            Field::Coinsurance => "4U",
-            Field::Number => "number",
+            Field::Cost => "ingredient cost (F6)",
+            Field::Fee => "dispensing fee (F7)",
+            Field::ClaimDeductible => "deductible (FH)",
+            Field::Copay => "copay (FI)",
+            Field::Coinsurance => "coinsurance (4U)",
+            Field::Number => "authorization number",
         }
     }
 
@@ -137,7 +139,7 @@ impl Field {
             Field::Quantity => Holds::Number(1, MOST_QUANTITY),
             Field::Days => Holds::Number(1, 999),
             Field::Cost | Field::Fee | Field::ClaimDeductible | Field::Copay | Field::Coinsurance =>
-                Holds::Number(0, MOST_CENTS),
+                Holds::Cents,
             Field::Number => Holds::Digits(15),
         }
     }
@@ -191,6 +193,7 @@ pub(crate) fn fault_in(
         Holds::Id(most) => id_fault(alloc, most, field),
         Holds::Date => date_fault(alloc, field),
         Holds::Number(low, high) => number_fault(alloc, low, high, field),
+        Holds::Cents => cents_fault(alloc, field),
         Holds::Figure => figure_fault(alloc, field),
         Holds::Digits(count) => digits_fault(alloc, count, field),
     }
@@ -247,6 +250,25 @@ fn number_fault(
         return Ok(Some(format!(in alloc; "expected a number from {low} to {high}")?));
     }
     Ok(None)
+}
+
+// An amount in dollars has a point.
+fn cents_fault(alloc: Global, field: &[u8]) -> Result<Option<String>, AllocError>
+    ensures { IfOk result (λ fault. option_map string_bytes fault ≡ cents_fault field.now) }
+{
+    if has_point(field) {
+        return some(
+            alloc,
+            "expected cents, without a point, e.g. 15000 for 150.00",
+        );
+    }
+    number_fault(alloc, 0, MOST_CENTS, field)
+}
+
+fn has_point(field: &[u8]) -> bool
+    ensures { result ≡ has_point field.now }
+{
+    field.iter().any(|b| *b == b'.')
 }
 
 // Whether digits are a number from low to high.

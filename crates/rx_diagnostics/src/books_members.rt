@@ -1,6 +1,6 @@
 ghost use Rattle.std.specs.Prelude.{◌≡◌, option_copied, take};
 ghost use Rattle.rx_text.specs.Bytes.{cut};
-ghost use Rattle.rx_diagnostics.specs.BooksMembers.{is_member_of, is_until, nearer, nearest, persons_in};
+ghost use Rattle.rx_diagnostics.specs.BooksMembers.{is_found, is_listed, is_member_of, is_until, nearer, nearest, persons_in};
 
 use crate::quoting::field_of;
 
@@ -21,6 +21,22 @@ pub(crate) fn nearest<'t>(
         }
     }
     found
+}
+
+/// Whether a books file lists this person of a family in any of its lines.
+pub(crate) fn is_listed(text: &[u8], family: &[u8], person: &[u8]) -> bool
+    ensures { result ≡ is_listed text.now family.now person.now }
+{
+    is_found(person, nearest(text, text.len(), family, person))
+}
+
+fn is_found(person: &[u8], listed: Option<&[u8]>) -> bool
+    ensures { result ≡ is_found person.now (option_copied listed.entry) }
+{
+    match listed {
+        Some(listed) => listed == person,
+        None => false,
+    }
 }
 
 // Whether a line is a member's, of the family.

@@ -1,60 +1,83 @@
 ghost use Rattle.std.specs.Prelude.{◌≡◌, ◌-◌, IfOk, option_copied, string_bytes};
-ghost use Rattle.rx_diagnostics.specs.BooksTexts.{after_text, called, key_of, keys_text};
-ghost use Rattle.rx_diagnostics.specs.BooksTexts.{memberless_text, unknown_text, unlisted_text};
-ghost use Rattle.rx_diagnostics.specs.BooksTexts.{kind_of, order_of, order_text, rank_of, twice_text};
+ghost use Rattle.rx_diagnostics.specs.BooksTexts.{after_text, below_text, called, claim_telling, key_of, keys_telling};
+ghost use Rattle.rx_diagnostics.specs.BooksTexts.{kind_of, kinds_text, memberless_text, order_of, order_telling, rank_of};
+ghost use Rattle.rx_diagnostics.specs.BooksTexts.{telling_of, twice_text, unknown_telling, unlisted_text};
 ghost use Rattle.rx_diagnostics.specs.Parts.{line_of};
 
-use crate::books_members::nearest;
+use crate::books_members::{is_listed, nearest};
 use crate::quoting::{field_of, line_of, shown};
+use crate::words::Said;
 use std::alloc::{AllocError, Global};
 
+// Puts the head line first, then the members, the claims and all other lines, each of them by their key.
+const SORT: &str =
+    "LC_ALL=C sh -c 'for k in B M C \"[^BMC]\"; do grep \"^$k\" \"$1\" | sort -t\"|\" -k2,2 -k3,3$([ \"$k\" = C ] && echo n) \
+    -k4,4; done > \"$1.new\" && mv \"$1.new\" \"$1\"' sh";
+
 /// What is said of a line that stands out of order.
-pub(crate) fn order_words(alloc: Global, text: &[u8], number: u64) -> Result<String, AllocError>
-    ensures { IfOk result (λ said. string_bytes said
-        ≡ order_text (line_of text.now number) (line_of text.now (number - 1))) }
+pub(crate) fn order_words(alloc: Global, text: &[u8], number: u64) -> Result<Said, AllocError>
+    ensures { IfOk result (λ said. telling_of said
+        ≡ order_telling (line_of text.now number) (line_of text.now (number - 1)) number) }
 {
     lines_words(
         alloc,
         line_of(text, number),
         line_of(text, number.saturating_sub(1)),
+        number,
     )
 }
 
 // What is said of a line and the one above it.
-#[tactic(auto, using(std::proofs::Common::append_assoc), unfolding(crate::specs::BooksTexts::order_text))]
-fn lines_words(alloc: Global, line: &[u8], above: &[u8]) -> Result<String, AllocError>
-    ensures { IfOk result (λ said. string_bytes said ≡ order_text line.now above.now) }
+#[tactic(auto, unfolding(crate::specs::BooksTexts::order_telling))]
+fn lines_words(alloc: Global, line: &[u8], above: &[u8], number: u64) -> Result<Said, AllocError>
+    ensures { IfOk result (λ said. telling_of said ≡ order_telling line.now above.now number) }
 {
     let (kind, kind_above) = (LineKind::of(line), LineKind::of(above));
     if kind.rank() != kind_above.rank() {
-        let one = kind.name();
-        let other = kind_above.name();
-        return format!(in alloc;
-            "a {one} line comes after a {other} line: first come all M, then all C, then all T"
-        );
+        let text = kinds_words(alloc, kind, kind_above)?;
+        return Ok(Said { text, mend: SORT });
     }
     let key = key_of(alloc, line)?;
     let before = key_of(alloc, above)?;
-    keys_words(alloc, key.as_str(), before.as_str(), kind.order())
+    keys_words(alloc, key.as_str(), before.as_str(), kind.order(), number)
+}
+
+// What is said of a line after one of another kind.
+#[tactic(auto, using(std::proofs::Common::append_assoc))]
+fn kinds_words(alloc: Global, kind: LineKind, above: LineKind) -> Result<String, AllocError>
+    ensures { IfOk result (λ said. string_bytes said ≡ kinds_text kind above) }
+{
+    let one = kind.name();
+    let other = above.name();
+    format!(in alloc;
+        "a {one} line comes after a {other} line: first come all M, then all C, then all T"
+    )
 }
 
 // What is said of a key and the one above it.
-#[tactic(auto, unfolding(crate::specs::BooksTexts::keys_text))]
-fn keys_words(alloc: Global, key: &str, before: &str, order: &str) -> Result<String, AllocError>
-    ensures { IfOk result (λ said. string_bytes said ≡ keys_text key.now before.now order.now) }
+#[tactic(auto, unfolding(crate::specs::BooksTexts::keys_telling))]
+fn keys_words(
+    alloc: Global,
+    key: &str,
+    before: &str,
+    order: &str,
+    number: u64,
+) -> Result<Said, AllocError>
+    ensures { IfOk result (λ said. telling_of said ≡ keys_telling key.now before.now order.now number) }
 {
     if key == before {
-        twice_words(alloc, key, order)
-    } else {
-        after_words(alloc, key, before, order)
+        return Ok(Said::plain(twice_words(alloc, key, number)?));
     }
+    let text = after_words(alloc, key, before, order)?;
+    Ok(Said { text, mend: SORT })
 }
 
 #[tactic(auto, using(std::proofs::Common::append_assoc))]
-fn twice_words(alloc: Global, key: &str, order: &str) -> Result<String, AllocError>
-    ensures { IfOk result (λ said. string_bytes said ≡ twice_text key.now order.now) }
+fn twice_words(alloc: Global, key: &str, number: u64) -> Result<String, AllocError>
+    ensures { IfOk result (λ said. string_bytes said ≡ twice_text key.now number) }
 {
-    format!(in alloc; "{key} is listed twice: {order}")
+    let first = number.saturating_sub(1);
+    format!(in alloc; "{key} is listed twice, first at line {first}: delete one of these lines")
 }
 
 #[tactic(auto, using(std::proofs::Common::append_assoc))]
@@ -108,17 +131,14 @@ impl LineKind {
         }
     }
 
-    // In what order the lines of the kind stand, and the command that sorts these lines.
+    // In what order the lines of the kind stand.
     fn order(self) -> &'static str
         ensures { result.now ≡ order_of self }
     {
         match self {
-            LineKind::Member =>
-                "members ascend by family, then person (LC_ALL=C sort -t'|' -k2,2 -k3,3)",
-            LineKind::Claim => {
-                "claims ascend by provider, reference and date (LC_ALL=C sort -t'|' -k2,2 -k3,3n -k4,4)"
-            }
-            LineKind::Total => "totals ascend by family (LC_ALL=C sort -t'|' -k2,2)",
+            LineKind::Member => "members ascend by family, then person",
+            LineKind::Claim => "claims ascend by provider, reference and date",
+            LineKind::Total => "totals ascend by family",
         }
     }
 }
@@ -141,19 +161,47 @@ fn key_of(alloc: Global, line: &[u8]) -> Result<String, AllocError>
     }
 }
 
-/// What is said of a claim whose member isn't listed, or of a total whose family has no member.
-#[tactic(auto, unfolding(crate::specs::BooksTexts::unknown_text))]
-pub(crate) fn unknown_words(alloc: Global, text: &[u8], number: u64) -> Result<String, AllocError>
-    ensures { IfOk result (λ said. string_bytes said ≡ unknown_text text.now number) }
+/// What is said of a claim whose member isn't listed, or only below, or of a total whose family has no member.
+#[tactic(auto, unfolding(crate::specs::BooksTexts::unknown_telling))]
+pub(crate) fn unknown_words(alloc: Global, text: &[u8], number: u64) -> Result<Said, AllocError>
+    ensures { IfOk result (λ said. telling_of said ≡ unknown_telling text.now number) }
 {
     let line = line_of(text, number);
     if line.starts_with(b"T") {
-        return memberless_words(alloc, field_of(line, 2));
+        return Ok(Said::plain(memberless_words(alloc, field_of(line, 2))?));
     }
-    let family = field_of(line, 5);
-    let person = field_of(line, 6);
+    claim_words(alloc, text, number, field_of(line, 5), field_of(line, 6))
+}
+
+// What is said of a claim of this member.
+fn claim_words(
+    alloc: Global,
+    text: &[u8],
+    number: u64,
+    family: &[u8],
+    person: &[u8],
+) -> Result<Said, AllocError>
+    ensures { IfOk result (λ said. telling_of said ≡ claim_telling text.now number family.now person.now) }
+{
+    if is_listed(text, family, person) {
+        let text = below_words(alloc, family, person)?;
+        return Ok(Said { text, mend: SORT });
+    }
     let above = number.saturating_sub(1) as usize;
-    unlisted_words(alloc, family, person, nearest(text, above, family, person))
+    let said = unlisted_words(alloc, family, person, nearest(text, above, family, person))?;
+    Ok(Said::plain(said))
+}
+
+// What is said of a claim above the line of its member.
+#[tactic(auto, using(std::proofs::Common::append_assoc))]
+fn below_words(alloc: Global, family: &[u8], person: &[u8]) -> Result<String, AllocError>
+    ensures { IfOk result (λ said. string_bytes said ≡ below_text family.now person.now) }
+{
+    let family = shown(alloc, family)?;
+    let person = shown(alloc, person)?;
+    format!(in alloc;
+        "member {family}/{person} is listed only below this claim: first come all M, then all C, then all T"
+    )
 }
 
 // What is said of a total line of a family that has no member.

@@ -1,13 +1,15 @@
 ghost use Rattle.std.specs.Prelude.{◌≡◌, ◌==◌, ◌≤◌, IfOk, count_by, find, length, option_copied, string_bytes, sum_by};
 ghost use Rattle.rx_books_text.specs.Printed.{total_family};
+ghost use Rattle.std.specs.List.{list_any};
+ghost use Rattle.rx_fields.specs.Numbered.{is_within};
 ghost use Rattle.rx_fields.specs.Order.{id_cmp};
 ghost use Rattle.rx_fields.specs.declared.limits.TheConstants.{MOST_CENTS};
 ghost use Rattle.rx_ledger.specs.Members.{is_same, member_cmp, member_key};
 ghost use Rattle.rx_ledger.specs.Sums.{counted, deductible, deductible_paid, family_deductible, out_of_pocket, paid_by_patient};
 ghost use Rattle.rx_ledger.specs.Sums.{persons_deductible_paid};
 ghost use Rattle.rx_diagnostics.specs.BooksTotals.{days_text, deductible_field, deductible_of, deductible_text, expected_text, family_said};
-ghost use Rattle.rx_diagnostics.specs.BooksTotals.{figure_said, figure_text, from_family, is_before, is_first, lacking_said};
-ghost use Rattle.rx_diagnostics.specs.BooksTotals.{lacking_text, lacks_total, line_of_total, member_said, member_text, of_family};
+ghost use Rattle.rx_diagnostics.specs.BooksTotals.{figure_said, figure_text, from_family, has_none_within, head_doubt, is_before};
+ghost use Rattle.rx_diagnostics.specs.BooksTotals.{is_first, lacking_said, lacking_text, lacks_total, line_of_total, member_said, member_text, of_family};
 ghost use Rattle.rx_diagnostics.specs.BooksTotals.{paid_text, sum_text, total_line, total_text, totals_text};
 ghost use Rattle.rx_sorted.specs.Ascending.{IsAscending};
 
@@ -27,7 +29,34 @@ pub(crate) fn totals_words(alloc: Global, text: &[u8], number: u64) -> Result<St
         Err(BooksFault::Memory) => return Err(Memory),
         Err(_) => return Ok(said(alloc, "a figure isn't the sum over the claims")?),
     };
-    Ok(figure_words(alloc, &printed, number)?)
+    let mut said = figure_words(alloc, &printed, number)?;
+    said.push_str(head_doubt(&printed))?;
+    Ok(said)
+}
+
+// What is said of the head line of a file without a claim within its period.
+#[tactic(auto, unfolding(crate::specs::BooksTotals::head_doubt))]
+fn head_doubt(printed: &Printed) -> &'static str
+    ensures { result.now ≡ head_doubt printed.now }
+{
+    if has_none_within(printed.head().period, printed.ledger().rows()) {
+        "; no claim is within the days of line 1: are they right?"
+    } else {
+        ""
+    }
+}
+
+// Whether there are claims, and none is within the period.
+fn has_none_within(period: Period, rows: &[Row]) -> bool
+    ensures { result ≡ has_none_within period rows.now }
+{
+    !rows.is_empty() && !has_within(period, rows)
+}
+
+fn has_within(period: Period, rows: &[Row]) -> bool
+    ensures { result ≡ list_any (λ r. is_within period r.key.date) rows.now }
+{
+    rows.iter().any(|row| period.contains(row.key.date))
 }
 
 // What is said of the line of this number, where the file is read.

@@ -36,4 +36,5 @@ pub use books::{books_words, unread_books_words};
 pub use place::Place;
 pub use quoting::quoted;
 pub use sheet::{sheet_words, unread_sheet_words};
+pub use sheet_keys::{SHEET_KEYS, is_among};
 pub use words::Words;

@@ -10,14 +10,14 @@ ghost use Rattle.rx_diagnostics.specs.Places.{IsSheetPlace};
 ghost use Rattle.rx_diagnostics.specs.SheetTexts.{unread_sheet_text};
 ghost use Rattle.rx_diagnostics.specs.SheetValues.{TellsDay, TellsDayText, TellsValue};
 ghost use Rattle.rx_diagnostics.specs.SheetWords.{AreAfter, AreOfWhole, TellsOfBytes, TellsOfKind, TellsOfReading, TellsOfSheet};
-ghost use Rattle.rx_diagnostics.specs.SheetWords.{TellsWrong, TellsWrongIn, begins_character, line_after, missing_said};
+ghost use Rattle.rx_diagnostics.specs.SheetWords.{TellsWrong, TellsWrongIn, begins_character, comma_text, line_after, missing_in, missing_of};
 ghost use Rattle.rx_diagnostics.specs.SheetWords.{place_after, unless_sheet};
 ghost use Rattle.rx_diagnostics.specs.declared.place.Place.{Place};
 
 use crate::looks::looks_like;
 use crate::place::{Place, front};
-use crate::quoting::{line_feeds, line_of, quoted, said};
-use crate::sheet_drugs::{drug_words, no_drug_key};
+use crate::quoting::{from, line_feeds, line_of, quoted, said};
+use crate::sheet_drugs::{drug_words, no_drug_key, stranger_words};
 use crate::sheet_keys::{missing_key, name_of, wrong_key};
 use crate::sheet_values::{backwards_words, expected_words, found, no_date, value_words};
 use crate::words::Words;
@@ -119,12 +119,16 @@ fn reading_words(alloc: Global, text: &[u8]) -> Result<Words, Memory>
     }
 }
 
+// Writes a text in Latin-1 as UTF-8.
+const TO_UTF8: &str =
+    "sh -c 'iconv -f latin1 -t utf-8 \"$1\" > \"$1.new\" && mv \"$1.new\" \"$1\"' sh";
+
 // The words of a text that isn't UTF-8 from a place on.
 fn encoding_words(alloc: Global, text: &[u8], bytes: usize) -> Result<Words, Memory>
     requires { IsValidUpTo text.now bytes }
     ensures { IfOk result (TellsOfBytes text.now) }
 {
-    words_after(alloc, text, bytes, "not UTF-8", "iconv -f latin1 -t utf-8")
+    words_after(alloc, text, bytes, "not UTF-8", "", TO_UTF8)
 }
 
 // The words of a text that TOML's reader refuses.
@@ -149,7 +153,19 @@ fn refused_words(alloc: Global, text: &[u8], error: &toml::de::Error) -> Result<
     };
     let message = error.message();
     let message = format!(in alloc; "not TOML: {message}")?;
-    words_after(alloc, text, span.start, message.as_str(), "")
+    let more = comma_words(from(text, span.start));
+    words_after(alloc, text, span.start, message.as_str(), more, "")
+}
+
+// What is said of the comma of a number.
+fn comma_words(rest: &[u8]) -> &'static str
+    ensures { result.now ≡ comma_text rest.now }
+{
+    if rest.starts_with(b",") {
+        ": a number has no comma"
+    } else {
+        ""
+    }
 }
 
 // Words about the place after this many bytes, with its line.
@@ -159,15 +175,16 @@ fn words_after(
     text: &[u8],
     bytes: usize,
     said: &str,
+    more: &str,
     mend: &'static str,
 ) -> Result<Words, Memory>
     requires { bytes ≤ length text.now }
-    ensures { IfOk result (AreAfter text.now bytes said.now mend.now) }
+    ensures { IfOk result (AreAfter text.now bytes said.now more.now mend.now) }
 {
     let line = quoted(alloc, line_of(text, line_after(text, bytes)))?;
     Ok(Words {
         place: place_after(text, bytes),
-        text: format!(in alloc; "{said}: {line}")?,
+        text: format!(in alloc; "{said}: {line}{more}")?,
         mend,
     })
 }
@@ -204,14 +221,31 @@ fn begins_character(byte: u8) -> bool
 
 // What is said of a key that isn't there.
 fn missing(alloc: Global, key: SheetKey, text: &[u8]) -> Result<String, Memory>
-    ensures { IfOk result (λ said. string_bytes said ≡ missing_said key (tree_of text.now)) }
+    ensures { IfOk result (λ said. string_bytes said ≡ missing_of key text.now) }
 {
+    if text.is_empty() {
+        let empty =
+            "the file is empty: expected a plan sheet, which has a line as bin = \"900001\"";
+        return Ok(said(alloc, empty)?);
+    }
     let Some(sheet) = tree_of(alloc, text)? else {
         return Ok(missing_key(alloc, key)?);
     };
+    Ok(missing_in(alloc, key, &sheet)?)
+}
+
+// What is said of a key that isn't in a sheet.
+fn missing_in(alloc: Global, key: SheetKey, sheet: &Table) -> Result<String, AllocError>
+    ensures { IfOk result (λ said. string_bytes said ≡ missing_in key (table_view sheet.now)) }
+{
     match key {
-        SheetKey::Tier | SheetKey::Price => Ok(no_drug_key(alloc, key, &sheet)?),
-        _ => Ok(missing_key(alloc, key)?),
+        SheetKey::Tier | SheetKey::Price => no_drug_key(alloc, key, sheet),
+        _ => {
+            let stranger = stranger_words(alloc, sheet)?;
+            let mut said = missing_key(alloc, key)?;
+            said.push_str(stranger.as_str())?;
+            Ok(said)
+        }
     }
 }
 

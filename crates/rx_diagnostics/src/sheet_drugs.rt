@@ -1,19 +1,19 @@
-ghost use Rattle.std.specs.Prelude.{◌≡◌, IfOk, is_some, option_map, string_bytes};
+ghost use Rattle.std.specs.Prelude.{◌≡◌, ◌++◌, IfOk, OnOk, codes, is_some, option_map, string_bytes};
 ghost use Rattle.std.specs.Option.{option_and_then};
 ghost use Rattle.toml.specs.View.{table_view, view};
 ghost use Rattle.rx_sheet.specs.Drugs.{percent_in, share_in};
 ghost use Rattle.rx_sheet.specs.Values.{number};
-ghost use Rattle.rx_diagnostics.specs.Quoting.{quoted_text};
+ghost use Rattle.rx_diagnostics.specs.Quoting.{quoted_text, shown_text};
 ghost use Rattle.rx_diagnostics.specs.SheetDrugs.{TellsDrug, TellsEntry, TellsFirst, TellsFirstPrice, TellsFirstTier, TellsOfDrugs};
 ghost use Rattle.rx_diagnostics.specs.SheetDrugs.{TellsPercent, TellsShare, TellsTable, TellsTier, TellsTierOf, drugs_key_text};
 ghost use Rattle.rx_diagnostics.specs.SheetDrugs.{lacking_key_text, lacking_text, missing_of_drug_text, no_key_text};
 ghost use Rattle.rx_diagnostics.specs.SheetDrugs.{no_percent_text, no_table_text, product_text, said_of, table_under};
-ghost use Rattle.rx_diagnostics.specs.SheetDrugs.{unknown_tier_text};
+ghost use Rattle.rx_diagnostics.specs.SheetDrugs.{names_text, stranger_text, unknown_tier_text};
 ghost use Rattle.rx_diagnostics.specs.SheetEntries.{entry_of, wrong_in};
-ghost use Rattle.rx_diagnostics.specs.SheetValues.{TellsOf, first_wrong, is_product, is_tier, lacks, of_drug, unless};
+ghost use Rattle.rx_diagnostics.specs.SheetValues.{TellsOf, first_wrong, is_product, is_tier, lacks, of_drug, stranger, unless};
 
-use crate::quoting::quoted;
-use crate::sheet_keys::{key_words, name_of, wanted_at, wrong_key};
+use crate::quoting::{quoted, shown};
+use crate::sheet_keys::{SHEET_KEYS, is_among, key_words, name_of, wanted_at, wrong_key};
 use crate::sheet_values::{found, is_number, shown_value, table_at};
 use rx_fields::MOST_CENTS;
 use rx_ledger::{MOST_PRICE, SheetKey};
@@ -45,6 +45,25 @@ pub(crate) fn no_drug_key(alloc: Global, key: SheetKey, sheet: &Table) -> Result
     lacking_words(alloc, key, first_in(drugs, Looked::Lacking(key)))
 }
 
+/// What is said of an entry that is none of the sheet's keys, where one is missing.
+#[tactic(auto, unfolding(crate::specs::SheetDrugs::stranger_text))]
+pub(crate) fn stranger_words(alloc: Global, sheet: &Table) -> Result<String, AllocError>
+    ensures { IfOk result (λ said. string_bytes said ≡ stranger_text (first_wrong stranger (table_view sheet.now))) }
+{
+    stranger_said(alloc, first_wrong(sheet, Looked::Stranger))
+}
+
+#[tactic(auto, using(std::proofs::Common::append_assoc), unfolding(crate::specs::SheetDrugs::stranger_text))]
+fn stranger_said(alloc: Global, entry: Option<Entry<'_>>) -> Result<String, AllocError>
+    ensures { IfOk result (λ said. string_bytes said ≡ stranger_text (option_map entry_of entry.entry)) }
+{
+    let Some(entry) = entry else {
+        return Ok(String::new(alloc));
+    };
+    let name = shown(alloc, entry.name.as_bytes())?;
+    format!(in alloc; "; {name} is no key of a sheet: is it meant?")
+}
+
 // ---- the first that is wrong
 
 /// What is looked for among the entries of a table.
@@ -60,6 +79,8 @@ pub(crate) enum Looked<'t> {
     Price,
     /// A drug without this key.
     Lacking(SheetKey),
+    /// An entry of the sheet that is none of its keys.
+    Stranger,
 }
 
 /// An entry of a table in which something is wrong.
@@ -106,6 +127,7 @@ fn wrong_in<'t>(looked: Looked<'_>, name: &str, value: &'t Value) -> Option<&'t 
         Looked::Tier(tiers) => wrong_tier(tiers, of_drug(value, SheetKey::Tier)),
         Looked::Price => wrong_price(of_drug(value, SheetKey::Price)),
         Looked::Lacking(key) => unless(!lacks(value, key), value),
+        Looked::Stranger => unless(is_among(name, &SHEET_KEYS), value),
     }
 }
 
@@ -361,36 +383,63 @@ fn tier_words(
         (option_map (λ t. table_view t.now) drugs.entry) (string_bytes said)) }
 {
     match (tiers, drugs) {
-        (Some(tiers), Some(drugs)) => first_tier(alloc, first_wrong(drugs, Looked::Tier(tiers))),
-        _ => first_tier(alloc, None),
+        (Some(tiers), Some(drugs)) => {
+            let names = names_words(alloc, tiers)?;
+            first_tier(
+                alloc,
+                names.as_str(),
+                first_wrong(drugs, Looked::Tier(tiers)),
+            )
+        }
+        _ => first_tier(alloc, "", None),
     }
 }
 
+// The names of a table, each after a blank.
+fn names_words(alloc: Global, table: &Table) -> Result<String, AllocError>
+    ensures { IfOk result (λ said. string_bytes said ≡ names_text (table_view table.now)) }
+{
+    let mut said = String::new(alloc);
+    for (name, _value) in table.iter() {
+        put_name(alloc, &mut said, name.as_str())?;
+    }
+    Ok(said)
+}
+
+// One of them.
+fn put_name(alloc: Global, said: &mut String, name: &str) -> Result<(), AllocError>
+    ensures { OnOk result (string_bytes said.new ≡ string_bytes said.old ++ (codes " " ++ shown_text name.now)) }
+{
+    let shown = shown(alloc, name.as_bytes())?;
+    let named = format!(in alloc; " {shown}")?;
+    said.push_str(named.as_str())
+}
+
 // What is said of the first drug whose tier is no tier.
-fn first_tier(alloc: Global, wrong: Option<Entry<'_>>) -> Result<String, AllocError>
-    ensures { IfOk result (λ said. TellsFirstTier (option_map entry_of wrong.entry) (string_bytes said)) }
+fn first_tier(alloc: Global, names: &str, wrong: Option<Entry<'_>>) -> Result<String, AllocError>
+    ensures { IfOk result (λ said. TellsFirstTier names.now (option_map entry_of wrong.entry) (string_bytes said)) }
 {
     match wrong {
-        Some(drug) => no_tier(alloc, drug.name, drug.value),
+        Some(drug) => no_tier(alloc, names, drug.name, drug.value),
         None => wrong_of_drug(alloc, SheetKey::Tier),
     }
 }
 
-fn no_tier(alloc: Global, drug: &str, tier: &Value) -> Result<String, AllocError>
-    ensures { IfOk result (λ said. TellsTier drug.now (view tier.now) (string_bytes said)) }
+fn no_tier(alloc: Global, names: &str, drug: &str, tier: &Value) -> Result<String, AllocError>
+    ensures { IfOk result (λ said. TellsTier names.now drug.now (view tier.now) (string_bytes said)) }
 {
     match tier {
-        Value::String(name) => unknown_tier(alloc, drug, name.as_str()),
+        Value::String(name) => unknown_tier(alloc, names, drug, name.as_str()),
         _ => value_said(alloc, Faulty::Tier, drug, tier),
     }
 }
 
 #[tactic(auto, using(std::proofs::Common::append_assoc), unfolding(crate::specs::SheetDrugs::unknown_tier_text))]
-fn unknown_tier(alloc: Global, drug: &str, tier: &str) -> Result<String, AllocError>
-    ensures { IfOk result (λ said. string_bytes said ≡ unknown_tier_text drug.now tier.now) }
+fn unknown_tier(alloc: Global, names: &str, drug: &str, tier: &str) -> Result<String, AllocError>
+    ensures { IfOk result (λ said. string_bytes said ≡ unknown_tier_text names.now drug.now tier.now) }
 {
     let tier = quoted(alloc, tier.as_bytes())?;
-    format!(in alloc; "drug {drug}: tier = {tier}: no tier has this name")
+    format!(in alloc; "drug {drug}: tier = {tier}: no tier has this name; the tiers are{names}")
 }
 
 // What is said of the first drug whose price is no price.

@@ -1,5 +1,6 @@
 ghost use Rattle.std.specs.Prelude.{◌≡◌, ◌++◌, IfOk, string_bytes};
 ghost use Rattle.rx_sheet.specs.Names.{name_of};
+ghost use Rattle.rx_diagnostics.specs.KnownKeys.{is_among, texts_of};
 ghost use Rattle.rx_diagnostics.specs.SheetTexts.{cents_wanted, missing_text, price_wanted, wanted_at, wrong_text};
 
 use crate::quoting::said;
@@ -28,6 +29,29 @@ pub(crate) fn name_of(key: SheetKey) -> &'static str
         SheetKey::Price => "price",
         SheetKey::FamilyDeductible => "family_deductible",
     }
+}
+
+/// The keys of a plan sheet (docs/FORMATS.md, "Plan sheet").
+pub const SHEET_KEYS: [&str; 12] = [
+    "bin",
+    "pcn",
+    "period_first",
+    "period_last",
+    "member_deductible",
+    "family_maximum",
+    "refill_percent",
+    "max_days",
+    "fee",
+    "tiers",
+    "drugs",
+    "family_deductible",
+];
+
+/// Whether a name is one of these, as they are written.
+pub fn is_among(name: &str, names: &[&'static str]) -> bool
+    ensures { result ≡ is_among name.now (texts_of names.now) }
+{
+    names.iter().any(|known| *known == name)
 }
 
 /// What is expected under a key.

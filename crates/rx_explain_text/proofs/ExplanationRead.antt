@@ -414,33 +414,39 @@ share_is : (d : ℕ) (s : Share) → AreMembers d (json.share_json s) (tree.shar
 share_is d (Copay cents) = number_is d (codes "tier_copay") cents refl
 share_is d (Percent percent) = number_is d (codes "tier_percent") percent refl
 
-due_is : (d : ℕ) (w : Workings) → AreMembers d (json.due_json w) (tree.due_data w)
-unfolding json.due_json
-due_is d w =
-    members_are d _ _ (_ ∷ []) (_ ∷ _ ∷ []) (number_is d (codes "deductible_due") w.under refl)
-    (members_are d _ _ (_ ∷ []) (_ ∷ []) (number_is d (codes "share_due") w.share refl) (share_is d w.payment.drug.share))
+tier_is : (d : ℕ) (tier : Option (List ℕ)) → AreMembers d (json.tier_json tier) (tree.tier_data tier)
+tier_is d None = no_members_are d
+tier_is d (Some name) = text_member_is d (codes "tier") name refl
 
-workings_are : (d : ℕ) (figures : Figures) (w : Workings) → AreMembers d (json.workings_json figures w) (tree.workings_data figures w)
+due_is : (d : ℕ) (tier : Option (List ℕ)) (w : Workings) → AreMembers d (json.due_json tier w) (tree.due_data tier w)
+unfolding json.due_json
+due_is d tier w =
+    members_are d _ _ (_ ∷ []) _ (number_is d (codes "deductible_due") w.under refl)
+    (members_are d _ _ (_ ∷ []) _ (number_is d (codes "share_due") w.share refl)
+    (members_are d _ _ (tree.tier_data tier) (_ ∷ []) (tier_is d tier) (share_is d w.payment.drug.share)))
+
+workings_are : (d : ℕ) (tier : Option (List ℕ)) (figures : Figures) (w : Workings)
+    → AreMembers d (json.workings_json tier figures w) (tree.workings_data tier figures w)
 unfolding json.workings_json
-workings_are d figures w =
+workings_are d tier figures w =
     members_are d _ _ (_ ∷ []) _ (number_is d (codes "cost") w.cost refl)
     (members_are d _ _ (_ ∷ []) _ (number_is d (codes "cost_before_charge") w.ingredient_cost refl)
     (members_are d _ _ (_ ∷ []) _ (number_is d (codes "fee_before_charge") w.dispensing_fee refl)
     (members_are d _ _ (_ ∷ []) _ (number_is d (codes "charge") w.cap refl)
-    (members_are d _ _ (tree.accumulators_data figures w) (tree.due_data w) (accumulators_are d figures w) (due_is d w)))))
+    (members_are d _ _ (tree.accumulators_data figures w) (tree.due_data tier w) (accumulators_are d figures w) (due_is d tier w)))))
 
-payable_is : (d : ℕ) (figures : Figures) (e : Explanation) (b : BillParts) (w : Workings)
-    → AreMembers (suc (suc (suc d))) (json.payable_json figures e b w) (tree.payable_data figures e b w)
+payable_is : (d : ℕ) (tier : Option (List ℕ)) (figures : Figures) (e : Explanation) (b : BillParts) (w : Workings)
+    → AreMembers (suc (suc (suc d))) (json.payable_json tier figures e b w) (tree.payable_data tier figures e b w)
 unfolding json.payable_json json.counted_json
-payable_is d figures e b w =
+payable_is d tier figures e b w =
     members_are _ _ _ (tree.price_data figures b w) _ (price_is _ figures b w)
-    (members_are _ _ _ (tree.workings_data figures w) (_ ∷ []) (workings_are _ figures w)
+    (members_are _ _ _ (tree.workings_data tier figures w) (_ ∷ []) (workings_are _ tier figures w)
     (list_member_is (suc (suc d)) (codes "counted") json.traced_json tree.traced_data refl (traced_is d) e.counted.items))
 
-figures_are : (d : ℕ) (figures : Figures) (e : Explanation) (o : Option (BillParts × Workings))
-    → AreMembers (suc (suc (suc d))) (if_paid (json.payable_json figures e) o) (tree.figures_data figures e o)
-figures_are d figures e None = no_members_are _
-figures_are d figures e (Some p) = payable_is d figures e p.0 p.1
+figures_are : (d : ℕ) (tier : Option (List ℕ)) (figures : Figures) (e : Explanation) (o : Option (BillParts × Workings))
+    → AreMembers (suc (suc (suc d))) (if_paid (json.payable_json tier figures e) o) (tree.figures_data tier figures e o)
+figures_are d tier figures e None = no_members_are _
+figures_are d tier figures e (Some p) = payable_is d tier figures e p.0 p.1
 
 -- ---- the object
 
@@ -463,17 +469,18 @@ header_is e request =
     (members_are 3 _ _ (tree.answer_data e.answer e request) (_ ∷ []) (answer_is 1 e.answer e request)
     (said_is 3 (codes "case") (case_name_of e.decision) refl (case_name e.decision))))))
 
-pub explanation_is : (lot : LotParts) (figures : Figures) (e : Explanation) (request : List ℕ) (c : Option Compared)
-    → IsText 4 (json.explanation_object lot figures e request c) (tree.explanation_data lot figures e request c)
+pub explanation_is : (lot : LotParts) (figures : Figures) (e : Explanation) (request : List ℕ) (tier : Option (List ℕ))
+    (c : Option Compared)
+    → IsText 4 (json.explanation_object lot figures e request tier c) (tree.explanation_data lot figures e request tier c)
 unfolding said
-explanation_is lot figures e request c =
-    text_at 4 _ _ (tree.explanation_data lot figures e request c) (header_apart e request _)
+explanation_is lot figures e request tier c =
+    text_at 4 _ _ (tree.explanation_data lot figures e request tier c) (header_apart e request _)
     (object_is 3 (place_json e.at.place) _ (count (codes "place") e.at.place) _ (place_opens 3 e.at.place)
     (closes_after 3 _ _ (tree.header_data e request) _ (header_is e request)
     (closes_after 3 _ _ (tree.case_data e.decision lot figures e) _ (case_is 3 e.decision lot figures e)
     (closes_after 3 _ _ (tree.standing_data e.decision e.standing) _ (standing_is 1 e.decision e.standing)
-    (closes_after 3 _ _ (tree.figures_data figures e (paid_of e.transaction e.workings)) _
-    (figures_are 0 figures e (paid_of e.transaction e.workings))
+    (closes_after 3 _ _ (tree.figures_data tier figures e (paid_of e.transaction e.workings)) _
+    (figures_are 0 tier figures e (paid_of e.transaction e.workings))
     (closes_last 3 _ _ (tree.compared_data c) (compared_is 3 c) (closes_line 3)))))))
 
 pub rejection_is : (place : ℕ) (r : Rejected) (request : List ℕ) (c : Option Compared)

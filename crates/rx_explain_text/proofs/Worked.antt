@@ -1,5 +1,5 @@
 -- Worked cases of the definitions: lines of an explanation.
-use Rattle.std.proofs.Common.{◌≡◌, refl, [], ◌∷◌, ◌++◌, codes}
+use Rattle.std.proofs.Common.{◌≡◌, refl, [], ◌∷◌, ◌++◌, Some, codes}
 use Rattle.std.specs.Fmt.{decimal, digits}
 use Rattle.rx_fields.specs.Calendar.{date_text}
 use Rattle.rx_fields.specs.Digits.{digits_text}
@@ -9,7 +9,8 @@ use Rattle.rx_explain.specs.declared.finding.Wanted.TheVariants as wanted
 use Rattle.rx_explain_text.specs.Absent.{absent_line, near_text, pharmacy_text, places_left, prescription_text, record_text}
 use Rattle.rx_explain_text.specs.Absent.{records_text, transaction_text}
 use Rattle.rx_explain_text.specs.Claims.{at_text}
-use Rattle.rx_explain_text.specs.Figures.{cut_text, labelled, product_text, rest_text}
+use Rattle.rx_explain_text.specs.Codes.{in_quotes}
+use Rattle.rx_explain_text.specs.Figures.{cut_text, labelled, named_tier, product_text, rest_text, tier_words}
 use Rattle.rx_explain_text.specs.Json.{between_commas}
 use Rattle.rx_explain_text.specs.Reasons.{coverage_text, covered_text, dated_text, sum_text, supply_text}
 use Rattle.rx_print.specs.Said.{said}
@@ -24,9 +25,10 @@ cost-uncut : labelled (codes "ingredient cost F6") 145_000 ++ cut_text (codes "t
 unfolding digits labelled cut_text said
 cost-uncut = refl
 
-share-cut : product_text 20 290_200 0 58_040 ++ cut_text (codes "the family's maximum") 0 58_040
-    ≡ codes "  the tier's 20 percent of $2,902.00 ($2,902.00 less $0.00) = $580.40, cut to $0.00: the family's maximum"
-unfolding digits product_text rest_text cut_text said
+share-cut : product_text 20 290_200 0 58_040 ++ (tier_words (Some (codes "specialty"))
+    ++ cut_text (codes "the family's maximum") 0 58_040)
+    ≡ codes "  20 percent of $2,902.00 ($2,902.00 less $0.00) = $580.40, tier \"specialty\", cut to $0.00: the family's maximum"
+unfolding digits product_text rest_text named_tier in_quotes cut_text said
 share-cut = refl
 
 days-passed : sum_text 19 30 75 ≡ codes "19 x 100 = 1900 < 30 x 75 = 2250"

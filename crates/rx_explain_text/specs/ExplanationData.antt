@@ -228,25 +228,31 @@ abbrev pub share_data : Share → Member
 share_data (Copay cents) = count (codes "tier_copay") cents
 share_data (Percent percent) = count (codes "tier_percent") percent
 
--- what falls under the deductible and what is shared, before the family's maximum cuts them; and the tier's share
-abbrev pub due_data : Workings → List Member
-due_data w =
-    count (codes "deductible_due") w.under ∷ count (codes "share_due") w.share ∷ share_data w.payment.drug.share ∷ []
+-- the name of the tier in the plan sheet, where it has one
+abbrev pub tier_data : Option (List ℕ) → List Member
+tier_data None = []
+tier_data (Some name) = text (codes "tier") name ∷ []
 
-abbrev pub workings_data : Figures → Workings → List Member
-workings_data figures w =
+-- what falls under the deductible and what is shared, before the family's maximum cuts them; the tier and its share
+abbrev pub due_data : Option (List ℕ) → Workings → List Member
+due_data tier w =
+    count (codes "deductible_due") w.under ∷ count (codes "share_due") w.share
+    ∷ (tier_data tier ++ share_data w.payment.drug.share ∷ [])
+
+abbrev pub workings_data : Option (List ℕ) → Figures → Workings → List Member
+workings_data tier figures w =
     count (codes "cost") w.cost ∷ count (codes "cost_before_charge") w.ingredient_cost
     ∷ count (codes "fee_before_charge") w.dispensing_fee ∷ count (codes "charge") w.cap
-    ∷ (accumulators_data figures w ++ due_data w)
+    ∷ (accumulators_data figures w ++ due_data tier w)
 
-abbrev pub payable_data : Figures → Explanation → BillParts → Workings → List Member
-payable_data figures e b w =
-    price_data figures b w ++ (workings_data figures w ++ (codes "counted", array (map traced_data e.counted.items)) ∷ [])
+abbrev pub payable_data : Option (List ℕ) → Figures → Explanation → BillParts → Workings → List Member
+payable_data tier figures e b w =
+    price_data figures b w ++ (workings_data tier figures w ++ (codes "counted", array (map traced_data e.counted.items)) ∷ [])
 
 -- of a claim that is paid; nothing of another
-abbrev pub figures_data : Figures → Explanation → Option (BillParts × Workings) → List Member
-figures_data figures e None = []
-figures_data figures e (Some p) = payable_data figures e p.0 p.1
+abbrev pub figures_data : Option (List ℕ) → Figures → Explanation → Option (BillParts × Workings) → List Member
+figures_data tier figures e None = []
+figures_data tier figures e (Some p) = payable_data tier figures e p.0 p.1
 
 -- ---- the object
 
@@ -255,10 +261,10 @@ header_data e request =
     count (codes "nth") e.at.nth ∷ text (codes "pharmacy") e.provider ∷ day (codes "date") e.date
     ∷ (asked_data e.transaction ++ (answer_data e.answer e request ++ text (codes "case") (case_name_of e.decision) ∷ []))
 
-abbrev pub explanation_data : LotParts → Figures → Explanation → List ℕ → Option Compared → Value
-explanation_data lot figures e request c =
+abbrev pub explanation_data : LotParts → Figures → Explanation → List ℕ → Option (List ℕ) → Option Compared → Value
+explanation_data lot figures e request tier c =
     object (count (codes "place") e.at.place ∷ (header_data e request ++ (case_data e.decision lot figures e
-    ++ (standing_data e.decision e.standing ++ (figures_data figures e (paid_of e.transaction e.workings) ++ compared_data c)))))
+    ++ (standing_data e.decision e.standing ++ (figures_data tier figures e (paid_of e.transaction e.workings) ++ compared_data c)))))
 
 -- a record whose header is rejected
 abbrev pub rejection_data : ℕ → Rejected → List ℕ → Option Compared → Value

@@ -11,6 +11,7 @@ use Rattle.rx_explain.specs.declared.workings.Workings.{Workings}
 use Rattle.rx_explain.specs.declared.explanation.Explanation.{Explanation}
 use Rattle.rx_explain.specs.declared.traced.Traced.{Traced}
 use Rattle.rx_print.specs.Money.{money_text, price_text, right_in, thousandths_text}
+use Rattle.rx_explain_text.specs.Codes.{in_quotes}
 use Rattle.rx_explain_text.specs.Counted.{claims_text}
 use Rattle.rx_explain_text.specs.Said.{said, say}
 use Rattle.rx_explain_text.specs.declared.counted.Counts.{Counts}
@@ -125,43 +126,51 @@ unfoldable pub rest_text : ℕ → ℕ → List ℕ
 rest_text allowed under =
     money_text (allowed - under) ++ (say " (" ++ (money_text allowed ++ (say " less " ++ (money_text under ++ say ")"))))
 
-unfoldable pub tier_text : ℕ → List ℕ
-tier_text cents = say "  the tier's copay of " ++ money_text cents
+unfoldable pub whole_copay_text : ℕ → List ℕ
+whole_copay_text cents = say "  copay of " ++ money_text cents
 
 unfoldable pub short_copay_text : ℕ → ℕ → ℕ → List ℕ
 short_copay_text cents allowed under =
-    tier_text cents ++ (say "; only " ++ (rest_text allowed under ++ say " is left"))
+    whole_copay_text cents ++ (say "; only " ++ (rest_text allowed under ++ say " is left"))
 
 -- the tier's copay, against what is left
 abbrev pub copay_text : ℕ → ℕ → ℕ → List ℕ
 copay_text cents allowed under =
     if nat_le allowed under then say "  nothing is left after the deductible"
-    else (if nat_lt (allowed - under) cents then short_copay_text cents allowed under else tier_text cents)
+    else (if nat_lt (allowed - under) cents then short_copay_text cents allowed under else whole_copay_text cents)
 
 -- the tier's percentage of what is left
 unfoldable pub product_text : ℕ → ℕ → ℕ → ℕ → List ℕ
 product_text percent allowed under share =
-    say "  the tier's " ++ (decimal percent ++ (say " percent of " ++ (rest_text allowed under ++ (say " = " ++ money_text share))))
+    say "  " ++ (decimal percent ++ (say " percent of " ++ (rest_text allowed under ++ (say " = " ++ money_text share))))
 
 abbrev pub percent_text : ℕ → Workings → List ℕ
 percent_text percent w =
     if nat_le (allowed_of w) w.under then say "  nothing is left after the deductible"
     else product_text percent (allowed_of w) w.under w.share
 
--- the copay or the coinsurance, how it comes about, and what the family's maximum cuts off
-unfoldable pub copay_line : ℕ → Workings → List ℕ
-copay_line cents w =
+-- the tier by its name in the plan sheet, where it has one
+unfoldable pub named_tier : List ℕ → List ℕ
+named_tier name = say ", tier " ++ in_quotes name
+
+abbrev pub tier_words : Option (List ℕ) → List ℕ
+tier_words None = []
+tier_words (Some name) = named_tier name
+
+-- the copay or the coinsurance, how it comes about, of which tier it is, and what the family's maximum cuts off
+unfoldable pub copay_line : Option (List ℕ) → ℕ → Workings → List ℕ
+copay_line tier cents w =
     labelled (codes "copay FI") w.payment.pricing.copay ++ (copay_text cents (allowed_of w) w.under
-    ++ maximum_cut w.payment.pricing.copay w.share)
+    ++ (tier_words tier ++ maximum_cut w.payment.pricing.copay w.share))
 
-unfoldable pub coinsurance_line : ℕ → Workings → List ℕ
-coinsurance_line percent w =
+unfoldable pub coinsurance_line : Option (List ℕ) → ℕ → Workings → List ℕ
+coinsurance_line tier percent w =
     labelled (codes "coinsurance 4U") w.payment.pricing.coinsurance ++ (percent_text percent w
-    ++ maximum_cut w.payment.pricing.coinsurance w.share)
+    ++ (tier_words tier ++ maximum_cut w.payment.pricing.coinsurance w.share))
 
-abbrev pub share_line : Share → Workings → List ℕ
-share_line (Copay cents) w = copay_line cents w
-share_line (Percent percent) w = coinsurance_line percent w
+abbrev pub share_line : Option (List ℕ) → Share → Workings → List ℕ
+share_line tier (Copay cents) w = copay_line tier cents w
+share_line tier (Percent percent) w = coinsurance_line tier percent w
 
 unfoldable pub pays_line : List ℕ → ℕ → List ℕ
 pays_line label cents = labelled label cents ++ say "\n"
@@ -170,17 +179,18 @@ unfoldable pub payer_lines : Workings → List ℕ
 payer_lines w =
     pays_line (codes "member pays F5") (patient_pay w.payment.pricing) ++ pays_line (codes "plan pays F9") (total_paid w.payment.pricing)
 
-unfoldable pub payment_lines : Workings → List ℕ
-payment_lines w =
+unfoldable pub payment_lines : Option (List ℕ) → Workings → List ℕ
+payment_lines tier w =
     labelled (codes "deductible FH") w.payment.pricing.deductible
-    ++ (maximum_due w.payment.pricing.deductible w.under ++ (say "\n" ++ (share_line w.payment.drug.share w ++ (say "\n" ++ payer_lines w))))
+    ++ (maximum_due w.payment.pricing.deductible w.under ++ (say "\n" ++ (share_line tier w.payment.drug.share w
+    ++ (say "\n" ++ payer_lines w))))
 
 -- ---- all of them
 
-unfoldable pub paid_lines : Listing → Figures → Explanation → BillParts → Workings → List ℕ
-paid_lines listing figures e b w =
+unfoldable pub paid_lines : Listing → Option (List ℕ) → Figures → Explanation → BillParts → Workings → List ℕ
+paid_lines listing tier figures e b w =
     cost_line b w ++ (fee_line figures b w ++ (allowed_line b w ++ (accumulator_lines listing figures e.counted.items b w
-    ++ payment_lines w)))
+    ++ payment_lines tier w)))
 
 -- the billing that is paid, and the steps to its amounts
 abbrev pub paid_of : Transaction → Option Workings → Option (BillParts × Workings)
@@ -192,5 +202,5 @@ abbrev pub if_paid : (BillParts → Workings → List ℕ) → Option (BillParts
 if_paid told None = []
 if_paid told (Some p) = told p.0 p.1
 
-abbrev pub figure_lines : Listing → Transaction → Figures → Explanation → List ℕ
-figure_lines listing t figures e = if_paid (paid_lines listing figures e) (paid_of t e.workings)
+abbrev pub figure_lines : Listing → Option (List ℕ) → Transaction → Figures → Explanation → List ℕ
+figure_lines listing tier t figures e = if_paid (paid_lines listing tier figures e) (paid_of t e.workings)

@@ -284,34 +284,39 @@ abbrev pub share_json : Share → List ℕ
 share_json (Copay cents) = number_member (codes "tier_copay") cents
 share_json (Percent percent) = number_member (codes "tier_percent") percent
 
--- what falls under the deductible and what is shared, before the family's maximum cuts them; and the tier's share
-unfoldable pub due_json : Workings → List ℕ
-due_json w =
-    number_member (codes "deductible_due") w.under ++ (number_member (codes "share_due") w.share
-    ++ share_json w.payment.drug.share)
+-- the name of the tier in the plan sheet, where it has one
+abbrev pub tier_json : Option (List ℕ) → List ℕ
+tier_json None = []
+tier_json (Some name) = text_member (codes "tier") name
 
-unfoldable pub workings_json : Figures → Workings → List ℕ
-workings_json figures w =
+-- what falls under the deductible and what is shared, before the family's maximum cuts them; the tier and its share
+unfoldable pub due_json : Option (List ℕ) → Workings → List ℕ
+due_json tier w =
+    number_member (codes "deductible_due") w.under ++ (number_member (codes "share_due") w.share
+    ++ (tier_json tier ++ share_json w.payment.drug.share))
+
+unfoldable pub workings_json : Option (List ℕ) → Figures → Workings → List ℕ
+workings_json tier figures w =
     number_member (codes "cost") w.cost ++ (number_member (codes "cost_before_charge") w.ingredient_cost
     ++ (number_member (codes "fee_before_charge") w.dispensing_fee
-    ++ (number_member (codes "charge") w.cap ++ (accumulators_json figures w ++ due_json w))))
+    ++ (number_member (codes "charge") w.cap ++ (accumulators_json figures w ++ due_json tier w))))
 
 unfoldable pub counted_json : List Traced → List ℕ
 counted_json ts = list_member (codes "counted") traced_json ts
 
-unfoldable pub payable_json : Figures → Explanation → BillParts → Workings → List ℕ
-payable_json figures e b w = price_json figures b w ++ (workings_json figures w ++ counted_json e.counted.items)
+unfoldable pub payable_json : Option (List ℕ) → Figures → Explanation → BillParts → Workings → List ℕ
+payable_json tier figures e b w = price_json figures b w ++ (workings_json tier figures w ++ counted_json e.counted.items)
 
 -- of a claim that is paid; nothing of another
-abbrev pub figures_json : Transaction → Figures → Explanation → List ℕ
-figures_json t figures e = if_paid (payable_json figures e) (paid_of t e.workings)
+abbrev pub figures_json : Option (List ℕ) → Transaction → Figures → Explanation → List ℕ
+figures_json tier t figures e = if_paid (payable_json tier figures e) (paid_of t e.workings)
 
 -- ---- the object
 
-abbrev pub explanation_object : LotParts → Figures → Explanation → List ℕ → Option Compared → List ℕ
-explanation_object lot figures e request c =
+abbrev pub explanation_object : LotParts → Figures → Explanation → List ℕ → Option (List ℕ) → Option Compared → List ℕ
+explanation_object lot figures e request tier c =
     header_json e request ++ (case_json e.decision lot figures e ++ (standing_json e.decision e.standing
-    ++ (figures_json e.transaction figures e ++ (compared_json c ++ say "}\n"))))
+    ++ (figures_json tier e.transaction figures e ++ (compared_json c ++ say "}\n"))))
 
 -- a record whose header is rejected
 abbrev pub rejection_object : ℕ → Rejected → List ℕ → Option Compared → List ℕ

@@ -90,8 +90,9 @@ fn put_bytes(page: &mut Page, bytes: Option<&[u8]>) -> Result<(), AllocError>
     }
 }
 
+/// Bytes of a file in quotes, as a terminal shows them.
 #[tactic(auto, using(std::proofs::Common::append_assoc), unfolding(crate::specs::Codes::in_quotes))]
-fn put_quoted(page: &mut Page, bytes: &[u8]) -> Result<(), AllocError>
+pub(crate) fn put_quoted(page: &mut Page, bytes: &[u8]) -> Result<(), AllocError>
     ensures { OnOk result (page.new.bytes.items ≡ page.old.bytes.items ++ in_quotes bytes.now) }
 {
     page.say("\"")?;

@@ -1,11 +1,13 @@
 ghost use Rattle.std.specs.Prelude.{◌≡◌, ◌+◌, ◌++◌, OnOk};
-ghost use Rattle.std.specs.Option.{option_map, unwrap_or};
+ghost use Rattle.std.specs.Option.{option_copied, option_map, unwrap_or};
 ghost use Rattle.rx_explain_text.specs.Figures.{accumulator_lines, allowed_line, allowed_of, charge_text, coinsurance_line};
 ghost use Rattle.rx_explain_text.specs.Figures.{copay_line, copay_text, cost_line, cut_text, due_text, family_left_lines};
 ghost use Rattle.rx_explain_text.specs.Figures.{family_lines, fee_line, figure_lines, labelled, left_lines, less_text, paid_lines};
 ghost use Rattle.rx_explain_text.specs.Figures.{paid_of, payer_lines, payment_lines, pays_line, percent_text, priced_text};
-ghost use Rattle.rx_explain_text.specs.Figures.{product_text, rest_text, share_line, short_copay_text, submitted_text, tier_text};
+ghost use Rattle.rx_explain_text.specs.Figures.{named_tier, product_text, rest_text, share_line, short_copay_text, submitted_text, tier_words};
+ghost use Rattle.rx_explain_text.specs.Figures.{whole_copay_text};
 
+use crate::codes::put_quoted;
 use crate::counted::{Claims, Counts, Listing, put_claims};
 use rx_d0_values::{Bill, Transaction};
 use rx_explain::{Explanation, Traced, Workings};
@@ -34,13 +36,16 @@ pub(crate) fn put_figures(
     page: &mut Page,
     figures: &Figures,
     explanation: &Explanation,
+    tier: Option<&str>,
     listing: Listing,
 ) -> Result<(), AllocError>
-    ensures { OnOk result (page.new.bytes.items
-        ≡ page.old.bytes.items ++ figure_lines listing explanation.now.transaction figures.now explanation.now) }
+    ensures { OnOk result (page.new.bytes.items ≡ page.old.bytes.items
+        ++ figure_lines listing (option_copied tier.entry) explanation.now.transaction figures.now explanation.now) }
 {
     match paid(explanation) {
-        Some((bill, workings)) => put_paid(page, figures, explanation, bill, workings, listing),
+        Some((bill, workings)) => {
+            put_paid(page, figures, explanation, bill, workings, tier, listing)
+        }
         None => Ok(()),
     }
 }
@@ -52,16 +57,17 @@ fn put_paid(
     explanation: &Explanation,
     bill: &Bill,
     workings: &Workings,
+    tier: Option<&str>,
     listing: Listing,
 ) -> Result<(), AllocError>
-    ensures { OnOk result (page.new.bytes.items
-        ≡ page.old.bytes.items ++ paid_lines listing figures.now explanation.now bill.now workings.now) }
+    ensures { OnOk result (page.new.bytes.items ≡ page.old.bytes.items
+        ++ paid_lines listing (option_copied tier.entry) figures.now explanation.now bill.now workings.now) }
 {
     put_cost(page, bill, workings)?;
     put_fee(page, figures, bill, workings)?;
     put_allowed(page, bill, workings)?;
     put_accumulators(page, figures, explanation, bill, workings, listing)?;
-    put_payment(page, workings)
+    put_payment(page, workings, tier)
 }
 
 // A label and an amount, each in its column.
@@ -340,31 +346,39 @@ fn put_less(page: &mut Page, figure: u64, used: u128) -> Result<(), AllocError>
 
 // The deductible, the copay or coinsurance, and who pays what.
 #[tactic(auto, using(std::proofs::Common::append_assoc), unfolding(crate::specs::Figures::payment_lines))]
-fn put_payment(page: &mut Page, workings: &Workings) -> Result<(), AllocError>
-    ensures { OnOk result (page.new.bytes.items ≡ page.old.bytes.items ++ payment_lines workings.now) }
+fn put_payment(page: &mut Page, workings: &Workings, tier: Option<&str>) -> Result<(), AllocError>
+    ensures { OnOk result (page.new.bytes.items
+        ≡ page.old.bytes.items ++ payment_lines (option_copied tier.entry) workings.now) }
 {
     let deductible = u128::from(workings.payment.pricing.amounts().deductible);
     line(page, "deductible FH", deductible)?;
     put_due(page, MAXIMUM, deductible, u128::from(workings.under))?;
     page.say("\n")?;
-    put_share(page, workings)?;
+    put_share(page, workings, tier)?;
     page.say("\n")?;
     put_payers(page, workings)
 }
 
 // The copay or the coinsurance, and the tier's.
-fn put_share(page: &mut Page, workings: &Workings) -> Result<(), AllocError>
-    ensures { OnOk result (page.new.bytes.items ≡ page.old.bytes.items ++ share_line workings.now.payment.drug.share workings.now) }
+fn put_share(page: &mut Page, workings: &Workings, tier: Option<&str>) -> Result<(), AllocError>
+    ensures { OnOk result (page.new.bytes.items ≡ page.old.bytes.items
+        ++ share_line (option_copied tier.entry) workings.now.payment.drug.share workings.now) }
 {
     match workings.payment.drug.share {
-        Share::Copay(cents) => put_copay(page, workings, cents),
-        Share::Percent(percent) => put_coinsurance(page, workings, percent),
+        Share::Copay(cents) => put_copay(page, workings, cents, tier),
+        Share::Percent(percent) => put_coinsurance(page, workings, percent, tier),
     }
 }
 
 #[tactic(auto, using(std::proofs::Common::append_assoc), unfolding(crate::specs::Figures::copay_line))]
-fn put_copay(page: &mut Page, workings: &Workings, cents: u64) -> Result<(), AllocError>
-    ensures { OnOk result (page.new.bytes.items ≡ page.old.bytes.items ++ copay_line cents workings.now) }
+fn put_copay(
+    page: &mut Page,
+    workings: &Workings,
+    cents: u64,
+    tier: Option<&str>,
+) -> Result<(), AllocError>
+    ensures { OnOk result (page.new.bytes.items
+        ≡ page.old.bytes.items ++ copay_line (option_copied tier.entry) cents workings.now) }
 {
     let paid = u128::from(workings.payment.pricing.amounts().copay);
     line(page, "copay FI", paid)?;
@@ -374,7 +388,26 @@ fn put_copay(page: &mut Page, workings: &Workings, cents: u64) -> Result<(), All
         allowed(workings),
         u128::from(workings.under),
     )?;
+    put_tier(page, tier)?;
     put_cut(page, MAXIMUM, paid, u128::from(workings.share))
+}
+
+// The tier by its name.
+fn put_tier(page: &mut Page, tier: Option<&str>) -> Result<(), AllocError>
+    ensures { OnOk result (page.new.bytes.items ≡ page.old.bytes.items ++ tier_words (option_copied tier.entry)) }
+{
+    match tier {
+        Some(name) => put_named_tier(page, name),
+        None => Ok(()),
+    }
+}
+
+#[tactic(auto, using(std::proofs::Common::append_assoc), unfolding(crate::specs::Figures::named_tier))]
+fn put_named_tier(page: &mut Page, name: &str) -> Result<(), AllocError>
+    ensures { OnOk result (page.new.bytes.items ≡ page.old.bytes.items ++ named_tier name.now) }
+{
+    page.say(", tier ")?;
+    put_quoted(page, name.as_bytes())
 }
 
 // What is allowed, in cents.
@@ -394,15 +427,15 @@ fn put_copay_of(page: &mut Page, cents: u128, allowed: u128, under: u128) -> Res
     } else if allowed - under < cents {
         put_short_copay(page, cents, allowed, under)
     } else {
-        put_tier(page, cents)
+        put_whole_copay(page, cents)
     }
 }
 
-#[tactic(auto, using(std::proofs::Common::append_assoc), unfolding(crate::specs::Figures::tier_text))]
-fn put_tier(page: &mut Page, cents: u128) -> Result<(), AllocError>
-    ensures { OnOk result (page.new.bytes.items ≡ page.old.bytes.items ++ tier_text cents) }
+#[tactic(auto, using(std::proofs::Common::append_assoc), unfolding(crate::specs::Figures::whole_copay_text))]
+fn put_whole_copay(page: &mut Page, cents: u128) -> Result<(), AllocError>
+    ensures { OnOk result (page.new.bytes.items ≡ page.old.bytes.items ++ whole_copay_text cents) }
 {
-    page.say("  the tier's copay of ")?;
+    page.say("  copay of ")?;
     page.money(cents)
 }
 
@@ -415,7 +448,7 @@ fn put_short_copay(
 ) -> Result<(), AllocError>
     ensures { OnOk result (page.new.bytes.items ≡ page.old.bytes.items ++ short_copay_text cents allowed under) }
 {
-    put_tier(page, cents)?;
+    put_whole_copay(page, cents)?;
     page.say("; only ")?;
     put_rest(page, allowed, under)?;
     page.say(" is left")
@@ -435,12 +468,19 @@ fn put_rest(page: &mut Page, allowed: u128, under: u128) -> Result<(), AllocErro
 }
 
 #[tactic(auto, using(std::proofs::Common::append_assoc), unfolding(crate::specs::Figures::coinsurance_line))]
-fn put_coinsurance(page: &mut Page, workings: &Workings, percent: u8) -> Result<(), AllocError>
-    ensures { OnOk result (page.new.bytes.items ≡ page.old.bytes.items ++ coinsurance_line percent workings.now) }
+fn put_coinsurance(
+    page: &mut Page,
+    workings: &Workings,
+    percent: u8,
+    tier: Option<&str>,
+) -> Result<(), AllocError>
+    ensures { OnOk result (page.new.bytes.items
+        ≡ page.old.bytes.items ++ coinsurance_line (option_copied tier.entry) percent workings.now) }
 {
     let paid = u128::from(workings.payment.pricing.amounts().coinsurance);
     line(page, "coinsurance 4U", paid)?;
     put_percent_of(page, workings, percent)?;
+    put_tier(page, tier)?;
     put_cut(page, MAXIMUM, paid, u128::from(workings.share))
 }
 
@@ -472,7 +512,7 @@ fn put_product(
 ) -> Result<(), AllocError>
     ensures { OnOk result (page.new.bytes.items ≡ page.old.bytes.items ++ product_text percent allowed under share) }
 {
-    page.say("  the tier's ")?;
+    page.say("  ")?;
     page.number(percent)?;
     page.say(" percent of ")?;
     put_rest(page, allowed, under)?;

@@ -1,4 +1,5 @@
 ghost use Rattle.std.specs.Prelude.{◌≡◌, ◌++◌, Some, IfOk, OnOk, option_map};
+ghost use Rattle.std.specs.Option.{option_copied};
 ghost use Rattle.rx_explain_text.specs.Answered.{answer_text, answered_line, billed_text, numbered_text, product_said};
 ghost use Rattle.rx_explain_text.specs.Answered.{reference_of, refused_count, refused_for, refused_text, reversed_text, rx_text};
 ghost use Rattle.rx_explain_text.specs.Answered.{supply_said, taken_from, whose_text};
@@ -7,6 +8,7 @@ ghost use Rattle.rx_explain_text.specs.Rejections.{compared_line, compared_words
 ghost use Rattle.rx_explain_text.specs.Rejections.{sent_text, trimmed_text};
 ghost use Rattle.rx_explain_text.specs.Texts.{explanation_words};
 
+use crate::cited::Cited;
 use crate::codes::{put_codes, put_named};
 use crate::compared::Compared;
 use crate::counted::Listing;
@@ -23,24 +25,25 @@ use rx_print::{Page, Style};
 use std::alloc::{AllocError, Global};
 
 /// An explanation in words: a line that says the answer and the pharmacy, and below it, set in, why (docs/RULES.md,
-/// "Rules of adjudication"). `request` is the text of the record's transmission; the last line says what a response
-/// file has there, where one was looked at. Of the claims of a sum the largest are listed, or all.
+/// "Rules of adjudication"). The last line says what a response file has at the record's place, where one was looked at. Of
+/// the claims of a sum the largest are listed, or all.
 #[tactic(auto, using(std::proofs::Common::append_assoc))]
 pub fn explanation_text(
     alloc: Global,
     lot: Lot,
     figures: &Figures,
     explanation: &Explanation,
-    request: &[u8],
+    cited: Cited<'_>,
     compared: Option<Compared>,
     listing: Listing,
 ) -> Result<Vec<u8>, Memory>
-    ensures { IfOk result (λ text. text.items ≡ explanation_words listing lot figures.now explanation.now request.now compared) }
+    ensures { let c = cited.entry in IfOk result (λ text. text.items
+        ≡ explanation_words listing lot figures.now explanation.now c.request.now (option_copied c.tier) compared) }
 {
     let mut page = Page::new(alloc);
     put_header(&mut page, explanation)?;
-    put_reason(&mut page, lot, figures, explanation, request)?;
-    put_figures(&mut page, figures, explanation, listing)?;
+    put_reason(&mut page, lot, figures, explanation, cited.request)?;
+    put_figures(&mut page, figures, explanation, cited.tier, listing)?;
     put_compared(&mut page, explanation.at.place, compared)?;
     Ok(page.into_bytes())
 }

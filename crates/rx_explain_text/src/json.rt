@@ -1,5 +1,5 @@
 ghost use Rattle.std.specs.Prelude.{◌≡◌, ◌++◌, IfOk, OnOk, option_map};
-ghost use Rattle.std.specs.Option.{unwrap_or};
+ghost use Rattle.std.specs.Option.{option_copied, unwrap_or};
 ghost use Rattle.rx_explain_text.specs.Json.{accumulators_json, amounts_json, answer_json, approved_json};
 ghost use Rattle.rx_explain_text.specs.Json.{asked_json, at_member, bill_json, bytes_json, bytes_member};
 ghost use Rattle.rx_explain_text.specs.Json.{case_json, charge_json, code_json, codes_json, compared_json, counted_json};
@@ -9,9 +9,10 @@ ghost use Rattle.rx_explain_text.specs.Json.{figures_json, from_json, front_json
 ghost use Rattle.rx_explain_text.specs.Json.{numbered_json, open_json, paid_json, passed_json, payable_json, place_json, price_json};
 ghost use Rattle.rx_explain_text.specs.Json.{quoted, reference_json, refusal_json, refused_json, rejection_object, row_json};
 ghost use Rattle.rx_explain_text.specs.Json.{said_member, share_json, soon_json, spoken_field, standing_json, text_member};
-ghost use Rattle.rx_explain_text.specs.Json.{traced_json, whole_part, workings_json};
+ghost use Rattle.rx_explain_text.specs.Json.{tier_json, traced_json, whole_part, workings_json};
 ghost use Rattle.rx_explain_text.specs.RequestField.{field_number};
 
+use crate::cited::Cited;
 use crate::code_words::{case_name, name, wanted};
 use crate::compared::Compared;
 use crate::figures::paid;
@@ -27,23 +28,24 @@ use rx_ledger::{Decision, Figures, Row, Share};
 use rx_print::{Page, Style};
 use std::alloc::{AllocError, Global};
 
-/// An explanation as one JSON object on one line. Amounts are in cents. `request` is the text of the record's transmission.
+/// An explanation as one JSON object on one line. Amounts are in cents.
 #[tactic(auto, using(std::proofs::Common::append_assoc))]
 pub fn explanation_json(
     alloc: Global,
     lot: Lot,
     figures: &Figures,
     explanation: &Explanation,
-    request: &[u8],
+    cited: Cited<'_>,
     compared: Option<Compared>,
 ) -> Result<Vec<u8>, Memory>
-    ensures { IfOk result (λ text. text.items ≡ explanation_object lot figures.now explanation.now request.now compared) }
+    ensures { let c = cited.entry in IfOk result (λ text. text.items
+        ≡ explanation_object lot figures.now explanation.now c.request.now (option_copied c.tier) compared) }
 {
     let mut page = Page::new(alloc);
-    put_header(&mut page, explanation, request)?;
+    put_header(&mut page, explanation, cited.request)?;
     put_case(&mut page, lot, figures, explanation)?;
     put_standing(&mut page, explanation)?;
-    put_figures(&mut page, figures, explanation)?;
+    put_figures(&mut page, figures, explanation, cited.tier)?;
     put_compared(&mut page, compared)?;
     page.say("}\n")?;
     Ok(page.into_bytes())
@@ -425,12 +427,13 @@ fn put_payable(
     explanation: &Explanation,
     bill: &Bill,
     workings: &Workings,
+    tier: Option<&str>,
 ) -> Result<(), AllocError>
-    ensures { OnOk result (page.new.bytes.items
-        ≡ page.old.bytes.items ++ payable_json figures.now explanation.now bill.now workings.now) }
+    ensures { OnOk result (page.new.bytes.items ≡ page.old.bytes.items
+        ++ payable_json (option_copied tier.entry) figures.now explanation.now bill.now workings.now) }
 {
     put_price(page, figures, bill, workings)?;
-    put_workings(page, figures, workings)?;
+    put_workings(page, figures, workings, tier)?;
     put_counted(page, &explanation.counted)
 }
 
@@ -439,12 +442,13 @@ fn put_figures(
     page: &mut Page,
     figures: &Figures,
     explanation: &Explanation,
+    tier: Option<&str>,
 ) -> Result<(), AllocError>
-    ensures { OnOk result (page.new.bytes.items
-        ≡ page.old.bytes.items ++ figures_json explanation.now.transaction figures.now explanation.now) }
+    ensures { OnOk result (page.new.bytes.items ≡ page.old.bytes.items
+        ++ figures_json (option_copied tier.entry) explanation.now.transaction figures.now explanation.now) }
 {
     match paid(explanation) {
-        Some((bill, workings)) => put_payable(page, figures, explanation, bill, workings),
+        Some((bill, workings)) => put_payable(page, figures, explanation, bill, workings, tier),
         None => Ok(()),
     }
 }
@@ -491,15 +495,21 @@ fn cents_or_nothing(cents: Option<Cents>) -> u64
 }
 
 #[tactic(auto, using(std::proofs::Common::append_assoc), unfolding(crate::specs::Json::workings_json))]
-fn put_workings(page: &mut Page, figures: &Figures, workings: &Workings) -> Result<(), AllocError>
-    ensures { OnOk result (page.new.bytes.items ≡ page.old.bytes.items ++ workings_json figures.now workings.now) }
+fn put_workings(
+    page: &mut Page,
+    figures: &Figures,
+    workings: &Workings,
+    tier: Option<&str>,
+) -> Result<(), AllocError>
+    ensures { OnOk result (page.new.bytes.items
+        ≡ page.old.bytes.items ++ workings_json (option_copied tier.entry) figures.now workings.now) }
 {
     put_number(page, "cost", workings.cost)?;
     put_number(page, "cost_before_charge", workings.ingredient_cost)?;
     put_number(page, "fee_before_charge", workings.dispensing_fee)?;
     put_number(page, "charge", workings.cap)?;
     put_accumulators(page, figures, workings)?;
-    put_due(page, workings)
+    put_due(page, workings, tier)
 }
 
 // What was used of the plan's figures, and what is left of them.
@@ -551,17 +561,28 @@ fn put_family_left(page: &mut Page, figure: u64, used: u128, left: u64) -> Resul
     put_number(page, "family_deductible_left", left)
 }
 
-// What falls under the deductible and what is shared, before the family's maximum cuts them; and the tier's share.
+// What falls under the deductible and what is shared, before the family's maximum cuts them; the tier and its share.
 #[tactic(auto, using(std::proofs::Common::append_assoc), unfolding(crate::specs::Json::due_json))]
-fn put_due(page: &mut Page, workings: &Workings) -> Result<(), AllocError>
-    ensures { OnOk result (page.new.bytes.items ≡ page.old.bytes.items ++ due_json workings.now) }
+fn put_due(page: &mut Page, workings: &Workings, tier: Option<&str>) -> Result<(), AllocError>
+    ensures { OnOk result (page.new.bytes.items ≡ page.old.bytes.items ++ due_json (option_copied tier.entry) workings.now) }
 {
     put_number(page, "deductible_due", workings.under)?;
     put_number(page, "share_due", workings.share)?;
-    put_tier(page, workings.payment.drug.share)
+    put_tier(page, tier)?;
+    put_share(page, workings.payment.drug.share)
 }
 
-fn put_tier(page: &mut Page, share: Share) -> Result<(), AllocError>
+// The name of the tier.
+fn put_tier(page: &mut Page, tier: Option<&str>) -> Result<(), AllocError>
+    ensures { OnOk result (page.new.bytes.items ≡ page.old.bytes.items ++ tier_json (option_copied tier.entry)) }
+{
+    match tier {
+        Some(name) => put_text(page, "tier", name.as_bytes()),
+        None => Ok(()),
+    }
+}
+
+fn put_share(page: &mut Page, share: Share) -> Result<(), AllocError>
     ensures { OnOk result (page.new.bytes.items ≡ page.old.bytes.items ++ share_json share) }
 {
     match share {

@@ -11,8 +11,9 @@ ghost use Rattle.rx_print.specs.JsonData.{ReadsAs};
 /// What is written of an explanation as JSON is JSON: it is read as one object, in which each name has the explanation's
 /// own value; and so is what is written of a record whose header is rejected.
 pub fn explanations_read_as_json()
-    ensures explained { (lot : LotParts) → (figures : Figures) → (e : Explanation) → (request : List ℕ) → (c : Option Compared)
-        → ReadsAs (explanation_object lot figures e request c) (explanation_data lot figures e request c) }
+    ensures explained { (lot : LotParts) → (figures : Figures) → (e : Explanation) → (request : List ℕ)
+        → (tier : Option (List ℕ)) → (c : Option Compared)
+        → ReadsAs (explanation_object lot figures e request tier c) (explanation_data lot figures e request tier c) }
     ensures rejected { (place : ℕ) → (r : Rejected) → (request : List ℕ) → (c : Option Compared)
         → ReadsAs (rejection_object place r request c) (rejection_data place r request c) }
 {}

@@ -1,7 +1,7 @@
 //! An explanation in words, for people in dollars and cents, and as JSON for programs, in cents.
 //!
 //! ```rust
-//! let text = rx_explain_text::explanation_text(alloc, lot, figures, &explanation, request, None, Listing::All)?;
+//! let text = rx_explain_text::explanation_text(alloc, lot, figures, &explanation, cited, None, Listing::All)?;
 //! ```
 //!
 //! What is explained is decided by `rx_explain`; nothing is adjudicated here. Each text is the one of `specs/Texts.antt`,
@@ -9,6 +9,7 @@
 #![tactic(auto)]
 
 mod absent;
+mod cited;
 mod code_words;
 mod codes;
 mod compared;
@@ -22,6 +23,7 @@ mod reasons;
 mod request_field;
 
 pub use absent::absent_text;
+pub use cited::Cited;
 pub use code_words::{name, wanted};
 pub use compared::Compared;
 pub use counted::Listing;

@@ -1,26 +1,29 @@
 -- A table of tabs reads back: no cell holds a tab or a line feed.
-use Rattle.std.proofs.Common.{◌≡◌, ℕ, zero, suc, ◌+◌, ◌/◌, ◌%◌, Bool, true, false, ◌&&◌, not, cond, eqb, leb, ltb, List, [], ◌∷◌}
-use Rattle.std.proofs.Common.{◌++◌, map, length, refl, sym, ap, ◌∙◌, inl, inr, subst, arith, append_assoc, Option, Some, None}
+use Rattle.std.proofs.Common.{◌≡◌, ℕ, zero, suc, ◌+◌, ◌/◌, ◌%◌, Bool, true, false, ◌&&◌, eqb, leb, ltb, List, [], ◌∷◌}
+use Rattle.std.proofs.Common.{◌++◌, map, length, codes, drop, take, refl, ap, ◌∙◌, inl, inr, arith, append_assoc, Option, Some, None}
 use Rattle.std.specs.Fmt.{decimal, digit_glyph, digits, digits_onto, signed_decimal}
 use Rattle.std.specs.List.{All, flat_map, list_all, list_any, slice_split}
 use Rattle.std.specs.Prelude.{ℤ, pos, negsuc}
 use Rattle.std.proofs.lemmas.Bool.{cases_Bool}
 use Rattle.std.proofs.lemmas.Bool.Decides.{nat_tests}
-use Rattle.std.proofs.lemmas.List.{append-nil}
 use Rattle.std.proofs.lemmas.List.Elements.{All-append, All-cons, All-head, All-nil, All-tail}
 use Rattle.std.proofs.lemmas.List.Splits.{slice_split_at, slice_split_none}
 use Rattle.rx_d0_values.specs.declared.reply.Answer.TheVariants as answer
 use Rattle.rx_d0_values.specs.declared.reply.Answer.{Answer}
 use Rattle.rx_fields.specs.Codes.{code_text}
+use Rattle.rx_fields.specs.Calendar.{Civil, date_text}
+use Rattle.rx_fields.specs.Digits.{digits_text}
+use Rattle.rx_fields.specs.Numbered.{LotParts}
 use Rattle.rx_fields.specs.Text.{is_bar, trimmed}
 use Rattle.rx_fields.specs.declared.code.Code.{Code}
 use Rattle.rx_fields.specs.declared.code.Code.TheVariants as code
 use Rattle.rx_print.specs.CodeList.{after_comma, code_list}
-use Rattle.rx_report.specs.Cells.{cell, cents_cell, cents_of, codes_cell, family_cell, known_cell, name_of, others, person_cell}
-use Rattle.rx_report.specs.Cells.{reference_of, status_of}
-use Rattle.rx_report.specs.ReadBack.{ReadsBack, but_last, cells_in, cells_of, columns, is_plain, is_plain_line, rows_in}
-use Rattle.rx_report.specs.ReadBack.{table_in, table_of}
-use Rattle.rx_report.specs.Texts.{heading, row, tab_cell, tab_name, tsv_text}
+use Rattle.rx_print.specs.Dates.{dashed}
+use Rattle.rx_report.specs.Cells.{authorization_cell, cell, cents_cell, cents_of, codes_cell, days_of, family_cell, known_cell, name_of}
+use Rattle.rx_report.specs.Cells.{others, person_cell, product_cell, quantity_of, reference_of, status_of}
+use Rattle.rx_report.specs.ReadBack.{ReadsBack, but_last, cells_in, cells_of, columns, is_plain, is_plain_line}
+use Rattle.rx_report.specs.ReadBack.{table_in}
+use Rattle.rx_report.specs.Texts.{lot_cells, lot_names, row, tab_cell, tab_name, tsv_text, two_cells}
 use Rattle.rx_report.specs.declared.column.Column.{Column}
 use Rattle.rx_report.specs.declared.column.Column.TheVariants as column
 use Rattle.rx_report.specs.declared.line.Line.{Line}
@@ -140,6 +143,23 @@ codes_plain (answer.Twice p) = refl
 codes_plain (answer.Approved p) = refl
 codes_plain (answer.Refused r) = code_list_plain r.codes
 
+written_plain : (n x : ℕ) → IsPlain (digits_text n x)
+unfolding digits_text
+written_plain zero x = refl
+written_plain (suc n) x =
+    plain_append (digits_text n (x / 10)) ((48 + x % 10) ∷ []) (written_plain n (x / 10))
+    (both (leb 32 (48 + x % 10)) true (grind (arith, nat_tests)) refl)
+
+authorization_plain : (a : Answer) → IsPlain (authorization_cell a)
+authorization_plain (answer.Paid p) = written_plain 15 p.number
+authorization_plain (answer.Twice p) = written_plain 15 p.number
+authorization_plain (answer.Approved p) = written_plain 15 p.number
+authorization_plain (answer.Refused r) = refl
+
+product_plain : (o : Option ℕ) → IsPlain (product_cell o)
+product_plain None = refl
+product_plain (Some product) = written_plain 11 product
+
 cell_plain : (l : Line) → is_plain_line l ≡ true → (c : Column) → IsPlain (cell c l)
 cell_plain l p column.Place = decimal_plain l.place
 cell_plain l p column.Nth = decimal_plain l.nth
@@ -158,24 +178,70 @@ cell_plain l p column.Copay = cents_plain (cents_of column.Copay l.answer)
 cell_plain l p column.Coinsurance = cents_plain (cents_of column.Coinsurance l.answer)
 cell_plain l p column.Member = cents_plain (cents_of column.Member l.answer)
 cell_plain l p column.Plan = cents_plain (cents_of column.Plan l.answer)
+cell_plain l p column.Authorization = authorization_plain l.answer
+cell_plain l p column.Product = product_plain l.product
+cell_plain l p column.Quantity = known_plain (quantity_of l.dispensed)
+cell_plain l p column.Days = known_plain (days_of l.dispensed)
 
 name_plain : (c : Column) → IsPlain (name_of c)
 name_plain column.Place = refl
 name_plain other = refl
 
+-- ---- days
+
+plain_take : (n : ℕ) (xs : List ℕ) → IsPlain xs → IsPlain (take n xs)
+plain_take zero xs p = refl
+plain_take (suc n) [] p = refl
+plain_take (suc n) (x ∷ xs) p =
+    both (leb 32 x) (is_plain (take n xs)) (left_of (leb 32 x) (is_plain xs) p)
+    (plain_take n xs (right_of (leb 32 x) (is_plain xs) p))
+
+plain_drop : (n : ℕ) (xs : List ℕ) → IsPlain xs → IsPlain (drop n xs)
+plain_drop zero xs p = p
+plain_drop (suc n) [] p = refl
+plain_drop (suc n) (x ∷ xs) p = plain_drop n xs (right_of (leb 32 x) (is_plain xs) p)
+
+date_plain : (day : Civil) → IsPlain (date_text day)
+unfolding date_text
+date_plain day =
+    plain_append (digits_text 4 day.year) (digits_text 2 day.month ++ digits_text 2 day.day) (written_plain 4 day.year)
+    (plain_append (digits_text 2 day.month) (digits_text 2 day.day) (written_plain 2 day.month) (written_plain 2 day.day))
+
+dashed_plain : (day : Civil) → IsPlain (dashed day)
+dashed_plain day =
+    let date = date_text day in
+    let rest : IsPlain (drop 4 date) = plain_drop 4 date (date_plain day) in
+    let behind : IsPlain (45 ∷ drop 2 (drop 4 date)) = plain_drop 2 (drop 4 date) rest in
+    plain_append (take 4 date) (45 ∷ (take 2 (drop 4 date) ++ (45 ∷ drop 2 (drop 4 date)))) (plain_take 4 date (date_plain day))
+    (plain_append (take 2 (drop 4 date)) (45 ∷ drop 2 (drop 4 date)) (plain_take 2 (drop 4 date) rest) behind)
+
 -- ---- rows
 
-module _ (text : Column → List ℕ) (plain : (c : Column) → IsPlain (text c)) where
+-- pieces in front of a text, the last of them with a line feed
+apart : (p f m rest : List ℕ) → (p ++ (f ++ (m ++ 10 ∷ []))) ++ rest ≡ (p ++ (f ++ m)) ++ 10 ∷ rest
+apart p f m rest = simp append_assoc refl
+
+module _ (text : Column → List ℕ) (plain : (c : Column) → IsPlain (text c)) (x y : List ℕ) (px : IsPlain x) (py : IsPlain y) where
   -- each cell after a tab
   abbrev after_tab : Column → List ℕ
   after_tab c = 9 ∷ text c
 
+  -- and two more
+  abbrev two : List ℕ
+  two = two_cells x y
+
+  two_apart : (first : List ℕ) → IsPlain first → cells_in (first ++ two) ≡ first ∷ x ∷ y ∷ []
+  two_apart first p =
+      slice_split_at (λ b. eqb b 9) first 9 (x ++ 9 ∷ y) (free_of 9 refl first p) refl
+      ∙ ap (λ xs. first ∷ xs) (slice_split_at (λ b. eqb b 9) x 9 y (free_of 9 refl x px) refl
+      ∙ ap (λ xs. x ∷ xs) (slice_split_none (λ b. eqb b 9) y (free_of 9 refl y py)))
+
   cells_apart : (cs : List Column) (first : List ℕ) → IsPlain first
-      → cells_in (first ++ flat_map after_tab cs) ≡ first ∷ map text cs
-  cells_apart [] first p =
-      ap cells_in (append-nil first) ∙ slice_split_none (λ b. eqb b 9) first (free_of 9 refl first p)
+      → cells_in (first ++ (flat_map after_tab cs ++ two)) ≡ first ∷ (map text cs ++ x ∷ y ∷ [])
+  cells_apart [] first p = two_apart first p
   cells_apart (c ∷ cs) first p =
-      slice_split_at (λ b. eqb b 9) first 9 (text c ++ flat_map after_tab cs) (free_of 9 refl first p) refl
+      ap (λ xs. cells_in (first ++ 9 ∷ xs)) (append_assoc (text c) (flat_map after_tab cs) two)
+      ∙ slice_split_at (λ b. eqb b 9) first 9 (text c ++ (flat_map after_tab cs ++ two)) (free_of 9 refl first p) refl
       ∙ ap (λ xs. first ∷ xs) (cells_apart cs (text c) (plain c))
 
   feedless : (cs : List Column) → All (λ x. eqb x 10 ≡ false) (flat_map after_tab cs)
@@ -183,56 +249,72 @@ module _ (text : Column → List ℕ) (plain : (c : Column) → IsPlain (text c)
   feedless (c ∷ cs) = All-cons (λ x. eqb x 10 ≡ false) 9 (text c ++ flat_map after_tab cs) refl
       (All-append (λ x. eqb x 10 ≡ false) (text c) (flat_map after_tab cs) (free_of 10 refl (text c) (plain c)) (feedless cs))
 
+  two_feedless : All (λ x. eqb x 10 ≡ false) two
+  two_feedless = All-cons (λ x. eqb x 10 ≡ false) 9 (x ++ 9 ∷ y) refl
+      (All-append (λ x. eqb x 10 ≡ false) x (9 ∷ y) (free_of 10 refl x px)
+      (All-cons (λ x. eqb x 10 ≡ false) 9 y refl (free_of 10 refl y py)))
+
   -- a row without its line feed
   abbrev row_text : List ℕ
-  row_text = text column.Place ++ flat_map after_tab others
+  row_text = text column.Place ++ (flat_map after_tab others ++ two)
 
-  row_cells : cells_in row_text ≡ map text columns
+  row_cells : cells_in row_text ≡ map text columns ++ x ∷ y ∷ []
   row_cells = cells_apart others (text column.Place) (plain column.Place)
 
   -- the row in front of a text is cut off at its line feed
   row_first : (rest : List ℕ)
-      → slice_split (λ b. eqb b 10) ((text column.Place ++ (flat_map after_tab others ++ 10 ∷ [])) ++ rest)
+      → slice_split (λ b. eqb b 10) ((text column.Place ++ (flat_map after_tab others ++ (two ++ 10 ∷ []))) ++ rest)
       ≡ row_text ∷ slice_split (λ b. eqb b 10) rest
   row_first rest =
-      let all : (text column.Place ++ (flat_map after_tab others ++ 10 ∷ [])) ++ rest ≡ row_text ++ 10 ∷ rest =
-      append_assoc (text column.Place) (flat_map after_tab others ++ 10 ∷ []) rest
-      ∙ ap (λ xs. text column.Place ++ xs) (append_assoc (flat_map after_tab others) (10 ∷ []) rest)
-      ∙ sym (append_assoc (text column.Place) (flat_map after_tab others) (10 ∷ rest)) in
-      ap (slice_split (λ b. eqb b 10)) all ∙ slice_split_at (λ b. eqb b 10) row_text 10 rest
-      (All-append (λ x. eqb x 10 ≡ false) (text column.Place) (flat_map after_tab others)
-      (free_of 10 refl (text column.Place) (plain column.Place)) (feedless others)) refl
+      ap (slice_split (λ b. eqb b 10)) (apart (text column.Place) (flat_map after_tab others) two rest)
+      ∙ slice_split_at (λ b. eqb b 10) row_text 10 rest
+      (All-append (λ x. eqb x 10 ≡ false) (text column.Place) (flat_map after_tab others ++ two)
+      (free_of 10 refl (text column.Place) (plain column.Place))
+      (All-append (λ x. eqb x 10 ≡ false) (flat_map after_tab others) two (feedless others) two_feedless)) refl
 
 -- ---- tables
 
-abbrev line_text : Line → List ℕ
-line_text l = cell column.Place l ++ flat_map (tab_cell l) others
+module _ (lot : LotParts) where
+  abbrev line_text : Line → List ℕ
+  line_text l = cell column.Place l ++ (flat_map (tab_cell l) others ++ lot_cells lot)
 
-rows_cut : (ls : List Line) → All (λ l. is_plain_line l ≡ true) ls
-    → slice_split (λ b. eqb b 10) (flat_map row ls) ≡ map line_text ls ++ [] ∷ []
-rows_cut [] all = refl
-rows_cut (l ∷ ls) all =
-    row_first (λ c. cell c l) (cell_plain l (All-head (λ l. is_plain_line l ≡ true) l ls all)) (flat_map row ls)
-    ∙ ap (λ rs. line_text l ∷ rs) (rows_cut ls (All-tail (λ l. is_plain_line l ≡ true) l ls all))
+  abbrev number : List ℕ
+  number = digits_text 7 lot.number
+
+  abbrev created : List ℕ
+  created = dashed lot.created
+
+  rows_cut : (ls : List Line) → All (λ l. is_plain_line l ≡ true) ls
+      → slice_split (λ b. eqb b 10) (flat_map (row lot) ls) ≡ map line_text ls ++ [] ∷ []
+  rows_cut [] all = refl
+  rows_cut (l ∷ ls) all =
+      row_first (λ c. cell c l) (cell_plain l (All-head (λ l. is_plain_line l ≡ true) l ls all)) number created
+      (written_plain 7 lot.number) (dashed_plain lot.created) (flat_map (row lot) ls)
+      ∙ ap (λ rs. line_text l ∷ rs) (rows_cut ls (All-tail (λ l. is_plain_line l ≡ true) l ls all))
+
+  lines_read : (ls : List Line) → All (λ l. is_plain_line l ≡ true) ls
+      → map cells_in (map line_text ls) ≡ map (cells_of lot) ls
+  lines_read [] all = refl
+  lines_read (l ∷ ls) all =
+      λ j. row_cells (λ c. cell c l) (cell_plain l (All-head (λ l. is_plain_line l ≡ true) l ls all)) number created
+      (written_plain 7 lot.number) (dashed_plain lot.created) j
+      ∷ lines_read ls (All-tail (λ l. is_plain_line l ≡ true) l ls all) j
 
 last_dropped : (rs : List (List ℕ)) (last : List ℕ) → but_last (rs ++ last ∷ []) ≡ rs
 last_dropped [] last = refl
 last_dropped (r ∷ []) last = refl
 last_dropped (r ∷ s ∷ rs) last = ap (λ xs. r ∷ xs) (last_dropped (s ∷ rs) last)
 
-lines_read : (ls : List Line) → All (λ l. is_plain_line l ≡ true) ls → map cells_in (map line_text ls) ≡ map cells_of ls
-lines_read [] all = refl
-lines_read (l ∷ ls) all =
-    λ j. row_cells (λ c. cell c l) (cell_plain l (All-head (λ l. is_plain_line l ≡ true) l ls all)) j
-    ∷ lines_read ls (All-tail (λ l. is_plain_line l ≡ true) l ls all) j
-
 abbrev heading_text : List ℕ
-heading_text = name_of column.Place ++ flat_map tab_name others
+heading_text = name_of column.Place ++ (flat_map tab_name others ++ lot_names)
 
-pub reads_back : (ls : List Line) (text : List ℕ) → text ≡ tsv_text ls → ReadsBack ls text
-reads_back ls text is all =
-    let cut : slice_split (λ b. eqb b 10) (tsv_text ls) ≡ (heading_text ∷ map line_text ls) ++ [] ∷ [] =
-    row_first name_of name_plain (flat_map row ls) ∙ ap (λ rs. heading_text ∷ rs) (rows_cut ls all) in
+pub reads_back : (lot : LotParts) (ls : List Line) (text : List ℕ) → text ≡ tsv_text lot ls → ReadsBack lot ls text
+reads_back lot ls text is all =
+    let lot_word = codes "lot" in
+    let created_word = codes "created" in
+    let cut : slice_split (λ b. eqb b 10) (tsv_text lot ls) ≡ (heading_text ∷ map (line_text lot) ls) ++ [] ∷ [] =
+    row_first name_of name_plain lot_word created_word refl refl (flat_map (row lot) ls)
+    ∙ ap (λ rs. heading_text ∷ rs) (rows_cut lot ls all) in
     ap table_in is ∙ ap (λ rs. map cells_in (but_last rs)) cut
-    ∙ ap (map cells_in) (last_dropped (heading_text ∷ map line_text ls) [])
-    ∙ (λ j. row_cells name_of name_plain j ∷ lines_read ls all j)
+    ∙ ap (map cells_in) (last_dropped (heading_text ∷ map (line_text lot) ls) [])
+    ∙ (λ j. row_cells name_of name_plain lot_word created_word refl refl j ∷ lines_read lot ls all j)

@@ -7,7 +7,9 @@ use Rattle.rx_d0_values.specs.declared.reply.Answer.{Answer}
 use Rattle.rx_d0_values.specs.declared.reply.Answer.TheVariants.{Paid, Twice, Approved, Refused}
 use Rattle.rx_report.specs.declared.column.Column.{Column}
 use Rattle.rx_report.specs.declared.column.Column.TheVariants as column
+use Rattle.rx_report.specs.declared.line.Dispensed.{Dispensed}
 use Rattle.rx_report.specs.declared.line.Line.{Line}
+use Rattle.rx_fields.specs.Digits.{digits_text}
 use Rattle.rx_settle.specs.Providers.{named}
 use Rattle.rx_print.specs.CodeList.{code_list}
 
@@ -27,6 +29,10 @@ name_of column.Copay = codes "copay"
 name_of column.Coinsurance = codes "coinsurance"
 name_of column.Member = codes "member_pays"
 name_of column.Plan = codes "plan_pays"
+name_of column.Authorization = codes "authorization"
+name_of column.Product = codes "product"
+name_of column.Quantity = codes "quantity"
+name_of column.Days = codes "days"
 
 abbrev pub is_number : Column → Bool
 is_number column.Status = false
@@ -35,6 +41,8 @@ is_number column.Provider = false
 is_number column.Date = false
 is_number column.Family = false
 is_number column.Person = false
+is_number column.Authorization = false
+is_number column.Product = false
 is_number other = true
 
 -- the columns but the first, in order
@@ -42,7 +50,7 @@ abbrev pub others : List Column
 others =
     column.Nth ∷ column.Status ∷ column.Codes ∷ column.Provider ∷ column.Prescription ∷ column.Date ∷ column.Family
     ∷ column.Person ∷ column.Allowed ∷ column.Deductible ∷ column.Copay ∷ column.Coinsurance ∷ column.Member
-    ∷ column.Plan ∷ []
+    ∷ column.Plan ∷ column.Authorization ∷ column.Product ∷ column.Quantity ∷ column.Days ∷ []
 
 -- P, D, A or R
 abbrev pub status_of : Answer → ℕ
@@ -57,10 +65,10 @@ codes_cell (Twice p) = []
 codes_cell (Approved a) = []
 codes_cell (Refused r) = code_list r.codes
 
--- the prescription reference number, where it is known
+-- a number, where it is known
 abbrev pub known_cell : Option ℕ → List ℕ
 known_cell None = []
-known_cell (Some reference) = decimal reference
+known_cell (Some number) = decimal number
 
 abbrev pub reference_of : Answer → Option ℕ
 reference_of (Paid p) = Some p.reference
@@ -75,6 +83,26 @@ family_cell (Some m) = m.0
 abbrev pub person_cell : Option (List ℕ × List ℕ) → List ℕ
 person_cell None = []
 person_cell (Some m) = m.1
+
+-- the authorization number of a claim, or of the reversal of one
+abbrev pub authorization_cell : Answer → List ℕ
+authorization_cell (Paid p) = digits_text 15 p.number
+authorization_cell (Twice p) = digits_text 15 p.number
+authorization_cell (Approved a) = digits_text 15 a.number
+authorization_cell (Refused r) = []
+
+abbrev pub product_cell : Option ℕ → List ℕ
+product_cell None = []
+product_cell (Some product) = digits_text 11 product
+
+-- in thousandths
+abbrev pub quantity_of : Option Dispensed → Option ℕ
+quantity_of None = None
+quantity_of (Some d) = Some d.quantity
+
+abbrev pub days_of : Option Dispensed → Option ℕ
+days_of None = None
+days_of (Some d) = Some d.days
 
 -- the cents of a claim in a column; what the plan pays is in the last
 abbrev pub cents_in : Column → Amounts → ℕ
@@ -117,3 +145,7 @@ cell column.Copay l = cents_cell (cents_of column.Copay l.answer)
 cell column.Coinsurance l = cents_cell (cents_of column.Coinsurance l.answer)
 cell column.Member l = cents_cell (cents_of column.Member l.answer)
 cell column.Plan l = cents_cell (cents_of column.Plan l.answer)
+cell column.Authorization l = authorization_cell l.answer
+cell column.Product l = product_cell l.product
+cell column.Quantity l = known_cell (quantity_of l.dispensed)
+cell column.Days l = known_cell (days_of l.dispensed)

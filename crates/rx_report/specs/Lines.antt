@@ -8,6 +8,7 @@ use Rattle.rx_d0_values.specs.declared.transaction.Transaction.TheVariants.{Bill
 use Rattle.rx_d0_values.specs.declared.transmission.Body.{Body}
 use Rattle.rx_d0_values.specs.declared.transmission.Body.TheVariants.{Rejected, Heard}
 use Rattle.rx_d0_values.specs.declared.transmission.Transmission.{Transmission}
+use Rattle.rx_report.specs.declared.line.Dispensed.{Dispensed}
 use Rattle.rx_report.specs.declared.line.Line.{Line}
 use Rattle.rx_settle.specs.Answers.{answers_in}
 
@@ -17,13 +18,22 @@ member_in (Bill b) = Some (b.family, b.person)
 member_in (Reverse r) = None
 member_in (Faulty f) = None
 
--- those of the transaction after this many
-abbrev pub member_behind : List Transaction → ℕ → Option (List ℕ × List ℕ)
-member_behind list before = option_and_then member_in (slice_get list before)
+-- the product that a transaction names
+abbrev pub product_in : Transaction → Option ℕ
+product_in (Bill b) = Some b.product
+product_in (Reverse r) = Some r.product
+product_in (Faulty f) = None
 
-abbrev pub member_at : Body → ℕ → Option (List ℕ × List ℕ)
-member_at (Rejected r) before = None
-member_at (Heard h) before = member_behind h.list before
+-- how much of it a billing is of, and for how many days
+abbrev pub dispensed_in : Transaction → Option Dispensed
+dispensed_in (Bill b) = Some (record { quantity = b.quantity; days = b.days })
+dispensed_in (Reverse r) = None
+dispensed_in (Faulty f) = None
+
+-- the transaction after this many
+abbrev pub request_at : Body → ℕ → Option Transaction
+request_at (Rejected r) before = None
+request_at (Heard h) before = slice_get h.list before
 
 -- the line of the answer after this many to a request
 abbrev pub line_of : ℕ → Transmission → Reply → ℕ → Answer → Line
@@ -33,7 +43,9 @@ line_of place t r before a =
       nth = before + 1;
       provider = r.echo.provider;
       date = r.echo.date;
-      member = member_at t.body before;
+      member = option_and_then member_in (request_at t.body before);
+      product = option_and_then product_in (request_at t.body before);
+      dispensed = option_and_then dispensed_in (request_at t.body before);
       answer = a;
     }
 

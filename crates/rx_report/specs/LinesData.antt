@@ -1,7 +1,11 @@
 -- Meaning: the lines of a report as a value of JSON: an array with an object for each. Amounts are in cents.
-use Rattle.std.specs.Prelude.{ℕ, ℤ, pos, ◌==◌, if◌then◌else◌, List, [], ◌∷◌, map, length, Option, Some, None, codes}
+use Rattle.std.specs.Prelude.{ℕ, ℤ, pos, ◌==◌, if◌then◌else◌, List, [], ◌∷◌, ◌++◌, map, length, Option, Some, None, codes}
+use Rattle.rx_fields.specs.Digits.{digits_text}
+use Rattle.rx_fields.specs.Numbered.{LotParts}
+use Rattle.rx_print.specs.Dates.{dashed}
 use Rattle.rx_print.specs.JsonData.{Value, Null, Number, Text, array, object}
-use Rattle.rx_report.specs.Cells.{cents_of, codes_cell, family_cell, person_cell, reference_of, status_of}
+use Rattle.rx_report.specs.Cells.{authorization_cell, cents_of, codes_cell, days_of, family_cell, person_cell, product_cell}
+use Rattle.rx_report.specs.Cells.{quantity_of, reference_of, status_of}
 use Rattle.rx_report.specs.declared.column.Column.TheVariants as column
 use Rattle.rx_report.specs.declared.line.Line.{Line}
 use Rattle.rx_settle.specs.Providers.{named}
@@ -21,8 +25,8 @@ abbrev pub cents_data : Option ℤ → Value
 cents_data None = Null
 cents_data (Some cents) = Number cents
 
-abbrev pub line_data : Line → Value
-line_data l = object (
+abbrev pub line_members : Line → List (List ℕ × Value)
+line_members l =
     (codes "record", count_data l.place)
     ∷ (codes "nth", count_data l.nth)
     ∷ (codes "answer", Text (status_of l.answer ∷ []))
@@ -38,7 +42,22 @@ line_data l = object (
     ∷ (codes "coinsurance", cents_data (cents_of column.Coinsurance l.answer))
     ∷ (codes "member_pays", cents_data (cents_of column.Member l.answer))
     ∷ (codes "plan_pays", cents_data (cents_of column.Plan l.answer))
-    ∷ [])
+    ∷ (codes "authorization", text_data (authorization_cell l.answer))
+    ∷ (codes "product", text_data (product_cell l.product))
+    ∷ (codes "quantity", known_data (quantity_of l.dispensed))
+    ∷ (codes "days", known_data (days_of l.dispensed))
+    ∷ []
+
+abbrev pub line_data : Line → Value
+line_data l = object (line_members l)
 
 abbrev pub lines_data : List Line → Value
 lines_data lines = array (map line_data lines)
+
+-- the batch's number, and the day on which it was created
+abbrev pub lot_data : LotParts → Value
+lot_data lot = object ((codes "number", Text (digits_text 7 lot.number)) ∷ (codes "created", Text (dashed lot.created)) ∷ [])
+
+-- a line with its batch
+abbrev pub claim_data : LotParts → Line → Value
+claim_data lot l = object (line_members l ++ (codes "lot", lot_data lot) ∷ [])

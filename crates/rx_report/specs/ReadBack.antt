@@ -1,6 +1,9 @@
 -- Meaning: a table of tabs read back: a line feed ends each row, and a tab parts two cells.
-use Rattle.std.specs.Prelude.{◌≡◌, ℕ, ◌&&◌, ◌==◌, nat_le, Bool, true, List, [], ◌∷◌, map}
+use Rattle.std.specs.Prelude.{◌≡◌, ℕ, ◌&&◌, ◌==◌, nat_le, Bool, true, List, [], ◌∷◌, ◌++◌, codes, map}
 use Rattle.std.specs.List.{All, list_all, slice_split}
+use Rattle.rx_fields.specs.Digits.{digits_text}
+use Rattle.rx_fields.specs.Numbered.{LotParts}
+use Rattle.rx_print.specs.Dates.{dashed}
 use Rattle.rx_report.specs.declared.column.Column.{Column}
 use Rattle.rx_report.specs.declared.column.Column.TheVariants as column
 use Rattle.rx_report.specs.declared.line.Line.{Line}
@@ -28,13 +31,17 @@ table_in text = map cells_in (rows_in text)
 abbrev pub columns : List Column
 columns = column.Place ∷ others
 
--- what a line has in each column
-abbrev pub cells_of : Line → List (List ℕ)
-cells_of l = map (λ c. cell c l) columns
+-- their names, and those of the batch's columns
+abbrev pub names : List (List ℕ)
+names = map name_of columns ++ codes "lot" ∷ codes "created" ∷ []
 
--- a heading and the lines: each row has as many cells as there are columns
-abbrev pub table_of : List Line → List (List (List ℕ))
-table_of lines = map name_of columns ∷ map cells_of lines
+-- what a line has in each column, with its batch's number and day of creation
+abbrev pub cells_of : LotParts → Line → List (List ℕ)
+cells_of lot l = map (λ c. cell c l) columns ++ digits_text 7 lot.number ∷ dashed lot.created ∷ []
+
+-- a heading and the lines: each row has as many cells as there are names
+abbrev pub table_of : LotParts → List Line → List (List (List ℕ))
+table_of lot lines = names ∷ map (cells_of lot) lines
 
 -- no byte is a control byte
 abbrev pub is_plain : List ℕ → Bool
@@ -45,5 +52,5 @@ abbrev pub is_plain_line : Line → Bool
 is_plain_line l = is_plain l.date && (is_plain (family_cell l.member) && is_plain (person_cell l.member))
 
 -- of such lines the text reads back as the table
-abbrev pub ReadsBack : List Line → List ℕ → Type 0
-ReadsBack lines text = All (λ l. is_plain_line l ≡ true) lines → table_in text ≡ table_of lines
+abbrev pub ReadsBack : LotParts → List Line → List ℕ → Type 0
+ReadsBack lot lines text = All (λ l. is_plain_line l ≡ true) lines → table_in text ≡ table_of lot lines

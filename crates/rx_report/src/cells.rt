@@ -1,12 +1,13 @@
 ghost use Rattle.std.specs.Prelude.{◌≡◌, ◌++◌, ◌∷◌, [], IfOk, OnOk};
-ghost use Rattle.rx_report.specs.Cells.{cell, cents_cell, cents_in, cents_of, codes_cell, family_cell, given_back, known_cell};
-ghost use Rattle.rx_report.specs.Cells.{person_cell, reference_of, status_of};
+ghost use Rattle.rx_report.specs.Cells.{authorization_cell, cell, cents_cell, cents_in, cents_of, codes_cell, days_of, family_cell};
+ghost use Rattle.rx_report.specs.Cells.{given_back, known_cell, person_cell, product_cell, quantity_of, reference_of, status_of};
+ghost use Rattle.rx_fields.specs.Digits.{digits_text};
 ghost use Rattle.rx_settle.specs.Providers.{named};
 
 use crate::column::Column;
-use crate::line::Line;
+use crate::line::{Dispensed, Line};
 use rx_d0_values::{Answer, Pricing};
-use rx_fields::{Id, Person, Provider, Reference};
+use rx_fields::{Authorization, Id, Person, Product, Provider, Reference, digits_write};
 use rx_print::{put_codes, put_decimal, put_signed};
 use std::alloc::{AllocError, Global};
 
@@ -29,7 +30,7 @@ pub(crate) fn put_cell(text: &mut Vec<u8>, column: Column, line: &Line) -> Resul
         Column::Status => Ok(text.push(status_of(&line.answer))?),
         Column::Codes => put_code_list(text, &line.answer),
         Column::Provider => put_provider(text, &line.provider),
-        Column::Prescription => put_known(text, reference_of(&line.answer)),
+        Column::Prescription => put_known(text, number_of(reference_of(&line.answer))),
         Column::Date => text.extend_from_slice(&line.date),
         Column::Family => put_family(text, &line.member),
         Column::Person => put_person(text, &line.member),
@@ -39,6 +40,10 @@ pub(crate) fn put_cell(text: &mut Vec<u8>, column: Column, line: &Line) -> Resul
         | Column::Coinsurance
         | Column::Member
         | Column::Plan => put_cents(text, cents_of(column, &line.answer)),
+        Column::Authorization => put_authorization(text, &line.answer),
+        Column::Product => put_product(text, line.product),
+        Column::Quantity => put_known(text, quantity_of(line.dispensed)),
+        Column::Days => put_known(text, days_of(line.dispensed)),
     }
 }
 
@@ -81,11 +86,65 @@ fn reference_of(answer: &Answer) -> Option<Reference>
     }
 }
 
-fn put_known(text: &mut Vec<u8>, reference: Option<Reference>) -> Result<(), AllocError>
-    ensures { OnOk result (text.new.items ≡ text.old.items ++ known_cell reference) }
+fn number_of(reference: Option<Reference>) -> Option<u64>
+    ensures { result ≡ reference }
 {
     match reference {
-        Some(reference) => put_decimal(text, u128::from(reference.get())),
+        Some(reference) => Some(reference.get()),
+        None => None,
+    }
+}
+
+fn quantity_of(dispensed: Option<Dispensed>) -> Option<u64>
+    ensures { result ≡ quantity_of dispensed }
+{
+    match dispensed {
+        Some(dispensed) => Some(dispensed.quantity.get()),
+        None => None,
+    }
+}
+
+fn days_of(dispensed: Option<Dispensed>) -> Option<u64>
+    ensures { result ≡ days_of dispensed }
+{
+    match dispensed {
+        Some(dispensed) => Some(dispensed.days.get()),
+        None => None,
+    }
+}
+
+fn put_known(text: &mut Vec<u8>, number: Option<u64>) -> Result<(), AllocError>
+    ensures { OnOk result (text.new.items ≡ text.old.items ++ known_cell number) }
+{
+    match number {
+        Some(number) => put_decimal(text, u128::from(number)),
+        None => Ok(()),
+    }
+}
+
+fn put_authorization(text: &mut Vec<u8>, answer: &Answer) -> Result<(), AllocError>
+    ensures { OnOk result (text.new.items ≡ text.old.items ++ authorization_cell answer.now) }
+{
+    match answer {
+        Answer::Paid(paid) | Answer::Twice(paid) => put_fifteen(text, paid.number),
+        Answer::Approved(approved) => put_fifteen(text, approved.number),
+        Answer::Refused(_) => Ok(()),
+    }
+}
+
+// Its 15 digits.
+fn put_fifteen(text: &mut Vec<u8>, number: Authorization) -> Result<(), AllocError>
+    ensures { OnOk result (text.new.items ≡ text.old.items ++ digits_text 15 number) }
+{
+    let digits: [u8; 15] = digits_write(number.get());
+    text.extend_from_slice(&digits)
+}
+
+fn put_product(text: &mut Vec<u8>, product: Option<Product>) -> Result<(), AllocError>
+    ensures { OnOk result (text.new.items ≡ text.old.items ++ product_cell product) }
+{
+    match product {
+        Some(product) => text.extend_from_slice(&product.digits()),
         None => Ok(()),
     }
 }

@@ -34,10 +34,18 @@ pub enum Column {
     Member,
     /// What the plan pays, in cents; below zero where it is given back.
     Plan,
+    /// The authorization number, in 15 digits.
+    Authorization,
+    /// The product, in 11 digits.
+    Product,
+    /// The quantity, in thousandths.
+    Quantity,
+    /// The days supply.
+    Days,
 }
 
 /// The columns but the first, in order.
-pub(crate) const OTHERS: [Column; 14] = [
+pub(crate) const OTHERS: [Column; 18] = [
     Column::Nth,
     Column::Status,
     Column::Codes,
@@ -52,6 +60,10 @@ pub(crate) const OTHERS: [Column; 14] = [
     Column::Coinsurance,
     Column::Member,
     Column::Plan,
+    Column::Authorization,
+    Column::Product,
+    Column::Quantity,
+    Column::Days,
 ];
 
 impl Column {
@@ -75,6 +87,10 @@ impl Column {
             Column::Coinsurance => b"coinsurance",
             Column::Member => b"member_pays",
             Column::Plan => b"plan_pays",
+            Column::Authorization => b"authorization",
+            Column::Product => b"product",
+            Column::Quantity => b"quantity",
+            Column::Days => b"days",
         }
     }
 
@@ -90,6 +106,8 @@ impl Column {
                 | Column::Date
                 | Column::Family
                 | Column::Person
+                | Column::Authorization
+                | Column::Product
         )
     }
 }

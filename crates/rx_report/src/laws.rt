@@ -1,8 +1,9 @@
 ghost use Rattle.std.specs.Prelude.{List};
 ghost use Rattle.rx_print.specs.JsonData.{ReadsAs};
 ghost use Rattle.rx_report.specs.AddsUp.{AccountsAddUp};
-ghost use Rattle.rx_report.specs.LinesData.{lines_data};
-ghost use Rattle.rx_report.specs.Texts.{lines_json};
+ghost use Rattle.rx_fields.specs.Numbered.{LotParts};
+ghost use Rattle.rx_report.specs.LinesData.{claim_data, lines_data};
+ghost use Rattle.rx_report.specs.Texts.{claim_json, lines_json};
 ghost use Rattle.rx_report.specs.declared.line.Line.{Line};
 
 /// An account adds up: each section's tally is what its lines come to, the sections together have the lines of the
@@ -16,4 +17,9 @@ pub fn accounts_add_up()
 /// own value.
 pub fn lines_read_as_json()
     ensures { (lines : List Line) → ReadsAs (lines_json lines) (lines_data lines) }
+{}
+
+/// Each line of `claims_json` is JSON: it is read as an object, in which each name has the value of the line, or of its batch.
+pub fn claims_read_as_json()
+    ensures { (lot : LotParts) → (line : Line) → ReadsAs (claim_json lot line) (claim_data lot line) }
 {}

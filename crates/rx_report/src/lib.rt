@@ -1,11 +1,11 @@
 //! A line for each answer of a batch, which lines a report has, and what they come to.
 //!
 //! In come a batch's transmissions and the replies to them, in file order; out come lines, written as a table of tabs or
-//! as JSON. `specs/Lines.antt` says which lines there are, `specs/Cells.antt` what stands in each column.
+//! as JSON, in one array or an object a line. `specs/Lines.antt` says which lines there are, `specs/Cells.antt` what stands in each column.
 //!
 //! ```rust
 //! let lines = rx_report::report_lines(alloc, &transmissions, &replies)?;
-//! let text = rx_report::tsv_text(alloc, &lines)?;
+//! let text = rx_report::tsv_text(alloc, lot, &lines)?;
 //! ```
 //!
 //! Of these lines and the tallies of the batch's settlement an account is made: sections, each a provider with its tally
@@ -24,6 +24,7 @@
 
 mod accounting;
 mod cells;
+mod claims;
 mod column;
 mod groups;
 mod laws;
@@ -36,11 +37,12 @@ mod texts;
 
 pub use accounting::account_of;
 pub use cells::{cell_of, cents_of};
+pub use claims::{claims_json, put_lot};
 pub use column::Column;
 pub use groups::Groups;
-pub use laws::{accounts_add_up, lines_read_as_json};
-pub use line::Line;
+pub use laws::{accounts_add_up, claims_read_as_json, lines_read_as_json};
+pub use line::{Dispensed, Line};
 pub use lines::report_lines;
 pub use portion::{Portion, kept_lines};
 pub use section::{Account, Section};
-pub use texts::{lines_json, tsv_text};
+pub use texts::{lines_json, put_quoted, tsv_text};

@@ -1,11 +1,12 @@
-ghost use Rattle.std.specs.Prelude.{◌≡◌, ◌+◌, ◌++◌, IfOk, OnOk, length, map};
+ghost use Rattle.std.specs.Prelude.{◌≡◌, ◌+◌, ◌++◌, IfOk, OnOk, length, map, slice_get};
 ghost use Rattle.rx_report.specs.AddsUp.{AreLinesOf};
-ghost use Rattle.rx_report.specs.Lines.{answer_lines, answer_of, lines_of, member_at, member_behind, member_in, record_lines};
+ghost use Rattle.std.specs.Option.{option_and_then};
+ghost use Rattle.rx_report.specs.Lines.{answer_lines, answer_of, dispensed_in, lines_of, member_in, product_in, record_lines, request_at};
 ghost use Rattle.rx_settle.specs.Answers.{answers_of};
 
-use crate::line::Line;
+use crate::line::{Dispensed, Line};
 use rx_d0_values::{Answer, Body, Outcome, Refused, Reply, Transaction, Transmission};
-use rx_fields::{Id, Memory, Person};
+use rx_fields::{Id, Memory, Person, Product};
 use std::alloc::Global;
 
 /// The lines of a batch whose records are answered so, in file order.
@@ -74,47 +75,78 @@ fn put_answers(
 {
     let echo = reply.echo.parts();
     for (before, answer) in answers.iter().enumerate() {
+        let request = request_at(&asked.body, before);
         lines.push(Line {
             place,
             nth: before as u64 + 1,
             provider: echo.provider,
             date: echo.date,
-            member: member_at(&asked.body, before),
+            member: member_in(&request),
+            product: product_in(&request),
+            dispensed: dispensed_in(&request),
             answer: *answer,
         })?;
     }
     Ok(())
 }
 
-// The family and the person that the transaction after this many names.
-fn member_at(body: &Body, before: usize) -> Option<(Id, Person)>
-    ensures { result ≡ member_at body.now before }
+// The transaction after this many.
+fn request_at(body: &Body, before: usize) -> Option<Transaction>
+    ensures { result ≡ request_at body.now before }
 {
     match body {
         Body::Rejected(_) => None,
-        Body::Heard(heard) => member_behind(heard.list.as_slice(), before),
+        Body::Heard(heard) => nth_of(heard.list.as_slice(), before),
     }
 }
 
 #[tactic(auto, using(std::proofs::lemmas::Option::gets))]
-fn member_behind(list: &[Transaction], before: usize) -> Option<(Id, Person)>
-    ensures { result ≡ member_behind list.now before }
+fn nth_of(list: &[Transaction], before: usize) -> Option<Transaction>
+    ensures { result ≡ slice_get list.now before }
 {
     if before < list.len() {
-        member_in(&list[before])
+        Some(list[before])
     } else {
         None
     }
 }
 
-fn member_in(transaction: &Transaction) -> Option<(Id, Person)>
-    ensures { result ≡ member_in transaction.now }
+// The family and the person that a billing names.
+fn member_in(request: &Option<Transaction>) -> Option<(Id, Person)>
+    ensures { result ≡ option_and_then member_in request.now }
 {
-    match transaction {
-        Transaction::Bill(bill) => {
+    match request {
+        Some(Transaction::Bill(bill)) => {
             let parts = bill.parts();
             Some((parts.family, parts.person))
         }
-        Transaction::Reverse(_) | Transaction::Faulty(_) => None,
+        Some(Transaction::Reverse(_) | Transaction::Faulty(_)) | None => None,
+    }
+}
+
+// The product that a billing or a reversal names.
+fn product_in(request: &Option<Transaction>) -> Option<Product>
+    ensures { result ≡ option_and_then product_in request.now }
+{
+    match request {
+        Some(Transaction::Bill(bill)) => Some(bill.parts().product),
+        Some(Transaction::Reverse(reversal)) => Some(reversal.product),
+        Some(Transaction::Faulty(_)) | None => None,
+    }
+}
+
+// How much a billing is of.
+fn dispensed_in(request: &Option<Transaction>) -> Option<Dispensed>
+    ensures { result ≡ option_and_then dispensed_in request.now }
+{
+    match request {
+        Some(Transaction::Bill(bill)) => {
+            let parts = bill.parts();
+            Some(Dispensed {
+                quantity: parts.quantity,
+                days: parts.days,
+            })
+        }
+        Some(Transaction::Reverse(_) | Transaction::Faulty(_)) | None => None,
     }
 }

@@ -3,33 +3,33 @@ ghost use Rattle.std.specs.List.{flat_map};
 ghost use Rattle.rx_report.specs.Cells.{cell};
 ghost use Rattle.rx_report.specs.ReadBack.{ReadsBack};
 ghost use Rattle.rx_report.specs.Texts.{comma_member, comma_object, heading, json_member, json_object, json_value, lines_json};
-ghost use Rattle.rx_report.specs.Texts.{row, tab_cell, tab_name, tsv_text};
+ghost use Rattle.rx_report.specs.Texts.{lot_cells, quoted, row, tab_cell, tab_name, tsv_text, two_cells};
 
 use crate::cells::{cell_of, put_cell};
 use crate::column::{Column, OTHERS};
 use crate::line::Line;
-use rx_fields::Memory;
-use rx_print::{Style, put_escaped};
+use rx_fields::{Lot, Memory, date_write, digits_write};
+use rx_print::{Style, dashed_digits, put_escaped};
 use std::alloc::{AllocError, Global};
 
 /// The lines as a table for programs: a heading with the columns' names, then a row for each line, with a tab between
-/// each two cells. Amounts are in cents.
+/// each two cells; last the batch's number and its day of creation, as `2026-03-05`. Amounts are in cents.
 #[tactic(auto, using(crate::proofs::ReadAgain::reads_back))]
-pub fn tsv_text(alloc: Global, lines: &[Line]) -> Result<Vec<u8>, Memory>
-    ensures text { IfOk result (λ text. text.items ≡ tsv_text lines.now) }
+pub fn tsv_text(alloc: Global, lot: Lot, lines: &[Line]) -> Result<Vec<u8>, Memory>
+    ensures text { IfOk result (λ text. text.items ≡ tsv_text lot lines.now) }
     // Where dates and members hold no control byte: each row has a cell for each column, and a reader finds the line's own.
-    ensures reads_back { IfOk result (λ text. ReadsBack lines.now text.items) }
+    ensures reads_back { IfOk result (λ text. ReadsBack lot lines.now text.items) }
 {
-    let text = written(alloc, lines)?;
+    let text = written(alloc, lot, lines)?;
     Ok(text)
 }
 
-fn written(alloc: Global, lines: &[Line]) -> Result<Vec<u8>, Memory>
-    ensures { IfOk result (λ text. text.items ≡ tsv_text lines.now) }
+fn written(alloc: Global, lot: Lot, lines: &[Line]) -> Result<Vec<u8>, Memory>
+    ensures { IfOk result (λ text. text.items ≡ tsv_text lot lines.now) }
 {
     let mut text = Vec::new(alloc);
     put_heading(&mut text)?;
-    put_rows(&mut text, lines)?;
+    put_rows(&mut text, lot, lines)?;
     Ok(text)
 }
 
@@ -39,7 +39,19 @@ fn put_heading(text: &mut Vec<u8>) -> Result<(), AllocError>
 {
     text.extend_from_slice(Column::Place.name())?;
     put_names(text, &OTHERS)?;
+    put_two(text, b"lot", b"created")?;
     text.extend_from_slice(b"\n")
+}
+
+// Two more cells, each after a tab.
+#[tactic(auto, using(std::proofs::Common::append_assoc))]
+fn put_two(text: &mut Vec<u8>, first: &[u8], second: &[u8]) -> Result<(), AllocError>
+    ensures { OnOk result (text.new.items ≡ text.old.items ++ two_cells first.now second.now) }
+{
+    text.push(b'\t')?;
+    text.extend_from_slice(first)?;
+    text.push(b'\t')?;
+    text.extend_from_slice(second)
 }
 
 // Each name after a tab.
@@ -53,22 +65,30 @@ fn put_names(text: &mut Vec<u8>, columns: &[Column]) -> Result<(), AllocError>
     Ok(())
 }
 
-fn put_rows(text: &mut Vec<u8>, lines: &[Line]) -> Result<(), AllocError>
-    ensures { OnOk result (text.new.items ≡ text.old.items ++ flat_map row lines.now) }
+fn put_rows(text: &mut Vec<u8>, lot: Lot, lines: &[Line]) -> Result<(), AllocError>
+    ensures { OnOk result (text.new.items ≡ text.old.items ++ flat_map (row lot) lines.now) }
 {
     for line in lines {
-        put_row(text, line)?;
+        put_row(text, lot, line)?;
     }
     Ok(())
 }
 
 #[tactic(auto, using(std::proofs::Common::append_assoc))]
-fn put_row(text: &mut Vec<u8>, line: &Line) -> Result<(), AllocError>
-    ensures { OnOk result (text.new.items ≡ text.old.items ++ row line.now) }
+fn put_row(text: &mut Vec<u8>, lot: Lot, line: &Line) -> Result<(), AllocError>
+    ensures { OnOk result (text.new.items ≡ text.old.items ++ row lot line.now) }
 {
     put_cell(text, Column::Place, line)?;
     put_cells(text, line, &OTHERS)?;
+    put_lot_cells(text, lot)?;
     text.extend_from_slice(b"\n")
+}
+
+fn put_lot_cells(text: &mut Vec<u8>, lot: Lot) -> Result<(), AllocError>
+    ensures { OnOk result (text.new.items ≡ text.old.items ++ lot_cells lot) }
+{
+    let number: [u8; 7] = digits_write(u64::from(lot.number()));
+    put_two(text, &number, &dashed_digits(date_write(lot.created())))
 }
 
 // Each cell after a tab.
@@ -122,7 +142,7 @@ fn put_object(alloc: Global, text: &mut Vec<u8>, line: &Line) -> Result<(), Allo
 }
 
 #[tactic(auto, using(std::proofs::Common::append_assoc))]
-fn put_member(
+pub(crate) fn put_member(
     alloc: Global,
     text: &mut Vec<u8>,
     line: &Line,
@@ -147,13 +167,21 @@ fn put_value(text: &mut Vec<u8>, column: Column, value: &[u8]) -> Result<(), All
     if column.is_number() {
         return text.extend_from_slice(value);
     }
+    put_quoted(text, value)
+}
+
+/// Puts bytes as a string of JSON.
+#[tactic(auto, using(std::proofs::Common::append_assoc))]
+pub fn put_quoted(text: &mut Vec<u8>, bytes: &[u8]) -> Result<(), AllocError>
+    ensures { OnOk result (text.new.items ≡ text.old.items ++ quoted bytes.now) }
+{
     text.extend_from_slice(b"\"")?;
-    put_escaped(text, Style::Json, value)?;
+    put_escaped(text, Style::Json, bytes)?;
     text.extend_from_slice(b"\"")
 }
 
 // Each member after a comma.
-fn put_members(
+pub(crate) fn put_members(
     alloc: Global,
     text: &mut Vec<u8>,
     line: &Line,

@@ -1,4 +1,4 @@
--- Text: how a page has a provider's claims. Each unfolds to its figures, and to why its answer was given.
+-- Text: how a page has a provider's claims: a table, where each unfolds to its figures, and to why its answer was given.
 use Rattle.std.specs.Prelude.{ℕ, List, ◌++◌, codes}
 use Rattle.std.specs.Fmt.{decimal}
 use Rattle.std.specs.List.{flat_map}
@@ -10,29 +10,8 @@ use Rattle.rx_report_text.specs.declared.shown.Shown.{Shown}
 use Rattle.rx_report_text.specs.declared.shown.Shown.TheVariants as shown
 use Rattle.rx_report_text.specs.declared.why.Why.{Why}
 use Rattle.rx_report_text.specs.Pages.{cell_text, provider_text}
-use Rattle.rx_report_text.specs.Whys.{reason_text}
-
--- ---- a claim before it is unfolded
-
--- what stands for an answer in a column, after a front
-abbrev pub span_text : List ℕ → Shown → Line → List ℕ
-span_text front s l = front ++ (cell_text s l ++ codes "</span>")
-
--- the answer in a word, with which its codes stand
-abbrev pub answer_front : Answer → List ℕ
-answer_front (Paid p) = codes "<span class=\"answer\">paid"
-answer_front (Twice p) = codes "<span class=\"answer\">duplicate"
-answer_front (Approved a) = codes "<span class=\"answer\">reversed"
-answer_front (Refused r) = codes "<span class=\"answer refused\">rejected "
-
-unfoldable pub summary_text : Line → List ℕ
-summary_text l =
-    span_text (codes "<span>") shown.Record l ++ (span_text (answer_front l.answer) shown.Codes l
-    ++ (span_text (codes "<span class=\"rx\">") shown.Prescription l
-    ++ (span_text (codes "<span class=\"date\">") shown.Date l
-    ++ (span_text (codes "<span class=\"member\">") shown.Member l
-    ++ (span_text (codes "<span class=\"pays\">") shown.MemberPays l
-    ++ span_text (codes "<span class=\"plan\">") shown.PlanPays l)))))
+use Rattle.rx_report_text.specs.Reasons.{reason_text}
+use Rattle.rx_report_text.specs.Rows.{row_text, titles_text}
 
 -- ---- its figures
 
@@ -52,30 +31,20 @@ figures_of (Twice p) l = amounts_text (codes "Plan paid before") l
 figures_of (Approved a) l = figure_text (codes "Given back") shown.PlanPays l
 figures_of (Refused r) l = figure_text (codes "Reject codes") shown.Codes l
 
--- ---- the claim
-
--- a duplicate is marked as one
-abbrev pub claim_front : Answer → List ℕ
-claim_front (Twice p) = codes "<details class=\"twice\"><summary>"
-claim_front other = codes "<details><summary>"
+-- ---- the claim: its row, and a second one that unfolds
 
 unfoldable pub claim_text : List Why → Line → List ℕ
 claim_text whys l =
-    claim_front l.answer ++ (summary_text l ++ (codes "</summary>\n<dl>" ++ (figures_of l.answer l
-    ++ (codes "</dl><pre>" ++ (reason_text whys l ++ codes "</pre></details>\n")))))
+    row_text l ++ (codes "<tr class=\"why\"><td colspan=\"11\"><details><summary>Why</summary>\n<dl>" ++ (figures_of l.answer l
+    ++ (codes "</dl>\n" ++ (reason_text whys l ++ codes "</details></td></tr>\n</tbody>\n"))))
 
 -- ---- the provider's claims
-
-abbrev pub names_text : List ℕ
-names_text =
-    codes "</h2>\n<div class=\"names\"><b>Record</b><b>Answer</b><b>Rx</b><b>Date</b><b>Member</b>"
-    ++ codes "<b>Member pays</b><b>Plan pays</b></div>\n"
 
 -- the provider's number, which the table of providers leads to, and its name; then its claims
 unfoldable pub section_text : List Why → ℕ → Section → List ℕ
 section_text whys number s =
     codes "<section id=\"p" ++ (decimal number ++ (codes "\">\n<h2>Provider " ++ (provider_text s.provider
-    ++ (names_text ++ (flat_map (claim_text whys) s.lines.now ++ codes "</section>\n")))))
+    ++ (codes "</h2>\n" ++ (titles_text ++ (flat_map (claim_text whys) s.lines.now ++ codes "</table>\n</section>\n"))))))
 
 -- those of each provider after its number
 abbrev pub sections_text : List Why → List (ℕ × Section) → List ℕ

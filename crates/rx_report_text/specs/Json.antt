@@ -3,20 +3,15 @@ use Rattle.std.specs.Prelude.{ℕ, List, [], ◌∷◌, ◌++◌, Option, Some, 
 use Rattle.std.specs.Fmt.{decimal, signed_decimal}
 use Rattle.std.specs.List.{flat_map}
 use Rattle.std.specs.Result.{result_ok}
-use Rattle.rx_print.specs.Escape.{escaped}
-use Rattle.rx_print.specs.declared.style.Style.TheVariants.{Json}
+use Rattle.rx_fields.specs.Numbered.{LotParts}
 use Rattle.rx_fields.specs.Text.{id_of}
-use Rattle.rx_report.specs.Texts.{lines_json}
+use Rattle.rx_report.specs.Texts.{lines_json, lot_json, quoted}
 use Rattle.rx_report.specs.declared.portion.Portion.{Portion}
 use Rattle.rx_report.specs.declared.portion.Portion.TheVariants as portion
 use Rattle.rx_report.specs.declared.section.Account.{Account}
 use Rattle.rx_report.specs.declared.section.Section.{Section}
 use Rattle.rx_settle.specs.Settlement.{net}
 use Rattle.rx_settle.specs.declared.tally.Tally.{Tally}
-
--- bytes as a string
-abbrev pub quoted : List ℕ → List ℕ
-quoted bytes = 34 ∷ (escaped Json bytes ++ 34 ∷ [])
 
 -- whose lines they are, where they aren't all
 abbrev pub portion_json : Portion → List ℕ
@@ -60,8 +55,11 @@ unfoldable pub sections_json : List Section → List ℕ
 sections_json [] = []
 sections_json (s ∷ more) = first_section s ++ flat_map comma_section more
 
+abbrev pub end_json : LotParts → Tally → List ℕ
+end_json lot total = codes "],\"total\":{" ++ (tally_json total ++ (codes "}," ++ (lot_json lot ++ codes "}\n")))
+
 -- the whole
-abbrev pub account_json : Portion → Account → List ℕ
-account_json p account =
+abbrev pub account_json : LotParts → Portion → Account → List ℕ
+account_json lot p account =
     codes "{" ++ (portion_json p ++ (codes "\"sections\":[" ++ (sections_json account.sections.items
-    ++ (codes "],\"total\":{" ++ (tally_json account.total ++ codes "}}\n")))))
+    ++ end_json lot account.total)))

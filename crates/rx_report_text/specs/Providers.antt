@@ -3,7 +3,7 @@ use Rattle.std.specs.Prelude.{ℕ, ◌*◌, ◌/◌, ◌^◌, ◌==◌, nat_lt, 
 use Rattle.std.specs.Prelude.{List, [], ◌++◌, codes, max}
 use Rattle.std.specs.Fmt.{decimal}
 use Rattle.std.specs.Int.{abs_diff}
-use Rattle.std.specs.List.{enumerate_from, flat_map, fold}
+use Rattle.std.specs.List.{enumerate_from, flat_map, fold, list_any}
 use Rattle.rx_report.specs.declared.portion.Portion.{Portion}
 use Rattle.rx_report.specs.declared.portion.Portion.TheVariants as portion
 use Rattle.rx_report.specs.declared.section.Account.{Account}
@@ -18,11 +18,15 @@ use Rattle.rx_settle.specs.declared.tally.Tally.{Tally}
 abbrev pub count_text : List ℕ → ℕ → List ℕ
 count_text front count = front ++ (decimal count ++ codes "</td>")
 
+-- the net, in a cell
+abbrev pub net_cell : Tally → List ℕ
+net_cell t = codes "<td class=\"net\">" ++ (signed_dollars (net t) ++ codes "</td>")
+
 unfoldable pub tally_text : Tally → List ℕ
 tally_text t =
     count_text (codes "<td><i>Paid</i>") t.paid ++ (count_text (codes "<td><i>Duplicate</i>") t.duplicate
     ++ (count_text (codes "<td><i>Reversed</i>") t.approved ++ (count_text (codes "<td><i>Rejected</i>") t.rejected
-    ++ (codes "<td class=\"net\">" ++ (signed_dollars (net t) ++ codes "</td>")))))
+    ++ net_cell t)))
 
 -- ---- the bar of a net
 
@@ -34,20 +38,20 @@ size t = abs_diff t.paid_out t.taken_back
 abbrev pub longest : List Section → ℕ
 longest sections = fold (λ most s. max (size s.tally) most) 0 sections
 
--- a part in percent of the whole, rounded down; 100 where a hundredfold is wider than 128 bits
-abbrev pub percent : ℕ → ℕ → ℕ
-percent part whole =
-    if whole == 0 then 0 else (if nat_lt (part * 100) (2 ^ 128) then part * 100 / whole else 100)
+-- a part in ten-thousandths of the whole, rounded down; all of them where that many times the part is wider than 128 bits
+abbrev pub share : ℕ → ℕ → ℕ
+share part whole =
+    if whole == 0 then 0 else (if nat_lt (part * 10000) (2 ^ 128) then part * 10000 / whole else 10000)
 
 -- where more is taken back than paid out
 abbrev pub sign_text : Tally → List ℕ
 sign_text t = if nat_lt t.paid_out t.taken_back then codes " class=\"minus\"" else []
 
--- as long as the net is in percent of the longest
+-- its share of the longest, of which the page's style draws the square root
 unfoldable pub length_text : ℕ → Tally → List ℕ
 length_text most t =
-    codes "<td class=\"bar\"><span" ++ (sign_text t ++ (codes " style=\"width:" ++ (decimal (percent (size t) most)
-    ++ codes "%\"></span></td>")))
+    codes "<td class=\"bar\"><span" ++ (sign_text t ++ (codes " style=\"--share:" ++ (decimal (share (size t) most)
+    ++ codes "\"></span></td>")))
 
 -- none for no net
 abbrev pub bar_text : ℕ → Tally → List ℕ
@@ -76,11 +80,18 @@ rows_text unfolds most numbered = flat_map (λ s. row_text unfolds most s.0 s.1)
 
 -- ---- the table
 
+-- where a net is below zero, the bars have room on both sides of it
+abbrev pub class_text : List Section → List ℕ
+class_text sections =
+    if list_any (λ s. nat_lt s.tally.paid_out s.tally.taken_back) sections then codes "<table class=\"providers signed\">\n"
+    else codes "<table class=\"providers\">\n"
+
 abbrev pub headings_text : List ℕ
 headings_text =
-    codes "<table>\n<thead><tr><th scope=\"col\">Provider</th><th scope=\"col\">Paid</th>"
+    codes "<caption>Providers in order of first appearance; a bar is as long as the square root of the net</caption>\n<thead><tr>"
+    ++ (codes "<th scope=\"col\">Provider</th><th scope=\"col\">Paid</th>"
     ++ (codes "<th scope=\"col\">Duplicate</th><th scope=\"col\">Reversed</th><th scope=\"col\">Rejected</th>"
-    ++ codes "<th scope=\"col\">Net</th><th scope=\"col\"></th></tr></thead>\n<tbody>\n")
+    ++ codes "<th scope=\"col\">Net</th><th scope=\"col\">Net as a bar</th></tr></thead>\n<tbody>\n"))
 
 -- what the last row is about
 abbrev pub scope_text : Portion → List ℕ
@@ -96,5 +107,5 @@ total_text p total =
 -- the headings, a row for each provider, and what all come to
 unfoldable pub table_text : Bool → Portion → Account → List ℕ
 table_text unfolds p account =
-    headings_text ++ (rows_text unfolds (longest account.sections.items) (enumerate_from 0 account.sections.items)
-    ++ total_text p account.total)
+    class_text account.sections.items ++ (headings_text ++ (rows_text unfolds (longest account.sections.items) (enumerate_from 0 account.sections.items)
+    ++ total_text p account.total))

@@ -1,14 +1,15 @@
 -- Meaning: what a report for people says of an answer, column by column. What isn't known stays blank.
 use Rattle.std.specs.Prelude.{ℕ, ℤ, Bool, true, false, List, [], ◌∷◌, ◌++◌, Option, Some, None, codes}
 use Rattle.rx_print.specs.Dates.{dashed_digits}
-use Rattle.rx_print.specs.Money.{signed_dollars}
+use Rattle.rx_print.specs.Money.{signed_dollars, thousandths_text}
 use Rattle.rx_report.specs.Cells.{cell, cents_of}
 use Rattle.rx_report.specs.declared.column.Column.TheVariants as column
+use Rattle.rx_report.specs.declared.line.Dispensed.{Dispensed}
 use Rattle.rx_report.specs.declared.line.Line.{Line}
 use Rattle.rx_report_text.specs.declared.shown.Shown.{Shown}
 use Rattle.rx_report_text.specs.declared.shown.Shown.TheVariants as shown
 
--- the columns, in order
+-- the columns of aligned text, in order
 abbrev pub columns : List Shown
 columns =
     shown.Record ∷ shown.Answer ∷ shown.Codes ∷ shown.Prescription ∷ shown.Date ∷ shown.Member ∷ shown.Allowed
@@ -27,6 +28,10 @@ heading_of shown.Copay = codes "copay"
 heading_of shown.Coinsurance = codes "coins."
 heading_of shown.MemberPays = codes "member pays"
 heading_of shown.PlanPays = codes "plan pays"
+heading_of shown.Product = codes "product"
+heading_of shown.Quantity = codes "quantity"
+heading_of shown.Days = codes "days"
+heading_of shown.Authorization = codes "authorization"
 
 abbrev pub is_amount : Shown → Bool
 is_amount shown.Record = false
@@ -35,12 +40,21 @@ is_amount shown.Codes = false
 is_amount shown.Prescription = false
 is_amount shown.Date = false
 is_amount shown.Member = false
+is_amount shown.Product = false
+is_amount shown.Quantity = false
+is_amount shown.Days = false
+is_amount shown.Authorization = false
 is_amount other = true
 
 -- the family and the person, as F1/02
 abbrev pub member_text : Option (List ℕ × List ℕ) → List ℕ
 member_text None = []
 member_text (Some m) = m.0 ++ (47 ∷ m.1)
+
+-- the quantity of a billing in whole ones
+abbrev pub quantity_text : Option Dispensed → List ℕ
+quantity_text None = []
+quantity_text (Some d) = thousandths_text d.quantity
 
 -- the amount, if there is one
 abbrev pub amount_text : Option ℤ → List ℕ
@@ -60,3 +74,7 @@ shown_cell shown.Copay l = amount_text (cents_of column.Copay l.answer)
 shown_cell shown.Coinsurance l = amount_text (cents_of column.Coinsurance l.answer)
 shown_cell shown.MemberPays l = amount_text (cents_of column.Member l.answer)
 shown_cell shown.PlanPays l = amount_text (cents_of column.Plan l.answer)
+shown_cell shown.Product l = cell column.Product l
+shown_cell shown.Quantity l = quantity_text l.dispensed
+shown_cell shown.Days l = cell column.Days l
+shown_cell shown.Authorization l = cell column.Authorization l

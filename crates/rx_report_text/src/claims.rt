@@ -1,10 +1,10 @@
 ghost use Rattle.std.specs.Prelude.{◌≡◌, ◌++◌, OnOk};
 ghost use Rattle.std.specs.List.{flat_map};
-ghost use Rattle.rx_report_text.specs.declared.shown.Shown.TheVariants.{Codes};
-ghost use Rattle.rx_report_text.specs.Claims.{amounts_text, answer_front, claim_front, claim_text, figure_text};
-ghost use Rattle.rx_report_text.specs.Claims.{figures_of, section_text, span_text, summary_text};
+ghost use Rattle.rx_report_text.specs.Claims.{amounts_text, claim_text, figure_text, figures_of, section_text};
 
-use crate::html::{put_cell, put_provider_text, put_reason};
+use crate::html::{put_cell, put_provider_text};
+use crate::reasons::put_reason;
+use crate::row::{put_row, put_titles};
 use crate::shown::Shown;
 use crate::why::Whys;
 use rx_d0_values::Answer;
@@ -12,7 +12,7 @@ use rx_print::Page;
 use rx_report::{Line, Section};
 use std::alloc::AllocError;
 
-/// A provider's claims, a line each that unfolds to its figures and to why they are so.
+/// A provider's claims: a table with a row for each, which unfolds to its figures and to why they are so.
 pub(crate) fn put_claims(
     page: &mut Page,
     before: usize,
@@ -25,12 +25,10 @@ pub(crate) fn put_claims(
     page.number(before as u128)?;
     page.markup("\">\n<h2>Provider ")?;
     put_provider_text(page, &section.provider)?;
-    page.markup(
-        "</h2>\n<div class=\"names\"><b>Record</b><b>Answer</b><b>Rx</b><b>Date</b><b>Member</b>",
-    )?;
-    page.markup("<b>Member pays</b><b>Plan pays</b></div>\n")?;
+    page.markup("</h2>\n")?;
+    put_titles(page)?;
     put_each(page, section.lines, whys)?;
-    page.markup("</section>\n")
+    page.markup("</table>\n</section>\n")
 }
 
 fn put_each(page: &mut Page, lines: &[Line], whys: &Whys) -> Result<(), AllocError>
@@ -45,71 +43,12 @@ fn put_each(page: &mut Page, lines: &[Line], whys: &Whys) -> Result<(), AllocErr
 fn put_claim(page: &mut Page, line: &Line, whys: &Whys) -> Result<(), AllocError>
     ensures { OnOk result (page.new.bytes.items ≡ page.old.bytes.items ++ claim_text whys.now line.now) }
 {
-    put_front(page, &line.answer)?;
-    put_summary(page, line)?;
-    page.markup("</summary>\n<dl>")?;
+    put_row(page, line)?;
+    page.markup("<tr class=\"why\"><td colspan=\"11\"><details><summary>Why</summary>\n<dl>")?;
     put_figures(page, line)?;
-    page.markup("</dl><pre>")?;
+    page.markup("</dl>\n")?;
     put_reason(page, whys, line)?;
-    page.markup("</pre></details>\n")
-}
-
-// A duplicate is marked as one.
-fn put_front(page: &mut Page, answer: &Answer) -> Result<(), AllocError>
-    ensures { OnOk result (page.new.bytes.items ≡ page.old.bytes.items ++ claim_front answer.now) }
-{
-    match answer {
-        Answer::Twice(_) => page.markup("<details class=\"twice\"><summary>"),
-        Answer::Paid(_) | Answer::Approved(_) | Answer::Refused(_) => {
-            page.markup("<details><summary>")
-        }
-    }
-}
-
-// What is seen of a claim before it is unfolded.
-fn put_summary(page: &mut Page, line: &Line) -> Result<(), AllocError>
-    ensures { OnOk result (page.new.bytes.items ≡ page.old.bytes.items ++ summary_text line.now) }
-{
-    put_span(page, "<span>", Shown::Record, line)?;
-    put_answer(page, line)?;
-    put_span(page, "<span class=\"rx\">", Shown::Prescription, line)?;
-    put_span(page, "<span class=\"date\">", Shown::Date, line)?;
-    put_span(page, "<span class=\"member\">", Shown::Member, line)?;
-    put_span(page, "<span class=\"pays\">", Shown::MemberPays, line)?;
-    put_span(page, "<span class=\"plan\">", Shown::PlanPays, line)
-}
-
-#[tactic(auto, using(std::proofs::Common::append_assoc))]
-fn put_span(
-    page: &mut Page,
-    front: &'static str,
-    shown: Shown,
-    line: &Line,
-) -> Result<(), AllocError>
-    ensures { OnOk result (page.new.bytes.items ≡ page.old.bytes.items ++ span_text front.now shown line.now) }
-{
-    page.markup(front)?;
-    put_cell(page, shown, line)?;
-    page.markup("</span>")
-}
-
-// The answer in a word, with its codes.
-fn put_answer(page: &mut Page, line: &Line) -> Result<(), AllocError>
-    ensures { OnOk result (page.new.bytes.items
-        ≡ page.old.bytes.items ++ span_text (answer_front line.now.answer) Codes line.now) }
-{
-    put_span(page, answer_front(&line.answer), Shown::Codes, line)
-}
-
-fn answer_front(answer: &Answer) -> &'static str
-    ensures { result.now ≡ answer_front answer.now }
-{
-    match answer {
-        Answer::Paid(_) => "<span class=\"answer\">paid",
-        Answer::Twice(_) => "<span class=\"answer\">duplicate",
-        Answer::Approved(_) => "<span class=\"answer\">reversed",
-        Answer::Refused(_) => "<span class=\"answer refused\">rejected ",
-    }
+    page.markup("</details></td></tr>\n</tbody>\n")
 }
 
 // What is known of its figures.

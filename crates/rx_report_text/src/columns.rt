@@ -251,7 +251,8 @@ fn put_row(text: &mut Vec<u8>, cells: &[u8]) -> Result<(), AllocError>
     Ok(())
 }
 
-fn without_end(cells: &[u8]) -> &[u8]
+/// The cells without the blanks at their end.
+pub(crate) fn without_end(cells: &[u8]) -> &[u8]
     ensures { result.now ≡ without_end cells.now }
 {
     cells.trim_ascii_end()

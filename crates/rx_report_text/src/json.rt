@@ -1,31 +1,32 @@
 ghost use Rattle.std.specs.Prelude.{◌≡◌, ◌++◌, ◌∷◌, [], codes, IfOk, OnOk};
 ghost use Rattle.std.specs.List.{flat_map};
 ghost use Rattle.std.specs.String.{string_bytes};
-ghost use Rattle.rx_report_text.specs.Json.{account_json, comma_section, counts_json, first_section, portion_json};
-ghost use Rattle.rx_report_text.specs.Json.{provider_json, quoted, section_json, sections_json, tally_json};
+ghost use Rattle.rx_report.specs.Texts.{quoted};
+ghost use Rattle.rx_report_text.specs.Json.{account_json, comma_section, counts_json, end_json, first_section, portion_json};
+ghost use Rattle.rx_report_text.specs.Json.{provider_json, section_json, sections_json, tally_json};
 
 use crate::money::put_net_cents;
-use rx_fields::{Memory, Provider};
-use rx_print::{Style, put_escaped};
-use rx_report::{Account, Portion, Section, lines_json};
+use rx_fields::{Lot, Memory, Provider};
+use rx_report::{Account, Portion, Section, lines_json, put_lot, put_quoted};
 use rx_settle::{Field, Tally};
 use std::alloc::{AllocError, Global};
 
 /// The account as a JSON object: which portion it is, a section for each provider with its counts, its net in cents and
-/// its lines (`rx_report::lines_json`), and the counts and the net of all.
+/// its lines (`rx_report::lines_json`), the counts and the net of all, and the batch's number and day.
 #[tactic(auto, using(std::proofs::Common::append_assoc))]
 pub fn account_json(
     alloc: Global,
+    lot: Lot,
     portion: Portion<'_>,
     account: &Account<'_>,
 ) -> Result<Vec<u8>, Memory>
-    ensures { IfOk result (λ text. text.items ≡ account_json portion.entry account.now) }
+    ensures { IfOk result (λ text. text.items ≡ account_json lot portion.entry account.now) }
 {
     let mut text = Vec::new(alloc);
     text.extend_from_slice(b"{")?;
     put_portion(&mut text, portion)?;
     put_sections(alloc, &mut text, b"\"sections\":[", &account.sections)?;
-    put_total(alloc, &mut text, &account.total)?;
+    put_end(alloc, &mut text, lot, &account.total)?;
     Ok(text)
 }
 
@@ -45,7 +46,7 @@ fn put_only(text: &mut Vec<u8>, name: &[u8], id: &[u8]) -> Result<(), AllocError
     ensures { OnOk result (text.new.items ≡ text.old.items ++ (name.now ++ (quoted id.now ++ 44 ∷ []))) }
 {
     text.extend_from_slice(name)?;
-    put_string(text, id)?;
+    put_quoted(text, id)?;
     text.extend_from_slice(b",")
 }
 
@@ -124,14 +125,16 @@ fn put_lines(text: &mut Vec<u8>, lines: &[u8]) -> Result<(), AllocError>
     text.extend_from_slice(b"}")
 }
 
-// The end of the sections, the counts and the net of all, and the object's end.
+// The end of the sections, the counts and the net of all, the batch, and the object's end.
 #[tactic(auto, using(std::proofs::Common::append_assoc))]
-fn put_total(alloc: Global, text: &mut Vec<u8>, total: &Tally) -> Result<(), AllocError>
-    ensures { OnOk result (text.new.items ≡ text.old.items ++ (codes "],\"total\":{" ++ (tally_json total.now ++ codes "}}\n"))) }
+fn put_end(alloc: Global, text: &mut Vec<u8>, lot: Lot, total: &Tally) -> Result<(), AllocError>
+    ensures { OnOk result (text.new.items ≡ text.old.items ++ end_json lot total.now) }
 {
     text.extend_from_slice(b"],\"total\":{")?;
     put_tally(alloc, text, total)?;
-    text.extend_from_slice(b"}}\n")
+    text.extend_from_slice(b"},")?;
+    put_lot(text, lot)?;
+    text.extend_from_slice(b"}\n")
 }
 
 // The provider that a field names, or null.
@@ -139,18 +142,9 @@ fn put_provider(text: &mut Vec<u8>, field: &Field) -> Result<(), AllocError>
     ensures { OnOk result (text.new.items ≡ text.old.items ++ provider_json field.now) }
 {
     match Provider::new(field) {
-        Ok(provider) => put_string(text, provider.bytes()),
+        Ok(provider) => put_quoted(text, provider.bytes()),
         Err(_) => text.extend_from_slice(b"null"),
     }
-}
-
-#[tactic(auto, using(std::proofs::Common::append_assoc))]
-fn put_string(text: &mut Vec<u8>, bytes: &[u8]) -> Result<(), AllocError>
-    ensures { OnOk result (text.new.items ≡ text.old.items ++ quoted bytes.now) }
-{
-    text.extend_from_slice(b"\"")?;
-    put_escaped(text, Style::Json, bytes)?;
-    text.extend_from_slice(b"\"")
 }
 
 #[tactic(auto, using(std::proofs::Common::append_assoc), unfolding(crate::specs::Json::tally_json))]

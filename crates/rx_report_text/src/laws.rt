@@ -1,3 +1,4 @@
+ghost use Rattle.rx_fields.specs.Numbered.{LotParts};
 ghost use Rattle.rx_print.specs.JsonData.{ReadsAs};
 ghost use Rattle.rx_report.specs.declared.portion.Portion.{Portion};
 ghost use Rattle.rx_report.specs.declared.section.Account.{Account};
@@ -6,5 +7,6 @@ ghost use Rattle.rx_report_text.specs.Json.{account_json};
 
 /// What is written as JSON is JSON: it is read as one object, in which each name has the account's own value.
 pub fn account_reads_as_json()
-    ensures { (portion : Portion) → (account : Account) → ReadsAs (account_json portion account) (account_data portion account) }
+    ensures { (lot : LotParts) → (portion : Portion) → (account : Account)
+        → ReadsAs (account_json lot portion account) (account_data lot portion account) }
 {}

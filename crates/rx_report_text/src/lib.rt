@@ -9,11 +9,12 @@
 //! let page = rx_report_text::explained_page(alloc, lot, portion, &account, &whys)?;
 //! ```
 //!
-//! The page takes nothing from outside: no script, no font, no picture. It has a table of providers with counts, net and a
-//! bar for each, and after it each provider's claims, a line each that unfolds to its figures and to why they are so. It
-//! is written in only two ways: by markup that stands in this crate, and by bytes that `rx_print` turns into text.
-//! `specs/Whole.antt` has the whole page, of a table (`specs/Providers.antt`) and claims (`specs/Claims.antt`);
-//! `specs/Pages.antt` says what a byte of a file becomes, `specs/Whys.antt` what stands there for an explanation.
+//! The page takes nothing from outside: no font, no picture, and no script but its own, which is fixed text. It has its
+//! origin (`specs/Origin.antt`), what all comes to (`specs/Summary.antt`), each reject code with its answers
+//! (`specs/Rejects.antt`), a table of providers with a bar for each net (`specs/Providers.antt`), and each provider's claims
+//! (`specs/Claims.antt`), a row each (`specs/Rows.antt`) that unfolds to its figures and to why they are so
+//! (`specs/Reasons.antt`). It is written in only two ways: by markup that stands in this crate, and by bytes that `rx_print`
+//! turns into text (`specs/Pages.antt`).
 //!
 //! Nothing is explained here: `shows_claims` says whether a page has claims, and why they were answered so is given to it.
 #![tactic(auto)]
@@ -24,9 +25,15 @@ mod html;
 mod json;
 mod laws;
 mod money;
+mod origin;
 mod providers;
+mod reasons;
+mod rejects;
+mod row;
+mod script;
 mod shown;
 mod style;
+mod summary;
 mod whole;
 mod why;
 mod wide;
@@ -34,6 +41,7 @@ mod wide;
 pub use columns::columns_text;
 pub use json::account_json;
 pub use laws::account_reads_as_json;
+pub use origin::{InputFile, Origin, PageHead};
 pub use shown::{COLUMNS, Shown, shown_cell};
 pub use whole::{MOST_LINES, explained_page, report_page, shows_claims};
 pub use why::{AnswerSpot, Why, Whys, why_of};

@@ -1,7 +1,7 @@
-ghost use Rattle.std.specs.Prelude.{◌≡◌, ◌++◌, OnOk};
-ghost use Rattle.std.specs.List.{enumerate_from};
-ghost use Rattle.rx_report_text.specs.Providers.{bar_text, count_text, length_text, link_text, longest, name_text, percent};
-ghost use Rattle.rx_report_text.specs.Providers.{row_text, rows_text, scope_text, sign_text, size, table_text, tally_text, total_text};
+ghost use Rattle.std.specs.Prelude.{◌≡◌, ◌++◌, nat_lt, OnOk};
+ghost use Rattle.std.specs.List.{enumerate_from, list_any};
+ghost use Rattle.rx_report_text.specs.Providers.{bar_text, class_text, count_text, headings_text, length_text, link_text, longest, net_cell};
+ghost use Rattle.rx_report_text.specs.Providers.{name_text, row_text, rows_text, scope_text, share, sign_text, size, table_text, tally_text, total_text};
 
 use crate::html::{put_net_text, put_provider_text};
 use rx_print::Page;
@@ -18,13 +18,43 @@ pub(crate) fn put_providers(
 ) -> Result<(), AllocError>
     ensures { OnOk result (page.new.bytes.items ≡ page.old.bytes.items ++ table_text unfolds portion.entry account.now) }
 {
-    page.markup("<table>\n<thead><tr><th scope=\"col\">Provider</th><th scope=\"col\">Paid</th>")?;
+    page.markup(class_text(&account.sections))?;
+    put_headings(page)?;
+    put_rows(page, &account.sections, unfolds)?;
+    put_total(page, portion, &account.total)
+}
+
+// Where a net is below zero, the bars have room on both sides of it.
+fn class_text(sections: &[Section<'_>]) -> &'static str
+    ensures { result.now ≡ class_text sections.now }
+{
+    if has_net_below_zero(sections) {
+        "<table class=\"providers signed\">\n"
+    } else {
+        "<table class=\"providers\">\n"
+    }
+}
+
+fn has_net_below_zero(sections: &[Section<'_>]) -> bool
+    ensures { result ≡ list_any (λ s. nat_lt s.tally.paid_out s.tally.taken_back) sections.now }
+{
+    sections.iter().any(|section| section.tally.paid_out < section.tally.taken_back)
+}
+
+// The caption and the headings.
+fn put_headings(page: &mut Page) -> Result<(), AllocError>
+    ensures { OnOk result (page.new.bytes.items ≡ page.old.bytes.items ++ headings_text) }
+{
+    page.markup(
+        "<caption>Providers in order of first appearance; a bar is as long as the square root of the net</caption>\n<thead><tr>",
+    )?;
+    page.markup("<th scope=\"col\">Provider</th><th scope=\"col\">Paid</th>")?;
     page.markup(
         "<th scope=\"col\">Duplicate</th><th scope=\"col\">Reversed</th><th scope=\"col\">Rejected</th>",
     )?;
-    page.markup("<th scope=\"col\">Net</th><th scope=\"col\"></th></tr></thead>\n<tbody>\n")?;
-    put_rows(page, &account.sections, unfolds)?;
-    put_total(page, portion, &account.total)
+    page.markup(
+        "<th scope=\"col\">Net</th><th scope=\"col\">Net as a bar</th></tr></thead>\n<tbody>\n",
+    )
 }
 
 // A row for each provider.
@@ -130,6 +160,12 @@ fn put_tally(page: &mut Page, tally: &Tally) -> Result<(), AllocError>
     put_count(page, "<td><i>Duplicate</i>", tally.duplicate)?;
     put_count(page, "<td><i>Reversed</i>", tally.approved)?;
     put_count(page, "<td><i>Rejected</i>", tally.rejected)?;
+    put_net(page, tally)
+}
+
+fn put_net(page: &mut Page, tally: &Tally) -> Result<(), AllocError>
+    ensures { OnOk result (page.new.bytes.items ≡ page.old.bytes.items ++ net_cell tally.now) }
+{
     page.markup("<td class=\"net\">")?;
     put_net_text(page, tally)?;
     page.markup("</td>")
@@ -155,15 +191,15 @@ fn put_bar(page: &mut Page, tally: &Tally, longest: u128) -> Result<(), AllocErr
     }
 }
 
-// As long as the net is in percent of the longest.
+// Its share of the longest, of which the page's style draws the square root.
 fn put_length(page: &mut Page, tally: &Tally, longest: u128) -> Result<(), AllocError>
     ensures { OnOk result (page.new.bytes.items ≡ page.old.bytes.items ++ length_text longest tally.now) }
 {
     page.markup("<td class=\"bar\"><span")?;
     put_sign(page, tally)?;
-    page.markup(" style=\"width:")?;
-    page.number(percent(size(tally), longest))?;
-    page.markup("%\"></span></td>")
+    page.markup(" style=\"--share:")?;
+    page.number(share(size(tally), longest))?;
+    page.markup("\"></span></td>")
 }
 
 // Where more is taken back than paid out.
@@ -177,15 +213,15 @@ fn put_sign(page: &mut Page, tally: &Tally) -> Result<(), AllocError>
     }
 }
 
-// A part in percent of the whole, rounded down; 100 where that can't be counted.
-fn percent(part: u128, whole: u128) -> u128
-    ensures { result ≡ percent part whole }
+// A part in ten-thousandths of the whole, rounded down; all of them where that can't be counted.
+fn share(part: u128, whole: u128) -> u128
+    ensures { result ≡ share part whole }
 {
     if whole == 0 {
         return 0;
     }
-    match part.checked_mul(100) {
-        Some(hundredfold) => hundredfold / whole,
-        None => 100,
+    match part.checked_mul(10_000) {
+        Some(parts) => parts / whole,
+        None => 10_000,
     }
 }

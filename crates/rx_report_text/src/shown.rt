@@ -2,14 +2,14 @@ ghost use Rattle.std.specs.Prelude.{◌≡◌, ◌++◌, ◌∷◌, IfOk, OnOk};
 ghost use Rattle.rx_print.specs.Dates.{dashed_digits};
 ghost use Rattle.rx_report.specs.Cells.{cell, cents_of};
 ghost use Rattle.rx_report.specs.declared.column.Column.TheVariants.{Nth, Place};
-ghost use Rattle.rx_report_text.specs.Shown.{amount_text, heading_of, is_amount, member_text, shown_cell};
+ghost use Rattle.rx_report_text.specs.Shown.{amount_text, heading_of, is_amount, member_text, quantity_text, shown_cell};
 
 use rx_fields::{Id, Person};
-use rx_print::{dashed_digits, put_signed_dollars};
+use rx_print::{Page, dashed_digits, put_signed_dollars};
 use rx_report::{Column, Line, cell_of, cents_of};
 use std::alloc::{AllocError, Global};
 
-/// A column of a report for people. The provider stands above its lines.
+/// A column of a report for people. The provider stands above its lines; the last four are on pages only.
 #[derive(Clone, Copy, Debug, PartialEq, Eq)]
 pub enum Shown {
     /// The record's place, and the answer's in its reply, as `4.1`.
@@ -36,9 +36,17 @@ pub enum Shown {
     MemberPays,
     /// What the plan pays; below zero where it is given back.
     PlanPays,
+    /// The product.
+    Product,
+    /// The quantity, as `30` or `0.500`.
+    Quantity,
+    /// The days supply.
+    Days,
+    /// The authorization number.
+    Authorization,
 }
 
-/// The columns, in order.
+/// The columns of aligned text, in order.
 pub const COLUMNS: [Shown; 12] = [
     Shown::Record,
     Shown::Answer,
@@ -72,6 +80,10 @@ impl Shown {
             Shown::Coinsurance => b"coins.",
             Shown::MemberPays => b"member pays",
             Shown::PlanPays => b"plan pays",
+            Shown::Product => b"product",
+            Shown::Quantity => b"quantity",
+            Shown::Days => b"days",
+            Shown::Authorization => b"authorization",
         }
     }
 
@@ -85,7 +97,11 @@ impl Shown {
             | Shown::Codes
             | Shown::Prescription
             | Shown::Date
-            | Shown::Member => false,
+            | Shown::Member
+            | Shown::Product
+            | Shown::Quantity
+            | Shown::Days
+            | Shown::Authorization => false,
             _ => true,
         }
     }
@@ -108,6 +124,10 @@ pub fn shown_cell(alloc: Global, shown: Shown, line: &Line) -> Result<Vec<u8>, A
         Shown::Coinsurance => amount_cell(alloc, Column::Coinsurance, line),
         Shown::MemberPays => amount_cell(alloc, Column::Member, line),
         Shown::PlanPays => amount_cell(alloc, Column::Plan, line),
+        Shown::Product => cell_of(alloc, Column::Product, line),
+        Shown::Quantity => quantity_cell(alloc, line),
+        Shown::Days => cell_of(alloc, Column::Days, line),
+        Shown::Authorization => cell_of(alloc, Column::Authorization, line),
     }
 }
 
@@ -146,6 +166,17 @@ fn put_member(text: &mut Vec<u8>, family: &Id, person: &Person) -> Result<(), Al
     text.extend_from_slice(family.bytes())?;
     text.push(b'/')?;
     text.extend_from_slice(person.bytes())
+}
+
+fn quantity_cell(alloc: Global, line: &Line) -> Result<Vec<u8>, AllocError>
+    ensures { IfOk result (λ text. text.items ≡ quantity_text line.now.dispensed) }
+{
+    let mut page = Page::new(alloc);
+    match &line.dispensed {
+        Some(dispensed) => page.thousandths(dispensed.quantity.get())?,
+        None => {}
+    }
+    Ok(page.into_bytes())
 }
 
 fn amount_cell(alloc: Global, column: Column, line: &Line) -> Result<Vec<u8>, AllocError>

@@ -5,12 +5,16 @@ ghost use Rattle.rx_print.specs.Escape.{escaped};
 ghost use Rattle.rx_print.specs.declared.style.Style.TheVariants.{Html};
 ghost use Rattle.rx_report_text.specs.Claims.{sections_text};
 ghost use Rattle.rx_report_text.specs.ClaimsShown.{shows_claims};
-ghost use Rattle.rx_report_text.specs.Whole.{below_table, head_text, lot_text, page_text, parts_of_page};
+ghost use Rattle.rx_report_text.specs.Whole.{below_table, claims_text, end_text, head_text, lot_text, page_text, parts_of_page};
 ghost use Rattle.rx_report_text.specs.Whole.{portion_text, title_text, too_many_text};
 
 use crate::claims::put_claims;
+use crate::origin::{PageHead, put_origin};
 use crate::providers::put_providers;
+use crate::rejects::put_rejects;
+use crate::script::{POLICY, SCRIPT};
 use crate::style::STYLE;
+use crate::summary::put_summary;
 use crate::why::Whys;
 use rx_fields::{Day, Lot, Memory, date_write, digits_write};
 use rx_print::{Page, Style, dashed_digits};
@@ -24,51 +28,62 @@ pub const MOST_LINES: usize = 2000;
 /// The account of a batch as an HTML page, where each claim unfolds to its figures and to the command that explains it.
 pub fn report_page(
     alloc: Global,
-    lot: Lot,
+    head: &PageHead<'_>,
     portion: Portion<'_>,
     account: &Account<'_>,
 ) -> Result<Vec<u8>, Memory>
-    ensures { IfOk result (λ page. page.items ≡ page_text lot portion.entry account.now []) }
+    ensures { IfOk result (λ page. page.items ≡ page_text head.now portion.entry account.now []) }
 {
-    explained_page(alloc, lot, portion, account, &Ascending::new(alloc))
+    explained_page(alloc, head, portion, account, &Ascending::new(alloc))
 }
 
 /// The same page, where a claim whose answer is explained by these unfolds to its explanation.
 pub fn explained_page(
     alloc: Global,
-    lot: Lot,
+    head: &PageHead<'_>,
     portion: Portion<'_>,
     account: &Account<'_>,
     whys: &Whys,
 ) -> Result<Vec<u8>, Memory>
-    ensures { IfOk result (λ page. page.items ≡ page_text lot portion.entry account.now whys.now) }
+    ensures { IfOk result (λ page. page.items ≡ page_text head.now portion.entry account.now whys.now) }
 {
     let mut page = Page::new(alloc);
     let unfolds = shows_claims(portion, account);
-    put_page(&mut page, lot, portion, account, whys, unfolds)?;
+    put_page(&mut page, head, portion, account, whys, unfolds)?;
     Ok(page.into_bytes())
 }
 
-// Head, title, the table of providers and what stands below it.
+// Head, title, what it comes to, why answers were rejected, the table of providers and what stands below it.
 fn put_page(
     page: &mut Page,
-    lot: Lot,
+    head: &PageHead<'_>,
     portion: Portion<'_>,
     account: &Account<'_>,
     whys: &Whys,
     unfolds: bool,
 ) -> Result<(), AllocError>
     ensures { OnOk result (page.new.bytes.items
-        ≡ page.old.bytes.items ++ parts_of_page unfolds lot portion.entry account.now whys.now) }
+        ≡ page.old.bytes.items ++ parts_of_page unfolds head.now portion.entry account.now whys.now) }
 {
-    put_head(page, lot)?;
-    put_title(page, lot, portion)?;
+    put_head(page, head.lot)?;
+    put_title(page, head, portion)?;
+    put_summary(page, &account.total)?;
+    put_rejects(page, &account.sections, unfolds)?;
     put_providers(page, portion, account, unfolds)?;
     put_below(page, account, whys, unfolds)?;
-    page.markup("</main>\n</body>\n</html>\n")
+    put_end(page)
 }
 
-// The claims of each provider, or how they are had.
+// The script.
+fn put_end(page: &mut Page) -> Result<(), AllocError>
+    ensures { OnOk result (page.new.bytes.items ≡ page.old.bytes.items ++ end_text) }
+{
+    page.markup("<script>")?;
+    page.markup(SCRIPT)?;
+    page.markup("</script>\n</body>\n</html>\n")
+}
+
+// What the first link of the page leads to.
 fn put_below(
     page: &mut Page,
     account: &Account<'_>,
@@ -76,6 +91,20 @@ fn put_below(
     unfolds: bool,
 ) -> Result<(), AllocError>
     ensures { OnOk result (page.new.bytes.items ≡ page.old.bytes.items ++ below_table unfolds whys.now account.now) }
+{
+    page.markup("<div id=\"claims\">\n")?;
+    put_claims_or_command(page, unfolds, whys, account)?;
+    page.markup("</div>\n</main>\n")
+}
+
+// The claims of each provider, or how they are had.
+fn put_claims_or_command(
+    page: &mut Page,
+    unfolds: bool,
+    whys: &Whys,
+    account: &Account<'_>,
+) -> Result<(), AllocError>
+    ensures { OnOk result (page.new.bytes.items ≡ page.old.bytes.items ++ claims_text unfolds whys.now account.now) }
 {
     if unfolds {
         put_sections(page, &account.sections, whys)
@@ -113,16 +142,16 @@ fn put_head(page: &mut Page, lot: Lot) -> Result<(), AllocError>
     ensures { OnOk result (page.new.bytes.items ≡ page.old.bytes.items ++ head_text lot) }
 {
     page.markup("<!DOCTYPE html>\n<html lang=\"en\">\n<head>\n<meta charset=\"utf-8\">\n")?;
-    page.markup(
-        "<meta http-equiv=\"Content-Security-Policy\" content=\"default-src 'none'; style-src 'unsafe-inline'\">\n",
-    )?;
+    page.markup(POLICY)?;
     page.markup(
         "<meta name=\"viewport\" content=\"width=device-width, initial-scale=1\">\n<title>",
     )?;
     put_lot(page, lot)?;
     page.markup("</title>\n<style>\n")?;
     page.markup(STYLE)?;
-    page.markup("</style>\n</head>\n<body>\n")
+    page.markup(
+        "</style>\n</head>\n<body>\n<a class=\"skip\" href=\"#claims\">Skip to the claims</a>\n",
+    )
 }
 
 #[tactic(auto, using(std::proofs::Common::append_assoc))]
@@ -134,16 +163,20 @@ fn put_lot(page: &mut Page, lot: Lot) -> Result<(), AllocError>
     page.escaped(Style::Html, &number)
 }
 
-// The batch, its date, and whose lines the page has.
-fn put_title(page: &mut Page, lot: Lot, portion: Portion<'_>) -> Result<(), AllocError>
-    ensures { OnOk result (page.new.bytes.items ≡ page.old.bytes.items ++ title_text lot portion.entry) }
+// The batch, its date, whose lines the page has, and its origin.
+fn put_title(page: &mut Page, head: &PageHead<'_>, portion: Portion<'_>) -> Result<(), AllocError>
+    ensures { OnOk result (page.new.bytes.items ≡ page.old.bytes.items ++ title_text head.now portion.entry) }
 {
     page.markup("<header>\n<h1>")?;
-    put_lot(page, lot)?;
+    put_lot(page, head.lot)?;
     page.markup("</h1>\n<p>created ")?;
-    put_day(page, lot.created())?;
+    put_day(page, head.lot.created())?;
     put_portion(page, portion)?;
-    page.markup("; amounts in dollars</p>\n</header>\n<main>\n")
+    page.markup("; amounts in dollars</p>\n")?;
+    put_origin(page, head)?;
+    page.markup(
+        "<label class=\"print\"><input type=\"checkbox\" id=\"short\"> print without explanations</label>\n</header>\n<main>\n",
+    )
 }
 
 // A day as `2026-03-05`.

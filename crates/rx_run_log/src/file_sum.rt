@@ -1,8 +1,8 @@
-ghost use Rattle.std.specs.Prelude.{◌≡◌, IfSome, List, option_map, string_bytes, ℕ};
+ghost use Rattle.std.specs.Prelude.{◌≡◌, IfSome, List, Some, length, option_map, string_bytes, ℕ};
 ghost use Rattle.hex.specs.Hex.{encode_lower};
 ghost use Rattle.sha2.specs.Sha256.{sha256};
 ghost use Rattle.rx_run_log.specs.RunTraffic.{bytes_passed};
-ghost use Rattle.rx_run_log.specs.Traffic.{IsTrafficOf};
+ghost use Rattle.rx_run_log.specs.Traffic.{IsTrafficOf, in_64_bits};
 
 use crate::log::FileLog;
 use crate::traffic::Traffic;
@@ -34,20 +34,39 @@ impl FileSum {
         }
     }
 
+    /// Of a file that holds these bytes. There is no sum where memory ran out for it.
+    pub fn of_bytes(alloc: Global, bytes: &[u8]) -> FileSum
+        ensures bytes { result.bytes ≡ Some (in_64_bits (length bytes.now)) }
+        ensures sha256 { IfSome result.sha256 (λ text. string_bytes text ≡ encode_lower (sha256 bytes.now)) }
+    {
+        let mut traffic = Traffic::new(true);
+        traffic.add(bytes);
+        FileSum {
+            bytes: Some(traffic.bytes()),
+            sha256: sum_of(alloc, &traffic),
+        }
+    }
+
+    /// The sum, in 64 hexadecimal digits, if there is one.
+    pub fn sha256(&self) -> Option<&str>
+        ensures { option_map (λ t. t.now) result ≡ option_map string_bytes self.now.sha256 }
+    {
+        match &self.sha256 {
+            Some(text) => Some(text.as_str()),
+            None => None,
+        }
+    }
+
     /// The same in a log, of the file at this path.
     pub fn log<'a>(&'a self, path: &'a str) -> FileLog<'a>
         ensures path { result.path ≡ path.entry }
         ensures bytes { result.bytes ≡ self.entry.now.bytes }
         ensures sha256 { option_map (λ t. t.now) result.sha256 ≡ option_map string_bytes self.entry.now.sha256 }
     {
-        let sha256 = match &self.sha256 {
-            Some(text) => Some(text.as_str()),
-            None => None,
-        };
         FileLog {
             path,
             bytes: self.bytes,
-            sha256,
+            sha256: self.sha256(),
         }
     }
 }

@@ -1,11 +1,9 @@
 use crate::ending::Ending;
-use crate::file_fault::ProgramFile;
 use crate::shown_path::shown_path;
 use crate::standard_output::print;
 use crate::texts::text_of;
 use rx_check::Checked;
 use rx_cli::CheckWords;
-use rx_fields::Memory;
 use rx_io::{Device, Inputs};
 
 /// Prints the first fault of each input file in words, and what a run would take and an operator would hardly mean. It
@@ -13,7 +11,7 @@ use rx_io::{Device, Inputs};
 pub fn check(rt: &HostRuntime, words: &CheckWords<'_>) -> Result<(), Ending> {
     match read_given(rt, words) {
         Ok(texts) => check_texts(rt, words, &texts),
-        Err(ending) => Err(unread(rt, words, ending)),
+        Err(ending) => Err(unread(rt, ending)),
     }
 }
 
@@ -41,35 +39,22 @@ fn text_if_given(
 }
 
 // The ending where a file can't be read; why, is printed.
-fn unread(rt: &HostRuntime, words: &CheckWords<'_>, ending: Ending) -> Ending {
-    let line = match &ending {
-        Ending::File(fault) => fault.words(rt.alloc(), path_of(words, fault.file)),
-        _ => return ending,
-    };
-    match told(rt, line) {
-        Ok(()) => ending,
-        Err(output) => output,
+fn unread(rt: &HostRuntime, ending: Ending) -> Ending {
+    match ending {
+        Ending::InWords(numbers, line) => match told(rt, line) {
+            Ok(()) => Ending::Bare(numbers),
+            Err(output) => output,
+        },
+        other => other,
     }
 }
 
-// Prints a line, where there was memory for it.
-fn told(rt: &HostRuntime, line: Result<String, Memory>) -> Result<(), Ending> {
-    let Ok(mut line) = line else {
-        return Ok(());
-    };
+// Prints a line, where there is memory for its end.
+fn told(rt: &HostRuntime, mut line: String) -> Result<(), Ending> {
     if line.push('\n').is_err() {
         return Ok(());
     }
     print(rt, line.as_str().as_bytes())
-}
-
-// The path of the file that failed; one of the three that are read.
-fn path_of<'a>(words: &CheckWords<'a>, file: ProgramFile) -> &'a str {
-    match file {
-        ProgramFile::Of(Device::Books) => words.books.unwrap_or(""),
-        ProgramFile::Of(Device::Batch) => words.batch.unwrap_or(""),
-        _ => words.sheet,
-    }
 }
 
 // The same of texts that were read.
@@ -89,6 +74,7 @@ fn check_texts(rt: &HostRuntime, words: &CheckWords<'_>, texts: &Texts) -> Resul
         text,
         refusal,
         has_warnings,
+        warnings: _,
     } = rx_check::check(rt.alloc(), &files, &names)?;
     print(rt, text.as_str().as_bytes())?;
     match refusal {

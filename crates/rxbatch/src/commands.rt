@@ -1,20 +1,26 @@
 //! The commands that print a text, each from the files that its words name.
 use crate::ending::Ending;
-use crate::files::open_input;
+use crate::origin::Noted;
+use crate::refused_text::{GivenTexts, refused_response};
 use crate::run_gate::RunGate;
+use crate::shown_path::shown_path;
 use crate::standard_output::{print, print_outcome};
-use crate::texts::{open_and_read, read_each, slices, text_in, text_of};
+use crate::texts::{open_and_read, opened, read_each, slices, text_in, text_of};
+use rx_check::fault_numbered;
 use rx_cli::{
-    Asked, ExplainWords, Form as FormWords, Portion as PortionWords, ReportWords, ShowWords,
-    VerifyWords, WordsFault,
+    Asked, ExplainWords, FaultNumbers, Form as FormWords, Portion as PortionWords, ReportWords,
+    ShowWords, VerifyWords, WordsFault,
 };
-use rx_commands::{Form, Manner, number_asked, record_asked, reference_asked, show_table};
+use rx_commands::{
+    ExplainFault, Form, Manner, PrintedReport, family_asked, number_asked, provider_asked,
+    record_asked, reference_asked, show_table,
+};
 use rx_explain::Wanted;
 use rx_fields::Memory;
 use rx_io::{Device, Inputs};
 use rx_report::Portion;
 use rx_show::replies_text;
-use rx_switch::{Job, plan_text, sample_line, show_text};
+use rx_switch::{Job, SwitchFault, plan_text, sample_line, show_text};
 use std::sync::Wait;
 use std::thread::Threads;
 
@@ -24,23 +30,52 @@ pub fn show<R: Threads + Sync>(
     threads: &R,
     words: &ShowWords<'_>,
 ) -> Result<(), Ending> {
-    let sheet = open_input(rt, words.sheet, Device::Sheet)?;
-    let batch = open_input(rt, words.batch, Device::Batch)?;
-    let sheet = text_in(rt, &sheet, Device::Sheet)?;
-    let batch = text_in(rt, &batch, Device::Batch)?;
-    let shown = if words.tsv {
-        show_table(threads, rt.alloc(), &sheet, &batch)
-    } else {
-        show_text(rt.alloc(), &sheet, &batch)
+    let paths = Inputs {
+        sheet: words.sheet,
+        books: "",
+        batch: words.batch,
     };
-    drop((sheet, batch));
+    let texts = read_two(rt, words)?;
+    let shown = if words.tsv {
+        show_table(threads, rt.alloc(), &texts.sheet, &texts.batch)
+    } else {
+        show_text(rt.alloc(), &texts.sheet, &texts.batch)
+    };
+    let shown = shown.map_err(|fault| refused(rt, &paths, &texts, fault));
+    drop(texts);
     print(rt, &shown?)
+}
+
+// Opens sheet and batch file, and then reads them; there are no books.
+fn read_two(rt: &HostRuntime, words: &ShowWords<'_>) -> Result<Inputs<Vec<u8>>, Ending> {
+    let sheet = opened(rt, words.sheet, Device::Sheet)?;
+    let batch = opened(rt, words.batch, Device::Batch)?;
+    Ok(Inputs {
+        sheet: text_in(rt, &sheet, words.sheet, Device::Sheet)?,
+        books: Vec::new(rt.alloc()),
+        batch: text_in(rt, &batch, words.batch, Device::Batch)?,
+    })
+}
+
+// The ending where one of three inputs is refused.
+fn refused(
+    rt: &HostRuntime,
+    paths: &Inputs<&str>,
+    texts: &Inputs<Vec<u8>>,
+    fault: SwitchFault,
+) -> Ending {
+    GivenTexts::of(*paths, some_slices(texts)).refused(rt, fault)
+}
+
+fn some_slices(texts: &Inputs<Vec<u8>>) -> Inputs<Option<&[u8]>> {
+    texts.as_ref().map(|text| Some(text.as_slice()))
 }
 
 /// Prints the waves of a batch file's records, and the chain.
 pub fn plan(rt: &HostRuntime, paths: &Inputs<&str>) -> Result<(), Ending> {
     let texts = open_and_read(rt, paths)?;
     let planned = plan_text(rt.alloc(), &texts.sheet, &texts.books, &texts.batch);
+    let planned = planned.map_err(|fault| refused(rt, paths, &texts, fault));
     drop(texts);
     print(rt, &planned?)
 }
@@ -54,16 +89,57 @@ pub fn sample(rt: &HostRuntime) -> Result<(), Ending> {
     print(rt, &line)
 }
 
-/// Prints the version, which the words ask for.
-pub fn version(rt: &HostRuntime, asked: &WordsFault) -> Result<(), Ending> {
+/// Prints the version or the help, which the words ask for.
+pub fn told(rt: &HostRuntime, asked: &WordsFault) -> Result<(), Ending> {
     print!(rt; "{asked}").map_err(Ending::of_standard_output)
+}
+
+/// Prints the numbers of a refusal in words.
+pub fn fault(rt: &HostRuntime, numbers: &FaultNumbers) -> Result<(), Ending> {
+    let FaultNumbers {
+        kind,
+        within,
+        place,
+    } = *numbers;
+    let alloc = rt.alloc();
+    let line = match fault_numbered(kind, within, place) {
+        Some(SwitchFault::Workers) => String::from_str(alloc, "the workers aren't 1 to 64"),
+        Some(SwitchFault::Stamp) => String::from_str(alloc, "the stamp is no date and time"),
+        Some(fault) => return told_fault(rt, fault),
+        None => {
+            let line = String::from_str(alloc, "no run is refused with these numbers")?;
+            return Err(Ending::Stopped(line));
+        }
+    };
+    print_line(rt, line?)
+}
+
+fn told_fault(rt: &HostRuntime, fault: SwitchFault) -> Result<(), Ending> {
+    let names = Inputs {
+        sheet: "sheet",
+        books: "books",
+        batch: "batch",
+    };
+    let nothing = Inputs {
+        sheet: None,
+        books: None,
+        batch: None,
+    };
+    print_line(rt, GivenTexts::of(names, nothing).words(rt, fault)?)
+}
+
+fn print_line(rt: &HostRuntime, mut line: String) -> Result<(), Ending> {
+    line.push('\n')?;
+    print(rt, line.as_str().as_bytes())
 }
 
 /// Prints a line for each answer of a response file.
 pub fn replies(rt: &HostRuntime, path: &str) -> Result<(), Ending> {
     let bytes = text_of(rt, path, Device::Response)?;
-    let text = replies_text(rt.alloc(), &bytes).map_err(Ending::of_response)?;
-    print(rt, &text)
+    let text = replies_text(rt.alloc(), &bytes);
+    let text = text.map_err(|fault| refused_response(rt, path, &bytes, fault));
+    drop(bytes);
+    print(rt, &text?)
 }
 
 /// Prints why the transactions that are asked for were answered as they were, and whether a response file has these
@@ -86,8 +162,32 @@ pub fn explain<R: Threads + Sync>(
         response.as_ref().map(|text| text.as_slice()),
         manner_by(words),
     );
+    let printed = printed.map_err(|fault| not_explained(
+        rt,
+        words,
+        &texts,
+        response.as_ref(),
+        fault,
+    ));
     drop((texts, response));
     print_outcome(rt, printed?)
+}
+
+// The ending where an input or the response file is refused.
+fn not_explained(
+    rt: &HostRuntime,
+    words: &ExplainWords<'_>,
+    texts: &Inputs<Vec<u8>>,
+    response: Option<&Vec<u8>>,
+    fault: ExplainFault,
+) -> Ending {
+    match (fault, words.response, response) {
+        (ExplainFault::Refused(fault), _, _) => refused(rt, &words.inputs, texts, fault),
+        (ExplainFault::Response(fault), Some(path), Some(text)) => {
+            refused_response(rt, path, text, fault)
+        }
+        (ExplainFault::Response(fault), _, _) => Ending::of_response(fault),
+    }
 }
 
 fn manner_by(words: &ExplainWords<'_>) -> Manner {
@@ -116,26 +216,77 @@ pub fn report<R: Threads + Sync>(
     words: &ReportWords<'_>,
 ) -> Result<(), Ending> {
     let texts = open_and_read(rt, &words.inputs)?;
-    let (portion, form) = (portion_by(words.portion), form_by(words.form));
-    let text = rx_commands::report(threads, rt.alloc(), &slices(&texts), portion, form);
+    let printed = match form_by(words.form) {
+        Some(form) => report_in(rt, threads, words, &texts, form),
+        None => report_page(rt, threads, words, &texts),
+    };
     drop(texts);
-    print(rt, &text?)
+    let printed = printed?;
+    match asked_by(words.portion) {
+        Some((option, id)) if !printed.has_lines => Err(no_lines(rt, option, id)?),
+        _ => print(rt, &printed.text),
+    }
+}
+
+// The option that asks for a portion, and its ID.
+fn asked_by<'a>(words: PortionWords<'a>) -> Option<(&'static str, &'a str)> {
+    match words {
+        PortionWords::Whole => None,
+        PortionWords::Provider(id) => Some(("--provider", id)),
+        PortionWords::Family(id) => Some(("--family", id)),
+    }
+}
+
+// The ending where the batch has no answer to report.
+fn no_lines(rt: &HostRuntime, option: &str, id: &str) -> Result<Ending, Memory> {
+    let shown = shown_path(rt.alloc(), id)?;
+    let line = format!(in rt.alloc(); "{option} {shown}: the batch has no answer of it")?;
+    Ok(Ending::Stopped(line))
+}
+
+// The report as a page, which says its origin.
+fn report_page<R: Threads + Sync>(
+    rt: &HostRuntime,
+    threads: &R,
+    words: &ReportWords<'_>,
+    texts: &Inputs<Vec<u8>>,
+) -> Result<PrintedReport, Ending> {
+    let noted = Noted::of(rt, texts)?;
+    let form = Form::Html(noted.origin(&words.inputs)?);
+    let printed = report_in(rt, threads, words, texts, form);
+    drop(noted);
+    printed
+}
+
+// The report in a form.
+fn report_in<R: Threads + Sync>(
+    rt: &HostRuntime,
+    threads: &R,
+    words: &ReportWords<'_>,
+    texts: &Inputs<Vec<u8>>,
+    form: Form<'_>,
+) -> Result<PrintedReport, Ending> {
+    let portion = portion_by(words.portion);
+    let printed = rx_commands::report(threads, rt.alloc(), &slices(texts), portion, form);
+    printed.map_err(|fault| refused(rt, &words.inputs, texts, fault))
 }
 
 fn portion_by(words: PortionWords<'_>) -> Portion<'_> {
     match words {
         PortionWords::Whole => Portion::Whole,
-        PortionWords::Provider(id) => Portion::Provider(id.as_bytes()),
-        PortionWords::Family(id) => Portion::Family(id.as_bytes()),
+        PortionWords::Provider(id) => provider_asked(id),
+        PortionWords::Family(id) => family_asked(id),
     }
 }
 
-fn form_by(words: FormWords) -> Form {
+// None for a page.
+fn form_by<'a>(words: FormWords) -> Option<Form<'a>> {
     match words {
-        FormWords::Columns => Form::Columns,
-        FormWords::Tsv => Form::Tsv,
-        FormWords::Json => Form::Json,
-        FormWords::Html => Form::Html,
+        FormWords::Columns => Some(Form::Columns),
+        FormWords::Tsv => Some(Form::Tsv),
+        FormWords::Json => Some(Form::Json),
+        FormWords::Jsonl => Some(Form::Jsonl),
+        FormWords::Html => None,
     }
 }
 
@@ -161,6 +312,14 @@ pub fn verify<R: Threads + Wait + Sync>(
         at_desk: words.desk,
     };
     let files = outputs.as_ref().map(|text| text.as_slice());
-    let printed = rx_commands::verify(threads, rt.alloc(), &gate, &job, &files)?;
-    print_outcome(rt, printed)
+    let printed = rx_commands::verify(threads, rt.alloc(), &gate, &job, &files);
+    let given = GivenTexts {
+        paths: words.inputs,
+        texts: some_slices(&inputs),
+        stamp: words.stamp,
+        workers: words.workers,
+    };
+    let printed = printed.map_err(|fault| given.refused(rt, fault));
+    drop((inputs, outputs));
+    print_outcome(rt, printed?)
 }

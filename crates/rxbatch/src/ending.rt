@@ -1,11 +1,10 @@
 use crate::file_fault::{FileFault, ProgramFile, Reason};
 use rx_batch::BatchFault;
 use rx_cli::WordsFault;
-use rx_commands::ExplainFault;
 use rx_fields::Memory;
 use rx_io::Device;
 use rx_switch::{IoFault, SwitchFault, told};
-use std::alloc::Global;
+use std::alloc::{AllocError, Global};
 use std::io;
 use std::io::Write;
 
@@ -16,20 +15,26 @@ pub enum Ending {
     NoText,
     /// These are one regular file, as far as the system says: the files of two options, or one and a standard stream.
     OneFile(&'static str, &'static str),
+    /// The paths of these two options are `-`.
+    TwoStreams(&'static str, &'static str),
     /// The path of this option is there, and leads to no regular file; `--safe` replaces no other.
     NotPlain(&'static str),
+    /// The value of this option isn't what is expected.
+    NoValue(&'static str, &'static str),
     /// The words aren't understood, or memory ran out while they were read.
     Words(WordsFault),
     /// The inputs are refused, or memory ran out.
     Refused(SwitchFault),
     /// A file failed.
     File(FileFault),
-    /// One of these two, with a line in words.
+    /// One of these two, or a text that isn't a response file, with lines in words.
     InWords(Numbers, String),
-    /// The text isn't a response file.
-    Response(BatchFault),
+    /// The same without words.
+    Bare(Numbers),
     /// A check found only warnings.
     Warned,
+    /// A line says why nothing is done, in words.
+    Stopped(String),
     /// No transaction is what was asked for: the line that says so.
     NotFound(Vec<u8>),
     /// A file isn't what the inputs give; what differs was printed.
@@ -43,6 +48,24 @@ pub enum Numbers {
     Refused([u64; 3]),
     /// The number of a file that failed.
     File(u64),
+    /// The number of the fault of a response file, and its place.
+    Response([u64; 2]),
+}
+
+impl From<AllocError> for Ending {
+    fn from(_refused: AllocError) -> Ending {
+        Ending::Refused(SwitchFault::Memory)
+    }
+}
+
+impl Numbers {
+    // The exit status with such a line.
+    fn status(self) -> u8 {
+        match self {
+            Numbers::Refused(_) | Numbers::Response(_) => 1,
+            Numbers::File(_) => 3,
+        }
+    }
 }
 
 impl From<SwitchFault> for Ending {
@@ -57,29 +80,44 @@ impl From<Memory> for Ending {
     }
 }
 
-impl From<ExplainFault> for Ending {
-    fn from(fault: ExplainFault) -> Ending {
-        match fault {
-            ExplainFault::Refused(fault) => Ending::from(fault),
-            ExplainFault::Response(fault) => Ending::of_response(fault),
-        }
-    }
-}
-
 impl Ending {
     /// The ending where a text can't be read as a response file.
     pub fn of_response(fault: BatchFault) -> Ending {
         match fault {
             BatchFault::Memory => Ending::from(Memory),
-            fault => Ending::Response(fault),
+            fault => {
+                let numbers = [u64::from(fault.code()), fault.place().unwrap_or(0)];
+                Ending::Bare(Numbers::Response(numbers))
+            }
+        }
+    }
+
+    /// The same, of a file that failed with its words: the option, this path, and the reason.
+    pub fn at_path(self, rt: &HostRuntime, path: &str) -> Ending {
+        match self {
+            Ending::File(fault) if !fault.is_closed_output() => {
+                match fault.words(rt.alloc(), path) {
+                    Ok(line) => Ending::InWords(Numbers::File(fault.file.number()), line),
+                    Err(Memory) => Ending::File(fault),
+                }
+            }
+            other => other,
+        }
+    }
+
+    /// The same without the words that follow its numbers.
+    pub fn without_words(self) -> Ending {
+        match self {
+            Ending::InWords(numbers, _) => Ending::Bare(numbers),
+            other => other,
         }
     }
 
     /// The ending where a call on an output failed.
-    pub fn of_output(device: Device, error: io::Error) -> Ending {
+    pub fn of_output(file: ProgramFile, error: io::Error) -> Ending {
         match error.kind() {
             io::ErrorKind::OutOfMemory => Ending::from(Memory),
-            _ => Ending::File(FileFault::of(device, error)),
+            _ => Ending::File(FileFault::of(file, error)),
         }
     }
 
@@ -97,10 +135,21 @@ impl Ending {
         Ending::File(FileFault { file, reason })
     }
 
+    /// The same ending, of another file.
+    pub fn of_file(self, file: ProgramFile) -> Ending {
+        match self {
+            Ending::File(fault) => Ending::File(FileFault {
+                file,
+                reason: fault.reason,
+            }),
+            ending => ending,
+        }
+    }
+
     /// The ending where another run has an output.
-    pub fn busy(device: Device) -> Ending {
+    pub fn busy(file: ProgramFile) -> Ending {
         Ending::File(FileFault {
-            file: ProgramFile::Of(device),
+            file,
             reason: Reason::Busy,
         })
     }
@@ -125,13 +174,15 @@ impl Ending {
     /// there, 5 where a file differs.
     pub fn status(&self) -> u8 {
         match self {
-            Ending::NoText | Ending::OneFile(..) | Ending::NotPlain(_) => 2,
+            Ending::NoText | Ending::OneFile(..) | Ending::TwoStreams(..) | Ending::NotPlain(_) =>
+                2,
+            Ending::NoValue(..) => 2,
             Ending::Words(WordsFault::Words(_)) => 2,
             Ending::Words(WordsFault::Memory) => 1,
-            Ending::Refused(_) | Ending::InWords(Numbers::Refused(_), _) => 1,
-            Ending::File(_) | Ending::InWords(Numbers::File(_), _) => 3,
-            Ending::Response(_) => 1,
-            Ending::Warned | Ending::NotFound(_) => 4,
+            Ending::Refused(_) => 1,
+            Ending::File(_) => 3,
+            Ending::InWords(numbers, _) | Ending::Bare(numbers) => numbers.status(),
+            Ending::Warned | Ending::Stopped(_) | Ending::NotFound(_) => 4,
             Ending::Differs => 5,
         }
     }
@@ -141,7 +192,7 @@ impl Ending {
         match self {
             Ending::Refused(fault) => Some(numbers_of(*fault)),
             Ending::File(fault) => Some(Numbers::File(fault.file.number())),
-            Ending::InWords(numbers, _) => Some(*numbers),
+            Ending::InWords(numbers, _) | Ending::Bare(numbers) => Some(*numbers),
             _ => None,
         }
     }
@@ -172,7 +223,13 @@ impl Ending {
             Ending::OneFile(one, other) => eprintln!(rt;
                 "rxbatch: {one} and {other} are the same file"
             ),
+            Ending::TwoStreams(one, other) => eprintln!(rt;
+                "rxbatch: {one} and {other} are both -: only one path may be (/dev/stdin and /dev/stdout are the same streams)"
+            ),
             Ending::NotPlain(one) => eprintln!(rt; "rxbatch: {one} isn't a regular file"),
+            Ending::NoValue(option, expected) => {
+                eprintln!(rt; "rxbatch: {option}: expected {expected}")
+            }
             Ending::Words(fault) => eprint!(rt; "{fault}"),
             Ending::Refused(fault) => tell_numbers(rt, numbers_of(*fault)),
             Ending::File(fault) if fault.is_closed_output() => Ok(()),
@@ -181,18 +238,16 @@ impl Ending {
                 let _ = tell_numbers(rt, *numbers);
                 eprintln!(rt; "{line}")
             }
-            Ending::Response(fault) => {
-                let (number, place) = (fault.code(), fault.place().unwrap_or(0));
-                eprintln!(rt; "response {number} {place}")
-            }
+            Ending::Bare(numbers) => tell_numbers(rt, *numbers),
+            Ending::Stopped(line) => eprintln!(rt; "rxbatch: {line}"),
             Ending::NotFound(line) => rt.stderr().write_all(line.as_slice()),
             Ending::Warned | Ending::Differs => Ok(()),
         };
     }
 }
 
-// The three numbers of a refusal.
-fn numbers_of(refused: SwitchFault) -> Numbers {
+/// The three numbers of a refusal.
+pub fn numbers_of(refused: SwitchFault) -> Numbers {
     Numbers::Refused(told(&IoFault::Switch(refused)).numbers)
 }
 
@@ -201,12 +256,18 @@ fn tell_numbers(rt: &HostRuntime, numbers: Numbers) -> io::Result<()> {
     match numbers {
         Numbers::Refused(numbers) => tell_refusal(rt, numbers),
         Numbers::File(number) => tell_file(rt, number),
+        Numbers::Response(numbers) => tell_response(rt, numbers),
     }
 }
 
 fn tell_refusal(rt: &HostRuntime, numbers: [u64; 3]) -> io::Result<()> {
     let [first, second, third] = numbers;
     eprintln!(rt; "refused {first} {second} {third}")
+}
+
+fn tell_response(rt: &HostRuntime, numbers: [u64; 2]) -> io::Result<()> {
+    let [number, place] = numbers;
+    eprintln!(rt; "response {number} {place}")
 }
 
 fn tell_file(rt: &HostRuntime, number: u64) -> io::Result<()> {

@@ -1,16 +1,16 @@
 use crate::ending::{Ending, Numbers};
 use crate::file_fault::{FileFault, ProgramFile};
 use crate::read_again::ReadInputs;
+use crate::settings::RunSettings;
 use crate::shown_path::shown_path;
 use rx_check::{Input, RunInputs, fault_words};
-use rx_cli::RunWords;
 use rx_fields::{MOST_LINES, Memory};
 use rx_io::{Device, Inputs};
 use rx_run_log::Traffic;
 use rx_switch::SwitchFault;
 
 /// The ending of a run of which a file failed, with a line in words after its number.
-pub fn explained(rt: &HostRuntime, words: &RunWords<'_>, fault: FileFault) -> Ending {
+pub fn explained(rt: &HostRuntime, words: &RunSettings<'_>, fault: FileFault) -> Ending {
     match file_words(rt, words, &fault) {
         Ok(line) => Ending::InWords(Numbers::File(fault.file.number()), line),
         Err(Memory) => Ending::File(fault),
@@ -20,25 +20,25 @@ pub fn explained(rt: &HostRuntime, words: &RunWords<'_>, fault: FileFault) -> En
 /// A file that failed, in words.
 pub fn file_words(
     rt: &HostRuntime,
-    words: &RunWords<'_>,
+    words: &RunSettings<'_>,
     fault: &FileFault,
 ) -> Result<String, Memory> {
     let path = match fault.file {
         ProgramFile::Of(device) => path_of(words, device),
         ProgramFile::Log => words.log.unwrap_or(""),
-        ProgramFile::Output => "",
+        ProgramFile::Output | ProgramFile::Members | ProgramFile::Dropped => "",
     };
     fault.words(rt.alloc(), path)
 }
 
 /// What an operator should know of end books with this number of lines, in words; none where a run can read them.
-pub fn long_books_words(rt: &HostRuntime, words: &RunWords<'_>, lines: u64) -> Option<String> {
+pub fn long_books_words(rt: &HostRuntime, words: &RunSettings<'_>, lines: u64) -> Option<String> {
     if lines <= MOST_LINES as u64 {
         return None;
     }
     let shown = shown_path(rt.alloc(), words.outputs.books).ok()?;
     format!(in rt.alloc();
-        "--books-out {shown}: {lines} lines, and no run reads books of more than {MOST_LINES}"
+        "--books-out {shown}: {lines} lines, and no run reads books of more than {MOST_LINES} (age takes claims out)"
     ).ok()
 }
 
@@ -46,7 +46,7 @@ pub fn long_books_words(rt: &HostRuntime, words: &RunWords<'_>, lines: u64) -> O
 /// bytes by now, is described without a quotation.
 pub fn refused_words(
     rt: &HostRuntime,
-    words: &RunWords<'_>,
+    words: &RunSettings<'_>,
     refused: SwitchFault,
     read: &ReadInputs<'_>,
     traffic: &Inputs<Traffic>,
@@ -61,7 +61,7 @@ pub fn refused_words(
     fault_words(
         alloc,
         refused,
-        &run_inputs(&names, &text, words.stamp, words.workers),
+        &run_inputs(&names, &text, words.stamp, words.manner.workers),
     )
 }
 
@@ -94,7 +94,7 @@ fn given<'a>(name: &'a str, text: &'a Option<Vec<u8>>) -> Input<'a> {
     }
 }
 
-fn path_of<'a>(words: &RunWords<'a>, device: Device) -> &'a str {
+fn path_of<'a>(words: &RunSettings<'a>, device: Device) -> &'a str {
     match (words.inputs.get(device), words.outputs.get(device)) {
         (Some(path), _) | (None, Some(path)) => path,
         (None, None) => "",

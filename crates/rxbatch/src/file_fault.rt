@@ -12,6 +12,10 @@ pub enum ProgramFile {
     Of(Device),
     /// The log of a run.
     Log,
+    /// A table of members.
+    Members,
+    /// The claims that left books.
+    Dropped,
     /// Standard output.
     Output,
 }
@@ -22,6 +26,8 @@ impl ProgramFile {
         match self {
             ProgramFile::Of(device) => u64::from(device.number()),
             ProgramFile::Log => 7,
+            ProgramFile::Members => 8,
+            ProgramFile::Dropped => 9,
             ProgramFile::Output => 0,
         }
     }
@@ -31,6 +37,8 @@ impl ProgramFile {
         match self {
             ProgramFile::Of(device) => device.option(),
             ProgramFile::Log => "--log",
+            ProgramFile::Members => "--members",
+            ProgramFile::Dropped => "--dropped",
             ProgramFile::Output => "standard output",
         }
     }
@@ -59,10 +67,10 @@ pub struct FileFault {
 }
 
 impl FileFault {
-    /// Of a file of a run, for which a call answered this.
-    pub fn of(device: Device, error: io::Error) -> FileFault {
+    /// Of a file for which a call answered this.
+    pub fn of(file: ProgramFile, error: io::Error) -> FileFault {
         FileFault {
-            file: ProgramFile::Of(device),
+            file,
             reason: Reason::System(error),
         }
     }
@@ -84,9 +92,16 @@ impl FileFault {
 
     /// The fault in words: the option, the path as it is shown, and the reason.
     pub fn words(&self, alloc: Global, path: &str) -> Result<String, Memory> {
-        let option = self.file.option();
-        let shown = shown_path(alloc, path)?;
+        self.words_of(alloc, self.file.option(), path)
+    }
+
+    /// The same of what another option names.
+    pub fn words_of(&self, alloc: Global, option: &str, path: &str) -> Result<String, Memory> {
         let reason = self.reason.words(alloc)?;
+        if self.file == ProgramFile::Output {
+            return Ok(format!(in alloc; "{option}: {reason}")?);
+        }
+        let shown = shown_path(alloc, path)?;
         Ok(format!(in alloc; "{option} {shown}: {reason}")?)
     }
 }

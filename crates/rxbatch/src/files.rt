@@ -1,12 +1,24 @@
 use crate::ending::Ending;
-use crate::file_fault::FileFault;
+use crate::file_fault::{FileFault, ProgramFile};
 use rx_io::{Device, Inputs};
 use std::fs;
 use std::fs::File;
 
-/// The file, opened for reading; one that can't be opened is a fault of it.
+/// The path that names standard input of an input, and standard output of an output.
+pub const STREAM: &str = "-";
+
+// Another name of standard output, which is added to under this name too.
+const STANDARD_OUTPUT: &str = "/dev/stdout";
+
+/// Whether an output's path names standard output.
+pub fn names_stream(path: &str) -> bool {
+    path == STREAM || path == STANDARD_OUTPUT
+}
+
+/// The file, opened for reading, or standard input; one that can't be opened is a fault of it.
 pub fn open_input(rt: &HostRuntime, path: &str, device: Device) -> Result<File, Ending> {
-    fs::open(rt, path).map_err(|error| Ending::File(FileFault::of(device, error)))
+    let path = if path == STREAM { "/dev/stdin" } else { path };
+    fs::open(rt, path).map_err(|error| Ending::File(FileFault::of(ProgramFile::Of(device), error)))
 }
 
 /// Opens the inputs, in the order of their numbers.

@@ -2,8 +2,8 @@
 use crate::ending::Ending;
 use crate::nodes::Node;
 use crate::output_file::OutputFile;
+use crate::settings::RunSettings;
 use crate::streams::stream_of;
-use rx_cli::RunWords;
 use rx_io::Device;
 use std::io::Write;
 use std::{fs, io};
@@ -17,7 +17,7 @@ pub struct LogFile {
 impl LogFile {
     /// Opens the file, which is made where it isn't there. One that is another file of the run or that a standard stream
     /// leads to, as far as the system says, is refused.
-    pub fn open(rt: &HostRuntime, path: &str, words: &RunWords<'_>) -> Result<LogFile, Ending> {
+    pub fn open(rt: &HostRuntime, path: &str, words: &RunSettings<'_>) -> Result<LogFile, Ending> {
         let output = OutputFile::open_to_append(rt, path).map_err(Ending::of_log)?;
         let log = LogFile { output };
         if let Some(other) = log.other_name(rt, words) {
@@ -33,7 +33,7 @@ impl LogFile {
     }
 
     // The option of the run's file, or the standard stream, that is this one.
-    fn other_name(&self, rt: &HostRuntime, words: &RunWords<'_>) -> Option<&'static str> {
+    fn other_name(&self, rt: &HostRuntime, words: &RunSettings<'_>) -> Option<&'static str> {
         let node = self.node();
         let (inputs, outputs) = (words.inputs, words.outputs);
         let files = [

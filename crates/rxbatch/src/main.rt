@@ -1,8 +1,10 @@
 //! The program `rxbatch`: a pharmacy batch adjudicator (docs/CLI.md, "Commands").
 //!
 //! ```text
-//! rxbatch run --sheet F --books F --batch F --stamp S --workers N --response F --books-out F --settlement F [--plain]
-//!     [--desk] [--safe] [--log F [--sums]] [-v]
+//! rxbatch adjudicate --sheet F --books F --batch F --out DIR [--stamp S] [--workers N] [--again] [--strict] [--quiet]
+//!                                                   checks and adjudicates a batch, the outputs in a folder
+//! rxbatch run --sheet F --books F --batch F [--stamp S] [--workers N] --response F --books-out F --settlement F [--plain]
+//!     [--desk] [--safe] [--log F [--sums]] [-v]     adjudicates a batch
 //! rxbatch show --sheet F --batch F [--tsv]          a line for each transaction
 //! rxbatch plan --sheet F --books F --batch F        the waves of the records, and the chain
 //! rxbatch check --sheet F [--books F] [--batch F]   the faults of these files in words, and warnings
@@ -10,9 +12,15 @@
 //!     [--response F] [--json]                       why a claim was answered as it was
 //! rxbatch verify --sheet F --books F --batch F --stamp S --response F --books-out F --settlement F [--plain]
 //!     [--desk] [--workers N]                        whether the files of a run are what it gives
-//! rxbatch report --sheet F --books F --batch F [--provider ID | --family ID] [--tsv | --json | --html]
+//! rxbatch report --sheet F --books F --batch F [--provider ID | --family ID] [--tsv | --json | --jsonl | --html]
 //!                                                   a line for each answer, by provider, with counts and net
+//! rxbatch members (--books F | --period FIRST-LAST) --members F --books-out F [--safe]
+//!                                                   a table of members loaded into books
+//! rxbatch age --books F --before DAY [--period FIRST-LAST] (--sheet F | --refill-percent N) --books-out F --dropped F
+//!     [--safe]                                      books without the claims before a day
 //! rxbatch replies --response F                      a line for each answer of a response file
+//! rxbatch fault N M P                               the numbers of a refusal in words
+//! rxbatch help                                      the help, on standard output
 //! rxbatch sample                                    the reply to the base claim, on one line
 //! rxbatch --version                                 the version, and the kit that proved it
 //! ```
@@ -21,6 +29,7 @@
 //! `rx_commands`, `rx_show` or `rx_switch`. Here files are opened and read, and texts, refusals and exit statuses written.
 #![tactic(auto)]
 
+mod adjudicate;
 mod beside_file;
 mod check_files;
 mod code_counts;
@@ -30,31 +39,44 @@ mod fault_line;
 mod file_fault;
 mod files;
 mod in_place;
+mod kept_file;
 mod log_file;
+mod moment;
+mod negative_workers;
 mod nodes;
 mod noted_file;
+mod origin;
 mod output_file;
 mod outputs;
 mod places;
 mod read_again;
+mod refused_text;
 mod run_files;
 mod run_gate;
 mod safe_files;
+mod settings;
 mod shown_path;
 mod standard_output;
 mod streams;
 mod teller;
 mod texts;
 mod told_source;
+mod two_streams;
+mod upkeep_files;
+mod upkeep_values;
+mod upkeep_words;
 mod watched_run;
 
 use ending::Ending;
+use negative_workers::tell_negative_workers;
 use rx_cli::{Command, WordsFault, command};
+use std::io::IsTerminal;
 use std::process::ExitCode;
 use std::sync::Wait;
 use std::thread::Threads;
 use std::{env, io};
 use streams::TakenStreams;
+use two_streams::two_streams;
 
 fn main(rt: HostRuntime) -> ExitCode {
     let _streams = TakenStreams::take(&rt);
@@ -70,18 +92,56 @@ fn main(rt: HostRuntime) -> ExitCode {
 // Does what the words ask for; a run starts its threads with the second handle.
 fn perform<R: Threads + Wait + Sync>(rt: &HostRuntime, threads: &R) -> Result<(), Ending> {
     let words = words(rt)?;
-    match command(rt.alloc(), words.as_slice()) {
+    let asked = command(rt.alloc(), words.as_slice());
+    if may_name_paths(&asked) {
+        if let Some((one, other)) = two_streams(words.as_slice()) {
+            return Err(Ending::TwoStreams(one, other));
+        }
+    }
+    match asked {
         Ok(Command::Run(words)) => run_files::run(rt, threads, &words),
-        Ok(Command::Show(words)) => commands::show(rt, threads, &words),
-        Ok(Command::Sample) => commands::sample(rt),
-        Ok(Command::Plan(words)) => commands::plan(rt, &words),
+        Ok(Command::Adjudicate(words)) => adjudicate::adjudicate(rt, threads, &words),
+        Ok(Command::Fault(numbers)) => commands::fault(rt, &numbers),
+        Ok(Command::Show(words)) => for_programs(rt, commands::show(rt, threads, &words)),
+        Ok(Command::Sample) => for_programs(rt, commands::sample(rt)),
+        Ok(Command::Plan(words)) => for_programs(rt, commands::plan(rt, &words)),
         Ok(Command::Check(words)) => check_files::check(rt, &words),
         Ok(Command::Explain(words)) => commands::explain(rt, threads, &words),
         Ok(Command::Verify(words)) => commands::verify(rt, threads, &words),
         Ok(Command::Report(words)) => commands::report(rt, threads, &words),
+        Ok(Command::Members(words)) => upkeep_files::members(rt, &words),
+        Ok(Command::Age(words)) => upkeep_files::age(rt, &words),
         Ok(Command::Replies(path)) => commands::replies(rt, path),
-        Err(fault) if fault.is_version() => commands::version(rt, &fault),
-        Err(fault) => Err(Ending::Words(fault)),
+        Err(fault) if fault.is_version() => commands::told(rt, &fault),
+        Err(fault) if fault.is_help() && names_help(&words) => commands::told(rt, &fault),
+        Err(fault) => {
+            tell_negative_workers(rt, words.as_slice());
+            Err(Ending::Words(fault))
+        }
+    }
+}
+
+// Whether the words are understood, one path that stands twice aside.
+fn may_name_paths(asked: &Result<Command<'_>, WordsFault>) -> bool {
+    match asked {
+        Ok(_) | Err(WordsFault::Words(None)) => true,
+        Err(_) => false,
+    }
+}
+
+// The ending of a command that programs call: its line of numbers, and on a terminal the words too.
+fn for_programs(rt: &HostRuntime, done: Result<(), Ending>) -> Result<(), Ending> {
+    if rt.stderr().is_terminal() {
+        return done;
+    }
+    done.map_err(Ending::without_words)
+}
+
+// Whether the word after the program's name is `help`.
+fn names_help(words: &Vec<String>) -> bool {
+    match words.get(1) {
+        Some(word) => word.as_str() == "help",
+        None => false,
     }
 }
 

@@ -1,5 +1,6 @@
 //! An output that is written where it stands, and the log.
 use crate::beside_file::{make_new, remove_same};
+use crate::files::names_stream;
 use crate::places::{followed_path, keep_folder};
 use std::fs::{File, OpenOptions};
 use std::io;
@@ -15,11 +16,21 @@ pub struct OutputFile {
     pub file: File,
     // Where this run made it, if it wasn't there.
     made: Option<PathBuf>,
+    // It is standard output, which is added to.
+    is_stream: bool,
 }
 
 impl OutputFile {
-    /// Opens the file, which is made where it isn't there, with rights for its owner only.
+    /// Opens the file, which is made where it isn't there, with rights for its owner only; or standard output.
     pub fn open(rt: &HostRuntime, path: &str) -> io::Result<OutputFile> {
+        if names_stream(path) {
+            let file = OpenOptions::new().append(true).open(rt, "/dev/stdout")?;
+            return Ok(OutputFile {
+                file,
+                made: None,
+                is_stream: true,
+            });
+        }
         OutputFile::open_as(rt, path, false)
     }
 
@@ -35,7 +46,13 @@ impl OutputFile {
                 .append(is_appended)
                 .open(rt, path);
             match found {
-                Ok(file) => return Ok(OutputFile { file, made: None }),
+                Ok(file) => {
+                    return Ok(OutputFile {
+                        file,
+                        made: None,
+                        is_stream: false,
+                    });
+                }
                 Err(error) if error.kind() == ErrorKind::NotFound => {}
                 Err(error) => return Err(error),
             }
@@ -45,6 +62,7 @@ impl OutputFile {
                     return Ok(OutputFile {
                         file,
                         made: Some(place),
+                        is_stream: false,
                     });
                 }
                 Err(error) if error.kind() == ErrorKind::AlreadyExists => {}
@@ -54,9 +72,9 @@ impl OutputFile {
         Err(io::Error::from(ErrorKind::AlreadyExists))
     }
 
-    /// Empties a regular file.
+    /// Empties a regular file that has a path.
     pub fn empty(&self) -> io::Result<()> {
-        if self.file.metadata()?.is_file() {
+        if !self.is_stream && self.file.metadata()?.is_file() {
             self.file.set_len(0)
         } else {
             Ok(())

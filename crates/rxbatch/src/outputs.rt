@@ -3,7 +3,7 @@ use crate::ending::Ending;
 use crate::in_place::InPlace;
 use crate::nodes::Node;
 use crate::safe_files::{SafeFile, discard_each, finish_each, open_safe_files};
-use rx_cli::RunWords;
+use crate::settings::RunSettings;
 use rx_io::Outputs;
 use std::fs::File;
 
@@ -21,11 +21,11 @@ impl RunOutputs {
     /// run has opened, is taken for one that a killed run left.
     pub fn open(
         rt: &HostRuntime,
-        words: &RunWords<'_>,
+        words: &RunSettings<'_>,
         kept: &[Node],
     ) -> Result<RunOutputs, Ending> {
         let paths = &words.outputs;
-        if words.safe {
+        if words.manner.safe {
             Ok(RunOutputs::Beside(open_safe_files(rt, paths, kept)?))
         } else {
             Ok(RunOutputs::InPlace(InPlace::open(rt, paths, kept)?))

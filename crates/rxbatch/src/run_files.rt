@@ -1,28 +1,58 @@
 use crate::ending::Ending;
 use crate::fault_line::{explained, long_books_words};
-use crate::files::open_inputs;
+use crate::file_fault::{FileFault, ProgramFile};
+use crate::files::{names_stream, open_inputs};
+use crate::moment::{stamp_or_now, workers_or_all};
 use crate::nodes::{Node, one_file_twice};
 use crate::noted_file::{CountedFile, LastError, LinesWritten, noted_input, noted_output};
 use crate::outputs::RunOutputs;
 use crate::run_gate::RunGate;
+use crate::settings::{RunManner, RunPlan, RunSettings};
 use crate::streams::stream_of;
 use crate::watched_run;
+use rx_check::stamp_line;
 use rx_cli::RunWords;
 use rx_io::{Device, Inputs, Outputs, WriterSink};
 use rx_switch::run_io;
 use std::cell::Cell;
 use std::fs::File;
+use std::io::IsTerminal;
 use std::sync::Wait;
 use std::thread::Threads;
 
-/// Adjudicates a batch file. A file that failed is reported in words too where that is asked for, and always where another run
-/// has it; so are end books that have more lines than a run reads.
+/// Adjudicates a batch file, as the words of `run` say. A fault is reported in words too where that is asked for, and on a
+/// terminal.
 pub fn run<R: Threads + Wait + Sync>(
     rt: &HostRuntime,
     threads: &R,
     words: &RunWords<'_>,
 ) -> Result<(), Ending> {
-    let done = if words.verbose || words.log.is_some() {
+    let stamp = stamp_or_now(rt, words.stamp)?;
+    let workers = workers_or_all(threads, words.workers);
+    let tells_words = words.verbose || rt.stderr().is_terminal();
+    if words.verbose && words.stamp.is_none() {
+        tell_stamp(rt, stamp.as_str());
+    }
+    let manner = RunManner::of_run(words, workers, tells_words);
+    let plan = RunPlan::of_run(rt.alloc(), words, stamp, manner)?;
+    run_as(rt, threads, &plan.settings(None))
+}
+
+/// Says which stamp a run has.
+pub fn tell_stamp(rt: &HostRuntime, stamp: &str) {
+    if let Ok(line) = stamp_line(rt.alloc(), stamp) {
+        let _ = eprintln!(rt; "{line}");
+    }
+}
+
+/// Adjudicates a batch file. A file that failed is reported in words too where that is asked for, and always where another run
+/// has it; so are end books that have more lines than a run reads.
+pub fn run_as<R: Threads + Wait + Sync>(
+    rt: &HostRuntime,
+    threads: &R,
+    words: &RunSettings<'_>,
+) -> Result<(), Ending> {
+    let done = if words.manner.tells_words || words.manner.tells_end || words.log.is_some() {
         watched_run::run(rt, threads, words)
     } else {
         unwatched(rt, threads, words)
@@ -34,7 +64,7 @@ pub fn run<R: Threads + Wait + Sync>(
             }
             Ok(())
         }
-        Err(Ending::File(fault)) if words.verbose || fault.is_busy() => {
+        Err(Ending::File(fault)) if words.manner.tells_words || fault.is_busy() => {
             Err(explained(rt, words, fault))
         }
         Err(ending) => Err(ending),
@@ -45,7 +75,7 @@ pub fn run<R: Threads + Wait + Sync>(
 fn unwatched<R: Threads + Wait + Sync>(
     rt: &HostRuntime,
     threads: &R,
-    words: &RunWords<'_>,
+    words: &RunSettings<'_>,
 ) -> Result<u64, Ending> {
     let RunFiles { inputs, outputs } = RunFiles::open(rt, words, Node::Other)?;
     let lines: LinesWritten = Cell::new(0);
@@ -64,12 +94,15 @@ pub struct RunFiles {
 impl RunFiles {
     /// Opens the inputs, then the outputs, and makes them ready where no output is another of the six files, nor one that a
     /// standard stream leads to. The log is opened already.
-    pub fn open(rt: &HostRuntime, words: &RunWords<'_>, log: Node) -> Result<RunFiles, Ending> {
-        let inputs = open_inputs(rt, &words.inputs)?;
+    pub fn open(rt: &HostRuntime, words: &RunSettings<'_>, log: Node) -> Result<RunFiles, Ending> {
+        let inputs = match words.opened {
+            Some(files) => same_files(files)?,
+            None => open_inputs(rt, &words.inputs)?,
+        };
         let nodes = inputs.as_ref().map(|file| Node::of(file));
         let kept = [nodes.sheet, nodes.books, nodes.batch, log];
         let outputs = RunOutputs::open(rt, words, &kept)?;
-        if let Some((one, other)) = one_twice(rt, nodes, &outputs) {
+        if let Some((one, other)) = one_twice(rt, words, nodes, &outputs) {
             outputs.remove_made(rt);
             return Err(Ending::OneFile(one, other));
         }
@@ -83,9 +116,20 @@ impl RunFiles {
     }
 }
 
+// The same open files, under descriptors of their own.
+fn same_files(files: &Inputs<File>) -> Result<Inputs<File>, Ending> {
+    files.as_ref().try_map(|device, file| {
+        file.try_clone().map_err(|error| Ending::File(FileFault::of(
+            ProgramFile::Of(device),
+            error,
+        )))
+    })
+}
+
 // What an output is, as far as the system says, and the output's option.
 fn one_twice(
     rt: &HostRuntime,
+    words: &RunSettings<'_>,
     inputs: Inputs<Node>,
     outputs: &RunOutputs,
 ) -> Option<(&'static str, &'static str)> {
@@ -93,12 +137,16 @@ fn one_twice(
     if let Some(options) = one_file_twice(inputs, outputs) {
         return Some(options);
     }
+    let paths = &words.outputs;
     let nodes = [
-        (Device::Response, outputs.response),
-        (Device::EndBooks, outputs.books),
-        (Device::Settlement, outputs.settlement),
+        (Device::Response, paths.response, outputs.response),
+        (Device::EndBooks, paths.books, outputs.books),
+        (Device::Settlement, paths.settlement, outputs.settlement),
     ];
-    for (device, node) in nodes {
+    for (device, path, node) in nodes {
+        if names_stream(path) {
+            continue;
+        }
         if let Some(stream) = stream_of(rt, node) {
             return Some((device.option(), stream));
         }
@@ -110,7 +158,7 @@ fn one_twice(
 fn on_files<R: Threads + Wait + Sync>(
     rt: &HostRuntime,
     threads: &R,
-    words: &RunWords<'_>,
+    words: &RunSettings<'_>,
     inputs: &Inputs<File>,
     outputs: &RunOutputs,
     lines: &LinesWritten,
@@ -124,15 +172,15 @@ fn on_files<R: Threads + Wait + Sync>(
         settlement: noted_output(files.settlement, &last),
     };
     let gate = RunGate {
-        at_desk: words.desk,
+        at_desk: words.manner.desk,
     };
     let done = run_io(
         threads,
         rt.alloc(),
         &gate,
         words.stamp.as_bytes(),
-        words.workers,
-        words.plain,
+        words.manner.workers,
+        words.manner.plain,
         &mut sources,
         &mut sinks,
     );

@@ -1,5 +1,5 @@
 //! The gate of a run that nobody watches.
-use rx_wave::Gate;
+use rx_wave::{Gate, NoGate};
 
 /// It starts every worker and does nothing. At a desk the records are issued one by one, else they go in shards.
 #[derive(Clone, Copy)]
@@ -12,13 +12,17 @@ impl Gate for RunGate {
 
     ghost starts = { λ _ _. true };
 
-    fn start(&self, _worker: usize) -> bool {
-        true
+    fn start(&self, worker: usize) -> bool {
+        NoGate.start(worker)
     }
 
-    fn enter(&self, _place: usize) {}
+    fn enter(&self, place: usize) {
+        NoGate.enter(place);
+    }
 
-    fn leave(&self, _place: usize) {}
+    fn leave(&self, place: usize) {
+        NoGate.leave(place);
+    }
 
     fn holds_up(&self) -> bool {
         self.at_desk

@@ -2,6 +2,7 @@
 use crate::beside_file::{BesideFile, NotMade};
 use crate::ending::Ending;
 use crate::file_fault::{FileFault, ProgramFile, Reason};
+use crate::files::names_stream;
 use crate::nodes::Node;
 use crate::places::{Found, new_path};
 use rx_io::{Device, Outputs};
@@ -15,7 +16,7 @@ use std::{fs, io};
 #[derive(Drop)]
 pub struct SafeFile {
     beside: BesideFile,
-    device: Device,
+    name: ProgramFile,
     // The path, with no link in it.
     path: PathBuf,
     // The folder of both.
@@ -24,29 +25,32 @@ pub struct SafeFile {
     earlier: Node,
 }
 
-// The files that a run has opened, and those that it made next to its outputs.
+/// The files that a run has opened, and those that it made next to its outputs.
 #[derive(Clone, Copy)]
-struct SoFar<'a> {
-    kept: &'a [Node],
-    made: &'a [&'a SafeFile],
+pub struct SoFar<'a> {
+    pub kept: &'a [Node],
+    pub made: &'a [&'a SafeFile],
 }
 
 impl SafeFile {
-    // Makes the file; one that can't be made is a fault of the output.
-    fn open(
+    /// Makes the file; one that can't be made is a fault of the output.
+    pub fn open(
         rt: &HostRuntime,
         path: &str,
-        device: Device,
+        name: ProgramFile,
         so_far: &SoFar<'_>,
     ) -> Result<SafeFile, Ending> {
-        let failed = |error: io::Error| Ending::of_output(device, error);
+        if names_stream(path) {
+            return Err(Ending::NotPlain(name.option()));
+        }
+        let failed = |error: io::Error| Ending::of_output(name, error);
         match Found::at(rt, path).map_err(failed)? {
-            Found::Plain(path) => SafeFile::over(rt, path, device, so_far),
+            Found::Plain(path) => SafeFile::over(rt, path, name, so_far),
             Found::Nothing => {
                 let path = new_path(rt, path).map_err(failed)?;
-                SafeFile::beside(rt, path, device, so_far)
+                SafeFile::beside(rt, path, name, so_far)
             }
-            Found::DeadLink | Found::Other => Err(Ending::NotPlain(device.option())),
+            Found::DeadLink | Found::Other => Err(Ending::NotPlain(name.option())),
         }
     }
 
@@ -54,15 +58,15 @@ impl SafeFile {
     fn over(
         rt: &HostRuntime,
         path: PathBuf,
-        device: Device,
+        name: ProgramFile,
         so_far: &SoFar<'_>,
     ) -> Result<SafeFile, Ending> {
-        let mut safe = SafeFile::beside(rt, path, device, so_far)?;
+        let mut safe = SafeFile::beside(rt, path, name, so_far)?;
         match safe.take_over(rt) {
             Ok(()) => Ok(safe),
             Err(error) => {
                 safe.discard(rt);
-                Err(Ending::of_output(device, error))
+                Err(Ending::of_output(name, error))
             }
         }
     }
@@ -85,26 +89,26 @@ impl SafeFile {
     fn beside(
         rt: &HostRuntime,
         path: PathBuf,
-        device: Device,
+        name: ProgramFile,
         so_far: &SoFar<'_>,
     ) -> Result<SafeFile, Ending> {
-        let (Some(parent), Some(name)) = (path.parent(), path.file_name()) else {
+        let (Some(parent), Some(last)) = (path.parent(), path.file_name()) else {
             let error = io::Error::from(ErrorKind::InvalidInput);
-            return Err(Ending::of_output(device, error));
+            return Err(Ending::of_output(name, error));
         };
         let folder = fs::open(rt, parent).map_err(|error: io::Error| Ending::of_output(
-            device, error,
+            name, error,
         ))?;
-        match BesideFile::make(rt, parent, name, so_far.kept) {
+        match BesideFile::make(rt, parent, last, so_far.kept) {
             Ok(beside) => Ok(SafeFile {
                 beside,
-                device,
+                name,
                 path,
                 folder,
                 earlier: Node::Other,
             }),
-            Err(NotMade::Held(node)) => Err(held(device, node, so_far.made)),
-            Err(NotMade::Failed(error)) => Err(Ending::of_output(device, error)),
+            Err(NotMade::Held(node)) => Err(held(name, node, so_far.made)),
+            Err(NotMade::Failed(error)) => Err(Ending::of_output(name, error)),
         }
     }
 
@@ -118,42 +122,42 @@ impl SafeFile {
         self.earlier
     }
 
-    // Removes the file again, where it hasn't got its path.
-    fn discard(self, rt: &HostRuntime) {
+    /// Removes the file again, where it hasn't got its path.
+    pub fn discard(self, rt: &HostRuntime) {
         self.beside.remove(rt);
     }
 
-    // Brings the bytes to the disk.
-    fn keep(&self) -> Result<(), Ending> {
+    /// Brings the bytes to the disk.
+    pub fn keep(&self) -> Result<(), Ending> {
         self.file()
             .sync_all()
-            .map_err(|error| Ending::of_output(self.device, error))
+            .map_err(|error| Ending::of_output(self.name, error))
     }
 
-    // Gives the file its path.
-    fn rename(&mut self, rt: &HostRuntime) -> Result<(), Ending> {
+    /// Gives the file its path.
+    pub fn rename(&mut self, rt: &HostRuntime) -> Result<(), Ending> {
         self.beside
             .rename(rt, self.path.as_path())
-            .map_err(|error| Ending::of_output(self.device, error))
+            .map_err(|error| Ending::of_output(self.name, error))
     }
 
-    // Brings the new name to the disk.
-    fn keep_name(&self) -> Result<(), Ending> {
+    /// Brings the new name to the disk.
+    pub fn keep_name(&self) -> Result<(), Ending> {
         self.folder
             .sync_all()
-            .map_err(|error| Ending::of_output(self.device, error))
+            .map_err(|error| Ending::of_output(self.name, error))
     }
 
-    // Looks whether the path leads to the file.
-    fn look(&self, rt: &HostRuntime) -> Result<(), Ending> {
-        let failed = |error: io::Error| Ending::of_output(self.device, error);
+    /// Looks whether the path leads to the file.
+    pub fn look(&self, rt: &HostRuntime) -> Result<(), Ending> {
+        let failed = |error: io::Error| Ending::of_output(self.name, error);
         let file = self.file().metadata().map_err(failed)?;
         let found = fs::symlink_metadata(rt, self.path.as_path()).map_err(failed)?;
         if Node::in_metadata(&file).is_same(Node::in_metadata(&found)) {
             return Ok(());
         }
         Err(Ending::File(FileFault {
-            file: ProgramFile::Of(self.device),
+            file: self.name,
             reason: Reason::Replaced,
         }))
     }
@@ -167,12 +171,17 @@ pub fn open_safe_files(
     kept: &[Node],
 ) -> Result<Outputs<SafeFile>, Ending> {
     let so_far = SoFar { kept, made: &[] };
-    let response = SafeFile::open(rt, paths.response, Device::Response, &so_far)?;
+    let response = SafeFile::open(
+        rt,
+        paths.response,
+        ProgramFile::Of(Device::Response),
+        &so_far,
+    )?;
     let so_far = SoFar {
         kept,
         made: &[&response],
     };
-    let books = match SafeFile::open(rt, paths.books, Device::EndBooks, &so_far) {
+    let books = match SafeFile::open(rt, paths.books, ProgramFile::Of(Device::EndBooks), &so_far) {
         Ok(books) => books,
         Err(ending) => {
             response.discard(rt);
@@ -183,7 +192,12 @@ pub fn open_safe_files(
         kept,
         made: &[&response, &books],
     };
-    match SafeFile::open(rt, paths.settlement, Device::Settlement, &so_far) {
+    match SafeFile::open(
+        rt,
+        paths.settlement,
+        ProgramFile::Of(Device::Settlement),
+        &so_far,
+    ) {
         Ok(settlement) => Ok(Outputs {
             response,
             books,
@@ -228,13 +242,13 @@ fn rename_each(rt: &HostRuntime, files: &mut Outputs<SafeFile>) -> Result<(), En
 }
 
 // How a run ends where a file next to an output is there: another output of this run, or another run.
-fn held(device: Device, node: Node, made: &[&SafeFile]) -> Ending {
+fn held(name: ProgramFile, node: Node, made: &[&SafeFile]) -> Ending {
     for other in made {
         if node.is_same(Node::of(other.file())) {
-            return Ending::OneFile(other.device.option(), device.option());
+            return Ending::OneFile(other.name.option(), name.option());
         }
     }
-    Ending::busy(device)
+    Ending::busy(name)
 }
 
 // Gives the file the rights of an earlier one, its owner and its group as far as the system lets it. Where the group

@@ -1,4 +1,5 @@
 //! How a path is shown in a message.
+use crate::files::names_stream;
 use rx_fields::Memory;
 use std::alloc::{AllocError, Global};
 
@@ -7,6 +8,10 @@ use std::alloc::{AllocError, Global};
 pub fn shown_path(alloc: Global, path: &str) -> Result<String, Memory> {
     let bytes = path.as_bytes();
     let mut shown = String::new(alloc);
+    if names_stream(path) {
+        shown.push_str(path)?;
+        return Ok(shown);
+    }
     // A command would read it as an option.
     if path.starts_with('-') {
         shown.push_str("./")?;

@@ -7,7 +7,7 @@ use std::io::Write;
 pub fn print(rt: &HostRuntime, text: &[u8]) -> Result<(), Ending> {
     io::writer(rt)
         .write_all(text)
-        .map_err(Ending::of_standard_output)
+        .map_err(|error| Ending::of_standard_output(error).at_path(rt, ""))
 }
 
 /// Writes what a command prints, and ends as the command does.

@@ -1,6 +1,6 @@
 //! What a run says on standard error while it goes on.
+use crate::settings::RunSettings;
 use crate::watched_run::peak;
-use rx_cli::RunWords;
 use rx_run_log::{
     RunReport, RunTimes, RunTraffic, Shards, Step, Totals, Traffic, details_in, done_line,
     input_report, micros_between, progress_line, shards_line, step_line,
@@ -21,6 +21,7 @@ const BETWEEN: u64 = 200;
 pub struct Teller<'a> {
     rt: &'a HostRuntime,
     is_asked: bool,
+    tells_end: bool,
     at_desk: bool,
     begin: Option<Duration>,
     // The details of the batch file.
@@ -37,11 +38,12 @@ pub struct Teller<'a> {
 
 impl<'a> Teller<'a> {
     /// Of a run that begins now.
-    pub fn new(rt: &'a HostRuntime, words: &RunWords<'_>) -> Teller<'a> {
+    pub fn new(rt: &'a HostRuntime, words: &RunSettings<'_>) -> Teller<'a> {
         Teller {
             rt,
-            is_asked: words.verbose,
-            at_desk: words.desk,
+            is_asked: words.manner.verbose,
+            tells_end: words.manner.tells_end,
+            at_desk: words.manner.desk,
             begin: rt.monotonic().ok(),
             records: AtomicU64::new(0),
             adjudicated: AtomicU64::new(0),
@@ -87,7 +89,9 @@ impl<'a> Teller<'a> {
             peak: peak(self.rt).and_then(|kilobytes| kilobytes.checked_mul(1_024)),
             micros: micros_between(times.begin, times.end),
         };
-        self.tell(done_line(self.rt.alloc(), &run));
+        if self.tells_end {
+            self.write(done_line(self.rt.alloc(), &run));
+        }
     }
 
     // Reports how many records are adjudicated, where it is time for that.
@@ -110,9 +114,16 @@ impl<'a> Teller<'a> {
         }
     }
 
-    // Writes a line to standard error. What can't be reported there isn't reported.
+    // Writes a line to standard error, where the steps are to be reported.
     fn tell(&self, line: Result<Vec<u8>, AllocError>) {
-        if let (true, Ok(line)) = (self.is_asked, line) {
+        if self.is_asked {
+            self.write(line);
+        }
+    }
+
+    // What can't be reported on standard error isn't reported.
+    fn write(&self, line: Result<Vec<u8>, AllocError>) {
+        if let Ok(line) = line {
             let _ = self.rt.stderr().write_all(line.as_slice());
         }
     }

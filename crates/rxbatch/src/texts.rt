@@ -1,19 +1,35 @@
 //! The files that a command reads whole.
 use crate::ending::Ending;
-use crate::files::{open_input, open_inputs};
+use crate::files::open_input;
 use crate::noted_file::{LastError, noted_input};
 use rx_io::{Device, Inputs};
 use rx_switch::read_all;
 use std::cell::Cell;
 use std::fs::File;
 
-/// The whole text of the file at a path.
-pub fn text_of(rt: &HostRuntime, path: &str, device: Device) -> Result<Vec<u8>, Ending> {
-    text_in(rt, &open_input(rt, path, device)?, device)
+/// The file at a path, opened. One that can't be opened is reported in words too.
+pub fn opened(rt: &HostRuntime, path: &str, device: Device) -> Result<File, Ending> {
+    open_input(rt, path, device).map_err(|ending| ending.at_path(rt, path))
 }
 
-/// The whole text of an opened file.
-pub fn text_in(rt: &HostRuntime, file: &File, device: Device) -> Result<Vec<u8>, Ending> {
+/// The whole text of the file at a path. One that can't be read is reported in words too.
+pub fn text_of(rt: &HostRuntime, path: &str, device: Device) -> Result<Vec<u8>, Ending> {
+    let file = opened(rt, path, device)?;
+    text_in(rt, &file, path, device)
+}
+
+/// The whole text of the file that was opened at a path.
+pub fn text_in(
+    rt: &HostRuntime,
+    file: &File,
+    path: &str,
+    device: Device,
+) -> Result<Vec<u8>, Ending> {
+    bytes_in(rt, file, device).map_err(|ending| ending.at_path(rt, path))
+}
+
+/// The whole text of an opened file. One that can't be read is reported without words.
+pub fn bytes_in(rt: &HostRuntime, file: &File, device: Device) -> Result<Vec<u8>, Ending> {
     let last: LastError = Cell::new(None);
     let mut source = noted_input(file, &last);
     read_all(rt.alloc(), &mut source, device).map_err(|fault| Ending::of_run(fault, last.get()))
@@ -26,10 +42,26 @@ pub fn read_each(rt: &HostRuntime, paths: &Inputs<&str>) -> Result<Inputs<Vec<u8
 
 /// Opens all inputs of a job, and then reads them.
 pub fn open_and_read(rt: &HostRuntime, paths: &Inputs<&str>) -> Result<Inputs<Vec<u8>>, Ending> {
-    let files = open_inputs(rt, paths)?;
-    files
-        .as_ref()
-        .try_map(|device, file| text_in(rt, file, device))
+    let files = open_each(rt, paths)?;
+    read_opened(rt, &files, paths)
+}
+
+/// Opens all inputs of a job, in the order of their numbers.
+pub fn open_each(rt: &HostRuntime, paths: &Inputs<&str>) -> Result<Inputs<File>, Ending> {
+    paths.try_map(|device, path| opened(rt, path, device))
+}
+
+/// Reads the inputs of a job that were opened at these paths.
+pub fn read_opened(
+    rt: &HostRuntime,
+    files: &Inputs<File>,
+    paths: &Inputs<&str>,
+) -> Result<Inputs<Vec<u8>>, Ending> {
+    Ok(Inputs {
+        sheet: text_in(rt, &files.sheet, paths.sheet, Device::Sheet)?,
+        books: text_in(rt, &files.books, paths.books, Device::Books)?,
+        batch: text_in(rt, &files.batch, paths.batch, Device::Batch)?,
+    })
 }
 
 /// The texts, lent.

@@ -7,10 +7,11 @@ use crate::nodes::Node;
 use crate::noted_file::{CodesWritten, LastError, coded_output, noted_output};
 use crate::read_again::ReadInputs;
 use crate::run_files::RunFiles;
+use crate::settings::RunSettings;
 use crate::teller::Teller;
 use crate::told_source::ToldSource;
 use jiff::Timestamp;
-use rx_cli::{RunWords, VERSION};
+use rx_cli::VERSION;
 use rx_io::{Inputs, Outputs};
 use rx_run_log::{
     CodeCount, CodesPassed, FileLog, FileSum, Lot, RunLog, RunTimes, RunTraffic, Shards, Step,
@@ -30,7 +31,7 @@ use std::{fs, io, process};
 pub fn run<R: Threads + Wait + Sync>(
     rt: &HostRuntime,
     threads: &R,
-    words: &RunWords<'_>,
+    words: &RunSettings<'_>,
 ) -> Result<u64, Ending> {
     let log = match words.log {
         Some(path) => Some(LogFile::open(rt, path, words)?),
@@ -48,7 +49,7 @@ pub fn run<R: Threads + Wait + Sync>(
             logged?;
             Ok(lines)
         }
-        (Err(ending), Some(line)) if words.verbose => Err(ending.in_words(line)),
+        (Err(ending), Some(line)) if words.manner.tells_words => Err(ending.in_words(line)),
         (Err(ending), _) => Err(ending),
     }
 }
@@ -72,7 +73,7 @@ struct WatchedRun {
 fn watched<R: Threads + Wait + Sync>(
     rt: &HostRuntime,
     threads: &R,
-    words: &RunWords<'_>,
+    words: &RunSettings<'_>,
     log: Node,
 ) -> WatchedRun {
     let start = time_now(rt);
@@ -110,14 +111,14 @@ fn watched<R: Threads + Wait + Sync>(
 fn on_files<R: Threads + Wait + Sync>(
     rt: &HostRuntime,
     threads: &R,
-    words: &RunWords<'_>,
+    words: &RunSettings<'_>,
     files: RunFiles,
     teller: &Teller<'_>,
     codes: &CodesWritten,
 ) -> (Result<(), Ending>, Option<String>, RunTraffic) {
     let alloc = rt.alloc();
     // Only the log has sums.
-    let sums = words.sums && words.log.is_some();
+    let sums = words.manner.sums && words.log.is_some();
     let last: LastError = Cell::new(None);
     let RunFiles { inputs, outputs } = files;
     let read = ReadInputs::new(&inputs);
@@ -137,8 +138,8 @@ fn on_files<R: Threads + Wait + Sync>(
         alloc,
         teller,
         words.stamp.as_bytes(),
-        words.workers,
-        words.plain,
+        words.manner.workers,
+        words.manner.plain,
         &mut sources,
         &mut sinks,
     );
@@ -158,7 +159,7 @@ fn on_files<R: Threads + Wait + Sync>(
 // The refusal of a run, in words.
 fn refusal_of(
     rt: &HostRuntime,
-    words: &RunWords<'_>,
+    words: &RunSettings<'_>,
     done: &Result<(), IoFault>,
     read: &ReadInputs<'_>,
     traffic: &Inputs<Traffic>,
@@ -172,7 +173,7 @@ fn refusal_of(
 // Adds the line of the run to its log.
 fn add_line(
     rt: &HostRuntime,
-    words: &RunWords<'_>,
+    words: &RunSettings<'_>,
     log: LogFile,
     run: &WatchedRun,
 ) -> Result<(), Ending> {
@@ -183,7 +184,7 @@ fn add_line(
 }
 
 // The line of the log, with its line feed.
-fn line(rt: &HostRuntime, words: &RunWords<'_>, run: &WatchedRun) -> Result<String, AllocError> {
+fn line(rt: &HostRuntime, words: &RunSettings<'_>, run: &WatchedRun) -> Result<String, AllocError> {
     let alloc = rt.alloc();
     let (status, refused, file) = end_of(&run.done);
     let (inputs, outputs) = (&run.traffic.inputs, &run.traffic.outputs);
@@ -208,10 +209,10 @@ fn line(rt: &HostRuntime, words: &RunWords<'_>, run: &WatchedRun) -> Result<Stri
         end_books_lines: lines,
         codes: slice_of(&codes),
         stamp: words.stamp,
-        workers: words.workers,
-        plain: words.plain,
-        desk: words.desk,
-        safe: words.safe,
+        workers: words.manner.workers,
+        plain: words.manner.plain,
+        desk: words.manner.desk,
+        safe: words.manner.safe,
         shards: run.shards,
         lot: Lot::of_batch(inputs.batch.front()),
         totals: Totals::of_settlement(outputs.settlement.end()),
@@ -251,7 +252,7 @@ fn end_of(done: &Result<(), Ending>) -> (u8, Option<[u64; 3]>, Option<u64>) {
         Err(ending) => match ending.numbers() {
             Some(Numbers::Refused(numbers)) => (ending.status(), Some(numbers), None),
             Some(Numbers::File(number)) => (ending.status(), None, Some(number)),
-            None => (ending.status(), None, None),
+            Some(Numbers::Response(_)) | None => (ending.status(), None, None),
         },
     }
 }
@@ -259,7 +260,7 @@ fn end_of(done: &Result<(), Ending>) -> (u8, Option<[u64; 3]>, Option<u64>) {
 // What an operator should know of the end books of a run that is done.
 fn warning_of(
     rt: &HostRuntime,
-    words: &RunWords<'_>,
+    words: &RunSettings<'_>,
     done: &Result<(), Ending>,
     lines: Option<u64>,
 ) -> Option<String> {

@@ -1,8 +1,8 @@
 // What is understood; what is refused, and how, is tested on the built program (`tests/run_words.py`).
 use crate::same::same;
 use rx_cli::{
-    Asked, Command, ExplainWords, Form, Portion, ReportWords, RunWords, ShowWords, VerifyWords,
-    command,
+    AdjudicateWords, Asked, Command, ExplainWords, FaultNumbers, Form, Portion, ReportWords,
+    RunWords, ShowWords, VerifyWords, command,
 };
 use rx_io::{Inputs, Outputs};
 use std::alloc::Global;
@@ -48,8 +48,8 @@ fn run_has_each_option(rt: HostRuntime) {
     let wanted = RunWords {
         inputs: INPUTS,
         outputs: OUTPUTS,
-        stamp: "d",
-        workers: 65_535,
+        stamp: Some("d"),
+        workers: Some(65_535),
         plain: false,
         desk: true,
         safe: true,
@@ -58,6 +58,78 @@ fn run_has_each_option(rt: HostRuntime) {
         sums: true,
     };
     same(&rt, understood(&rt, rt.alloc(), RUN), Command::Run(wanted));
+}
+
+const RUN_NOW: &[&str] = &[
+    "rxbatch",
+    "run",
+    "--sheet=s",
+    "--books=b",
+    "--batch=-",
+    "--response=e",
+    "--books-out=f",
+    "--settlement=g",
+];
+
+#[test]
+fn stamp_and_workers_may_be_left_out(rt: HostRuntime) {
+    let wanted = RunWords {
+        inputs: Inputs {
+            sheet: "s",
+            books: "b",
+            batch: "-",
+        },
+        outputs: OUTPUTS,
+        stamp: None,
+        workers: None,
+        plain: false,
+        desk: false,
+        safe: false,
+        verbose: false,
+        log: None,
+        sums: false,
+    };
+    let given = understood(&rt, rt.alloc(), RUN_NOW);
+    same(&rt, given, Command::Run(wanted));
+}
+
+const ADJUDICATE: &[&str] = &[
+    "rxbatch",
+    "adjudicate",
+    "--sheet=s",
+    "--books=b",
+    "--batch=c",
+    "--out=d",
+    "--workers=2",
+    "--again",
+];
+
+#[test]
+fn adjudicate_has_a_folder(rt: HostRuntime) {
+    let wanted = AdjudicateWords {
+        inputs: INPUTS,
+        out: "d",
+        stamp: None,
+        workers: Some(2),
+        again: true,
+        strict: false,
+        quiet: false,
+    };
+    let given = understood(&rt, rt.alloc(), ADJUDICATE);
+    same(&rt, given, Command::Adjudicate(wanted));
+}
+
+const FAULT: &[&str] = &["rxbatch", "fault", "5", "11", "326"];
+
+#[test]
+fn fault_has_three_numbers(rt: HostRuntime) {
+    let wanted = FaultNumbers {
+        kind: 5,
+        within: 11,
+        place: 326,
+    };
+    let given = understood(&rt, rt.alloc(), FAULT);
+    same(&rt, given, Command::Fault(wanted));
 }
 
 const CHECK: &[&str] = &["rxbatch", "check", "--batch", "c", "--sheet", "s"];

@@ -7,13 +7,16 @@ use Rattle.rx_adjudicate.proofs.Finished.{finished}
 use Rattle.rx_adjudicate.proofs.done.answered.Goals as goal
 
 pub new-agreed-requires : goal.new-agreed-requires
-new-agreed-requires c = rw (c.in_ok-copy.ensures, c.parcel.ensures.value) c.parcel.ensures.within.fit.agrees
+new-agreed-requires c = record {
+  parcel = c.in_ok-copy.ensures.within;
+  agrees = rw (c.in_ok-copy.ensures.value, c.parcel.ensures.value) c.parcel.ensures.within.fit.agrees;
+}
 
 pub answer_record-requires-clause-held : goal.answer_record-requires-clause-held
 answer_record-requires-clause-held c =
     let o = c.args.order.now in
     let same : c.new-agreed.result ≡ o.parcel =
-    c.new-agreed.ensures.value ∙ c.in_ok-copy.ensures ∙ c.parcel.ensures.value in
+    c.new-agreed.ensures.value ∙ c.in_ok-copy.ensures.value ∙ c.parcel.ensures.value in
     rw (same, c.transmission.ensures)
     (holds_record o.parcel (ledger_in o.parcel) o.transmission.body c.place.ensures.within.fit.books)
 
@@ -21,7 +24,7 @@ pub returns : goal.returns
 returns c =
     let o = c.args.order.now in
     let same : c.new-agreed.result ≡ o.parcel =
-    c.new-agreed.ensures.value ∙ c.in_ok-copy.ensures ∙ c.parcel.ensures.value in
+    c.new-agreed.ensures.value ∙ c.in_ok-copy.ensures.value ∙ c.parcel.ensures.value in
     let before_is : IsAgreed o.parcel = rw same at c.new-agreed.ensures.within in
     let after_is : IsAgreed c.into_parcel.result = rw c.into_parcel.ensures.value c.into_parcel.ensures.within in
     let replied : c.in_ok-reply.reply ≡ reply_of o =

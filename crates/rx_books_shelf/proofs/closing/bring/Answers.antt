@@ -33,4 +33,4 @@ pub returns : goal.returns
 returns c =
     let r : Row = c.in-Some-row_held.row in
     c.fill_slot.ensures ∙ ap (λ (o : OpenParts). open_with o r) c.empty_slot.ensures
-    ∙ brought_row c.args.books.now c.args.place.now r c.read_rows.ensures.rows_rise c.requires.row (sym c.in-Some-row_held.ensures)
+    ∙ brought_row c.args.books.now c.args.place.now r c.requires.rise c.requires.row (sym c.in-Some-row_held.ensures)

@@ -14,13 +14,13 @@ unreachable-requires c = elim c.if-not-is_empty.branch [
       let run = w.into_vec.result in
       let items : run.items ≡ c.args.rows = w.into_vec.ensures in
       let some : (length run.items == 0) ≡ false =
-      ap (λ rs. length rs == 0) items ∙ sym c.is_empty.ensures ∙ w.if-not-is_empty.true in
-      let rise = subst (IsAscending key_cmp row_key) (c.as_slice-rows.ensures.value ∙ sym items)
-      (rw c.as_slice-rows.ensures.value c.as_slice-rows.ensures.ascending) in
+      ap (λ rs. length rs == 0) (items ∙ sym c.as_slice.ensures.value) ∙ sym c.is_empty.ensures ∙ w.if-not-is_empty.true in
+      let rise = subst (IsAscending key_cmp row_key) (c.as_slice.ensures.value ∙ sym items)
+      (rw c.as_slice.ensures.value c.as_slice.ensures.ascending) in
       let runs = ap (λ v. v.items) w.runs-is ∙ w.in_ok-push.ensures.items
       ∙ ap (λ rs. rs ++ run ∷ []) c.new-runs.ensures.items in
       let e : false ≡ true = c.in-Err.ensures.ok ∙ ap (are_runs key_cmp row_key) runs
-      ∙ one-run run some rise (omega (arith, ap length items, c.as_slice-rows.ensures.small)) in
+      ∙ one-run run some rise (omega (arith, ap length items, c.as_slice.ensures.small)) in
       cc
   | else-not-is_empty w ↦
       let runs = ap (λ v. v.items) w.runs-is ∙ c.new-runs.ensures.items in

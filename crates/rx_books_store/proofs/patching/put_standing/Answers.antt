@@ -16,8 +16,12 @@ use Rattle.rx_books_store.proofs.Patches.{end_at, end_is, end_within, lent_at, r
 use Rattle.rx_books_store.proofs.Patches.{slot_before, slots_before, text_join, text_rest, text_step}
 use Rattle.rx_books_store.proofs.patching.put_standing.Goals as goal
 
-pub run_before-run-requires : goal.run_before-run-requires
-run_before-run-requires c =
+pub run_before-run-requires-clause-rise : goal.run_before-run-requires-clause-rise
+run_before-run-requires-clause-rise c =
+    subst (IsAscending key_cmp row_key) (sym c.rows-rows.ensures.value) c.rows-rows.ensures.within.rows_rise
+
+pub run_before-run-requires-clause-before : goal.run_before-run-requires-clause-before
+run_before-run-requires-clause-before c =
     let rows = c.rows-rows.result.now in
     let slots = c.args.slots.now in
     let T = kept_text c.args.kept.now in

@@ -4,5 +4,5 @@ use Rattle.rx_books_store.proofs.search.are_below.Goals as goal
 
 pub returns-clause-below : goal.returns-clause-below
 returns-clause-below c = λ is i d lt.
-    less_before c.args.rows.now c.args.key.now (c.args.end - 1) c.runs-in_order.ensures.ascending
+    less_before c.args.rows.now c.args.key.now (c.args.end - 1) c.requires
     (c.is_before.ensures.within is) (c.is_before.ensures.less is) i d (omega (arith, lt))

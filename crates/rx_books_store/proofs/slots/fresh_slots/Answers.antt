@@ -1,4 +1,4 @@
-use Rattle.std.proofs.Common.{◌≡◌, List, [], ◌∷◌, ◌++◌, take, sym, ap, ◌∙◌}
+use Rattle.std.proofs.Common.{◌≡◌, List, [], ◌∷◌, ◌++◌, length, take, sym, ap, ◌∙◌, arith}
 use Rattle.std.proofs.lemmas.List.{map-append, take_more}
 use Rattle.std.proofs.lemmas.List.Elements.{All-append, All-cons, All-nil}
 use Rattle.rx_ledger.specs.Ledger.{row_under}
@@ -25,3 +25,6 @@ loop-key-preserved c =
           (All-cons Own s [] c.fresh_slot-key.ensures.own (All-nil Own)));
       there = rw items (All-append There before (s ∷ []) c.loop-key.invariant.there (All-cons There s [] there (All-nil There)));
     }
+
+pub returns-clause-few : goal.returns-clause-few
+returns-clause-few c = omega (arith, c.len-len.ensures.small, c.len-len.ensures.value, ap length c.rows-rows.ensures.value)

@@ -1,4 +1,5 @@
 use Rattle.std.proofs.Common.{◌≡◌, ◌<◌, ◌^◌, [], ◌∷◌, ◌++◌, length, sym, subst, ap, ◌∙◌, arith}
+use Rattle.std.specs.Prelude.{◌==◌}
 use Rattle.rx_fields.specs.Order.{key_cmp}
 use Rattle.rx_sorted.specs.Ascending.{IsAt}
 use Rattle.rx_sorted.proofs.Overlaid.{length-overlaid}
@@ -7,7 +8,9 @@ use Rattle.rx_ledger.specs.Members.{member_cmp, member_key}
 use Rattle.rx_ledger.specs.Rows.{member_of_row, row_key}
 use Rattle.rx_ledger.proofs.Orders.{key_total}
 use Rattle.rx_books_store.specs.BooksText.{families_of}
-use Rattle.rx_books_store.specs.Store.{held, slot_key, standing_rows}
+use Rattle.rx_books_store.specs.Parts.{IsSummed}
+use Rattle.rx_books_store.specs.Store.{AreFigures, held, slot_key, standing_rows}
+use Rattle.rx_books_store.proofs.Added.{if_ok, none-stand}
 use Rattle.rx_books_store.proofs.Adding.{IsCounted, counted_none, has_room, one_more}
 use Rattle.rx_books_store.proofs.Openings.{length-names}
 use Rattle.rx_books_store.proofs.Stored.{home-of}
@@ -15,6 +18,16 @@ use Rattle.rx_books_store.proofs.sums.summed.Goals as goal
 
 pub of-standing-requires-clause-rise : goal.of-standing-requires-clause-rise
 of-standing-requires-clause-rise c = rw c.as_slice-slots.ensures.value c.as_slice-slots.ensures.ascending
+
+pub of-standing-requires-clause-own : goal.of-standing-requires-clause-own
+of-standing-requires-clause-own c = rw c.as_slice-slots.ensures.value c.requires.own
+
+pub returns-then-is_empty-clause-figures : goal.returns-then-is_empty-clause-figures
+returns-then-is_empty-clause-figures c =
+    let none = ap (λ ss. length ss == 0) (sym c.as_slice-slots.ensures.value) ∙ sym c.is_empty.ensures ∙ c.if-is_empty.true in
+    rw (none-stand c.args.opening.now c.args.slots.now none) (if_ok c.opening_sums.result (IsSummed c.args.period c.args.opening.now)
+    (λ f. AreFigures c.args.period c.args.opening.now f.deductibles.items f.out_of_pockets.items f.family_deductibles.items)
+    (λ f is. is.figures) c.opening_sums.ensures)
 
 pub rows-init : goal.rows-init
 rows-init c =
@@ -49,9 +62,7 @@ count-requires c =
     let few : length all < 2 ^ 64 = omega (
       arith,
       length-overlaid key_cmp key_total row_key slot_key held c.args.opening.now.rows c.args.slots.now,
-      ap length c.rows-rows.ensures.value,
-      c.len-few.ensures.small,
-      c.as_slice-slots.ensures.small,
+      c.requires.few,
     ) in
     let room = has_room c.args.period ms all rest inv.0 r ds os fs c.requires.in_order so_far c.in-Some.member c.home.result is_at home
     c.counted_in-counted.ensures.small few in

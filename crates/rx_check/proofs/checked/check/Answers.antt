@@ -1,4 +1,4 @@
-use Rattle.std.proofs.Common.{ap, not}
+use Rattle.std.proofs.Common.{ap, not, refl}
 use Rattle.rx_check.proofs.checked.check.Goals as goal
 
 pub returns : goal.returns
@@ -8,4 +8,5 @@ returns c = record {
   text_is = c.in_ok-text.ensures;
   refusal_is = c.refusal-refusal.ensures;
   warnings_are = ap not c.is_empty-has_warnings.ensures;
+  all_are = refl;
 }

@@ -1,8 +1,8 @@
 -- The text of the lines that are kept, with the account of just these.
-use Rattle.std.proofs.Common.{◌≡◌, ◌∙◌, List, ap, length, map, refl, subst, sym}
+use Rattle.std.proofs.Common.{◌≡◌, ◌∙◌, ◌==◌, IfOk, List, ap, length, map, not, refl, subst, sym}
 use Rattle.std.specs.List.{filter}
 use Rattle.std.proofs.lemmas.Result.{IfOk-weaker}
-use Rattle.rx_explain_replay.proofs.Replied.{one_each}
+use Rattle.rx_commands.proofs.Replied.{one_each}
 use Rattle.rx_report.proofs.AddedUp.{accounts_add_up}
 use Rattle.rx_report.proofs.Counted.{paired}
 use Rattle.rx_report.specs.Lines.{lines_of}
@@ -11,6 +11,7 @@ use Rattle.rx_report.specs.AddsUp.{AddsUp, AreLinesOf, IsSettlementOf, entry_of}
 use Rattle.rx_report.specs.Groups.{grouped}
 use Rattle.rx_report.specs.declared.line.Line.{Line}
 use Rattle.rx_commands.proofs.MembersBack.{same_entries}
+use Rattle.rx_commands.specs.Tiers.{table_of_text}
 use Rattle.rx_commands.specs.Forms.{IsText, kept_of}
 use Rattle.rx_commands.proofs.report_forms.text_in_form.Goals as goal
 
@@ -37,11 +38,17 @@ returns c =
     ∙ paired b.asked.items b.replies.items (lines_of b.asked.items b.replies.items) refl replied in
     let sums : AddsUp (kept_of p r) sections account.total =
     accounts_add_up p r.settled b.replies.items r.lines.items sections account.total settlement paired_so of_groups in
-    IfOk-weaker c.text_of_account.result _ _
-    (λ text is. record {
-      account = account;
-      account_is = of_groups;
-      adds_up = sums;
-      text_is = subst (λ (ls : List Line). IsText p c.args.form r.batch ls account text.items)
-          (c.deref-4.ensures.value ∙ lines) is;
-    }) c.text_of_account.ensures
+    IfOk-weaker c.with_lines.result _ _
+    (λ printed h. record {
+      in_form = record {
+        account = account;
+        account_is = of_groups;
+        adds_up = sums;
+        text_is = subst (λ (ls : List Line). IsText p c.args.form (table_of_text c.args.sheet.now) r.batch ls account
+            printed.text.items)
+            (c.deref-4.ensures.value ∙ lines)
+            (subst (λ text. IfOk text (λ t. IsText p c.args.form (table_of_text c.args.sheet.now) r.batch
+            c.deref-4.result.now account t.items)) h.1 c.text_of_account-text.ensures);
+      };
+      lines_are = h.0 ∙ ap (λ (ls : List Line). not (length ls == 0)) (c.deref-5.ensures.value ∙ lines);
+    }) c.with_lines.ensures

@@ -5,9 +5,9 @@ use Rattle.std.specs.Option.{option_copied}
 use Rattle.std.proofs.lemmas.Bool.{eqb-true}
 use Rattle.rx_explain.specs.Spots.{item}
 use Rattle.rx_explain.specs.declared.facts.Facts.{Facts}
-use Rattle.rx_explain_replay.specs.Records.{AreDecided, IsAt, IsDecided}
-use Rattle.rx_explain_replay.specs.declared.replaying.Explained.{Explained}
-use Rattle.rx_explain_replay.proofs.Listed.{zipped_more}
+use Rattle.rx_commands.specs.Records.{AreDecided, IsAt, IsDecided}
+use Rattle.rx_commands.specs.declared.replay.replaying.Explained.{Explained}
+use Rattle.rx_commands.proofs.Listed.{zipped_more}
 use Rattle.rx_commands.proofs.Found.{found_is, found_passes}
 use Rattle.rx_commands.proofs.retraced.explain_found.Goals as goal
 

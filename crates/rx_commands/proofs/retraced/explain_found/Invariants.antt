@@ -1,7 +1,7 @@
 -- Each of the transactions so far, explained.
 use Rattle.std.proofs.Common.{take}
 use Rattle.std.specs.List.{AllZip}
-use Rattle.rx_explain_replay.specs.Records.{IsAt}
+use Rattle.rx_commands.specs.Records.{IsAt}
 use Rattle.rx_commands.proofs.retraced.explain_found.Given as goal
 
 abbrev pub invariant-loop-nth : goal.invariant-loop-nth

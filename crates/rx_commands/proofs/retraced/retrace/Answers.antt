@@ -6,3 +6,6 @@ returns-in_default-clause-refused g c = memory
 
 pub returns-in_default-answered-clause-refused : goal.returns-in_default-answered-clause-refused
 returns-in_default-answered-clause-refused g c = memory
+
+pub returns-in_default-read-clause-refused : goal.returns-in_default-read-clause-refused
+returns-in_default-read-clause-refused g c = memory

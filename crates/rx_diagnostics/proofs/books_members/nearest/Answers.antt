@@ -1,9 +1,9 @@
-use Rattle.std.proofs.Common.{eqb, map, rules, ap, sym, ◌∙◌, ◌++◌, ◌∷◌, [], subst}
+use Rattle.std.proofs.Common.{eqb, map, rules, ap, sym, ◌∙◌, ◌∷◌, []}
 use Rattle.std.proofs.lemmas.List.{map-append}
 use Rattle.std.proofs.lemmas.Iterator.{YieldsList-from_take}
 use Rattle.std.proofs.lemmas.Iterator.Consumers.{YieldsList-at, YieldsList-end}
 use Rattle.std.proofs.lemmas.Iterator.Splits.{YieldsList-from_slice_split}
-use Rattle.rx_diagnostics.specs.BooksMembers.{nearer, nearest, persons_in}
+use Rattle.rx_diagnostics.specs.BooksMembers.{nearest, persons_in}
 use Rattle.rx_diagnostics.proofs.Listings.{nearest-line}
 use Rattle.rx_diagnostics.proofs.books_members.nearest.Goals as goal
 

@@ -10,7 +10,7 @@ pub returns : goal.returns
 unfolding product_text
 returns c =
     joined_6 c.money.result _ c.say.new.self.bytes.items c.number.new.self.bytes.items c.say-2.new.self.bytes.items
-    c.put_rest.new.page.bytes.items c.say-3.new.self.bytes.items _ (say "  the tier's ") (decimal c.args.percent) (say " percent of ")
+    c.put_rest.new.page.bytes.items c.say-3.new.self.bytes.items _ (say "  ") (decimal c.args.percent) (say " percent of ")
     (rest_text c.args.allowed c.args.under) (say " = ") (money_text c.args.share) (search (rules, c.in_ok-say.ensures))
     (search (rules, c.in_ok-number.ensures)) (search (rules, c.in_ok-say-2.ensures))
     (search (rules, c.in_ok-put_rest.ensures)) (search (rules, c.in_ok-say-3.ensures)) (search rules)

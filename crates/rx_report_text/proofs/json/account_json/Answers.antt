@@ -1,5 +1,5 @@
 use Rattle.std.proofs.Common.{◌≡◌, ℕ, List, [], ◌∷◌, ◌++◌, codes, ap, ◌∙◌, append_assoc}
-use Rattle.rx_report_text.specs.Json.{portion_json, sections_json, tally_json}
+use Rattle.rx_report_text.specs.Json.{end_json, portion_json, sections_json}
 use Rattle.rx_report_text.proofs.json.account_json.Goals as goal
 
 -- what is written one after the other
@@ -13,10 +13,10 @@ pub returns : goal.returns
 returns c =
     let front = codes "\"sections\":[" in
     joined c.new-text.result.items c.extend_from_slice.new.self.items c.put_portion.new.text.items
-    c.put_sections.new.text.items c.put_total.new.text.items
+    c.put_sections.new.text.items c.put_end.new.text.items
     (portion_json c.args.portion) front (sections_json c.args.account.now.sections.items)
-    (codes "],\"total\":{" ++ (tally_json c.args.account.now.total ++ codes "}}\n"))
+    (end_json c.args.lot c.args.account.now.total)
     c.new-text.ensures.items c.in_ok-extend_from_slice.ensures.items c.in_ok-put_portion.ensures
     (c.in_ok-put_sections.ensures
     ∙ ap (λ xs. c.put_portion.new.text.items ++ (front ++ sections_json xs)) c.deref.ensures.value)
-    c.in_ok-put_total.ensures
+    c.in_ok-put_end.ensures

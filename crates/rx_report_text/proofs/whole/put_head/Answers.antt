@@ -1,4 +1,5 @@
 use Rattle.std.proofs.Common.{codes}
+use Rattle.rx_report_text.specs.declared.script.TheConstants.{POLICY}
 use Rattle.rx_report_text.specs.declared.style.TheConstants.{STYLE}
 use Rattle.rx_report_text.specs.Whole.{head_text, lot_text}
 use Rattle.rx_report_text.proofs.Written.{seven}
@@ -9,12 +10,12 @@ unfolding head_text
 returns c =
     seven c.markup-6.result c.markup-6.new.self.bytes.items c.args.page.now.bytes.items
     (codes "<!DOCTYPE html>\n<html lang=\"en\">\n<head>\n<meta charset=\"utf-8\">\n")
-    (codes "<meta http-equiv=\"Content-Security-Policy\" content=\"default-src 'none'; style-src 'unsafe-inline'\">\n")
+    POLICY.now
     (codes "<meta name=\"viewport\" content=\"width=device-width, initial-scale=1\">\n<title>")
     (lot_text c.args.lot)
     (codes "</title>\n<style>\n")
     STYLE.now
-    (codes "</style>\n</head>\n<body>\n")
+    (codes "</style>\n</head>\n<body>\n<a class=\"skip\" href=\"#claims\">Skip to the claims</a>\n")
     c.in_ok-markup.ensures
     c.in_ok-markup-2.ensures
     c.in_ok-markup-3.ensures

@@ -1,19 +1,26 @@
-use Rattle.std.proofs.Common.{codes}
+use Rattle.std.proofs.Common.{ap, ◌++◌, ◌∙◌}
 use Rattle.rx_report_text.specs.Providers.{table_text}
-use Rattle.rx_report_text.specs.Whole.{below_table, head_text, title_text}
-use Rattle.rx_report_text.proofs.Written.{five}
+use Rattle.rx_report_text.specs.Rejects.{rejects_text}
+use Rattle.rx_report_text.specs.Summary.{summary_text}
+use Rattle.rx_report_text.specs.Whole.{below_table, end_text, head_text, title_text}
+use Rattle.rx_report_text.proofs.Written.{seven}
 use Rattle.rx_report_text.proofs.whole.put_page.Goals as goal
 
 pub returns : goal.returns
 returns c =
-    five c.markup.result c.markup.new.self.bytes.items c.args.page.now.bytes.items
-    (head_text c.args.lot)
-    (title_text c.args.lot c.args.portion)
+    seven c.put_end.result c.put_end.new.page.bytes.items c.args.page.now.bytes.items
+    (head_text c.args.head.now.lot)
+    (title_text c.args.head.now c.args.portion)
+    (summary_text c.args.account.now.total)
+    (rejects_text c.args.unfolds c.args.account.now.sections.items)
     (table_text c.args.unfolds c.args.portion c.args.account.now)
     (below_table c.args.unfolds c.args.whys.now c.args.account.now)
-    (codes "</main>\n</body>\n</html>\n")
+    end_text
     c.in_ok-put_head.ensures
     c.in_ok-put_title.ensures
+    c.in_ok-put_summary.ensures
+    (c.in_ok-put_rejects.ensures ∙ ap (λ xs. c.put_summary.new.page.bytes.items ++ rejects_text c.args.unfolds xs)
+    c.deref.ensures.value)
     c.in_ok-put_providers.ensures
     c.in_ok-put_below.ensures
-    c.markup.ensures
+    c.put_end.ensures

@@ -40,7 +40,7 @@ invariant_of-self-2 c =
     let free : row_at p key ≡ None = sym (row_read p is.parcel is.agrees key nk)
     ∙ item_at-free key_cmp key_total row_key (ledger_in p).rows key taken in
     record {
-      parcel = c.period.ensures.within;
+      parcel = c.in_ok-add.ensures.within;
       agrees = rw c.in_ok-add.ensures.ok (agrees_added p is.parcel is.agrees c.args.row nk nf free);
     }
 

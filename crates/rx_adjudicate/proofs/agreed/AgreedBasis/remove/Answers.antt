@@ -42,8 +42,8 @@ invariant_of-self c =
     let some = some_row (row_at p key) (ap is_some (sym read) ∙ taken) in
     let nf = subst (λ o. IfSome o (λ r. names (named_in p) (OfFamily r.family) ≡ true)) (read ∙ some.1) theirs in
     record {
-      parcel = c.period.ensures.within;
-      agrees = rw c.remove.ensures (agrees_removed p is.parcel is.agrees key some.0 nk nf some.1);
+      parcel = c.remove.ensures.within;
+      agrees = rw c.remove.ensures.books (agrees_removed p is.parcel is.agrees key some.0 nk nf some.1);
     }
 
 pub returns-clause-removed : goal.returns-clause-removed
@@ -58,7 +58,7 @@ returns-clause-removed c =
     let read = row_read p is.parcel is.agrees key nk in
     let some = some_row (row_at p key) (ap is_some (sym read) ∙ taken) in
     let nf = subst (λ o. IfSome o (λ r. names (named_in p) (OfFamily r.family) ≡ true)) (read ∙ some.1) theirs in
-    rw (c.remove.ensures, ← c.self.view_is) (ledger_removed p is.parcel is.agrees key some.0 nk nf some.1)
+    rw (c.remove.ensures.books, ← c.self.view_is) (ledger_removed p is.parcel is.agrees key some.0 nk nf some.1)
 
 pub returns-clause-scope : goal.returns-clause-scope
 returns-clause-scope c =
@@ -72,5 +72,5 @@ returns-clause-scope c =
     let read = row_read p is.parcel is.agrees key nk in
     let some = some_row (row_at p key) (ap is_some (sym read) ∙ taken) in
     let nf = subst (λ o. IfSome o (λ r. names (named_in p) (OfFamily r.family) ≡ true)) (read ∙ some.1) theirs in
-    rw (c.remove.ensures, ← c.self.view_is)
+    rw (c.remove.ensures.books, ← c.self.view_is)
     (scope_same p _ refl (named_removed p is.parcel is.agrees key some.0 nk nf some.1))

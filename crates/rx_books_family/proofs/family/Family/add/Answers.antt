@@ -69,3 +69,6 @@ invariant_of-self-2 c =
 
 pub returns-clause-ok : goal.returns-clause-ok
 returns-clause-ok c = rw (c.in-Ok.ensures.ok, ← c.self.view_is) refl
+
+pub returns-clause-within : goal.returns-clause-within
+returns-clause-within c = let kept = invariant_of-self-2 c in kept.own

@@ -32,3 +32,6 @@ returns-clause-ok c =
       ← put-past member_cmp member_total member_key c.self.inside.members c.args.member past,
       ← c.self.view_is,
     ) refl
+
+pub returns-clause-within : goal.returns-clause-within
+returns-clause-within c = let kept = invariant_of-self-2 c in kept.own

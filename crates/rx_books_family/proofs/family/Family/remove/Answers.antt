@@ -97,3 +97,9 @@ returns-clause-value c =
 
 pub returns-clause-rows : goal.returns-clause-rows
 returns-clause-rows c = rw (c.remove.ensures.items, ← c.self.view_is) refl
+
+pub returns-in_err-row-clause-within : goal.returns-in_err-row-clause-within
+returns-in_err-row-clause-within c = let kept = invariant_of-self c in kept.own
+
+pub returns-clause-within : goal.returns-clause-within
+returns-clause-within c = let kept = invariant_of-self-2 c in kept.own

@@ -1,5 +1,4 @@
-use Rattle.std.proofs.Common.{◌≡◌, Some, None, IsSome, Result, Ok, Err, OnErr, set, refl, sym, subst, ap, ◌∙◌, true}
-use Rattle.std.specs.List.{All}
+use Rattle.std.proofs.Common.{◌≡◌, Some, None, IsSome, Result, Ok, Err, OnErr, refl, sym, subst, ap, ◌∙◌, true}
 use Rattle.std.specs.Option.{option_and_then}
 use Rattle.rx_fields.specs.Order.{id_cmp, key_cmp}
 use Rattle.rx_sorted.specs.Ascending.{IsAt, put}
@@ -90,14 +89,19 @@ invariant_of-self-2 c =
     let keys : items_of c.write_over.new.keys ≡ put key_cmp key_of p.keys slot = c.write_over.ensures in
     let wrote = items_with c.self.inside.families at c.add.new.self is_at.in_range in
     let new : c.add.new.self ≡ book_with_row b c.args.row = c.in_ok-add.ensures.ok in
-    let owned : All IsOwn (set p.families at (book_with_row b c.args.row)) =
-    rw (c.as_slice-2.ensures, wrote, new) at c.read_families.ensures in
+    let owned : IsOwn (book_with_row b c.args.row) = rw new at c.add.ensures.within in
     rw (keys, wrote, new) (written p c.self.invariant family at is_at b c.at_mut-family.ensures.value slot refl
     (book_with_row b c.args.row) refl refl owned)
 
 on_err : {X E : Type 0} {P : Type 0} (r : Result X E) → P → OnErr r P
 on_err (Ok x) p = tt
 on_err (Err e) p = p
+
+pub returns-in_err-add-clause-within : goal.returns-in_err-add-clause-within
+returns-in_err-add-clause-within c = invariant_of-self c
+
+pub returns-clause-within : goal.returns-clause-within
+returns-clause-within c = invariant_of-self-2 c
 
 pub returns-in_err-add-clause-err : goal.returns-in_err-add-clause-err
 returns-in_err-add-clause-err c =

@@ -1,6 +1,5 @@
-use Rattle.std.proofs.Common.{◌≡◌, Some, None, set, refl, sym, subst, ap, ◌∙◌, true}
+use Rattle.std.proofs.Common.{◌≡◌, Some, None, refl, sym, subst, ap, ◌∙◌, true}
 use Rattle.std.specs.Prelude.{IfSome}
-use Rattle.std.specs.List.{All}
 use Rattle.rx_fields.specs.Order.{id_cmp, key_cmp}
 use Rattle.rx_sorted.specs.Ascending.{IsAt, put}
 use Rattle.rx_books_family.specs.declared.key_book.KeyBook.{KeyBook}
@@ -48,13 +47,15 @@ invariant_of-self c =
     let keys : items_of c.write_over.new.keys ≡ put key_cmp key_of p.keys slot = c.write_over.ensures in
     let wrote = items_with c.self.inside.families at c.remove-removed.new.self is_at.in_range in
     let new : c.remove-removed.new.self ≡ book_without_row b key = c.remove-removed.ensures.rows in
-    let owned : All IsOwn (set p.families at (book_without_row b key)) =
-    rw (c.as_slice-2.ensures, wrote, new) at c.read_families.ensures in
+    let owned : IsOwn (book_without_row b key) = rw new at c.remove-removed.ensures.within in
     rw (keys, wrote, new) (written p c.self.invariant family at is_at b c.at_mut-family.ensures.value slot tt
     (book_without_row b key) refl refl owned)
 
-pub returns : goal.returns
-returns c =
+pub returns-clause-within : goal.returns-clause-within
+returns-clause-within c = invariant_of-self c
+
+pub returns-clause-books : goal.returns-clause-books
+returns-clause-books c =
     let p : ParcelParts = record
     { period = c.self.inside.period; keys = items_of c.self.inside.keys; families = items_of c.self.inside.families } in
     let family = c.in-Some.row.family in

@@ -4,13 +4,13 @@ use Rattle.std.specs.Option.{is_some}
 use Rattle.rx_fields.specs.Order.{id_cmp, key_cmp}
 use Rattle.rx_sorted.specs.Ascending.{IsAscending}
 use Rattle.rx_ledger.proofs.Orders.{id_exact, key_exact}
-use Rattle.rx_books_family.specs.FamilyBook.{FamilyBook, family_of}
+use Rattle.rx_books_family.specs.FamilyBook.{FamilyBook, IsOwn, family_of}
 use Rattle.rx_sorted.specs.Few.{items_of}
 use Rattle.rx_books_parcel.specs.Parcels.{HasOwnRow, IsParcel, key_of, values_of}
 use Rattle.rx_books_family.specs.Shelves.{IsShelf, ShelfParts, has_slot, is_out, value_of}
 use Rattle.rx_books_shelf.specs.Closed.{HasSlot}
 use Rattle.rx_books_shelf.specs.Taken.{has_all}
-use Rattle.rx_books_shelf.proofs.ShelfKept.{families_rise, keys_rise, one_period, parcel_own, parcel_parts, rows_own}
+use Rattle.rx_books_shelf.proofs.ShelfKept.{books_own, families_rise, keys_rise, one_period, parcel_own, parcel_parts, rows_own}
 use Rattle.rx_books_shelf.proofs.ShelfKept.{shelf_parts, shelf_taken, slots_stay, taken_parts}
 use Rattle.rx_books_shelf.proofs.TakenPlaces.{keys_all_in, keys_read}
 use Rattle.rx_books_shelf.proofs.Worth.{out_taken, slots_taken, values_left, values_taken}
@@ -53,6 +53,11 @@ new-requires-clause-families_rise c =
     subst (IsAscending id_cmp family_of) (sym (c.take_all-families.ensures.contents))
     (families_rise c.self.inside.books.books.period c.self.inside.families c.self.invariant.0.books_own c.families-2.result.now
     (rw c.families-2.ensures.value c.families-2.ensures.within.families_rise))
+
+pub new-requires-clause-families_own : goal.new-requires-clause-families_own
+new-requires-clause-families_own c =
+    subst (All IsOwn) (sym (c.take_all-families.ensures.contents))
+    (books_own c.self.inside.books.books.period c.self.inside.families c.self.invariant.0.books_own c.families-2.result.now)
 
 pub new-requires-clause-one_period : goal.new-requires-clause-one_period
 new-requires-clause-one_period c =

@@ -15,7 +15,7 @@ invariant_of-self-2 c =
     let listed : is_listed (own_ledger b) (member_of_row c.args.row) ≡ true = rw (← c.self.view_is) at c.requires.listed in
     let few = rw c.in_ok-put_behind.ensures.ok at c.in_ok-put_behind.ensures.small in
     rw c.in_ok-put_behind.ensures.ok
-    (own-added b c.args.row c.self.invariant listed c.counted_in-small.ensures.small few)
+    (own-added b c.args.row c.self.invariant listed c.requires.small few)
 
 pub returns-clause-ok : goal.returns-clause-ok
 returns-clause-ok c = rw (c.in_ok-put_behind.ensures.ok, ← c.self.view_is) refl

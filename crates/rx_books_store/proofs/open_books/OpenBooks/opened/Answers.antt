@@ -19,9 +19,8 @@ invariant_of-result c =
     let inside = c.self.inside in
     let fresh : List KeySlot = c.in_ok-fresh.fresh.items in
     let is : c.in_ok-changed.changed ≡ put_all key_cmp slot_key fresh inside.changed =
-    rw c.as_slice.ensures.value at c.in_ok-changed.ensures in
-    let long = ap length c.rows.ensures.value in
-    let few : length inside.opening.rows + length c.in_ok-changed.changed < 2 ^ 64 = omega (arith, long) in
+    rw c.as_slice.ensures.value at c.in_ok-changed.ensures.slots in
+    let few : length inside.opening.rows + length c.in_ok-changed.changed < 2 ^ 64 = omega (arith, c.in_ok-fresh.ensures.few, c.in_ok-changed.ensures.few) in
     let few_too : length inside.opening.rows + length (put_all key_cmp slot_key fresh inside.changed) < 2 ^ 64 = rw is at few in
     let rise : IsAscending key_cmp slot_key fresh = slots-rise fresh (rw c.in_ok-fresh.ensures.keys c.requires) in
     rw is (store-opened inside.period inside.opening fresh inside.changed _ _ _ c.self.invariant rise c.in_ok-fresh.ensures.own
@@ -32,7 +31,7 @@ returns-clause-same c =
     let inside = c.self.inside in
     let fresh : List KeySlot = c.in_ok-fresh.fresh.items in
     let is : c.in_ok-changed.changed ≡ put_all key_cmp slot_key fresh inside.changed =
-    rw c.as_slice.ensures.value at c.in_ok-changed.ensures in
+    rw c.as_slice.ensures.value at c.in_ok-changed.ensures.slots in
     let rise : IsAscending key_cmp slot_key fresh = slots-rise fresh (rw c.in_ok-fresh.ensures.keys c.requires) in
     let of_ledger : Ledger → LedgerBooks = λ L. record { period = inside.period; ledger = L } in
     rw is (ap of_ledger (opened-stands inside.period inside.opening fresh inside.changed _ _ _ c.self.invariant rise
@@ -43,7 +42,7 @@ returns-clause-slots c =
     let inside = c.self.inside in
     let fresh : List KeySlot = c.in_ok-fresh.fresh.items in
     let is : c.in_ok-changed.changed ≡ put_all key_cmp slot_key fresh inside.changed =
-    rw c.as_slice.ensures.value at c.in_ok-changed.ensures in
+    rw c.as_slice.ensures.value at c.in_ok-changed.ensures.slots in
     let rise : IsAscending key_cmp slot_key fresh = slots-rise fresh (rw c.in_ok-fresh.ensures.keys c.requires) in
     rw is (subst (All (Contains (slot_keys (put_all key_cmp slot_key fresh inside.changed)))) c.in_ok-fresh.ensures.keys
     (opened-contains inside.period inside.opening fresh inside.changed _ _ _ c.self.invariant rise c.in_ok-fresh.ensures.own

@@ -15,3 +15,6 @@ returns-clause-few c = rw (← c.self.view_is) (omega (
   c.self.invariant.few,
   length-overlaid key_cmp key_total row_key slot_key held c.self.inside.opening.rows c.self.inside.changed,
 ))
+
+pub returns-clause-small : goal.returns-clause-small
+returns-clause-small c = rw (← c.self.view_is) c.self.invariant.small

@@ -9,13 +9,13 @@ invariant_of-result c =
     let families = rw c.as_slice.ensures.value at c.in_ok-families.ensures in
     record {
       in_order = held-ledger c.args.members c.args.rows c.args.holders.items c.as_slice.ensures.ascending
-          c.runs-rows.ensures.ascending c.requires.held;
+          c.requires.held.rise c.requires.held.held_by;
       all_families = families.names;
       at_home = rw families.names families.homes;
-      held_by = c.requires.held;
+      held_by = c.requires.held.held_by;
       few = c.requires.few;
     }
 
 pub returns-clause-within : goal.returns-clause-within
 returns-clause-within c = held-ledger c.args.members c.args.rows c.args.holders.items c.as_slice.ensures.ascending
-    c.runs-rows.ensures.ascending c.requires.held
+    c.requires.held.rise c.requires.held.held_by

@@ -1,0 +1,10 @@
+pub mod AgedLedger
+pub mod Ages
+pub mod Carried
+pub mod LoadedLedger
+pub mod Loads
+pub mod MergedMembers
+pub mod SafeDays
+pub mod TableCuts
+pub mod TableSteps
+pub mod Thinned

@@ -1,0 +1,10 @@
+-- Plumbing: which files there are.
+pub mod Ageing
+pub mod Batches
+pub mod Loading
+pub mod Table
+pub mod TableAnswer
+pub mod TableField
+pub mod TableLine
+pub mod TextFault
+pub mod Texts

@@ -1,0 +1,34 @@
+//! What is done to books between two runs: members are loaded, and old claims leave.
+//!
+//! In come books, and a table of members or a day; out come books again, and what the call did to them: as values
+//! (`load`, `age`) and from text to text (`members_text`, `founded_text`, `age_text`). Which batches are answered as
+//! before stands in two laws (`law_of_loading`, `law_of_ageing`).
+//!
+//! ```rust
+//! let done = rx_books_upkeep::members_text(alloc, books, table)?;
+//! let aged = rx_books_upkeep::age_text(alloc, &done.books, before, None, 75)?;
+//! ```
+//!
+//! What loading makes of books stands in `specs/Loading.antt`, what ageing does in `specs/Ageing.antt`, a members table in
+//! `specs/Table.antt`, and the texts in `specs/Texts.antt`.
+#![tactic(auto)]
+
+mod ageing;
+mod law;
+mod members;
+mod merging;
+mod safe_day;
+mod table;
+mod table_fault;
+mod table_line;
+mod text_fault;
+mod texts;
+
+pub use ageing::{AgeFault, Aged, age};
+pub use law::{law_of_ageing, law_of_loading};
+pub use members::{Loaded, load};
+pub use safe_day::first_safe_day;
+pub use table::read_members;
+pub use table_fault::{TableFault, Wrong};
+pub use text_fault::UpkeepFault;
+pub use texts::{AgedText, MembersText, age_text, founded_text, members_text};

@@ -1,0 +1,44 @@
+-- A command of a name.
+use Rattle.std.proofs.Common.{◌≡◌, ◌∙◌, ◌<◌, ℕ, List, [], ◌∷◌, codes, sym, ap, arith}
+use Rattle.clap.specs.Words.{Row, Text}
+use Rattle.rx_cli.specs.Asked.{HoldsFault, HoldsNamed, NoneHolds}
+use Rattle.rx_cli.specs.declared.asked.Command.TheVariants.{Run, Show, Plan, Sample, Check, Explain, Verify, Report, Replies}
+use Rattle.rx_cli.specs.declared.asked.Command.TheVariants.{Adjudicate, Age, Fault, Members}
+
+-- the first letter
+letter : Text → ℕ
+letter [] = 0
+letter (b ∷ rest) = b
+
+below : (n m : ℕ) → n ≡ m → n < m → ⊥
+below n m same less = absurd (omega arith)
+
+-- where no numbers of a refusal are held, no command is the one of this name
+pub no_fault_named : (name : Text) (rows : List Row) → name ≡ codes "fault" → NoneHolds (HoldsFault rows)
+    → NoneHolds (HoldsNamed name rows)
+unfolding letter
+no_fault_named name rows is none (Run r) h =
+    below 102 114 (ap letter (sym is ∙ h.0)) (omega arith)
+no_fault_named name rows is none (Show s) h =
+    below 102 115 (ap letter (sym is ∙ h.0)) (omega arith)
+no_fault_named name rows is none (Plan i) h =
+    below 102 112 (ap letter (sym is ∙ h.0)) (omega arith)
+no_fault_named name rows is none Sample h =
+    below 102 115 (ap letter (sym is ∙ h)) (omega arith)
+no_fault_named name rows is none (Check k) h =
+    below 99 102 (ap letter (sym h.0 ∙ is)) (omega arith)
+no_fault_named name rows is none (Explain e) h =
+    below 101 102 (ap letter (sym h.0 ∙ is)) (omega arith)
+no_fault_named name rows is none (Verify v) h =
+    below 102 118 (ap letter (sym is ∙ h.0)) (omega arith)
+no_fault_named name rows is none (Report r) h =
+    below 102 114 (ap letter (sym is ∙ h.0)) (omega arith)
+no_fault_named name rows is none (Adjudicate a) h =
+    below 97 102 (ap letter (sym h.0 ∙ is)) (omega arith)
+no_fault_named name rows is none (Members m) h =
+    below 102 109 (ap letter (sym is ∙ h.0)) (omega arith)
+no_fault_named name rows is none (Age a) h =
+    below 97 102 (ap letter (sym h.0 ∙ is)) (omega arith)
+no_fault_named name rows is none (Replies p) h =
+    below 102 114 (ap letter (sym is ∙ h.0)) (omega arith)
+no_fault_named name rows is none (Fault f) h = none f h.1

@@ -1,0 +1,8 @@
+use Rattle.rx_cli.specs.Syntax.{age_line, members_line}
+use Rattle.rx_cli.proofs.upkeep_syntax.takes_upkeep.Goals as goal
+
+-- one subcommand after another
+pub returns : goal.returns
+returns c app drawn =
+    let members = c.subcommand.ensures app members_line drawn c.members.ensures in
+    c.subcommand-2.ensures _ age_line members c.age.ensures

@@ -1,0 +1,50 @@
+//! What the commands that keep books up are asked to do.
+
+/// Which books a members table is loaded into.
+#[derive(Clone, Copy, Debug, PartialEq, Eq)]
+pub enum Origin<'a> {
+    /// `--books`: these opening books.
+    Books(&'a str),
+    /// `--period FIRST-LAST`, as it was written: the first books of a plan.
+    Period(&'a str),
+}
+
+/// The words of `members`.
+#[derive(Clone, Copy, Debug, PartialEq, Eq)]
+pub struct MembersWords<'a> {
+    pub origin: Origin<'a>,
+    /// `--members`: the members table.
+    pub members: &'a str,
+    /// `--books-out`: the end books.
+    pub books_out: &'a str,
+    /// `--safe`: the end books take their path only when they are written.
+    pub safe: bool,
+}
+
+/// What says which refill percentage a plan has at most.
+#[derive(Clone, Copy, Debug, PartialEq, Eq)]
+pub enum Percent<'a> {
+    /// `--sheet`: the plan sheet.
+    Sheet(&'a str),
+    /// `--refill-percent`, as it was written.
+    Number(&'a str),
+}
+
+/// The words of `age`.
+#[derive(Clone, Copy, Debug, PartialEq, Eq)]
+pub struct AgeWords<'a> {
+    /// `--books`: the opening books.
+    pub books: &'a str,
+    /// `--before`, as it was written.
+    pub before: &'a str,
+    /// `--period FIRST-LAST`, as it was written, where the totals are to be of another period.
+    pub period: Option<&'a str>,
+    /// `--sheet` or `--refill-percent`.
+    pub percent: Percent<'a>,
+    /// `--books-out`: the end books.
+    pub books_out: &'a str,
+    /// `--dropped`: the claims that left.
+    pub dropped: &'a str,
+    /// `--safe`: the outputs take their paths only when both are written.
+    pub safe: bool,
+}

@@ -1,6 +1,0 @@
--- The answers so far.
-use Rattle.std.proofs.Common.{◌≡◌, map, take}
-use Rattle.rx_explain_replay.proofs.record.answers_in.Given as goal
-
-abbrev pub invariant-loop-decided : goal.invariant-loop-decided
-invariant-loop-decided l = l.answers.items ≡ map (λ x. x.answer) (take l.decided-index l.facts)

@@ -1,0 +1,7 @@
+use Rattle.std.proofs.Common.{◌≡◌, ◌++◌, take}
+use Rattle.std.specs.List.{flat_map}
+use Rattle.rx_report.specs.Texts.{claim_json}
+use Rattle.rx_report.proofs.claims.put_claims.Given as goal
+
+abbrev pub invariant-loop-line : goal.invariant-loop-line
+invariant-loop-line l = l.text.items ≡ l.fn.text.items ++ flat_map (claim_json l.lot) (take l.line-index l.lines)

@@ -1,0 +1,101 @@
+ghost use Rattle.std.specs.Prelude.{◌≡◌, ◌++◌, OnOk};
+ghost use Rattle.rx_print.specs.Escape.{escaped};
+ghost use Rattle.rx_print.specs.declared.style.Style.TheVariants.{Html};
+ghost use Rattle.rx_report_text.specs.Origin.{made_text, origin_text, plan_text, file_text, files_text, term_text};
+
+use rx_fields::{Door, Lot};
+use rx_print::{Page, Style};
+use std::alloc::AllocError;
+
+/// A file from which a page was made.
+#[derive(Clone, Copy, Debug)]
+pub struct InputFile<'a> {
+    /// Its path, as it was given.
+    pub path: &'a str,
+    /// The SHA-256 of its bytes, in 64 hexadecimal digits.
+    pub sha256: &'a str,
+}
+
+/// What a page was made from, by what and when.
+#[derive(Clone, Copy, Debug)]
+pub struct Origin<'a> {
+    pub sheet: InputFile<'a>,
+    pub books: InputFile<'a>,
+    pub batch: InputFile<'a>,
+    /// The program and its version.
+    pub program: &'a str,
+    /// The time by the clock, as `2026-11-28 09:55`; empty where it isn't known.
+    pub made: &'a str,
+}
+
+/// What a page says at its head: the batch, the plan, and the page's origin.
+#[derive(Clone, Copy, Debug)]
+pub struct PageHead<'a> {
+    pub lot: Lot,
+    /// The BIN and the processor control number of the sheet.
+    pub door: Door,
+    pub origin: Origin<'a>,
+}
+
+/// Writes the plan, the files, the program and the time.
+pub(crate) fn put_origin(page: &mut Page, head: &PageHead<'_>) -> Result<(), AllocError>
+    ensures { OnOk result (page.new.bytes.items ≡ page.old.bytes.items ++ origin_text head.now) }
+{
+    put_plan(page, &head.door)?;
+    put_files(page, &head.origin)?;
+    put_made(page, &head.origin)
+}
+
+fn put_plan(page: &mut Page, door: &Door) -> Result<(), AllocError>
+    ensures { OnOk result (page.new.bytes.items ≡ page.old.bytes.items ++ plan_text door.now) }
+{
+    page.markup("<dl class=\"origin\">\n<dt>Plan</dt><dd>BIN ")?;
+    page.escaped(Style::Html, &door.bin)?;
+    page.markup(", PCN ")?;
+    page.escaped(Style::Html, &door.pcn)?;
+    page.markup("</dd>\n")
+}
+
+fn put_files(page: &mut Page, origin: &Origin<'_>) -> Result<(), AllocError>
+    ensures { OnOk result (page.new.bytes.items ≡ page.old.bytes.items ++ files_text origin.now) }
+{
+    put_file(page, "Sheet", &origin.sheet)?;
+    put_file(page, "Books", &origin.books)?;
+    put_file(page, "Batch file", &origin.batch)
+}
+
+fn put_file(page: &mut Page, name: &'static str, file: &InputFile<'_>) -> Result<(), AllocError>
+    ensures { OnOk result (page.new.bytes.items ≡ page.old.bytes.items ++ file_text name.now file.now) }
+{
+    page.markup("<dt>")?;
+    page.markup(name)?;
+    page.markup("</dt><dd>")?;
+    put_text(page, file.path)?;
+    page.markup(" <code>")?;
+    put_text(page, file.sha256)?;
+    page.markup("</code></dd>\n")
+}
+
+fn put_made(page: &mut Page, origin: &Origin<'_>) -> Result<(), AllocError>
+    ensures { OnOk result (page.new.bytes.items ≡ page.old.bytes.items ++ made_text origin.now) }
+{
+    put_term(page, "Program", origin.program)?;
+    put_term(page, "Made", origin.made)?;
+    page.markup("</dl>\n")
+}
+
+fn put_term(page: &mut Page, name: &'static str, text: &str) -> Result<(), AllocError>
+    ensures { OnOk result (page.new.bytes.items ≡ page.old.bytes.items ++ term_text name.now text.now) }
+{
+    page.markup("<dt>")?;
+    page.markup(name)?;
+    page.markup("</dt><dd>")?;
+    put_text(page, text)?;
+    page.markup("</dd>\n")
+}
+
+fn put_text(page: &mut Page, text: &str) -> Result<(), AllocError>
+    ensures { OnOk result (page.new.bytes.items ≡ page.old.bytes.items ++ escaped Html text.now) }
+{
+    page.escaped(Style::Html, text.as_bytes())
+}

@@ -1,0 +1,214 @@
+ghost use Rattle.std.specs.Prelude.{◌≡◌, ◌++◌, IfOk, OnOk};
+ghost use Rattle.std.specs.List.{filter, flat_map, list_any};
+ghost use Rattle.rx_fields.specs.Codes.{code_text};
+ghost use Rattle.rx_report_text.specs.RejectCounts.{codes_of, has_code, lines_with};
+ghost use Rattle.rx_report_text.specs.Rejects.{claim_link, code_cells, code_row, given_row, links_text, named_cells, reject_row};
+ghost use Rattle.rx_report_text.specs.Rejects.{rejects_front, rejects_text};
+ghost use Rattle.rx_settle.specs.Providers.{is_same};
+
+use crate::html::put_cell;
+use crate::shown::Shown;
+use rx_d0_values::Answer;
+use rx_explain_text::name;
+use rx_fields::Code;
+use rx_print::Page;
+use rx_report::{Line, Section};
+use std::alloc::{AllocError, Global};
+
+// Every code, in the order of its characters.
+const ALL_CODES: [Code; 31] = [
+    Code::Bin,
+    Code::Version,
+    Code::TransactionCode,
+    Code::ProcessorControlNumber,
+    Code::Provider,
+    Code::Cardholder,
+    Code::OtherCoverage,
+    Code::DateOfService,
+    Code::Reference,
+    Code::DaysSupply,
+    Code::Compound,
+    Code::ProductId,
+    Code::IngredientCost,
+    Code::UnknownCardholder,
+    Code::Person,
+    Code::NotCovered,
+    Code::ProductNotCovered,
+    Code::PlanLimits,
+    Code::RefillTooSoon,
+    Code::TooOld,
+    Code::PostDated,
+    Code::DuplicatePaid,
+    Code::ReversalNotProcessed,
+    Code::TransactionCount,
+    Code::DispensingFee,
+    Code::UsualCharge,
+    Code::GrossAmount,
+    Code::ProductQualifier,
+    Code::Quantity,
+    Code::ReferenceQualifier,
+    Code::Syntax,
+];
+
+/// Why answers were rejected: each code that one has, with its words and with how many have it, and where the page has the
+/// claims, with links to them.
+pub(crate) fn put_rejects(
+    page: &mut Page,
+    sections: &[Section<'_>],
+    unfolds: bool,
+) -> Result<(), AllocError>
+    ensures { OnOk result (page.new.bytes.items ≡ page.old.bytes.items ++ rejects_text unfolds sections.now) }
+{
+    put_headings(page)?;
+    put_each_code(page, sections, unfolds, &ALL_CODES)?;
+    page.markup("</tbody>\n</table>\n")
+}
+
+fn put_headings(page: &mut Page) -> Result<(), AllocError>
+    ensures { OnOk result (page.new.bytes.items ≡ page.old.bytes.items ++ rejects_front) }
+{
+    page.markup(
+        "<table class=\"rejects\">\n<caption>Why rejected: the answers with each reject code; an answer can have several</caption>\n",
+    )?;
+    page.markup(
+        "<thead><tr><th scope=\"col\">Code</th><th scope=\"col\">Meaning</th><th scope=\"col\">Answers</th>",
+    )?;
+    page.markup("<th scope=\"col\">Records</th></tr></thead>\n<tbody>\n")
+}
+
+fn put_each_code(
+    page: &mut Page,
+    sections: &[Section<'_>],
+    unfolds: bool,
+    listed: &[Code],
+) -> Result<(), AllocError>
+    ensures { OnOk result (page.new.bytes.items ≡ page.old.bytes.items ++ flat_map (code_row unfolds sections.now) listed.now) }
+{
+    for code in listed {
+        put_code(page, sections, unfolds, *code)?;
+    }
+    Ok(())
+}
+
+fn put_code(
+    page: &mut Page,
+    sections: &[Section<'_>],
+    unfolds: bool,
+    code: Code,
+) -> Result<(), AllocError>
+    ensures { OnOk result (page.new.bytes.items ≡ page.old.bytes.items ++ code_row unfolds sections.now code) }
+{
+    let lines = lines_with(page.alloc(), code, sections)?;
+    put_given(page, unfolds, code, &lines)
+}
+
+// None for a code that no answer has.
+fn put_given(page: &mut Page, unfolds: bool, code: Code, lines: &[Line]) -> Result<(), AllocError>
+    ensures { OnOk result (page.new.bytes.items ≡ page.old.bytes.items ++ given_row unfolds code lines.now) }
+{
+    if lines.is_empty() {
+        Ok(())
+    } else {
+        put_row(page, unfolds, code, lines)
+    }
+}
+
+fn put_row(page: &mut Page, unfolds: bool, code: Code, lines: &[Line]) -> Result<(), AllocError>
+    ensures { OnOk result (page.new.bytes.items ≡ page.old.bytes.items ++ reject_row unfolds code lines.now) }
+{
+    put_code_cells(page, code)?;
+    page.number(lines.len() as u128)?;
+    page.markup("</td><td>")?;
+    put_links(page, unfolds, lines)?;
+    page.markup("</td></tr>\n")
+}
+
+fn put_code_cells(page: &mut Page, code: Code) -> Result<(), AllocError>
+    ensures { OnOk result (page.new.bytes.items ≡ page.old.bytes.items ++ code_cells code) }
+{
+    put_named(page, &code.text(), name(code))
+}
+
+fn put_named(page: &mut Page, code: &[u8], words: &'static str) -> Result<(), AllocError>
+    ensures { OnOk result (page.new.bytes.items ≡ page.old.bytes.items ++ named_cells code.now words.now) }
+{
+    page.markup("<tr><th scope=\"row\">")?;
+    page.put(code)?;
+    page.markup("</th><td>")?;
+    page.markup(words)?;
+    page.markup("</td><td class=\"count\">")
+}
+
+// None where the page has no claims.
+fn put_links(page: &mut Page, unfolds: bool, lines: &[Line]) -> Result<(), AllocError>
+    ensures { OnOk result (page.new.bytes.items ≡ page.old.bytes.items ++ links_text unfolds lines.now) }
+{
+    if unfolds {
+        put_each_link(page, lines)
+    } else {
+        Ok(())
+    }
+}
+
+fn put_each_link(page: &mut Page, lines: &[Line]) -> Result<(), AllocError>
+    ensures { OnOk result (page.new.bytes.items ≡ page.old.bytes.items ++ flat_map claim_link lines.now) }
+{
+    for line in lines {
+        put_link(page, line)?;
+    }
+    Ok(())
+}
+
+// A claim's record, which leads to its row.
+fn put_link(page: &mut Page, line: &Line) -> Result<(), AllocError>
+    ensures { OnOk result (page.new.bytes.items ≡ page.old.bytes.items ++ claim_link line.now) }
+{
+    page.markup("<a href=\"#r")?;
+    put_cell(page, Shown::Record, line)?;
+    page.markup("\">")?;
+    put_cell(page, Shown::Record, line)?;
+    page.markup("</a> ")
+}
+
+// The lines of an account that are rejected with a code.
+fn lines_with(alloc: Global, code: Code, sections: &[Section<'_>]) -> Result<Vec<Line>, AllocError>
+    ensures { IfOk result (λ lines. lines.items ≡ lines_with code sections.now) }
+{
+    let mut found = Vec::new(alloc);
+    for section in sections {
+        put_lines_with(&mut found, code, section.lines)?;
+    }
+    Ok(found)
+}
+
+fn put_lines_with(found: &mut Vec<Line>, code: Code, lines: &[Line]) -> Result<(), AllocError>
+    ensures { OnOk result (found.new.items ≡ found.old.items ++ filter (has_code code) lines.now) }
+{
+    for line in lines {
+        if has_code(code, line) {
+            found.push(*line)?;
+        }
+    }
+    Ok(())
+}
+
+fn has_code(code: Code, line: &Line) -> bool
+    ensures { result ≡ has_code code line.now }
+{
+    match &line.answer {
+        Answer::Paid(_) | Answer::Twice(_) | Answer::Approved(_) => false,
+        Answer::Refused(refused) => is_among(code, refused.codes.as_slice()),
+    }
+}
+
+fn is_among(code: Code, listed: &[Code]) -> bool
+    ensures { result ≡ list_any (λ d. is_same (code_text d) (code_text code)) listed.now }
+{
+    listed.iter().any(|listed| is_same(*listed, code))
+}
+
+fn is_same(a: Code, b: Code) -> bool
+    ensures { result ≡ is_same (code_text a) (code_text b) }
+{
+    a.text() == b.text()
+}

@@ -1,0 +1,161 @@
+//! The command for people: a batch is checked and adjudicated, and the outputs are written into a folder.
+use crate::ending::Ending;
+use crate::file_fault::{FileFault, ProgramFile};
+use crate::moment::{stamp_or_now, workers_or_all};
+use crate::run_files::{run_as, tell_stamp};
+use crate::settings::{RunManner, RunPlan};
+use crate::shown_path::shown_path;
+use crate::texts::{open_each, read_opened};
+use rx_batch::read_batch;
+use rx_check::{Checked, early_stamp};
+use rx_cli::AdjudicateWords;
+use rx_fields::Memory;
+use rx_io::{Device, Inputs};
+use std::alloc::Global;
+use std::fs;
+use std::fs::File;
+use std::io::{ErrorKind, IsTerminal, Seek, SeekFrom};
+use std::sync::Wait;
+use std::thread::Threads;
+
+/// Checks a batch, adjudicates it as `run --safe` does, and writes the outputs and a line of the log into a folder, which is
+/// made where it isn't there. Nothing is written where an input is refused, or where a warning stops it.
+pub fn adjudicate<R: Threads + Wait + Sync>(
+    rt: &HostRuntime,
+    threads: &R,
+    words: &AdjudicateWords<'_>,
+) -> Result<(), Ending> {
+    let inputs = open_each(rt, &words.inputs)?;
+    look(rt, words, &inputs)?;
+    rewind(rt, words, &inputs)?;
+    make_folder(rt, words.out)?;
+    let stamp = stamp_or_now(rt, words.stamp)?;
+    if !words.quiet {
+        tell_stamp(rt, stamp.as_str());
+    }
+    let workers = workers_or_all(threads, words.workers);
+    let manner = RunManner::of_adjudicate(words, workers, rt.stderr().is_terminal());
+    let plan = RunPlan::of_adjudicate(rt.alloc(), words, stamp, manner)?;
+    run_as(rt, threads, &plan.settings(Some(&inputs))).map_err(in_folder)
+}
+
+// Reports the faults of the inputs and the warnings, and ends where an input is refused or a warning stops the command.
+fn look(
+    rt: &HostRuntime,
+    words: &AdjudicateWords<'_>,
+    inputs: &Inputs<File>,
+) -> Result<(), Ending> {
+    let texts = read_opened(rt, inputs, &words.inputs)?;
+    let checked = check(rt.alloc(), &words.inputs, &texts);
+    let early = early_text(rt.alloc(), words.stamp, texts.batch.as_slice());
+    drop(texts);
+    let Checked {
+        text,
+        refusal,
+        has_warnings: _,
+        warnings,
+    } = checked?;
+    let early = early?;
+    let stops = warnings.stop(words.again, words.strict) || (words.strict && !early.is_empty());
+    let stops_unless_again = !words.again && warnings.stop(false, false);
+    drop(warnings);
+    if let Some(fault) = refusal {
+        return Err(Ending::from(fault).in_words(without_end(rt.alloc(), &text)?));
+    }
+    let _ = eprint!(rt; "{text}{early}");
+    if !stops {
+        return Ok(());
+    }
+    let why = if stops_unless_again {
+        "nothing is written; --again adjudicates despite such warnings"
+    } else {
+        "nothing is written; without --strict such warnings don't matter"
+    };
+    let line = String::from_str(rt.alloc(), why)?;
+    Err(Ending::Stopped(line))
+}
+
+fn check(alloc: Global, paths: &Inputs<&str>, texts: &Inputs<Vec<u8>>) -> Result<Checked, Memory> {
+    let files = Inputs {
+        sheet: texts.sheet.as_slice(),
+        books: Some(texts.books.as_slice()),
+        batch: Some(texts.batch.as_slice()),
+    };
+    let shown = Inputs {
+        sheet: shown_path(alloc, paths.sheet)?,
+        books: shown_path(alloc, paths.books)?,
+        batch: shown_path(alloc, paths.batch)?,
+    };
+    let names = shown.as_ref().map(|name| name.as_str());
+    rx_check::check(alloc, &files, &names)
+}
+
+// The warning of a stamp from before the batch, where one is given.
+fn early_text(alloc: Global, stamp: Option<&str>, batch: &[u8]) -> Result<String, Memory> {
+    let Some(stamp) = stamp else {
+        return Ok(String::new(alloc));
+    };
+    match read_batch(alloc, batch) {
+        Ok(batch) => Ok(early_stamp(alloc, stamp, batch.head.lot().created())?),
+        Err(_) => Ok(String::new(alloc)),
+    }
+}
+
+// The lines without the end of the last.
+fn without_end(alloc: Global, text: &String) -> Result<String, Memory> {
+    Ok(String::from_str(alloc, text.as_str().trim_end())?)
+}
+
+// The inputs are read once more, by the run: a pipe can't be.
+fn rewind(
+    rt: &HostRuntime,
+    words: &AdjudicateWords<'_>,
+    inputs: &Inputs<File>,
+) -> Result<(), Ending> {
+    let files = [
+        (Device::Sheet, words.inputs.sheet, &inputs.sheet),
+        (Device::Books, words.inputs.books, &inputs.books),
+        (Device::Batch, words.inputs.batch, &inputs.batch),
+    ];
+    for (device, path, file) in files {
+        let mut front = file;
+        if let Err(error) = front.seek(SeekFrom::Start(0)) {
+            return Err(Ending::File(FileFault::of(ProgramFile::Of(device), error)).at_path(
+                rt, path,
+            ));
+        }
+    }
+    Ok(())
+}
+
+// Makes the folder, where it isn't there.
+fn make_folder(rt: &HostRuntime, path: &str) -> Result<(), Ending> {
+    match fs::create_dir(rt, path) {
+        Ok(()) => Ok(()),
+        Err(error) if error.kind() == ErrorKind::AlreadyExists => Ok(()),
+        Err(error) => {
+            let fault = FileFault::of(ProgramFile::Of(Device::Response), error);
+            let line = fault.words_of(rt.alloc(), "--out", path)?;
+            Err(Ending::File(fault).in_words(line))
+        }
+    }
+}
+
+// The ending of the run, with the names that the outputs have for the command.
+fn in_folder(ending: Ending) -> Ending {
+    match ending {
+        Ending::OneFile(one, other) => Ending::OneFile(name_of(one), name_of(other)),
+        Ending::NotPlain(one) => Ending::NotPlain(name_of(one)),
+        other => other,
+    }
+}
+
+fn name_of(option: &'static str) -> &'static str {
+    match option {
+        "--response" => "response.bin in --out",
+        "--books-out" => "books.txt in --out",
+        "--settlement" => "settlement.txt in --out",
+        "--log" => "log.jsonl in --out",
+        other => other,
+    }
+}

@@ -1,0 +1,48 @@
+//! What a page says of its origin: the files that were read, the program and the time.
+use crate::ending::Ending;
+use crate::moment::now_in_words;
+use rx_cli::VERSION;
+use rx_fields::Memory;
+use rx_io::Inputs;
+use rx_report_text::{InputFile, Origin};
+use rx_run_log::FileSum;
+
+/// The sums of the files that a page was made from, the program's version, and the time.
+#[derive(Drop)]
+pub struct Noted {
+    sums: Inputs<FileSum>,
+    program: String,
+    made: String,
+}
+
+impl Noted {
+    /// Of these texts, now.
+    pub fn of(rt: &HostRuntime, texts: &Inputs<Vec<u8>>) -> Result<Noted, Ending> {
+        let (alloc, version) = (rt.alloc(), VERSION);
+        Ok(Noted {
+            program: format!(in alloc; "rxbatch {version}")?,
+            sums: texts
+                .as_ref()
+                .map(|text| FileSum::of_bytes(alloc, text.as_slice())),
+            made: now_in_words(rt),
+        })
+    }
+
+    /// The same with the paths of the files.
+    pub fn origin<'a>(&'a self, paths: &Inputs<&'a str>) -> Result<Origin<'a>, Ending> {
+        Ok(Origin {
+            sheet: input_file(paths.sheet, &self.sums.sheet)?,
+            books: input_file(paths.books, &self.sums.books)?,
+            batch: input_file(paths.batch, &self.sums.batch)?,
+            program: self.program.as_str(),
+            made: self.made.as_str(),
+        })
+    }
+}
+
+fn input_file<'a>(path: &'a str, sum: &'a FileSum) -> Result<InputFile<'a>, Ending> {
+    match sum.sha256() {
+        Some(sha256) => Ok(InputFile { path, sha256 }),
+        None => Err(Ending::from(Memory)),
+    }
+}

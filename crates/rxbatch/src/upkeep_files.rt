@@ -1,0 +1,222 @@
+//! The commands that keep books up, on files.
+use crate::ending::Ending;
+use crate::file_fault::ProgramFile;
+use crate::files::open_input;
+use crate::kept_file::KeptFile;
+use crate::nodes::Node;
+use crate::standard_output::print;
+use crate::texts::{bytes_in, opened, text_in};
+use crate::upkeep_values::{day_in, percent_in, percent_of_sheet, period_in};
+use crate::upkeep_words::{Given, refused_books, refused_table};
+use rx_books_upkeep::{AgedText, Loaded, MembersText, age_text, founded_text, members_text};
+use rx_cli::{AgeWords, MembersWords, Origin, Percent};
+use rx_fields::{Day, Memory, date_write};
+use rx_io::Device;
+use std::alloc::Global;
+use std::fs::File;
+
+const BOOKS: ProgramFile = ProgramFile::Of(Device::Books);
+
+const END_BOOKS: ProgramFile = ProgramFile::Of(Device::EndBooks);
+
+/// Loads a table of members into books, and prints what became of its members. A refused call writes nothing.
+pub fn members(rt: &HostRuntime, words: &MembersWords<'_>) -> Result<(), Ending> {
+    let table = open_table(rt, words.members)?;
+    let table_node = Node::of(&table);
+    let (books_node, done) = match words.origin {
+        Origin::Books(path) => {
+            let books = opened(rt, path, Device::Books)?;
+            (Node::of(&books), loaded(rt, words, path, &books, &table)?)
+        }
+        Origin::Period(period) => (Node::Other, first_books(rt, words, period, &table)?),
+    };
+    let inputs = [(BOOKS, books_node), (ProgramFile::Members, table_node)];
+    let put = write_books(rt, words, &inputs, &done.books);
+    put.map_err(|ending| ending.at_path(rt, words.books_out))?;
+    let line = counts_line(rt.alloc(), done.counts);
+    drop(done);
+    print(rt, line?.as_str().as_bytes())
+}
+
+// The table loaded into opening books.
+fn loaded(
+    rt: &HostRuntime,
+    words: &MembersWords<'_>,
+    path: &str,
+    books: &File,
+    table: &File,
+) -> Result<MembersText, Ending> {
+    let books = text_in(rt, books, path, Device::Books)?;
+    let table = table_in(rt, table, words.members)?;
+    members_text(rt.alloc(), &books, &table).map_err(|fault| {
+        let given = Given {
+            books: (path, books.as_slice()),
+            table: (words.members, table.as_slice()),
+            books_out: words.books_out,
+        };
+        given.refused(rt, fault)
+    })
+}
+
+// The first books of a plan.
+fn first_books(
+    rt: &HostRuntime,
+    words: &MembersWords<'_>,
+    period: &str,
+    table: &File,
+) -> Result<MembersText, Ending> {
+    let period = period_in(period)?;
+    let table = table_in(rt, table, words.members)?;
+    match founded_text(rt.alloc(), period, &table) {
+        Ok(done) => Ok(done),
+        Err(fault) => Err(refused_table(rt, words.members, &table, words.books_out, fault)),
+    }
+}
+
+fn open_table(rt: &HostRuntime, path: &str) -> Result<File, Ending> {
+    open_input(rt, path, Device::Books).map_err(|ending| of_table(rt, ending, path))
+}
+
+fn table_in(rt: &HostRuntime, table: &File, path: &str) -> Result<Vec<u8>, Ending> {
+    bytes_in(rt, table, Device::Books).map_err(|ending| of_table(rt, ending, path))
+}
+
+// The ending where the table at a path failed.
+fn of_table(rt: &HostRuntime, ending: Ending, path: &str) -> Ending {
+    ending.of_file(ProgramFile::Members).at_path(rt, path)
+}
+
+// Writes the end books, which are no file of these.
+fn write_books(
+    rt: &HostRuntime,
+    words: &MembersWords<'_>,
+    inputs: &[(ProgramFile, Node); 2],
+    text: &[u8],
+) -> Result<(), Ending> {
+    let [(_, books), (_, table)] = *inputs;
+    let kept = [books, table];
+    let mut file = KeptFile::open(rt, words.books_out, END_BOOKS, words.safe, &kept)?;
+    if let Some(ending) = file.twice(rt, END_BOOKS, inputs.as_slice()) {
+        file.remove_made(rt);
+        return Err(ending);
+    }
+    let done = written(rt, &mut file, text);
+    let ended = file.end(rt, END_BOOKS);
+    done?;
+    ended
+}
+
+fn written(rt: &HostRuntime, file: &mut KeptFile, text: &[u8]) -> Result<(), Ending> {
+    file.put(END_BOOKS, text)?;
+    file.take_path(rt)
+}
+
+fn counts_line(alloc: Global, counts: Loaded) -> Result<String, Memory> {
+    let Loaded {
+        came_in,
+        changed,
+        stayed,
+    } = counts;
+    Ok(format!(in alloc; "{came_in} came in, {changed} changed, {stayed} stayed\n")?)
+}
+
+/// Takes the claims before a day out of books, and prints how many left and the first safe day. A refused call writes
+/// nothing.
+pub fn age(rt: &HostRuntime, words: &AgeWords<'_>) -> Result<(), Ending> {
+    let before = day_in(words.before, "--before")?;
+    let period = match words.period {
+        Some(period) => Some(period_in(period)?),
+        None => None,
+    };
+    let percent = match words.percent {
+        Percent::Number(number) => percent_in(number)?,
+        Percent::Sheet(path) => percent_of_sheet(rt, path)?,
+    };
+    let books = opened(rt, words.books, Device::Books)?;
+    let node = Node::of(&books);
+    let text = text_in(rt, &books, words.books, Device::Books)?;
+    let done = match age_text(rt.alloc(), &text, before, period, percent) {
+        Ok(done) => done,
+        Err(fault) => return Err(refused_books(rt, words.books, &text, words.books_out, fault)),
+    };
+    drop(text);
+    write_aged(&done, rt, words, node).map_err(|ending| at_output(rt, words, ending))?;
+    let line = aged_line(rt.alloc(), done.left, done.first_safe);
+    drop(done);
+    print(rt, line?.as_str().as_bytes())
+}
+
+// The ending where an output failed, in words.
+fn at_output(rt: &HostRuntime, words: &AgeWords<'_>, ending: Ending) -> Ending {
+    let path = match &ending {
+        Ending::File(fault) if fault.file == ProgramFile::Dropped => words.dropped,
+        _ => words.books_out,
+    };
+    ending.at_path(rt, path)
+}
+
+// Writes the claims that left, and then the end books without them.
+fn write_aged(
+    done: &AgedText,
+    rt: &HostRuntime,
+    words: &AgeWords<'_>,
+    books: Node,
+) -> Result<(), Ending> {
+    let kept = [books];
+    let end_books = KeptFile::open(rt, words.books_out, END_BOOKS, words.safe, &kept)?;
+    let name = ProgramFile::Dropped;
+    let dropped = match end_books.open_next(rt, END_BOOKS, words.dropped, name, &kept) {
+        Ok(dropped) => dropped,
+        Err(ending) => {
+            end_books.remove_made(rt);
+            return Err(ending);
+        }
+    };
+    write_both(rt, books, done, end_books, dropped)
+}
+
+fn write_both(
+    rt: &HostRuntime,
+    books: Node,
+    done: &AgedText,
+    mut end_books: KeptFile,
+    mut dropped: KeptFile,
+) -> Result<(), Ending> {
+    let first = end_books.twice(rt, END_BOOKS, &[(BOOKS, books)]);
+    let others = [(BOOKS, books), (END_BOOKS, end_books.node())];
+    let second = dropped.twice(rt, ProgramFile::Dropped, &others);
+    if let Some(ending) = first.or(second) {
+        end_books.remove_made(rt);
+        dropped.remove_made(rt);
+        return Err(ending);
+    }
+    let all = written_both(rt, done, &mut end_books, &mut dropped);
+    let dropped_ended = dropped.end(rt, ProgramFile::Dropped);
+    let books_ended = end_books.end(rt, END_BOOKS);
+    all?;
+    dropped_ended?;
+    books_ended
+}
+
+fn written_both(
+    rt: &HostRuntime,
+    done: &AgedText,
+    end_books: &mut KeptFile,
+    dropped: &mut KeptFile,
+) -> Result<(), Ending> {
+    dropped.put(ProgramFile::Dropped, &done.dropped)?;
+    end_books.put(END_BOOKS, &done.books)?;
+    dropped.take_path(rt)?;
+    end_books.take_path(rt)
+}
+
+fn aged_line(alloc: Global, left: usize, first_safe: Option<Day>) -> Result<String, Memory> {
+    match first_safe {
+        Some(day) => {
+            let digits = date_write(day);
+            let digits = str::from_utf8(&digits).unwrap_or("");
+            Ok(format!(in alloc; "{left} claims left, first safe day {digits}\n")?)
+        }
+        None => Ok(format!(in alloc; "{left} claims left, no safe day\n")?),
+    }
+}
