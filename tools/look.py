@@ -12,6 +12,7 @@ where the program can't be built or doesn't end.
 import argparse
 import pathlib
 import re
+import shutil
 import subprocess
 import sys
 import time
@@ -25,6 +26,14 @@ INPUTS = "--sheet sheet.toml --books books.txt --batch batch.bin"
 CASE = re.compile(r"^(?:== \S+|the end of the program's standard output:)\n(.*?)^case=\d-(\S+) run=(\S+)(?: status=(\d+))?[^\n]*$", re.M | re.S)
 LIMIT = "the program wrote more than"
 TOO_LONG = "(it prints more than 1 MiB, which a build without proofs doesn't show)"
+# the kit's compiler without the sanitizer, which takes a third of the build and looks for what the proofs exclude
+CLANG = """#!/bin/sh
+for word do
+  shift
+  [ "$word" = -fsanitize=address ] || set -- "$@" "$word"
+done
+exec {clang} "$@"
+"""
 
 
 def commands(record, stamp):
@@ -39,6 +48,24 @@ def commands(record, stamp):
     }
 
 
+def quick_rt():
+    """The command `rt` of a kit in out/look that leads to the installed one, but for its compiler."""
+    installed = pathlib.Path(shutil.which("rt")).resolve().parent.parent
+    kit = LOOK / "kit"
+    shutil.rmtree(kit, ignore_errors=True)
+    for folder in (".", "bin", "toolchain", "toolchain/bin"):
+        (kit / folder).mkdir(parents=True, exist_ok=True)
+        for file in (installed / folder).iterdir():
+            if folder == "bin" and file.name in ("rt", "rtlib.py"):
+                shutil.copy(file, kit / folder)
+            elif file.relative_to(installed).as_posix() not in ("bin", "toolchain", "toolchain/bin", "toolchain/bin/clang"):
+                (kit / folder / file.name).symlink_to(file)
+    clang = kit / "toolchain" / "bin" / "clang"
+    clang.write_text(CLANG.format(clang=installed / "toolchain" / "bin" / "clang"))
+    clang.chmod(0o755)
+    return str(kit / "bin" / "rt")
+
+
 def prepare(folder, arguments):
     """Empties out/look, and writes a case for each command. Gives the words that build the program and run it on them."""
     cases = LOOK / "cases"
@@ -50,7 +77,7 @@ def prepare(folder, arguments):
         (cases / f"{at}-{name}.args").write_text(words.replace(" ", "\n") + "\n")
     data = [word for name in NAMES for word in ("--data", f"{name}={folder / name}")]
     # `rt try` interprets each case too, which takes longer than all else and shows the same: that ends at its first step
-    return ["rt", "try", "--steps", "1", *data, "--cases", str(cases)]
+    return [quick_rt(), "try", "--steps", "1", *data, "--cases", str(cases)]
 
 
 def show(heading, text, most):
