@@ -3,10 +3,11 @@
 
     tests/run_upkeep.py PROGRAM [--next-to PROGRAM] [--plans N] [--seed S] [--only WORD] [--jobs J] [--seconds S]
 
-The worked cases are below, with their sums. Each fault of a table is made once, and its words are compared. Then N plans (3)
-live through three years of random nights, with `members` each week and `age` each January, next to books that are never aged:
-those are kept up by a few lines of this file, and adjudicated by the program that `--next-to` names, or else by PROGRAM with
-`--plain`. Each night's response and settlement have to be the same, and the end books the others less the claims that left.
+The worked cases are below, with their sums. Each fault of a table is made once, and its words are compared; one table has
+500,000 rows. Then N plans (3) live through three years of random nights, with `members` each week and `age` each January, next
+to books that are never aged: those are kept up by a few lines of this file, and adjudicated by the program that `--next-to`
+names, or else by PROGRAM with `--plain`. Each night's response and settlement have to be the same, and the end books the
+others less the claims that left.
 
 A case that differs has one line. The last line is `N passed, M failed`; the exit status is 0 where M is 0, else 1.
 """
@@ -180,6 +181,28 @@ def fault(options, case):
     return None if found == inputs else f"the files differ: {sorted(found)}"
 
 
+def large(options, rows):
+    """The same of a large table in any order: first as a plan's first members, then with every fifth one changed."""
+    keys = [(f"F{place // 2:06d}", f"{place % 2 + 1:02d}") for place in range(rows)]
+    days = {key: ("20260101", "20260630" if place % 5 == 0 else "20261231") for place, key in enumerate(keys)}
+    loads = (({key: ("20260101", "20261231") for key in keys}, "--period 20260101-20261231", f"{rows} came in, 0 changed, 0 stayed\n"),
+             (days, "--books books.txt", f"0 came in, {(rows + 4) // 5} changed, {rows - (rows + 4) // 5} stayed\n"))
+    books = b"BOOKS|3|20260101|20261231\n"
+    with tempfile.TemporaryDirectory(prefix="rxbatch-upkeep-") as folder:
+        for table, origin, told in loads:
+            lines = ["\t".join((*key, *span)) + "\n" for key, span in table.items()]
+            random.Random(rows).shuffle(lines)
+            write(folder, "table.tsv", HEADING + "".join(lines).encode())
+            ended = started(options, folder, f"members {origin} --members table.tsv --books-out out.txt --safe".split())
+            if (ended.returncode, ended.stdout, ended.stderr) != (0, told.encode(), b""):
+                return f"status {ended.returncode}, {ended.stdout!r}, {ended.stderr[:200]!r}"
+            books = with_members(books, table)
+            if read(folder, "out.txt") != books:
+                return f"the books differ after {told.strip()!r}"
+            os.replace(os.path.join(folder, "out.txt"), os.path.join(folder, "books.txt"))
+    return None
+
+
 # ---------------------------------------------------------------- a plan that is lived
 
 DRUGS = [(f"7{place:010d}", 1000 + 700 * place) for place in range(1, 4)]
@@ -321,6 +344,7 @@ def main(words):
     options = read_options(parser, words)
     options.next_to = shlex.split(options.next_to) + ["run"] if options.next_to else options.program + ["run", "--plain"]
     cases = [(case[0], worked, case) for case in WORKED] + [(f"a table: {case[0]}", fault, case) for case in FAULTS]
+    cases += [("a table of 500,000 rows", large, 500_000)]
     cases += [(f"plan {options.seed}.{place}", lived, f"{options.seed}.{place}") for place in range(1, options.plans + 1)]
     cases = [case for case in cases if options.only in case[0]]
 
