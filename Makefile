@@ -44,7 +44,7 @@ cases: kit cc
 	python3 tools/count_dialect.py --allowed 6
 	test -x $(PROGRAM) || (cd crates/rxbatch && rt run -- sample)
 	python3 packaging/make_pages.py $(PROGRAM) --check
-	python3 tests/run_packaging.py $(PROGRAM)
+	python3 tests/run_packaging.py $(PROGRAM) --shells
 	python3 tests/run_pages.py $(PROGRAM)
 	python3 tests/run_words.py $(PROGRAM)
 	python3 tests/run_people.py $(PROGRAM)

@@ -103,8 +103,14 @@ def escaped(text):
     return text.replace("\\", "\\e").replace("-", "\\-").replace("'", "\\(aq")
 
 
-def manual(commands):
-    lines = [".TH RXBATCH 1", ".SH NAME", "rxbatch \\- adjudicates pharmacy batch files", ".SH SYNOPSIS"]
+def version_of(program):
+    """The first two words of `--version`: `rxbatch 0.1.0`."""
+    done = subprocess.run([program, "--version"], capture_output=True, text=True, check=False)
+    return " ".join(done.stdout.split()[:2])
+
+
+def manual(commands, version):
+    lines = [f'.TH RXBATCH 1 "" "{version}"', ".SH NAME", "rxbatch \\- adjudicates pharmacy batch files", ".SH SYNOPSIS"]
     for command in commands:
         lines += [".B " + escaped(command.usage), ".br"]
     lines += [
@@ -119,6 +125,8 @@ def manual(commands):
         for short, name, value, told in command.options:
             shown = "\\fB" + escaped(", ".join(filter(None, (short, name)))) + "\\fR"
             lines += [".TP", shown + (f" \\fI{value}\\fR" if value else ""), escaped(told) + "."]
+    lines += [".SS help", "Prints the help, or that of a command, on standard output.",
+              ".SS \\-\\-version, \\-V", "Prints the version, and the kit that proved it."]
     for heading, items in (("FILES", FILES), ("EXIT STATUS", STATUSES), ("DIAGNOSTICS", DIAGNOSTICS)):
         lines.append(".SH " + heading)
         for name, meaning in items:
@@ -135,20 +143,26 @@ def bash(commands):
     for command in commands:
         words = " ".join(" ".join(filter(None, (short, name))) for short, name, _, _ in command.options)
         files = "|".join(name for _, name, value, _ in command.options if value in ("FILE", "DIR"))
-        cases.append(f"    {command.name}) words='{words}'; files='{files}' ;;")
+        others = "|".join(name for _, name, value, _ in command.options if value not in ("FILE", "DIR", None))
+        cases.append(f"    {command.name}) words='{words}'; files='{files}'; others='{others}' ;;")
     names = " ".join(command.name for command in commands)
     return f"""# Completions of rxbatch for bash.
 _rxbatch() {{
-  local word=${{COMP_WORDS[COMP_CWORD]}} before=${{COMP_WORDS[COMP_CWORD - 1]}} words files left name
+  local word=${{COMP_WORDS[COMP_CWORD]}} before=${{COMP_WORDS[COMP_CWORD - 1]}} words files others left name
   if [ "$COMP_CWORD" -eq 1 ]; then
-    mapfile -t COMPREPLY < <(compgen -W '{names}' -- "$word")
+    mapfile -t COMPREPLY < <(compgen -W '{names} help --help --version -V' -- "$word")
     return
   fi
+  # --option=value is three words here
+  if [ "$word" = = ]; then word=; elif [ "$before" = = ]; then before=${{COMP_WORDS[COMP_CWORD - 2]}}; fi
   case ${{COMP_WORDS[1]}} in
 {chr(10).join(cases)}
+    help) words='{names}'; files=''; others='' ;;
   esac
   if [ -n "$files" ] && [[ "|$files|" == *"|$before|"* ]]; then
     mapfile -t COMPREPLY < <(compgen -f -- "$word")
+  elif [ -n "$others" ] && [[ "|$others|" == *"|$before|"* ]]; then
+    COMPREPLY=()
   else
     left=
     for name in $words; do
@@ -171,7 +185,7 @@ def zsh(commands):
         options = []
         for short, name, value, text in command.options:
             action = {"FILE": ":file:_files", "DIR": ":folder:_files -/", None: ""}.get(value, f":{value}:")
-            names = f"'({short} {name})'{{{short},{name}}}'" if short else f"'{name}"
+            names = f"'({short} {name})'{{{short},{name}}}'" if short else f"'{name}{'=' if value else ''}"
             options.append(f"{names}[{quoted(text)}]{action}'")
         cases.append(f"    {command.name}) _arguments {' '.join(options)} ;;")
     return f"""#compdef rxbatch
@@ -179,6 +193,7 @@ def zsh(commands):
 _rxbatch() {{
   local -a commands=(
 {told}
+    'help:Prints the help'
   )
   if (( CURRENT == 2 )); then
     _describe command commands
@@ -189,6 +204,7 @@ _rxbatch() {{
   (( CURRENT-- ))
   case $command in
 {chr(10).join(cases)}
+    help) _describe command commands ;;
   esac
 }}
 _rxbatch "$@"
@@ -199,9 +215,10 @@ def main():
     words = [word for word in sys.argv[1:] if word != "--check"]
     if len(words) != 1:
         sys.exit(__doc__)
-    commands = read_commands(os.path.abspath(words[0]))
+    program = os.path.abspath(words[0])
+    commands = read_commands(program)
     folder = pathlib.Path(__file__).parent
-    pages = {"rxbatch.1": manual(commands), "rxbatch.bash": bash(commands), "_rxbatch": zsh(commands)}
+    pages = {"rxbatch.1": manual(commands, version_of(program)), "rxbatch.bash": bash(commands), "_rxbatch": zsh(commands)}
     passed = 0
     for name, text in pages.items():
         path = folder / name

@@ -3,8 +3,8 @@
 
     run_packaging.py PROGRAM [--shells]
 
-With --shells completions are tried in live shells too. What isn't on the machine (groff, dpkg-deb, lintian, zsh) isn't tried, and
-a line says so.
+With --shells completions are tried in live shells too. What isn't on the machine (groff, man, dpkg-deb, lintian, bash, zsh)
+isn't tried, and a line says so.
 """
 import os
 import pathlib
@@ -38,7 +38,14 @@ TYPED = [
     ("rxbatch run --she", "--sheet", None),
     ("rxbatch run --verb", "--verbose", None),
     ("rxbatch run --plain --pla", None, "--plain --plain"),
+    ("rxbatch run --plain --verb", "--verbose", None),
+    ("rxbatch run --workers --pla", None, "--plain"),
     ("rxbatch run --sheet packag", "packaging/", None),
+    ("rxbatch run --sheet=packag", "packaging/", None),
+    ("rxbatch adjudicate --sheet CONTRIB", "CONTRIBUTING.md", None),
+    ("rxbatch adjudicate --out examp", "examples/", None),
+    ("rxbatch hel", "help", None),
+    ("rxbatch help adj", "adjudicate", None),
 ]
 
 
@@ -67,10 +74,13 @@ def installed_and_removed(program, folder):
     return done.stderr or (f"left after uninstalling: {sorted(left)}" if left else None)
 
 
-def manual_is_fine(_program, _folder):
-    words = ["groff", "-man", "-ww", "-Tutf8", ROOT / "packaging/rxbatch.1"]
-    done = subprocess.run(words, capture_output=True, text=True)
-    return done.stderr or (None if "docs/CLI.md" in done.stdout else "the manual page ends early")
+def shown_by(*words):
+    """Nothing is said of the manual page, and it is shown to its end."""
+    def tried(_program, _folder):
+        done = subprocess.run([*words, ROOT / "packaging/rxbatch.1"], capture_output=True, text=True)
+        return done.stderr or (None if "docs/CLI.md" in done.stdout else "the manual page ends early")
+
+    return tried
 
 
 def package_is_fine(program, folder):
@@ -115,10 +125,12 @@ class Shell:
                 break
         return DRAWN.sub("", text.decode("utf-8", "replace"))
 
-    def completed(self, typed):
-        """What stands after the tabulator is pressed; the line is then deleted."""
+    def completed(self, typed, there):
+        """What stands after the tabulator is pressed, once this is there or after a time; the line is then deleted."""
         os.write(self.terminal, typed.encode() + b"\t")
-        text = self.read(5.0)
+        text, end = self.read(5.0), time.monotonic() + 20
+        while there and there not in text and time.monotonic() < end:
+            text += self.read(1.0)
         os.write(self.terminal, b"\x15")
         self.read(0.5)
         return text
@@ -133,7 +145,7 @@ def completions_of(words, start):
         shell = Shell(words, start)
         try:
             for typed, there, absent in TYPED:
-                text = shell.completed(typed)
+                text = shell.completed(typed, there)
                 if (there and there not in text) or (absent and absent in text):
                     return f"{words[0]}: {typed!r} became {text!r}"
         finally:
@@ -151,7 +163,8 @@ def main():
     folder = ROOT / "packaging"
     tests = [
         ("make", "installed and removed", installed_and_removed),
-        ("groff", "the manual page", manual_is_fine),
+        ("groff", "the manual page", shown_by("groff", "-man", "-ww", "-Tutf8")),
+        ("man", "the manual page", shown_by("man", "--warnings", "--local-file")),
         ("dpkg-deb", "the package", package_is_fine),
     ]
     if "--shells" in sys.argv:
