@@ -144,66 +144,97 @@ for key, old, wanted, number in (
     sheet_with(f"no {key}", old, b"", f": {key} is missing: {wanted}", 3, 2, number)
 NO_TIERS = SHEET[:SHEET.index(b"[tiers]")]
 sheet_with("a misspelt key", b"refill_percent", b"refil_percent", ": refill_percent is missing: expected a whole number from "
-           "0 to 100, e.g. 75; refil_percent is no key of a sheet: is it meant?", 3, 2, 7)
+           "0 to 100, e.g. 75; line 7 has refil_percent: is it meant?", 3, 2, 7)
 sheet("no tiers", NO_TIERS, ": tiers is missing: expected a table, e.g. [tiers] with a line 1 = 1000", 3, 2, 10)
 sheet("no drugs", SHEET[:SHEET.index(b"[drugs")],
       ": drugs is missing: expected tables, e.g. [drugs.00001000101] with tier and price", 3, 2, 11)
 sheet_with("a drug without tier", b'[drugs.00002000202]\ntier = "2"\n', b"[drugs.00002000202]\n",
-           ": drug 00002000202: tier is missing: expected the name of one of the tiers in quotes", 3, 2, 12)
+           ":17: drug 00002000202: tier is missing: expected the name of one of the tiers in quotes", 3, 2, 12)
 sheet_with("a drug without price", b"price = 100000\n", b"",
-           ": drug 00002000202: price is missing: expected hundredths of a cent per unit, "
+           ":17: drug 00002000202: price is missing: expected hundredths of a cent per unit, "
            "a whole number from 0 to 1000000000", 3, 2, 13)
-sheet_with("bin of five digits", b'"900001"', b'"90001"', ': bin = "90001": expected 6 digits in quotes, e.g. "900001"',
+sheet_with("bin of five digits", b'"900001"', b'"90001"', ':1: bin = "90001": expected 6 digits in quotes, e.g. "900001"',
            3, 3, 1)
-sheet_with("bin without quotes", b'"900001"', b"900001", ': bin = 900001: expected 6 digits in quotes, e.g. "900001"',
+sheet_with("bin without quotes", b'"900001"', b"900001", ':1: bin = 900001: expected 6 digits in quotes, e.g. "900001"',
            3, 3, 1)
 sheet_with("pcn of eleven bytes", b'"RXDEMO"', b'"RXDEMORXDEM"',
-           ': pcn = "RXDEMORXDEM": expected 0 to 10 printable characters in quotes, e.g. "RXDEMO"', 3, 3, 2)
+           ':2: pcn = "RXDEMORXDEM": expected 0 to 10 printable characters in quotes, e.g. "RXDEMO"', 3, 3, 2)
 sheet_with("a date with dashes", b'period_first = "20260101"', b'period_first = "2026-01-01"',
-           ': period_first = "2026-01-01": expected 8 digits in quotes, e.g. "20260101"', 3, 3, 3)
+           ':3: period_first = "2026-01-01": expected 8 digits in quotes, e.g. "20260101"', 3, 3, 3)
 sheet_with("a bare date", b'period_first = "20260101"', b"period_first = 2026-01-01",
-           ': period_first = (a date without quotes): expected 8 digits in quotes, e.g. "20260101"', 3, 3, 3)
+           ':3: period_first = (a date without quotes): expected 8 digits in quotes, e.g. "20260101"', 3, 3, 3)
 sheet_with("no such first day", b'period_first = "20260101"', b'period_first = "20260230"',
-           ': period_first = "20260230": no such date', 3, 3, 3)
-sheet_with("no such last day", b'"20261231"', b'"20261131"', ': period_last = "20261131": no such date', 3, 3, 4)
+           ':3: period_first = "20260230": no such date', 3, 3, 3)
+sheet_with("no such last day", b'"20261231"', b'"20261131"', ':4: period_last = "20261131": no such date', 3, 3, 4)
 sheet_with("the last day before the first", b'"20261231"', b'"20251231"',
-           ': period_last = "20251231": the last day is before the first, "20260101"', 3, 3, 4)
+           ':4: period_last = "20251231": the last day is before the first, "20260101"', 3, 3, 4)
 sheet_with("a negative deductible", b"member_deductible = 10000", b"member_deductible = -1",
-           ": member_deductible = -1: expected whole cents from 0 to 99999999999, e.g. 10000", 3, 3, 5)
+           ":5: member_deductible = -1: expected whole cents from 0 to 99999999999, e.g. 10000", 3, 3, 5)
 sheet_with("a maximum in words", b"family_maximum = 30000", b'family_maximum = "30000"',
-           ': family_maximum = "30000": expected whole cents from 0 to 99999999999, e.g. 30000', 3, 3, 6)
+           ':6: family_maximum = "30000": expected whole cents from 0 to 99999999999, e.g. 30000', 3, 3, 6)
 sheet_with("refill_percent 101", b"refill_percent = 75", b"refill_percent = 101",
-           ": refill_percent = 101: expected a whole number from 0 to 100, e.g. 75", 3, 3, 7)
+           ":7: refill_percent = 101: expected a whole number from 0 to 100, e.g. 75", 3, 3, 7)
 sheet_with("max_days 0", b"max_days = 90", b"max_days = 0",
-           ": max_days = 0: expected a whole number from 1 to 999, e.g. 90", 3, 3, 8)
+           ":8: max_days = 0: expected a whole number from 1 to 999, e.g. 90", 3, 3, 8)
 sheet_with("a fee with a point", b"fee = 175", b"fee = 1.5",
-           ": fee = 1.5: expected whole cents from 0 to 99999999, e.g. 150", 3, 3, 9)
+           ":9: fee = 1.5: expected whole cents from 0 to 99999999, e.g. 150", 3, 3, 9)
 sheet_with("a fee in quotes", b"fee = 175", b'fee = "150"',
-           ': fee = "150": expected whole cents from 0 to 99999999, e.g. 150', 3, 3, 9)
+           ':9: fee = "150": expected whole cents from 0 to 99999999, e.g. 150', 3, 3, 9)
 sheet_with("percent 120", b"percent = 20", b"percent = 120",
-           ': tier "4": percent = 120: expected a whole number from 0 to 100, e.g. 20', 3, 3, 10)
+           ':13: tier "4": percent = 120: expected a whole number from 0 to 100, e.g. 20', 3, 3, 10)
 sheet_with("procent", b"{ percent = 20 }", b"{ procent = 20 }",
-           ': tier "4" is a table without percent: expected { percent = 20 }', 3, 3, 10)
+           ':13: tier "4" is a table without percent: expected { percent = 20 }', 3, 3, 10)
 sheet_with("a copay with a point", b"2 = 3000", b"2 = 30.25",
-           ': tier "2" = 30.25: expected whole cents from 0 to 99999999, e.g. 1000, or { percent = 20 }', 3, 3, 10)
+           ':12: tier "2" = 30.25: expected whole cents from 0 to 99999999, e.g. 1000, or { percent = 20 }', 3, 3, 10)
 sheet("tiers no table", NO_TIERS + b"tiers = 3\n" + SHEET[SHEET.index(b"[drugs"):],
-      ": tiers isn't a table: expected a table, e.g. [tiers] with a line 1 = 1000", 3, 3, 10)
+      ":10: tiers isn't a table: expected a table, e.g. [tiers] with a line 1 = 1000", 3, 3, 10)
 sheet("drugs no table", b"drugs = 3\n" + SHEET[:SHEET.index(b"[drugs")],
-      ": drugs isn't a table: expected tables, e.g. [drugs.00001000101] with tier and price", 3, 3, 11)
+      ":1: drugs isn't a table: expected tables, e.g. [drugs.00001000101] with tier and price", 3, 3, 11)
 sheet_with("a product with dashes", b"[drugs.00002000202]", b"[drugs.0000-2000-202]",
-           ': drug "0000-2000-202": a product is 11 digits without dashes, as 00001000101', 3, 3, 11)
+           ':17: drug "0000-2000-202": a product is 11 digits without dashes, as 00001000101', 3, 3, 11)
 sheet_with("a product of ten digits", b"[drugs.00002000202]", b"[drugs.0002000202]",
-           ': drug "0002000202": a product is 11 digits without dashes, as 00001000101', 3, 3, 11)
+           ':17: drug "0002000202": a product is 11 digits without dashes, as 00001000101', 3, 3, 11)
 sheet("a drug that is no table", SHEET[:SHEET.index(b"[drugs")] + b"[drugs]\n00001000101 = 3\n",
-      ": drug 00001000101 = 3: expected a table with tier and price", 3, 3, 11)
-sheet_with("no such tier", b'tier = "2"', b'tier = "9"', ': drug 00002000202: tier = "9": no tier has this name; the tiers are 1 2 4', 3, 3, 12)
+      ":15: drug 00001000101 = 3: expected a table with tier and price", 3, 3, 11)
+sheet_with("no such tier", b'tier = "2"', b'tier = "9"', 
+           ':18: drug 00002000202: tier = "9": no tier has this name; the tiers are 1, 2, 4', 3, 3, 12)
 sheet_with("a tier without quotes", b'tier = "2"', b"tier = 2",
-           ': drug 00002000202: tier = 2: expected the name of a tier in quotes, e.g. "1"', 3, 3, 12)
+           ':18: drug 00002000202: tier = 2: expected the name of a tier in quotes, e.g. "1"', 3, 3, 12)
 sheet_with("a price with a point", b"price = 100000", b"price = 10.5",
-           ": drug 00002000202: price = 10.5: expected hundredths of a cent per unit, "
+           ":19: drug 00002000202: price = 10.5: expected hundredths of a cent per unit, "
            "a whole number from 0 to 1000000000", 3, 3, 13)
+sheet_with("a tier like another", b'tier = "2"', b'tier = "21"',
+           ':18: drug 00002000202: tier = "21": no tier has this name; the tiers are 1, 2, 4', 3, 3, 12)
+sheet("a tier like two others", changed(changed(SHEET, b"2 = 3000", b"bran = 3000\nbrand = 50"), b'tier = "2"', b'tier = "brands"'),
+      ':19: drug 00002000202: tier = "brands": no tier has this name; the tiers are 1, 4, bran, brand: is "brand" meant?', 3, 3, 12)
+sheet("no tier at all", changed(SHEET, b"1 = 1000\n2 = 3000\n4 = { percent = 20 }\n", b""),
+      ':12: drug 00001000101: tier = "1": no tier has this name; there are no tiers', 3, 3, 12)
+sheet_with("two keys like a missing one", b"refill_percent = 75", b"refill_perc = 75\nrefill_percentt = 75",
+           ": refill_percent is missing: expected a whole number from 0 to 100, e.g. 75; line 8 has refill_percentt: is it meant?", 3, 2, 7)
+sheet_with("a key like none", b"refill_percent = 75", b"note = 75",
+           ": refill_percent is missing: expected a whole number from 0 to 100, e.g. 75", 3, 2, 7)
+# the same key below another heading, in a comment, with blanks, in quotes, CR LF, in a table of one line
+sheet("a price of another drug", changed(SHEET, b"price = 100000", b"price = -1"),
+      ":19: drug 00002000202: price = -1: expected hundredths of a cent per unit, a whole number from 0 to 1000000000", 3, 3, 13)
+sheet("a key in a comment too", b"# fee = 1\n" + changed(SHEET, b"fee = 175", b"fee = -1"),
+      ":10: fee = -1: expected whole cents from 0 to 99999999, e.g. 150", 3, 3, 9)
+sheet_with("blanks round a key", b"fee = 175", b" \t fee\t= -1",
+           ":9: fee = -1: expected whole cents from 0 to 99999999, e.g. 150", 3, 3, 9)
+sheet_with("a key in quotes", b"fee = 175", b'"fee" = -1', ":9: fee = -1: expected whole cents from 0 to 99999999, e.g. 150", 3, 3, 9)
+sheet("CR LF", changed(SHEET, b"fee = 175", b"fee = -1").replace(b"\n", b"\r\n"),
+      ":9: fee = -1: expected whole cents from 0 to 99999999, e.g. 150", 3, 3, 9)
+sheet_with("a drug in quotes", b'[drugs.00002000202]\ntier = "2"', b"[ drugs.'00002000202' ]  # ]\ntier = 2",
+           ':18: drug 00002000202: tier = 2: expected the name of a tier in quotes, e.g. "1"', 3, 3, 12)
+sheet("a drug on one line", SHEET[:SHEET.index(b"[drugs")] + b'[drugs]\n00001000101 = { tier = "1", price = -1 }\n',
+      ":15: drug 00001000101: price = -1: expected hundredths of a cent per unit, a whole number from 0 to 1000000000", 3, 3, 13)
+sheet("keys with dots", changed(SHEET, b"4 = { percent = 20 }", b"4.percent = 120"),
+      ':13: tier "4": percent = 120: expected a whole number from 0 to 100, e.g. 20', 3, 3, 10)
+sheet("a tier with a heading", changed(SHEET, b"4 = { percent = 20 }", b"[tiers.4]\nname = 1\npercent = 120"),
+      ':15: tier "4": percent = 120: expected a whole number from 0 to 100, e.g. 20', 3, 3, 10)
+sheet_with("a key that is spelled otherwise", b"fee = 175", b'"f\\u0065e" = -1',
+           ": fee = -1: expected whole cents from 0 to 99999999, e.g. 150", 3, 3, 9)
 sheet_with("a family deductible below 0", b"fee = 175", b"fee = 175\nfamily_deductible = -5",
-           ": family_deductible = -5: expected whole cents from 0 to 99999999999, e.g. 10000", 3, 3, 14)
+           ":10: family_deductible = -5: expected whole cents from 0 to 99999999999, e.g. 10000", 3, 3, 14)
 
 # ---- the books
 
@@ -301,12 +332,16 @@ batch("gzip", b"\x1f\x8b\x08\0\0\0\0\0\2\3", ': header, byte 0: "<1F><8B><08><00
       "expected STX (X'02'); this looks like gzip " + RENEWED.replace('%s "$1"', 'zcat < "$1"') % "batch.bin", 5, 1, 0)
 batch("spelled control bytes", BATCH.replace(b"\x02", b"<02>").replace(b"\x03", b"<03>"),
       ': header, byte 0: "<02>00TPHARMSYS ": expected STX (X\'02\'); '
-      "this looks like a batch file whose control bytes are spelled out", 5, 1, 0)
+      "this looks like a batch file whose control bytes are spelled out "
+      r"(sed -i 's/<02>/\x02/g;s/<03>/\x03/g;s/<1C>/\x1c/Ig;s/<1D>/\x1d/Ig;s/<1E>/\x1e/Ig;s/<0[AD]>//Ig' batch.bin)", 5, 1, 0)
 batch("a books file", BOOKS, ': header, byte 0: "BOOKS|3|20260101": expected STX (X\'02\'); this looks like a books file',
       5, 1, 0)
 batch("a stray byte", HEADER + b"X" + DETAIL + trailer(),
       ": record 1, byte 75: \"X<02>G1000000000190\" after a record's ETX (X'03'): expected STX (X'02'); "
       "a record must not contain ETX", 5, 1, 75)
+batch("a blank after a record", HEADER + b" " + DETAIL + trailer(),
+      ": record 1, byte 75: a blank after a record's ETX (X'03'): only line ends may stand between records "
+      r"(sed -i 's/\x03[[:blank:]]*/\x03/g' batch.bin)", 5, 1, 75)
 batch("empty", b"", ": header, byte 0: the file is empty: expected a header, which begins STX 00", 5, 2, 0)
 batch("line ends alone", b"\r\n", ": header, byte 2: the file ends before a header, which begins STX 00", 5, 2, 2)
 batch("a detail first", DETAIL + trailer(),
@@ -348,6 +383,8 @@ batch("a trailer of another batch", HEADER + DETAIL + trailer(number=b"0000041")
       ': record 2, byte 270: the trailer has batch number "0000041", the header "0000042"', 5, 9, 270)
 batch("another count", HEADER + DETAIL + trailer(b"0000000007"),
       ": record 2, byte 270: the trailer says 7 records, the file has 1: it may have been cut or joined", 5, 10, 270)
+batch("X'1A' after the trailer", BATCH + b"\x1a",
+      r": record 3, byte 326: X'1A' (Ctrl-Z) follows the trailer: the file ends with the trailer (sed -i '$s/\x1a$//' batch.bin)", 5, 11, 326)
 batch("a byte behind the trailer", BATCH + b"X", ': record 3, byte 326: 1 bytes follow the trailer, "X": '
       "the file ends with the trailer", 5, 11, 326)
 batch("a second batch", BATCH + BATCH,

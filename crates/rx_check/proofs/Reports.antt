@@ -7,7 +7,7 @@ use Rattle.rx_diagnostics.specs.Lines.{BeginsAt, line_text}
 use Rattle.rx_diagnostics.specs.declared.place.Place.{Place}
 use Rattle.rx_diagnostics.specs.declared.words.Words.{Words}
 use Rattle.rx_check.specs.Report.{TellsAt, ignored_text, warning_line}
-use Rattle.rx_check.proofs.LeastApart.{names_more}
+use Rattle.rx_diagnostics.proofs.LeastApart.{names_more}
 
 -- the line of a file has such words
 pub tells : {Z E : Type 0} (Are : Words → Type 0) (file : List ℕ) (words : Words) (r : Result (String Z) E)

@@ -10,11 +10,13 @@ use Rattle.rx_sheet.specs.declared.fault.SheetFault.{SheetFault}
 use Rattle.rx_switch.specs.declared.fault.SwitchFault.{SwitchFault}
 use Rattle.rx_switch.specs.declared.fault.SwitchFault.TheVariants as fault
 use Rattle.rx_diagnostics.specs.declared.place.Place.{Place}
+use Rattle.rx_diagnostics.specs.declared.place.Place.TheVariants as place
 use Rattle.rx_check.specs.Wording.{AreBatchWords, AreBooksWords, AreSheetWords}
 use Rattle.rx_check.specs.declared.fault_lines.RunInputs.{RunInputs}
 use Rattle.rx_diagnostics.specs.Lines.{BeginsAt, line_text}
-use Rattle.rx_diagnostics.specs.Places.{IsSheetPlace, batch_place, books_place, unread_batch_place}
+use Rattle.rx_diagnostics.specs.Places.{batch_place, books_place, unread_batch_place}
 use Rattle.rx_diagnostics.specs.Quoting.{quoted_text}
+use Rattle.rx_diagnostics.specs.SheetPlaces.{IsSheetPlace}
 use Rattle.rx_diagnostics.specs.declared.words.Words.{Words}
 use Rattle.rx_text.specs.Bytes.{all_digits}
 
@@ -23,9 +25,15 @@ abbrev pub batch_place_in : Option (List ℕ) → BatchFault → Place
 batch_place_in None f = unread_batch_place f
 batch_place_in (Some text) f = batch_place text f
 
+-- the place of a sheet's fault; the whole sheet where it couldn't be read again
+abbrev pub IsSheetPlaceIn : Option (List ℕ) → SheetFault → Place → Type 0
+IsSheetPlaceIn None f at = at ≡ place.Whole
+IsSheetPlaceIn (Some text) f at = IsSheetPlace text f at
+
 -- the line begins at the fault's place in its file; a fault of no file names an option, or what there was too little of
 abbrev pub IsFaultLine : RunInputs → SwitchFault → List ℕ → Type 0
-IsFaultLine run (fault.Sheet f) line = (at : Place) × IsSheetPlace f at × BeginsAt run.inputs.sheet.name.now at line
+IsFaultLine run (fault.Sheet f) line =
+    (at : Place) × IsSheetPlaceIn (option_copied run.inputs.sheet.text) f at × BeginsAt run.inputs.sheet.name.now at line
 IsFaultLine run (fault.Books f) line = BeginsAt run.inputs.books.name.now (books_place f) line
 IsFaultLine run (fault.Batch f) line =
     BeginsAt run.inputs.batch.name.now (batch_place_in (option_copied run.inputs.batch.text) f) line

@@ -5,7 +5,7 @@ use Rattle.toml.specs.Data.{Data, Members, no_members, member, as_table, get_mem
 use Rattle.rx_sheet.specs.SheetText.{tree_of}
 use Rattle.rx_sheet.specs.declared.fault.SheetFault.{SheetFault}
 pub use Rattle.rx_diagnostics.specs.KnownKeys.{is_among, sheet_keys, texts_of}
-use Rattle.rx_check.specs.Likeness.{nearest}
+use Rattle.rx_diagnostics.specs.Likeness.{nearest}
 use Rattle.rx_check.specs.declared.ignored.Part.{Part}
 use Rattle.rx_check.specs.declared.ignored.Part.TheVariants as part
 use Rattle.rx_check.specs.declared.ignored.TheConstants.{DRUG_KEYS, TIER_KEYS}

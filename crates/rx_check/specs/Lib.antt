@@ -4,7 +4,6 @@ pub mod Faults
 pub mod Found
 pub mod Ignored
 pub mod Inputs
-pub mod Likeness
 pub mod Numbered
 pub mod Refusals
 pub mod Report

@@ -1,8 +1,9 @@
 ghost use Rattle.std.specs.Prelude.{◌≡◌, IfOk, option_copied, string_bytes};
 ghost use Rattle.rx_diagnostics.specs.Lines.{BeginsAt};
-ghost use Rattle.rx_diagnostics.specs.Places.{IsSheetPlace, books_place};
+ghost use Rattle.rx_diagnostics.specs.Places.{books_place};
 ghost use Rattle.rx_diagnostics.specs.declared.place.Place.{Place};
-ghost use Rattle.rx_check.specs.Faults.{IsFaultLine, IsFaultText, IsLineOf, batch_place_in, stamp_fault, stamp_text, workers_text};
+ghost use Rattle.rx_check.specs.Faults.{IsFaultLine, IsFaultText, IsLineOf, IsSheetPlaceIn, batch_place_in, stamp_fault};
+ghost use Rattle.rx_check.specs.Faults.{stamp_text, workers_text};
 ghost use Rattle.rx_check.specs.Wording.{AreBatchWords, AreBooksWords, AreSheetWords};
 
 use rx_batch::BatchFault;
@@ -62,7 +63,7 @@ pub fn fault_words(alloc: Global, fault: SwitchFault, run: &RunInputs<'_>) -> Re
 // The line of a fault of the sheet.
 fn sheet_line(alloc: Global, fault: SheetFault, input: &Input<'_>) -> Result<String, Memory>
     ensures begins { IfOk result (λ line.
-        (at : Place) × IsSheetPlace fault at × BeginsAt input.now.name.now at (string_bytes line)) }
+        (at : Place) × IsSheetPlaceIn (option_copied input.now.text) fault at × BeginsAt input.now.name.now at (string_bytes line)) }
     ensures said { IfOk result (λ line.
         IsLineOf (AreSheetWords (option_copied input.now.text) fault) input.now.name.now (string_bytes line)) }
 {
@@ -91,9 +92,8 @@ fn batch_line(alloc: Global, fault: BatchFault, input: &Input<'_>) -> Result<Str
     words.line(alloc, input.name)
 }
 
-#[tactic(auto, using(crate::proofs::Wholes::whole_is_place))]
 fn words_of_sheet(alloc: Global, fault: SheetFault, text: Option<&[u8]>) -> Result<Words, Memory>
-    ensures place { IfOk result (λ words. IsSheetPlace fault words.place) }
+    ensures place { IfOk result (λ words. IsSheetPlaceIn (option_copied text.entry) fault words.place) }
     ensures said { IfOk result (AreSheetWords (option_copied text.entry) fault) }
 {
     match text {

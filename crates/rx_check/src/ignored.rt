@@ -5,8 +5,7 @@ ghost use Rattle.rx_check.specs.Ignored.{drug_lines, each_of, hint, ignored_line
 ghost use Rattle.rx_check.specs.Ignored.{lines_of, misplaced_line, misplaced_lines, name_lines, part_lines, sheet_lines};
 ghost use Rattle.rx_check.specs.Ignored.{table_at, table_lines, texts_of, tier_lines};
 
-use crate::likeness::nearest;
-use rx_diagnostics::{SHEET_KEYS, is_among};
+use rx_diagnostics::{SHEET_KEYS, is_among, nearest};
 use rx_fields::Memory;
 use std::alloc::{AllocError, Global};
 use toml::{Table, Value};

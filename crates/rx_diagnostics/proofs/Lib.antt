@@ -2,6 +2,7 @@
 pub mod FirstFaults
 pub mod KnownNames
 pub mod Lacking
+pub mod LeastApart
 pub mod Listings
 pub mod Searches
 pub mod Totals

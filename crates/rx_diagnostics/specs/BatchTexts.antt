@@ -40,12 +40,18 @@ outside_with there None true =
     there ++ codes " after a record's ETX (X'03'): expected STX (X'02'); a record must not contain ETX"
 outside_with there None false = there ++ codes " where a record could begin: expected STX (X'02')"
 
+-- a blank or a tab stands right after a record
+abbrev pub is_blank_after : List ℕ → ℕ → Bool
+is_blank_after text at = ends_before text at && (begins (drop at text) (codes " ") || begins (drop at text) (9 ∷ []))
+
 -- a byte where a record could begin
 unfoldable pub outside_text : List ℕ → ℕ → List ℕ
 outside_text text at =
     if at == 0 && has_mark text
     then codes "the file begins with a byte order mark (EF BB BF): expected STX (X'02')"
-    else outside_with (seen_at text at) (kind_at text at) (ends_before text at)
+    else (if is_blank_after text at
+    then codes "a blank after a record's ETX (X'03'): only line ends may stand between records"
+    else outside_with (seen_at text at) (kind_at text at) (ends_before text at))
 
 -- no header where one is expected
 unfoldable pub no_header_text : List ℕ → ℕ → List ℕ
@@ -55,13 +61,22 @@ no_header_text text at =
     else (codes "the first record begins "
     ++ (quoted_text (take 2 (behind text at)) ++ codes ": expected a header, which begins \"00\"")))
 
+-- X'1A', with which some systems end a text
+abbrev pub is_end_mark : List ℕ → Bool
+is_end_mark rest = bytes_eq rest (26 ∷ [])
+
+unfoldable pub follows_text : List ℕ → ℕ → List ℕ
+follows_text text at =
+    if is_end_mark (drop at text) then codes "X'1A' (Ctrl-Z) follows the trailer: the file ends with the trailer"
+    else (decimal (length (drop at text)) ++ (codes " bytes follow the trailer, "
+    ++ (seen_at text at ++ codes ": the file ends with the trailer")))
+
 -- what follows the trailer
 unfoldable pub after_text : List ℕ → ℕ → List ℕ
 after_text text at =
     if begins (drop at text) (STX ∷ codes "00")
     then codes "a second batch begins after the trailer: a file has one batch"
-    else (decimal (length (drop at text)) ++ (codes " bytes follow the trailer, "
-    ++ (seen_at text at ++ codes ": the file ends with the trailer")))
+    else follows_text text at
 
 -- ---- a record's fields
 
@@ -208,15 +223,22 @@ batch_text text (fault.AfterTrailer at) = after_text text at
 batch_text text (fault.TooMuch at) = too_much_text
 batch_text text fault.Memory = no_memory_text
 
--- the command that takes away a byte order mark, or unpacks a file
+-- the command that takes away a byte order mark, unpacks a file, or writes control bytes that are spelled out as themselves
 abbrev pub front_mend : List ℕ → List ℕ
 front_mend text =
     if has_mark text then codes "sed -i '1s/^\\xef\\xbb\\xbf//'"
-    else (if begins text (31 ∷ 139 ∷ []) then codes "sh -c 'zcat < \"$1\" > \"$1.new\" && mv \"$1.new\" \"$1\"' sh" else [])
+    else (if begins text (31 ∷ 139 ∷ []) then codes "sh -c 'zcat < \"$1\" > \"$1.new\" && mv \"$1.new\" \"$1\"' sh"
+    else (if begins text (codes "<02>")
+    then codes "sed -i 's/<02>/\\x02/g;s/<03>/\\x03/g;s/<1C>/\\x1c/Ig;s/<1D>/\\x1d/Ig;s/<1E>/\\x1e/Ig;s/<0[AD]>//Ig'" else []))
+
+-- the command that takes away blanks after records
+abbrev pub blank_mend : List ℕ → ℕ → List ℕ
+blank_mend text at = if is_blank_after text at then codes "sed -i 's/\\x03[[:blank:]]*/\\x03/g'" else []
 
 -- the command that mends the file, empty where no one step does
 abbrev pub batch_mend : List ℕ → BatchFault → List ℕ
-batch_mend text (fault.Outside at) = if at == 0 then front_mend text else []
+batch_mend text (fault.Outside at) = if at == 0 then front_mend text else blank_mend text at
+batch_mend text (fault.AfterTrailer at) = if is_end_mark (drop at text) then codes "sed -i '$s/\\x1a$//'" else []
 batch_mend text other = []
 
 -- the same where the text can't be read again

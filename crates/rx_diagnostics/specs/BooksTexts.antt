@@ -222,15 +222,37 @@ kind_text line v =
     if has_kind line then line_fields_text line (kind_of line) v (fields_of (kind_of line) v)
     else quoted_text line ++ codes ": a line begins M|, C| or T|"
 
+-- a line ends with a blank or a tab
+abbrev pub ends_blank : List ℕ → Bool
+ends_blank line = ends_with nat_eq line (codes " ") || ends_with nat_eq line (9 ∷ [])
+
+-- a line begins with its kind in a small letter
+abbrev pub has_small_kind : List ℕ → Bool
+has_small_kind line = begins line (codes "m|") || begins line (codes "c|") || begins line (codes "t|")
+
+-- a line that one command mends
+unfoldable pub line_mended : List ℕ → Option Telling
+line_mended line =
+    if length line == 0 then Some (mended (codes "the line is empty") (codes "sed -i '/^$/d'"))
+    else (if ends_with nat_eq line (13 ∷ [])
+    then Some (mended (codes "the line ends with CR LF: expected LF") (codes "sed -i 's/\\r$//'"))
+    else (if ends_blank line then Some (mended (codes "the line ends with a blank") (codes "sed -i 's/[[:blank:]]*$//'"))
+    else (if begins line (codes "#")
+    then Some (mended (codes "the line begins with #: books have no comments") (codes "sed -i '/^#/d'"))
+    else (if has_small_kind line
+    then Some (mended (codes "a line begins M|, C| or T|, in capitals") (codes "sed -i 's/^m|/M|/;s/^c|/C|/;s/^t|/T|/'"))
+    else None))))
+
+abbrev pub telling_or : Option Telling → Telling → Telling
+telling_or (Some telling) other = telling
+telling_or None other = other
+
 -- a line that is none of the head's version
 unfoldable pub line_telling : List ℕ → ℕ → Telling
 line_telling text number =
     if nat_lt (line_feeds text) number
     then mended (codes "the last line has no line feed at its end") (codes "echo >>")
-    else (if length (line_of text number) == 0 then mended (codes "the line is empty") (codes "sed -i '/^$/d'")
-    else (if ends_with nat_eq (line_of text number) (13 ∷ [])
-    then mended (codes "the line ends with CR LF: expected LF") (codes "sed -i 's/\\r$//'")
-    else plain (kind_text (line_of text number) (version_of text))))
+    else telling_or (line_mended (line_of text number)) (plain (kind_text (line_of text number) (version_of text)))
 
 -- ---- a member who isn't listed
 

@@ -5,6 +5,7 @@ pub mod BooksMembers
 pub mod BooksTexts
 pub mod BooksTotals
 pub mod KnownKeys
+pub mod Likeness
 pub mod Lines
 pub mod Looks
 pub mod Parts
@@ -12,6 +13,9 @@ pub mod Places
 pub mod Quoting
 pub mod SheetDrugs
 pub mod SheetEntries
+pub mod SheetLines
+pub mod SheetNames
+pub mod SheetPlaces
 pub mod SheetTexts
 pub mod SheetValues
 pub mod SheetWords

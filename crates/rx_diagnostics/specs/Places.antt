@@ -1,13 +1,11 @@
--- Meaning: where in its file a fault stands (docs/FORMATS.md: the faults of a plan sheet, of a books file and of a batch file).
-use Rattle.std.specs.Prelude.{◌≡◌, ℕ, ◌==◌, List, take, count_by, Option, Some, None}
+-- Meaning: where in its file a fault stands (docs/FORMATS.md: the faults of a books file and of a batch file).
+use Rattle.std.specs.Prelude.{ℕ, ◌==◌, List, take, count_by, Option, Some, None}
 use Rattle.rx_batch.specs.declared.fault.BatchFault.{BatchFault}
 use Rattle.rx_batch.specs.Fault.{place_of}
 use Rattle.rx_batch.specs.declared.layout.TheConstants.{STX}
 use Rattle.rx_books_text.specs.declared.fault.BooksFault.{BooksFault}
 use Rattle.rx_books_text.specs.declared.fault.BooksFault.TheVariants as books
 use Rattle.rx_books_text.specs.Fault.{line_of_fault}
-use Rattle.rx_sheet.specs.declared.fault.SheetFault.{SheetFault}
-use Rattle.rx_sheet.specs.declared.fault.SheetFault.TheVariants as sheet
 use Rattle.rx_diagnostics.specs.declared.place.Place.{Place}
 use Rattle.rx_diagnostics.specs.declared.place.Place.TheVariants as place
 
@@ -40,8 +38,3 @@ byte_place None = place.Whole
 -- where the text can't be read again, the byte only is known
 abbrev pub unread_batch_place : BatchFault → Place
 unread_batch_place fault = byte_place (place_of fault)
-
--- a fault of a key is of the whole sheet; that of a text that is no TOML is reported by the reader of TOML
-abbrev pub IsSheetPlace : SheetFault → Place → Type 0
-IsSheetPlace sheet.NotToml at = Unit {0}
-IsSheetPlace other at = at ≡ place.Whole

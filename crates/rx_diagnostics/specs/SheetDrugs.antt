@@ -1,13 +1,15 @@
 -- Meaning: what is said of the tiers and the drugs of a plan sheet: the first one at fault by its name, and its value.
-use Rattle.std.specs.Prelude.{◌≡◌, ℕ, List, [], ◌++◌, codes, MatchBool, Option, Some, None}
+use Rattle.std.specs.Prelude.{◌≡◌, ℕ, List, [], ◌∷◌, ◌++◌, codes, MatchBool, Option, Some, None}
 use Rattle.std.specs.Fmt.{decimal}
 use Rattle.std.specs.Option.{option_and_then}
-use Rattle.toml.specs.Data.{Data, string, table, Members, no_members, member, as_table, get_member}
+use Rattle.toml.specs.Data.{Data, string, table, Members, as_table, get_member}
 use Rattle.rx_fields.specs.declared.limits.TheConstants.{MOST_CENTS}
 use Rattle.rx_ledger.specs.declared.sheet_key.SheetKey.{SheetKey}
 use Rattle.rx_ledger.specs.declared.sheet_key.SheetKey.TheVariants as key
 use Rattle.rx_sheet.specs.Names.{name_of}
-use Rattle.rx_diagnostics.specs.Quoting.{quoted_text, shown_text}
+use Rattle.rx_diagnostics.specs.Likeness.{nearest}
+use Rattle.rx_diagnostics.specs.Quoting.{quoted_text}
+use Rattle.rx_diagnostics.specs.SheetNames.{names_in, names_text}
 use Rattle.rx_diagnostics.specs.SheetTexts.{wanted_at, wrong_text}
 use Rattle.rx_diagnostics.specs.declared.sheet_drugs.Faulty.{Faulty}
 use Rattle.rx_diagnostics.specs.declared.sheet_drugs.Faulty.TheVariants as faulty
@@ -76,27 +78,42 @@ TellsTable k test (Some entries) said = TellsFirst k (first_wrong test entries) 
 abbrev pub drugs_key_text : SheetKey → List ℕ
 drugs_key_text k = name_of k ++ (codes " of a drug is wrong: " ++ wanted_at k)
 
--- the names of a table, each after a blank
-abbrev pub names_text : Members → List ℕ
-names_text no_members = []
-names_text (member name value rest) = (codes " " ++ shown_text name) ++ names_text rest
+-- which tiers there are
+unfoldable pub tiers_text : List (List ℕ) → List ℕ
+tiers_text [] = codes "; there are no tiers"
+tiers_text (name ∷ names) = codes "; the tiers are" ++ names_text (name ∷ names)
 
-unfoldable pub unknown_tier_text : List ℕ → List ℕ → List ℕ → List ℕ
-unknown_tier_text names drug tier =
-    codes "drug " ++ (drug ++ (codes ": tier = " ++ (quoted_text tier ++ (codes ": no tier has this name; the tiers are" ++ names))))
+-- the name that may be meant, if there is one
+unfoldable pub like_text : Option (List ℕ) → List ℕ
+like_text None = []
+like_text (Some name) = codes ": is " ++ (quoted_text name ++ codes " meant?")
 
-abbrev pub TellsTier : List ℕ → List ℕ → Data → List ℕ → Type 0
+unfoldable pub others_text : List (List ℕ) → List ℕ → List ℕ
+others_text names tier = tiers_text names ++ like_text (nearest tier names)
+
+abbrev pub unknown_said : List ℕ → List ℕ → List ℕ → List ℕ
+unknown_said drug tier others =
+    codes "drug " ++ (drug ++ (codes ": tier = " ++ (tier ++ (codes ": no tier has this name" ++ others))))
+
+unfoldable pub unknown_tier_text : List (List ℕ) → List ℕ → List ℕ → List ℕ
+unknown_tier_text names drug tier = unknown_said drug (quoted_text tier) (others_text names tier)
+
+abbrev pub TellsTier : List (List ℕ) → List ℕ → Data → List ℕ → Type 0
 TellsTier names drug (string tier) said = said ≡ unknown_tier_text names drug tier
 TellsTier names drug other said = TellsOf other (said_of faulty.Tier drug) said
 
-abbrev pub TellsFirstTier : List ℕ → Option (List ℕ × Data) → List ℕ → Type 0
+abbrev pub TellsFirstTier : List (List ℕ) → Option (List ℕ × Data) → List ℕ → Type 0
 TellsFirstTier names None said = said ≡ drugs_key_text key.Tier
 TellsFirstTier names (Some tier) said = TellsTier names tier.0 tier.1 said
 
 -- the first drug whose tier is none of the tiers, where there are both
+abbrev pub first_unknown : Option Members → Option Members → Option (List ℕ × Data)
+first_unknown (Some tiers) drugs = option_and_then (first_wrong (wrong_tier tiers)) drugs
+first_unknown None drugs = None
+
 abbrev pub TellsTierOf : Option Members → Option Members → List ℕ → Type 0
-TellsTierOf (Some tiers) (Some drugs) said = TellsFirstTier (names_text tiers) (first_wrong (wrong_tier tiers) drugs) said
-TellsTierOf tiers drugs said = TellsFirstTier [] None said
+TellsTierOf (Some tiers) drugs said = TellsFirstTier (names_in [] tiers) (first_unknown (Some tiers) drugs) said
+TellsTierOf None drugs said = TellsFirstTier [] None said
 
 abbrev pub TellsFirstPrice : Option (List ℕ × Data) → List ℕ → Type 0
 TellsFirstPrice None said = said ≡ drugs_key_text key.Price
@@ -120,11 +137,6 @@ lacking_text k (Some drug) = lacking_key_text k drug.0
 -- the first drug without the key
 unfoldable pub no_key_text : SheetKey → Option Members → List ℕ
 no_key_text k drugs = lacking_text k (option_and_then (first_wrong (lacking k)) drugs)
-
--- an entry of the sheet that is none of its keys, which may be the missing one, misspelt
-unfoldable pub stranger_text : Option (List ℕ × Data) → List ℕ
-stranger_text None = []
-stranger_text (Some entry) = codes "; " ++ (shown_text entry.0 ++ codes " is no key of a sheet: is it meant?")
 
 -- ---- each key
 

@@ -2,7 +2,7 @@
 use Rattle.std.specs.Prelude.{ℕ, List, Option}
 use Rattle.toml.specs.Data.{Data}
 use Rattle.toml.specs.View.{table_view, view}
-use Rattle.rx_diagnostics.specs.SheetValues.{lacking, stranger, wrong_drug, wrong_price, wrong_share, wrong_tier}
+use Rattle.rx_diagnostics.specs.SheetValues.{lacking, wrong_drug, wrong_price, wrong_share, wrong_tier}
 use Rattle.rx_diagnostics.specs.declared.sheet_drugs.Entry.{Entry}
 use Rattle.rx_diagnostics.specs.declared.sheet_drugs.Looked.{Looked}
 use Rattle.rx_diagnostics.specs.declared.sheet_drugs.Looked.TheVariants as looked
@@ -17,4 +17,3 @@ wrong_in looked.Drug name value = wrong_drug name value
 wrong_in (looked.Tier tiers) name value = wrong_tier (table_view tiers.now) name value
 wrong_in looked.Price name value = wrong_price name value
 wrong_in (looked.Lacking k) name value = lacking k name value
-wrong_in looked.Stranger name value = stranger name value

@@ -13,7 +13,6 @@ use Rattle.rx_sheet.specs.Drugs.{share_in}
 use Rattle.rx_sheet.specs.Names.{name_of}
 use Rattle.rx_sheet.specs.Values.{number}
 use Rattle.rx_text.specs.Bytes.{all_digits}
-use Rattle.rx_diagnostics.specs.KnownKeys.{is_among, sheet_keys}
 use Rattle.rx_diagnostics.specs.Quoting.{quoted_text}
 use Rattle.rx_diagnostics.specs.SheetTexts.{wanted_at, wrong_text}
 
@@ -98,10 +97,6 @@ of_drug k drug = option_and_then (get_member (name_of k)) (as_table drug)
 -- a drug that is a table without the key
 abbrev pub lacks : SheetKey → Data → Bool
 lacks k drug = is_some (as_table drug) && not (is_some (of_drug k drug))
-
--- an entry of the sheet that is none of its keys
-abbrev pub stranger : List ℕ → Data → Option Data
-stranger name value = unless (is_among name sheet_keys) value
 
 -- a tier that says no share
 abbrev pub wrong_share : List ℕ → Data → Option Data

@@ -10,19 +10,26 @@ use Rattle.rx_sheet.specs.Names.{name_of}
 use Rattle.rx_sheet.specs.SheetText.{tree_of}
 use Rattle.rx_sheet.specs.declared.fault.SheetFault.{SheetFault}
 use Rattle.rx_sheet.specs.declared.fault.SheetFault.TheVariants as fault
+use Rattle.rx_diagnostics.specs.KnownKeys.{sheet_keys}
+use Rattle.rx_diagnostics.specs.Likeness.{nearest}
 use Rattle.rx_diagnostics.specs.Looks.{begins, looks_like}
 use Rattle.rx_diagnostics.specs.Parts.{line_feeds, line_of}
 use Rattle.rx_diagnostics.specs.Quoting.{quoted_text}
-use Rattle.rx_diagnostics.specs.SheetDrugs.{TellsOfDrugs, no_key_text, stranger_text, table_under}
+use Rattle.rx_diagnostics.specs.SheetDrugs.{TellsOfDrugs, no_key_text, table_under}
+use Rattle.rx_diagnostics.specs.SheetNames.{meant_text, names_in}
+use Rattle.rx_diagnostics.specs.SheetPlaces.{sheet_place}
 use Rattle.rx_diagnostics.specs.SheetTexts.{missing_text, no_memory_text, wrong_text}
-use Rattle.rx_diagnostics.specs.SheetValues.{TellsDay, TellsValue, first_wrong, stranger}
+use Rattle.rx_diagnostics.specs.SheetValues.{TellsDay, TellsValue}
 use Rattle.rx_diagnostics.specs.declared.place.Place.{Place}
 use Rattle.rx_diagnostics.specs.declared.place.Place.TheVariants as place
 use Rattle.rx_diagnostics.specs.declared.words.Words.{Words}
 
--- the words are about the whole sheet, and no one step mends it
+-- the words are about this place, and no one step mends it
+abbrev pub AreAt : Place → List ℕ → Words → Type 0
+AreAt at said words = (words.place ≡ at) × ((string_bytes words.text ≡ said) × (words.mend.now ≡ []))
+
 abbrev pub AreOfWhole : List ℕ → Words → Type 0
-AreOfWhole said words = (words.place ≡ place.Whole) × ((string_bytes words.text ≡ said) × (words.mend.now ≡ []))
+AreOfWhole said words = AreAt place.Whole said words
 
 -- ---- a text that is no TOML
 
@@ -95,27 +102,31 @@ abbrev pub TellsWrong : SheetKey → Result Members SheetFault → List ℕ → 
 TellsWrong k (Ok sheet) said = TellsWrongIn k sheet said
 TellsWrong k (Err f) said = said ≡ wrong_text k
 
--- a key that isn't there
-abbrev pub missing_in : SheetKey → Members → List ℕ
-missing_in key.Tier sheet = no_key_text key.Tier (table_under key.Drugs sheet)
-missing_in key.Price sheet = no_key_text key.Price (table_under key.Drugs sheet)
-missing_in k sheet = missing_text k ++ stranger_text (first_wrong stranger sheet)
+-- of the keys that are none of a sheet's, the one that is most like a missing one may be meant
+unfoldable pub meant_for : List ℕ → SheetKey → Members → List ℕ
+meant_for text k sheet = meant_text text (nearest (name_of k) (names_in sheet_keys sheet))
 
-abbrev pub missing_said : SheetKey → Result Members SheetFault → List ℕ
-missing_said k (Ok sheet) = missing_in k sheet
-missing_said k (Err f) = missing_text k
+-- a key that isn't there
+abbrev pub missing_in : List ℕ → SheetKey → Members → List ℕ
+missing_in text key.Tier sheet = no_key_text key.Tier (table_under key.Drugs sheet)
+missing_in text key.Price sheet = no_key_text key.Price (table_under key.Drugs sheet)
+missing_in text k sheet = missing_text k ++ meant_for text k sheet
+
+abbrev pub missing_said : List ℕ → SheetKey → Result Members SheetFault → List ℕ
+missing_said text k (Ok sheet) = missing_in text k sheet
+missing_said text k (Err f) = missing_text k
 
 -- the same, unless the file is empty
 abbrev pub missing_of : SheetKey → List ℕ → List ℕ
 missing_of k text =
     if length text == 0 then codes "the file is empty: expected a plan sheet, which has a line as bin = \"900001\""
-    else missing_said k (tree_of text)
+    else missing_said text k (tree_of text)
 
 -- ---- each fault
 
 abbrev pub TellsOfSheet : List ℕ → SheetFault → Words → Type 0
 TellsOfSheet text fault.NotToml words = TellsOfKind text (unless_sheet (looks_like text)) words
-TellsOfSheet text (fault.Missing k) words = AreOfWhole (missing_of k text) words
+TellsOfSheet text (fault.Missing k) words = AreAt (sheet_place text (fault.Missing k)) (missing_of k text) words
 TellsOfSheet text (fault.Wrong k) words =
-    (said : List ℕ) × (TellsWrong k (tree_of text) said × AreOfWhole said words)
+    (said : List ℕ) × (TellsWrong k (tree_of text) said × AreAt (sheet_place text (fault.Wrong k)) said words)
 TellsOfSheet text fault.Memory words = AreOfWhole no_memory_text words

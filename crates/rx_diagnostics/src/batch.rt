@@ -1,7 +1,8 @@
 ghost use Rattle.std.specs.Prelude.{◌≡◌, [], IfOk, option_copied, option_map, string_bytes};
-ghost use Rattle.rx_diagnostics.specs.BatchTexts.{after_text, batch_mend, batch_text, details_before, ends_before};
-ghost use Rattle.rx_diagnostics.specs.BatchTexts.{front_mend, kind_at, no_header_text};
+ghost use Rattle.rx_diagnostics.specs.BatchTexts.{after_text, batch_mend, batch_text, blank_mend, details_before, ends_before};
+ghost use Rattle.rx_diagnostics.specs.BatchTexts.{follows_text, front_mend, is_blank_after, is_end_mark, kind_at, no_header_text};
 ghost use Rattle.rx_diagnostics.specs.BatchTexts.{no_trailer_text, outside_text, outside_with, seen_at, too_much_text, unread_batch_text};
+ghost use Rattle.rx_batch.specs.declared.fault.BatchFault.TheVariants as fault;
 ghost use Rattle.rx_diagnostics.specs.Places.{batch_place, unread_batch_place};
 
 use crate::batch_record::{
@@ -40,11 +41,13 @@ fn mend_of(fault: BatchFault, text: &[u8]) -> &'static str
 {
     match fault {
         BatchFault::Outside { at: 0 } => front_mend(text),
+        BatchFault::Outside { at } => blank_mend(text, at),
+        BatchFault::AfterTrailer { at } => end_mend(text, at),
         _ => "",
     }
 }
 
-// The command that takes away a byte order mark, or unpacks a file.
+// The command that takes away a byte order mark, unpacks a file, or writes control bytes that are spelled out as themselves.
 fn front_mend(text: &[u8]) -> &'static str
     ensures { result.now ≡ front_mend text.now }
 {
@@ -52,6 +55,30 @@ fn front_mend(text: &[u8]) -> &'static str
         "sed -i '1s/^\\xef\\xbb\\xbf//'"
     } else if text.starts_with(b"\x1F\x8B") {
         "sh -c 'zcat < \"$1\" > \"$1.new\" && mv \"$1.new\" \"$1\"' sh"
+    } else if text.starts_with(b"<02>") {
+        "sed -i 's/<02>/\\x02/g;s/<03>/\\x03/g;s/<1C>/\\x1c/Ig;s/<1D>/\\x1d/Ig;s/<1E>/\\x1e/Ig;s/<0[AD]>//Ig'"
+    } else {
+        ""
+    }
+}
+
+// The command that takes away blanks after records.
+fn blank_mend(text: &[u8], at: u64) -> &'static str
+    ensures { result.now ≡ blank_mend text.now at }
+{
+    if is_blank_after(text, at) {
+        "sed -i 's/\\x03[[:blank:]]*/\\x03/g'"
+    } else {
+        ""
+    }
+}
+
+// The command that takes away X'1A' after the trailer.
+fn end_mend(text: &[u8], at: u64) -> &'static str
+    ensures { result.now ≡ batch_mend text.now (fault.AfterTrailer at) }
+{
+    if is_end_mark(from(text, at as usize)) {
+        "sed -i '$s/\\x1a$//'"
     } else {
         ""
     }
@@ -166,6 +193,14 @@ fn ends_before(text: &[u8], at: u64) -> bool
     part(text, (at as usize).saturating_sub(1), at as usize) == b"\x03".as_slice()
 }
 
+// Whether a blank or a tab stands right after a record.
+fn is_blank_after(text: &[u8], at: u64) -> bool
+    ensures { result ≡ is_blank_after text.now at }
+{
+    let rest = from(text, at as usize);
+    ends_before(text, at) && (rest.starts_with(b" ") || rest.starts_with(b"\t"))
+}
+
 // What is said of a byte where a record could begin.
 #[tactic(auto, using(std::proofs::Common::append_assoc), unfolding(crate::specs::BatchTexts::outside_text))]
 fn outside_words(alloc: Global, text: &[u8], at: u64) -> Result<String, AllocError>
@@ -175,6 +210,12 @@ fn outside_words(alloc: Global, text: &[u8], at: u64) -> Result<String, AllocErr
         return said(
             alloc,
             "the file begins with a byte order mark (EF BB BF): expected STX (X'02')",
+        );
+    }
+    if is_blank_after(text, at) {
+        return said(
+            alloc,
+            "a blank after a record's ETX (X'03'): only line ends may stand between records",
         );
     }
     let there = seen_at(alloc, text, at)?;
@@ -227,6 +268,13 @@ fn no_header_words(alloc: Global, text: &[u8], at: u64) -> Result<String, AllocE
     format!(in alloc; "the first record begins {there}: expected a header, which begins \"00\"")
 }
 
+// Whether it is X'1A', with which some systems end a text.
+fn is_end_mark(rest: &[u8]) -> bool
+    ensures { result ≡ is_end_mark rest.now }
+{
+    rest == b"\x1A".as_slice()
+}
+
 // What is said of what follows the trailer.
 #[tactic(auto, using(std::proofs::Common::append_assoc), unfolding(crate::specs::BatchTexts::after_text))]
 fn after_words(alloc: Global, text: &[u8], at: u64) -> Result<String, AllocError>
@@ -237,6 +285,21 @@ fn after_words(alloc: Global, text: &[u8], at: u64) -> Result<String, AllocError
         return said(
             alloc,
             "a second batch begins after the trailer: a file has one batch",
+        );
+    }
+    follows_words(alloc, text, at)
+}
+
+// What is said of bytes that are no second batch.
+#[tactic(auto, using(std::proofs::Common::append_assoc), unfolding(crate::specs::BatchTexts::follows_text))]
+fn follows_words(alloc: Global, text: &[u8], at: u64) -> Result<String, AllocError>
+    ensures { IfOk result (λ said. string_bytes said ≡ follows_text text.now at) }
+{
+    let rest = from(text, at as usize);
+    if is_end_mark(rest) {
+        return said(
+            alloc,
+            "X'1A' (Ctrl-Z) follows the trailer: the file ends with the trailer",
         );
     }
     let there = seen_at(alloc, text, at)?;

@@ -3,7 +3,7 @@ ghost use Rattle.std.specs.List.{position_or_len};
 ghost use Rattle.rx_diagnostics.specs.BatchTexts.{count_text, date_text, date_wanted, detail_text, field_text, fields_text};
 ghost use Rattle.rx_diagnostics.specs.BatchTexts.{file_type_text, first_body, header_text, is_file_type, kind_text, lot_text};
 ghost use Rattle.rx_diagnostics.specs.BatchTexts.{number_text, time_text, to_mark, trailer_text, unclosed_text};
-ghost use Rattle.rx_diagnostics.specs.Parts.{behind, body_at};
+ghost use Rattle.rx_diagnostics.specs.Parts.{behind, body_at, up_to};
 
 use crate::place::front;
 use crate::quoting::{from, part, quoted};
@@ -26,8 +26,7 @@ pub(crate) fn behind(text: &[u8], at: u64) -> &[u8]
 pub(crate) fn body_at(text: &[u8], at: u64) -> &[u8]
     ensures { result.now ≡ body_at text.now at }
 {
-    let rest = behind(text, at);
-    front(rest, to_byte(rest, ETX))
+    up_to(behind(text, at), ETX)
 }
 
 /// What the first record of a text holds.
@@ -35,6 +34,13 @@ pub(crate) fn first_body(text: &[u8]) -> &[u8]
     ensures { result.now ≡ first_body text.now }
 {
     body_at(text, to_byte(text, STX) as u64)
+}
+
+/// The bytes before the first one of this value; all if there is none.
+pub(crate) fn up_to(bytes: &[u8], byte: u8) -> &[u8]
+    ensures { result.now ≡ up_to byte bytes.now }
+{
+    front(bytes, to_byte(bytes, byte))
 }
 
 // How many bytes stand before the first one of this value; all if there is none.

@@ -1,7 +1,7 @@
-ghost use Rattle.std.specs.Prelude.{◌≡◌, ◌≤◌, IfOk, string_bytes};
-ghost use Rattle.rx_diagnostics.specs.BooksTexts.{claim_text, count_text, digit_of, figures_text, has_kind, kind_text};
-ghost use Rattle.rx_diagnostics.specs.BooksTexts.{line_fields_text, line_telling, number_at, share_name, share_of, telling_of};
-ghost use Rattle.rx_diagnostics.specs.BooksTexts.{version_of};
+ghost use Rattle.std.specs.Prelude.{◌≡◌, ◌≤◌, IfOk, Some, option_map, string_bytes};
+ghost use Rattle.rx_diagnostics.specs.BooksTexts.{claim_text, count_text, digit_of, ends_blank, figures_text, has_kind};
+ghost use Rattle.rx_diagnostics.specs.BooksTexts.{has_small_kind, kind_text, line_fields_text, line_mended, line_telling, mended};
+ghost use Rattle.rx_diagnostics.specs.BooksTexts.{number_at, share_name, share_of, telling_of, version_of};
 
 use crate::books_field::{CLAIM, FIRST_CLAIM, Field, MEMBER, SHORT_TOTAL, TOTAL, first_fault};
 use crate::books_order::LineKind;
@@ -24,17 +24,58 @@ pub(crate) fn line_words(alloc: Global, text: &[u8], number: u64) -> Result<Said
             "echo >>",
         );
     }
+    match line_mended(alloc, line)? {
+        Some(said) => Ok(said),
+        None => Ok(Said::plain(kind_words(alloc, line, version_of(text))?)),
+    }
+}
+
+// What is said of a line that one command mends.
+#[tactic(auto, unfolding(crate::specs::BooksTexts::line_mended))]
+fn line_mended(alloc: Global, line: &[u8]) -> Result<Option<Said>, AllocError>
+    ensures { IfOk result (λ said. option_map telling_of said ≡ line_mended line.now) }
+{
     if line.is_empty() {
-        return Said::mended(alloc, "the line is empty", "sed -i '/^$/d'");
+        return mended(alloc, "the line is empty", "sed -i '/^$/d'");
     }
     if line.ends_with(b"\r") {
-        return Said::mended(
-            alloc,
-            "the line ends with CR LF: expected LF",
-            "sed -i 's/\\r$//'",
-        );
+        let said = "the line ends with CR LF: expected LF";
+        return mended(alloc, said, "sed -i 's/\\r$//'");
     }
-    Ok(Said::plain(kind_words(alloc, line, version_of(text))?))
+    if ends_blank(line) {
+        let said = "the line ends with a blank";
+        return mended(alloc, said, "sed -i 's/[[:blank:]]*$//'");
+    }
+    if line.starts_with(b"#") {
+        let said = "the line begins with #: books have no comments";
+        return mended(alloc, said, "sed -i '/^#/d'");
+    }
+    if has_small_kind(line) {
+        let said = "a line begins M|, C| or T|, in capitals";
+        return mended(alloc, said, "sed -i 's/^m|/M|/;s/^c|/C|/;s/^t|/T|/'");
+    }
+    Ok(None)
+}
+
+// A text with the command that mends the file.
+fn mended(alloc: Global, said: &str, mend: &'static str) -> Result<Option<Said>, AllocError>
+    ensures { IfOk result (λ telling. option_map telling_of telling ≡ Some (mended said.now mend.now)) }
+{
+    Ok(Some(Said::mended(alloc, said, mend)?))
+}
+
+// Whether a line ends with a blank or a tab.
+fn ends_blank(line: &[u8]) -> bool
+    ensures { result ≡ ends_blank line.now }
+{
+    line.ends_with(b" ") || line.ends_with(b"\t")
+}
+
+// Whether a line begins with its kind in a small letter.
+fn has_small_kind(line: &[u8]) -> bool
+    ensures { result ≡ has_small_kind line.now }
+{
+    line.starts_with(b"m|") || line.starts_with(b"c|") || line.starts_with(b"t|")
 }
 
 // The version that the head line says.

@@ -1,24 +1,32 @@
-ghost use Rattle.std.specs.Prelude.{◌≡◌, ◌+◌, ◌++◌, ◌≤◌, ℕ, [], IfOk, List, None, codes, count_by, length, option_map, string_bytes};
+ghost use Rattle.std.specs.Prelude.{◌≡◌, ◌+◌, ◌++◌, ◌≤◌, [], IfOk, None, codes, count_by, length, option_map, string_bytes};
 ghost use Rattle.std.specs.Result.{result_ok};
 ghost use Rattle.std.specs.Str.{IsValidUpTo};
 ghost use Rattle.toml.specs.Errors.{IsMemory, IsWithin};
 ghost use Rattle.toml.specs.Parse.{parse_document};
 ghost use Rattle.toml.specs.View.{table_view, view};
 ghost use Rattle.rx_sheet.specs.SheetText.{tree_of};
+ghost use Rattle.rx_sheet.specs.Names.{name_of};
+ghost use Rattle.rx_diagnostics.specs.KnownKeys.{texts_of};
+ghost use Rattle.rx_diagnostics.specs.Likeness.{nearest};
 ghost use Rattle.rx_diagnostics.specs.Looks.{looks_like};
-ghost use Rattle.rx_diagnostics.specs.Places.{IsSheetPlace};
+ghost use Rattle.rx_diagnostics.specs.SheetNames.{meant_text};
+ghost use Rattle.rx_diagnostics.specs.SheetPlaces.{IsSheetPlace, sheet_place};
 ghost use Rattle.rx_diagnostics.specs.SheetTexts.{unread_sheet_text};
 ghost use Rattle.rx_diagnostics.specs.SheetValues.{TellsDay, TellsDayText, TellsValue};
-ghost use Rattle.rx_diagnostics.specs.SheetWords.{AreAfter, AreOfWhole, TellsOfBytes, TellsOfKind, TellsOfReading, TellsOfSheet};
-ghost use Rattle.rx_diagnostics.specs.SheetWords.{TellsWrong, TellsWrongIn, begins_character, comma_text, line_after, missing_in, missing_of};
+ghost use Rattle.rx_diagnostics.specs.SheetWords.{AreAfter, AreAt, AreOfWhole, TellsOfBytes, TellsOfKind, TellsOfReading, TellsOfSheet};
+ghost use Rattle.rx_diagnostics.specs.SheetWords.{TellsWrong, TellsWrongIn, begins_character, comma_text, line_after};
+ghost use Rattle.rx_diagnostics.specs.SheetWords.{meant_for, missing_in, missing_of};
 ghost use Rattle.rx_diagnostics.specs.SheetWords.{place_after, unless_sheet};
 ghost use Rattle.rx_diagnostics.specs.declared.place.Place.{Place};
 
+use crate::likeness::nearest;
 use crate::looks::looks_like;
 use crate::place::{Place, front};
 use crate::quoting::{from, line_feeds, line_of, quoted, said};
-use crate::sheet_drugs::{drug_words, no_drug_key, stranger_words};
-use crate::sheet_keys::{missing_key, name_of, wrong_key};
+use crate::sheet_drugs::{drug_words, no_drug_key};
+use crate::sheet_keys::{SHEET_KEYS, missing_key, name_of, wrong_key};
+use crate::sheet_names::{meant_words, names_in};
+use crate::sheet_places::place_in;
 use crate::sheet_values::{backwards_words, expected_words, found, no_date, value_words};
 use crate::words::Words;
 use rx_fields::{Memory, date_read};
@@ -36,13 +44,13 @@ use toml::{Table, Value};
 ///
 /// Only Memory.
 pub fn sheet_words(alloc: Global, fault: SheetFault, text: &[u8]) -> Result<Words, Memory>
-    ensures place { IfOk result (λ words. IsSheetPlace fault words.place) }
+    ensures place { IfOk result (λ words. IsSheetPlace text.now fault words.place) }
     ensures said { IfOk result (TellsOfSheet text.now fault) }
 {
     match fault {
         SheetFault::NotToml => not_toml(alloc, text),
-        SheetFault::Missing(key) => Ok(of_whole(missing(alloc, key, text)?)),
-        SheetFault::Wrong(key) => wrong_words(alloc, key, text),
+        SheetFault::Missing(key) => at_key(alloc, fault, text, missing(alloc, key, text)?),
+        SheetFault::Wrong(key) => at_key(alloc, fault, text, wrong(alloc, key, text)?),
         SheetFault::Memory => Ok(of_whole(said(alloc, "out of memory")?)),
     }
 }
@@ -219,6 +227,25 @@ fn begins_character(byte: u8) -> bool
     byte & 0xC0 != 0x80
 }
 
+// What is said of a fault, at the line of the key that it is about.
+fn at_key(alloc: Global, fault: SheetFault, text: &[u8], said: String) -> Result<Words, Memory>
+    ensures { IfOk result (AreAt (sheet_place text.now fault) (string_bytes said)) }
+{
+    let place = place_of(alloc, fault, text)?;
+    Ok(Words::new(place, said))
+}
+
+// Where a fault of a sheet stands.
+#[tactic(auto, unfolding(crate::specs::SheetLines::line_of_key, crate::specs::SheetPlaces::sheet_place))]
+fn place_of(alloc: Global, fault: SheetFault, text: &[u8]) -> Result<Place, Memory>
+    ensures { IfOk result (λ place. place ≡ sheet_place text.now fault) }
+{
+    match tree_of(alloc, text)? {
+        Some(sheet) => Ok(place_in(alloc, text, fault, &sheet)?),
+        None => Ok(Place::Whole),
+    }
+}
+
 // What is said of a key that isn't there.
 fn missing(alloc: Global, key: SheetKey, text: &[u8]) -> Result<String, Memory>
     ensures { IfOk result (λ said. string_bytes said ≡ missing_of key text.now) }
@@ -231,22 +258,49 @@ fn missing(alloc: Global, key: SheetKey, text: &[u8]) -> Result<String, Memory>
     let Some(sheet) = tree_of(alloc, text)? else {
         return Ok(missing_key(alloc, key)?);
     };
-    Ok(missing_in(alloc, key, &sheet)?)
+    Ok(missing_in(alloc, key, text, &sheet)?)
 }
 
 // What is said of a key that isn't in a sheet.
-fn missing_in(alloc: Global, key: SheetKey, sheet: &Table) -> Result<String, AllocError>
-    ensures { IfOk result (λ said. string_bytes said ≡ missing_in key (table_view sheet.now)) }
+fn missing_in(
+    alloc: Global,
+    key: SheetKey,
+    text: &[u8],
+    sheet: &Table,
+) -> Result<String, AllocError>
+    ensures { IfOk result (λ said. string_bytes said ≡ missing_in text.now key (table_view sheet.now)) }
 {
     match key {
         SheetKey::Tier | SheetKey::Price => no_drug_key(alloc, key, sheet),
         _ => {
-            let stranger = stranger_words(alloc, sheet)?;
+            let meant = meant_in(alloc, key, text, sheet)?;
             let mut said = missing_key(alloc, key)?;
-            said.push_str(stranger.as_str())?;
+            said.push_str(meant.as_str())?;
             Ok(said)
         }
     }
+}
+
+// The key that may be meant by one that isn't in a sheet.
+#[tactic(auto, unfolding(crate::specs::SheetWords::meant_for))]
+fn meant_in(alloc: Global, key: SheetKey, text: &[u8], sheet: &Table) -> Result<String, AllocError>
+    ensures { IfOk result (λ said. string_bytes said ≡ meant_for text.now key (table_view sheet.now)) }
+{
+    let others = names_in(alloc, sheet, &SHEET_KEYS)?;
+    meant_among(alloc, key, text, others.as_slice())
+}
+
+// That of these names.
+fn meant_among(
+    alloc: Global,
+    key: SheetKey,
+    text: &[u8],
+    others: &[&str],
+) -> Result<String, AllocError>
+    ensures { IfOk result (λ said. string_bytes said
+        ≡ meant_text text.now (nearest (name_of key) (texts_of others.now))) }
+{
+    meant_words(alloc, text, nearest(name_of(key).as_bytes(), others))
 }
 
 // The table that the text stands for; None if it is no longer TOML.
@@ -261,15 +315,7 @@ fn tree_of(alloc: Global, text: &[u8]) -> Result<Option<Table>, Memory>
     }
 }
 
-// The words of a value of another kind or outside its range.
-fn wrong_words(alloc: Global, key: SheetKey, text: &[u8]) -> Result<Words, Memory>
-    ensures { IfOk result (λ words. (said : List ℕ) × (TellsWrong key (tree_of text.now) said × AreOfWhole said words)) }
-{
-    let said = wrong(alloc, key, text)?;
-    Ok(of_whole(said))
-}
-
-// What is said of it.
+// What is said of a value of another kind or outside its range.
 fn wrong(alloc: Global, key: SheetKey, text: &[u8]) -> Result<String, Memory>
     ensures { IfOk result (λ said. TellsWrong key (tree_of text.now) (string_bytes said)) }
 {

@@ -1,19 +1,24 @@
-ghost use Rattle.std.specs.Prelude.{◌≡◌, ◌++◌, IfOk, OnOk, codes, is_some, option_map, string_bytes};
+ghost use Rattle.std.specs.Prelude.{◌≡◌, IfOk, is_some, option_copied, option_map, string_bytes};
 ghost use Rattle.std.specs.Option.{option_and_then};
 ghost use Rattle.toml.specs.View.{table_view, view};
 ghost use Rattle.rx_sheet.specs.Drugs.{percent_in, share_in};
 ghost use Rattle.rx_sheet.specs.Values.{number};
-ghost use Rattle.rx_diagnostics.specs.Quoting.{quoted_text, shown_text};
+ghost use Rattle.rx_diagnostics.specs.KnownKeys.{texts_of};
+ghost use Rattle.rx_diagnostics.specs.Likeness.{nearest};
+ghost use Rattle.rx_diagnostics.specs.Quoting.{quoted_text};
 ghost use Rattle.rx_diagnostics.specs.SheetDrugs.{TellsDrug, TellsEntry, TellsFirst, TellsFirstPrice, TellsFirstTier, TellsOfDrugs};
 ghost use Rattle.rx_diagnostics.specs.SheetDrugs.{TellsPercent, TellsShare, TellsTable, TellsTier, TellsTierOf, drugs_key_text};
 ghost use Rattle.rx_diagnostics.specs.SheetDrugs.{lacking_key_text, lacking_text, missing_of_drug_text, no_key_text};
 ghost use Rattle.rx_diagnostics.specs.SheetDrugs.{no_percent_text, no_table_text, product_text, said_of, table_under};
-ghost use Rattle.rx_diagnostics.specs.SheetDrugs.{names_text, stranger_text, unknown_tier_text};
+ghost use Rattle.rx_diagnostics.specs.SheetDrugs.{first_unknown, like_text, others_text, tiers_text};
+ghost use Rattle.rx_diagnostics.specs.SheetDrugs.{unknown_said, unknown_tier_text};
 ghost use Rattle.rx_diagnostics.specs.SheetEntries.{entry_of, wrong_in};
-ghost use Rattle.rx_diagnostics.specs.SheetValues.{TellsOf, first_wrong, is_product, is_tier, lacks, of_drug, stranger, unless};
+ghost use Rattle.rx_diagnostics.specs.SheetValues.{TellsOf, first_wrong, is_product, is_tier, lacks, of_drug, unless};
 
-use crate::quoting::{quoted, shown};
-use crate::sheet_keys::{SHEET_KEYS, is_among, key_words, name_of, wanted_at, wrong_key};
+use crate::likeness::nearest;
+use crate::quoting::{quoted, said};
+use crate::sheet_keys::{key_words, name_of, wanted_at, wrong_key};
+use crate::sheet_names::{names_in, names_words};
 use crate::sheet_values::{found, is_number, shown_value, table_at};
 use rx_fields::MOST_CENTS;
 use rx_ledger::{MOST_PRICE, SheetKey};
@@ -45,25 +50,6 @@ pub(crate) fn no_drug_key(alloc: Global, key: SheetKey, sheet: &Table) -> Result
     lacking_words(alloc, key, first_in(drugs, Looked::Lacking(key)))
 }
 
-/// What is said of an entry that is none of the sheet's keys, where one is missing.
-#[tactic(auto, unfolding(crate::specs::SheetDrugs::stranger_text))]
-pub(crate) fn stranger_words(alloc: Global, sheet: &Table) -> Result<String, AllocError>
-    ensures { IfOk result (λ said. string_bytes said ≡ stranger_text (first_wrong stranger (table_view sheet.now))) }
-{
-    stranger_said(alloc, first_wrong(sheet, Looked::Stranger))
-}
-
-#[tactic(auto, using(std::proofs::Common::append_assoc), unfolding(crate::specs::SheetDrugs::stranger_text))]
-fn stranger_said(alloc: Global, entry: Option<Entry<'_>>) -> Result<String, AllocError>
-    ensures { IfOk result (λ said. string_bytes said ≡ stranger_text (option_map entry_of entry.entry)) }
-{
-    let Some(entry) = entry else {
-        return Ok(String::new(alloc));
-    };
-    let name = shown(alloc, entry.name.as_bytes())?;
-    format!(in alloc; "; {name} is no key of a sheet: is it meant?")
-}
-
 // ---- the first that is wrong
 
 /// What is looked for among the entries of a table.
@@ -79,8 +65,6 @@ pub(crate) enum Looked<'t> {
     Price,
     /// A drug without this key.
     Lacking(SheetKey),
-    /// An entry of the sheet that is none of its keys.
-    Stranger,
 }
 
 /// An entry of a table in which something is wrong.
@@ -106,8 +90,8 @@ fn first_wrong<'t>(table: &'t Table, looked: Looked<'_>) -> Option<Entry<'t>>
     None
 }
 
-// The same, where there is a table.
-fn first_in<'t>(table: Option<&'t Table>, looked: Looked<'_>) -> Option<Entry<'t>>
+/// The same, where there is a table.
+pub(crate) fn first_in<'t>(table: Option<&'t Table>, looked: Looked<'_>) -> Option<Entry<'t>>
     ensures { option_map entry_of result
         ≡ option_and_then (first_wrong (wrong_in looked.entry)) (option_map (λ t. table_view t.now) table.entry) }
 {
@@ -127,7 +111,6 @@ fn wrong_in<'t>(looked: Looked<'_>, name: &str, value: &'t Value) -> Option<&'t 
         Looked::Tier(tiers) => wrong_tier(tiers, of_drug(value, SheetKey::Tier)),
         Looked::Price => wrong_price(of_drug(value, SheetKey::Price)),
         Looked::Lacking(key) => unless(!lacks(value, key), value),
-        Looked::Stranger => unless(is_among(name, &SHEET_KEYS), value),
     }
 }
 
@@ -205,8 +188,8 @@ fn lacks(drug: &Value, key: SheetKey) -> bool
     drug.as_table().is_some() && of_drug(drug, key).is_none()
 }
 
-// The table at a key of the sheet.
-fn table_under(sheet: &Table, key: SheetKey) -> Option<&Table>
+/// The table at a key of the sheet.
+pub(crate) fn table_under(sheet: &Table, key: SheetKey) -> Option<&Table>
     ensures { option_map (λ t. table_view t.now) result ≡ table_under key (table_view sheet.entry.now) }
 {
     table_at(sheet, name_of(key))
@@ -382,42 +365,31 @@ fn tier_words(
     ensures { IfOk result (λ said. TellsTierOf (option_map (λ t. table_view t.now) tiers.entry)
         (option_map (λ t. table_view t.now) drugs.entry) (string_bytes said)) }
 {
-    match (tiers, drugs) {
-        (Some(tiers), Some(drugs)) => {
-            let names = names_words(alloc, tiers)?;
-            first_tier(
-                alloc,
-                names.as_str(),
-                first_wrong(drugs, Looked::Tier(tiers)),
-            )
-        }
-        _ => first_tier(alloc, "", None),
-    }
+    let names = match tiers {
+        Some(tiers) => names_in(alloc, tiers, &[])?,
+        None => Vec::new(alloc),
+    };
+    first_tier(alloc, names.as_slice(), first_unknown(tiers, drugs))
 }
 
-// The names of a table, each after a blank.
-fn names_words(alloc: Global, table: &Table) -> Result<String, AllocError>
-    ensures { IfOk result (λ said. string_bytes said ≡ names_text (table_view table.now)) }
+/// The first drug whose tier is none of the tiers, where there are both.
+pub(crate) fn first_unknown<'t>(
+    tiers: Option<&Table>,
+    drugs: Option<&'t Table>,
+) -> Option<Entry<'t>>
+    ensures { option_map entry_of result ≡ first_unknown (option_map (λ t. table_view t.now) tiers.entry)
+        (option_map (λ t. table_view t.now) drugs.entry) }
 {
-    let mut said = String::new(alloc);
-    for (name, _value) in table.iter() {
-        put_name(alloc, &mut said, name.as_str())?;
+    match tiers {
+        Some(tiers) => first_in(drugs, Looked::Tier(tiers)),
+        None => None,
     }
-    Ok(said)
-}
-
-// One of them.
-fn put_name(alloc: Global, said: &mut String, name: &str) -> Result<(), AllocError>
-    ensures { OnOk result (string_bytes said.new ≡ string_bytes said.old ++ (codes " " ++ shown_text name.now)) }
-{
-    let shown = shown(alloc, name.as_bytes())?;
-    let named = format!(in alloc; " {shown}")?;
-    said.push_str(named.as_str())
 }
 
 // What is said of the first drug whose tier is no tier.
-fn first_tier(alloc: Global, names: &str, wrong: Option<Entry<'_>>) -> Result<String, AllocError>
-    ensures { IfOk result (λ said. TellsFirstTier names.now (option_map entry_of wrong.entry) (string_bytes said)) }
+fn first_tier(alloc: Global, names: &[&str], wrong: Option<Entry<'_>>) -> Result<String, AllocError>
+    ensures { IfOk result (λ said.
+        TellsFirstTier (texts_of names.now) (option_map entry_of wrong.entry) (string_bytes said)) }
 {
     match wrong {
         Some(drug) => no_tier(alloc, names, drug.name, drug.value),
@@ -425,8 +397,8 @@ fn first_tier(alloc: Global, names: &str, wrong: Option<Entry<'_>>) -> Result<St
     }
 }
 
-fn no_tier(alloc: Global, names: &str, drug: &str, tier: &Value) -> Result<String, AllocError>
-    ensures { IfOk result (λ said. TellsTier names.now drug.now (view tier.now) (string_bytes said)) }
+fn no_tier(alloc: Global, names: &[&str], drug: &str, tier: &Value) -> Result<String, AllocError>
+    ensures { IfOk result (λ said. TellsTier (texts_of names.now) drug.now (view tier.now) (string_bytes said)) }
 {
     match tier {
         Value::String(name) => unknown_tier(alloc, names, drug, name.as_str()),
@@ -435,11 +407,61 @@ fn no_tier(alloc: Global, names: &str, drug: &str, tier: &Value) -> Result<Strin
 }
 
 #[tactic(auto, using(std::proofs::Common::append_assoc), unfolding(crate::specs::SheetDrugs::unknown_tier_text))]
-fn unknown_tier(alloc: Global, names: &str, drug: &str, tier: &str) -> Result<String, AllocError>
-    ensures { IfOk result (λ said. string_bytes said ≡ unknown_tier_text names.now drug.now tier.now) }
+fn unknown_tier(alloc: Global, names: &[&str], drug: &str, tier: &str) -> Result<String, AllocError>
+    ensures { IfOk result (λ said. string_bytes said ≡ unknown_tier_text (texts_of names.now) drug.now tier.now) }
 {
-    let tier = quoted(alloc, tier.as_bytes())?;
-    format!(in alloc; "drug {drug}: tier = {tier}: no tier has this name; the tiers are{names}")
+    let others = others_words(alloc, names, tier)?;
+    let shown = quoted(alloc, tier.as_bytes())?;
+    unknown_said(alloc, drug, shown.as_str(), others.as_str())
+}
+
+#[tactic(auto, using(std::proofs::Common::append_assoc))]
+fn unknown_said(alloc: Global, drug: &str, tier: &str, others: &str) -> Result<String, AllocError>
+    ensures { IfOk result (λ said. string_bytes said ≡ unknown_said drug.now tier.now others.now) }
+{
+    format!(in alloc; "drug {drug}: tier = {tier}: no tier has this name{others}")
+}
+
+// Which tiers there are, and which of them may be meant.
+#[tactic(auto, unfolding(crate::specs::SheetDrugs::others_text))]
+fn others_words(alloc: Global, names: &[&str], tier: &str) -> Result<String, AllocError>
+    ensures { IfOk result (λ said. string_bytes said ≡ others_text (texts_of names.now) tier.now) }
+{
+    let meant = meant_tier(alloc, tier, names)?;
+    let mut said = tiers_words(alloc, names)?;
+    said.push_str(meant.as_str())?;
+    Ok(said)
+}
+
+// Which tiers there are.
+#[tactic(auto, using(std::proofs::Common::append_assoc), unfolding(crate::specs::SheetDrugs::tiers_text))]
+fn tiers_words(alloc: Global, names: &[&str]) -> Result<String, AllocError>
+    ensures { IfOk result (λ said. string_bytes said ≡ tiers_text (texts_of names.now)) }
+{
+    if names.is_empty() {
+        return said(alloc, "; there are no tiers");
+    }
+    let names = names_words(alloc, names)?;
+    format!(in alloc; "; the tiers are{names}")
+}
+
+// The tier that may be meant by another name.
+fn meant_tier(alloc: Global, tier: &str, names: &[&str]) -> Result<String, AllocError>
+    ensures { IfOk result (λ said. string_bytes said ≡ like_text (nearest tier.now (texts_of names.now))) }
+{
+    like_words(alloc, nearest(tier.as_bytes(), names))
+}
+
+// The name that may be meant.
+#[tactic(auto, using(std::proofs::Common::append_assoc), unfolding(crate::specs::SheetDrugs::like_text))]
+fn like_words(alloc: Global, like: Option<&str>) -> Result<String, AllocError>
+    ensures { IfOk result (λ said. string_bytes said ≡ like_text (option_copied like.entry)) }
+{
+    let Some(like) = like else {
+        return Ok(String::new(alloc));
+    };
+    let like = quoted(alloc, like.as_bytes())?;
+    format!(in alloc; ": is {like} meant?")
 }
 
 // What is said of the first drug whose price is no price.

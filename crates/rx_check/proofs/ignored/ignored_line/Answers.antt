@@ -1,6 +1,6 @@
 use Rattle.std.proofs.Common.{◌≡◌, ap, ◌∙◌}
 use Rattle.rx_check.specs.Ignored.{hint, texts_of}
-use Rattle.rx_check.specs.Likeness.{nearest}
+use Rattle.rx_diagnostics.specs.Likeness.{nearest}
 use Rattle.rx_check.proofs.ignored.ignored_line.Goals as goal
 
 pub returns : goal.returns

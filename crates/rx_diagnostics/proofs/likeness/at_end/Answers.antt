@@ -1,6 +1,6 @@
 use Rattle.std.proofs.Common.{arith}
-use Rattle.rx_check.proofs.LeastApart.{end_ends, end_more, end_stops}
-use Rattle.rx_check.proofs.likeness.at_end.Goals as goal
+use Rattle.rx_diagnostics.proofs.LeastApart.{end_ends, end_more, end_stops}
+use Rattle.rx_diagnostics.proofs.likeness.at_end.Goals as goal
 
 pub loop-count-preserved : goal.loop-count-preserved
 loop-count-preserved c =

@@ -8,7 +8,7 @@ use Rattle.std.proofs.lemmas.Grind.{common_steps}
 use Rattle.std.proofs.lemmas.List.{drop_all, get_or-reverse, length-reverse, map-append, take_more}
 use Rattle.std.proofs.lemmas.List.Elements.{filter-append}
 use Rattle.std.proofs.lemmas.List.Sums.{common_prefix_len-drop_yes, common_prefix_len-drop_no}
-use Rattle.rx_check.specs.Likeness.{apart, in_front, is_like, least_apart, nearer, nearest}
+use Rattle.rx_diagnostics.specs.Likeness.{apart, in_front, is_like, least_apart, nearer, nearest}
 
 -- less apart than this many bytes the next has to be
 abbrev pub bound : List ℕ → Option (List ℕ) → ℕ

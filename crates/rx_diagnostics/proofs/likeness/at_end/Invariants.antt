@@ -1,6 +1,6 @@
 use Rattle.std.proofs.Common.{◌≡◌, ◌+◌, ◌-◌, ◌≤◌, length, drop, reverse}
-use Rattle.rx_check.specs.Likeness.{at_end, in_front}
-use Rattle.rx_check.proofs.likeness.at_end.Given as goal
+use Rattle.rx_diagnostics.specs.Likeness.{at_end, in_front}
+use Rattle.rx_diagnostics.proofs.likeness.at_end.Given as goal
 
 -- what was passed and what is left to pass is the whole end
 abbrev pub invariant-loop-count : goal.invariant-loop-count

@@ -2,7 +2,7 @@
 use Rattle.std.specs.Prelude.{ℕ, ◌+◌, ◌-◌, Bool, ◌&&◌, nat_eq, nat_le, nat_lt, if◌then◌else◌, max, min}
 use Rattle.std.specs.Prelude.{List, [], ◌∷◌, filter, length, reverse, Option, Some, None}
 use Rattle.std.specs.List.{common_prefix_len}
-use Rattle.rx_check.specs.declared.likeness.TheConstants.{MOST_APART}
+use Rattle.rx_diagnostics.specs.declared.likeness.TheConstants.{MOST_APART}
 
 -- how many bytes both have at the front, and at the end
 abbrev pub in_front : List ℕ → List ℕ → ℕ

@@ -1,6 +1,6 @@
 use Rattle.std.proofs.Common.{◌≡◌, ◌+◌, ◌-◌, ◌≤◌, length, drop}
-use Rattle.rx_check.specs.Likeness.{in_front}
-use Rattle.rx_check.proofs.likeness.in_front.Given as goal
+use Rattle.rx_diagnostics.specs.Likeness.{in_front}
+use Rattle.rx_diagnostics.proofs.likeness.in_front.Given as goal
 
 -- what was passed and what is left to pass is the whole front
 abbrev pub invariant-loop-count : goal.invariant-loop-count

@@ -1,10 +1,10 @@
 use Rattle.std.proofs.Common.{◌≡◌, ◌∙◌, ap, ℕ, List, [], Bor, get_or, map, take, option_copied}
-use Rattle.rx_check.specs.Likeness.{apart}
-use Rattle.rx_check.proofs.LeastApart.{names_more, next_is, next_is_far, next_is_short}
-use Rattle.rx_check.proofs.likeness.nearest.Goals as goal
-use Rattle.rx_check.proofs.likeness.nearest.Goals.{then-apart-least+then-apart-candidate, else-apart-least}
-use Rattle.rx_check.proofs.likeness.nearest.Goals.{else-apart-least-via-then-apart-least+else-apart-candidate}
-use Rattle.rx_check.proofs.likeness.nearest.Goals.{else-apart-least-via-else-apart-least}
+use Rattle.rx_diagnostics.specs.Likeness.{apart}
+use Rattle.rx_diagnostics.proofs.LeastApart.{names_more, next_is, next_is_far, next_is_short}
+use Rattle.rx_diagnostics.proofs.likeness.nearest.Goals as goal
+use Rattle.rx_diagnostics.proofs.likeness.nearest.Goals.{then-apart-least+then-apart-candidate, else-apart-least}
+use Rattle.rx_diagnostics.proofs.likeness.nearest.Goals.{else-apart-least-via-then-apart-least+else-apart-candidate}
+use Rattle.rx_diagnostics.proofs.likeness.nearest.Goals.{else-apart-least-via-else-apart-least}
 
 pub loop-candidate-preserved : goal.loop-candidate-preserved
 loop-candidate-preserved c =

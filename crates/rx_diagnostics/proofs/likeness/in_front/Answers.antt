@@ -1,6 +1,6 @@
 use Rattle.std.proofs.Common.{arith}
-use Rattle.rx_check.proofs.LeastApart.{front_ends}
-use Rattle.rx_check.proofs.likeness.in_front.Goals as goal
+use Rattle.rx_diagnostics.proofs.LeastApart.{front_ends}
+use Rattle.rx_diagnostics.proofs.likeness.in_front.Goals as goal
 
 pub returns-else-count-other : goal.returns-else-count-other
 returns-else-count-other c =

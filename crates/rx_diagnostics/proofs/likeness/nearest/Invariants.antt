@@ -1,6 +1,6 @@
 use Rattle.std.proofs.Common.{map, take, option_copied}
-use Rattle.rx_check.proofs.LeastApart.{IsBest}
-use Rattle.rx_check.proofs.likeness.nearest.Given as goal
+use Rattle.rx_diagnostics.proofs.LeastApart.{IsBest}
+use Rattle.rx_diagnostics.proofs.likeness.nearest.Given as goal
 
 -- the nearest of those before
 abbrev pub invariant-loop-candidate : goal.invariant-loop-candidate

@@ -1,5 +1,5 @@
 ghost use Rattle.std.specs.Prelude.{◌≡◌, ◌≤◌, length, map, option_copied};
-ghost use Rattle.rx_check.specs.Likeness.{apart, at_end, in_front, nearest};
+ghost use Rattle.rx_diagnostics.specs.Likeness.{apart, at_end, in_front, nearest};
 
 // The most bytes that are left of a misspelt key, or of the known one, once what they have in common at the front and at
 // the end is cut.
@@ -7,7 +7,7 @@ const MOST_APART: usize = 3;
 
 /// The known name that is most like a given one, at most three bytes apart, and the first of several; None if there is
 /// none.
-pub fn nearest(name: &[u8], known: &[&'static str]) -> Option<&'static str>
+pub fn nearest<'t>(name: &[u8], known: &[&'t str]) -> Option<&'t str>
     ensures { option_copied result ≡ nearest name.now (map (λ k. k.now) known.now) }
 {
     let mut best = None;
