@@ -257,7 +257,7 @@ class Page(html.parser.HTMLParser):
     KNOWN = {"html": "", "head": "html", "meta": "head", "title": "head", "style": "head", "body": "html", "header": "body",
              "main": "body", "h1": "header", "h2": "section", "p": "header main div details", "table": "main section details",
              "caption": "table", "thead": "table", "tbody": "table", "tfoot": "table", "tr": "thead tbody tfoot", "th": "tr",
-             "td": "tr", "a": "body th td", "i": "td", "span": "td p div", "b": "span", "section": "div", "div": "main",
+             "td": "tr", "a": "body th td p", "i": "td", "span": "td p div", "b": "span", "section": "div", "div": "main",
              "details": "td", "summary": "details", "dl": "header details", "dt": "dl", "dd": "dl", "pre": "div", "code": "p dd",
              "label": "header", "input": "label", "script": "body"}
     ATTRIBUTES = set("lang charset http-equiv content name scope class style href id colspan type".split())
@@ -355,7 +355,8 @@ def check_page(text, rows, lines, whole, whys, origin):
     want(found, [[name, *line[1:5], dollars(line[5])] for name, line in zip(names, lines)], "the table of providers")
     tables = page.tables("claims")
     if whole and len(rows) > MOST_LINES:
-        want((tables, "--provider ID" in text), ([], True), "the table alone")
+        (command,) = [node.words() for node in page.all("pre")]
+        want((tables, command), ([], shlex.join(["rxbatch", "report", *INPUTS, "--html-dir", "DIR"])), "the table and a command")
         return
     groups = list(by_provider(rows).items())
     want([node.words() for node in page.all("h2")], [f"Provider {name or '(no id)'}" for name, _ in groups], "the headings")

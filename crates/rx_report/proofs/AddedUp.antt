@@ -1,5 +1,5 @@
 -- Accounts add up: the lines of a settlement, by provider, come to its tallies.
-use Rattle.std.proofs.Common.{◌≡◌, ℕ, Bool, true, false, not, ◌&&◌, ◌||◌, cond, List, [], ◌∷◌, ◌++◌, map, refl, sym, ap, ◌∙◌}
+use Rattle.std.proofs.Common.{◌≡◌, ℕ, Bool, true, false, not, ◌||◌, cond, List, [], ◌∷◌, ◌++◌, map, refl, sym, ap, ◌∙◌}
 use Rattle.std.proofs.Common.{get_or, inl, inr, subst}
 use Rattle.std.specs.List.{All, filter, flat_map}
 use Rattle.std.specs.List.Sorted.{IsPermutation}
@@ -7,15 +7,14 @@ use Rattle.std.proofs.lemmas.Bool.{cases_Bool}
 use Rattle.std.proofs.lemmas.List.{append-nil, map-append}
 use Rattle.std.proofs.lemmas.List.Elements.{All-append, All-cons, All-filter, All-head, All-map, All-nil, All-tail, All-weaker}
 use Rattle.std.proofs.lemmas.List.Elements.{filter-append, filter_agree, filter_passes}
-use Rattle.std.proofs.lemmas.List.Folds.{flat_map-map}
 use Rattle.std.proofs.lemmas.List.Sorted.{IsPermutation-map, sum_by-IsPermutation}
 use Rattle.rx_d0_values.specs.declared.reply.Answer.{Answer}
 use Rattle.rx_d0_values.specs.declared.reply.Reply.{Reply}
 use Rattle.rx_report.specs.declared.line.Line.{Line}
 use Rattle.rx_report.specs.declared.portion.Portion.TheVariants as portion
-use Rattle.rx_report.specs.Accounts.{first_tally, is_in, is_of, names_provider, with_lines, with_tally}
-use Rattle.rx_report.specs.AddsUp.{AccountsAddUp, AddsUp, AreLinesOf, IsSettlementOf, entries_of, entry_of}
-use Rattle.rx_report.specs.Groups.{group, grouped, lines_at, provider_of, providers}
+use Rattle.rx_report.specs.Accounts.{first_tally, is_in, is_of, with_lines, with_tally}
+use Rattle.rx_report.specs.AddsUp.{AccountsAddUp, AreLinesOf, entries_of, entry_of}
+use Rattle.rx_report.specs.Groups.{group, grouped, provider_of, providers}
 use Rattle.rx_report.specs.Lines.{answer_of}
 use Rattle.rx_report.proofs.Parted.{among, and_false, filter_all, filter_twice, is_at, laws, lines_at_key, parted}
 use Rattle.rx_report.proofs.Parted.{providers_are, same_text, seen_firsts}
@@ -26,7 +25,6 @@ use Rattle.rx_settle.specs.Answers.{is_paid, is_duplicate, is_approved, is_rejec
 use Rattle.rx_settle.specs.Counting.{field_text, tallies_of, tally_for}
 use Rattle.rx_settle.specs.Providers.{is_same, named, replies_to, without}
 use Rattle.rx_settle.specs.Providers as settled
-use Rattle.rx_settle.specs.declared.settlement.Settled.{Settled}
 use Rattle.rx_settle.specs.declared.tally.Tally.{Tally}
 
 -- the parts of a section

@@ -1,5 +1,5 @@
 -- The answers of a report's lines are those that the settlement counts.
-use Rattle.std.proofs.Common.{◌≡◌, ℕ, ◌+◌, List, [], ◌∷◌, ◌++◌, length, map, refl, sym, ap, ◌∙◌, arith}
+use Rattle.std.proofs.Common.{◌≡◌, ℕ, ◌+◌, List, [], ◌∷◌, ◌++◌, length, map, refl, ap, ◌∙◌, arith}
 use Rattle.std.proofs.lemmas.List.{map-append}
 use Rattle.rx_d0_values.specs.declared.reply.Answer.{Answer}
 use Rattle.rx_d0_values.specs.declared.reply.Reply.{Reply}

@@ -5,15 +5,13 @@ use Rattle.std.specs.Cmp.{IsEquivalence}
 use Rattle.std.specs.Cmp.Lexicographic.{bytes_decides, nat_list_eq_equiv}
 use Rattle.std.specs.List.{All, filter, flat_map}
 use Rattle.std.specs.List.Sorted.{IsPermutation}
-use Rattle.std.specs.Map.{lookup}
-use Rattle.std.specs.Option.{unwrap_or}
 use Rattle.std.proofs.lemmas.Bool.{cases_Bool}
 use Rattle.std.proofs.lemmas.List.Elements.{All-head, All-tail, filter_agree}
 use Rattle.std.proofs.lemmas.List.Sorted.{IsPermutation-append_right, IsPermutation-filter_both, IsPermutation-refl}
 use Rattle.std.proofs.lemmas.List.Sorted.{IsPermutation-trans}
 use Rattle.rx_report.specs.declared.line.Line.{Line}
 use Rattle.rx_report.specs.Groups.{group, grouped, lines_at, provider_of, providers}
-use Rattle.rx_settle.proofs.Firsts.{firsts, seen, others, Distinct, Distinct-firsts, none_alike, seen_alike}
+use Rattle.rx_settle.proofs.Firsts.{firsts, seen, others, Distinct, none_alike, seen_alike}
 use Rattle.rx_settle.specs.Providers.{is_same, without}
 
 -- ---- tests

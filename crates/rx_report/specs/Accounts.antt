@@ -1,11 +1,11 @@
 -- Meaning: the lines of a portion of a report, and its tallies.
 use Rattle.std.specs.Prelude.{◌≡◌, ℕ, Bool, true, false, List, [], ◌∷◌, Option, Some, None, map}
-use Rattle.std.specs.List.{filter}
+use Rattle.std.specs.List.{All, filter}
 use Rattle.rx_report.specs.declared.line.Line.{Line}
 use Rattle.rx_report.specs.declared.portion.Portion.{Portion}
 use Rattle.rx_report.specs.declared.portion.Portion.TheVariants as portion
 use Rattle.rx_report.specs.declared.section.Section.{Section}
-use Rattle.rx_report.specs.Groups.{lines_at}
+use Rattle.rx_report.specs.Groups.{grouped, lines_at, provider_of}
 use Rattle.rx_report.specs.Lines.{answer_of}
 use Rattle.rx_settle.specs.Answers.{tally}
 use Rattle.rx_settle.specs.Providers.{is_same, named}
@@ -60,3 +60,13 @@ IsAccount (portion.Provider id) t kept groups sections total =
     (sections ≡ map (with_lines groups) (filter (is_of id.now) t.providers.entries)) × (total ≡ first_tally sections)
 IsAccount (portion.Family id) t kept groups sections total =
     (sections ≡ map with_tally groups) × (total ≡ tally (map answer_of kept))
+
+-- each section has the lines of its provider, and no other's
+abbrev pub HasOwnLines : List Line → List (List ℕ × (Tally × List Line)) → Type 0
+HasOwnLines kept sections = All (λ s. s.1.1 ≡ filter (λ l. is_same s.0 (provider_of l)) kept) sections
+
+-- so has each of an account whose groups are those of its lines
+abbrev pub SectionsHaveOwnLines : Type 0
+SectionsHaveOwnLines =
+    (p : Portion) (t : Settled) (kept : List Line) (sections : List (List ℕ × (Tally × List Line))) (total : Tally)
+    → IsAccount p t kept (grouped kept) sections total → HasOwnLines kept sections

@@ -2,6 +2,7 @@
 pub mod Accounts
 pub mod Adding
 pub mod AddsUp
+pub mod ByNet
 pub mod Cells
 pub mod Groups
 pub mod Lines

@@ -1,5 +1,6 @@
 ghost use Rattle.std.specs.Prelude.{List};
 ghost use Rattle.rx_print.specs.JsonData.{ReadsAs};
+ghost use Rattle.rx_report.specs.Accounts.{SectionsHaveOwnLines};
 ghost use Rattle.rx_report.specs.AddsUp.{AccountsAddUp};
 ghost use Rattle.rx_fields.specs.Numbered.{LotParts};
 ghost use Rattle.rx_report.specs.LinesData.{claim_data, lines_data};
@@ -11,6 +12,11 @@ ghost use Rattle.rx_report.specs.declared.line.Line.{Line};
 /// provider it is its line of the settlement.
 pub fn accounts_add_up()
     ensures { AccountsAddUp }
+{}
+
+/// Each section of an account has the lines of its provider, and no other's.
+pub fn sections_have_own_lines()
+    ensures { SectionsHaveOwnLines }
 {}
 
 /// What is written as JSON is JSON: it is read as an array with an object for each line, in which each name has the line's

@@ -10,7 +10,7 @@
 //!
 //! Of these lines and the tallies of the batch's settlement an account is made: sections, each a provider with its tally
 //! and its lines, and the tally of all. Of a whole batch and of one provider the tallies are the settlement's; of a
-//! family they are those of its lines. `specs/Accounts.antt` says both.
+//! family they are those of its lines. `specs/Accounts.antt` says both. `by_net` sorts its sections (`specs/ByNet.antt`).
 //!
 //! ```rust
 //! let kept = rx_report::kept_lines(alloc, portion, &lines)?;
@@ -30,6 +30,7 @@ mod groups;
 mod laws;
 mod line;
 mod lines;
+mod net_order;
 mod portion;
 mod section;
 mod tallying;
@@ -40,9 +41,10 @@ pub use cells::{cell_of, cents_of};
 pub use claims::{claims_json, put_lot};
 pub use column::Column;
 pub use groups::Groups;
-pub use laws::{accounts_add_up, claims_read_as_json, lines_read_as_json};
+pub use laws::{accounts_add_up, claims_read_as_json, lines_read_as_json, sections_have_own_lines};
 pub use line::{Dispensed, Line};
 pub use lines::report_lines;
+pub use net_order::by_net;
 pub use portion::{Portion, kept_lines};
 pub use section::{Account, Section};
 pub use texts::{lines_json, put_quoted, tsv_text};

@@ -3,7 +3,9 @@ pub mod AccountData
 pub mod Claims
 pub mod ClaimsShown
 pub mod Columns
+pub mod Folder
 pub mod Json
+pub mod Layouts
 pub mod Origin
 pub mod Pages
 pub mod Providers

@@ -1,14 +1,16 @@
 -- Text: how a page has the table of providers.
-use Rattle.std.specs.Prelude.{ℕ, ◌*◌, ◌/◌, ◌^◌, ◌==◌, nat_lt, if◌then◌else◌, Bool, true, false}
+use Rattle.std.specs.Prelude.{ℕ, ◌*◌, ◌/◌, ◌^◌, ◌==◌, nat_lt, if◌then◌else◌}
 use Rattle.std.specs.Prelude.{List, [], ◌++◌, codes, max}
 use Rattle.std.specs.Fmt.{decimal}
 use Rattle.std.specs.Int.{abs_diff}
 use Rattle.std.specs.List.{enumerate_from, flat_map, fold, list_any}
 use Rattle.rx_report.specs.declared.portion.Portion.{Portion}
 use Rattle.rx_report.specs.declared.portion.Portion.TheVariants as portion
-use Rattle.rx_report.specs.declared.section.Account.{Account}
 use Rattle.rx_report.specs.declared.section.Section.{Section}
 use Rattle.rx_print.specs.Money.{signed_dollars}
+use Rattle.rx_report_text.specs.declared.layout.Layout.{Layout}
+use Rattle.rx_report_text.specs.declared.layout.Layout.TheVariants.{Claims, Commands, Index, Leaf}
+use Rattle.rx_report_text.specs.Layouts.{page_name}
 use Rattle.rx_report_text.specs.Pages.{provider_text}
 use Rattle.rx_settle.specs.Settlement.{net}
 use Rattle.rx_settle.specs.declared.tally.Tally.{Tally}
@@ -59,53 +61,70 @@ bar_text most t = if t.taken_back == t.paid_out then codes "<td class=\"bar\"></
 
 -- ---- a provider
 
--- its name, which leads to its claims
+-- its name, which leads to its claims on the same page
 unfoldable pub link_text : ℕ → List ℕ → List ℕ
 link_text number field =
     codes "<a href=\"#p" ++ (decimal number ++ (codes "\">" ++ (provider_text field ++ codes "</a>")))
 
--- the name only where the page has no claims
-abbrev pub name_text : Bool → ℕ → List ℕ → List ℕ
-name_text true number field = link_text number field
-name_text false number field = provider_text field
+-- its name, which leads to its page
+unfoldable pub page_link : ℕ → List ℕ → List ℕ
+page_link number field =
+    codes "<a href=\"" ++ (page_name number ++ (codes "\">" ++ (provider_text field ++ codes "</a>")))
 
-unfoldable pub row_text : Bool → ℕ → ℕ → Section → List ℕ
-row_text unfolds most number s =
-    codes "<tr><th scope=\"row\">" ++ (name_text unfolds number s.provider ++ (codes "</th>" ++ (tally_text s.tally
+-- the name only where there is neither
+abbrev pub name_text : Layout → ℕ → List ℕ → List ℕ
+name_text Claims number field = link_text number field
+name_text Commands number field = provider_text field
+name_text Index number field = page_link number field
+name_text (Leaf own) number field = link_text number field
+
+unfoldable pub row_text : Layout → ℕ → ℕ → Section → List ℕ
+row_text layout most number s =
+    codes "<tr><th scope=\"row\">" ++ (name_text layout number s.provider ++ (codes "</th>" ++ (tally_text s.tally
     ++ (bar_text most s.tally ++ codes "</tr>\n"))))
 
 -- each provider after its number, from 0
-abbrev pub rows_text : Bool → ℕ → List (ℕ × Section) → List ℕ
-rows_text unfolds most numbered = flat_map (λ s. row_text unfolds most s.0 s.1) numbered
+abbrev pub rows_text : Layout → ℕ → List (ℕ × Section) → List ℕ
+rows_text layout most numbered = flat_map (λ s. row_text layout most s.0 s.1) numbered
 
 -- ---- the table
 
 -- where a net is below zero, the bars have room on both sides of it
 abbrev pub class_text : List Section → List ℕ
 class_text sections =
-    if list_any (λ s. nat_lt s.tally.paid_out s.tally.taken_back) sections then codes "<table class=\"providers signed\">\n"
-    else codes "<table class=\"providers\">\n"
+    if list_any (λ s. nat_lt s.tally.paid_out s.tally.taken_back) sections then codes "<table id=\"providers\" class=\"providers signed\">\n"
+    else codes "<table id=\"providers\" class=\"providers\">\n"
 
-abbrev pub headings_text : List ℕ
-headings_text =
+abbrev pub caption_text : Layout → List ℕ
+caption_text Index =
+    codes "<caption>Providers, the greatest net first; a bar is as long as the square root of the net</caption>\n<thead><tr>"
+caption_text other =
     codes "<caption>Providers in order of first appearance; a bar is as long as the square root of the net</caption>\n<thead><tr>"
+
+abbrev pub headings_text : Layout → List ℕ
+headings_text layout =
+    caption_text layout
     ++ (codes "<th scope=\"col\">Provider</th><th scope=\"col\">Paid</th>"
     ++ (codes "<th scope=\"col\">Duplicate</th><th scope=\"col\">Reversed</th><th scope=\"col\">Rejected</th>"
     ++ codes "<th scope=\"col\">Net</th><th scope=\"col\">Net as a bar</th></tr></thead>\n<tbody>\n"))
 
--- what the last row is about
-abbrev pub scope_text : Portion → List ℕ
-scope_text portion.Whole = codes "All"
-scope_text (portion.Provider id) = codes "This provider"
-scope_text (portion.Family id) = codes "These lines"
+abbrev pub whole_scope : Layout → List ℕ
+whole_scope (Leaf field) = codes "This provider"
+whole_scope other = codes "All"
 
-unfoldable pub total_text : Portion → Tally → List ℕ
-total_text p total =
-    codes "</tbody>\n<tfoot><tr><th scope=\"row\">" ++ (scope_text p ++ (codes "</th>" ++ (tally_text total
+-- what the last row is about
+abbrev pub scope_text : Layout → Portion → List ℕ
+scope_text layout portion.Whole = whole_scope layout
+scope_text layout (portion.Provider id) = codes "This provider"
+scope_text layout (portion.Family id) = codes "These lines"
+
+unfoldable pub total_text : Layout → Portion → Tally → List ℕ
+total_text layout p total =
+    codes "</tbody>\n<tfoot><tr><th scope=\"row\">" ++ (scope_text layout p ++ (codes "</th>" ++ (tally_text total
     ++ codes "<td class=\"bar\"></td></tr></tfoot>\n</table>\n")))
 
 -- the headings, a row for each provider, and what all come to
-unfoldable pub table_text : Bool → Portion → Account → List ℕ
-table_text unfolds p account =
-    class_text account.sections.items ++ (headings_text ++ (rows_text unfolds (longest account.sections.items) (enumerate_from 0 account.sections.items)
-    ++ total_text p account.total))
+unfoldable pub table_text : Layout → Portion → List Section → Tally → List ℕ
+table_text layout p sections total =
+    class_text sections ++ (headings_text layout ++ (rows_text layout (longest sections) (enumerate_from 0 sections)
+    ++ total_text layout p total))

@@ -6,7 +6,8 @@
 //!
 //! ```rust
 //! let text = rx_report_text::columns_text(alloc, portion, &account)?;
-//! let page = rx_report_text::explained_page(alloc, lot, portion, &account, &whys)?;
+//! let page = rx_report_text::explained_page(alloc, head, portion, &account, &whys)?;
+//! let pages = rx_report_text::folder_pages(alloc, head, &account, portion, &whys)?;
 //! ```
 //!
 //! The page takes nothing from outside: no font, no picture, and no script but its own, which is fixed text. It has its
@@ -14,16 +15,19 @@
 //! (`specs/Rejects.antt`), a table of providers with a bar for each net (`specs/Providers.antt`), and each provider's claims
 //! (`specs/Claims.antt`), a row each (`specs/Rows.antt`) that unfolds to its figures and to why they are so
 //! (`specs/Reasons.antt`). It is written in only two ways: by markup that stands in this crate, and by bytes that `rx_print`
-//! turns into text (`specs/Pages.antt`).
+//! turns into text (`specs/Pages.antt`). A folder has a page for each provider and one that leads to them
+//! (`specs/Folder.antt`).
 //!
 //! Nothing is explained here: `shows_claims` says whether a page has claims, and why they were answered so is given to it.
 #![tactic(auto)]
 
 mod claims;
 mod columns;
+mod folder;
 mod html;
 mod json;
 mod laws;
+mod layout;
 mod money;
 mod origin;
 mod providers;
@@ -39,6 +43,7 @@ mod why;
 mod wide;
 
 pub use columns::columns_text;
+pub use folder::{PageFile, folder_pages};
 pub use json::account_json;
 pub use laws::account_reads_as_json;
 pub use origin::{InputFile, Origin, PageHead};

@@ -22,6 +22,8 @@ pub struct Origin<'a> {
     pub sheet: InputFile<'a>,
     pub books: InputFile<'a>,
     pub batch: InputFile<'a>,
+    /// The options that name these files to a command, as a shell reads them.
+    pub options: &'a str,
     /// The program and its version.
     pub program: &'a str,
     /// The time by the clock, as `2026-11-28 09:55`; empty where it isn't known.
@@ -94,7 +96,8 @@ fn put_term(page: &mut Page, name: &'static str, text: &str) -> Result<(), Alloc
     page.markup("</dd>\n")
 }
 
-fn put_text(page: &mut Page, text: &str) -> Result<(), AllocError>
+/// Writes a text of the command line.
+pub(crate) fn put_text(page: &mut Page, text: &str) -> Result<(), AllocError>
     ensures { OnOk result (page.new.bytes.items ≡ page.old.bytes.items ++ escaped Html text.now) }
 {
     page.escaped(Style::Html, text.as_bytes())

@@ -1,27 +1,31 @@
 ghost use Rattle.std.specs.Prelude.{◌≡◌, ◌++◌, nat_lt, OnOk};
 ghost use Rattle.std.specs.List.{enumerate_from, list_any};
-ghost use Rattle.rx_report_text.specs.Providers.{bar_text, class_text, count_text, headings_text, length_text, link_text, longest, net_cell};
-ghost use Rattle.rx_report_text.specs.Providers.{name_text, row_text, rows_text, scope_text, share, sign_text, size, table_text, tally_text, total_text};
+ghost use Rattle.rx_report_text.specs.Providers.{bar_text, caption_text, class_text, count_text, headings_text, length_text, link_text};
+ghost use Rattle.rx_report_text.specs.Providers.{longest, name_text, net_cell, page_link, row_text, rows_text, scope_text, share};
+ghost use Rattle.rx_report_text.specs.Providers.{sign_text, size, table_text, tally_text, total_text, whole_scope};
 
 use crate::html::{put_net_text, put_provider_text};
+use crate::layout::{Layout, put_page_name};
 use rx_print::Page;
-use rx_report::{Account, Portion, Section};
+use rx_report::{Portion, Section};
 use rx_settle::{Field, Tally};
 use std::alloc::AllocError;
 
 /// The table of providers, with counts, net and a bar for each.
 pub(crate) fn put_providers(
     page: &mut Page,
+    layout: Layout,
     portion: Portion<'_>,
-    account: &Account<'_>,
-    unfolds: bool,
+    sections: &[Section<'_>],
+    total: &Tally,
 ) -> Result<(), AllocError>
-    ensures { OnOk result (page.new.bytes.items ≡ page.old.bytes.items ++ table_text unfolds portion.entry account.now) }
+    ensures { OnOk result (page.new.bytes.items
+        ≡ page.old.bytes.items ++ table_text layout portion.entry sections.now total.now) }
 {
-    page.markup(class_text(&account.sections))?;
-    put_headings(page)?;
-    put_rows(page, &account.sections, unfolds)?;
-    put_total(page, portion, &account.total)
+    page.markup(class_text(sections))?;
+    put_headings(page, layout)?;
+    put_rows(page, layout, sections)?;
+    put_total(page, layout, portion, total)
 }
 
 // Where a net is below zero, the bars have room on both sides of it.
@@ -29,9 +33,9 @@ fn class_text(sections: &[Section<'_>]) -> &'static str
     ensures { result.now ≡ class_text sections.now }
 {
     if has_net_below_zero(sections) {
-        "<table class=\"providers signed\">\n"
+        "<table id=\"providers\" class=\"providers signed\">\n"
     } else {
-        "<table class=\"providers\">\n"
+        "<table id=\"providers\" class=\"providers\">\n"
     }
 }
 
@@ -42,12 +46,10 @@ fn has_net_below_zero(sections: &[Section<'_>]) -> bool
 }
 
 // The caption and the headings.
-fn put_headings(page: &mut Page) -> Result<(), AllocError>
-    ensures { OnOk result (page.new.bytes.items ≡ page.old.bytes.items ++ headings_text) }
+fn put_headings(page: &mut Page, layout: Layout) -> Result<(), AllocError>
+    ensures { OnOk result (page.new.bytes.items ≡ page.old.bytes.items ++ headings_text layout) }
 {
-    page.markup(
-        "<caption>Providers in order of first appearance; a bar is as long as the square root of the net</caption>\n<thead><tr>",
-    )?;
+    page.markup(caption_text(layout))?;
     page.markup("<th scope=\"col\">Provider</th><th scope=\"col\">Paid</th>")?;
     page.markup(
         "<th scope=\"col\">Duplicate</th><th scope=\"col\">Reversed</th><th scope=\"col\">Rejected</th>",
@@ -57,37 +59,64 @@ fn put_headings(page: &mut Page) -> Result<(), AllocError>
     )
 }
 
+fn caption_text(layout: Layout) -> &'static str
+    ensures { result.now ≡ caption_text layout }
+{
+    match layout {
+        Layout::Index => {
+            "<caption>Providers, the greatest net first; a bar is as long as the square root of the net</caption>\n<thead><tr>"
+        }
+        Layout::Claims | Layout::Commands | Layout::Leaf(_) => {
+            "<caption>Providers in order of first appearance; a bar is as long as the square root of the net</caption>\n<thead><tr>"
+        }
+    }
+}
+
 // A row for each provider.
-fn put_rows(page: &mut Page, sections: &[Section<'_>], unfolds: bool) -> Result<(), AllocError>
+fn put_rows(page: &mut Page, layout: Layout, sections: &[Section<'_>]) -> Result<(), AllocError>
     ensures { OnOk result (page.new.bytes.items
-        ≡ page.old.bytes.items ++ rows_text unfolds (longest sections.now) (enumerate_from 0 sections.now)) }
+        ≡ page.old.bytes.items ++ rows_text layout (longest sections.now) (enumerate_from 0 sections.now)) }
 {
     let longest = longest(sections);
     for (before, section) in sections.iter().enumerate() {
-        put_provider(page, before, section, longest, unfolds)?;
+        put_provider(page, layout, before, section, longest)?;
     }
     Ok(())
 }
 
 // What all of them come to.
-fn put_total(page: &mut Page, portion: Portion<'_>, total: &Tally) -> Result<(), AllocError>
-    ensures { OnOk result (page.new.bytes.items ≡ page.old.bytes.items ++ total_text portion.entry total.now) }
+fn put_total(
+    page: &mut Page,
+    layout: Layout,
+    portion: Portion<'_>,
+    total: &Tally,
+) -> Result<(), AllocError>
+    ensures { OnOk result (page.new.bytes.items ≡ page.old.bytes.items ++ total_text layout portion.entry total.now) }
 {
     page.markup("</tbody>\n<tfoot><tr><th scope=\"row\">")?;
-    put_scope(page, portion)?;
+    page.markup(scope_text(layout, portion))?;
     page.markup("</th>")?;
     put_tally(page, total)?;
     page.markup("<td class=\"bar\"></td></tr></tfoot>\n</table>\n")
 }
 
 // What the last row is about.
-fn put_scope(page: &mut Page, portion: Portion<'_>) -> Result<(), AllocError>
-    ensures { OnOk result (page.new.bytes.items ≡ page.old.bytes.items ++ scope_text portion.entry) }
+fn scope_text(layout: Layout, portion: Portion<'_>) -> &'static str
+    ensures { result.now ≡ scope_text layout portion.entry }
 {
     match portion {
-        Portion::Whole => page.markup("All"),
-        Portion::Provider(_) => page.markup("This provider"),
-        Portion::Family(_) => page.markup("These lines"),
+        Portion::Whole => whole_scope(layout),
+        Portion::Provider(_) => "This provider",
+        Portion::Family(_) => "These lines",
+    }
+}
+
+fn whole_scope(layout: Layout) -> &'static str
+    ensures { result.now ≡ whole_scope layout }
+{
+    match layout {
+        Layout::Leaf(_) => "This provider",
+        Layout::Claims | Layout::Commands | Layout::Index => "All",
     }
 }
 
@@ -111,35 +140,45 @@ fn size(tally: &Tally) -> u128
 
 fn put_provider(
     page: &mut Page,
+    layout: Layout,
     before: usize,
     section: &Section<'_>,
     longest: u128,
-    unfolds: bool,
 ) -> Result<(), AllocError>
-    ensures { OnOk result (page.new.bytes.items ≡ page.old.bytes.items ++ row_text unfolds longest before section.now) }
+    ensures { OnOk result (page.new.bytes.items ≡ page.old.bytes.items ++ row_text layout longest before section.now) }
 {
     page.markup("<tr><th scope=\"row\">")?;
-    put_name(page, before, &section.provider, unfolds)?;
+    put_name(page, layout, before, &section.provider)?;
     page.markup("</th>")?;
     put_tally(page, &section.tally)?;
     put_bar(page, &section.tally, longest)?;
     page.markup("</tr>\n")
 }
 
-// The provider's name, which leads to its claims where the page has them.
+// The provider's name, which leads to its claims, here or on their page.
 fn put_name(
     page: &mut Page,
+    layout: Layout,
     before: usize,
     provider: &Field,
-    unfolds: bool,
 ) -> Result<(), AllocError>
-    ensures { OnOk result (page.new.bytes.items ≡ page.old.bytes.items ++ name_text unfolds before provider.now) }
+    ensures { OnOk result (page.new.bytes.items ≡ page.old.bytes.items ++ name_text layout before provider.now) }
 {
-    if unfolds {
-        put_link(page, before, provider)
-    } else {
-        put_provider_text(page, provider)
+    match layout {
+        Layout::Claims | Layout::Leaf(_) => put_link(page, before, provider),
+        Layout::Commands => put_provider_text(page, provider),
+        Layout::Index => put_page_link(page, before, provider),
     }
+}
+
+fn put_page_link(page: &mut Page, before: usize, provider: &Field) -> Result<(), AllocError>
+    ensures { OnOk result (page.new.bytes.items ≡ page.old.bytes.items ++ page_link before provider.now) }
+{
+    page.markup("<a href=\"")?;
+    put_page_name(page, before)?;
+    page.markup("\">")?;
+    put_provider_text(page, provider)?;
+    page.markup("</a>")
 }
 
 fn put_link(page: &mut Page, before: usize, provider: &Field) -> Result<(), AllocError>

@@ -53,7 +53,7 @@ input:not([type=checkbox]),select{max-width:10rem;border:1px solid var(--soft);b
 thead button{padding:0;border:0;background:none;text-align:inherit;text-decoration:underline dotted;cursor:pointer}
 [aria-sort=ascending] button::after{content:' \\2191'}
 [aria-sort=descending] button::after{content:' \\2193'}
-tbody[hidden],section[hidden]{display:none}
+tbody[hidden],section[hidden],.providers tr[hidden]{display:none}
 .claims{margin-top:.4rem;font-size:.9em}
 .claims th,.claims td{padding:.35rem .45rem;white-space:nowrap}
 .claims th:first-child{padding-left:.25rem}
@@ -81,7 +81,7 @@ dd{margin:0 1rem 0 0;overflow-wrap:anywhere}
 @media (max-width:44rem){
 body{padding:.9rem}
 .providers thead,.claims thead{position:absolute;left:-99rem}
-.providers tr{display:grid;grid-template-columns:repeat(4,1fr);padding:.6rem 0;border-bottom:1px solid var(--rule)}
+.providers tr:not([hidden]){display:grid;grid-template-columns:repeat(4,1fr);padding:.6rem 0;border-bottom:1px solid var(--rule)}
 .providers tfoot tr{border-bottom:0}
 .providers th,.providers td{padding:.1rem 0;border:0;text-align:left}
 .providers tr th{grid-column:1/4}

@@ -1,15 +1,19 @@
-ghost use Rattle.std.specs.Prelude.{◌≡◌, ◌++◌, [], length, nat_le, sum_by, IfOk, OnOk};
+ghost use Rattle.std.specs.Prelude.{◌≡◌, ◌++◌, [], codes, length, nat_le, sum_by, IfOk, OnOk};
 ghost use Rattle.std.specs.List.{enumerate_from};
 ghost use Rattle.rx_print.specs.Dates.{dashed};
 ghost use Rattle.rx_print.specs.Escape.{escaped};
 ghost use Rattle.rx_print.specs.declared.style.Style.TheVariants.{Html};
 ghost use Rattle.rx_report_text.specs.Claims.{sections_text};
 ghost use Rattle.rx_report_text.specs.ClaimsShown.{shows_claims};
-ghost use Rattle.rx_report_text.specs.Whole.{below_table, claims_text, end_text, head_text, lot_text, page_text, parts_of_page};
-ghost use Rattle.rx_report_text.specs.Whole.{portion_text, title_text, too_many_text};
+ghost use Rattle.rx_report_text.specs.Pages.{provider_text};
+ghost use Rattle.rx_report_text.specs.Whole.{below_table, called_text, claims_part, end_text, family_text, head_text, header_text, leaf_portion_text, lot_text};
+ghost use Rattle.rx_report_text.specs.Whole.{page_text, parts_of_page, portion_text, print_text, skip_text, title_text, too_many_text};
+ghost use Rattle.rx_report_text.specs.Whole.{whose_text};
 
 use crate::claims::put_claims;
-use crate::origin::{PageHead, put_origin};
+use crate::html::put_provider_text;
+use crate::layout::Layout;
+use crate::origin::{Origin, PageHead, put_origin, put_text};
 use crate::providers::put_providers;
 use crate::rejects::put_rejects;
 use crate::script::{POLICY, SCRIPT};
@@ -19,6 +23,7 @@ use crate::why::Whys;
 use rx_fields::{Day, Lot, Memory, date_write, digits_write};
 use rx_print::{Page, Style, dashed_digits};
 use rx_report::{Account, Portion, Section};
+use rx_settle::{Field, Tally};
 use rx_sorted::Ascending;
 use std::alloc::{AllocError, Global};
 
@@ -48,29 +53,38 @@ pub fn explained_page(
     ensures { IfOk result (λ page. page.items ≡ page_text head.now portion.entry account.now whys.now) }
 {
     let mut page = Page::new(alloc);
-    let unfolds = shows_claims(portion, account);
-    put_page(&mut page, head, portion, account, whys, unfolds)?;
+    let layout = Layout::of(shows_claims(portion, account));
+    put_page(
+        &mut page,
+        layout,
+        head,
+        portion,
+        &account.sections,
+        &account.total,
+        whys,
+    )?;
     Ok(page.into_bytes())
 }
 
-// Head, title, what it comes to, why answers were rejected, the table of providers and what stands below it.
-fn put_page(
+/// Head, title, what it comes to, why answers were rejected, the table of providers and what stands below it.
+pub(crate) fn put_page(
     page: &mut Page,
+    layout: Layout,
     head: &PageHead<'_>,
     portion: Portion<'_>,
-    account: &Account<'_>,
+    sections: &[Section<'_>],
+    total: &Tally,
     whys: &Whys,
-    unfolds: bool,
 ) -> Result<(), AllocError>
     ensures { OnOk result (page.new.bytes.items
-        ≡ page.old.bytes.items ++ parts_of_page unfolds head.now portion.entry account.now whys.now) }
+        ≡ page.old.bytes.items ++ parts_of_page layout head.now portion.entry sections.now total.now whys.now) }
 {
-    put_head(page, head.lot)?;
-    put_title(page, head, portion)?;
-    put_summary(page, &account.total)?;
-    put_rejects(page, &account.sections, unfolds)?;
-    put_providers(page, portion, account, unfolds)?;
-    put_below(page, account, whys, unfolds)?;
+    put_head(page, layout, head.lot)?;
+    put_title(page, layout, head, portion)?;
+    put_summary(page, total)?;
+    put_rejects(page, sections, layout.has_claims())?;
+    put_providers(page, layout, portion, sections, total)?;
+    put_below(page, layout, head, sections, whys)?;
     put_end(page)
 }
 
@@ -83,34 +97,39 @@ fn put_end(page: &mut Page) -> Result<(), AllocError>
     page.markup("</script>\n</body>\n</html>\n")
 }
 
-// What the first link of the page leads to.
+// The claims of each provider, or how they are had.
+#[tactic(auto, unfolding(crate::specs::Whole::below_table))]
 fn put_below(
     page: &mut Page,
-    account: &Account<'_>,
+    layout: Layout,
+    head: &PageHead<'_>,
+    sections: &[Section<'_>],
     whys: &Whys,
-    unfolds: bool,
 ) -> Result<(), AllocError>
-    ensures { OnOk result (page.new.bytes.items ≡ page.old.bytes.items ++ below_table unfolds whys.now account.now) }
+    ensures { OnOk result (page.new.bytes.items ≡ page.old.bytes.items ++ below_table layout head.now sections.now whys.now) }
+{
+    match layout {
+        Layout::Claims | Layout::Leaf(_) => put_claims_part(page, sections, whys),
+        Layout::Commands => put_command_part(page, &head.origin),
+        Layout::Index => page.markup("</main>\n"),
+    }
+}
+
+fn put_claims_part(page: &mut Page, sections: &[Section<'_>], whys: &Whys) -> Result<(), AllocError>
+    ensures { OnOk result (page.new.bytes.items
+        ≡ page.old.bytes.items ++ claims_part (sections_text whys.now (enumerate_from 0 sections.now))) }
 {
     page.markup("<div id=\"claims\">\n")?;
-    put_claims_or_command(page, unfolds, whys, account)?;
+    put_sections(page, sections, whys)?;
     page.markup("</div>\n</main>\n")
 }
 
-// The claims of each provider, or how they are had.
-fn put_claims_or_command(
-    page: &mut Page,
-    unfolds: bool,
-    whys: &Whys,
-    account: &Account<'_>,
-) -> Result<(), AllocError>
-    ensures { OnOk result (page.new.bytes.items ≡ page.old.bytes.items ++ claims_text unfolds whys.now account.now) }
+fn put_command_part(page: &mut Page, origin: &Origin<'_>) -> Result<(), AllocError>
+    ensures { OnOk result (page.new.bytes.items ≡ page.old.bytes.items ++ claims_part (too_many_text origin.now)) }
 {
-    if unfolds {
-        put_sections(page, &account.sections, whys)
-    } else {
-        put_command(page)
-    }
+    page.markup("<div id=\"claims\">\n")?;
+    put_command(page, origin)?;
+    page.markup("</div>\n</main>\n")
 }
 
 /// Whether the page of an account has its claims, and not the table of providers only: those of a portion, and those of
@@ -138,20 +157,51 @@ fn are_few(sections: &[Section<'_>]) -> bool
     true
 }
 
-fn put_head(page: &mut Page, lot: Lot) -> Result<(), AllocError>
-    ensures { OnOk result (page.new.bytes.items ≡ page.old.bytes.items ++ head_text lot) }
+fn put_head(page: &mut Page, layout: Layout, lot: Lot) -> Result<(), AllocError>
+    ensures { OnOk result (page.new.bytes.items ≡ page.old.bytes.items ++ head_text layout lot) }
 {
     page.markup("<!DOCTYPE html>\n<html lang=\"en\">\n<head>\n<meta charset=\"utf-8\">\n")?;
     page.markup(POLICY)?;
     page.markup(
         "<meta name=\"viewport\" content=\"width=device-width, initial-scale=1\">\n<title>",
     )?;
-    put_lot(page, lot)?;
+    put_called(page, layout, lot)?;
     page.markup("</title>\n<style>\n")?;
     page.markup(STYLE)?;
-    page.markup(
-        "</style>\n</head>\n<body>\n<a class=\"skip\" href=\"#claims\">Skip to the claims</a>\n",
-    )
+    page.markup("</style>\n</head>\n<body>\n")?;
+    page.markup(skip_text(layout))
+}
+
+// The first link, past what stands at the head.
+fn skip_text(layout: Layout) -> &'static str
+    ensures { result.now ≡ skip_text layout }
+{
+    match layout {
+        Layout::Index => { "<a class=\"skip\" href=\"#providers\">Skip to the providers</a>\n" }
+        Layout::Claims | Layout::Commands | Layout::Leaf(_) => {
+            "<a class=\"skip\" href=\"#claims\">Skip to the claims</a>\n"
+        }
+    }
+}
+
+// What the page is called.
+fn put_called(page: &mut Page, layout: Layout, lot: Lot) -> Result<(), AllocError>
+    ensures { OnOk result (page.new.bytes.items ≡ page.old.bytes.items ++ called_text layout lot) }
+{
+    match layout {
+        Layout::Leaf(provider) => put_called_after(page, lot, &provider),
+        Layout::Claims | Layout::Commands | Layout::Index => put_lot(page, lot),
+    }
+}
+
+#[tactic(auto, using(std::proofs::Common::append_assoc))]
+fn put_called_after(page: &mut Page, lot: Lot, provider: &Field) -> Result<(), AllocError>
+    ensures { OnOk result (page.new.bytes.items
+        ≡ page.old.bytes.items ++ (lot_text lot ++ (codes ", provider " ++ provider_text provider.now))) }
+{
+    put_lot(page, lot)?;
+    page.markup(", provider ")?;
+    put_provider_text(page, provider)
 }
 
 #[tactic(auto, using(std::proofs::Common::append_assoc))]
@@ -164,19 +214,45 @@ fn put_lot(page: &mut Page, lot: Lot) -> Result<(), AllocError>
 }
 
 // The batch, its date, whose lines the page has, and its origin.
-fn put_title(page: &mut Page, head: &PageHead<'_>, portion: Portion<'_>) -> Result<(), AllocError>
-    ensures { OnOk result (page.new.bytes.items ≡ page.old.bytes.items ++ title_text head.now portion.entry) }
+fn put_title(
+    page: &mut Page,
+    layout: Layout,
+    head: &PageHead<'_>,
+    portion: Portion<'_>,
+) -> Result<(), AllocError>
+    ensures { OnOk result (page.new.bytes.items ≡ page.old.bytes.items ++ title_text layout head.now portion.entry) }
 {
-    page.markup("<header>\n<h1>")?;
+    page.markup(header_text(layout))?;
     put_lot(page, head.lot)?;
     page.markup("</h1>\n<p>created ")?;
     put_day(page, head.lot.created())?;
-    put_portion(page, portion)?;
+    put_whose(page, layout, portion)?;
     page.markup("; amounts in dollars</p>\n")?;
     put_origin(page, head)?;
-    page.markup(
-        "<label class=\"print\"><input type=\"checkbox\" id=\"short\"> print without explanations</label>\n</header>\n<main>\n",
-    )
+    page.markup(print_text(layout.has_claims()))
+}
+
+// The front of the header; of a page in a folder with the way to the first.
+fn header_text(layout: Layout) -> &'static str
+    ensures { result.now ≡ header_text layout }
+{
+    match layout {
+        Layout::Leaf(_) => {
+            "<header>\n<p><a href=\"index.html\">All providers of this batch</a></p>\n<h1>"
+        }
+        Layout::Claims | Layout::Commands | Layout::Index => "<header>\n<h1>",
+    }
+}
+
+// How claims are printed, on a page that has them, and the end of the header.
+fn print_text(has_claims: bool) -> &'static str
+    ensures { result.now ≡ print_text has_claims }
+{
+    if has_claims {
+        "<label class=\"print\"><input type=\"checkbox\" id=\"short\"> print without explanations</label>\n</header>\n<main>\n"
+    } else {
+        "</header>\n<main>\n"
+    }
 }
 
 // A day as `2026-03-05`.
@@ -187,34 +263,58 @@ fn put_day(page: &mut Page, day: Day) -> Result<(), AllocError>
 }
 
 // Whose lines the page has.
+fn put_whose(page: &mut Page, layout: Layout, portion: Portion<'_>) -> Result<(), AllocError>
+    ensures { OnOk result (page.new.bytes.items ≡ page.old.bytes.items ++ whose_text layout portion.entry) }
+{
+    match layout {
+        Layout::Leaf(provider) => put_leaf_whose(page, &provider, portion),
+        Layout::Claims | Layout::Commands | Layout::Index => { put_portion(page, portion) }
+    }
+}
+
+// Those of a provider, and of the family, if it is one.
+fn put_leaf_whose(page: &mut Page, provider: &Field, portion: Portion<'_>) -> Result<(), AllocError>
+    ensures { OnOk result (page.new.bytes.items
+        ≡ page.old.bytes.items ++ (codes ", only provider " ++ (provider_text provider.now ++ leaf_portion_text portion.entry))) }
+{
+    page.markup(", only provider ")?;
+    put_provider_text(page, provider)?;
+    put_leaf_portion(page, portion)
+}
+
+// The same on a page that names its provider.
+fn put_leaf_portion(page: &mut Page, portion: Portion<'_>) -> Result<(), AllocError>
+    ensures { OnOk result (page.new.bytes.items ≡ page.old.bytes.items ++ leaf_portion_text portion.entry) }
+{
+    match portion {
+        Portion::Whole | Portion::Provider(_) => Ok(()),
+        Portion::Family(id) => put_family(page, id),
+    }
+}
+
 fn put_portion(page: &mut Page, portion: Portion<'_>) -> Result<(), AllocError>
     ensures { OnOk result (page.new.bytes.items ≡ page.old.bytes.items ++ portion_text portion.entry) }
 {
     match portion {
         Portion::Whole => page.markup(", all providers"),
-        Portion::Provider(id) => put_within(page, ", provider ", id, " alone"),
-        Portion::Family(id) => put_within(
-            page,
-            ", the lines of family ",
-            id,
-            "; counts and net are of these alone",
-        ),
+        Portion::Provider(id) => put_only(page, id),
+        Portion::Family(id) => put_family(page, id),
     }
 }
 
-// An id between markup.
-#[tactic(auto, using(std::proofs::Common::append_assoc))]
-fn put_within(
-    page: &mut Page,
-    front: &'static str,
-    id: &[u8],
-    back: &'static str,
-) -> Result<(), AllocError>
-    ensures { OnOk result (page.new.bytes.items ≡ page.old.bytes.items ++ (front.now ++ (escaped Html id.now ++ back.now))) }
+fn put_only(page: &mut Page, id: &[u8]) -> Result<(), AllocError>
+    ensures { OnOk result (page.new.bytes.items ≡ page.old.bytes.items ++ (codes ", only provider " ++ escaped Html id.now)) }
 {
-    page.markup(front)?;
+    page.markup(", only provider ")?;
+    page.escaped(Style::Html, id)
+}
+
+fn put_family(page: &mut Page, id: &[u8]) -> Result<(), AllocError>
+    ensures { OnOk result (page.new.bytes.items ≡ page.old.bytes.items ++ family_text id.now) }
+{
+    page.markup(", the lines of family ")?;
     page.escaped(Style::Html, id)?;
-    page.markup(back)
+    page.markup("; counts and net are of these")
 }
 
 // Each provider's claims.
@@ -227,12 +327,14 @@ fn put_sections(page: &mut Page, sections: &[Section<'_>], whys: &Whys) -> Resul
     Ok(())
 }
 
-// How the claims of one provider are had.
-fn put_command(page: &mut Page) -> Result<(), AllocError>
-    ensures { OnOk result (page.new.bytes.items ≡ page.old.bytes.items ++ too_many_text) }
+// How the claims are had.
+fn put_command(page: &mut Page, origin: &Origin<'_>) -> Result<(), AllocError>
+    ensures { OnOk result (page.new.bytes.items ≡ page.old.bytes.items ++ too_many_text origin.now) }
 {
     page.markup(
-        "<p>These are too many claims for one page. Those of one provider are on a page by</p>\n",
+        "<p>These are too many claims for one page. A page for each provider, and one that leads to them, are made by</p>\n",
     )?;
-    page.markup("<pre>rxbatch report --sheet F --books F --batch F --provider ID --html</pre>\n")
+    page.markup("<pre>rxbatch report ")?;
+    put_text(page, origin.options)?;
+    page.markup(" --html-dir DIR</pre>\n")
 }

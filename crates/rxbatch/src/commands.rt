@@ -251,7 +251,7 @@ fn report_page<R: Threads + Sync>(
     words: &ReportWords<'_>,
     texts: &Inputs<Vec<u8>>,
 ) -> Result<PrintedReport, Ending> {
-    let noted = Noted::of(rt, texts)?;
+    let noted = Noted::of(rt, &words.inputs, texts)?;
     let form = Form::Html(noted.origin(&words.inputs)?);
     let printed = report_in(rt, threads, words, texts, form);
     drop(noted);

@@ -1,25 +1,33 @@
 //! What a page says of its origin: the files that were read, the program and the time.
 use crate::ending::Ending;
 use crate::moment::now_in_words;
+use crate::shown_path::shown_path;
 use rx_cli::VERSION;
 use rx_fields::Memory;
 use rx_io::Inputs;
 use rx_report_text::{InputFile, Origin};
 use rx_run_log::FileSum;
+use std::alloc::Global;
 
 /// The sums of the files that a page was made from, the program's version, and the time.
 #[derive(Drop)]
 pub struct Noted {
     sums: Inputs<FileSum>,
+    options: String,
     program: String,
     made: String,
 }
 
 impl Noted {
-    /// Of these texts, now.
-    pub fn of(rt: &HostRuntime, texts: &Inputs<Vec<u8>>) -> Result<Noted, Ending> {
+    /// Of these texts, which were read at these paths, now.
+    pub fn of(
+        rt: &HostRuntime,
+        paths: &Inputs<&str>,
+        texts: &Inputs<Vec<u8>>,
+    ) -> Result<Noted, Ending> {
         let (alloc, version) = (rt.alloc(), VERSION);
         Ok(Noted {
+            options: options_of(alloc, paths)?,
             program: format!(in alloc; "rxbatch {version}")?,
             sums: texts
                 .as_ref()
@@ -34,10 +42,18 @@ impl Noted {
             sheet: input_file(paths.sheet, &self.sums.sheet)?,
             books: input_file(paths.books, &self.sums.books)?,
             batch: input_file(paths.batch, &self.sums.batch)?,
+            options: self.options.as_str(),
             program: self.program.as_str(),
             made: self.made.as_str(),
         })
     }
+}
+
+fn options_of(alloc: Global, paths: &Inputs<&str>) -> Result<String, Memory> {
+    let sheet = shown_path(alloc, paths.sheet)?;
+    let books = shown_path(alloc, paths.books)?;
+    let batch = shown_path(alloc, paths.batch)?;
+    Ok(format!(in alloc; "--sheet {sheet} --books {books} --batch {batch}")?)
 }
 
 fn input_file<'a>(path: &'a str, sum: &'a FileSum) -> Result<InputFile<'a>, Ending> {

@@ -8,7 +8,7 @@ unfolding row_text
 returns c =
     six c.markup-3.result c.markup-3.new.self.bytes.items c.args.page.now.bytes.items
     (codes "<tr><th scope=\"row\">")
-    (name_text c.args.unfolds c.args.before c.args.section.now.provider)
+    (name_text c.args.layout c.args.before c.args.section.now.provider)
     (codes "</th>")
     (tally_text c.args.section.now.tally)
     (bar_text c.args.longest c.args.section.now.tally)

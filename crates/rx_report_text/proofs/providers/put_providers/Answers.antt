@@ -8,13 +8,11 @@ pub returns : goal.returns
 unfolding table_text
 returns c =
     four c.put_total.result c.put_total.new.page.bytes.items c.args.page.now.bytes.items
-    (class_text c.args.account.now.sections.items)
-    headings_text
-    (rows_text c.args.unfolds (longest c.args.account.now.sections.items) (enumerate_from 0 c.args.account.now.sections.items))
-    (total_text c.args.portion c.args.account.now.total)
-    (c.in_ok-markup.ensures ∙ ap (λ text. c.args.page.now.bytes.items ++ text)
-    (c.class_text.ensures ∙ ap class_text c.deref.ensures.value))
+    (class_text c.args.sections.now)
+    (headings_text c.args.layout)
+    (rows_text c.args.layout (longest c.args.sections.now) (enumerate_from 0 c.args.sections.now))
+    (total_text c.args.layout c.args.portion c.args.total.now)
+    (c.in_ok-markup.ensures ∙ ap (λ text. c.args.page.now.bytes.items ++ text) c.class_text.ensures)
     c.in_ok-put_headings.ensures
-    (c.in_ok-put_rows.ensures ∙ ap (λ xs. c.put_headings.new.page.bytes.items
-    ++ rows_text c.args.unfolds (longest xs) (enumerate_from 0 xs)) c.deref-2.ensures.value)
+    c.in_ok-put_rows.ensures
     c.put_total.ensures

@@ -6,5 +6,5 @@ use Rattle.rx_report_text.proofs.providers.put_rows.Given as goal
 
 abbrev pub invariant-loop-before : goal.invariant-loop-before
 invariant-loop-before l =
-    l.page.bytes.items ++ rows_text l.unfolds l.longest (enumerate_from l.before (drop l.before l.sections))
-    ≡ l.fn.page.bytes.items ++ rows_text l.unfolds l.longest (enumerate_from 0 l.sections)
+    l.page.bytes.items ++ rows_text l.layout l.longest (enumerate_from l.before (drop l.before l.sections))
+    ≡ l.fn.page.bytes.items ++ rows_text l.layout l.longest (enumerate_from 0 l.sections)
