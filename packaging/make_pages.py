@@ -32,7 +32,7 @@ DIAGNOSTICS = [
                       "batch. The words follow; of run, show and plan "
                       "with -v or on a terminal. fault N M P prints them."),
     ("file K", "K: 1 sheet, 2 books, 3 batch, 4 response, 5 end books, 6 settlement, 7 log, 8 members table, 9 claims that left, "
-               "0 standard output."),
+               "10 a page of a report, 0 standard output."),
 ]
 FILES = [
     ("plan sheet", "TOML: the plan's BIN and processor control number, period, figures, tiers and drugs."),

@@ -17,6 +17,8 @@ with marks of HTML, JSON and terminals, and more lines than a page shows. Of eac
   link its anchor; counts, codes and bars are those of the lines; each claim is a row, and unfolds to the lines that `explain`
   prints of its place, and where the job has a file in tests/explain, those lines have the answer, the number and the
   amounts that another program gives;
+- of the pages of `--html-dir` the first has to have the providers in the order of their nets, with links to the others, and each
+  other page the lines of its provider and no more, under the same conditions; a folder keeps its other files;
 - no form may hold a byte that isn't printable, but line feeds and the table's tabs;
 - `show --tsv` has to say what `show` says, and of a billing the amounts of its request;
 - a refused input has to be refused as by `run`.
@@ -331,16 +333,37 @@ TITLES = ["Record", "Answer", "Authorization", "Rx", "Date", "Member", "Product"
 WORD = {"P": "paid", "D": "duplicate", "A": "reversed", "R": "rejected"}
 
 
-def check_page(text, rows, lines, whole, whys, origin):
+def check_head(text, lines, origin, others):
+    """What each page has before its tables, the same on each; of its links those to other pages."""
     want(text.startswith("<!DOCTYPE html>\n"), True, "the page's first line")
     page = Page(text)
     check_origin(page, origin)
     want(len(set(page.ids)), len(page.ids), "anchors that are the same")
-    want([link for link in page.links if link[:1] != "#" or link[1:] not in page.ids], [], "links that lead nowhere")
+    want([link for link in page.links if link[:1] != "#" or link[1:] not in page.ids], others, "links that lead to no anchor of the page")
     check_script(page)
     check_contrast(page)
     check_summary(page, lines[-1])
+    return page
+
+
+def check_page(text, rows, lines, whole, whys, origin, others=()):
+    page = check_head(text, lines, origin, list(others))
     check_rejects(page, rows, not (whole and len(rows) > MOST_LINES))
+    check_providers(page, lines)
+    tables = page.tables("claims")
+    if whole and len(rows) > MOST_LINES:
+        (command,) = [node.words() for node in page.all("pre")]
+        want((tables, command), ([], shlex.join(["rxbatch", "report", *INPUTS, "--html-dir", "DIR"])), "the table and a command")
+        return
+    groups = list(by_provider(rows).items())
+    want([node.words() for node in page.all("h2")], [f"Provider {name or '(no id)'}" for name, _ in groups], "the headings")
+    want(len(tables), len(groups), "tables of claims")
+    for table, (_, group) in zip(tables, groups):
+        check_claims(page, table, group, whys)
+
+
+def check_providers(page, lines):
+    """The table of providers is these lines, each with its bar."""
     (providers,) = [table for table in page.all("table") if table.attributes.get("class", "").startswith("providers")]
     below = any(line[5] < 0 for line in lines[:-1])
     want(providers.attributes["class"], "providers signed" if below else "providers", "room for nets below zero")
@@ -353,16 +376,29 @@ def check_page(text, rows, lines, whole, whys, origin):
     found = [[row[0].words(), *(int(count_in(cell)) for cell in row[1:5]), row[5].words()] for row in cells]
     names = [line[0] or "(no id)" for line in lines[:-1]] + [found[-1][0]]
     want(found, [[name, *line[1:5], dollars(line[5])] for name, line in zip(names, lines)], "the table of providers")
-    tables = page.tables("claims")
-    if whole and len(rows) > MOST_LINES:
-        (command,) = [node.words() for node in page.all("pre")]
-        want((tables, command), ([], shlex.join(["rxbatch", "report", *INPUTS, "--html-dir", "DIR"])), "the table and a command")
-        return
-    groups = list(by_provider(rows).items())
-    want([node.words() for node in page.all("h2")], [f"Provider {name or '(no id)'}" for name, _ in groups], "the headings")
-    want(len(tables), len(groups), "tables of claims")
-    for table, (_, group) in zip(tables, groups):
-        check_claims(page, table, group, whys)
+
+
+def check_folder(program, folder, rows, lines, words, whys):
+    """The pages of these lines in a folder: a first page in the order of nets, and of each provider the page of its lines."""
+    origin = origin_of(program, folder, INPUTS)
+    with tempfile.TemporaryDirectory() as top:
+        to = os.path.join(top, "pages")
+        want(program.text(folder, "report", *INPUTS, *words, "--html-dir", to), f"{to}/index.html\n", "the first page")
+        pages = {}
+        for name in sorted(os.listdir(to)):
+            with open(os.path.join(to, name), encoding="ascii") as file:
+                pages[name] = file.read()
+    ordered = sorted(lines[:-1], key=lambda line: -line[5])
+    names = [f"p{at}.html" for at in range(1, len(ordered) + 1)]
+    want(sorted(pages), sorted(["index.html", *names]), "the files of the folder")
+    index = check_head(pages["index.html"], lines, origin, names)
+    check_rejects(index, rows, False)
+    check_providers(index, [*ordered, lines[-1]])
+    want(index.tables("claims"), [], "claims on the first page")
+    groups = by_provider(rows)
+    for name, line in zip(names, ordered):
+        few = whys if len(rows) <= MOST_LINES else None
+        check_page(pages[name], groups[line[0]], [line, (None, *line[1:])], False, few, origin, ["index.html"])
 
 
 def check_origin(page, wanted):
@@ -469,6 +505,10 @@ def check_claims(page, table, rows, whys):
         (cell,) = why.values()
         check_figures(cell, row)
         tables = [node for node in page.all("table", cell)]
+        if whys is None:
+            commands = [node.words() for node in page.all("code", cell)]
+            want((tables, commands), ([], [f"rxbatch explain --sheet F --books F --batch F --record {record}"]), f"why of {record}")
+            continue
         want([node.attributes.get("class") for node in tables], ["reasons"], f"why of {record}")
         whys.check([[part.words() for part in reason.values()] for reason in headed_cells(tables[0])], record)
 
@@ -614,6 +654,7 @@ def check_accepted(program, folder, told):
     want([(name, *sums(group)) for name, group in groups.items()] + [(None, *sums(rows))], settlement, "the sums")
     whys = Whys(program, folder, told)
     check_portion(program, folder, rows, settlement, [], "all", {}, whys)
+    check_folder(program, folder, rows, settlement, [], whys)
     some = 4 if len(rows) < 500 else 1
     for name in list(groups)[:some]:
         line = [line for line in settlement if line[0] == name]
@@ -626,12 +667,14 @@ def check_accepted(program, folder, told):
         lines = [(provider, *sums(group)) for provider, group in by_provider(kept).items()] + [(None, *sums(kept))]
         check_portion(program, folder, kept, lines, ["--family", name],
                       f"the lines shown, of family {terminal(name)}", {"only_family": name}, whys)
+        check_folder(program, folder, kept, lines, ["--family", name], whys)
         padded = program.text(folder, "report", *INPUTS, "--family", name + "  ", "--tsv")
         want(padded, program.text(folder, "report", *INPUTS, "--family", name, "--tsv"), "blanks after the id")
     for option in ("--provider", "--family"):
-        for form in ([], ["--tsv"], ["--json"], ["--html"]):
+        for form in ([], ["--tsv"], ["--json"], ["--html"], ["--html-dir", "no-pages"]):
             line = f"rxbatch: {option} 'no such id': the batch has no answer of it\n".encode()
             want(program.answer(folder, "report", *INPUTS, option, "no such id", *form), (4, b"", line), "no answer")
+    want(os.path.exists(os.path.join(folder, "no-pages")), False, "a folder of no answer")
 
 
 # Families whose claims are reversed, worked by hand: the claims, and paid, duplicate, reversed, rejected and net. Of the first
@@ -716,7 +759,7 @@ def check_copied(program, folder, stamp, told):
     if status == 0:
         check_accepted(program, folder, told)
     elif re.match(rb"refused [345] ", err):
-        for form in ([], ["--tsv"], ["--json"], ["--jsonl"], ["--html"]):
+        for form in ([], ["--tsv"], ["--json"], ["--jsonl"], ["--html"], ["--html-dir", "no-pages"]):
             status, out, told = program.answer(folder, "report", *INPUTS, *form)
             want((status, out, is_line_with_words(told, err)), (1, b"", True), "a refused report")
     else:
@@ -767,12 +810,37 @@ def longer(batch, times):
 def check_words(program):
     """What the words of `report` allow, and files that aren't there."""
     with tempfile.TemporaryDirectory() as folder:
-        for words in (["--tsv", "--json"], ["--json", "--jsonl"], ["--json", "--html"], ["--provider", "A", "--family", "B"], ["--plain"]):
+        for words in (["--tsv", "--json"], ["--json", "--jsonl"], ["--json", "--html"], ["--provider", "A", "--family", "B"], ["--plain"],
+                      ["--html", "--html-dir", "D"], ["--html-dir", "D", "--tsv"], ["--html-dir"]):
             status, out, err = program.answer(folder, "report", *INPUTS, *words)
             want((status, out, bool(err)), (2, b"", True), "words of report")
         missing = b"file 1\n--sheet sheet.toml: no such file or directory\n"
         want(program.answer(folder, "report", *INPUTS), (3, b"", missing), "a sheet that isn't there")
         want(program.answer(folder, "show", "--sheet", "s", "--batch", "b", "--tsv"), (3, b"", b"file 1\n"), "no sheet")
+
+
+def check_files(program):
+    """A folder that is there keeps its other files, and its pages are replaced; what can't be written is named."""
+    with tempfile.TemporaryDirectory() as top:
+        inputs = [word if word.startswith("--") else os.path.abspath(os.path.join(FIRST_JOB, word)) for word in INPUTS]
+        report = ["report", *inputs, "--html-dir"]
+        to = os.path.join(top, "to")
+        os.mkdir(to)
+        for name in ("p2.html", "p9.html", "notes.txt"):
+            with open(os.path.join(to, name), "w", encoding="ascii") as file:
+                file.write("before")
+        program.text(top, *report, "to")
+        want(sorted(os.listdir(to)), ["index.html", "notes.txt", "p1.html", "p2.html", "p3.html", "p9.html"], "files of a folder")
+        lengths = {name: os.path.getsize(os.path.join(to, name)) for name in ("p2.html", "p9.html", "notes.txt")}
+        want((lengths["p2.html"] > 1000, lengths["p9.html"], lengths["notes.txt"]), (True, 6, 6), "what is replaced")
+        os.remove(os.path.join(to, "p1.html"))
+        os.mkdir(os.path.join(to, "p1.html"))
+        failed = {"to": "to/p1.html: it isn't a regular file", "no/pages": "no/pages: no such file or directory",
+                  "to/notes.txt": "to/notes.txt/p3.html: not a directory"}
+        for folder, words in failed.items():
+            line = f"file 10\n--html-dir {words}\n".encode()
+            want(program.answer(top, *report, folder), (3, b"", line), "a page that can't be written")
+        want([name for name in os.listdir(to) if name.startswith(".")], [], "files that are left")
 
 
 def check_paths(program):
@@ -829,6 +897,7 @@ def counted(program, jobs, with_words):
         checks.append(("words", lambda: check_words(program)))
         checks.append(("families", lambda: check_families(program)))
         checks.append(("paths", lambda: check_paths(program)))
+        checks.append(("files", lambda: check_files(program)))
     passed = failed = 0
     for name, check in checks:
         try:

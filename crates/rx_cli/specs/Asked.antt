@@ -22,7 +22,7 @@ use Rattle.rx_cli.specs.declared.retrace.Asked.{Asked}
 use Rattle.rx_cli.specs.declared.retrace.Asked.TheVariants.{Record, Number, Rx}
 use Rattle.rx_cli.specs.declared.retrace.ExplainWords.{ExplainWords}
 use Rattle.rx_cli.specs.declared.retrace.Form.{Form}
-use Rattle.rx_cli.specs.declared.retrace.Form.TheVariants.{Columns, Tsv, Json, Jsonl, Html}
+use Rattle.rx_cli.specs.declared.retrace.Form.TheVariants.{Columns, Tsv, Json, Jsonl, Html, HtmlDir}
 use Rattle.rx_cli.specs.declared.retrace.Portion.{Portion}
 use Rattle.rx_cli.specs.declared.retrace.Portion.TheVariants.{Whole, Provider, Family}
 use Rattle.rx_cli.specs.declared.retrace.ReportWords.{ReportWords}
@@ -169,16 +169,25 @@ form_of false false true false = Some Jsonl
 form_of false false false true = Some Html
 form_of _ _ _ _ = None
 
--- the form that is asked for
+-- the form that these flags ask for
 abbrev pub form_in : List Row → Option Form
 form_in rows = form_of (is_set (codes "tsv") rows) (is_set (codes "json") rows) (is_set (codes "jsonl") rows)
     (is_set (codes "html") rows)
+
+-- a flag's form, or where no flag stands the folder of `--html-dir`
+abbrev pub HoldsForm : List Row → Form → Type 0
+HoldsForm rows (HtmlDir folder) = HasText rows (codes "html-dir") folder.now × (form_in rows ≡ Some Columns)
+HoldsForm rows Columns = IsAbsent rows (codes "html-dir") × (form_in rows ≡ Some Columns)
+HoldsForm rows Tsv = IsAbsent rows (codes "html-dir") × (form_in rows ≡ Some Tsv)
+HoldsForm rows Json = IsAbsent rows (codes "html-dir") × (form_in rows ≡ Some Json)
+HoldsForm rows Jsonl = IsAbsent rows (codes "html-dir") × (form_in rows ≡ Some Jsonl)
+HoldsForm rows Html = IsAbsent rows (codes "html-dir") × (form_in rows ≡ Some Html)
 
 -- what `report` takes is the values of its options
 pub record HoldsReport (rows : List Row) (r : ReportWords) : Type 0 where
   pub inputs : HoldsInputs rows r.inputs
   pub portion : HoldsPortion rows r.portion
-  pub form : form_in rows ≡ Some r.form
+  pub form : HoldsForm rows r.form
 
 -- what `adjudicate` takes is the values of its options
 pub record HoldsAdjudicate (rows : List Row) (a : AdjudicateWords) : Type 0 where

@@ -98,12 +98,12 @@ with_verify_options line = with_ways (with_rule (with_rule line (required_option
 abbrev pub verify_line : App
 verify_line = with_verify_options (with_outputs (with_inputs (new_app (codes "verify"))))
 
--- the line with the four forms of a report
+-- the line with the forms of a report
 abbrev pub with_forms : App → App
-with_forms line = with_rule (with_rule (with_rule (with_rule line (flag (codes "tsv"))) (flag (codes "json")))
-    (flag (codes "jsonl"))) (flag (codes "html"))
+with_forms line = with_rule (with_rule (with_rule (with_rule (with_rule line (flag (codes "tsv"))) (flag (codes "json")))
+    (flag (codes "jsonl"))) (flag (codes "html"))) (optional_option (codes "html-dir"))
 
--- `report --sheet F --books F --batch F [--provider ID] [--family ID] [--tsv] [--json] [--jsonl] [--html]`
+-- `report --sheet F --books F --batch F [--provider ID] [--family ID] [--tsv] [--json] [--jsonl] [--html] [--html-dir DIR]`
 abbrev pub report_line : App
 report_line = with_forms (with_rule (with_rule (with_inputs (new_app (codes "report"))) (optional_option (codes "provider")))
     (optional_option (codes "family")))

@@ -59,7 +59,7 @@ pub enum Portion<'a> {
 
 /// What a report is written as.
 #[derive(Clone, Copy, Debug, PartialEq, Eq)]
-pub enum Form {
+pub enum Form<'a> {
     /// Aligned columns.
     Columns,
     /// `--tsv`: a tab between fields.
@@ -70,6 +70,8 @@ pub enum Form {
     Jsonl,
     /// `--html`: one page.
     Html,
+    /// `--html-dir DIR`: a page for each provider, and one that leads to them, in this folder.
+    HtmlDir(&'a str),
 }
 
 /// The words of `report`.
@@ -77,5 +79,5 @@ pub enum Form {
 pub struct ReportWords<'a> {
     pub inputs: Inputs<&'a str>,
     pub portion: Portion<'a>,
-    pub form: Form,
+    pub form: Form<'a>,
 }

@@ -3,8 +3,8 @@ ghost use Rattle.std.specs.Prelude.{◌≡◌, IfNone, IfSome, length};
 ghost use Rattle.std.specs.List.{list_all};
 ghost use Rattle.rx_text.specs.Bytes.{cut};
 ghost use Rattle.clap.specs.Words.{found_of, rows_of};
-ghost use Rattle.rx_cli.specs.Asked.{HoldsAsked, HoldsExplain, HoldsPortion, HoldsReport, HoldsVerify, NoneHolds};
-ghost use Rattle.rx_cli.specs.Asked.{form_in, is_number, is_record};
+ghost use Rattle.rx_cli.specs.Asked.{HoldsAsked, HoldsExplain, HoldsForm, HoldsPortion, HoldsReport, HoldsVerify};
+ghost use Rattle.rx_cli.specs.Asked.{NoneHolds, form_in, is_number, is_record};
 
 use crate::options::{flag, inputs, number_or, outputs, text};
 use crate::retrace::{Asked, ExplainWords, Form, Portion, ReportWords, VerifyWords};
@@ -112,7 +112,8 @@ fn portion<'a>(found: &ArgMatches<'a>) -> Option<Portion<'a>>
     }
 }
 
-fn form(found: &ArgMatches<'_>) -> Option<Form>
+// The form that flags ask for.
+fn flagged_form<'a>(found: &ArgMatches<'a>) -> Option<Form<'a>>
     ensures { result ≡ form_in (rows_of (found_of found.now)) }
 {
     let (tsv, json) = (flag(found, "tsv"), flag(found, "json"));
@@ -122,6 +123,21 @@ fn form(found: &ArgMatches<'_>) -> Option<Form>
         (false, true, false, false) => Some(Form::Json),
         (false, false, true, false) => Some(Form::Jsonl),
         (false, false, false, true) => Some(Form::Html),
+        _ => None,
+    }
+}
+
+fn form<'a>(found: &ArgMatches<'a>) -> Option<Form<'a>>
+    ensures some { IfSome result (HoldsForm (rows_of (found_of found.now))) }
+    ensures none { IfNone result (NoneHolds (HoldsForm (rows_of (found_of found.now)))) }
+{
+    match (text(found, "html-dir"), flagged_form(found)) {
+        (None, Some(Form::Columns)) => Some(Form::Columns),
+        (None, Some(Form::Tsv)) => Some(Form::Tsv),
+        (None, Some(Form::Json)) => Some(Form::Json),
+        (None, Some(Form::Jsonl)) => Some(Form::Jsonl),
+        (None, Some(Form::Html)) => Some(Form::Html),
+        (Some(folder), Some(Form::Columns)) => Some(Form::HtmlDir(folder)),
         _ => None,
     }
 }

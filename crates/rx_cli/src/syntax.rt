@@ -275,7 +275,7 @@ pub(crate) fn verify<'a>(alloc: Global) -> Draft<'a>
     takes_verify_options(alloc, files)
 }
 
-/// A line with the four forms of a report.
+/// A line with the forms of a report.
 fn takes_forms<'a>(alloc: Global, line: Draft<'a>) -> Draft<'a>
     ensures { (app : App) → Draws app line.entry → Draws (with_forms app) result }
 {
@@ -283,7 +283,13 @@ fn takes_forms<'a>(alloc: Global, line: Draft<'a>) -> Draft<'a>
     let json = flag(alloc, "json", "Print JSON");
     let jsonl = flag(alloc, "jsonl", "Print JSON, a line for each answer");
     let html = flag(alloc, "html", "Print one HTML page");
-    line.arg(tsv).arg(json).arg(jsonl).arg(html)
+    let pages = optional(
+        alloc,
+        "html-dir",
+        "DIR",
+        "Write an HTML page for each provider",
+    );
+    line.arg(tsv).arg(json).arg(jsonl).arg(html).arg(pages)
 }
 
 /// The subcommand `report`.

@@ -1,4 +1,5 @@
 -- Lemmas: what is found in a list, files that are the same, sizes put one after the other, a report that is explained, reversals with the members of their claims, and how a comparison ends.
+pub mod Accounted
 pub mod Courses
 pub mod EachExplained
 pub mod Folded

@@ -6,6 +6,7 @@ pub mod Courses
 pub mod Difference
 pub mod ExplainFault
 pub mod Explaining
+pub mod Folder
 pub mod Forms
 pub mod Lines
 pub mod Places

@@ -5,7 +5,7 @@
 //! refusal, as of a run.
 //!
 //! - `report` has a line for each answer of the batch, in one of the forms of `Form` (`specs/Reported.antt` has the lines,
-//!   `specs/Forms.antt` the texts).
+//!   `specs/Forms.antt` the texts). `report_folder` makes pages of it, one for each provider (`specs/Folder.antt`).
 //! - `explain` says why the transactions that are asked for were answered as they were (`specs/Retraced.antt` has the
 //!   explanations, `specs/Explaining.antt` the text). The records are adjudicated once, in file order, and explained on the way
 //!   where the requests say that a transaction is asked for. `record_asked`, `number_asked` and `reference_asked` read what
@@ -32,6 +32,7 @@ mod batch_report;
 mod difference;
 mod explain_fault;
 mod explanations;
+mod folder;
 mod inputs;
 mod manner;
 mod pieces;
@@ -50,6 +51,7 @@ pub use asked_words::{family_asked, number_asked, provider_asked, record_asked, 
 pub use difference::first_difference;
 pub use explain_fault::ExplainFault;
 pub use explanations::explain;
+pub use folder::{PrintedFolder, report_folder};
 pub use manner::Manner;
 pub use pieces::{pieces_before, rest_of_piece};
 pub use printed::{Outcome, Printed};

@@ -125,8 +125,8 @@ fn text_of_account(
     }
 }
 
-// What the page of a batch says at its head.
-fn head_of<'a>(batch: &Adjudicated, origin: Origin<'a>) -> PageHead<'a>
+/// What the page of a batch says at its head.
+pub(crate) fn head_of<'a>(batch: &Adjudicated, origin: Origin<'a>) -> PageHead<'a>
     ensures { result ≡ head_of batch.now origin.entry }
 {
     PageHead {
@@ -136,8 +136,8 @@ fn head_of<'a>(batch: &Adjudicated, origin: Origin<'a>) -> PageHead<'a>
     }
 }
 
-// Why the answers of these lines were given, where they are shown.
-fn whys_shown(
+/// Why the answers of these lines were given, where they are shown.
+pub(crate) fn whys_shown(
     alloc: Global,
     sheet: &[u8],
     batch: &Adjudicated,

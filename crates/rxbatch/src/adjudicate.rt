@@ -2,6 +2,7 @@
 use crate::ending::Ending;
 use crate::file_fault::{FileFault, ProgramFile};
 use crate::moment::{stamp_or_now, workers_or_all};
+use crate::places::make_folder;
 use crate::run_files::{run_as, tell_stamp};
 use crate::settings::{RunManner, RunPlan};
 use crate::shown_path::shown_path;
@@ -12,9 +13,8 @@ use rx_cli::AdjudicateWords;
 use rx_fields::Memory;
 use rx_io::{Device, Inputs};
 use std::alloc::Global;
-use std::fs;
 use std::fs::File;
-use std::io::{ErrorKind, IsTerminal, Seek, SeekFrom};
+use std::io::{IsTerminal, Seek, SeekFrom};
 use std::sync::Wait;
 use std::thread::Threads;
 
@@ -28,7 +28,7 @@ pub fn adjudicate<R: Threads + Wait + Sync>(
     let inputs = open_each(rt, &words.inputs)?;
     look(rt, words, &inputs)?;
     rewind(rt, words, &inputs)?;
-    make_folder(rt, words.out)?;
+    make_out(rt, words.out)?;
     let stamp = stamp_or_now(rt, words.stamp)?;
     if !words.quiet {
         tell_stamp(rt, stamp.as_str());
@@ -128,11 +128,9 @@ fn rewind(
     Ok(())
 }
 
-// Makes the folder, where it isn't there.
-fn make_folder(rt: &HostRuntime, path: &str) -> Result<(), Ending> {
-    match fs::create_dir(rt, path) {
+fn make_out(rt: &HostRuntime, path: &str) -> Result<(), Ending> {
+    match make_folder(rt, path) {
         Ok(()) => Ok(()),
-        Err(error) if error.kind() == ErrorKind::AlreadyExists => Ok(()),
         Err(error) => {
             let fault = FileFault::of(ProgramFile::Of(Device::Response), error);
             let line = fault.words_of(rt.alloc(), "--out", path)?;

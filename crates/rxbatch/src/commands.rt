@@ -1,6 +1,7 @@
 //! The commands that print a text, each from the files that its words name.
 use crate::ending::Ending;
 use crate::origin::Noted;
+use crate::page_folder::write_pages;
 use crate::refused_text::{GivenTexts, refused_response};
 use crate::run_gate::RunGate;
 use crate::shown_path::shown_path;
@@ -12,8 +13,8 @@ use rx_cli::{
     ShowWords, VerifyWords, WordsFault,
 };
 use rx_commands::{
-    ExplainFault, Form, Manner, PrintedReport, family_asked, number_asked, provider_asked,
-    record_asked, reference_asked, show_table,
+    ExplainFault, Form, Manner, PrintedFolder, PrintedReport, family_asked, number_asked,
+    provider_asked, record_asked, reference_asked, report_folder, show_table,
 };
 use rx_explain::Wanted;
 use rx_fields::Memory;
@@ -209,23 +210,67 @@ fn wanted_by(asked: &Asked<'_>) -> Wanted {
     }
 }
 
-/// Prints a line for each answer of a batch, by provider, in the form that is asked for.
+/// Prints a line for each answer of a batch, by provider, in the form that is asked for, or writes it as pages into a folder.
 pub fn report<R: Threads + Sync>(
     rt: &HostRuntime,
     threads: &R,
     words: &ReportWords<'_>,
 ) -> Result<(), Ending> {
     let texts = open_and_read(rt, &words.inputs)?;
-    let printed = match form_by(words.form) {
-        Some(form) => report_in(rt, threads, words, &texts, form),
-        None => report_page(rt, threads, words, &texts),
+    let printed = match words.form {
+        FormWords::Columns => report_in(rt, threads, words, &texts, Form::Columns),
+        FormWords::Tsv => report_in(rt, threads, words, &texts, Form::Tsv),
+        FormWords::Json => report_in(rt, threads, words, &texts, Form::Json),
+        FormWords::Jsonl => report_in(rt, threads, words, &texts, Form::Jsonl),
+        FormWords::Html => report_page(rt, threads, words, &texts),
+        FormWords::HtmlDir(folder) => return report_pages(rt, threads, words, texts, folder),
     };
     drop(texts);
     let printed = printed?;
-    match asked_by(words.portion) {
-        Some((option, id)) if !printed.has_lines => Err(no_lines(rt, option, id)?),
-        _ => print(rt, &printed.text),
+    need_lines(rt, words.portion, printed.has_lines)?;
+    print(rt, &printed.text)
+}
+
+// Ends where a portion has no line.
+fn need_lines(rt: &HostRuntime, portion: PortionWords<'_>, has_lines: bool) -> Result<(), Ending> {
+    match asked_by(portion) {
+        Some((option, id)) if !has_lines => Err(no_lines(rt, option, id)?),
+        _ => Ok(()),
     }
+}
+
+// Writes the report as pages, and prints the path of the first.
+fn report_pages<R: Threads + Sync>(
+    rt: &HostRuntime,
+    threads: &R,
+    words: &ReportWords<'_>,
+    texts: Inputs<Vec<u8>>,
+    folder: &str,
+) -> Result<(), Ending> {
+    let noted = Noted::of(rt, &words.inputs, &texts)?;
+    let printed = pages_of(rt, threads, words, &texts, &noted);
+    drop((noted, texts));
+    let printed = printed?;
+    need_lines(rt, words.portion, printed.has_lines)?;
+    let first = write_pages(rt, folder, &printed.pages);
+    drop(printed);
+    match first? {
+        Some(path) => print_line(rt, shown_path(rt.alloc(), path.as_str())?),
+        None => Ok(()),
+    }
+}
+
+fn pages_of<R: Threads + Sync>(
+    rt: &HostRuntime,
+    threads: &R,
+    words: &ReportWords<'_>,
+    texts: &Inputs<Vec<u8>>,
+    noted: &Noted,
+) -> Result<PrintedFolder, Ending> {
+    let origin = noted.origin(&words.inputs)?;
+    let portion = portion_by(words.portion);
+    let printed = report_folder(threads, rt.alloc(), origin, &slices(texts), portion);
+    printed.map_err(|fault| refused(rt, &words.inputs, texts, fault))
 }
 
 // The option that asks for a portion, and its ID.
@@ -276,17 +321,6 @@ fn portion_by(words: PortionWords<'_>) -> Portion<'_> {
         PortionWords::Whole => Portion::Whole,
         PortionWords::Provider(id) => provider_asked(id),
         PortionWords::Family(id) => family_asked(id),
-    }
-}
-
-// None for a page.
-fn form_by<'a>(words: FormWords) -> Option<Form<'a>> {
-    match words {
-        FormWords::Columns => Some(Form::Columns),
-        FormWords::Tsv => Some(Form::Tsv),
-        FormWords::Json => Some(Form::Json),
-        FormWords::Jsonl => Some(Form::Jsonl),
-        FormWords::Html => None,
     }
 }
 

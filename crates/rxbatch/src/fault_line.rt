@@ -26,7 +26,7 @@ pub fn file_words(
     let path = match fault.file {
         ProgramFile::Of(device) => path_of(words, device),
         ProgramFile::Log => words.log.unwrap_or(""),
-        ProgramFile::Output | ProgramFile::Members | ProgramFile::Dropped => "",
+        ProgramFile::Output | ProgramFile::Members | ProgramFile::Dropped | ProgramFile::Page => "",
     };
     fault.words(rt.alloc(), path)
 }

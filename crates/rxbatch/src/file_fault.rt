@@ -16,6 +16,8 @@ pub enum ProgramFile {
     Members,
     /// The claims that left books.
     Dropped,
+    /// A page of a report.
+    Page,
     /// Standard output.
     Output,
 }
@@ -28,6 +30,7 @@ impl ProgramFile {
             ProgramFile::Log => 7,
             ProgramFile::Members => 8,
             ProgramFile::Dropped => 9,
+            ProgramFile::Page => 10,
             ProgramFile::Output => 0,
         }
     }
@@ -39,6 +42,7 @@ impl ProgramFile {
             ProgramFile::Log => "--log",
             ProgramFile::Members => "--members",
             ProgramFile::Dropped => "--dropped",
+            ProgramFile::Page => "--html-dir",
             ProgramFile::Output => "standard output",
         }
     }

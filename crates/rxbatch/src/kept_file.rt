@@ -140,7 +140,8 @@ fn refuse_stream(path: &str, name: ProgramFile) -> Result<(), Ending> {
     Ok(())
 }
 
-fn write_all(file: &File, name: ProgramFile, text: &[u8]) -> Result<(), Ending> {
+/// Writes the text to a file.
+pub fn write_all(file: &File, name: ProgramFile, text: &[u8]) -> Result<(), Ending> {
     let mut to = file;
     to.write_all(text)
         .map_err(|error| Ending::of_output(name, error))

@@ -92,6 +92,14 @@ pub fn followed_path(rt: &HostRuntime, path: &str) -> io::Result<PathBuf> {
     Err(io::Error::from(ErrorKind::FilesystemLoop))
 }
 
+/// Makes a folder, where it isn't there.
+pub fn make_folder(rt: &HostRuntime, path: &str) -> io::Result<()> {
+    match fs::create_dir(rt, path) {
+        Err(error) if error.kind() != ErrorKind::AlreadyExists => Err(error),
+        _ => Ok(()),
+    }
+}
+
 /// Brings the names in the folder of a file to the disk.
 pub fn keep_folder(rt: &HostRuntime, path: Path<'_>) -> io::Result<()> {
     match path.parent() {

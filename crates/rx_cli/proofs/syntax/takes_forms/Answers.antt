@@ -9,7 +9,9 @@ returns c app drawn =
     let one : App = with_rule app (flag (codes "tsv")) in
     let two : App = with_rule one (flag (codes "json")) in
     let three : App = with_rule two (flag (codes "jsonl")) in
+    let four : App = with_rule three (flag (codes "html")) in
     let tsv = draws_as app c.arg.result c.flag-tsv.ensures.rule (c.arg.ensures app drawn) in
     let json = draws_as one c.arg-2.result c.flag-json.ensures.rule (c.arg-2.ensures one tsv) in
     let jsonl = draws_as two c.arg-3.result c.flag-jsonl.ensures.rule (c.arg-3.ensures two json) in
-    draws_as three c.arg-4.result c.flag-html.ensures.rule (c.arg-4.ensures three jsonl)
+    let html = draws_as three c.arg-4.result c.flag-html.ensures.rule (c.arg-4.ensures three jsonl) in
+    draws_as four c.arg-5.result c.optional-pages.ensures.rule (c.arg-5.ensures four html)

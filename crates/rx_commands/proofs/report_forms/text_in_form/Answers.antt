@@ -1,16 +1,11 @@
 -- The text of the lines that are kept, with the account of just these.
-use Rattle.std.proofs.Common.{◌≡◌, ◌∙◌, ◌==◌, IfOk, List, ap, length, map, not, refl, subst, sym}
+use Rattle.std.proofs.Common.{◌≡◌, ◌∙◌, ◌==◌, IfOk, List, ap, length, map, not, subst}
 use Rattle.std.specs.List.{filter}
 use Rattle.std.proofs.lemmas.Result.{IfOk-weaker}
-use Rattle.rx_commands.proofs.Replied.{one_each}
-use Rattle.rx_report.proofs.AddedUp.{accounts_add_up}
-use Rattle.rx_report.proofs.Counted.{paired}
-use Rattle.rx_report.specs.Lines.{lines_of}
 use Rattle.rx_report.specs.Accounts.{IsAccount, is_in, parts_of}
-use Rattle.rx_report.specs.AddsUp.{AddsUp, AreLinesOf, IsSettlementOf, entry_of}
 use Rattle.rx_report.specs.Groups.{grouped}
 use Rattle.rx_report.specs.declared.line.Line.{Line}
-use Rattle.rx_commands.proofs.MembersBack.{same_entries}
+use Rattle.rx_commands.proofs.Accounted.{adds_up}
 use Rattle.rx_commands.specs.Tiers.{table_of_text}
 use Rattle.rx_commands.specs.Forms.{IsText, kept_of}
 use Rattle.rx_commands.proofs.report_forms.text_in_form.Goals as goal
@@ -27,17 +22,7 @@ returns c =
     let of_lines = subst (λ (ls : List Line). IsAccount p r.settled ls groups sections account.total)
     (c.deref-3.ensures.value ∙ lines) c.in_ok-account.ensures in
     let of_groups = subst (λ gs. IsAccount p r.settled (kept_of p r) gs sections account.total) grouped_so of_lines in
-    let b = r.batch in
-    let counted = c.requires.counted in
-    let replied : length b.asked.items ≡ length b.replies.items =
-    sym (ap length c.requires.adjudicated.replies_are ∙ one_each b.lot b.sheet 1 b.asked.items b.opening.ledger) in
-    let settlement : IsSettlementOf b.replies.items r.settled =
-    record { providers_are = counted.providers_are; total_is = counted.total_is } in
-    let paired_so : AreLinesOf r.lines.items b.replies.items =
-    ap (map entry_of) counted.lines_are ∙ same_entries b (lines_of b.asked.items b.replies.items)
-    ∙ paired b.asked.items b.replies.items (lines_of b.asked.items b.replies.items) refl replied in
-    let sums : AddsUp (kept_of p r) sections account.total =
-    accounts_add_up p r.settled b.replies.items r.lines.items sections account.total settlement paired_so of_groups in
+    let sums = adds_up p r sections account.total c.requires.adjudicated c.requires.counted of_groups in
     IfOk-weaker c.with_lines.result _ _
     (λ printed h. record {
       in_form = record {
