@@ -49,7 +49,7 @@ REFUSED = (
     ((*EXPLAIN, "--number=1", "--rx=412"), "error: ", "\n\nUsage: rxbatch explain "),
     ((*REPORT, "--family=F1", "--provider=P1"), "error: ", "\n\nUsage: rxbatch report "),
     ((*REPORT, "--tsv", "--json"), "error: ", "\n\nUsage: rxbatch report "),
-    ((*REPORT, "--json", "--jsonl"), "error: ", "'--tsv', '--json', '--jsonl' and '--html'"),
+    ((*REPORT, "--json", "--jsonl"), "error: ", "'--tsv', '--json', '--jsonl', '--html' and '--html-dir <DIR>'"),
     (MEMBERS[:-1], "error: the following required arguments were not provided:\n  --books-out <FILE>\n", "Usage: rxbatch members "),
     *(((*MEMBERS, *more), "error: expected one of '--books <FILE>' and '--period <FIRST-LAST>'\n", "Usage: rxbatch members ")
       for more in ((), ("--books=b", "--period=20260101-20261231"))),
