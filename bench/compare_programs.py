@@ -106,7 +106,10 @@ def small_commands(programs, folder, into, rounds):
         "replies": ["replies", *response],
     }
     for kind, words in kinds.items():
-        line(kind, *in_turn({it: [it, *words] for it in programs}, rounds, TIMES).values(), with_peaks=False)
+        try:
+            line(kind, *in_turn({it: [it, *words] for it in programs}, rounds, TIMES).values(), with_peaks=False)
+        except SystemExit as ended:
+            print(f"| {kind}: {ended} |", flush=True)
 
 
 def main():
