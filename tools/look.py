@@ -3,7 +3,7 @@
 
     python3 tools/look.py [FOLDER] [--record PLACE[.NTH]] [--stamp CCYYMMDDHHMM] [--lines N]
 
-Without a folder it is examples/first_job. The build takes two to three minutes, and nothing of it is kept. Then `check`, `run`,
+Without a folder it is examples/first_job. The build takes about two minutes, and nothing of it is kept. Then `check`, `run`,
 `report`, `explain` and `replies` go one after another. Printed are the exit status of each, the first N lines (40) of its
 output, and of the settlement and the end books. out/look has all of them whole, and the response file. The exit status is 1
 where the program can't be built or doesn't end.
@@ -109,7 +109,7 @@ def show_outputs(replies, most):
 
 def look(folder, arguments, most):
     """Builds the program, runs it and prints all: whether each command ended."""
-    print("look: building without proofs, which takes two to three minutes", flush=True)
+    print("look: building without proofs, which takes about two minutes", flush=True)
     start = time.monotonic()
     tried = subprocess.run(prepare(folder, arguments), cwd=ROOT / "crates" / "rxbatch", stdout=subprocess.PIPE, stderr=subprocess.STDOUT)
     text = tried.stdout.decode("utf-8", "replace")
