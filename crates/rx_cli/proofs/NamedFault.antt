@@ -3,12 +3,16 @@ use Rattle.std.proofs.Common.{◌≡◌, ◌∙◌, ◌<◌, ℕ, List, [], ◌�
 use Rattle.clap.specs.Words.{Row, Text}
 use Rattle.rx_cli.specs.Asked.{HoldsFault, HoldsNamed, NoneHolds}
 use Rattle.rx_cli.specs.declared.asked.Command.TheVariants.{Run, Show, Plan, Sample, Check, Explain, Verify, Report, Replies}
-use Rattle.rx_cli.specs.declared.asked.Command.TheVariants.{Adjudicate, Age, Fault, Members}
+use Rattle.rx_cli.specs.declared.asked.Command.TheVariants.{Adjudicate, Age, Fault, Members, ShowFamily}
 
 -- the first letter
 letter : Text → ℕ
 letter [] = 0
 letter (b ∷ rest) = b
+
+third : Text → ℕ
+third (a ∷ b ∷ c ∷ rest) = c
+third text = 0
 
 below : (n m : ℕ) → n ≡ m → n < m → ⊥
 below n m same less = absurd (omega arith)
@@ -16,7 +20,7 @@ below n m same less = absurd (omega arith)
 -- where no numbers of a refusal are held, no command is the one of this name
 pub no_fault_named : (name : Text) (rows : List Row) → name ≡ codes "fault" → NoneHolds (HoldsFault rows)
     → NoneHolds (HoldsNamed name rows)
-unfolding letter
+unfolding letter third
 no_fault_named name rows is none (Run r) h =
     below 102 114 (ap letter (sym is ∙ h.0)) (omega arith)
 no_fault_named name rows is none (Show s) h =
@@ -39,6 +43,8 @@ no_fault_named name rows is none (Members m) h =
     below 102 109 (ap letter (sym is ∙ h.0)) (omega arith)
 no_fault_named name rows is none (Age a) h =
     below 97 102 (ap letter (sym h.0 ∙ is)) (omega arith)
+no_fault_named name rows is none (ShowFamily f) h =
+    below 109 117 (ap third (sym h.0 ∙ is)) (omega arith)
 no_fault_named name rows is none (Replies p) h =
     below 102 114 (ap letter (sym is ∙ h.0)) (omega arith)
 no_fault_named name rows is none (Fault f) h = none f h.1

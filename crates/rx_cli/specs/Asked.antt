@@ -13,7 +13,7 @@ use Rattle.rx_io.specs.declared.files.Outputs.{Outputs}
 use Rattle.rx_cli.specs.Paths.{has_twice, paths_of}
 use Rattle.rx_cli.specs.declared.asked.Command.{Command}
 use Rattle.rx_cli.specs.declared.asked.Command.TheVariants.{Run, Show, Plan, Sample, Check, Explain, Verify, Report, Replies}
-use Rattle.rx_cli.specs.declared.asked.Command.TheVariants.{Adjudicate, Age, Fault, Members}
+use Rattle.rx_cli.specs.declared.asked.Command.TheVariants.{Adjudicate, Age, Fault, Members, ShowFamily}
 use Rattle.rx_cli.specs.declared.people.AdjudicateWords.{AdjudicateWords}
 use Rattle.rx_cli.specs.declared.people.FaultNumbers.{FaultNumbers}
 use Rattle.rx_cli.specs.declared.asked.RunWords.{RunWords}
@@ -28,6 +28,9 @@ use Rattle.rx_cli.specs.declared.retrace.Portion.TheVariants.{Whole, Provider, F
 use Rattle.rx_cli.specs.declared.retrace.ReportWords.{ReportWords}
 use Rattle.rx_cli.specs.declared.retrace.VerifyWords.{VerifyWords}
 use Rattle.rx_cli.specs.declared.upkeep.AgeWords.{AgeWords}
+use Rattle.rx_cli.specs.declared.upkeep.FamilyForm.{FamilyForm}
+use Rattle.rx_cli.specs.declared.upkeep.FamilyForm.TheVariants as family
+use Rattle.rx_cli.specs.declared.upkeep.FamilyWords.{FamilyWords}
 use Rattle.rx_cli.specs.declared.upkeep.MembersWords.{MembersWords}
 use Rattle.rx_cli.specs.declared.upkeep.Origin.{Origin}
 use Rattle.rx_cli.specs.declared.upkeep.Origin.TheVariants.{Books, Period}
@@ -232,6 +235,27 @@ pub record HoldsAge (rows : List Row) (a : AgeWords) : Type 0 where
   pub dropped : HasText rows (codes "dropped") a.dropped.now
   pub safe : a.safe ≡ is_set (codes "safe") rows
 
+-- the form of a family, by whether `--tsv`, `--json` and `--html` stand, of which at most one may
+abbrev pub family_form_of : Bool → Bool → Bool → Option FamilyForm
+family_form_of false false false = Some family.Columns
+family_form_of true false false = Some family.Tsv
+family_form_of false true false = Some family.Json
+family_form_of false false true = Some family.Html
+family_form_of _ _ _ = None
+
+-- the form that these flags ask for
+abbrev pub family_form_in : List Row → Option FamilyForm
+family_form_in rows =
+    family_form_of (is_set (codes "tsv") rows) (is_set (codes "json") rows) (is_set (codes "html") rows)
+
+-- what `family` takes is the values of its options
+pub record HoldsFamily (rows : List Row) (f : FamilyWords) : Type 0 where
+  pub books : HasText rows (codes "books") f.books.now
+  pub family : HasText rows (codes "family") f.family.now
+  pub person : MayHaveText rows (codes "person") f.person
+  pub sheet : MayHaveText rows (codes "sheet") f.sheet
+  pub form : family_form_in rows ≡ Some f.form
+
 -- the command has the name of this subcommand, and the values of its options
 abbrev pub HoldsNamed : Text → List Row → Command → Type 0
 HoldsNamed name rows (Run r) = (name ≡ codes "run") × HoldsRunApart rows r
@@ -246,6 +270,7 @@ HoldsNamed name rows (Adjudicate a) = (name ≡ codes "adjudicate") × HoldsAdju
 HoldsNamed name rows (Fault f) = (name ≡ codes "fault") × HoldsFault rows f
 HoldsNamed name rows (Members m) = (name ≡ codes "members") × HoldsMembers rows m
 HoldsNamed name rows (Age a) = (name ≡ codes "age") × HoldsAge rows a
+HoldsNamed name rows (ShowFamily f) = (name ≡ codes "family") × HoldsFamily rows f
 HoldsNamed name rows (Replies path) = (name ≡ codes "replies") × HasText rows (codes "response") path.now
 
 -- the command is the subcommand that was found, with the values of its options

@@ -143,6 +143,12 @@ abbrev pub age_line : App
 age_line = with_rule (with_rule (with_rule (with_aged (new_app (codes "age"))) (required_option (codes "books-out")))
     (required_option (codes "dropped"))) (flag (codes "safe"))
 
+-- `family --books F --family ID [--person P] [--sheet F] [--tsv] [--json] [--html]`
+abbrev pub family_line : App
+family_line = with_rule (with_rule (with_rule (with_rule (with_rule (with_rule (with_rule (new_app (codes "family"))
+    (required_option (codes "books"))) (required_option (codes "family"))) (optional_option (codes "person")))
+    (optional_option (codes "sheet"))) (flag (codes "tsv"))) (flag (codes "json"))) (flag (codes "html"))
+
 -- the line of which a subcommand has to stand
 abbrev pub with_subcommand_required : App → App
 with_subcommand_required line = record line { top = record line.top { subcommand_required = true } }
@@ -169,9 +175,9 @@ with_retracing line = with_subcommand (with_subcommand (with_subcommand (with_su
 abbrev pub with_people : App → App
 with_people line = with_subcommand (with_subcommand line adjudicate_line.top) fault_line.top
 
--- the line with the subcommands that keep books up
+-- the line with the subcommands that keep books up, and the one that shows a family of them
 abbrev pub with_upkeep : App → App
-with_upkeep line = with_subcommand (with_subcommand line members_line.top) age_line.top
+with_upkeep line = with_subcommand (with_subcommand (with_subcommand line members_line.top) age_line.top) family_line.top
 
 -- `rxbatch run ..` and so on, or `rxbatch --version`
 abbrev pub whole_line : App

@@ -5,7 +5,7 @@ ghost use Rattle.rx_cli.specs.Paths.{files_of, has_twice, paths_of};
 use crate::paths::has_one_twice;
 use crate::people::{AdjudicateWords, FaultNumbers};
 use crate::retrace::{ExplainWords, ReportWords, VerifyWords};
-use crate::upkeep::{AgeWords, MembersWords};
+use crate::upkeep::{AgeWords, FamilyWords, MembersWords};
 use rx_io::{Inputs, Outputs};
 
 /// The words of `run`. Its six files and its log are different texts.
@@ -100,6 +100,8 @@ pub enum Command<'a> {
     Members(MembersWords<'a>),
     /// `age`: books without claims before a day.
     Age(AgeWords<'a>),
+    /// `family`: a family of the books.
+    ShowFamily(FamilyWords<'a>),
     /// `replies`: one line per reply of this response file.
     Replies(&'a str),
 }

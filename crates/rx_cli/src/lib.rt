@@ -40,5 +40,5 @@ pub use fault::WordsFault;
 pub use people::{AdjudicateWords, FaultNumbers};
 pub use retrace::{Asked, ExplainWords, Form, Portion, ReportWords, VerifyWords};
 pub use syntax::VERSION;
-pub use upkeep::{AgeWords, MembersWords, Origin, Percent};
+pub use upkeep::{AgeWords, FamilyForm, FamilyWords, MembersWords, Origin, Percent};
 pub use words::command;

@@ -7,7 +7,7 @@ use crate::fault::WordsFault;
 use crate::options::text;
 use crate::people_syntax::{adjudicate, fault as fault_line};
 use crate::syntax::{explain, report, run, verify};
-use crate::upkeep_syntax::{age, members};
+use crate::upkeep_syntax::{age, family, members};
 use clap::error::ErrorKind;
 use clap::{ArgMatches, Command as Line};
 use std::alloc::{AllocError, Global};
@@ -106,6 +106,14 @@ pub(crate) fn age_conflict(alloc: Global) -> WordsFault
 {
     let text = "expected one of '--sheet <FILE>' and '--refill-percent <N>'";
     conflict(age(alloc).line(), "rxbatch age", text)
+}
+
+/// The fault of `family` in more than one form.
+pub(crate) fn family_conflict(alloc: Global) -> WordsFault
+    ensures { IsMisuse ErrorKind.ArgumentConflict result }
+{
+    let text = "at most one of '--tsv', '--json' and '--html' is taken";
+    conflict(family(alloc).line(), "rxbatch family", text)
 }
 
 fn miscounted(

@@ -1,4 +1,4 @@
-//! What the commands that keep books up are asked to do.
+//! What the commands that keep books up, and the one that shows a family of them, are asked to do.
 
 /// Which books a members table is loaded into.
 #[derive(Clone, Copy, Debug, PartialEq, Eq)]
@@ -47,4 +47,31 @@ pub struct AgeWords<'a> {
     pub dropped: &'a str,
     /// `--safe`: the outputs take their paths only when both are written.
     pub safe: bool,
+}
+
+/// What a family is written as.
+#[derive(Clone, Copy, Debug, PartialEq, Eq)]
+pub enum FamilyForm {
+    /// Aligned columns.
+    Columns,
+    /// `--tsv`: its claims, a tab between fields.
+    Tsv,
+    /// `--json`.
+    Json,
+    /// `--html`: one page.
+    Html,
+}
+
+/// The words of `family`.
+#[derive(Clone, Copy, Debug, PartialEq, Eq)]
+pub struct FamilyWords<'a> {
+    /// `--books`: the books.
+    pub books: &'a str,
+    /// `--family`: its cardholder id, as it was written.
+    pub family: &'a str,
+    /// `--person`: the person whose claims are shown only, as it was written.
+    pub person: Option<&'a str>,
+    /// `--sheet`: the plan sheet with its limits.
+    pub sheet: Option<&'a str>,
+    pub form: FamilyForm,
 }

@@ -1,6 +1,6 @@
 //! The command lines of the commands that keep books up.
 ghost use Rattle.clap.specs.Words.{App};
-ghost use Rattle.rx_cli.specs.Syntax.{Draws, age_line, members_line, with_aged, with_upkeep};
+ghost use Rattle.rx_cli.specs.Syntax.{Draws, age_line, family_line, members_line, with_aged, with_upkeep};
 
 use crate::draft::Draft;
 use crate::syntax::{draft, file, flag, option, optional};
@@ -74,9 +74,29 @@ pub(crate) fn age<'a>(alloc: Global) -> Draft<'a>
         .arg(flag(alloc, "safe", SAFE))
 }
 
-/// A line with the subcommands that keep books up.
+/// The subcommand `family`.
+pub(crate) fn family<'a>(alloc: Global) -> Draft<'a>
+    ensures { Draws family_line result }
+{
+    let books = file(alloc, "books", "Books");
+    let family = option(alloc, "family", "ID", "Cardholder ID of the family");
+    let person = optional(alloc, "person", "P", "Only this person's claims");
+    let sheet = optional(alloc, "sheet", "FILE", "Plan sheet, for its limits");
+    draft(alloc, "family", "Shows a family's members, claims and sums")
+        .arg(books)
+        .arg(family)
+        .arg(person)
+        .arg(sheet)
+        .arg(flag(alloc, "tsv", "Its claims as a table of tabs"))
+        .arg(flag(alloc, "json", "JSON"))
+        .arg(flag(alloc, "html", "An HTML page"))
+}
+
+/// A line with the subcommands that keep books up, and the one that shows a family of them.
 pub(crate) fn takes_upkeep<'a>(alloc: Global, line: Draft<'a>) -> Draft<'a>
     ensures { (app : App) → Draws app line.entry → Draws (with_upkeep app) result }
 {
-    line.subcommand(members(alloc)).subcommand(age(alloc))
+    line.subcommand(members(alloc))
+        .subcommand(age(alloc))
+        .subcommand(family(alloc))
 }

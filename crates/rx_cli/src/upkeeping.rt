@@ -1,10 +1,11 @@
 //! The words of the commands that keep books up, read.
-ghost use Rattle.std.specs.Prelude.{IfNone, IfSome};
+ghost use Rattle.std.specs.Prelude.{◌≡◌, IfNone, IfSome};
 ghost use Rattle.clap.specs.Words.{found_of, rows_of};
-ghost use Rattle.rx_cli.specs.Asked.{HoldsAge, HoldsMembers, HoldsOrigin, HoldsPercent, NoneHolds};
+ghost use Rattle.rx_cli.specs.Asked.{HoldsAge, HoldsFamily, HoldsMembers, HoldsOrigin, HoldsPercent};
+ghost use Rattle.rx_cli.specs.Asked.{NoneHolds, family_form_in};
 
 use crate::options::{flag, text};
-use crate::upkeep::{AgeWords, MembersWords, Origin, Percent};
+use crate::upkeep::{AgeWords, FamilyForm, FamilyWords, MembersWords, Origin, Percent};
 use clap::ArgMatches;
 
 fn origin<'a>(found: &ArgMatches<'a>) -> Option<Origin<'a>>
@@ -64,5 +65,34 @@ pub(crate) fn age<'a>(found: &ArgMatches<'a>) -> Option<AgeWords<'a>>
         books_out,
         dropped,
         safe: flag(found, "safe"),
+    })
+}
+
+fn family_form(found: &ArgMatches<'_>) -> Option<FamilyForm>
+    ensures { result ≡ family_form_in (rows_of (found_of found.now)) }
+{
+    match (flag(found, "tsv"), flag(found, "json"), flag(found, "html")) {
+        (false, false, false) => Some(FamilyForm::Columns),
+        (true, false, false) => Some(FamilyForm::Tsv),
+        (false, true, false) => Some(FamilyForm::Json),
+        (false, false, true) => Some(FamilyForm::Html),
+        _ => None,
+    }
+}
+
+/// What `family` takes: a family in one form.
+pub(crate) fn family<'a>(found: &ArgMatches<'a>) -> Option<FamilyWords<'a>>
+    ensures some { IfSome result (HoldsFamily (rows_of (found_of found.now))) }
+    ensures none { IfNone result (NoneHolds (HoldsFamily (rows_of (found_of found.now)))) }
+{
+    let books = text(found, "books")?;
+    let family = text(found, "family")?;
+    let form = family_form(found)?;
+    Some(FamilyWords {
+        books,
+        family,
+        person: text(found, "person"),
+        sheet: text(found, "sheet"),
+        form,
     })
 }

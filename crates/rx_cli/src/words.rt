@@ -8,14 +8,14 @@ ghost use Rattle.rx_cli.specs.Faults.{IsWords};
 use crate::asked::{CheckWords, Command, RunWords, ShowWords};
 use crate::fault::WordsFault;
 use crate::misuse::{
-    age_conflict, explain_misuse, fault_no_number, members_conflict, report_conflict,
-    run_miscounted, verify_miscounted,
+    age_conflict, explain_misuse, family_conflict, fault_no_number, members_conflict,
+    report_conflict, run_miscounted, verify_miscounted,
 };
 use crate::options::{flag, inputs, number_if_given, outputs, text};
 use crate::people_words::{adjudicate_taken, fault};
 use crate::retracing::{explain, report, verify};
 use crate::syntax::line;
-use crate::upkeeping::{age, members};
+use crate::upkeeping::{age, family, members};
 use clap::ArgMatches;
 use rx_io::Inputs;
 use std::alloc::Global;
@@ -124,6 +124,10 @@ fn named<'a>(alloc: Global, name: &str, found: &ArgMatches<'a>) -> Result<Comman
         "age" => match age(found) {
             Some(age) => Ok(Command::Age(age)),
             None => Err(age_conflict(alloc)),
+        },
+        "family" => match family(found) {
+            Some(family) => Ok(Command::ShowFamily(family)),
+            None => Err(family_conflict(alloc)),
         },
         "replies" => match text(found, "response") {
             Some(response) => Ok(Command::Replies(response)),
