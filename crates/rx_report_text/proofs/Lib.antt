@@ -1,3 +1,3 @@
 -- Lemmas of what is written.
 mod AccountRead
-mod Written
+pub mod Written

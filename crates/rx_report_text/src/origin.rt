@@ -66,7 +66,8 @@ fn put_files(page: &mut Page, origin: &Origin<'_>) -> Result<(), AllocError>
     put_file(page, "Batch file", &origin.batch)
 }
 
-fn put_file(page: &mut Page, name: &'static str, file: &InputFile<'_>) -> Result<(), AllocError>
+/// Writes a file under a name: its path, and the SHA-256 of its bytes.
+pub fn put_file(page: &mut Page, name: &'static str, file: &InputFile<'_>) -> Result<(), AllocError>
     ensures { OnOk result (page.new.bytes.items ≡ page.old.bytes.items ++ file_text name.now file.now) }
 {
     page.markup("<dt>")?;
@@ -86,7 +87,8 @@ fn put_made(page: &mut Page, origin: &Origin<'_>) -> Result<(), AllocError>
     page.markup("</dl>\n")
 }
 
-fn put_term(page: &mut Page, name: &'static str, text: &str) -> Result<(), AllocError>
+/// Writes a text of the program under a name.
+pub fn put_term(page: &mut Page, name: &'static str, text: &str) -> Result<(), AllocError>
     ensures { OnOk result (page.new.bytes.items ≡ page.old.bytes.items ++ term_text name.now text.now) }
 {
     page.markup("<dt>")?;

@@ -66,5 +66,5 @@ sorts(providers, () => [...providers.tBodies[0].rows], row => row);
 ";
 
 /// The meta element that allows this script by its SHA-256, the page's style, and nothing else.
-pub(crate) const POLICY: &str =
+pub const POLICY: &str =
     "<meta http-equiv=\"Content-Security-Policy\" content=\"default-src 'none'; style-src 'unsafe-inline'; script-src 'sha256-fE3CheEDXroq8et1BYc+tN1RCNmudFUM3oPmFF30JGk='\">\n";

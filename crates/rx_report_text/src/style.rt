@@ -1,6 +1,6 @@
 /// How the page looks: on a screen, light or dark; narrow, as on a phone, where each cell has its label; on paper, where all
 /// claims are unfolded, or the tables only where the box for it is ticked.
-pub(crate) const STYLE: &str =
+pub const STYLE: &str =
     ":root{color-scheme:light dark;--ink:#1b1f24;--soft:#57606a;--rule:#d0d7de;--paper:#fff;--tint:#f3f5f7;--plus:#2f7d57;--minus:#b3492f;--mark:#fff3c4}
 @media (prefers-color-scheme:dark){:root{--ink:#e6e9ec;--soft:#9aa4ae;--rule:#3a424b;--paper:#15181c;--tint:#1f252b;--plus:#63b58a;--minus:#e08a70;--mark:#3d3413}}
 *{box-sizing:border-box}
