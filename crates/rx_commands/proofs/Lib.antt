@@ -2,6 +2,9 @@
 pub mod Accounted
 pub mod Courses
 pub mod EachExplained
+pub mod FamilyClaims
+pub mod FamilyLaws
+pub mod FamilyRefused
 pub mod Folded
 pub mod Found
 pub mod Items

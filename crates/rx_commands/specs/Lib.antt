@@ -6,6 +6,14 @@ pub mod Courses
 pub mod Difference
 pub mod ExplainFault
 pub mod Explaining
+pub mod Families
+pub mod FamilyCells
+pub mod FamilyColumns
+pub mod FamilyLaw
+pub mod FamilyPage
+pub mod FamilyShown
+pub mod FamilySums
+pub mod FamilyTables
 pub mod Folder
 pub mod Forms
 pub mod Lines

@@ -13,6 +13,7 @@
 //! - `verify` does the run again and compares the texts of an earlier one's three files with it: the files are found the same
 //!   exactly where they are what the rules of docs/ make of the inputs (`specs/Verified.antt`, `specs/Verdict.antt`).
 //! - `show_table` has the table of `show --tsv`.
+//! - Module `family` shows a family of books: `show_family` (`specs/FamilyShown.antt`).
 //! - Module `replay` has what `report` and `explain` stand on: a batch replayed, with explanations of any of its transactions.
 //!
 //! ```rust
@@ -32,6 +33,7 @@ mod batch_report;
 mod difference;
 mod explain_fault;
 mod explanations;
+pub mod family;
 mod folder;
 mod inputs;
 mod manner;
