@@ -22,7 +22,7 @@ STATUSES = [
     ("1", "An input is refused: the line \"refused N M P\" on standard error, or \"response M P\" for a response file."),
     ("2", "The arguments aren't understood or ask for help, or two options of run lead to one file."),
     ("3", "A file failed: the line \"file K\" on standard error."),
-    ("4", "check: warnings, and no fault. adjudicate: a warning stops it. explain, fault: nothing of the kind."),
+    ("4", "check: warnings, and no fault. adjudicate: a warning stops it. explain, family, fault: nothing of the kind."),
     ("5", "verify: a file differs from the run's. explain: the response file doesn't have this reply."),
 ]
 # The numbers of the lines on standard error.

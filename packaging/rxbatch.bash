@@ -2,7 +2,7 @@
 _rxbatch() {
   local word=${COMP_WORDS[COMP_CWORD]} before=${COMP_WORDS[COMP_CWORD - 1]} words files others left name
   if [ "$COMP_CWORD" -eq 1 ]; then
-    mapfile -t COMPREPLY < <(compgen -W 'run show plan sample check explain verify report replies adjudicate fault members age help --help --version -V' -- "$word")
+    mapfile -t COMPREPLY < <(compgen -W 'run show plan sample check explain verify report replies adjudicate fault members age family help --help --version -V' -- "$word")
     return
   fi
   # --option=value is three words here
@@ -21,7 +21,8 @@ _rxbatch() {
     fault) words=''; files=''; others='' ;;
     members) words='--books --period --members --books-out --safe'; files='--books|--members|--books-out'; others='--period' ;;
     age) words='--books --before --period --sheet --refill-percent --books-out --dropped --safe'; files='--books|--sheet|--books-out|--dropped'; others='--before|--period|--refill-percent' ;;
-    help) words='run show plan sample check explain verify report replies adjudicate fault members age'; files=''; others='' ;;
+    family) words='--books --family --person --sheet --tsv --json --html'; files='--books|--sheet'; others='--family|--person' ;;
+    help) words='run show plan sample check explain verify report replies adjudicate fault members age family'; files=''; others='' ;;
   esac
   if [ -n "$files" ] && [[ "|$files|" == *"|$before|"* ]]; then
     mapfile -t COMPREPLY < <(compgen -f -- "$word")

@@ -18,6 +18,8 @@
 //!                                                   a table of members loaded into books
 //! rxbatch age --books F --before DAY [--period FIRST-LAST] (--sheet F | --refill-percent N) --books-out F --dropped F
 //!     [--safe]                                      books without the claims before a day
+//! rxbatch family --books F --family ID [--person P] [--sheet F] [--tsv | --json | --html]
+//!                                                   a family's members, claims and sums
 //! rxbatch replies --response F                      a line for each answer of a response file
 //! rxbatch fault N M P                               the numbers of a refusal in words
 //! rxbatch help                                      the help, on standard output
@@ -35,6 +37,7 @@ mod check_files;
 mod code_counts;
 mod commands;
 mod ending;
+mod family_files;
 mod fault_line;
 mod file_fault;
 mod files;
@@ -112,6 +115,7 @@ fn perform<R: Threads + Wait + Sync>(rt: &HostRuntime, threads: &R) -> Result<()
         Ok(Command::Report(words)) => commands::report(rt, threads, &words),
         Ok(Command::Members(words)) => upkeep_files::members(rt, &words),
         Ok(Command::Age(words)) => upkeep_files::age(rt, &words),
+        Ok(Command::ShowFamily(words)) => family_files::family(rt, threads, &words),
         Ok(Command::Replies(path)) => commands::replies(rt, path),
         Err(fault) if fault.is_version() => commands::told(rt, &fault),
         Err(fault) if fault.is_help() && names_help(&words) => commands::told(rt, &fault),

@@ -1,8 +1,10 @@
 //! What a page says of its origin: the files that were read, the program and the time.
 use crate::ending::Ending;
+use crate::family_files::FamilyTexts;
 use crate::moment::now_in_words;
 use crate::shown_path::shown_path;
-use rx_cli::VERSION;
+use rx_cli::{FamilyWords, VERSION};
+use rx_commands::family::FamilyOrigin;
 use rx_fields::Memory;
 use rx_io::Inputs;
 use rx_report_text::{InputFile, Origin};
@@ -25,10 +27,10 @@ impl Noted {
         paths: &Inputs<&str>,
         texts: &Inputs<Vec<u8>>,
     ) -> Result<Noted, Ending> {
-        let (alloc, version) = (rt.alloc(), VERSION);
+        let alloc = rt.alloc();
         Ok(Noted {
             options: options_of(alloc, paths)?,
-            program: format!(in alloc; "rxbatch {version}")?,
+            program: program_of(alloc)?,
             sums: texts
                 .as_ref()
                 .map(|text| FileSum::of_bytes(alloc, text.as_slice())),
@@ -47,6 +49,51 @@ impl Noted {
             made: self.made.as_str(),
         })
     }
+}
+
+/// The same of a family's page.
+#[derive(Drop)]
+pub struct NotedFamily {
+    sheet: Option<FileSum>,
+    books: FileSum,
+    program: String,
+    made: String,
+}
+
+impl NotedFamily {
+    /// Of these texts, now.
+    pub fn of(rt: &HostRuntime, texts: &FamilyTexts) -> Result<NotedFamily, Ending> {
+        let alloc = rt.alloc();
+        Ok(NotedFamily {
+            program: program_of(alloc)?,
+            sheet: texts
+                .sheet
+                .as_ref()
+                .map(|text| FileSum::of_bytes(alloc, text.as_slice())),
+            books: FileSum::of_bytes(alloc, texts.books.as_slice()),
+            made: now_in_words(rt),
+        })
+    }
+
+    /// The same with the paths of the files.
+    pub fn origin<'a>(&'a self, words: &FamilyWords<'a>) -> Result<FamilyOrigin<'a>, Ending> {
+        let sheet = match (words.sheet, &self.sheet) {
+            (Some(path), Some(sum)) => Some(input_file(path, sum)?),
+            _ => None,
+        };
+        Ok(FamilyOrigin {
+            sheet,
+            books: input_file(words.books, &self.books)?,
+            program: self.program.as_str(),
+            made: self.made.as_str(),
+        })
+    }
+}
+
+// The program and its version.
+fn program_of(alloc: Global) -> Result<String, Memory> {
+    let version = VERSION;
+    Ok(format!(in alloc; "rxbatch {version}")?)
 }
 
 fn options_of(alloc: Global, paths: &Inputs<&str>) -> Result<String, Memory> {
