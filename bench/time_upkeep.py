@@ -1,12 +1,12 @@
 #!/usr/bin/env python3
-"""Times `members` and `age` next to `run` on the same books, and prints a table.
+"""Times `members`, `age` and `family` next to `run` on the same books, and prints a table.
 
     bench/time_upkeep.py PROGRAM DIR [--rows N] [--rounds R] [--workers W]
 
 DIR is a folder that make_job.py wrote, best with `--records 1`, so that `run` only reads and writes the books. A members table
 of N rows (200,000) is made of the books: each listed member, every second one with another last day, and then new persons of
-the families in turn. `age` takes out the older half of the claims. The commands are timed in turn, R rounds; of each the best
-and the middle of the times are printed, and the processor time of the best.
+the families in turn. `age` takes out the older half of the claims, `family` prints the first family. The commands are timed in
+turn, R rounds; of each the best and the middle of the times are printed, and the processor time of the best.
 """
 
 import argparse
@@ -34,7 +34,7 @@ def table_of(books, rows):
              for place, (family, person, first, last, *_) in enumerate(members)]
     new = (f"{family}\tn{number}\t20260101\t20261231\n" for number in range(10) for family in families)
     lines += itertools.islice(new, max(0, rows - len(lines)))
-    return "family\tperson\tfirst\tlast\n" + "".join(lines[:rows]), sorted(days)[len(days) // 2]
+    return "family\tperson\tfirst\tlast\n" + "".join(lines[:rows]), sorted(days)[len(days) // 2], families[0]
 
 
 def main():
@@ -48,7 +48,7 @@ def main():
     program = shlex.split(options.program)
     books = os.path.join(options.folder, "books.txt")
     with open(books, encoding="ascii") as file:
-        table, day = table_of(file, options.rows)
+        table, day, family = table_of(file, options.rows)
     with tempfile.TemporaryDirectory(prefix="rxbatch-upkeep-", dir=options.folder) as into:
         members, end, left = (os.path.join(into, name) for name in ("members.tsv", "end.txt", "left.txt"))
         with open(members, "w", encoding="ascii") as file:
@@ -62,6 +62,8 @@ def main():
             "`age`, half of the claims": ["age", *given, "--before", day, "--period", f"{day}-99991231", "--refill-percent", "75",
                                           "--books-out", end, "--dropped", left],
             "`age`, no claim": ["age", *given, "--before", "00000101", "--refill-percent", "75", "--books-out", end, "--dropped", left],
+            "`family`": ["family", *given, "--family", family],
+            "`family`, with a sheet": ["family", *given, "--family", family, "--sheet", sheet],
             "`check`, which reads": ["check", "--sheet", sheet, *given],
         }
         times = {name: [] for name in commands}
