@@ -1,7 +1,6 @@
 //! A family as an HTML page.
 ghost use Rattle.std.specs.Prelude.{◌≡◌, ◌++◌, codes, OnOk};
 ghost use Rattle.std.specs.List.{flat_map};
-ghost use Rattle.rx_d0_values.specs.Priced.{patient_pay, total_paid};
 ghost use Rattle.rx_fields.specs.Digits.{digits_text};
 ghost use Rattle.rx_print.specs.Escape.{escaped};
 ghost use Rattle.rx_print.specs.declared.style.Style.TheVariants.{Html};
@@ -243,8 +242,9 @@ fn put_place(page: &mut Page, row: &Row) -> Result<(), AllocError>
 fn put_amounts(page: &mut Page, claim: &Claim) -> Result<(), AllocError>
     ensures { OnOk result (page.new.bytes.items ≡ page.old.bytes.items ++ sum_cells claim.now) }
 {
-    put_member_pays(page, &claim.row)?;
-    put_plan_pays(page, &claim.row)?;
+    let pricing = &claim.row.pricing;
+    put_cents(page, "<td><i>Member pays</i>", pricing.patient_pay())?;
+    put_cents(page, "<td><i>Plan pays</i>", pricing.total_paid())?;
     put_amount(page, "<td><i>Deductible</i>", claim.deductible.sum)?;
     put_amount(
         page,
@@ -290,20 +290,10 @@ fn put_product(page: &mut Page, product: Product) -> Result<(), AllocError>
     put_id(page, "<td><i>Product</i>", &product.digits())
 }
 
-fn put_member_pays(page: &mut Page, row: &Row) -> Result<(), AllocError>
-    ensures { OnOk result (page.new.bytes.items
-        ≡ page.old.bytes.items ++ amount_cell (codes "<td><i>Member pays</i>") (patient_pay row.now.pricing)) }
+fn put_cents(page: &mut Page, front: &'static str, cents: u64) -> Result<(), AllocError>
+    ensures { OnOk result (page.new.bytes.items ≡ page.old.bytes.items ++ amount_cell front.now cents) }
 {
-    let cents = row.pricing.patient_pay();
-    put_amount(page, "<td><i>Member pays</i>", u128::from(cents))
-}
-
-fn put_plan_pays(page: &mut Page, row: &Row) -> Result<(), AllocError>
-    ensures { OnOk result (page.new.bytes.items
-        ≡ page.old.bytes.items ++ amount_cell (codes "<td><i>Plan pays</i>") (total_paid row.now.pricing)) }
-{
-    let cents = row.pricing.total_paid();
-    put_amount(page, "<td><i>Plan pays</i>", u128::from(cents))
+    put_amount(page, front, u128::from(cents))
 }
 
 fn put_id(page: &mut Page, front: &'static str, id: &[u8]) -> Result<(), AllocError>
