@@ -1,6 +1,6 @@
 use Rattle.rx_commands.specs.FamilyPage.{claims_table, front_text, header_text, html_text, sums_table}
 use Rattle.rx_report_text.proofs.Written.{five}
-use Rattle.std.proofs.Common.{codes}
+use Rattle.std.proofs.Common.{ap, codes, ◌++◌, ◌∙◌}
 use Rattle.rx_commands.proofs.family.page.put_html.Goals as goal
 
 pub returns : goal.returns
@@ -15,5 +15,5 @@ returns c =
     c.in_ok-put_front.ensures
     c.in_ok-put_header.ensures
     c.in_ok-put_sums.ensures
-    c.in_ok-put_claims.ensures
+    (c.in_ok-put_claims.ensures ∙ ap (λ cs. c.put_sums.new.page.bytes.items ++ claims_table cs) c.deref.ensures.value)
     c.markup.ensures
