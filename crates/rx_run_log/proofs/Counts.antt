@@ -1,11 +1,13 @@
 -- Digits are text, and write a number.
 use Rattle.std.proofs.Common.{◌≡◌, ◌<◌, ℕ, zero, suc, List, [], ◌∷◌, true, slice_index}
-use Rattle.std.proofs.Common.{Result, Ok, Err, Some, None, length, ◌^◌, inl, inr, arith, rules}
+use Rattle.std.proofs.Common.{Result, Ok, Err, Some, None, length, ◌^◌, inl, inr, sym, arith, rules}
+use Rattle.std.specs.Fmt.{decimal}
 use Rattle.std.specs.List.{list_all}
 use Rattle.std.specs.Str.{IsUtf8}
 use Rattle.std.proofs.lemmas.Str.{IsUtf8-from_ascii}
 use Rattle.std.proofs.lemmas.Bool.{cases_lt}
 use Rattle.std.proofs.lemmas.Bool.Decides.{nat_tests}
+use Rattle.std.proofs.lemmas.Fmt.{decimal_nonempty, digits_decimal, digits_value-decimal}
 use Rattle.std.proofs.lemmas.Grind.{common_steps}
 use Rattle.std.specs.Str.Parse.{ParsesUnsigned}
 use Rattle.std.specs.Result.{OkIff, result_ok}
@@ -56,3 +58,12 @@ count_by digits (Err e) all h = none_is digits all h
 pub count_is : {E : Type 0} (digits : List ℕ) (r : Result ℕ E) → ParsesUnsigned 64 10 digits r → list_all is_digit digits ≡ true
     → result_ok r ≡ count_of digits
 count_is digits r reads all = count_by digits r all (parse_digits own 64 digits r reads all)
+
+-- the digits of a number are read as its count
+pub decimal_digits : (n : ℕ) → n < 2 ^ 64 → list_all is_digit (decimal n) ≡ true
+decimal_digits n small = digits_decimal own n small
+
+pub count_back : (n : ℕ) → n < 2 ^ 64 → count_of (decimal n) ≡ Some n
+count_back n small =
+    let value = digits_value-decimal own n small in
+    sym (read_is (decimal n) n (decimal_digits n small) (decimal_nonempty n small) (omega (arith, value)) (sym value))

@@ -2,3 +2,5 @@
 pub mod Codes
 pub mod Counts
 pub mod Kept
+pub mod LastLine
+pub mod Lots

@@ -4,6 +4,8 @@ use Rattle.std.specs.Prelude.{List, [], ◌∷◌, codes, drop, length, slice_in
 use Rattle.std.specs.List.{prefix_len, starts_with, suffix_len}
 use Rattle.rx_text.specs.Options.{◌>>=◌}
 use Rattle.rx_run_log.specs.declared.settlement.Totals.{Totals}
+use Rattle.rx_settle.specs.Settlement.{net}
+use Rattle.rx_settle.specs.declared.tally.Tally.{Tally}
 use Rattle.rx_text.specs.Bytes.{all_digits}
 
 -- no line feed; no bar
@@ -70,3 +72,8 @@ totals_in fields = do
 
 abbrev pub totals_of : List ℕ → Option Totals
 totals_of text = last_line text >>= λ line. fields_of line >>= λ fields. totals_in fields
+
+-- the counts and the net of a tally
+abbrev pub totals_told : Tally → Totals
+totals_told t =
+    record { paid = t.paid; duplicate = t.duplicate; approved = t.approved; rejected = t.rejected; net = net t }
