@@ -1,6 +1,5 @@
 -- Meaning: how long each step took, by what passed through the files, and what is reported of each.
-use Rattle.std.specs.Prelude.{ℕ, ◌-◌, List, [], ◌∷◌, Option, Some, None}
-use Rattle.std.specs.declared.time.Duration.{Duration}
+use Rattle.std.specs.Prelude.{ℕ, ◌-◌, if◌then◌else◌, List, [], ◌∷◌, Option, Some, None}
 use Rattle.rx_run_log.specs.Steps.{time_of}
 use Rattle.rx_run_log.specs.Times.{micros_between}
 use Rattle.rx_run_log.specs.declared.report.Counted.{Counted}
@@ -59,10 +58,16 @@ later_reports t times =
     ∷ step_report step.Disk None None (steps_of t times)
     ∷ []
 
--- how many bytes passed, where the file was read or written
-abbrev pub bytes_if_called : Option Duration → ℕ → Option ℕ
-bytes_if_called None bytes = None
-bytes_if_called (Some time) bytes = Some bytes
+-- a number of a file that was read or written
+abbrev pub if_called : Traffic → ℕ → Option ℕ
+if_called t n = if t.called then Some n else None
 
+-- how many bytes passed; how many line feeds; how many details a batch file has
 abbrev pub bytes_passed : Traffic → Option ℕ
-bytes_passed t = bytes_if_called t.last t.bytes
+bytes_passed t = if_called t t.bytes
+
+abbrev pub lines_passed : Traffic → Option ℕ
+lines_passed t = if_called t t.line_feeds
+
+abbrev pub details_passed : Traffic → Option ℕ
+details_passed t = if_called t (t.starts - NO_DETAILS)

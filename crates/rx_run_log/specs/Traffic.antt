@@ -1,6 +1,6 @@
 -- Meaning: what passed through a device.
 use Rattle.std.specs.Prelude.{◌≡◌, ℕ, ◌-◌, ◌^◌, ◌==◌, List, ◌++◌, count_by, drop, length, min, take}
-use Rattle.std.specs.Prelude.{IfOk, IfSome, OnErr, Result, Some}
+use Rattle.std.specs.Prelude.{IfOk, IfSome, OnErr, Result, Some, true}
 use Rattle.rx_batch.specs.declared.layout.TheConstants.{STX}
 use Rattle.sha2.specs.Hashers.{Holds256}
 use Rattle.rx_io.specs.declared.fault.Failed.{Failed}
@@ -32,9 +32,10 @@ pub record IsTrafficOf (t : Traffic) (bytes : List ℕ) : Type 0 where
 abbrev pub Adds : Traffic → Traffic → List ℕ → Type 0
 Adds before after piece = (bytes : List ℕ) → IsTrafficOf before bytes → IsTrafficOf after (bytes ++ piece)
 
--- of a call that gives or takes some bytes at the front of a piece these are added, and of one that fails nothing; the
--- time of the first call stays once it is there
+-- of a call that gives or takes some bytes at the front of a piece these are added, and the device is called from then on;
+-- of one that fails nothing; the time of the first call stays once it is there
 pub record AddsCall (result : Result ℕ Failed) (before after : Traffic) (piece : List ℕ) : Type 0 where
   pub passed : IfOk result (λ count. Adds before after (take count piece))
+  pub called : IfOk result (λ count. after.called ≡ true)
   pub failed : OnErr result (after ≡ before)
   pub first : IfSome before.first (λ time. after.first ≡ Some time)

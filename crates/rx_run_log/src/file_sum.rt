@@ -22,7 +22,7 @@ impl FileSum {
         ensures sha256 { (bytes : List ℕ) → IsTrafficOf traffic.now bytes
             → IfSome result.sha256 (λ text. string_bytes text ≡ encode_lower (sha256 bytes)) }
     {
-        if traffic.last().is_none() {
+        if !traffic.is_called() {
             return FileSum {
                 bytes: None,
                 sha256: None,

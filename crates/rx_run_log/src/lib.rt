@@ -47,7 +47,7 @@ pub use lines::{done_line, progress_line, shards_line, step_line};
 pub use log::{CodeCount, FileLog, RunLog};
 pub use marks::line_feeds_in;
 pub use report::{Counted, RunReport, Shards, StepReport};
-pub use run_traffic::{RunTraffic, details_in, input_report};
+pub use run_traffic::{RunTraffic, details_in, details_passed, input_report, lines_passed};
 pub use settlement::Totals;
 pub use step::{Step, StepTimes};
 pub use times::{RunTimes, micros_between};

@@ -1,5 +1,5 @@
 ghost use Rattle.std.specs.Prelude.{◌≡◌, ◌-◌, []};
-ghost use Rattle.rx_run_log.specs.RunTraffic.{input_report, later_reports, lines_report, steps_of};
+ghost use Rattle.rx_run_log.specs.RunTraffic.{details_passed, input_report, later_reports, lines_passed, lines_report, steps_of};
 ghost use Rattle.rx_run_log.specs.Traffic.{IsTrafficOf};
 
 use crate::report::{Counted, StepReport};
@@ -23,6 +23,28 @@ pub fn details_in(batch: &Traffic) -> u64
     ensures { result ≡ batch.now.starts - NO_DETAILS }
 {
     batch.starts().saturating_sub(NO_DETAILS)
+}
+
+/// The same where the file was read.
+pub fn details_passed(batch: &Traffic) -> Option<u64>
+    ensures { result ≡ details_passed batch.now }
+{
+    if batch.is_called() {
+        Some(details_in(batch))
+    } else {
+        None
+    }
+}
+
+/// How many lines of a text passed, where it was read or written.
+pub fn lines_passed(text: &Traffic) -> Option<u64>
+    ensures { result ≡ lines_passed text.now }
+{
+    if text.is_called() {
+        Some(text.line_feeds())
+    } else {
+        None
+    }
 }
 
 impl RunTraffic {

@@ -1,5 +1,5 @@
 ghost use Rattle.std.specs.Prelude.{◌≡◌, ◌+◌, ◌-◌, ◌^◌, ◌≤◌, ◌++◌, [], ℕ, IfOk, IfSome, List, None};
-ghost use Rattle.std.specs.Prelude.{is_some, length, min, take};
+ghost use Rattle.std.specs.Prelude.{false, is_some, length, min, take, true};
 ghost use Rattle.std.specs.Option.{option_or};
 ghost use Rattle.rx_batch.specs.declared.layout.TheConstants.{STX};
 ghost use Rattle.sha2.specs.Hashers.{Holds256};
@@ -25,6 +25,7 @@ pub struct Traffic {
     sum: Option<Sha256>,
     front: ArrayVec<u8, KEPT>,
     end: ArrayVec<u8, KEPT>,
+    called: bool,
     first: Option<Duration>,
     last: Option<Duration>,
 }
@@ -39,6 +40,7 @@ impl Traffic {
         ensures starts { result.starts ≡ 0 }
         ensures front { result.front.items ≡ [] }
         ensures end { result.end.items ≡ [] }
+        ensures called { result.called ≡ false }
         ensures first { result.first ≡ None }
         ensures last { result.last ≡ None }
     {
@@ -49,6 +51,7 @@ impl Traffic {
             sum: sums.then(|| Sha256::new()),
             front: ArrayVec::new(),
             end: ArrayVec::new(),
+            called: false,
             first: None,
             last: None,
         }
@@ -61,6 +64,7 @@ impl Traffic {
         ensures bytes { self.new.bytes ≡ in_64_bits (self.old.bytes + length piece.now) }
         ensures line_feeds { self.new.line_feeds ≡ in_64_bits (self.old.line_feeds + count_of 10 piece.now) }
         ensures starts { self.new.starts ≡ in_64_bits (self.old.starts + count_of STX piece.now) }
+        ensures called { self.new.called ≡ self.old.called }
         ensures first { self.new.first ≡ self.old.first }
         ensures last { self.new.last ≡ self.old.last }
     {
@@ -73,7 +77,7 @@ impl Traffic {
         keep_end(&mut self.end, piece);
     }
 
-    /// Notes the times at which a call began and ended.
+    /// Notes a call, with the times at which it began and ended.
     pub fn at(&mut self, begin: Option<Duration>, end: Option<Duration>)
         ensures sum { self.new.sum ≡ self.old.sum }
         ensures bytes { self.new.bytes ≡ self.old.bytes }
@@ -81,9 +85,11 @@ impl Traffic {
         ensures starts { self.new.starts ≡ self.old.starts }
         ensures front { self.new.front ≡ self.old.front }
         ensures end { self.new.end ≡ self.old.end }
+        ensures called { self.new.called ≡ true }
         ensures first { self.new.first ≡ option_or self.old.first begin }
         ensures last { self.new.last ≡ end }
     {
+        self.called = true;
         if self.first.is_none() {
             self.first = begin;
         }
@@ -126,6 +132,13 @@ impl Traffic {
         ensures { (bytes : List ℕ) → IsTrafficOf self.now bytes → result.now ≡ last_of KEPT bytes }
     {
         self.end.as_slice()
+    }
+
+    /// Whether a call was noted: the device was read or written.
+    pub fn is_called(&self) -> bool
+        ensures { result ≡ self.now.called }
+    {
+        self.called
     }
 
     /// When the first call began, by the clock of the device, where that answers.

@@ -1,4 +1,4 @@
-ghost use Rattle.std.specs.Prelude.{◌≡◌, [], IfSome, Some, is_some};
+ghost use Rattle.std.specs.Prelude.{◌≡◌, [], IfSome, Some, false, is_some, true};
 ghost use Rattle.rx_run_log.specs.Traffic.{Adds, IsTrafficOf};
 
 use crate::traffic::Traffic;
@@ -19,6 +19,7 @@ impl<'c, D, C: Clock> Watched<'c, D, C> {
         ensures device { result.device ≡ device }
         ensures traffic { IsTrafficOf result.traffic [] }
         ensures sum { is_some result.traffic.sum ≡ sums }
+        ensures called { result.traffic.called ≡ false }
     {
         Watched {
             device,
@@ -38,6 +39,7 @@ impl<'c, D, C: Clock> Watched<'c, D, C> {
     pub(crate) fn note(&mut self, begin: Option<Duration>, piece: &[u8])
         ensures device { self.new.device ≡ self.old.device }
         ensures traffic { Adds self.old.traffic self.new.traffic piece.now }
+        ensures called { self.new.traffic.called ≡ true }
         ensures first { IfSome self.old.traffic.first (λ time. self.new.traffic.first ≡ Some time) }
     {
         let end = self.clock.monotonic().ok();

@@ -15,7 +15,7 @@ use rx_cli::VERSION;
 use rx_io::{Inputs, Outputs};
 use rx_run_log::{
     CodeCount, CodesPassed, FileLog, FileSum, Lot, RunLog, RunTimes, RunTraffic, Shards, Step,
-    Totals, Traffic, Watched, details_in, log_line, micros_between,
+    Totals, Traffic, Watched, details_passed, lines_passed, log_line, micros_between,
 };
 use rx_switch::{IoFault, run_io};
 use std::alloc::{AllocError, Global};
@@ -188,7 +188,7 @@ fn line(rt: &HostRuntime, words: &RunSettings<'_>, run: &WatchedRun) -> Result<S
     let alloc = rt.alloc();
     let (status, refused, file) = end_of(&run.done);
     let (inputs, outputs) = (&run.traffic.inputs, &run.traffic.outputs);
-    let lines = outputs.books.last().map(|_| outputs.books.line_feeds());
+    let lines = lines_passed(&outputs.books);
     let warning = warning_of(rt, words, &run.done, lines);
     let host = host_name(rt);
     let codes = given_codes(alloc, run);
@@ -205,7 +205,7 @@ fn line(rt: &HostRuntime, words: &RunSettings<'_>, run: &WatchedRun) -> Result<S
         file,
         fault: text_of(&run.fault),
         warning: text_of(&warning),
-        records: inputs.batch.last().map(|_| details_in(&inputs.batch)),
+        records: details_passed(&inputs.batch),
         end_books_lines: lines,
         codes: slice_of(&codes),
         stamp: words.stamp,
@@ -272,10 +272,11 @@ fn warning_of(
 
 // How often each reject code was given, where the response was written.
 fn given_codes(alloc: Global, run: &WatchedRun) -> Option<Vec<CodeCount>> {
-    run.traffic.outputs.response.last()?;
     match &run.codes {
-        Some(codes) => code_counts(alloc, codes).ok(),
-        None => None,
+        Some(codes) if run.traffic.outputs.response.is_called() => {
+            code_counts(alloc, codes).ok()
+        }
+        _ => None,
     }
 }
 

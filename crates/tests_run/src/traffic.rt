@@ -14,6 +14,7 @@ fn is_abc(rt: &impl Abort, traffic: &Traffic) {
     same(rt, traffic.end(), b"abc".as_slice());
     let digest = traffic.digest().expect(rt, "memory").expect(rt, "a digest");
     same(rt, digest.starts_with(OF_ABC), true);
+    same(rt, traffic.is_called(), true);
     same(rt, traffic.first() <= traffic.last(), true);
 }
 
@@ -61,5 +62,6 @@ fn a_failed_write_is_not_counted(rt: HostRuntime) {
     let mut sink = Watched::new(sink, &rt, true);
     same(&rt, sink.write(b"abc").is_err(), true);
     same(&rt, sink.traffic().bytes(), 0);
+    same(&rt, sink.traffic().is_called(), false);
     same(&rt, sink.traffic().last(), None::<Duration>);
 }
