@@ -1,11 +1,11 @@
 #!/usr/bin/env python3
 """Opens pages of `report --html` or `--html-dir` in Chromium, and compares what is seen with what their rows say.
 
-    tests/look_at_page.py PAGE.. [--browser PROGRAM] [--pictures FOLDER]
+    tests/look_at_page.py PAGE.. [--hostile PROGRAM] [--browser PROGRAM] [--pictures FOLDER]
 
 The browser is worked through its debugging pipe, so each page stands as it is, under its own policy. Of each:
 
-- it asks for nothing but itself;
+- it asks for nothing but itself, also while it is worked, opens no dialog, and has its own script and no handler in its markup;
 - with each answer and each code chosen, and with a member's name and amounts written, the claims that are seen have to be those
   whose rows say so, and without any of these all claims; on a page without claims the same of the providers;
 - a table whose heading is pressed once and twice has to stand in the order of the column, up and down;
@@ -14,6 +14,10 @@ The browser is worked through its debugging pipe, so each page stands as it is, 
 - by the tabulator alone each link, button, field and explanation is reached, first the link past the head, and Enter unfolds an
   explanation;
 - on a phone of 390 pixels, with all explanations unfolded, nothing is outside, light and dark.
+
+With --hostile this program makes pages of the first job whose ids, tiers and paths hold markup, quotes and scripts: a page, one
+of too many claims, and a folder's first page and a pharmacy's. They are looked at as the others are, and have to show these texts
+as they are.
 
 With --pictures the first page is drawn as on a desktop, light and dark, on a phone and on paper. The last line is `same` or what
 differs; the exit status is 0 or 1, and 2 where no browser is found.
@@ -25,12 +29,13 @@ import fcntl
 import json
 import os
 import re
+import shlex
 import shutil
 import subprocess
 import sys
 import tempfile
 
-from run_report import Differs, Page, count_in, headed_cells, want
+from run_report import FIRST_JOB, Differs, Page, count_in, headed_cells, longer, replaced, want
 
 SEEN = """(asked) => { const parts = () => PARTS.filter(part => part.getClientRects().length).map(part => part.id || part.rowIndex);
 const put = (at, value) => { const field = document.querySelectorAll('form input, form select')[at]; field.value = value;
@@ -47,6 +52,14 @@ const at = button.parentElement.cellIndex;
 found.push(rows().map(row => [...row.cells[at].childNodes].filter(node => node.nodeName !== 'I').map(node => node.textContent).join(''))); } }
 return found; }"""
 STOPS = "[...document.querySelectorAll('a[href], button, input, select, summary')].filter(it => it.getClientRects().length)"
+MARKUP = """[document.scripts.length, document.querySelectorAll('img, svg, iframe, object, link').length,
+[...document.querySelectorAll('*')].filter(it => [...it.attributes].some(one => one.name.startsWith('on'))).length]"""
+SHOWN = """[...document.querySelectorAll('h2, #providers th, .member, .origin dd, .reasons th, .reasons td, pre')]
+.map(it => it.textContent)"""
+PROVIDERS_WITH_MARKS = {b"9000000011     ": b"\"><script>a()//", b"9000000029     ": b"&amp;'\"<!--&lt;",
+                        b"9000000037     ": b"<img src=x:y>&  "}
+FAMILIES_WITH_MARKS = {b"H1001": b"<script>a=1</script>", b"H1002": b"=\"><svg/onload=a()>"}
+PATH_WITH_MARKS = '"><script>alert(1)</script>'
 NAMED = {"link", "button", "searchbox", "spinbutton", "combobox", "checkbox", "textbox"}
 
 
@@ -77,7 +90,9 @@ class Browser:
             want(bool(piece), True, "the browser's answer")
             self.rest += piece
         text, self.rest = self.rest.split(b"\0", 1)
-        return json.loads(text)
+        message = json.loads(text)
+        want(message.get("method") == "Page.javascriptDialogOpening", False, "a dialog")
+        return message
 
     def call(self, method, **parameters):
         self.count += 1
@@ -109,6 +124,10 @@ class Browser:
         self.call("Page.navigate", url="file://" + os.path.abspath(path))
         while not any(event.get("method") == "Page.loadEventFired" for event in self.events):
             self.events.append(self.heard())
+        return self.asked()
+
+    def asked(self):
+        """What the page has asked for since it was opened."""
         asked = [event for event in self.events if event.get("method") == "Network.requestWillBeSent"]
         return [event["params"]["request"]["url"] for event in asked]
 
@@ -238,6 +257,12 @@ def check_keys(browser):
         want(browser.look("document.querySelector('details').open"), True, "an explanation that Enter unfolds")
 
 
+def check_markup(browser, path):
+    """Nothing but the page's own script, and since the page was opened nothing was asked for but itself."""
+    want(browser.look(MARKUP), [1, 0, 0], "scripts, handlers and parts from outside")
+    want(browser.asked(), ["file://" + os.path.abspath(path)], "what the page asked for")
+
+
 def check(browser, path):
     with open(path, encoding="ascii") as file:
         page = Page(file.read())
@@ -252,6 +277,61 @@ def check(browser, path):
     for dark in (False, True):
         browser.screen(390, dark)
         want(browser.look("document.documentElement.scrollWidth <= 390"), True, "room on a phone")
+    check_markup(browser, path)
+
+
+def hostile_pages(program, top):
+    """Pages of the first job with hostile ids, tiers and paths, each with texts that it has to show."""
+    folder = os.path.join(top, PATH_WITH_MARKS)
+    os.makedirs(folder)
+    texts = {}
+    for name in ("sheet.toml", "books.txt", "batch.bin"):
+        with open(os.path.join(FIRST_JOB, name), "rb") as file:
+            texts[name] = file.read()
+    tier = b"'" + PATH_WITH_MARKS.encode() + b"'"
+    texts["sheet.toml"] = replaced(texts["sheet.toml"], [(b"\ngeneric = ", b"\n" + tier + b" = "), (b'"generic"', tier)])
+    texts["books.txt"] = replaced(texts["books.txt"], FAMILIES_WITH_MARKS.items())
+    texts["batch.bin"] = replaced(texts["batch.bin"], [*FAMILIES_WITH_MARKS.items(), *PROVIDERS_WITH_MARKS.items()])
+    texts["large.bin"] = longer(texts["batch.bin"], 100)
+    for name, text in texts.items():
+        with open(os.path.join(folder, name), "wb") as file:
+            file.write(text)
+    report = [program, "report", "--sheet", PATH_WITH_MARKS + "/sheet.toml", "--books", PATH_WITH_MARKS + "/books.txt"]
+    batch, large = (["--batch", f"{PATH_WITH_MARKS}/{name}.bin"] for name in ("batch", "large"))
+    for words, name in ((batch, "page.html"), (large, "large.html")):
+        with open(os.path.join(top, name), "wb") as page:
+            subprocess.run([*report, *words, "--html"], cwd=top, stdout=page, check=True)
+    subprocess.run([*report, *batch, "--html-dir", "pages"], cwd=top, stdout=subprocess.DEVNULL, check=True)
+    names = [id.decode().rstrip() for id in PROVIDERS_WITH_MARKS.values()]
+    headings = [f"Provider {name}" for name in names]
+    members = [f"{id.decode()}/01" for id in FAMILIES_WITH_MARKS.values()]
+    command = shlex.join(["rxbatch", *report[1:], *large, "--html-dir", "DIR"])
+    own = {f"p{at}.html": [name, f"Provider {name}"] for at, name in enumerate(by_net(os.path.join(top, "pages", "index.html")), 1)}
+    want(sorted(part[0] for part in own.values()), sorted(names), "the providers of the first page")
+    shown = {"page.html": names + headings + members + [PATH_WITH_MARKS], "large.html": names + [command], "pages/index.html": names}
+    shown |= {"pages/" + name: texts for name, texts in own.items()}
+    return {os.path.join(top, name): texts for name, texts in shown.items()}
+
+
+def by_net(path):
+    """The providers of a folder's first page, in its order."""
+    with open(path, encoding="ascii") as file:
+        page = Page(file.read())
+    (table,) = [table for table in page.all("table") if table.attributes.get("id") == "providers"]
+    return [row["Provider"].words() for row in headed_cells(table)[:-1]]
+
+
+def check_shown(browser, path, texts):
+    """Each text stands on the page as it is, in a cell of its own or, of a tier, in an explanation; the paths stand at the head."""
+    browser.open(path)
+    found = browser.look(SHOWN)
+    for text in texts:
+        within = text == PATH_WITH_MARKS
+        want(any(text in one if within else text == one.strip() for one in found), True, f"{text} on {os.path.basename(path)}")
+    for name in ("sheet.toml", "books.txt"):
+        want(any(one.startswith(f"{PATH_WITH_MARKS}/{name} ") for one in found), True, f"the path of {name}")
+    want(browser.look("typeof a"), "undefined", "what a script would set")
+    check_markup(browser, path)
 
 
 def draw(browser, path, folder):
@@ -271,17 +351,23 @@ def draw(browser, path, folder):
 
 def main():
     parser = argparse.ArgumentParser()
-    parser.add_argument("page", nargs="+")
+    parser.add_argument("page", nargs="*")
+    parser.add_argument("--hostile", metavar="PROGRAM")
     parser.add_argument("--browser", default="chromium")
     parser.add_argument("--pictures")
     given = parser.parse_args()
+    if not given.page and not given.hostile:
+        parser.error("expected a page or --hostile")
     if not shutil.which(given.browser):
         print(f"{given.browser} isn't there")
         return 2
     with tempfile.TemporaryDirectory(ignore_cleanup_errors=True) as folder:
         browser = Browser(given.browser, folder)
         try:
-            for path in given.page:
+            hostile = hostile_pages(os.path.abspath(given.hostile), os.path.join(folder, "hostile")) if given.hostile else {}
+            for path, texts in hostile.items():
+                check_shown(browser, path, texts)
+            for path in [*given.page, *hostile]:
                 check(browser, path)
             if given.pictures:
                 draw(browser, given.page[0], given.pictures)
@@ -290,7 +376,7 @@ def main():
             return 1
         finally:
             browser.end()
-    print(f"same ({len(given.page)} pages)")
+    print(f"same ({len(given.page) + len(hostile)} pages)")
     return 0
 
 
