@@ -18,7 +18,8 @@ with marks of HTML, JSON and terminals, and more lines than a page shows. Of eac
   prints of its place, and where the job has a file in tests/explain, those lines have the answer, the number and the
   amounts that another program gives;
 - of the pages of `--html-dir` the first has to have the providers in the order of their nets, with links to the others, and each
-  other page the lines of its provider and no more, under the same conditions; a folder keeps its other files;
+  other page the lines of its provider and no more, under the same conditions; a folder keeps its other files, and nothing is
+  written where a page would replace an input file;
 - no form may hold a byte that isn't printable, but line feeds and the table's tabs;
 - `show --tsv` has to say what `show` says, and of a billing the amounts of its request;
 - a refused input has to be refused as by `run`.
@@ -822,8 +823,7 @@ def check_words(program):
 def check_files(program):
     """A folder that is there keeps its other files, and its pages are replaced; what can't be written is named."""
     with tempfile.TemporaryDirectory() as top:
-        inputs = [word if word.startswith("--") else os.path.abspath(os.path.join(FIRST_JOB, word)) for word in INPUTS]
-        report = ["report", *inputs, "--html-dir"]
+        report = ["report", *first_inputs(), "--html-dir"]
         to = os.path.join(top, "to")
         os.mkdir(to)
         for name in ("p2.html", "p9.html", "notes.txt"):
@@ -841,6 +841,51 @@ def check_files(program):
             line = f"file 10\n--html-dir {words}\n".encode()
             want(program.answer(top, *report, folder), (3, b"", line), "a page that can't be written")
         want([name for name in os.listdir(to) if name.startswith(".")], [], "files that are left")
+
+
+def check_inputs_kept(program):
+    """Where a page would replace an input file, or one that a standard stream leads to, nothing is written."""
+    for name, at in (("sheet.toml", "index.html"), ("books.txt", "p3.html"), ("batch.bin", "p1.html")):
+        for way in ("itself", "hard link", "symbolic link", "input by a link", "standard input"):
+            with tempfile.TemporaryDirectory() as folder:
+                check_input_kept(program, folder, name, at, way)
+    with tempfile.TemporaryDirectory() as folder:
+        os.mkdir(os.path.join(folder, "pages"))
+        report = [*program.words, "report", *first_inputs(), "--html-dir", "pages"]
+        with open(os.path.join(folder, "pages", "p2.html"), "wb") as page:
+            done = subprocess.run(report, cwd=folder, stdout=page, stderr=subprocess.PIPE, timeout=program.seconds)
+        line = b"rxbatch: a page in --html-dir and standard output are the same file\n"
+        want((done.returncode, done.stderr, os.listdir(os.path.join(folder, "pages"))), (2, line, ["p2.html"]), "standard output")
+
+
+def first_inputs():
+    return [word if word.startswith("--") else os.path.abspath(os.path.join(FIRST_JOB, word)) for word in INPUTS]
+
+
+def check_input_kept(program, folder, name, at, way):
+    pages = os.path.join(folder, "pages")
+    os.mkdir(pages)
+    page, other = os.path.join(pages, at), os.path.join(folder, name)
+    with open(os.path.join(FIRST_JOB, name), "rb") as old, open(page if way == "itself" else other, "wb") as new:
+        text = old.read()
+        new.write(text)
+    if way == "hard link":
+        os.link(other, page)
+    elif way in ("symbolic link", "standard input"):
+        os.symlink(other, page)
+    elif way == "input by a link":
+        os.rename(other, page)
+        os.symlink(page, other)
+    paths = {"itself": f"pages/{at}", "standard input": "-"}
+    inputs = [paths.get(way, other) if word.endswith("/" + name) else word for word in first_inputs()]
+    with open(page, "rb") as source:
+        done = subprocess.run([*program.words, "report", *inputs, "--html-dir", "pages"], cwd=folder, stdin=source,
+                              capture_output=True, timeout=program.seconds)
+    option = inputs[[one.rpartition("/")[2] for one in first_inputs()].index(name) - 1]
+    line = f"rxbatch: {option} and a page in --html-dir are the same file\n".encode()
+    want((done.returncode, done.stdout, done.stderr), (2, b"", line), f"a page that is the {name} ({way})")
+    with open(page, "rb") as file:
+        want((file.read() == text, sorted(os.listdir(pages))), (True, [at]), f"the files left ({way})")
 
 
 def check_paths(program):
@@ -898,6 +943,7 @@ def counted(program, jobs, with_words):
         checks.append(("families", lambda: check_families(program)))
         checks.append(("paths", lambda: check_paths(program)))
         checks.append(("files", lambda: check_files(program)))
+        checks.append(("inputs that are pages", lambda: check_inputs_kept(program)))
     passed = failed = 0
     for name, check in checks:
         try:

@@ -1,12 +1,15 @@
 //! The commands that print a text, each from the files that its words name.
 use crate::ending::Ending;
+use crate::nodes::Node;
 use crate::origin::Noted;
 use crate::page_folder::write_pages;
 use crate::refused_text::{GivenTexts, refused_response};
 use crate::run_gate::RunGate;
 use crate::shown_path::shown_path;
 use crate::standard_output::{print, print_outcome};
-use crate::texts::{open_and_read, opened, read_each, slices, text_in, text_of};
+use crate::texts::{
+    open_and_read, open_each, opened, read_each, read_opened, slices, text_in, text_of,
+};
 use rx_check::fault_numbered;
 use rx_cli::{
     Asked, ExplainWords, FaultNumbers, Form as FormWords, Portion as PortionWords, ReportWords,
@@ -216,14 +219,18 @@ pub fn report<R: Threads + Sync>(
     threads: &R,
     words: &ReportWords<'_>,
 ) -> Result<(), Ending> {
-    let texts = open_and_read(rt, &words.inputs)?;
+    let files = open_each(rt, &words.inputs)?;
+    let nodes = files.as_ref().map(|file| Node::of(file));
+    let texts = read_opened(rt, &files, &words.inputs);
+    drop(files);
+    let texts = texts?;
     let printed = match words.form {
         FormWords::Columns => report_in(rt, threads, words, &texts, Form::Columns),
         FormWords::Tsv => report_in(rt, threads, words, &texts, Form::Tsv),
         FormWords::Json => report_in(rt, threads, words, &texts, Form::Json),
         FormWords::Jsonl => report_in(rt, threads, words, &texts, Form::Jsonl),
         FormWords::Html => report_page(rt, threads, words, &texts),
-        FormWords::HtmlDir(folder) => return report_pages(rt, threads, words, texts, folder),
+        FormWords::HtmlDir(folder) => return report_pages(rt, threads, words, texts, nodes, folder),
     };
     drop(texts);
     let printed = printed?;
@@ -245,6 +252,7 @@ fn report_pages<R: Threads + Sync>(
     threads: &R,
     words: &ReportWords<'_>,
     texts: Inputs<Vec<u8>>,
+    nodes: Inputs<Node>,
     folder: &str,
 ) -> Result<(), Ending> {
     let noted = Noted::of(rt, &words.inputs, &texts)?;
@@ -252,7 +260,7 @@ fn report_pages<R: Threads + Sync>(
     drop((noted, texts));
     let printed = printed?;
     need_lines(rt, words.portion, printed.has_lines)?;
-    let first = write_pages(rt, folder, &printed.pages);
+    let first = write_pages(rt, folder, &printed.pages, nodes);
     drop(printed);
     match first? {
         Some(path) => print_line(rt, shown_path(rt.alloc(), path.as_str())?),
