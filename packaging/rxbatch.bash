@@ -15,7 +15,7 @@ _rxbatch() {
     check) words='--sheet --books --batch'; files='--sheet|--books|--batch'; others='' ;;
     explain) words='--sheet --books --batch --record --number --rx --provider --response --json --all'; files='--sheet|--books|--batch|--response'; others='--record|--number|--rx|--provider' ;;
     verify) words='--sheet --books --batch --response --books-out --settlement --stamp --workers --plain --desk'; files='--sheet|--books|--batch|--response|--books-out|--settlement'; others='--stamp|--workers' ;;
-    report) words='--sheet --books --batch --provider --family --tsv --json --jsonl --html --html-dir'; files='--sheet|--books|--batch|--html-dir'; others='--provider|--family' ;;
+    report) words='--sheet --books --batch --stamp --provider --family --tsv --json --jsonl --html --html-dir'; files='--sheet|--books|--batch|--html-dir'; others='--stamp|--provider|--family' ;;
     replies) words='--response'; files='--response'; others='' ;;
     adjudicate) words='--sheet --books --batch --out --stamp --workers --again --strict --quiet'; files='--sheet|--books|--batch|--out'; others='--stamp|--workers' ;;
     fault) words=''; files=''; others='' ;;

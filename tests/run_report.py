@@ -12,11 +12,13 @@ with marks of HTML, JSON and terminals, and more lines than a page shows. Of eac
   and the page say; with `--provider` its line only, with `--family` the sums of its lines, a reversal being of the family
   whose claim it reverses, and of four families the claims and sums worked by hand;
 - the page's origin has to be the sheet's BIN and PCN, the paths as given, the files' SHA-256, the version and the time;
+- with the run's stamp each form has to say it as the settlement has it, without it none; a stamp that is none has to be refused
+  as by `run`, in its words;
 - the page may hold the elements and attributes that it is made of and no others, each closed and in its place, and nothing
-  from outside; its texts have a contrast of 4.5; its script is the same everywhere and the only one that its policy allows; each cell has its heading, each
-  link its anchor; counts, codes and bars are those of the lines; each claim is a row, and unfolds to the lines that `explain`
-  prints of its place, and where the job has a file in tests/explain, those lines have the answer, the number and the
-  amounts that another program gives;
+  from outside; its texts have a contrast of 4.5; its script is the same everywhere and the only one that its policy allows;
+  each cell has its heading, each link its anchor; counts, codes and bars are those of the lines; each claim is a row, and
+  unfolds to the lines that `explain` prints of its place, and where the job has a file in tests/explain, those lines have the
+  answer, the number and the amounts that another program gives;
 - of the pages of `--html-dir` the first has to have the providers in the order of their nets, with links to the others, and each
   other page the lines of its provider and no more, under the same conditions; a folder keeps its other files, and nothing is
   written where a page would replace an input file;
@@ -49,7 +51,7 @@ STX, ETX, FS, GS, SS = b"\x02", b"\x03", b"\x1c", b"\x1d", b"\x1e"
 COLUMNS = ("record nth answer codes provider prescription date family person allowed deductible copay coinsurance "
            "member_pays plan_pays authorization product quantity days").split()
 AMOUNTS = COLUMNS[9:15]
-TABLE = COLUMNS + ["lot", "created"]
+TABLE = COLUMNS + ["lot", "created", "stamp"]
 SHOWN = "record nth kind provider prescription date family person product quantity days D9 DC DQ DU codes".split()
 HEADINGS = "record ans codes rx date member allowed deduct. copay coins. member pays plan pays"
 INPUTS = ["--sheet", "sheet.toml", "--books", "books.txt", "--batch", "batch.bin"]
@@ -180,18 +182,19 @@ def told_of(line):
     return {name: "" if line[name] is None else str(line[name]) for name in COLUMNS}
 
 
-def check_lines_of_json(text, rows, lot):
+def check_lines_of_json(text, rows, lot, stamp):
     """Each line is an object: a row, and its batch."""
     lines = [json.loads(line) for line in text.splitlines()]
     want(text.count("\n"), len(rows), "lines of JSON")
-    want([line.pop("lot") for line in lines], [lot] * len(rows), "the batch in each line of JSON")
+    batches = [(line.pop("lot"), line.pop("stamp")) for line in lines]
+    want(batches, [(lot, stamp)] * len(rows), "the batch in each line of JSON")
     want([list(line) for line in lines], [COLUMNS] * len(rows), "the names in a line of JSON")
     want([told_of(line) for line in lines], rows, "the lines of JSON")
 
 
-def check_json(text, rows, lines, only, lot):
+def check_json(text, rows, lines, only, lot, stamp):
     report = json.loads(text)
-    want(report["lot"], lot, "the batch in JSON")
+    want((report["lot"], report["stamp"]), (lot, stamp), "the batch in JSON")
     want({name: report[name] for name in report if name.startswith("only")}, only, "the portion in JSON")
     counts = ("paid", "duplicate", "approved", "rejected", "net")
     groups = by_provider(rows)
@@ -210,8 +213,14 @@ def tally_words(line):
     return "{} paid, {} duplicate, {} reversed, {} rejected, net {}".format(*line[1:5], dollars(line[5]))
 
 
-def check_columns(text, rows, lines, scope):
+def stamp_in_words(stamp):
+    return f"{stamp[:4]}-{stamp[4:6]}-{stamp[6:8]} {stamp[8:10]}:{stamp[10:]}"
+
+
+def check_columns(text, rows, lines, scope, stamp):
     blocks = text.split("\n\n")
+    if stamp:
+        want(blocks.pop(0), f"stamp {stamp_in_words(stamp)}", "the stamp above the columns")
     groups = by_provider(rows)
     want(blocks.pop(), f"{scope}: {tally_words(lines[-1])}\n", "the last line")
     want(len(blocks), len(lines) - 1, "providers in columns")
@@ -379,9 +388,10 @@ def check_providers(page, lines):
     want(found, [[name, *line[1:5], dollars(line[5])] for name, line in zip(names, lines)], "the table of providers")
 
 
-def check_folder(program, folder, rows, lines, words, whys):
+def check_folder(program, folder, rows, lines, words, whys, stamp=None):
     """The pages of these lines in a folder: a first page in the order of nets, and of each provider the page of its lines."""
-    origin = origin_of(program, folder, INPUTS)
+    origin = origin_of(program, folder, INPUTS, stamp)
+    words = words + stamp_option(stamp)
     with tempfile.TemporaryDirectory() as top:
         to = os.path.join(top, "pages")
         want(program.text(folder, "report", *INPUTS, *words, "--html-dir", to), f"{to}/index.html\n", "the first page")
@@ -411,7 +421,11 @@ def check_origin(page, wanted):
     want(found, wanted, "the origin of the page")
 
 
-def origin_of(program, folder, inputs):
+def stamp_option(stamp):
+    return ["--stamp", stamp] if stamp else []
+
+
+def origin_of(program, folder, inputs, stamp=None):
     """What a page of these files says of its origin, by the files themselves."""
     paths = dict(zip(("Sheet", "Books", "Batch file"), inputs[1::2]))
     texts = {}
@@ -421,7 +435,8 @@ def origin_of(program, folder, inputs):
     sheet = tomllib.loads(texts["Sheet"].decode())
     sums = {name: f"{as_bytes_shown(path)} {hashlib.sha256(texts[name]).hexdigest()}" for name, path in paths.items()}
     plan = {"Plan": f"BIN {sheet['bin']}, PCN {sheet['pcn']}".strip()}
-    return plan | sums | {"Program": program.text(folder, "--version").strip()}
+    of_run = {"Stamp": stamp_in_words(stamp)} if stamp else {}
+    return plan | of_run | sums | {"Program": program.text(folder, "--version").strip()}
 
 
 def as_bytes_shown(path):
@@ -608,16 +623,16 @@ def lot_of(folder):
     return {"number": header[27:34], "created": f"{header[34:38]}-{header[38:40]}-{header[40:42]}"}
 
 
-def check_portion(program, folder, rows, lines, words, scope, only, whys):
+def check_portion(program, folder, rows, lines, words, scope, only, whys, stamp=None):
     """The five forms of the report of these lines."""
-    report = ["report", *INPUTS, *words]
+    report = ["report", *INPUTS, *words, *stamp_option(stamp)]
     lot = lot_of(folder)
-    batch = {"lot": lot["number"], "created": lot["created"]}
+    batch = {"lot": lot["number"], "created": lot["created"], "stamp": stamp or ""}
     want(table(program.text(folder, *report, "--tsv"), TABLE), [row | batch for row in rows], "the table")
-    check_json(program.text(folder, *report, "--json"), rows, lines, only, lot)
-    check_lines_of_json(program.text(folder, *report, "--jsonl"), rows, lot)
-    check_columns(program.text(folder, *report), rows, lines, scope)
-    check_page(program.text(folder, *report, "--html"), rows, lines, not words, whys, origin_of(program, folder, INPUTS))
+    check_json(program.text(folder, *report, "--json"), rows, lines, only, lot, stamp)
+    check_lines_of_json(program.text(folder, *report, "--jsonl"), rows, lot, stamp)
+    check_columns(program.text(folder, *report), rows, lines, scope, stamp)
+    check_page(program.text(folder, *report, "--html"), rows, lines, not words, whys, origin_of(program, folder, INPUTS, stamp))
 
 
 def with_members(rows, shown, books):
@@ -647,7 +662,8 @@ def check_accepted(program, folder, told):
     with open(os.path.join(folder, "response.bin"), "rb") as file:
         response = file.read()
     with open(os.path.join(folder, "settlement.txt"), encoding="ascii") as file:
-        settlement = settlement_of(file.read())
+        text = file.read()
+    settlement, stamp = settlement_of(text), text.splitlines()[0].split("|")[3]
     with open(os.path.join(folder, "books.txt"), encoding="ascii") as file:
         books = file.read()
     rows = with_members(answers(response), check_shown(program, folder), books)
@@ -656,6 +672,8 @@ def check_accepted(program, folder, told):
     whys = Whys(program, folder, told)
     check_portion(program, folder, rows, settlement, [], "all", {}, whys)
     check_folder(program, folder, rows, settlement, [], whys)
+    check_portion(program, folder, rows, settlement, [], "all", {}, whys, stamp)
+    check_folder(program, folder, rows, settlement, [], whys, stamp)
     some = 4 if len(rows) < 500 else 1
     for name in list(groups)[:some]:
         line = [line for line in settlement if line[0] == name]
@@ -754,18 +772,36 @@ def explanations_of(source):
 
 
 def check_copied(program, folder, stamp, told):
-    """False where the job is refused for its stamp only, of which a report knows nothing."""
+    """False where the job is refused for its workers only, of which a report knows nothing."""
     outputs = ["--response", "response.bin", "--books-out", "books-out.txt", "--settlement", "settlement.txt"]
     status, _, err = program.answer(folder, "run", *INPUTS, "--stamp", stamp, "--workers", "1", *outputs)
     if status == 0:
         check_accepted(program, folder, told)
     elif re.match(rb"refused [345] ", err):
-        for form in ([], ["--tsv"], ["--json"], ["--jsonl"], ["--html"], ["--html-dir", "no-pages"]):
-            status, out, told = program.answer(folder, "report", *INPUTS, *form)
-            want((status, out, is_line_with_words(told, err)), (1, b"", True), "a refused report")
+        for form in FORMS:
+            for words in ([], ["--stamp", stamp]):
+                status, out, told = program.answer(folder, "report", *INPUTS, *words, *form)
+                want((status, out, is_line_with_words(told, err)), (1, b"", True), "a refused report")
+    elif err == b"refused 2 0 0\n":
+        check_refused_stamp(program, folder, INPUTS, stamp)
     else:
         return False
     return True
+
+
+FORMS = ([], ["--tsv"], ["--json"], ["--jsonl"], ["--html"], ["--html-dir", "no-pages"])
+
+
+def check_refused_stamp(program, folder, inputs, stamp):
+    """A stamp that is none is refused as by `run -v`, and nothing is written."""
+    with tempfile.TemporaryDirectory() as top:
+        outputs = [word for name in ("response", "books-out", "settlement") for word in ("--" + name, os.path.join(top, name))]
+        _, _, err = program.answer(folder, "run", *inputs, "--stamp=" + stamp, "--workers", "1", *outputs, "-v")
+    told = err[err.index(b"refused 2 0 0\n"):]
+    want(is_line_with_words(told, b"refused 2 0 0\n"), True, "the words of a run")
+    for form in FORMS:
+        want(program.answer(folder, "report", *inputs, "--stamp=" + stamp, *form), (1, b"", told), f"the stamp {stamp}")
+    want(os.path.exists(os.path.join(folder, "no-pages")), False, "a folder of a refused report")
 
 
 # ---------------------------------------------------------------- jobs made here
@@ -812,12 +848,15 @@ def check_words(program):
     """What the words of `report` allow, and files that aren't there."""
     with tempfile.TemporaryDirectory() as folder:
         for words in (["--tsv", "--json"], ["--json", "--jsonl"], ["--json", "--html"], ["--provider", "A", "--family", "B"], ["--plain"],
-                      ["--html", "--html-dir", "D"], ["--html-dir", "D", "--tsv"], ["--html-dir"]):
+                      ["--html", "--html-dir", "D"], ["--html-dir", "D", "--tsv"], ["--html-dir"], ["--stamp"]):
             status, out, err = program.answer(folder, "report", *INPUTS, *words)
             want((status, out, bool(err)), (2, b"", True), "words of report")
         missing = b"file 1\n--sheet sheet.toml: no such file or directory\n"
         want(program.answer(folder, "report", *INPUTS), (3, b"", missing), "a sheet that isn't there")
         want(program.answer(folder, "show", "--sheet", "s", "--batch", "b", "--tsv"), (3, b"", b"file 1\n"), "no sheet")
+        for stamp in ("", "20260317060", "2026031706000", "202602290600", "202613010600", "202603172400", "202603170660", "2026-03-17",
+                      "+20260317060", "20260317 600", "20260317060a"):
+            check_refused_stamp(program, folder, first_inputs(), stamp)
 
 
 def check_files(program):

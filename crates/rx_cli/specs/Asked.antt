@@ -191,6 +191,7 @@ pub record HoldsReport (rows : List Row) (r : ReportWords) : Type 0 where
   pub inputs : HoldsInputs rows r.inputs
   pub portion : HoldsPortion rows r.portion
   pub form : HoldsForm rows r.form
+  pub stamp : MayHaveText rows (codes "stamp") r.stamp
 
 -- what `adjudicate` takes is the values of its options
 pub record HoldsAdjudicate (rows : List Row) (a : AdjudicateWords) : Type 0 where

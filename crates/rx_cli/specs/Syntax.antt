@@ -103,10 +103,11 @@ abbrev pub with_forms : App → App
 with_forms line = with_rule (with_rule (with_rule (with_rule (with_rule line (flag (codes "tsv"))) (flag (codes "json")))
     (flag (codes "jsonl"))) (flag (codes "html"))) (optional_option (codes "html-dir"))
 
--- `report --sheet F --books F --batch F [--provider ID] [--family ID] [--tsv] [--json] [--jsonl] [--html] [--html-dir DIR]`
+-- `report --sheet F --books F --batch F [--stamp S] [--provider ID] [--family ID] [--tsv] [--json] [--jsonl] [--html]
+-- [--html-dir DIR]`
 abbrev pub report_line : App
-report_line = with_forms (with_rule (with_rule (with_inputs (new_app (codes "report"))) (optional_option (codes "provider")))
-    (optional_option (codes "family")))
+report_line = with_forms (with_rule (with_rule (with_rule (with_inputs (new_app (codes "report")))
+    (optional_option (codes "stamp"))) (optional_option (codes "provider"))) (optional_option (codes "family")))
 
 -- `replies --response F`
 abbrev pub replies_line : App

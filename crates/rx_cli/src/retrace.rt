@@ -80,4 +80,6 @@ pub struct ReportWords<'a> {
     pub inputs: Inputs<&'a str>,
     pub portion: Portion<'a>,
     pub form: Form<'a>,
+    /// `--stamp`, as it was written; whether it is a stamp is the report's to say.
+    pub stamp: Option<&'a str>,
 }

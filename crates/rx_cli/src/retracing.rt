@@ -154,5 +154,6 @@ pub(crate) fn report<'a>(found: &ArgMatches<'a>) -> Option<ReportWords<'a>>
         inputs,
         portion,
         form,
+        stamp: text(found, "stamp"),
     })
 }

@@ -302,9 +302,15 @@ pub(crate) fn report<'a>(alloc: Global) -> Draft<'a>
         "Prints the answers, a line each, by provider",
     );
     let inputs = takes_inputs(alloc, report);
+    let stamp = optional(
+        alloc,
+        "stamp",
+        "STAMP",
+        "Date and time of the run, CCYYMMDDHHMM, to print",
+    );
     let provider = optional(alloc, "provider", "ID", "Only the lines of this provider");
     let family = optional(alloc, "family", "ID", "Only the lines of this family");
-    let portions = inputs.arg(provider).arg(family);
+    let portions = inputs.arg(stamp).arg(provider).arg(family);
     takes_forms(alloc, portions)
 }
 

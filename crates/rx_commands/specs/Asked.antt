@@ -1,11 +1,15 @@
 -- Meaning: what the words of `explain` and `report` ask for. Words that aren't such numbers or ids ask for nothing: no record is at place 0.
-use Rattle.std.specs.Prelude.{◌≡◌, ℕ, List, ◌∷◌, ◌++◌, ◌⊎◌, Option, Some, None, Ok}
+use Rattle.std.specs.Prelude.{◌≡◌, ℕ, List, ◌∷◌, ◌++◌, ◌⊎◌, Option, Some, None, Result, Ok, Err}
 use Rattle.std.specs.Str.Parse.{IsNumeral, digits_value}
+use Rattle.rx_fields.specs.Clock.{stamp_of}
 use Rattle.rx_fields.specs.Text.{id_of, trimmed}
+use Rattle.rx_fields.specs.declared.stamp.Stamp.{Stamp}
 use Rattle.rx_explain.specs.declared.finding.Wanted.{Wanted}
 use Rattle.rx_explain.specs.declared.finding.Wanted.TheVariants as wanted
 use Rattle.rx_report.specs.declared.portion.Portion.{Portion}
 use Rattle.rx_report.specs.declared.portion.Portion.TheVariants as portion
+use Rattle.rx_switch.specs.declared.fault.SwitchFault.{SwitchFault}
+use Rattle.rx_switch.specs.declared.fault.SwitchFault.TheVariants as fault
 
 -- the number, in digits only
 abbrev pub IsDigits : List ℕ → ℕ → Type 0
@@ -39,3 +43,13 @@ AsksProvider text other = ⊥
 abbrev pub AsksFamily : List ℕ → Portion → Type 0
 AsksFamily text (portion.Family id) = id.now ≡ trimmed text
 AsksFamily text other = ⊥
+
+-- the stamp, where the text is one; another text is refused as a run refuses it
+abbrev pub stamp_or_fault : Option Stamp → Result (Option Stamp) SwitchFault
+stamp_or_fault None = Err fault.Stamp
+stamp_or_fault (Some s) = Ok (Some s)
+
+-- no text asks for none
+abbrev pub stamp_asked : Option (List ℕ) → Result (Option Stamp) SwitchFault
+stamp_asked None = Ok None
+stamp_asked (Some text) = stamp_or_fault (stamp_of text)

@@ -1,6 +1,7 @@
 -- Meaning: the text of a report in each of its forms.
-use Rattle.std.specs.Prelude.{◌≡◌, ℕ, Bool, true, false, not, ◌==◌, List, [], length, map}
+use Rattle.std.specs.Prelude.{◌≡◌, ℕ, Bool, true, false, not, ◌==◌, List, [], Option, length, map}
 use Rattle.std.specs.List.{filter}
+use Rattle.rx_fields.specs.declared.stamp.Stamp.{Stamp}
 use Rattle.rx_report.specs.Accounts.{IsAccount, is_in, parts_of}
 use Rattle.rx_report.specs.AddsUp.{AddsUp}
 use Rattle.rx_report.specs.Groups.{grouped}
@@ -31,24 +32,24 @@ abbrev pub HasWhys : Bool → SheetTable → Adjudicated → List Line → List 
 HasWhys true tiers b kept whys = is_ascending spot_cmp spot_of kept ≡ true → AreWhys tiers b kept whys
 HasWhys false tiers b kept whys = whys ≡ []
 
--- what the page of a batch says at its head
-abbrev pub head_of : Adjudicated → Origin → PageHead
-head_of b origin = record { lot = b.lot; door = b.sheet.figures.door; origin = origin }
+-- what the page of a report says at its head
+abbrev pub head_of : Report → Origin → PageHead
+head_of r origin = record { lot = r.batch.lot; stamp = r.stamp; door = r.batch.sheet.figures.door; origin = origin }
 
 -- the page of an account, with why the answers of these lines were given
-pub record IsPage (p : Portion) (origin : Origin) (tiers : SheetTable) (b : Adjudicated) (kept : List Line) (account : Account)
+pub record IsPage (p : Portion) (origin : Origin) (tiers : SheetTable) (r : Report) (kept : List Line) (account : Account)
     (text : List ℕ) : Type 0 where
   pub whys : List Why
-  pub whys_are : HasWhys (shows_claims p account.sections.items) tiers b kept whys
-  pub text_is : text ≡ page_text (head_of b origin) p account whys
+  pub whys_are : HasWhys (shows_claims p account.sections.items) tiers r.batch kept whys
+  pub text_is : text ≡ page_text (head_of r origin) p account whys
 
--- the text of these lines and their account, in each form
-abbrev pub IsText : Portion → Form → SheetTable → Adjudicated → List Line → Account → List ℕ → Type 0
-IsText p form.Columns tiers b kept account text = text ≡ columns_text p account
-IsText p form.Tsv tiers b kept account text = text ≡ tsv_text b.lot kept
-IsText p form.Json tiers b kept account text = text ≡ account_json b.lot p account
-IsText p form.Jsonl tiers b kept account text = text ≡ claims_json b.lot kept
-IsText p (form.Html origin) tiers b kept account text = IsPage p origin tiers b kept account text
+-- the text of these lines and their account, in each form, with the stamp of the report
+abbrev pub IsText : Portion → Form → SheetTable → Report → List Line → Account → List ℕ → Type 0
+IsText p form.Columns tiers r kept account text = text ≡ columns_text r.stamp p account
+IsText p form.Tsv tiers r kept account text = text ≡ tsv_text r.batch.lot r.stamp kept
+IsText p form.Json tiers r kept account text = text ≡ account_json r.batch.lot r.stamp p account
+IsText p form.Jsonl tiers r kept account text = text ≡ claims_json r.batch.lot r.stamp kept
+IsText p (form.Html origin) tiers r kept account text = IsPage p origin tiers r kept account text
 
 -- the lines of a portion of a report
 abbrev pub kept_of : Portion → Report → List Line
@@ -60,7 +61,7 @@ pub record IsInForm (p : Portion) (f : Form) (tiers : SheetTable) (r : Report) (
   pub account_is : IsAccount p r.settled (kept_of p r) (grouped (kept_of p r)) (map parts_of account.sections.items)
       account.total
   pub adds_up : AddsUp (kept_of p r) (map parts_of account.sections.items) account.total
-  pub text_is : IsText p f tiers r.batch (kept_of p r) account text
+  pub text_is : IsText p f tiers r (kept_of p r) account text
 
 -- it prints that text, and says whether the portion has lines
 pub record IsPrintedReport (p : Portion) (f : Form) (tiers : SheetTable) (r : Report) (printed : PrintedReport) : Type 0 where
@@ -68,7 +69,10 @@ pub record IsPrintedReport (p : Portion) (f : Form) (tiers : SheetTable) (r : Re
   pub lines_are : printed.has_lines ≡ not (length (kept_of p r) == 0)
 
 -- sheet, books and batch are accepted, and that is printed of the portion of the batch's report, with the sheet's own tiers
-pub record IsReportText (sheet books batch : List ℕ) (p : Portion) (f : Form) (printed : PrintedReport) : Type 0 where
+-- and this stamp
+pub record IsReportText (sheet books batch : List ℕ) (stamp : Option Stamp) (p : Portion) (f : Form) (printed : PrintedReport)
+    : Type 0 where
   pub report : Report
   pub reported : IsReported sheet books batch report
+  pub stamp_is : report.stamp ≡ stamp
   pub is_printed : IsPrintedReport p f (table_of_text sheet) report printed

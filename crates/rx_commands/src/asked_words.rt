@@ -1,10 +1,12 @@
 ghost use Rattle.std.specs.Prelude.{◌≡◌, IfSome};
 ghost use Rattle.std.specs.Option.{option_copied};
-ghost use Rattle.rx_commands.specs.Asked.{AsksFamily, AsksNumber, AsksProvider, AsksRecord, AsksReference, IsDigits};
+ghost use Rattle.rx_commands.specs.Asked.{AsksFamily, AsksNumber, AsksProvider, AsksRecord, AsksReference, IsDigits, stamp_asked};
+ghost use Rattle.rx_commands.specs.Asked.{stamp_or_fault};
 
 use rx_explain::{At, Wanted};
-use rx_fields::{Authorization, Provider, Reference, trimmed};
+use rx_fields::{Authorization, Provider, Reference, Stamp, trimmed};
 use rx_report::Portion;
+use rx_switch::SwitchFault;
 
 // Nothing: no record is at place 0.
 const NOTHING: Wanted = Wanted::Place(0);
@@ -76,6 +78,29 @@ pub fn family_asked(id: &str) -> Portion<'_>
     ensures { AsksFamily id.now result }
 {
     Portion::Family(trimmed(id.as_bytes()))
+}
+
+/// The stamp that `--stamp` gives a report, if it stands.
+///
+/// # Errors
+///
+/// Stamp, where the text isn't the twelve digits of a date and a time: what a run refuses as its stamp.
+pub fn stamp_asked(text: Option<&str>) -> Result<Option<Stamp>, SwitchFault>
+    ensures { result ≡ stamp_asked (option_copied text.entry) }
+{
+    match text {
+        None => Ok(None),
+        Some(text) => stamp_or_fault(Stamp::new(text.as_bytes())),
+    }
+}
+
+fn stamp_or_fault(stamp: Option<Stamp>) -> Result<Option<Stamp>, SwitchFault>
+    ensures { result ≡ stamp_or_fault stamp }
+{
+    match stamp {
+        None => Err(SwitchFault::Stamp),
+        Some(stamp) => Ok(Some(stamp)),
+    }
 }
 
 // A number that is written in digits only.

@@ -14,7 +14,7 @@ use crate::reversed::with_reversed;
 use rx_batch::Batch;
 use rx_books_store::Books;
 use rx_d0_values::{Reply, Transmission};
-use rx_fields::{Lot, Memory};
+use rx_fields::{Lot, Memory, Stamp};
 use rx_io::Inputs;
 use rx_ledger::Sheet;
 use rx_report::{Line, report_lines};
@@ -25,11 +25,13 @@ use rx_wave::{NoGate, decode_in_parts, run_one};
 use std::alloc::Global;
 use std::thread::Threads;
 
-/// What a batch is answered, line by line and in all.
+/// What a batch is answered, line by line and in all, and the stamp of its run.
 #[derive(Drop)]
 pub(crate) struct Report {
     /// The batch, with what it was adjudicated on.
     pub batch: Adjudicated,
+    /// As it is given, if it is.
+    pub stamp: Option<Stamp>,
     /// The lines of its answers, in file order.
     pub lines: Vec<Line>,
     /// The tallies of its settlement.
@@ -37,7 +39,7 @@ pub(crate) struct Report {
 }
 
 /// The lines of a batch's answers and the tallies of its settlement, adjudicated one record after another in file
-/// order. It starts no thread.
+/// order, with this stamp. It starts no thread.
 ///
 /// # Errors
 ///
@@ -46,9 +48,11 @@ pub(crate) fn job_report<R: Threads + Sync>(
     rt: &R,
     alloc: Global,
     inputs: &Inputs<&[u8]>,
+    stamp: Option<Stamp>,
 ) -> Result<Report, SwitchFault>
     ensures reported { let given = inputs.now in
         IfOk result (λ report. IsReported given.sheet.now given.books.now given.batch.now report) }
+    ensures stamp { IfOk result (λ report. report.stamp ≡ stamp) }
     // So `whys_of` explains its answers.
     ensures ready { IfOk result (λ report. IsAdjudicated report.batch) }
     ensures refused { let given = inputs.now in
@@ -60,7 +64,7 @@ pub(crate) fn job_report<R: Threads + Sync>(
         batch,
     } = read_inputs(alloc, inputs)?;
     let answered = adjudicated(rt, alloc, sheet, books, batch)?;
-    let report = told(alloc, answered)?;
+    let report = told(alloc, answered, stamp)?;
     Ok(report)
 }
 
@@ -149,9 +153,10 @@ fn replies_to(
 }
 
 // What a batch is answered.
-fn told(alloc: Global, batch: Adjudicated) -> Result<Report, Memory>
+fn told(alloc: Global, batch: Adjudicated, stamp: Option<Stamp>) -> Result<Report, Memory>
     requires { IsAdjudicated batch }
     ensures same { IfOk result (λ report. report.batch ≡ batch) }
+    ensures stamp { IfOk result (λ report. report.stamp ≡ stamp) }
     ensures told { IfOk result (λ report. IsTold batch.asked.items batch.replies.items report) }
 {
     let Ok(lines) = lines_of(alloc, &batch) else {
@@ -164,6 +169,7 @@ fn told(alloc: Global, batch: Adjudicated) -> Result<Report, Memory>
     };
     Ok(Report {
         batch,
+        stamp,
         lines,
         settled,
     })

@@ -6,9 +6,8 @@ ghost use Rattle.rx_commands.specs.Tiers.{table_of_text};
 ghost use Rattle.rx_switch.specs.Planned.{IsNotPlanned};
 
 use crate::batch_report::{Report, job_report};
-use crate::replay::Adjudicated;
 use crate::report_forms::{head_of, whys_shown};
-use rx_fields::Memory;
+use rx_fields::{Memory, Stamp};
 use rx_io::Inputs;
 use rx_report::{Account, Groups, Line, Portion, account_of, by_net, kept_lines};
 use rx_report_text::{MOST_LINES, Origin, PageFile, folder_pages};
@@ -25,7 +24,7 @@ pub struct PrintedFolder {
 }
 
 /// The report of a portion of a batch as pages of a folder: a page for each provider, with its lines only, and one that leads
-/// to them, the greatest net first. Up to `MOST_LINES` lines each has why it was answered so, else the command that says it.
+/// to them, the greatest net first; each says the stamp of the run, where it is given. Up to `MOST_LINES` lines each has why it was answered so, else the command that says it.
 /// The batch is adjudicated once, one record after another in file order. It starts no thread.
 ///
 /// # Errors
@@ -37,13 +36,14 @@ pub fn report_folder<R: Threads + Sync>(
     origin: Origin<'_>,
     inputs: &Inputs<&[u8]>,
     portion: Portion<'_>,
+    stamp: Option<Stamp>,
 ) -> Result<PrintedFolder, SwitchFault>
     ensures refused { let given = inputs.now in
         IfErr result (λ fault. IsNotPlanned given.sheet.now given.books.now given.batch.now fault) }
     ensures reported { let given = inputs.now in IfOk result
-        (IsReportFolder given.sheet.now given.books.now given.batch.now portion.entry origin.entry) }
+        (IsReportFolder given.sheet.now given.books.now given.batch.now stamp portion.entry origin.entry) }
 {
-    let report = job_report(rt, alloc, inputs)?;
+    let report = job_report(rt, alloc, inputs, stamp)?;
     let printed = folder_of(alloc, &report, portion, origin, inputs.sheet);
     drop(report);
     Ok(printed?)
@@ -65,8 +65,7 @@ fn folder_of(
     let groups = Groups::new(alloc, &kept)?;
     let account = account_of(alloc, portion, &report.settled, &kept, &groups)?;
     let account = by_net(account)?;
-    let batch = &report.batch;
-    pages_of(alloc, portion, origin, &account, &kept, batch, sheet)
+    pages_of(alloc, portion, origin, &account, &kept, report, sheet)
 }
 
 // The pages of lines and their account.
@@ -76,15 +75,15 @@ fn pages_of(
     origin: Origin<'_>,
     account: &Account<'_>,
     kept: &[Line],
-    batch: &Adjudicated,
+    report: &Report,
     sheet: &[u8],
 ) -> Result<PrintedFolder, Memory>
-    requires { IsAdjudicated batch.now }
+    requires { IsAdjudicated report.now.batch }
     ensures { IfOk result
-        (ArePages portion.entry origin.entry (table_of_text sheet.now) batch.now kept.now account.now) }
+        (ArePages portion.entry origin.entry (table_of_text sheet.now) report.now kept.now account.now) }
 {
-    let whys = whys_shown(alloc, sheet, batch, kept, kept.len() <= MOST_LINES)?;
-    let pages = folder_pages(alloc, &head_of(batch, origin), account, portion, &whys)?;
+    let whys = whys_shown(alloc, sheet, &report.batch, kept, kept.len() <= MOST_LINES)?;
+    let pages = folder_pages(alloc, &head_of(report, origin), account, portion, &whys)?;
     Ok(PrintedFolder {
         pages,
         has_lines: !kept.is_empty(),

@@ -17,7 +17,7 @@
 //! - Module `replay` has what `report` and `explain` stand on: a batch replayed, with explanations of any of its transactions.
 //!
 //! ```rust
-//! let text = rx_commands::report(rt, alloc, &inputs, Portion::Whole, Form::Json)?;
+//! let text = rx_commands::report(rt, alloc, &inputs, Portion::Whole, Form::Json, stamp_asked(None)?)?;
 //! let printed = rx_commands::explain(rt, alloc, &inputs, &record_asked("4.2"), None, Manner::Words)?;
 //! let printed = rx_commands::verify(rt, alloc, &NoGate, &job, &files)?;
 //! ```
@@ -49,7 +49,9 @@ mod tiers;
 mod verdict;
 mod whys;
 
-pub use asked_words::{family_asked, number_asked, provider_asked, record_asked, reference_asked};
+pub use asked_words::{
+    family_asked, number_asked, provider_asked, record_asked, reference_asked, stamp_asked,
+};
 pub use difference::first_difference;
 pub use explain_fault::ExplainFault;
 pub use explanations::explain;

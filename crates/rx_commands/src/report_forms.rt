@@ -10,7 +10,7 @@ use crate::batch_report::{Report, job_report};
 use crate::replay::Adjudicated;
 use crate::tiers::Tiers;
 use crate::whys::whys_of;
-use rx_fields::Memory;
+use rx_fields::{Memory, Stamp};
 use rx_io::Inputs;
 use rx_report::{Account, Groups, Line, Portion, account_of, claims_json, kept_lines, tsv_text};
 use rx_report_text::{
@@ -42,8 +42,8 @@ pub struct PrintedReport {
     pub has_lines: bool,
 }
 
-/// What `report` prints: a line for each answer of a portion of a batch, by provider, with what they come to. The batch is
-/// adjudicated one record after another in file order. It starts no thread.
+/// What `report` prints: a line for each answer of a portion of a batch, by provider, with what they come to, and the stamp
+/// of the run, where it is given. The batch is adjudicated one record after another in file order. It starts no thread.
 ///
 /// # Errors
 ///
@@ -54,13 +54,14 @@ pub fn report<R: Threads + Sync>(
     inputs: &Inputs<&[u8]>,
     portion: Portion<'_>,
     form: Form<'_>,
+    stamp: Option<Stamp>,
 ) -> Result<PrintedReport, SwitchFault>
     ensures reported { let given = inputs.now in IfOk result
-        (IsReportText given.sheet.now given.books.now given.batch.now portion.entry form.entry) }
+        (IsReportText given.sheet.now given.books.now given.batch.now stamp portion.entry form.entry) }
     ensures refused { let given = inputs.now in
         IfErr result (λ fault. IsNotPlanned given.sheet.now given.books.now given.batch.now fault) }
 {
-    let report = job_report(rt, alloc, inputs)?;
+    let report = job_report(rt, alloc, inputs, stamp)?;
     let printed = text_in_form(alloc, portion, form, inputs.sheet, &report);
     drop(report);
     Ok(printed?)
@@ -81,8 +82,7 @@ fn text_in_form(
     let kept = kept_lines(alloc, portion, &report.lines)?;
     let groups = Groups::new(alloc, &kept)?;
     let account = account_of(alloc, portion, &report.settled, &kept, &groups)?;
-    let batch = &report.batch;
-    let text = text_of_account(alloc, portion, form, sheet, batch, &kept, &account);
+    let text = text_of_account(alloc, portion, form, sheet, report, &kept, &account);
     with_lines(text, &kept)
 }
 
@@ -105,33 +105,35 @@ fn text_of_account(
     portion: Portion<'_>,
     form: Form<'_>,
     sheet: &[u8],
-    batch: &Adjudicated,
+    report: &Report,
     kept: &[Line],
     account: &Account<'_>,
 ) -> Result<Vec<u8>, Memory>
-    requires { IsAdjudicated batch.now }
+    requires { IsAdjudicated report.now.batch }
     ensures { IfOk result (λ text.
-        IsText portion.entry form.entry (table_of_text sheet.now) batch.now kept.now account.now text.items) }
+        IsText portion.entry form.entry (table_of_text sheet.now) report.now kept.now account.now text.items) }
 {
+    let batch = &report.batch;
     match form {
-        Form::Tsv => tsv_text(alloc, batch.lot, kept),
-        Form::Columns => columns_text(alloc, portion, account),
-        Form::Json => account_json(alloc, batch.lot, portion, account),
-        Form::Jsonl => claims_json(alloc, batch.lot, kept),
+        Form::Tsv => tsv_text(alloc, batch.lot, report.stamp, kept),
+        Form::Columns => columns_text(alloc, report.stamp, portion, account),
+        Form::Json => account_json(alloc, batch.lot, report.stamp, portion, account),
+        Form::Jsonl => claims_json(alloc, batch.lot, report.stamp, kept),
         Form::Html(origin) => {
             let whys = whys_shown(alloc, sheet, batch, kept, shows_claims(portion, account))?;
-            explained_page(alloc, &head_of(batch, origin), portion, account, &whys)
+            explained_page(alloc, &head_of(report, origin), portion, account, &whys)
         }
     }
 }
 
-/// What the page of a batch says at its head.
-pub(crate) fn head_of<'a>(batch: &Adjudicated, origin: Origin<'a>) -> PageHead<'a>
-    ensures { result ≡ head_of batch.now origin.entry }
+/// What the page of a report says at its head.
+pub(crate) fn head_of<'a>(report: &Report, origin: Origin<'a>) -> PageHead<'a>
+    ensures { result ≡ head_of report.now origin.entry }
 {
     PageHead {
-        lot: batch.lot,
-        door: *batch.sheet.door(),
+        lot: report.batch.lot,
+        stamp: report.stamp,
+        door: *report.batch.sheet.door(),
         origin,
     }
 }

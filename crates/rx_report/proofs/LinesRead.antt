@@ -8,6 +8,8 @@ use Rattle.std.specs.Int.{w128}
 use Rattle.std.specs.List.{flat_map}
 use Rattle.rx_fields.specs.Digits.{digits_text}
 use Rattle.rx_fields.specs.Numbered.{LotParts}
+use Rattle.rx_fields.specs.Clock.{stamp_text}
+use Rattle.rx_fields.specs.declared.stamp.Stamp.{Stamp}
 use Rattle.rx_print.proofs.JsonPieces.{AreItems, AreMembers, IsMember, IsText, array_is, braces_is, closes, closes_after, closes_last}
 use Rattle.rx_print.proofs.JsonPieces.{closes_line, each_item_is, each_member_is, item_is, members_are, named_is}
 use Rattle.rx_print.proofs.JsonPieces.{line_begins, line_ends, member_is, no_items_are, null_text_is, number_text_is, object_is}
@@ -18,9 +20,10 @@ use Rattle.rx_print.specs.JsonData.{Value, Null, Number, Text}
 use Rattle.rx_print.specs.declared.style.Style.TheVariants.{Json}
 use Rattle.rx_report.specs.Cells.{authorization_cell, cents_cell, cents_of, codes_cell, days_of, family_cell, known_cell, others}
 use Rattle.rx_report.specs.Cells.{person_cell, product_cell, quantity_of, reference_of, status_of}
-use Rattle.rx_report.specs.LinesData.{cents_data, claim_data, count_data, known_data, line_data, lines_data, lot_data, text_data}
-use Rattle.rx_report.specs.Texts.{claim_json, comma_member, comma_object, json_member, json_object, lines_json, lot_json, lot_members}
-use Rattle.rx_report.specs.Texts.{quoted}
+use Rattle.rx_report.specs.LinesData.{batch_members, cents_data, claim_data, count_data, known_data, line_data, lines_data, lot_data}
+use Rattle.rx_report.specs.LinesData.{stamp_data, text_data}
+use Rattle.rx_report.specs.Texts.{batch_json, claim_json, comma_member, comma_object, json_member, json_object, lines_json, lot_json}
+use Rattle.rx_report.specs.Texts.{lot_members, quoted, stamp_json, stamp_value}
 use Rattle.rx_report.specs.declared.column.Column.{Column}
 use Rattle.rx_report.specs.declared.column.Column.TheVariants as column
 use Rattle.rx_report.specs.declared.line.Line.{Line}
@@ -130,17 +133,29 @@ lot_is d lot =
     (named_is d (codes "number") _ _ refl (text_is d (digits_text 7 lot.number)))
     (named_is d (codes "created") _ _ refl (text_is d (dashed lot.created))))
 
-pub lot_member_is : (d : ℕ) (lot : LotParts) → AreMembers (suc d) (44 ∷ lot_json lot) ((codes "lot", lot_data lot) ∷ [])
+lot_member_is : (d : ℕ) (lot : LotParts) → AreMembers (suc d) (44 ∷ lot_json lot) ((codes "lot", lot_data lot) ∷ [])
 unfolding lot_json
 lot_member_is d lot = named_is (suc d) (codes "lot") (lot_object lot) (lot_data lot) refl (lot_is d lot)
 
-pub claim_is : (lot : LotParts) (l : Line) → IsText 2 (claim_json lot l) (claim_data lot l)
+stamp_is : (d : ℕ) (stamp : Option Stamp) → IsText d (stamp_value stamp) (stamp_data stamp)
+stamp_is d None = null_text_is d
+stamp_is d (Some s) = text_is d (stamp_text s)
+
+pub batch_members_are : (d : ℕ) (lot : LotParts) (stamp : Option Stamp)
+    → AreMembers (suc d) (44 ∷ batch_json lot stamp) (batch_members lot stamp)
+unfolding batch_json
+batch_members_are d lot stamp =
+    members_are (suc d) (44 ∷ lot_json lot) (44 ∷ stamp_json stamp) (_ ∷ []) _ (lot_member_is d lot)
+    (named_is (suc d) (codes "stamp") (stamp_value stamp) (stamp_data stamp) refl (stamp_is (suc d) stamp))
+
+pub claim_is : (lot : LotParts) (stamp : Option Stamp) (l : Line) → IsText 2 (claim_json lot stamp l) (claim_data lot stamp l)
 unfolding claim_json
-claim_is lot l =
-    object_is 1 (123 ∷ json_member l column.Place) (flat_map (comma_member l) others ++ ((44 ∷ lot_json lot) ++ codes "}\n"))
-    (column_data l column.Place) (map (column_data l) others ++ (codes "lot", lot_data lot) ∷ [])
+claim_is lot stamp l =
+    object_is 1 (123 ∷ json_member l column.Place)
+    (flat_map (comma_member l) others ++ ((44 ∷ batch_json lot stamp) ++ codes "}\n"))
+    (column_data l column.Place) (map (column_data l) others ++ batch_members lot stamp)
     (opens 1 _ _ (column_is 1 l column.Place))
-    (closes_after 1 _ _ _ _ (others_are 1 l) (closes_last 1 _ _ _ (lot_member_is 0 lot) (closes_line 1)))
+    (closes_after 1 _ _ _ _ (others_are 1 l) (closes_last 1 _ _ _ (batch_members_are 0 lot stamp) (closes_line 1)))
 
 -- ---- all lines
 

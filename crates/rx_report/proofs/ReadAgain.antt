@@ -12,18 +12,21 @@ use Rattle.rx_d0_values.specs.declared.reply.Answer.TheVariants as answer
 use Rattle.rx_d0_values.specs.declared.reply.Answer.{Answer}
 use Rattle.rx_fields.specs.Codes.{code_text}
 use Rattle.rx_fields.specs.Calendar.{Civil, date_text}
+use Rattle.rx_fields.specs.Clock.{stamp_text, time_text}
 use Rattle.rx_fields.specs.Digits.{digits_text}
 use Rattle.rx_fields.specs.Numbered.{LotParts}
 use Rattle.rx_fields.specs.Text.{is_bar, trimmed}
+use Rattle.rx_fields.specs.TimeOfDay.{Clock}
 use Rattle.rx_fields.specs.declared.code.Code.{Code}
 use Rattle.rx_fields.specs.declared.code.Code.TheVariants as code
+use Rattle.rx_fields.specs.declared.stamp.Stamp.{Stamp}
 use Rattle.rx_print.specs.CodeList.{after_comma, code_list}
 use Rattle.rx_print.specs.Dates.{dashed}
 use Rattle.rx_report.specs.Cells.{authorization_cell, cell, cents_cell, cents_of, codes_cell, days_of, family_cell, known_cell, name_of}
 use Rattle.rx_report.specs.Cells.{others, person_cell, product_cell, quantity_of, reference_of, status_of}
 use Rattle.rx_report.specs.ReadBack.{ReadsBack, but_last, cells_in, cells_of, columns, is_plain, is_plain_line}
 use Rattle.rx_report.specs.ReadBack.{table_in}
-use Rattle.rx_report.specs.Texts.{lot_cells, lot_names, row, tab_cell, tab_name, tsv_text, two_cells}
+use Rattle.rx_report.specs.Texts.{batch_cells, batch_names, row, stamp_cell, tab_cell, tab_name, three_cells, tsv_text}
 use Rattle.rx_report.specs.declared.column.Column.{Column}
 use Rattle.rx_report.specs.declared.column.Column.TheVariants as column
 use Rattle.rx_report.specs.declared.line.Line.{Line}
@@ -187,7 +190,7 @@ name_plain : (c : Column) → IsPlain (name_of c)
 name_plain column.Place = refl
 name_plain other = refl
 
--- ---- days
+-- ---- days and stamps
 
 plain_take : (n : ℕ) (xs : List ℕ) → IsPlain xs → IsPlain (take n xs)
 plain_take zero xs p = refl
@@ -215,33 +218,44 @@ dashed_plain day =
     plain_append (take 4 date) (45 ∷ (take 2 (drop 4 date) ++ (45 ∷ drop 2 (drop 4 date)))) (plain_take 4 date (date_plain day))
     (plain_append (take 2 (drop 4 date)) (45 ∷ drop 2 (drop 4 date)) (plain_take 2 (drop 4 date) rest) behind)
 
+time_plain : (t : Clock) → IsPlain (time_text t)
+unfolding time_text
+time_plain t = plain_append (digits_text 2 t.hour) (digits_text 2 t.minute) (written_plain 2 t.hour) (written_plain 2 t.minute)
+
+stamp_plain : (stamp : Option Stamp) → IsPlain (stamp_cell stamp)
+unfolding stamp_text
+stamp_plain None = refl
+stamp_plain (Some s) = plain_append (date_text s.date) (time_text s.time) (date_plain s.date) (time_plain s.time)
+
 -- ---- rows
 
 -- pieces in front of a text, the last of them with a line feed
 apart : (p f m rest : List ℕ) → (p ++ (f ++ (m ++ 10 ∷ []))) ++ rest ≡ (p ++ (f ++ m)) ++ 10 ∷ rest
 apart p f m rest = simp append_assoc refl
 
-module _ (text : Column → List ℕ) (plain : (c : Column) → IsPlain (text c)) (x y : List ℕ) (px : IsPlain x) (py : IsPlain y) where
+module _ (text : Column → List ℕ) (plain : (c : Column) → IsPlain (text c)) (x y z : List ℕ)
+    (px : IsPlain x) (py : IsPlain y) (pz : IsPlain z) where
   -- each cell after a tab
   abbrev after_tab : Column → List ℕ
   after_tab c = 9 ∷ text c
 
-  -- and two more
-  abbrev two : List ℕ
-  two = two_cells x y
+  -- and three more
+  abbrev three : List ℕ
+  three = three_cells x y z
 
-  two_apart : (first : List ℕ) → IsPlain first → cells_in (first ++ two) ≡ first ∷ x ∷ y ∷ []
-  two_apart first p =
-      slice_split_at (λ b. eqb b 9) first 9 (x ++ 9 ∷ y) (free_of 9 refl first p) refl
-      ∙ ap (λ xs. first ∷ xs) (slice_split_at (λ b. eqb b 9) x 9 y (free_of 9 refl x px) refl
-      ∙ ap (λ xs. x ∷ xs) (slice_split_none (λ b. eqb b 9) y (free_of 9 refl y py)))
+  three_apart : (first : List ℕ) → IsPlain first → cells_in (first ++ three) ≡ first ∷ x ∷ y ∷ z ∷ []
+  three_apart first p =
+      slice_split_at (λ b. eqb b 9) first 9 (x ++ 9 ∷ (y ++ 9 ∷ z)) (free_of 9 refl first p) refl
+      ∙ ap (λ xs. first ∷ xs) (slice_split_at (λ b. eqb b 9) x 9 (y ++ 9 ∷ z) (free_of 9 refl x px) refl
+      ∙ ap (λ xs. x ∷ xs) (slice_split_at (λ b. eqb b 9) y 9 z (free_of 9 refl y py) refl
+      ∙ ap (λ xs. y ∷ xs) (slice_split_none (λ b. eqb b 9) z (free_of 9 refl z pz))))
 
   cells_apart : (cs : List Column) (first : List ℕ) → IsPlain first
-      → cells_in (first ++ (flat_map after_tab cs ++ two)) ≡ first ∷ (map text cs ++ x ∷ y ∷ [])
-  cells_apart [] first p = two_apart first p
+      → cells_in (first ++ (flat_map after_tab cs ++ three)) ≡ first ∷ (map text cs ++ x ∷ y ∷ z ∷ [])
+  cells_apart [] first p = three_apart first p
   cells_apart (c ∷ cs) first p =
-      ap (λ xs. cells_in (first ++ 9 ∷ xs)) (append_assoc (text c) (flat_map after_tab cs) two)
-      ∙ slice_split_at (λ b. eqb b 9) first 9 (text c ++ (flat_map after_tab cs ++ two)) (free_of 9 refl first p) refl
+      ap (λ xs. cells_in (first ++ 9 ∷ xs)) (append_assoc (text c) (flat_map after_tab cs) three)
+      ∙ slice_split_at (λ b. eqb b 9) first 9 (text c ++ (flat_map after_tab cs ++ three)) (free_of 9 refl first p) refl
       ∙ ap (λ xs. first ∷ xs) (cells_apart cs (text c) (plain c))
 
   feedless : (cs : List Column) → All (λ x. eqb x 10 ≡ false) (flat_map after_tab cs)
@@ -249,34 +263,36 @@ module _ (text : Column → List ℕ) (plain : (c : Column) → IsPlain (text c)
   feedless (c ∷ cs) = All-cons (λ x. eqb x 10 ≡ false) 9 (text c ++ flat_map after_tab cs) refl
       (All-append (λ x. eqb x 10 ≡ false) (text c) (flat_map after_tab cs) (free_of 10 refl (text c) (plain c)) (feedless cs))
 
-  two_feedless : All (λ x. eqb x 10 ≡ false) two
-  two_feedless = All-cons (λ x. eqb x 10 ≡ false) 9 (x ++ 9 ∷ y) refl
-      (All-append (λ x. eqb x 10 ≡ false) x (9 ∷ y) (free_of 10 refl x px)
-      (All-cons (λ x. eqb x 10 ≡ false) 9 y refl (free_of 10 refl y py)))
+  three_feedless : All (λ x. eqb x 10 ≡ false) three
+  three_feedless = All-cons (λ x. eqb x 10 ≡ false) 9 (x ++ 9 ∷ (y ++ 9 ∷ z)) refl
+      (All-append (λ x. eqb x 10 ≡ false) x (9 ∷ (y ++ 9 ∷ z)) (free_of 10 refl x px)
+      (All-cons (λ x. eqb x 10 ≡ false) 9 (y ++ 9 ∷ z) refl
+      (All-append (λ x. eqb x 10 ≡ false) y (9 ∷ z) (free_of 10 refl y py)
+      (All-cons (λ x. eqb x 10 ≡ false) 9 z refl (free_of 10 refl z pz)))))
 
   -- a row without its line feed
   abbrev row_text : List ℕ
-  row_text = text column.Place ++ (flat_map after_tab others ++ two)
+  row_text = text column.Place ++ (flat_map after_tab others ++ three)
 
-  row_cells : cells_in row_text ≡ map text columns ++ x ∷ y ∷ []
+  row_cells : cells_in row_text ≡ map text columns ++ x ∷ y ∷ z ∷ []
   row_cells = cells_apart others (text column.Place) (plain column.Place)
 
   -- the row in front of a text is cut off at its line feed
   row_first : (rest : List ℕ)
-      → slice_split (λ b. eqb b 10) ((text column.Place ++ (flat_map after_tab others ++ (two ++ 10 ∷ []))) ++ rest)
+      → slice_split (λ b. eqb b 10) ((text column.Place ++ (flat_map after_tab others ++ (three ++ 10 ∷ []))) ++ rest)
       ≡ row_text ∷ slice_split (λ b. eqb b 10) rest
   row_first rest =
-      ap (slice_split (λ b. eqb b 10)) (apart (text column.Place) (flat_map after_tab others) two rest)
+      ap (slice_split (λ b. eqb b 10)) (apart (text column.Place) (flat_map after_tab others) three rest)
       ∙ slice_split_at (λ b. eqb b 10) row_text 10 rest
-      (All-append (λ x. eqb x 10 ≡ false) (text column.Place) (flat_map after_tab others ++ two)
+      (All-append (λ x. eqb x 10 ≡ false) (text column.Place) (flat_map after_tab others ++ three)
       (free_of 10 refl (text column.Place) (plain column.Place))
-      (All-append (λ x. eqb x 10 ≡ false) (flat_map after_tab others) two (feedless others) two_feedless)) refl
+      (All-append (λ x. eqb x 10 ≡ false) (flat_map after_tab others) three (feedless others) three_feedless)) refl
 
 -- ---- tables
 
-module _ (lot : LotParts) where
+module _ (lot : LotParts) (stamp : Option Stamp) where
   abbrev line_text : Line → List ℕ
-  line_text l = cell column.Place l ++ (flat_map (tab_cell l) others ++ lot_cells lot)
+  line_text l = cell column.Place l ++ (flat_map (tab_cell l) others ++ batch_cells lot stamp)
 
   abbrev number : List ℕ
   number = digits_text 7 lot.number
@@ -285,19 +301,19 @@ module _ (lot : LotParts) where
   created = dashed lot.created
 
   rows_cut : (ls : List Line) → All (λ l. is_plain_line l ≡ true) ls
-      → slice_split (λ b. eqb b 10) (flat_map (row lot) ls) ≡ map line_text ls ++ [] ∷ []
+      → slice_split (λ b. eqb b 10) (flat_map (row lot stamp) ls) ≡ map line_text ls ++ [] ∷ []
   rows_cut [] all = refl
   rows_cut (l ∷ ls) all =
       row_first (λ c. cell c l) (cell_plain l (All-head (λ l. is_plain_line l ≡ true) l ls all)) number created
-      (written_plain 7 lot.number) (dashed_plain lot.created) (flat_map (row lot) ls)
+      (stamp_cell stamp) (written_plain 7 lot.number) (dashed_plain lot.created) (stamp_plain stamp) (flat_map (row lot stamp) ls)
       ∙ ap (λ rs. line_text l ∷ rs) (rows_cut ls (All-tail (λ l. is_plain_line l ≡ true) l ls all))
 
   lines_read : (ls : List Line) → All (λ l. is_plain_line l ≡ true) ls
-      → map cells_in (map line_text ls) ≡ map (cells_of lot) ls
+      → map cells_in (map line_text ls) ≡ map (cells_of lot stamp) ls
   lines_read [] all = refl
   lines_read (l ∷ ls) all =
       λ j. row_cells (λ c. cell c l) (cell_plain l (All-head (λ l. is_plain_line l ≡ true) l ls all)) number created
-      (written_plain 7 lot.number) (dashed_plain lot.created) j
+      (stamp_cell stamp) (written_plain 7 lot.number) (dashed_plain lot.created) (stamp_plain stamp) j
       ∷ lines_read ls (All-tail (λ l. is_plain_line l ≡ true) l ls all) j
 
 last_dropped : (rs : List (List ℕ)) (last : List ℕ) → but_last (rs ++ last ∷ []) ≡ rs
@@ -306,15 +322,17 @@ last_dropped (r ∷ []) last = refl
 last_dropped (r ∷ s ∷ rs) last = ap (λ xs. r ∷ xs) (last_dropped (s ∷ rs) last)
 
 abbrev heading_text : List ℕ
-heading_text = name_of column.Place ++ (flat_map tab_name others ++ lot_names)
+heading_text = name_of column.Place ++ (flat_map tab_name others ++ batch_names)
 
-pub reads_back : (lot : LotParts) (ls : List Line) (text : List ℕ) → text ≡ tsv_text lot ls → ReadsBack lot ls text
-reads_back lot ls text is all =
+pub reads_back : (lot : LotParts) (stamp : Option Stamp) (ls : List Line) (text : List ℕ) → text ≡ tsv_text lot stamp ls
+    → ReadsBack lot stamp ls text
+reads_back lot stamp ls text is all =
     let lot_word = codes "lot" in
     let created_word = codes "created" in
-    let cut : slice_split (λ b. eqb b 10) (tsv_text lot ls) ≡ (heading_text ∷ map (line_text lot) ls) ++ [] ∷ [] =
-    row_first name_of name_plain lot_word created_word refl refl (flat_map (row lot) ls)
-    ∙ ap (λ rs. heading_text ∷ rs) (rows_cut lot ls all) in
+    let stamp_word = codes "stamp" in
+    let cut : slice_split (λ b. eqb b 10) (tsv_text lot stamp ls) ≡ (heading_text ∷ map (line_text lot stamp) ls) ++ [] ∷ [] =
+    row_first name_of name_plain lot_word created_word stamp_word refl refl refl (flat_map (row lot stamp) ls)
+    ∙ ap (λ rs. heading_text ∷ rs) (rows_cut lot stamp ls all) in
     ap table_in is ∙ ap (λ rs. map cells_in (but_last rs)) cut
-    ∙ ap (map cells_in) (last_dropped (heading_text ∷ map (line_text lot) ls) [])
-    ∙ (λ j. row_cells name_of name_plain lot_word created_word refl refl j ∷ lines_read lot ls all j)
+    ∙ ap (map cells_in) (last_dropped (heading_text ∷ map (line_text lot stamp) ls) [])
+    ∙ (λ j. row_cells name_of name_plain lot_word created_word stamp_word refl refl refl j ∷ lines_read lot stamp ls all j)

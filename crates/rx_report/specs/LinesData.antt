@@ -1,7 +1,9 @@
 -- Meaning: the lines of a report as a value of JSON: an array with an object for each. Amounts are in cents.
 use Rattle.std.specs.Prelude.{ℕ, ℤ, pos, ◌==◌, if◌then◌else◌, List, [], ◌∷◌, ◌++◌, map, length, Option, Some, None, codes}
+use Rattle.rx_fields.specs.Clock.{stamp_text}
 use Rattle.rx_fields.specs.Digits.{digits_text}
 use Rattle.rx_fields.specs.Numbered.{LotParts}
+use Rattle.rx_fields.specs.declared.stamp.Stamp.{Stamp}
 use Rattle.rx_print.specs.Dates.{dashed}
 use Rattle.rx_print.specs.JsonData.{Value, Null, Number, Text, array, object}
 use Rattle.rx_report.specs.Cells.{authorization_cell, cents_of, codes_cell, days_of, family_cell, person_cell, product_cell}
@@ -58,6 +60,14 @@ lines_data lines = array (map line_data lines)
 abbrev pub lot_data : LotParts → Value
 lot_data lot = object ((codes "number", Text (digits_text 7 lot.number)) ∷ (codes "created", Text (dashed lot.created)) ∷ [])
 
+-- the stamp of its run, in twelve digits
+abbrev pub stamp_data : Option Stamp → Value
+stamp_data None = Null
+stamp_data (Some s) = Text (stamp_text s)
+
+abbrev pub batch_members : LotParts → Option Stamp → List (List ℕ × Value)
+batch_members lot stamp = (codes "lot", lot_data lot) ∷ (codes "stamp", stamp_data stamp) ∷ []
+
 -- a line with its batch
-abbrev pub claim_data : LotParts → Line → Value
-claim_data lot l = object (line_members l ++ (codes "lot", lot_data lot) ∷ [])
+abbrev pub claim_data : LotParts → Option Stamp → Line → Value
+claim_data lot stamp l = object (line_members l ++ batch_members lot stamp)

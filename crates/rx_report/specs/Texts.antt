@@ -1,8 +1,10 @@
 -- Text: a report as a table of tabs, as JSON, and as lines of JSON.
-use Rattle.std.specs.Prelude.{ℕ, ◌==◌, if◌then◌else◌, List, [], ◌∷◌, ◌++◌, codes, length}
+use Rattle.std.specs.Prelude.{ℕ, ◌==◌, if◌then◌else◌, List, [], ◌∷◌, ◌++◌, Option, Some, None, codes, length}
 use Rattle.std.specs.List.{flat_map}
+use Rattle.rx_fields.specs.Clock.{stamp_text}
 use Rattle.rx_fields.specs.Digits.{digits_text}
 use Rattle.rx_fields.specs.Numbered.{LotParts}
+use Rattle.rx_fields.specs.declared.stamp.Stamp.{Stamp}
 use Rattle.rx_print.specs.Dates.{dashed}
 use Rattle.rx_print.specs.Escape.{escaped}
 use Rattle.rx_print.specs.declared.style.Style.TheVariants.{Json}
@@ -11,32 +13,38 @@ use Rattle.rx_report.specs.declared.column.Column.TheVariants as column
 use Rattle.rx_report.specs.declared.line.Line.{Line}
 use Rattle.rx_report.specs.Cells.{cell, is_number, name_of, others}
 
--- ---- a table of tabs: a heading, and a row for each line, with the batch's number and its day of creation last
+-- ---- a table of tabs: a heading, and a row for each line, with the batch's number, its day of creation and the stamp of its
+-- run last
 
--- two more cells, each after a tab
-abbrev pub two_cells : List ℕ → List ℕ → List ℕ
-two_cells first second = 9 ∷ (first ++ (9 ∷ second))
+-- three more cells, each after a tab
+abbrev pub three_cells : List ℕ → List ℕ → List ℕ → List ℕ
+three_cells first second third = 9 ∷ (first ++ (9 ∷ (second ++ (9 ∷ third))))
 
-abbrev pub lot_names : List ℕ
-lot_names = two_cells (codes "lot") (codes "created")
+-- the stamp in its twelve digits, where it is known
+abbrev pub stamp_cell : Option Stamp → List ℕ
+stamp_cell None = []
+stamp_cell (Some s) = stamp_text s
 
-abbrev pub lot_cells : LotParts → List ℕ
-lot_cells lot = two_cells (digits_text 7 lot.number) (dashed lot.created)
+abbrev pub batch_names : List ℕ
+batch_names = three_cells (codes "lot") (codes "created") (codes "stamp")
+
+abbrev pub batch_cells : LotParts → Option Stamp → List ℕ
+batch_cells lot stamp = three_cells (digits_text 7 lot.number) (dashed lot.created) (stamp_cell stamp)
 
 abbrev pub tab_name : Column → List ℕ
 tab_name c = 9 ∷ name_of c
 
 abbrev pub heading : List ℕ
-heading = name_of column.Place ++ (flat_map tab_name others ++ (lot_names ++ 10 ∷ []))
+heading = name_of column.Place ++ (flat_map tab_name others ++ (batch_names ++ 10 ∷ []))
 
 abbrev pub tab_cell : Line → Column → List ℕ
 tab_cell l c = 9 ∷ cell c l
 
-abbrev pub row : LotParts → Line → List ℕ
-row lot l = cell column.Place l ++ (flat_map (tab_cell l) others ++ (lot_cells lot ++ 10 ∷ []))
+abbrev pub row : LotParts → Option Stamp → Line → List ℕ
+row lot stamp l = cell column.Place l ++ (flat_map (tab_cell l) others ++ (batch_cells lot stamp ++ 10 ∷ []))
 
-abbrev pub tsv_text : LotParts → List Line → List ℕ
-tsv_text lot lines = heading ++ flat_map (row lot) lines
+abbrev pub tsv_text : LotParts → Option Stamp → List Line → List ℕ
+tsv_text lot stamp lines = heading ++ flat_map (row lot stamp) lines
 
 -- ---- JSON: an array of objects, each on its line
 
@@ -76,9 +84,21 @@ lot_members lot =
 unfoldable pub lot_json : LotParts → List ℕ
 lot_json lot = codes "\"lot\":{" ++ (lot_members lot ++ codes "}")
 
-unfoldable pub claim_json : LotParts → Line → List ℕ
-claim_json lot l =
-    123 ∷ (json_member l column.Place ++ (flat_map (comma_member l) others ++ (44 ∷ (lot_json lot ++ codes "}\n"))))
+-- the stamp of its run, null where it isn't known
+abbrev pub stamp_value : Option Stamp → List ℕ
+stamp_value None = codes "null"
+stamp_value (Some s) = quoted (stamp_text s)
 
-abbrev pub claims_json : LotParts → List Line → List ℕ
-claims_json lot lines = flat_map (claim_json lot) lines
+abbrev pub stamp_json : Option Stamp → List ℕ
+stamp_json stamp = codes "\"stamp\":" ++ stamp_value stamp
+
+-- both
+unfoldable pub batch_json : LotParts → Option Stamp → List ℕ
+batch_json lot stamp = lot_json lot ++ (44 ∷ stamp_json stamp)
+
+unfoldable pub claim_json : LotParts → Option Stamp → Line → List ℕ
+claim_json lot stamp l =
+    123 ∷ (json_member l column.Place ++ (flat_map (comma_member l) others ++ (44 ∷ (batch_json lot stamp ++ codes "}\n"))))
+
+abbrev pub claims_json : LotParts → Option Stamp → List Line → List ℕ
+claims_json lot stamp lines = flat_map (claim_json lot stamp) lines

@@ -1,9 +1,10 @@
-ghost use Rattle.std.specs.Prelude.{List};
+ghost use Rattle.std.specs.Prelude.{List, Option};
 ghost use Rattle.rx_print.specs.JsonData.{ReadsAs};
 ghost use Rattle.rx_report.specs.Accounts.{SectionsHaveOwnLines};
 ghost use Rattle.rx_report.specs.AddsUp.{AccountsAddUp};
 ghost use Rattle.rx_fields.specs.Numbered.{LotParts};
 ghost use Rattle.rx_report.specs.LinesData.{claim_data, lines_data};
+ghost use Rattle.rx_fields.specs.declared.stamp.Stamp.{Stamp};
 ghost use Rattle.rx_report.specs.Texts.{claim_json, lines_json};
 ghost use Rattle.rx_report.specs.declared.line.Line.{Line};
 
@@ -27,5 +28,6 @@ pub fn lines_read_as_json()
 
 /// Each line of `claims_json` is JSON: it is read as an object, in which each name has the value of the line, or of its batch.
 pub fn claims_read_as_json()
-    ensures { (lot : LotParts) → (line : Line) → ReadsAs (claim_json lot line) (claim_data lot line) }
+    ensures { (lot : LotParts) → (stamp : Option Stamp) → (line : Line)
+        → ReadsAs (claim_json lot stamp line) (claim_data lot stamp line) }
 {}

@@ -5,7 +5,7 @@
 //!
 //! ```rust
 //! let lines = rx_report::report_lines(alloc, &transmissions, &replies)?;
-//! let text = rx_report::tsv_text(alloc, lot, &lines)?;
+//! let text = rx_report::tsv_text(alloc, lot, stamp, &lines)?;
 //! ```
 //!
 //! Of these lines and the tallies of the batch's settlement an account is made: sections, each a provider with its tally
@@ -38,7 +38,7 @@ mod texts;
 
 pub use accounting::account_of;
 pub use cells::{cell_of, cents_of};
-pub use claims::{claims_json, put_lot};
+pub use claims::{claims_json, put_batch};
 pub use column::Column;
 pub use groups::Groups;
 pub use laws::{accounts_add_up, claims_read_as_json, lines_read_as_json, sections_have_own_lines};

@@ -2,34 +2,40 @@ ghost use Rattle.std.specs.Prelude.{◌≡◌, ◌++◌, IfOk, OnOk};
 ghost use Rattle.std.specs.List.{flat_map};
 ghost use Rattle.rx_report.specs.Cells.{cell};
 ghost use Rattle.rx_report.specs.ReadBack.{ReadsBack};
-ghost use Rattle.rx_report.specs.Texts.{comma_member, comma_object, heading, json_member, json_object, json_value, lines_json};
-ghost use Rattle.rx_report.specs.Texts.{lot_cells, quoted, row, tab_cell, tab_name, tsv_text, two_cells};
+ghost use Rattle.rx_report.specs.Texts.{batch_cells, comma_member, comma_object, heading, json_member, json_object, json_value};
+ghost use Rattle.rx_report.specs.Texts.{lines_json, quoted, row, tab_cell, tab_name, three_cells, tsv_text};
 
 use crate::cells::{cell_of, put_cell};
 use crate::column::{Column, OTHERS};
 use crate::line::Line;
-use rx_fields::{Lot, Memory, date_write, digits_write};
+use rx_fields::{Lot, Memory, Stamp, date_write, digits_write};
 use rx_print::{Style, dashed_digits, put_escaped};
 use std::alloc::{AllocError, Global};
 
 /// The lines as a table for programs: a heading with the columns' names, then a row for each line, with a tab between
-/// each two cells; last the batch's number and its day of creation, as `2026-03-05`. Amounts are in cents.
+/// each two cells; last the batch's number, its day of creation, as `2026-03-05`, and the stamp of its run in 12 digits, where
+/// it is known. Amounts are in cents.
 #[tactic(auto, using(crate::proofs::ReadAgain::reads_back))]
-pub fn tsv_text(alloc: Global, lot: Lot, lines: &[Line]) -> Result<Vec<u8>, Memory>
-    ensures text { IfOk result (λ text. text.items ≡ tsv_text lot lines.now) }
+pub fn tsv_text(
+    alloc: Global,
+    lot: Lot,
+    stamp: Option<Stamp>,
+    lines: &[Line],
+) -> Result<Vec<u8>, Memory>
+    ensures text { IfOk result (λ text. text.items ≡ tsv_text lot stamp lines.now) }
     // Where dates and members hold no control byte: each row has a cell for each column, and a reader finds the line's own.
-    ensures reads_back { IfOk result (λ text. ReadsBack lot lines.now text.items) }
+    ensures reads_back { IfOk result (λ text. ReadsBack lot stamp lines.now text.items) }
 {
-    let text = written(alloc, lot, lines)?;
+    let text = written(alloc, lot, stamp, lines)?;
     Ok(text)
 }
 
-fn written(alloc: Global, lot: Lot, lines: &[Line]) -> Result<Vec<u8>, Memory>
-    ensures { IfOk result (λ text. text.items ≡ tsv_text lot lines.now) }
+fn written(alloc: Global, lot: Lot, stamp: Option<Stamp>, lines: &[Line]) -> Result<Vec<u8>, Memory>
+    ensures { IfOk result (λ text. text.items ≡ tsv_text lot stamp lines.now) }
 {
     let mut text = Vec::new(alloc);
     put_heading(&mut text)?;
-    put_rows(&mut text, lot, lines)?;
+    put_rows(&mut text, lot, &stamp, lines)?;
     Ok(text)
 }
 
@@ -39,19 +45,26 @@ fn put_heading(text: &mut Vec<u8>) -> Result<(), AllocError>
 {
     text.extend_from_slice(Column::Place.name())?;
     put_names(text, &OTHERS)?;
-    put_two(text, b"lot", b"created")?;
+    put_three(text, b"lot", b"created", b"stamp")?;
     text.extend_from_slice(b"\n")
 }
 
-// Two more cells, each after a tab.
+// Three more cells, each after a tab.
 #[tactic(auto, using(std::proofs::Common::append_assoc))]
-fn put_two(text: &mut Vec<u8>, first: &[u8], second: &[u8]) -> Result<(), AllocError>
-    ensures { OnOk result (text.new.items ≡ text.old.items ++ two_cells first.now second.now) }
+fn put_three(
+    text: &mut Vec<u8>,
+    first: &[u8],
+    second: &[u8],
+    third: &[u8],
+) -> Result<(), AllocError>
+    ensures { OnOk result (text.new.items ≡ text.old.items ++ three_cells first.now second.now third.now) }
 {
     text.push(b'\t')?;
     text.extend_from_slice(first)?;
     text.push(b'\t')?;
-    text.extend_from_slice(second)
+    text.extend_from_slice(second)?;
+    text.push(b'\t')?;
+    text.extend_from_slice(third)
 }
 
 // Each name after a tab.
@@ -65,30 +78,44 @@ fn put_names(text: &mut Vec<u8>, columns: &[Column]) -> Result<(), AllocError>
     Ok(())
 }
 
-fn put_rows(text: &mut Vec<u8>, lot: Lot, lines: &[Line]) -> Result<(), AllocError>
-    ensures { OnOk result (text.new.items ≡ text.old.items ++ flat_map (row lot) lines.now) }
+fn put_rows(
+    text: &mut Vec<u8>,
+    lot: Lot,
+    stamp: &Option<Stamp>,
+    lines: &[Line],
+) -> Result<(), AllocError>
+    ensures { OnOk result (text.new.items ≡ text.old.items ++ flat_map (row lot stamp.now) lines.now) }
 {
     for line in lines {
-        put_row(text, lot, line)?;
+        put_row(text, lot, stamp, line)?;
     }
     Ok(())
 }
 
 #[tactic(auto, using(std::proofs::Common::append_assoc))]
-fn put_row(text: &mut Vec<u8>, lot: Lot, line: &Line) -> Result<(), AllocError>
-    ensures { OnOk result (text.new.items ≡ text.old.items ++ row lot line.now) }
+fn put_row(
+    text: &mut Vec<u8>,
+    lot: Lot,
+    stamp: &Option<Stamp>,
+    line: &Line,
+) -> Result<(), AllocError>
+    ensures { OnOk result (text.new.items ≡ text.old.items ++ row lot stamp.now line.now) }
 {
     put_cell(text, Column::Place, line)?;
     put_cells(text, line, &OTHERS)?;
-    put_lot_cells(text, lot)?;
+    put_batch_cells(text, lot, stamp)?;
     text.extend_from_slice(b"\n")
 }
 
-fn put_lot_cells(text: &mut Vec<u8>, lot: Lot) -> Result<(), AllocError>
-    ensures { OnOk result (text.new.items ≡ text.old.items ++ lot_cells lot) }
+fn put_batch_cells(text: &mut Vec<u8>, lot: Lot, stamp: &Option<Stamp>) -> Result<(), AllocError>
+    ensures { OnOk result (text.new.items ≡ text.old.items ++ batch_cells lot stamp.now) }
 {
     let number: [u8; 7] = digits_write(u64::from(lot.number()));
-    put_two(text, &number, &dashed_digits(date_write(lot.created())))
+    let created = dashed_digits(date_write(lot.created()));
+    match stamp {
+        None => put_three(text, &number, &created, b""),
+        Some(stamp) => put_three(text, &number, &created, &stamp.digits()),
+    }
 }
 
 // Each cell after a tab.

@@ -4,14 +4,15 @@ use Rattle.std.specs.Fmt.{decimal, signed_decimal}
 use Rattle.std.specs.List.{flat_map}
 use Rattle.std.specs.Result.{result_ok}
 use Rattle.rx_fields.specs.Numbered.{LotParts}
+use Rattle.rx_fields.specs.declared.stamp.Stamp.{Stamp}
 use Rattle.rx_fields.specs.Text.{id_of}
 use Rattle.rx_print.proofs.JsonPieces.{AreMembers, IsItem, IsText, array_is, braces_is, each_item_is, item_is, line_begins, line_ends}
 use Rattle.rx_print.proofs.JsonPieces.{members_are, members_at, named_is, no_items_are, null_text_is, number_text_is, text_at, text_is}
 use Rattle.rx_print.proofs.JsonWords.{is_name}
 use Rattle.rx_print.specs.JsonData.{Value, Number, Text, array, object}
-use Rattle.rx_report.proofs.LinesRead.{lines_are, lot_member_is}
-use Rattle.rx_report.specs.LinesData.{count_data, lines_data, lot_data}
-use Rattle.rx_report.specs.Texts.{lines_json, lot_json, quoted}
+use Rattle.rx_report.proofs.LinesRead.{batch_members_are, lines_are}
+use Rattle.rx_report.specs.LinesData.{batch_members, count_data, lines_data}
+use Rattle.rx_report.specs.Texts.{batch_json, lines_json, quoted}
 use Rattle.rx_report.specs.declared.portion.Portion.{Portion}
 use Rattle.rx_report.specs.declared.portion.Portion.TheVariants as portion
 use Rattle.rx_report.specs.declared.section.Account.{Account}
@@ -96,58 +97,62 @@ sections_text a = 91 ∷ (sections_json a.sections.items ++ 93 ∷ [])
 abbrev total_text : Account → List ℕ
 total_text a = 123 ∷ (tally_json a.total ++ 125 ∷ [])
 
-abbrev rest_text : LotParts → Account → List ℕ
-rest_text lot a =
-    codes "\"sections\":" ++ (sections_text a ++ ((codes ",\"total\":" ++ total_text a) ++ (44 ∷ lot_json lot)))
+abbrev rest_text : LotParts → Option Stamp → Account → List ℕ
+rest_text lot stamp a =
+    codes "\"sections\":" ++ (sections_text a ++ ((codes ",\"total\":" ++ total_text a) ++ (44 ∷ batch_json lot stamp)))
 
-abbrev rest_data : LotParts → Account → List (List ℕ × Value)
-rest_data lot a =
+abbrev rest_data : LotParts → Option Stamp → Account → List (List ℕ × Value)
+rest_data lot stamp a =
     (codes "sections", array (map section_data a.sections.items)) ∷ (codes "total", object (tally_data a.total))
-    ∷ (codes "lot", lot_data lot) ∷ []
+    ∷ batch_members lot stamp
 
 total_is : (a : Account) → IsText 4 (total_text a) (object (tally_data a.total))
 total_is a =
     braces_is 3 (tally_json a.total) (codes "paid", count_data a.total.paid) _ (tally_is 3 a.total)
 
-rest_are : (lot : LotParts) (a : Account) → AreMembers 4 (44 ∷ rest_text lot a) (rest_data lot a)
-rest_are lot a =
+rest_are : (lot : LotParts) (stamp : Option Stamp) (a : Account) → AreMembers 4 (44 ∷ rest_text lot stamp a) (rest_data lot stamp a)
+rest_are lot stamp a =
     members_are 4 (44 ∷ (codes "\"sections\":" ++ sections_text a)) _ (_ ∷ []) _
     (named_is 4 (codes "sections") _ (array (map section_data a.sections.items)) refl (sections_are a.sections.items))
     (members_are 4 (codes ",\"total\":" ++ total_text a) _ (_ ∷ []) _
     (named_is 4 (codes "total") _ (object (tally_data a.total)) refl (total_is a))
-    (lot_member_is 3 lot))
+    (batch_members_are 3 lot stamp))
 
 -- an account of one provider or of one family: its name and id first
-only_is : (lot : LotParts) (a : Account) (name id : List ℕ) → is_name name ≡ true
-    → IsText 5 (123 ∷ (((34 ∷ (name ++ (34 ∷ 58 ∷ quoted id))) ++ (44 ∷ rest_text lot a)) ++ 125 ∷ []))
-    (object ((name, Text id) ∷ rest_data lot a))
-only_is lot a name id itself =
-    braces_is 4 _ (name, Text id) (rest_data lot a)
-    (members_are 4 (44 ∷ 34 ∷ (name ++ (34 ∷ 58 ∷ quoted id))) (44 ∷ rest_text lot a) (_ ∷ []) (rest_data lot a)
-    (named_is 4 name (quoted id) (Text id) itself (text_is 4 id)) (rest_are lot a))
+only_is : (lot : LotParts) (stamp : Option Stamp) (a : Account) (name id : List ℕ) → is_name name ≡ true
+    → IsText 5 (123 ∷ (((34 ∷ (name ++ (34 ∷ 58 ∷ quoted id))) ++ (44 ∷ rest_text lot stamp a)) ++ 125 ∷ []))
+    (object ((name, Text id) ∷ rest_data lot stamp a))
+only_is lot stamp a name id itself =
+    braces_is 4 _ (name, Text id) (rest_data lot stamp a)
+    (members_are 4 (44 ∷ 34 ∷ (name ++ (34 ∷ 58 ∷ quoted id))) (44 ∷ rest_text lot stamp a) (_ ∷ []) (rest_data lot stamp a)
+    (named_is 4 name (quoted id) (Text id) itself (text_is 4 id)) (rest_are lot stamp a))
 
-account_apart : (lot : LotParts) (a : Account) (front : List ℕ)
-    → codes "{" ++ (front ++ (codes "\"sections\":[" ++ (sections_json a.sections.items ++ end_json lot a.total)))
-    ≡ (123 ∷ ((front ++ rest_text lot a) ++ 125 ∷ [])) ++ 10 ∷ []
-account_apart lot a front = simp append_assoc refl
+account_apart : (lot : LotParts) (stamp : Option Stamp) (a : Account) (front : List ℕ)
+    → codes "{" ++ (front ++ (codes "\"sections\":[" ++ (sections_json a.sections.items ++ end_json lot stamp a.total)))
+    ≡ (123 ∷ ((front ++ rest_text lot stamp a) ++ 125 ∷ [])) ++ 10 ∷ []
+account_apart lot stamp a front = simp append_assoc refl
 
-only_apart : (lot : LotParts) (a : Account) (name id : List ℕ)
-    → (34 ∷ (name ++ (34 ∷ 58 ∷ (quoted id ++ codes ",")))) ++ rest_text lot a
-    ≡ (34 ∷ (name ++ (34 ∷ 58 ∷ quoted id))) ++ (44 ∷ rest_text lot a)
-only_apart lot a name id = simp append_assoc refl
+only_apart : (lot : LotParts) (stamp : Option Stamp) (a : Account) (name id : List ℕ)
+    → (34 ∷ (name ++ (34 ∷ 58 ∷ (quoted id ++ codes ",")))) ++ rest_text lot stamp a
+    ≡ (34 ∷ (name ++ (34 ∷ 58 ∷ quoted id))) ++ (44 ∷ rest_text lot stamp a)
+only_apart lot stamp a name id = simp append_assoc refl
 
 abbrev whole_of : List ℕ → List ℕ
 whole_of text = (123 ∷ (text ++ 125 ∷ [])) ++ 10 ∷ []
 
-pub account_is : (lot : LotParts) (p : Portion) (a : Account) → IsText 5 (account_json lot p a) (account_data lot p a)
-account_is lot portion.Whole a =
-    text_at 5 _ (whole_of (rest_text lot a)) (account_data lot portion.Whole a) (account_apart lot a [])
-    (line_ends 5 _ _ (braces_is 4 (rest_text lot a) (codes "sections", array (map section_data a.sections.items)) _ (rest_are lot a)))
-account_is lot (portion.Provider id) a =
-    text_at 5 _ _ (account_data lot (portion.Provider id) a)
-    (account_apart lot a (portion_json (portion.Provider id)) ∙ ap whole_of (only_apart lot a (codes "only_provider") id.now))
-    (line_ends 5 _ _ (only_is lot a (codes "only_provider") id.now refl))
-account_is lot (portion.Family id) a =
-    text_at 5 _ _ (account_data lot (portion.Family id) a)
-    (account_apart lot a (portion_json (portion.Family id)) ∙ ap whole_of (only_apart lot a (codes "only_family") id.now))
-    (line_ends 5 _ _ (only_is lot a (codes "only_family") id.now refl))
+pub account_is : (lot : LotParts) (stamp : Option Stamp) (p : Portion) (a : Account)
+    → IsText 5 (account_json lot stamp p a) (account_data lot stamp p a)
+account_is lot stamp portion.Whole a =
+    text_at 5 _ (whole_of (rest_text lot stamp a)) (account_data lot stamp portion.Whole a) (account_apart lot stamp a [])
+    (line_ends 5 _ _ (braces_is 4 (rest_text lot stamp a) (codes "sections", array (map section_data a.sections.items)) _
+    (rest_are lot stamp a)))
+account_is lot stamp (portion.Provider id) a =
+    text_at 5 _ _ (account_data lot stamp (portion.Provider id) a)
+    (account_apart lot stamp a (portion_json (portion.Provider id))
+    ∙ ap whole_of (only_apart lot stamp a (codes "only_provider") id.now))
+    (line_ends 5 _ _ (only_is lot stamp a (codes "only_provider") id.now refl))
+account_is lot stamp (portion.Family id) a =
+    text_at 5 _ _ (account_data lot stamp (portion.Family id) a)
+    (account_apart lot stamp a (portion_json (portion.Family id))
+    ∙ ap whole_of (only_apart lot stamp a (codes "only_family") id.now))
+    (line_ends 5 _ _ (only_is lot stamp a (codes "only_family") id.now refl))

@@ -2,9 +2,10 @@
 use Rattle.std.specs.Prelude.{ℕ, List, [], ◌∷◌, ◌++◌, map, Option, Some, None, codes}
 use Rattle.std.specs.Result.{result_ok}
 use Rattle.rx_fields.specs.Numbered.{LotParts}
+use Rattle.rx_fields.specs.declared.stamp.Stamp.{Stamp}
 use Rattle.rx_fields.specs.Text.{id_of}
 use Rattle.rx_print.specs.JsonData.{Value, Null, Number, Text, array, object}
-use Rattle.rx_report.specs.LinesData.{count_data, lines_data, lot_data}
+use Rattle.rx_report.specs.LinesData.{batch_members, count_data, lines_data}
 use Rattle.rx_report.specs.declared.portion.Portion.{Portion}
 use Rattle.rx_report.specs.declared.portion.Portion.TheVariants as portion
 use Rattle.rx_report.specs.declared.section.Account.{Account}
@@ -33,7 +34,7 @@ section_data s =
     object ((codes "provider", id_data (result_ok (id_of 15 s.provider)))
     ∷ (tally_data s.tally ++ (codes "lines", lines_data s.lines.now) ∷ []))
 
-abbrev pub account_data : LotParts → Portion → Account → Value
-account_data lot p account =
+abbrev pub account_data : LotParts → Option Stamp → Portion → Account → Value
+account_data lot stamp p account =
     object (portion_data p ++ (codes "sections", array (map section_data account.sections.items))
-    ∷ (codes "total", object (tally_data account.total)) ∷ (codes "lot", lot_data lot) ∷ [])
+    ∷ (codes "total", object (tally_data account.total)) ∷ batch_members lot stamp)

@@ -1,8 +1,10 @@
 -- Text: an account in aligned columns, for people.
-use Rattle.std.specs.Prelude.{ℕ, ◌-◌, Bool, true, if◌then◌else◌, List, [], ◌∷◌, ◌++◌, codes, length, map, max, replicate, take}
+use Rattle.std.specs.Prelude.{ℕ, ◌-◌, Bool, true, if◌then◌else◌, List, [], ◌∷◌, ◌++◌, Option, Some, None, codes, length, map, max}
+use Rattle.std.specs.Prelude.{replicate, take}
 use Rattle.std.specs.Char.{is_ascii_whitespace}
 use Rattle.std.specs.Fmt.{decimal}
 use Rattle.std.specs.List.{flat_map, fold, suffix_len}
+use Rattle.rx_fields.specs.declared.stamp.Stamp.{Stamp}
 use Rattle.rx_print.specs.Money.{signed_dollars}
 use Rattle.rx_print.specs.Escape.{escaped}
 use Rattle.rx_print.specs.declared.style.Style.TheVariants.{Terminal}
@@ -15,6 +17,7 @@ use Rattle.rx_report_text.specs.declared.shown.Shown.{Shown}
 use Rattle.rx_report_text.specs.declared.shown.Shown.TheVariants as shown
 use Rattle.rx_report_text.specs.declared.wide.Wide.{Wide}
 use Rattle.rx_report_text.specs.Shown.{columns, heading_of, is_amount, shown_cell}
+use Rattle.rx_report_text.specs.Stamps.{stamp_words}
 use Rattle.rx_settle.specs.Providers.{named}
 use Rattle.rx_settle.specs.Settlement.{net}
 use Rattle.rx_settle.specs.declared.tally.Tally.{Tally}
@@ -99,5 +102,10 @@ scope_text (portion.Family id) = codes "the lines shown, of family " ++ escaped 
 unfoldable pub account_text : List Wide → Portion → Account → List ℕ
 account_text cs p account = flat_map (section_text cs) account.sections.items ++ (scope_text p ++ tally_line account.total)
 
-abbrev pub columns_text : Portion → Account → List ℕ
-columns_text p account = account_text (wide_columns account.sections.items) p account
+-- above them the stamp of the run, where it is known, and an empty line
+abbrev pub stamp_line : Option Stamp → List ℕ
+stamp_line None = []
+stamp_line (Some s) = codes "stamp " ++ (stamp_words s ++ codes "\n\n")
+
+abbrev pub columns_text : Option Stamp → Portion → Account → List ℕ
+columns_text stamp p account = stamp_line stamp ++ account_text (wide_columns account.sections.items) p account

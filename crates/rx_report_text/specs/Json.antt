@@ -4,8 +4,9 @@ use Rattle.std.specs.Fmt.{decimal, signed_decimal}
 use Rattle.std.specs.List.{flat_map}
 use Rattle.std.specs.Result.{result_ok}
 use Rattle.rx_fields.specs.Numbered.{LotParts}
+use Rattle.rx_fields.specs.declared.stamp.Stamp.{Stamp}
 use Rattle.rx_fields.specs.Text.{id_of}
-use Rattle.rx_report.specs.Texts.{lines_json, lot_json, quoted}
+use Rattle.rx_report.specs.Texts.{batch_json, lines_json, quoted}
 use Rattle.rx_report.specs.declared.portion.Portion.{Portion}
 use Rattle.rx_report.specs.declared.portion.Portion.TheVariants as portion
 use Rattle.rx_report.specs.declared.section.Account.{Account}
@@ -55,11 +56,11 @@ unfoldable pub sections_json : List Section → List ℕ
 sections_json [] = []
 sections_json (s ∷ more) = first_section s ++ flat_map comma_section more
 
-abbrev pub end_json : LotParts → Tally → List ℕ
-end_json lot total = codes "],\"total\":{" ++ (tally_json total ++ (codes "}," ++ (lot_json lot ++ codes "}\n")))
+abbrev pub end_json : LotParts → Option Stamp → Tally → List ℕ
+end_json lot stamp total = codes "],\"total\":{" ++ (tally_json total ++ (codes "}," ++ (batch_json lot stamp ++ codes "}\n")))
 
 -- the whole
-abbrev pub account_json : LotParts → Portion → Account → List ℕ
-account_json lot p account =
+abbrev pub account_json : LotParts → Option Stamp → Portion → Account → List ℕ
+account_json lot stamp p account =
     codes "{" ++ (portion_json p ++ (codes "\"sections\":[" ++ (sections_json account.sections.items
-    ++ end_json lot account.total)))
+    ++ end_json lot stamp account.total)))

@@ -14,6 +14,7 @@ pub mod RejectCounts
 pub mod Rejects
 pub mod Rows
 pub mod Shown
+pub mod Stamps
 pub mod Summary
 pub mod Whole
 pub mod Whys

@@ -4,31 +4,56 @@ ghost use Rattle.std.specs.String.{string_bytes};
 ghost use Rattle.rx_print.specs.Escape.{escaped};
 ghost use Rattle.rx_print.specs.declared.style.Style.TheVariants.{Terminal};
 ghost use Rattle.rx_report_text.specs.Columns.{account_text, aligned, columns_text, heading_cell, headings, is_right};
-ghost use Rattle.rx_report_text.specs.Columns.{line_cell, line_row, row, scope_text, section_text, tally_counts, tally_line, without_end};
+ghost use Rattle.rx_report_text.specs.Columns.{line_cell, line_row, row, scope_text, section_text, stamp_line, tally_counts, tally_line};
+ghost use Rattle.rx_report_text.specs.Columns.{without_end};
+ghost use Rattle.rx_report_text.specs.Stamps.{stamp_words};
 ghost use Rattle.rx_settle.specs.Providers.{named};
 
 use crate::money::put_net;
 use crate::shown::Shown;
+use crate::stamp::stamp_words;
 use crate::wide::{Wide, printed, wide_columns};
-use rx_fields::{Memory, Provider};
+use rx_fields::{Memory, Provider, Stamp};
 use rx_print::{Style, put_escaped};
 use rx_report::{Account, Line, Portion, Section};
 use rx_settle::{Field, Tally};
 use std::alloc::{AllocError, Global};
 
-/// The account in aligned columns: for each provider its counts and net, and its lines after them; last those of all.
+/// The account in aligned columns: the stamp of the run, where it is known; for each provider its counts and net, and its
+/// lines after them; last those of all.
 /// Bytes that a terminal wouldn't print stand as `\x1B`.
 pub fn columns_text(
     alloc: Global,
+    stamp: Option<Stamp>,
     portion: Portion<'_>,
     account: &Account<'_>,
 ) -> Result<Vec<u8>, Memory>
-    ensures { IfOk result (λ text. text.items ≡ columns_text portion.entry account.now) }
+    ensures { IfOk result (λ text. text.items ≡ columns_text stamp portion.entry account.now) }
 {
     let columns = wide_columns(alloc, &account.sections)?;
     let mut text = Vec::new(alloc);
+    put_stamp(&mut text, stamp)?;
     put_account(alloc, &mut text, &columns, portion, account)?;
     Ok(text)
+}
+
+// The stamp of the run on a line, and an empty line.
+fn put_stamp(text: &mut Vec<u8>, stamp: Option<Stamp>) -> Result<(), AllocError>
+    ensures { OnOk result (text.new.items ≡ text.old.items ++ stamp_line stamp) }
+{
+    match stamp {
+        None => Ok(()),
+        Some(stamp) => put_known_stamp(text, stamp),
+    }
+}
+
+#[tactic(auto, using(std::proofs::Common::append_assoc))]
+fn put_known_stamp(text: &mut Vec<u8>, stamp: Stamp) -> Result<(), AllocError>
+    ensures { OnOk result (text.new.items ≡ text.old.items ++ (codes "stamp " ++ (stamp_words stamp ++ codes "\n\n"))) }
+{
+    text.extend_from_slice(b"stamp ")?;
+    text.extend_from_slice(&stamp_words(stamp))?;
+    text.extend_from_slice(b"\n\n")
 }
 
 // The sections, and what all come to.

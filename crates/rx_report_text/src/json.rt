@@ -6,27 +6,28 @@ ghost use Rattle.rx_report_text.specs.Json.{account_json, comma_section, counts_
 ghost use Rattle.rx_report_text.specs.Json.{provider_json, section_json, sections_json, tally_json};
 
 use crate::money::put_net_cents;
-use rx_fields::{Lot, Memory, Provider};
-use rx_report::{Account, Portion, Section, lines_json, put_lot, put_quoted};
+use rx_fields::{Lot, Memory, Provider, Stamp};
+use rx_report::{Account, Portion, Section, lines_json, put_batch, put_quoted};
 use rx_settle::{Field, Tally};
 use std::alloc::{AllocError, Global};
 
 /// The account as a JSON object: which portion it is, a section for each provider with its counts, its net in cents and
-/// its lines (`rx_report::lines_json`), the counts and the net of all, and the batch's number and day.
+/// its lines (`rx_report::lines_json`), the counts and the net of all, and the batch (`rx_report::put_batch`).
 #[tactic(auto, using(std::proofs::Common::append_assoc))]
 pub fn account_json(
     alloc: Global,
     lot: Lot,
+    stamp: Option<Stamp>,
     portion: Portion<'_>,
     account: &Account<'_>,
 ) -> Result<Vec<u8>, Memory>
-    ensures { IfOk result (λ text. text.items ≡ account_json lot portion.entry account.now) }
+    ensures { IfOk result (λ text. text.items ≡ account_json lot stamp portion.entry account.now) }
 {
     let mut text = Vec::new(alloc);
     text.extend_from_slice(b"{")?;
     put_portion(&mut text, portion)?;
     put_sections(alloc, &mut text, b"\"sections\":[", &account.sections)?;
-    put_end(alloc, &mut text, lot, &account.total)?;
+    put_end(alloc, &mut text, lot, &stamp, &account.total)?;
     Ok(text)
 }
 
@@ -127,13 +128,19 @@ fn put_lines(text: &mut Vec<u8>, lines: &[u8]) -> Result<(), AllocError>
 
 // The end of the sections, the counts and the net of all, the batch, and the object's end.
 #[tactic(auto, using(std::proofs::Common::append_assoc))]
-fn put_end(alloc: Global, text: &mut Vec<u8>, lot: Lot, total: &Tally) -> Result<(), AllocError>
-    ensures { OnOk result (text.new.items ≡ text.old.items ++ end_json lot total.now) }
+fn put_end(
+    alloc: Global,
+    text: &mut Vec<u8>,
+    lot: Lot,
+    stamp: &Option<Stamp>,
+    total: &Tally,
+) -> Result<(), AllocError>
+    ensures { OnOk result (text.new.items ≡ text.old.items ++ end_json lot stamp.now total.now) }
 {
     text.extend_from_slice(b"],\"total\":{")?;
     put_tally(alloc, text, total)?;
     text.extend_from_slice(b"},")?;
-    put_lot(text, lot)?;
+    put_batch(text, lot, stamp)?;
     text.extend_from_slice(b"}\n")
 }
 

@@ -5,7 +5,7 @@
 //! each column is in `specs/Shown.antt`.
 //!
 //! ```rust
-//! let text = rx_report_text::columns_text(alloc, portion, &account)?;
+//! let text = rx_report_text::columns_text(alloc, stamp, portion, &account)?;
 //! let page = rx_report_text::explained_page(alloc, head, portion, &account, &whys)?;
 //! let pages = rx_report_text::folder_pages(alloc, head, &account, portion, &whys)?;
 //! ```
@@ -36,6 +36,7 @@ mod rejects;
 mod row;
 mod script;
 mod shown;
+mod stamp;
 mod style;
 mod summary;
 mod whole;

@@ -1,9 +1,11 @@
-ghost use Rattle.std.specs.Prelude.{◌≡◌, ◌++◌, OnOk};
+ghost use Rattle.std.specs.Prelude.{◌≡◌, ◌++◌, codes, OnOk};
 ghost use Rattle.rx_print.specs.Escape.{escaped};
 ghost use Rattle.rx_print.specs.declared.style.Style.TheVariants.{Html};
-ghost use Rattle.rx_report_text.specs.Origin.{made_text, origin_text, plan_text, file_text, files_text, term_text};
+ghost use Rattle.rx_report_text.specs.Origin.{made_text, origin_text, plan_text, file_text, files_text, stamp_text, term_text};
+ghost use Rattle.rx_report_text.specs.Stamps.{stamp_words};
 
-use rx_fields::{Door, Lot};
+use crate::stamp::stamp_words;
+use rx_fields::{Door, Lot, Stamp};
 use rx_print::{Page, Style};
 use std::alloc::AllocError;
 
@@ -30,20 +32,23 @@ pub struct Origin<'a> {
     pub made: &'a str,
 }
 
-/// What a page says at its head: the batch, the plan, and the page's origin.
+/// What a page says at its head: the batch, the stamp of its run, the plan, and the page's origin.
 #[derive(Clone, Copy, Debug)]
 pub struct PageHead<'a> {
     pub lot: Lot,
+    /// Where it is known.
+    pub stamp: Option<Stamp>,
     /// The BIN and the processor control number of the sheet.
     pub door: Door,
     pub origin: Origin<'a>,
 }
 
-/// Writes the plan, the files, the program and the time.
+/// Writes the plan, the stamp, the files, the program and the time.
 pub(crate) fn put_origin(page: &mut Page, head: &PageHead<'_>) -> Result<(), AllocError>
     ensures { OnOk result (page.new.bytes.items ≡ page.old.bytes.items ++ origin_text head.now) }
 {
     put_plan(page, &head.door)?;
+    put_stamp(page, head.stamp)?;
     put_files(page, &head.origin)?;
     put_made(page, &head.origin)
 }
@@ -55,6 +60,25 @@ fn put_plan(page: &mut Page, door: &Door) -> Result<(), AllocError>
     page.escaped(Style::Html, &door.bin)?;
     page.markup(", PCN ")?;
     page.escaped(Style::Html, &door.pcn)?;
+    page.markup("</dd>\n")
+}
+
+fn put_stamp(page: &mut Page, stamp: Option<Stamp>) -> Result<(), AllocError>
+    ensures { OnOk result (page.new.bytes.items ≡ page.old.bytes.items ++ stamp_text stamp) }
+{
+    match stamp {
+        None => Ok(()),
+        Some(stamp) => put_known_stamp(page, stamp),
+    }
+}
+
+#[tactic(auto, using(std::proofs::Common::append_assoc))]
+fn put_known_stamp(page: &mut Page, stamp: Stamp) -> Result<(), AllocError>
+    ensures { OnOk result (page.new.bytes.items
+        ≡ page.old.bytes.items ++ (codes "<dt>Stamp</dt><dd>" ++ (escaped Html (stamp_words stamp) ++ codes "</dd>\n"))) }
+{
+    page.markup("<dt>Stamp</dt><dd>")?;
+    page.escaped(Style::Html, &stamp_words(stamp))?;
     page.markup("</dd>\n")
 }
 

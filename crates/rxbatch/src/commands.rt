@@ -17,10 +17,10 @@ use rx_cli::{
 };
 use rx_commands::{
     ExplainFault, Form, Manner, PrintedFolder, PrintedReport, family_asked, number_asked,
-    provider_asked, record_asked, reference_asked, report_folder, show_table,
+    provider_asked, record_asked, reference_asked, report_folder, show_table, stamp_asked,
 };
 use rx_explain::Wanted;
-use rx_fields::Memory;
+use rx_fields::{Memory, Stamp};
 use rx_io::{Device, Inputs};
 use rx_report::Portion;
 use rx_show::replies_text;
@@ -238,6 +238,23 @@ pub fn report<R: Threads + Sync>(
     print(rt, &printed.text)
 }
 
+// The stamp that is given; a text that is none is refused as by a run.
+fn stamp_by(
+    rt: &HostRuntime,
+    words: &ReportWords<'_>,
+    texts: &Inputs<Vec<u8>>,
+) -> Result<Option<Stamp>, Ending> {
+    stamp_asked(words.stamp).map_err(|fault| {
+        let given = GivenTexts {
+            paths: words.inputs,
+            texts: some_slices(texts),
+            stamp: words.stamp.unwrap_or(""),
+            workers: 0,
+        };
+        given.refused(rt, fault)
+    })
+}
+
 // Ends where a portion has no line.
 fn need_lines(rt: &HostRuntime, portion: PortionWords<'_>, has_lines: bool) -> Result<(), Ending> {
     match asked_by(portion) {
@@ -275,9 +292,10 @@ fn pages_of<R: Threads + Sync>(
     texts: &Inputs<Vec<u8>>,
     noted: &Noted,
 ) -> Result<PrintedFolder, Ending> {
+    let stamp = stamp_by(rt, words, texts)?;
     let origin = noted.origin(&words.inputs)?;
     let portion = portion_by(words.portion);
-    let printed = report_folder(threads, rt.alloc(), origin, &slices(texts), portion);
+    let printed = report_folder(threads, rt.alloc(), origin, &slices(texts), portion, stamp);
     printed.map_err(|fault| refused(rt, &words.inputs, texts, fault))
 }
 
@@ -319,8 +337,9 @@ fn report_in<R: Threads + Sync>(
     texts: &Inputs<Vec<u8>>,
     form: Form<'_>,
 ) -> Result<PrintedReport, Ending> {
+    let stamp = stamp_by(rt, words, texts)?;
     let portion = portion_by(words.portion);
-    let printed = rx_commands::report(threads, rt.alloc(), &slices(texts), portion, form);
+    let printed = rx_commands::report(threads, rt.alloc(), &slices(texts), portion, form, stamp);
     printed.map_err(|fault| refused(rt, &words.inputs, texts, fault))
 }
 

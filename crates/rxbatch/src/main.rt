@@ -12,8 +12,8 @@
 //!     [--response F] [--json]                       why a claim was answered as it was
 //! rxbatch verify --sheet F --books F --batch F --stamp S --response F --books-out F --settlement F [--plain]
 //!     [--desk] [--workers N]                        whether the files of a run are what it gives
-//! rxbatch report --sheet F --books F --batch F [--provider ID | --family ID] [--tsv | --json | --jsonl | --html |
-//!     --html-dir DIR]                                            a line for each answer, by provider, with counts and net
+//! rxbatch report --sheet F --books F --batch F [--stamp S] [--provider ID | --family ID] [--tsv | --json | --jsonl |
+//!     --html | --html-dir DIR]                      a line for each answer, by provider, with counts and net
 //! rxbatch members (--books F | --period FIRST-LAST) --members F --books-out F [--safe]
 //!                                                   a table of members loaded into books
 //! rxbatch age --books F --before DAY [--period FIRST-LAST] (--sheet F | --refill-percent N) --books-out F --dropped F

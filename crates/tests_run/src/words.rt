@@ -207,6 +207,7 @@ const REPORT: &[&str] = &[
     "--batch=c",
     "--family=F1",
     "--html",
+    "--stamp=x",
 ];
 
 #[test]
@@ -215,6 +216,7 @@ fn a_report_has_one_portion_and_one_form(rt: HostRuntime) {
         inputs: INPUTS,
         portion: Portion::Family("F1"),
         form: Form::Html,
+        stamp: Some("x"),
     };
     let given = understood(&rt, rt.alloc(), REPORT);
     same(&rt, given, Command::Report(wanted));

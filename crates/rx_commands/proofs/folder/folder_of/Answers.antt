@@ -43,6 +43,6 @@ returns c =
         nets_fall = c.in_ok-account-2.ensures.order;
       };
       own_lines = All-permutation (λ s. s.1.1 ≡ filter (λ l. is_same s.0 (provider_of l)) (kept_of p r)) _ _ moved own;
-      are_pages = subst (λ (ls : List Line). ArePages p c.args.origin (table_of_text c.args.sheet.now) r.batch ls account printed)
+      are_pages = subst (λ (ls : List Line). ArePages p c.args.origin (table_of_text c.args.sheet.now) r ls account printed)
           (c.deref-4.ensures.value ∙ lines) h;
     }) c.pages_of.ensures

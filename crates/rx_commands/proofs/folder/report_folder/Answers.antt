@@ -12,5 +12,6 @@ returns-clause-reported g c =
     record {
       report = c.in_ok-report.report;
       reported = c.in_ok-report.ensures.reported;
+      stamp_is = c.in_ok-report.ensures.stamp;
       is_printed = c.in_ok-printed.ensures;
     }

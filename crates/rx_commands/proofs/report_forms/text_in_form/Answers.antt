@@ -29,10 +29,10 @@ returns c =
         account = account;
         account_is = of_groups;
         adds_up = sums;
-        text_is = subst (λ (ls : List Line). IsText p c.args.form (table_of_text c.args.sheet.now) r.batch ls account
+        text_is = subst (λ (ls : List Line). IsText p c.args.form (table_of_text c.args.sheet.now) r ls account
             printed.text.items)
             (c.deref-4.ensures.value ∙ lines)
-            (subst (λ text. IfOk text (λ t. IsText p c.args.form (table_of_text c.args.sheet.now) r.batch
+            (subst (λ text. IfOk text (λ t. IsText p c.args.form (table_of_text c.args.sheet.now) r
             c.deref-4.result.now account t.items)) h.1 c.text_of_account-text.ensures);
       };
       lines_are = h.0 ∙ ap (λ (ls : List Line). not (length ls == 0)) (c.deref-5.ensures.value ∙ lines);

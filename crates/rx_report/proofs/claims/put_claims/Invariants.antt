@@ -4,4 +4,4 @@ use Rattle.rx_report.specs.Texts.{claim_json}
 use Rattle.rx_report.proofs.claims.put_claims.Given as goal
 
 abbrev pub invariant-loop-line : goal.invariant-loop-line
-invariant-loop-line l = l.text.items ≡ l.fn.text.items ++ flat_map (claim_json l.lot) (take l.line-index l.lines)
+invariant-loop-line l = l.text.items ≡ l.fn.text.items ++ flat_map (claim_json l.lot l.stamp) (take l.line-index l.lines)

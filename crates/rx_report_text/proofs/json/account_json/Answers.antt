@@ -15,7 +15,7 @@ returns c =
     joined c.new-text.result.items c.extend_from_slice.new.self.items c.put_portion.new.text.items
     c.put_sections.new.text.items c.put_end.new.text.items
     (portion_json c.args.portion) front (sections_json c.args.account.now.sections.items)
-    (end_json c.args.lot c.args.account.now.total)
+    (end_json c.args.lot c.args.stamp c.args.account.now.total)
     c.new-text.ensures.items c.in_ok-extend_from_slice.ensures.items c.in_ok-put_portion.ensures
     (c.in_ok-put_sections.ensures
     ∙ ap (λ xs. c.put_portion.new.text.items ++ (front ++ sections_json xs)) c.deref.ensures.value)
