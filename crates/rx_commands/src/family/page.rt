@@ -47,16 +47,14 @@ pub(crate) const FAMILY_STYLE: &str = ".family th,.family td{white-space:nowrap}
 }
 ";
 
-pub(crate) const SUM_HEADINGS: &str =
-    "<table class=\"family\">
+pub(crate) const SUM_HEADINGS: &str = "<table class=\"family\">
 <caption>Sums of the benefit period</caption>
 <thead><tr><th scope=\"col\">Sum</th><th scope=\"col\">Covered</th><th scope=\"col\">Amount</th>
 <th scope=\"col\">Left</th><th scope=\"col\">Reached with</th></tr></thead>
 <tbody>
 ";
 
-pub(crate) const CLAIM_HEADINGS: &str =
-    "<table id=\"claims\" class=\"family\">
+pub(crate) const CLAIM_HEADINGS: &str = "<table id=\"claims\" class=\"family\">
 <caption>Standing claims by date, each with the sums up to it</caption>
 <thead><tr><th scope=\"col\">Date</th><th scope=\"col\">Person</th><th scope=\"col\">Rx</th>
 <th scope=\"col\">Pharmacy</th><th scope=\"col\">Product</th><th scope=\"col\">Member pays</th>
