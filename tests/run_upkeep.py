@@ -6,14 +6,16 @@
 The worked cases are below, with their sums. Each fault of a table is made once, and its words are compared; one table has
 500,000 rows. Then N plans (3) live through three years of random nights, with `members` each week and `age` each January, next
 to books that are never aged: those are kept up by a few lines of this file, and adjudicated by the program that `--next-to`
-names, or else by PROGRAM with `--plain`. Each night's response and settlement have to be the same, and the end books the
-others less the claims that left.
+names, or else by PROGRAM with `--plain`; of a file in Python `main` is called with the words. What leaves is dated before a
+random day up to the period's first, and from the first safe day on each night's response and settlement have to be the same,
+and the end books the others less the claims that left.
 
 A case that differs has one line. The last line is `N passed, M failed`; the exit status is 0 where M is 0, else 1.
 """
 
 import concurrent.futures
 import datetime
+import importlib.util
 import os
 import random
 import shlex
@@ -242,6 +244,7 @@ class Plan:
         self.options, self.folder, self.rng = options, folder, random.Random(seed)
         self.reference, self.number, self.left = 0, 0, set()
         self.members, self.claims = {}, []
+        self.safe = datetime.date.min
         self.names = [f"F{place}" for place in range(1, 5)]
 
     def table(self, year):
@@ -257,6 +260,7 @@ class Plan:
         ended = started(self.options, self.folder, [word for part in words for word in part.split()])
         if ended.returncode != 0 or ended.stderr:
             raise AssertionError(f"{words[0].split()[0]}: status {ended.returncode}, {ended.stderr[:200]!r}")
+        return ended.stdout.decode()
 
     def load(self, year, first=False):
         rows = self.table(year)
@@ -272,20 +276,25 @@ class Plan:
             write(self.folder, "whole.txt", with_members(read(self.folder, "whole.txt"), rows))
 
     def age(self, year):
-        self.do(f"age --books kept.txt --before {year - 1}1001 --period {year}0101-{year}1231 --sheet sheet.toml",
-                "--books-out next.txt --dropped left.txt --safe")
+        """Claims before one of the last hundred days up to the period's first leave."""
+        before = datetime.date(year, 1, 1) - datetime.timedelta(self.rng.choice((0, 0, 0, self.rng.randrange(100))))
+        told = self.do(f"age --books kept.txt --before {text_of(before)} --period {year}0101-{year}1231 --sheet sheet.toml",
+                       "--books-out next.txt --dropped left.txt --safe")
         os.replace(os.path.join(self.folder, "next.txt"), os.path.join(self.folder, "kept.txt"))
         self.left.update(read(self.folder, "left.txt").splitlines())
+        self.safe = max(datetime.datetime.strptime(told.split()[-1], "%Y%m%d").date(), self.safe)
 
     def transmission(self, day):
-        """A billing, now and then of a claim's key or by nobody; or a reversal of a claim of the last weeks."""
-        recent = [claim for claim in self.claims if claim[2] >= text_of(day - datetime.timedelta(40))]
+        """A billing, now and then of a claim's key or by nobody; or a reversal of a claim of the last weeks. Neither is dated
+        before the first safe day."""
+        recent = [claim for claim in self.claims if claim[2] >= text_of(max(day - datetime.timedelta(40), self.safe))]
         if recent and self.rng.random() < 0.2:
             provider, reference, date, product = self.rng.choice(recent)
             return header("B2", provider, date, 1) + GS + segment("07", "EM1", f"D2{reference:012d}", "E103", f"D7{product}")
         family, person = self.rng.choice(list(self.members) + [("F9", "01")])
         product, price = self.rng.choice(DRUGS)
-        date, provider = text_of(day - datetime.timedelta(self.rng.randrange(0, 4))), self.rng.choice(("80001", "80002"))
+        date = text_of(max(day - datetime.timedelta(self.rng.randrange(0, 4)), self.safe))
+        provider = self.rng.choice(("80001", "80002"))
         if not recent or self.rng.random() < 0.9:
             self.reference += 1
         cost = 30_000 * price // 100_000
@@ -298,17 +307,18 @@ class Plan:
     def night(self, day):
         """The same batch on both books; what differs, None where nothing does."""
         self.number += 1
-        sent = [self.transmission(day) for _ in range(self.rng.randrange(1, 6))]
+        sent = [self.transmission(day) for _ in range(24 if day == self.safe else self.rng.randrange(1, 6))]
         batch = f"{STX}00T{'PHARMSYS':24s}{self.number:07d}{text_of(day)}2130P12{'RXSWITCH':24s}{ETX}"
         batch += "".join(f"{STX}G1{place:010d}{text}{ETX}" for place, text in enumerate(sent, 1))
         batch += f"{STX}99{self.number:07d}{len(sent):010d}{'':35s}{ETX}"
         write(self.folder, "batch.bin", batch.encode())
-        for name, program in (("kept", self.options.program + ["run"]), ("whole", self.options.next_to)):
-            words = f"--sheet sheet.toml --books {name}.txt --batch batch.bin --stamp {text_of(day)}2300 --workers 1 " \
-                f"--response {name}.bin --books-out {name}-out.txt --settlement {name}-settlement.txt"
-            ended = subprocess.run([*program, *words.split()], cwd=self.folder, capture_output=True, timeout=self.options.seconds)
-            if ended.returncode != 0:
-                return f"run on {name}.txt: status {ended.returncode}, {ended.stderr[:200]!r}"
+        for name, ran in (("kept", self.options.run), ("whole", self.options.next_to)):
+            files = {"sheet": "sheet.toml", "books": f"{name}.txt", "batch": "batch.bin", "response": f"{name}.bin",
+                     "books-out": f"{name}-out.txt", "settlement": f"{name}-settlement.txt"}
+            words = [word for option, file in files.items() for word in (f"--{option}", os.path.join(self.folder, file))]
+            status = ran(["run", *words, "--stamp", f"{text_of(day)}2300", "--workers", "1"])
+            if status != 0:
+                return f"run on {name}.txt on {text_of(day)}: status {status}"
             os.replace(os.path.join(self.folder, f"{name}-out.txt"), os.path.join(self.folder, f"{name}.txt"))
         for part in (".bin", "-settlement.txt"):
             if read(self.folder, "kept" + part) != read(self.folder, "whole" + part):
@@ -318,20 +328,33 @@ class Plan:
 
 
 def lived(options, seed):
-    """Three years of a plan."""
+    """Three years of a plan, of which each week has a night. In a week of January claims leave."""
     with tempfile.TemporaryDirectory(prefix="rxbatch-upkeep-") as folder:
         plan = Plan(options, folder, seed)
         for year in (2026, 2027, 2028):
             write(folder, "sheet.toml", sheet_of(year))
-            if year > 2026:
-                plan.age(year)
+            ageing = plan.rng.randrange(0, 3)
             for week in range(52):
+                if year > 2026 and week == ageing:
+                    plan.age(year)
                 plan.load(year, first=year == 2026 and week == 0)
-                day = datetime.date(year, 1, 4) + datetime.timedelta(7 * week + plan.rng.randrange(0, 7))
-                found = plan.night(min(day, datetime.date(year, 12, 31)))
+                day = datetime.date(year, 1, 1) + datetime.timedelta(7 * week + plan.rng.randrange(0, 7))
+                found = plan.night(max(day, plan.safe))
                 if found:
                     return found
     return None
+
+
+def runner(program, seconds):
+    """What takes the words of a run, and gives its status."""
+    words = shlex.split(program) if isinstance(program, str) else program
+    if len(words) != 1 or not words[0].endswith(".py"):
+        return lambda more: subprocess.run([*words, *more], capture_output=True, timeout=seconds).returncode
+    spec = importlib.util.spec_from_file_location("next_to", words[0])
+    module = importlib.util.module_from_spec(spec)
+    sys.modules["next_to"] = module
+    spec.loader.exec_module(module)
+    return module.main
 
 
 # ---------------------------------------------------------------- all of them
@@ -342,7 +365,8 @@ def main(words):
     parser.add_argument("--plans", type=int, default=3)
     parser.add_argument("--seed", default="1")
     options = read_options(parser, words)
-    options.next_to = shlex.split(options.next_to) + ["run"] if options.next_to else options.program + ["run", "--plain"]
+    options.run = runner(options.program, options.seconds)
+    options.next_to = runner(options.next_to, options.seconds) if options.next_to else lambda more: options.run([*more, "--plain"])
     cases = [(case[0], worked, case) for case in WORKED] + [(f"a table: {case[0]}", fault, case) for case in FAULTS]
     cases += [("a table of 500,000 rows", large, 500_000)]
     cases += [(f"plan {options.seed}.{place}", lived, f"{options.seed}.{place}") for place in range(1, options.plans + 1)]
