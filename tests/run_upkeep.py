@@ -354,7 +354,19 @@ def runner(program, seconds):
     module = importlib.util.module_from_spec(spec)
     sys.modules["next_to"] = module
     spec.loader.exec_module(module)
-    return module.main
+    return lambda more: forked(module.main, more)
+
+
+def forked(main, words):
+    """The status of a program's `main`, called in a process of its own, which starts with what this one has imported."""
+    child = os.fork()
+    if child == 0:
+        status = 70
+        try:
+            status = main(words)
+        finally:
+            os._exit(status)
+    return os.waitstatus_to_exitcode(os.waitpid(child, 0)[1])
 
 
 # ---------------------------------------------------------------- all of them
