@@ -1,6 +1,7 @@
 pub mod AgedLedger
 pub mod Ages
 pub mod Carried
+pub mod CountedChanges
 pub mod LoadedLedger
 pub mod Loads
 pub mod MergedMembers

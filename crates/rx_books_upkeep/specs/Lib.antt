@@ -1,7 +1,9 @@
 -- Plumbing: which files there are.
 pub mod Ageing
 pub mod Batches
+pub mod ChangeKinds
 pub mod Loading
+pub mod Report
 pub mod Table
 pub mod TableAnswer
 pub mod TableField

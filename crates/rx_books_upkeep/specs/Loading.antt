@@ -1,5 +1,5 @@
 -- Meaning: members loaded from a table: each member of the table has the table's coverage, each other one its own.
-use Rattle.std.specs.Prelude.{◌≡◌, ◌&&◌, ℕ, Bool, true, not, List, Option, Some, None}
+use Rattle.std.specs.Prelude.{◌≡◌, ◌&&◌, ℕ, Bool, true, false, not, if◌then◌else◌, List, Option, Some, None, map}
 use Rattle.std.specs.List.{All, count_by}
 use Rattle.std.specs.Option.{option_eq}
 use Rattle.rx_d0_values.specs.declared.transaction.Transaction.{Transaction}
@@ -11,7 +11,10 @@ use Rattle.rx_ledger.specs.declared.member.Member.{Member}
 use Rattle.rx_ledger.specs.declared.member.MemberKey.{MemberKey}
 use Rattle.rx_ledger.specs.Ledger.{Ledger, is_listed}
 use Rattle.rx_ledger.specs.Members.{member_cmp, member_key, of_family}
-use Rattle.rx_books_upkeep.specs.declared.members.Loaded.{Loaded}
+use Rattle.rx_books_upkeep.specs.declared.change.Change.{Change}
+use Rattle.rx_books_upkeep.specs.declared.change.Change.TheVariants.{CameIn, Changed, Stayed}
+use Rattle.rx_books_upkeep.specs.declared.change.MemberChange.{MemberChange}
+use Rattle.rx_books_upkeep.specs.declared.change.Loaded.{Loaded}
 
 -- the member of a list that has the key
 abbrev pub member_in : List Member → MemberKey → Option Member
@@ -47,6 +50,17 @@ counts_of L table =
       changed = count_by (changes L) table;
       stayed = count_by (stays L) table;
     }
+
+-- what becomes of a member of the table, by the member that the ledger lists under its key; and of each, in order
+abbrev pub change_from : Option Member → Member → Change
+change_from None m = CameIn
+change_from (Some own) m = if member.eq own m then Stayed else Changed
+
+abbrev pub change_of : Ledger → Member → Change
+change_of L m = change_from (member_in L.members m.key) m
+
+abbrev pub changes_of : Ledger → List Member → List MemberChange
+changes_of L table = map (λ m. record { member = m; change = change_of L m }) table
 
 -- the ledger lists each of the table's members of the family as the table does: it adds none to the family, and changes none
 abbrev pub LeavesFamily : Ledger → List Member → List ℕ → Type 0

@@ -12,13 +12,14 @@ use Rattle.rx_books_text.specs.Printed.{line_feeds}
 use Rattle.rx_books_store.specs.BooksText.{books_text, claims_text}
 use Rattle.rx_books_store.specs.Figures.{books_of}
 use Rattle.rx_books_store.specs.LedgerBooks.{LedgerBooks}
-use Rattle.rx_books_upkeep.specs.declared.members.Loaded.{Loaded}
+use Rattle.rx_books_upkeep.specs.declared.change.Loaded.{Loaded}
+use Rattle.rx_books_upkeep.specs.declared.change.MemberChange.{MemberChange}
 use Rattle.rx_books_upkeep.specs.declared.texts.AgedText.{AgedText}
 use Rattle.rx_books_upkeep.specs.declared.texts.MembersText.{MembersText}
 use Rattle.rx_books_upkeep.specs.declared.text_fault.UpkeepFault.{UpkeepFault}
 use Rattle.rx_books_upkeep.specs.declared.text_fault.UpkeepFault.TheVariants as fault
 use Rattle.rx_books_upkeep.specs.Ageing.{aged, dropped}
-use Rattle.rx_books_upkeep.specs.Loading.{counts_of, loaded}
+use Rattle.rx_books_upkeep.specs.Loading.{changes_of, counts_of, loaded}
 use Rattle.rx_books_upkeep.specs.Table.{table_of}
 use Rattle.rx_books_upkeep.specs.TextFault.{of_books, of_table}
 
@@ -65,6 +66,13 @@ members_made books table = opened books >>= members_put table
 
 abbrev pub members_founded : Span → List ℕ → Result MembersMade UpkeepFault
 members_founded period table = members_put table (no_books period)
+
+-- what the members of the table come to, in the books of a text and in such books
+abbrev pub changes_put : List ℕ → LedgerBooks → Result (List MemberChange) UpkeepFault
+changes_put table b = listed table >>= λ ms. Ok (changes_of b.ledger ms)
+
+abbrev pub changes_made : List ℕ → List ℕ → Result (List MemberChange) UpkeepFault
+changes_made books table = opened books >>= changes_put table
 
 -- ---- age
 

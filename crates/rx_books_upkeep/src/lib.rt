@@ -14,9 +14,11 @@
 #![tactic(auto)]
 
 mod ageing;
+mod change;
 mod law;
 mod members;
 mod merging;
+mod report;
 mod safe_day;
 mod table;
 mod table_fault;
@@ -25,8 +27,10 @@ mod text_fault;
 mod texts;
 
 pub use ageing::{AgeFault, Aged, age};
+pub use change::{Change, Loaded, MemberChange};
 pub use law::{law_of_ageing, law_of_loading};
-pub use members::{Loaded, load};
+pub use members::{load, load_each};
+pub use report::changes_text;
 pub use safe_day::first_safe_day;
 pub use table::read_members;
 pub use table_fault::{TableFault, Wrong};

@@ -7,11 +7,13 @@ ghost use Rattle.rx_books_store.specs.Figures.{books_of};
 ghost use Rattle.rx_books_store.specs.LedgerBooks.{LedgerBooks};
 ghost use Rattle.rx_books_upkeep.specs.Ageing.{IsFirstSafe, IsSafe, dropped};
 ghost use Rattle.rx_books_upkeep.specs.TextFault.{GivesAs};
-ghost use Rattle.rx_books_upkeep.specs.Texts.{aged_made, listed, members_founded, members_made, opened, readable};
-ghost use Rattle.rx_books_upkeep.specs.Texts.{members_put, seen_aged, seen_members};
+ghost use Rattle.rx_books_upkeep.specs.ChangeKinds.{counts_in};
+ghost use Rattle.rx_books_upkeep.specs.Texts.{aged_made, changes_made, changes_put, listed, members_founded, members_made, no_books};
+ghost use Rattle.rx_books_upkeep.specs.Texts.{members_put, opened, readable, seen_aged, seen_members};
 
 use crate::ageing::{Aged, age};
-use crate::members::{Loaded, load};
+use crate::change::{Loaded, MemberChange, counted};
+use crate::members::load_each;
 use crate::safe_day::first_safe_day;
 use crate::table::{line_feeds, read_members};
 use crate::text_fault::UpkeepFault;
@@ -32,6 +34,8 @@ pub struct MembersText {
     pub books: Vec<u8>,
     /// How many members of the table came in, changed and stayed.
     pub counts: Loaded,
+    /// What each member of the table came to, in the order of family and person.
+    pub changes: Vec<MemberChange>,
 }
 
 /// What became of books of which old claims left.
@@ -53,7 +57,8 @@ pub struct AgedText {
 ///
 /// `Books`, then `Table`, then `TooMuch`; `Memory` in the place of any.
 pub fn members_text(alloc: Global, books: &[u8], table: &[u8]) -> Result<MembersText, UpkeepFault>
-    ensures { GivesAs seen_members result (members_made books.now table.now) }
+    ensures text { GivesAs seen_members result (members_made books.now table.now) }
+    ensures changes { IfOk result (λ done. changes_made books.now table.now ≡ Ok done.changes.items) }
 {
     let books = opened(alloc, books)?;
     let done = with_text(alloc, &books, table);
@@ -67,7 +72,8 @@ pub fn members_text(alloc: Global, books: &[u8], table: &[u8]) -> Result<Members
 ///
 /// `Table`, then `TooMuch`; `Memory` in the place of either.
 pub fn founded_text(alloc: Global, period: Period, table: &[u8]) -> Result<MembersText, UpkeepFault>
-    ensures { GivesAs seen_members result (members_founded period table.now) }
+    ensures text { GivesAs seen_members result (members_founded period table.now) }
+    ensures changes { IfOk result (λ done. changes_put table.now (no_books period) ≡ Ok done.changes.items) }
 {
     let none = Books::from_ledger(alloc, &Ledger::new(alloc), period)?;
     let done = with_text(alloc, &none, table);
@@ -120,22 +126,28 @@ fn listed(alloc: Global, text: &[u8]) -> Result<Ascending<Member>, UpkeepFault>
 
 // These books with the members of a table, as text.
 fn with_text(alloc: Global, books: &Books, table: &[u8]) -> Result<MembersText, UpkeepFault>
-    ensures { GivesAs seen_members result (members_put table.now books.now) }
+    ensures text { GivesAs seen_members result (members_put table.now books.now) }
+    ensures changes { IfOk result (λ done. changes_put table.now books.now ≡ Ok done.changes.items) }
 {
     let table = listed(alloc, table)?;
-    let (books, counts) = load(alloc, books, &table)?;
+    let (books, changes) = load_each(alloc, books, &table)?;
     drop(table);
-    readable(books.write(alloc)?, counts)
+    readable(books.write(alloc)?, changes)
 }
 
-// The text and the counts, where the text can be read again.
-fn readable(books: Vec<u8>, counts: Loaded) -> Result<MembersText, UpkeepFault>
-    ensures { GivesAs seen_members result (readable (books.items, counts)) }
+// The text, the counts and the changes, where the text can be read again.
+fn readable(books: Vec<u8>, changes: Vec<MemberChange>) -> Result<MembersText, UpkeepFault>
+    ensures text { GivesAs seen_members result (readable (books.items, counts_in changes.items)) }
+    ensures changes { IfOk result (λ done. done.changes ≡ changes) }
 {
     if line_feeds(&books) > MOST_LINES {
         return Err(UpkeepFault::TooMuch);
     }
-    Ok(MembersText { books, counts })
+    Ok(MembersText {
+        books,
+        counts: counted(&changes),
+        changes,
+    })
 }
 
 // Aged books as text.

@@ -1,27 +1,10 @@
-use Rattle.std.proofs.Common.{◌≡◌, ap, subst, sym, ◌∙◌, rules}
-use Rattle.rx_ledger.specs.Ledger.{Ledger}
-use Rattle.rx_books_family.specs.Books.{IsInOrder}
-use Rattle.rx_books_upkeep.specs.Loading.{IsLoaded, counts_of, loaded}
-use Rattle.rx_books_upkeep.proofs.Loads.{is_loaded}
+use Rattle.std.proofs.Common.{◌≡◌, ap, ◌∙◌}
+use Rattle.rx_books_upkeep.specs.ChangeKinds.{counts_in}
 use Rattle.rx_books_upkeep.proofs.members.load.Goals as goal
-
-pub with_table-requires : goal.with_table-requires
-with_table-requires c = rw c.as_slice-2.ensures.value c.as_slice-2.ensures.ascending
-
-pub returns-clause-members : goal.returns-clause-members
-returns-clause-members c =
-    let L : Ledger = c.args.books.now.ledger in
-    let order : IsInOrder L = record {
-      members_rise = c.period.ensures.within.members_rise;
-      rows_rise = c.period.ensures.within.rows_rise;
-    } in
-    let value : c.in_ok-books.books.ledger ≡ loaded L c.args.table.now = search rules in
-    subst (IsLoaded L c.args.table.now) (sym value) (is_loaded L c.args.table.now order c.as_slice-2.ensures.ascending)
 
 pub returns-clause-counts : goal.returns-clause-counts
 returns-clause-counts c =
-    let given = c.counts_of-counts.ensures in
-    let counted : c.counts_of-counts.result ≡ counts_of c.in_ok-ledger.ledger c.as_slice.result.now =
+    let given = c.counted-counts.ensures in
+    let same : c.counted-counts.result ≡ counts_in c.deref.result.now =
     λ i. record { came_in = given.came_in i; changed = given.changed i; stayed = given.stayed i } in
-    counted ∙ ap (λ L. counts_of L c.as_slice.result.now) c.in_ok-ledger.ensures
-    ∙ ap (counts_of c.args.books.now.ledger) c.as_slice.ensures.value
+    same ∙ ap counts_in c.deref.ensures.value ∙ c.in_ok-books.ensures.counts
