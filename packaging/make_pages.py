@@ -32,7 +32,7 @@ DIAGNOSTICS = [
                       "batch. The words follow; of run, show and plan "
                       "with -v or on a terminal. fault N M P prints them."),
     ("file K", "K: 1 sheet, 2 books, 3 batch, 4 response, 5 end books, 6 settlement, 7 log, 8 members table, 9 claims that left, "
-               "10 a page of a report, 0 standard output."),
+               "10 a page of a report, 11 members report, 0 standard output."),
 ]
 FILES = [
     ("plan sheet", "TOML: the plan's BIN and processor control number, period, figures, tiers and drugs."),
@@ -40,6 +40,7 @@ FILES = [
               "the opening books of the next."),
     ("batch, response", "NCPDP Batch 1.2 with transmissions of Telecommunication D.0: billings B1 and reversals B2, and their replies."),
     ("members table", "Text, tabs between the fields: the heading family, person, first, last, then a line for each member."),
+    ("members report", "A members table with a fifth field, change: came in, changed or stayed."),
     ("settlement", "Text: for each pharmacy the answers paid, duplicate, reversed and rejected, and the net in cents."),
     ("log", "JSON, a line for each run, appended. New files have the rights 0600."),
 ]

@@ -19,7 +19,7 @@ _rxbatch() {
     replies) words='--response'; files='--response'; others='' ;;
     adjudicate) words='--sheet --books --batch --out --stamp --workers --again --strict --quiet'; files='--sheet|--books|--batch|--out'; others='--stamp|--workers' ;;
     fault) words=''; files=''; others='' ;;
-    members) words='--books --period --members --books-out --safe'; files='--books|--members|--books-out'; others='--period' ;;
+    members) words='--books --period --members --books-out --report --safe'; files='--books|--members|--books-out|--report'; others='--period' ;;
     age) words='--books --before --period --sheet --refill-percent --books-out --dropped --safe'; files='--books|--sheet|--books-out|--dropped'; others='--before|--period|--refill-percent' ;;
     family) words='--books --family --person --sheet --tsv --json --html'; files='--books|--sheet'; others='--family|--person' ;;
     help) words='run show plan sample check explain verify report replies adjudicate fault members age family'; files=''; others='' ;;

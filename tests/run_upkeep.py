@@ -56,6 +56,11 @@ T|C100|0|0
 T|C150|0|0
 T|C200|0|0
 """
+# What each member of the table came to, in the order of the books.
+REPORT_HEADING = HEADING.replace(b"\n", b"\tchange\n")
+REPORT = REPORT_HEADING + b"C100\t02\t20260101\t20260630\tchanged\nC150\t01\t20260101\t20261231\tcame in\n" \
+    b"C200\t01\t20260101\t20261231\tstayed\n"
+FIRST_REPORT = REPORT.replace(b"changed", b"came in").replace(b"stayed", b"came in")
 OLD_CLAIM = OPENING.splitlines(keepends=True)[4]
 AGED = OPENING.replace(OLD_CLAIM, b"")
 # The period of 2025 has the old claim, with FH 500 and FI 100, and not the other one.
@@ -81,13 +86,18 @@ price = 1000
 MEMBERS = "members --books books.txt --members table.tsv --books-out out.txt"
 AGE = "age --books books.txt --before 20260101 --refill-percent 75 --books-out out.txt --dropped dropped.txt"
 
-# Name, words, status, standard output, end books, claims that left. 75% of 30 days are 22.5 days, so the claim of 2025-12-31
-# is over 23 days later, on 2026-01-23; at 0% it is over on the next day, after which no reversal names it.
+# Name, words, status, standard output, end books, the other output: claims that left, or a report. 75% of 30 days are 22.5
+# days, so the claim of 2025-12-31 is over 23 days later, on 2026-01-23; at 0% it is over on the next day, after which no
+# reversal names it.
 WORKED = (
     ("members", MEMBERS, 0, b"1 came in, 1 changed, 1 stayed\n", LOADED, None),
     ("members --safe", MEMBERS + " --safe", 0, b"1 came in, 1 changed, 1 stayed\n", LOADED, None),
     ("first books", MEMBERS.replace("--books books.txt", "--period 20260101-20261231"), 0, b"3 came in, 0 changed, 0 stayed\n",
      FOUNDED, None),
+    ("members --report", MEMBERS + " --report report.tsv", 0, b"1 came in, 1 changed, 1 stayed\n", LOADED, REPORT),
+    ("members --report --safe", MEMBERS + " --safe --report=report.tsv", 0, b"1 came in, 1 changed, 1 stayed\n", LOADED, REPORT),
+    ("first books with a report", MEMBERS.replace("--books books.txt", "--period 20260101-20261231") + " --report report.tsv", 0,
+     b"3 came in, 0 changed, 0 stayed\n", FOUNDED, FIRST_REPORT),
     ("age", AGE, 0, b"1 claims left, first safe day 20260123\n", AGED, OLD_CLAIM),
     ("age --safe", AGE + " --safe", 0, b"1 claims left, first safe day 20260123\n", AGED, OLD_CLAIM),
     ("age by a sheet", AGE.replace("--refill-percent 75", "--sheet sheet.toml"), 0, b"1 claims left, first safe day 20260123\n",
@@ -105,6 +115,10 @@ WORKED = (
     ("end books over the table", MEMBERS.replace("out.txt", "table.tsv"), 2, b"", None, None),
     ("end books over the books", MEMBERS.replace("out.txt", "books.txt") + " --safe", 2, b"", None, None),
     ("claims that left over the end books", AGE.replace("dropped.txt", "./out.txt"), 2, b"", None, None),
+    ("a report over the end books", MEMBERS + " --report ./out.txt", 2, b"", None, None),
+    ("a report over the table, safe", MEMBERS + " --safe --report table.tsv", 2, b"", None, None),
+    ("a report to standard output", MEMBERS + " --report -", 2, b"", None, None),
+    ("a report in no folder", MEMBERS + " --report no/report.tsv", 3, b"", None, None),
     ("no table", MEMBERS.replace("table.tsv", "absent.tsv"), 3, b"", None, None),
     ("end books in no folder", MEMBERS.replace("out.txt", "no/out.txt"), 3, b"", None, None),
     ("claims that left in no folder", AGE.replace("dropped.txt", "no/dropped.txt"), 3, b"", None, None),
@@ -155,13 +169,14 @@ def started(options, folder, words):
 
 def worked(options, case):
     """What differs in a worked case, None where nothing does. No input changes, and nothing else is left in the folder."""
-    _, words, status, stdout, books, dropped = case
+    _, words, status, stdout, books, other = case
+    beside = "report.tsv" if words.startswith("members") else "dropped.txt"
     inputs = {"books.txt": OPENING, "table.tsv": TABLE, "sheet.toml": SHEET}
     with tempfile.TemporaryDirectory(prefix="rxbatch-upkeep-") as folder:
         for name, text in inputs.items():
             write(folder, name, text)
         ended = started(options, folder, words.split())
-        expected = {**inputs, **{name: text for name, text in (("out.txt", books), ("dropped.txt", dropped)) if text is not None}}
+        expected = {**inputs, **{name: text for name, text in (("out.txt", books), (beside, other)) if text is not None}}
         found = {name: read(folder, name) for name in os.listdir(folder)}
     if ended.returncode != status or ended.stdout != stdout or (status == 0) != (ended.stderr == b""):
         return f"status {ended.returncode}, {ended.stdout!r}, {ended.stderr[:200]!r}"
@@ -175,7 +190,7 @@ def fault(options, case):
     with tempfile.TemporaryDirectory(prefix="rxbatch-upkeep-") as folder:
         for name, text in inputs.items():
             write(folder, name, text)
-        ended = started(options, folder, MEMBERS.split())
+        ended = started(options, folder, [*MEMBERS.split(), "--report", "report.tsv"])
         found = {name: read(folder, name) for name in os.listdir(folder)}
     lines = ended.stderr.decode().splitlines()
     if ended.returncode != 1 or len(lines) != 2 or lines[0] != f"refused {numbers}" or told not in lines[1]:
@@ -195,12 +210,13 @@ def large(options, rows):
             lines = ["\t".join((*key, *span)) + "\n" for key, span in table.items()]
             random.Random(rows).shuffle(lines)
             write(folder, "table.tsv", HEADING + "".join(lines).encode())
-            ended = started(options, folder, f"members {origin} --members table.tsv --books-out out.txt --safe".split())
+            words = f"members {origin} --members table.tsv --books-out out.txt --report report.tsv --safe"
+            ended = started(options, folder, words.split())
             if (ended.returncode, ended.stdout, ended.stderr) != (0, told.encode(), b""):
                 return f"status {ended.returncode}, {ended.stdout!r}, {ended.stderr[:200]!r}"
-            books = with_members(books, table)
-            if read(folder, "out.txt") != books:
-                return f"the books differ after {told.strip()!r}"
+            report, books = report_of(books, table), with_members(books, table)
+            if read(folder, "out.txt") != books or read(folder, "report.tsv") != report:
+                return f"the books or the report differ after {told.strip()!r}"
             os.replace(os.path.join(folder, "out.txt"), os.path.join(folder, "books.txt"))
     return None
 
@@ -237,6 +253,14 @@ def with_members(books, table):
     return "".join(part + "\n" for part in parts).encode()
 
 
+def report_of(books, table):
+    """The report of a table that is loaded into these books."""
+    listed = {tuple(line.split("|")[1:3]): tuple(line.split("|")[3:5]) for line in books.decode().splitlines() if line[0] == "M"}
+    changes = {key: "stayed" if listed[key] == days else "changed" for key, days in table.items() if key in listed}
+    lines = ["\t".join((*key, *days, changes.get(key, "came in"))) + "\n" for key, days in sorted(table.items())]
+    return REPORT_HEADING + "".join(lines).encode()
+
+
 class Plan:
     """A plan's two books, and what happens to them."""
 
@@ -268,7 +292,11 @@ class Plan:
         self.rng.shuffle(lines)
         write(self.folder, "table.tsv", HEADING + "".join(line + "\n" for line in lines).encode())
         origin = f"--period {year}0101-{year}1231" if first else "--books kept.txt"
-        self.do(f"members {origin} --members table.tsv --books-out next.txt --safe")
+        told = self.do(f"members {origin} --members table.tsv --books-out next.txt --report report.tsv --safe")
+        report = report_of(b"" if first else read(self.folder, "kept.txt"), rows)
+        counts = [report.count(word + b"\n") for word in (b"came in", b"changed", b"stayed")]
+        if read(self.folder, "report.tsv") != report or told != "{} came in, {} changed, {} stayed\n".format(*counts):
+            raise AssertionError(f"members: the report differs, or {told!r}")
         os.replace(os.path.join(self.folder, "next.txt"), os.path.join(self.folder, "kept.txt"))
         if first:
             write(self.folder, "whole.txt", read(self.folder, "kept.txt"))

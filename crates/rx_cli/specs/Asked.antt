@@ -219,6 +219,7 @@ pub record HoldsMembers (rows : List Row) (m : MembersWords) : Type 0 where
   pub origin : HoldsOrigin rows m.origin
   pub members : HasText rows (codes "members") m.members.now
   pub books_out : HasText rows (codes "books-out") m.books_out.now
+  pub report : MayHaveText rows (codes "report") m.report
   pub safe : m.safe ≡ is_set (codes "safe") rows
 
 -- exactly one of `--sheet` and `--refill-percent` stands

@@ -127,11 +127,11 @@ abbrev pub fault_line : App
 fault_line = with_rule (with_rule (with_rule (new_app (codes "fault")) (positional (codes "N")))
     (positional (codes "M"))) (positional (codes "P"))
 
--- `members [--books F] [--period FIRST-LAST] --members F --books-out F [--safe]`
+-- `members [--books F] [--period FIRST-LAST] --members F --books-out F [--report F] [--safe]`
 abbrev pub members_line : App
-members_line = with_rule (with_rule (with_rule (with_rule (with_rule (new_app (codes "members"))
+members_line = with_rule (with_rule (with_rule (with_rule (with_rule (with_rule (new_app (codes "members"))
     (optional_option (codes "books"))) (optional_option (codes "period"))) (required_option (codes "members")))
-    (required_option (codes "books-out"))) (flag (codes "safe"))
+    (required_option (codes "books-out"))) (optional_option (codes "report"))) (flag (codes "safe"))
 
 -- the line with the books, the day, the period and the refill percentage
 abbrev pub with_aged : App → App

@@ -17,7 +17,9 @@ pub struct MembersWords<'a> {
     pub members: &'a str,
     /// `--books-out`: the end books.
     pub books_out: &'a str,
-    /// `--safe`: the end books take their path only when they are written.
+    /// `--report`: what each member of the table came to.
+    pub report: Option<&'a str>,
+    /// `--safe`: the outputs take their paths only when all are written.
     pub safe: bool,
 }
 

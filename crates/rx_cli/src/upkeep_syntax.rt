@@ -22,11 +22,18 @@ pub(crate) fn members<'a>(alloc: Global) -> Draft<'a>
     );
     let table = file(alloc, "members", "Table of members");
     let end_books = file(alloc, "books-out", "End books to write");
+    let report = optional(
+        alloc,
+        "report",
+        "FILE",
+        "Table to write of what each member came to",
+    );
     draft(alloc, "members", about)
         .arg(books)
         .arg(period)
         .arg(table)
         .arg(end_books)
+        .arg(report)
         .arg(flag(alloc, "safe", SAFE))
 }
 

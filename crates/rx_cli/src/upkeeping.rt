@@ -31,6 +31,7 @@ pub(crate) fn members<'a>(found: &ArgMatches<'a>) -> Option<MembersWords<'a>>
         origin,
         members,
         books_out,
+        report: text(found, "report"),
         safe: flag(found, "safe"),
     })
 }

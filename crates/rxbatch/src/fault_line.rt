@@ -26,7 +26,11 @@ pub fn file_words(
     let path = match fault.file {
         ProgramFile::Of(device) => path_of(words, device),
         ProgramFile::Log => words.log.unwrap_or(""),
-        ProgramFile::Output | ProgramFile::Members | ProgramFile::Dropped | ProgramFile::Page => "",
+        ProgramFile::Output
+        | ProgramFile::Members
+        | ProgramFile::Dropped
+        | ProgramFile::Page
+        | ProgramFile::Report => "",
     };
     fault.words(rt.alloc(), path)
 }

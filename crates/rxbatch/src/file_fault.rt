@@ -16,6 +16,8 @@ pub enum ProgramFile {
     Members,
     /// The claims that left books.
     Dropped,
+    /// What each member of a table came to.
+    Report,
     /// A page of a report.
     Page,
     /// Standard output.
@@ -31,6 +33,7 @@ impl ProgramFile {
             ProgramFile::Members => 8,
             ProgramFile::Dropped => 9,
             ProgramFile::Page => 10,
+            ProgramFile::Report => 11,
             ProgramFile::Output => 0,
         }
     }
@@ -43,6 +46,7 @@ impl ProgramFile {
             ProgramFile::Members => "--members",
             ProgramFile::Dropped => "--dropped",
             ProgramFile::Page => "--html-dir",
+            ProgramFile::Report => "--report",
             ProgramFile::Output => "standard output",
         }
     }

@@ -65,6 +65,7 @@ mod streams;
 mod teller;
 mod texts;
 mod told_source;
+mod two_outputs;
 mod two_streams;
 mod upkeep_files;
 mod upkeep_values;

@@ -6,9 +6,12 @@ use crate::kept_file::KeptFile;
 use crate::nodes::Node;
 use crate::standard_output::print;
 use crate::texts::{bytes_in, opened, text_in};
+use crate::two_outputs::TwoOutputs;
 use crate::upkeep_values::{day_in, percent_in, percent_of_sheet, period_in};
 use crate::upkeep_words::{Given, refused_books, refused_table};
-use rx_books_upkeep::{AgedText, Loaded, MembersText, age_text, founded_text, members_text};
+use rx_books_upkeep::{
+    AgedText, Loaded, MembersText, age_text, changes_text, founded_text, members_text,
+};
 use rx_cli::{AgeWords, MembersWords, Origin, Percent};
 use rx_fields::{Day, Memory, date_write};
 use rx_io::Device;
@@ -31,8 +34,7 @@ pub fn members(rt: &HostRuntime, words: &MembersWords<'_>) -> Result<(), Ending>
         Origin::Period(period) => (Node::Other, first_books(rt, words, period, &table)?),
     };
     let inputs = [(BOOKS, books_node), (ProgramFile::Members, table_node)];
-    let put = write_books(rt, words, &inputs, &done.books);
-    put.map_err(|ending| ending.at_path(rt, words.books_out))?;
+    write_members(rt, words, &inputs, &done)?;
     let line = counts_line(rt.alloc(), done.counts);
     drop(done);
     print(rt, line?.as_str().as_bytes())
@@ -84,6 +86,29 @@ fn table_in(rt: &HostRuntime, table: &File, path: &str) -> Result<Vec<u8>, Endin
 // The ending where the table at a path failed.
 fn of_table(rt: &HostRuntime, ending: Ending, path: &str) -> Ending {
     ending.of_file(ProgramFile::Members).at_path(rt, path)
+}
+
+// Writes the end books, and the report where one is asked for.
+fn write_members(
+    rt: &HostRuntime,
+    words: &MembersWords<'_>,
+    inputs: &[(ProgramFile, Node); 2],
+    done: &MembersText,
+) -> Result<(), Ending> {
+    let Some(report) = words.report else {
+        let put = write_books(rt, words, inputs, &done.books);
+        return put.map_err(|ending| ending.at_path(rt, words.books_out));
+    };
+    let text = changes_text(rt.alloc(), &done.changes)?;
+    let outputs = TwoOutputs {
+        books_out: words.books_out,
+        books: &done.books,
+        other: report,
+        name: ProgramFile::Report,
+        text: &text,
+        safe: words.safe,
+    };
+    outputs.write(rt, inputs.as_slice())
 }
 
 // Writes the end books, which are no file of these.
@@ -140,19 +165,10 @@ pub fn age(rt: &HostRuntime, words: &AgeWords<'_>) -> Result<(), Ending> {
         Err(fault) => return Err(refused_books(rt, words.books, &text, words.books_out, fault)),
     };
     drop(text);
-    write_aged(&done, rt, words, node).map_err(|ending| at_output(rt, words, ending))?;
+    write_aged(&done, rt, words, node)?;
     let line = aged_line(rt.alloc(), done.left, done.first_safe);
     drop(done);
     print(rt, line?.as_str().as_bytes())
-}
-
-// The ending where an output failed, in words.
-fn at_output(rt: &HostRuntime, words: &AgeWords<'_>, ending: Ending) -> Ending {
-    let path = match &ending {
-        Ending::File(fault) if fault.file == ProgramFile::Dropped => words.dropped,
-        _ => words.books_out,
-    };
-    ending.at_path(rt, path)
 }
 
 // Writes the claims that left, and then the end books without them.
@@ -162,52 +178,15 @@ fn write_aged(
     words: &AgeWords<'_>,
     books: Node,
 ) -> Result<(), Ending> {
-    let kept = [books];
-    let end_books = KeptFile::open(rt, words.books_out, END_BOOKS, words.safe, &kept)?;
-    let name = ProgramFile::Dropped;
-    let dropped = match end_books.open_next(rt, END_BOOKS, words.dropped, name, &kept) {
-        Ok(dropped) => dropped,
-        Err(ending) => {
-            end_books.remove_made(rt);
-            return Err(ending);
-        }
+    let outputs = TwoOutputs {
+        books_out: words.books_out,
+        books: &done.books,
+        other: words.dropped,
+        name: ProgramFile::Dropped,
+        text: &done.dropped,
+        safe: words.safe,
     };
-    write_both(rt, books, done, end_books, dropped)
-}
-
-fn write_both(
-    rt: &HostRuntime,
-    books: Node,
-    done: &AgedText,
-    mut end_books: KeptFile,
-    mut dropped: KeptFile,
-) -> Result<(), Ending> {
-    let first = end_books.twice(rt, END_BOOKS, &[(BOOKS, books)]);
-    let others = [(BOOKS, books), (END_BOOKS, end_books.node())];
-    let second = dropped.twice(rt, ProgramFile::Dropped, &others);
-    if let Some(ending) = first.or(second) {
-        end_books.remove_made(rt);
-        dropped.remove_made(rt);
-        return Err(ending);
-    }
-    let all = written_both(rt, done, &mut end_books, &mut dropped);
-    let dropped_ended = dropped.end(rt, ProgramFile::Dropped);
-    let books_ended = end_books.end(rt, END_BOOKS);
-    all?;
-    dropped_ended?;
-    books_ended
-}
-
-fn written_both(
-    rt: &HostRuntime,
-    done: &AgedText,
-    end_books: &mut KeptFile,
-    dropped: &mut KeptFile,
-) -> Result<(), Ending> {
-    dropped.put(ProgramFile::Dropped, &done.dropped)?;
-    end_books.put(END_BOOKS, &done.books)?;
-    dropped.take_path(rt)?;
-    end_books.take_path(rt)
+    outputs.write(rt, &[(BOOKS, books)])
 }
 
 fn aged_line(alloc: Global, left: usize, first_safe: Option<Day>) -> Result<String, Memory> {
