@@ -65,17 +65,17 @@ pub fn refused_sheet<'x>(
     text: &'x [u8],
     fault: SheetFault,
 ) -> Ending {
-    let paths = Inputs {
-        sheet: path,
-        books: "",
-        batch: "",
-    };
-    let texts = Inputs {
-        sheet: Some(text),
-        books: None,
-        batch: None,
-    };
+    let paths = inputs(path, "", "");
+    let texts = inputs(Some(text), None, None);
     GivenTexts::of(paths, texts).refused(rt, SwitchFault::from(fault))
+}
+
+fn inputs<T>(sheet: T, books: T, batch: T) -> Inputs<T> {
+    Inputs {
+        sheet,
+        books,
+        batch,
+    }
 }
 
 fn input<'a>(name: &'a str, text: Option<&'a [u8]>) -> Input<'a> {
@@ -94,16 +94,8 @@ pub fn refused_response<'x>(
         BatchFault::HeaderShape { .. } => None,
         _ => Some(text),
     };
-    let paths = Inputs {
-        sheet: "",
-        books: "",
-        batch: path,
-    };
-    let texts = Inputs {
-        sheet: None,
-        books: None,
-        batch: quoted,
-    };
+    let paths = inputs("", "", path);
+    let texts = inputs(None, None, quoted);
     let given = GivenTexts::of(paths, texts);
     let ending = Ending::of_response(fault);
     match given.words(rt, SwitchFault::Batch(fault)) {
