@@ -72,7 +72,6 @@ fn put_stamp(page: &mut Page, stamp: Option<Stamp>) -> Result<(), AllocError>
     }
 }
 
-#[tactic(auto, using(std::proofs::Common::append_assoc))]
 fn put_known_stamp(page: &mut Page, stamp: Stamp) -> Result<(), AllocError>
     ensures { OnOk result (page.new.bytes.items
         ≡ page.old.bytes.items ++ (codes "<dt>Stamp</dt><dd>" ++ (escaped Html (stamp_words stamp) ++ codes "</dd>\n"))) }
