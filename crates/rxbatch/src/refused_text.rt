@@ -4,7 +4,8 @@ use crate::shown_path::shown_path;
 use rx_batch::BatchFault;
 use rx_check::{Input, RunInputs, fault_words};
 use rx_fields::Memory;
-use rx_io::{Device, Inputs};
+use rx_io::Inputs;
+use rx_sheet::SheetFault;
 use rx_switch::SwitchFault;
 
 /// What a command read: its inputs by path and, where they were read, by text; and the stamp and the workers that it was
@@ -26,18 +27,6 @@ impl<'a> GivenTexts<'a> {
             stamp: "",
             workers: 0,
         }
-    }
-
-    /// The same where it has one input only.
-    pub fn of_one(device: Device, path: &'a str, text: Option<&'a [u8]>) -> GivenTexts<'a> {
-        let each = Inputs {
-            sheet: Device::Sheet,
-            books: Device::Books,
-            batch: Device::Batch,
-        };
-        let paths = each.map(|it| if it == device { path } else { "" });
-        let texts = each.map(|it| if it == device { text } else { None });
-        GivenTexts::of(paths, texts)
     }
 
     /// The ending where these are refused: the numbers, and then the words.
@@ -69,6 +58,26 @@ impl<'a> GivenTexts<'a> {
     }
 }
 
+/// The ending where the plan sheet at a path is refused, in words.
+pub fn refused_sheet<'x>(
+    rt: &HostRuntime,
+    path: &'x str,
+    text: &'x [u8],
+    fault: SheetFault,
+) -> Ending {
+    let paths = inputs(path, "", "");
+    let texts = inputs(Some(text), None, None);
+    GivenTexts::of(paths, texts).refused(rt, SwitchFault::from(fault))
+}
+
+fn inputs<T>(sheet: T, books: T, batch: T) -> Inputs<T> {
+    Inputs {
+        sheet,
+        books,
+        batch,
+    }
+}
+
 fn input<'a>(name: &'a str, text: Option<&'a [u8]>) -> Input<'a> {
     Input { name, text }
 }
@@ -85,7 +94,9 @@ pub fn refused_response<'x>(
         BatchFault::HeaderShape { .. } => None,
         _ => Some(text),
     };
-    let given = GivenTexts::of_one(Device::Batch, path, quoted);
+    let paths = inputs("", "", path);
+    let texts = inputs(None, None, quoted);
+    let given = GivenTexts::of(paths, texts);
     let ending = Ending::of_response(fault);
     match given.words(rt, SwitchFault::Batch(fault)) {
         Ok(line) => ending.in_words(line),

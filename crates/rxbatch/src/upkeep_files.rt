@@ -8,7 +8,7 @@ use crate::standard_output::print;
 use crate::texts::{bytes_in, opened, text_in};
 use crate::two_outputs::TwoOutputs;
 use crate::upkeep_values::{day_in, percent_in, percent_of_sheet, period_in};
-use crate::upkeep_words::{Given, NO_FILE};
+use crate::upkeep_words::{Given, refused_books, refused_table};
 use rx_books_upkeep::{
     AgedText, Loaded, MembersText, age_text, changes_text, founded_text, members_text,
 };
@@ -69,14 +69,10 @@ fn first_books(
 ) -> Result<MembersText, Ending> {
     let period = period_in(period)?;
     let table = table_in(rt, table, words.members)?;
-    founded_text(rt.alloc(), period, &table).map_err(|fault| {
-        let given = Given {
-            books: NO_FILE,
-            table: (words.members, table.as_slice()),
-            books_out: words.books_out,
-        };
-        given.refused(rt, fault)
-    })
+    match founded_text(rt.alloc(), period, &table) {
+        Ok(done) => Ok(done),
+        Err(fault) => Err(refused_table(rt, words.members, &table, words.books_out, fault)),
+    }
 }
 
 fn open_table(rt: &HostRuntime, path: &str) -> Result<File, Ending> {
@@ -164,14 +160,9 @@ pub fn age(rt: &HostRuntime, words: &AgeWords<'_>) -> Result<(), Ending> {
     let books = opened(rt, words.books, Device::Books)?;
     let node = Node::of(&books);
     let text = text_in(rt, &books, words.books, Device::Books)?;
-    let given = Given {
-        books: (words.books, text.as_slice()),
-        table: NO_FILE,
-        books_out: words.books_out,
-    };
     let done = match age_text(rt.alloc(), &text, before, period, percent) {
         Ok(done) => done,
-        Err(fault) => return Err(given.refused(rt, fault)),
+        Err(fault) => return Err(refused_books(rt, words.books, &text, words.books_out, fault)),
     };
     drop(text);
     write_aged(&done, rt, words, node)?;

@@ -2,12 +2,11 @@
 ghost use Rattle.std.specs.Prelude.{◌≤◌, IfOk};
 
 use crate::ending::Ending;
-use crate::refused_text::GivenTexts;
+use crate::refused_text::refused_sheet;
 use crate::texts::text_of;
 use rx_fields::{Day, Period, date_read, number_read};
 use rx_io::Device;
 use rx_sheet::read_sheet;
-use rx_switch::SwitchFault;
 
 /// The day of an option's eight digits.
 pub fn day_in(text: &str, option: &'static str) -> Result<Day, Ending> {
@@ -48,10 +47,7 @@ pub fn percent_of_sheet(rt: &HostRuntime, path: &str) -> Result<u64, Ending>
     let text = text_of(rt, path, Device::Sheet)?;
     let percent = match read_sheet(rt.alloc(), &text) {
         Ok(sheet) => sheet.figures().refill_percent,
-        Err(fault) => {
-            let given = GivenTexts::of_one(Device::Sheet, path, Some(&text));
-            return Err(given.refused(rt, SwitchFault::from(fault)));
-        }
+        Err(fault) => return Err(refused_sheet(rt, path, &text, fault)),
     };
     Ok(percent.min(100))
 }

@@ -4,14 +4,11 @@ use crate::refused_text::GivenTexts;
 use crate::shown_path::shown_path;
 use rx_books_upkeep::{TableFault, UpkeepFault, Wrong};
 use rx_fields::{MOST_LINES, Memory};
-use rx_io::Device;
+use rx_io::Inputs;
 use rx_switch::SwitchFault;
 use std::alloc::{AllocError, Global};
 
-/// The path and the text of a file that isn't given.
-pub const NO_FILE: (&str, &[u8]) = ("", b"");
-
-/// What a command was given: the paths, as they were written, and the texts.
+/// What a command was given: the paths, as they were written, and the texts; those of no file are empty.
 #[derive(Clone, Copy, Debug)]
 pub struct Given<'a> {
     pub books: (&'a str, &'a [u8]),
@@ -43,8 +40,50 @@ impl<'a> Given<'a> {
     // The ending where the books are, or out of memory, as a run reports it.
     fn books_refused(&self, rt: &HostRuntime, fault: SwitchFault) -> Ending {
         let (path, text) = self.books;
-        GivenTexts::of_one(Device::Books, path, Some(text)).refused(rt, fault)
+        let paths = Inputs {
+            sheet: "",
+            books: path,
+            batch: "",
+        };
+        let texts = Inputs {
+            sheet: None,
+            books: Some(text),
+            batch: None,
+        };
+        GivenTexts::of(paths, texts).refused(rt, fault)
     }
+}
+
+/// The ending where only a table was given, and is refused.
+pub fn refused_table<'x>(
+    rt: &HostRuntime,
+    path: &'x str,
+    text: &'x [u8],
+    books_out: &'x str,
+    fault: UpkeepFault,
+) -> Ending {
+    let given = Given {
+        books: ("", "".as_bytes()),
+        table: (path, text),
+        books_out,
+    };
+    given.refused(rt, fault)
+}
+
+/// The ending where only books were given, and are refused.
+pub fn refused_books<'x>(
+    rt: &HostRuntime,
+    path: &'x str,
+    text: &'x [u8],
+    books_out: &'x str,
+    fault: UpkeepFault,
+) -> Ending {
+    let given = Given {
+        books: (path, text),
+        table: ("", "".as_bytes()),
+        books_out,
+    };
+    given.refused(rt, fault)
 }
 
 fn after_period(alloc: Global) -> Result<String, Memory> {
