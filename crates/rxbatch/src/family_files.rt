@@ -71,12 +71,12 @@ fn form_by<'a>(
 }
 
 // The family in its form.
-fn shown_in<R: Threads + Sync>(
+fn shown_in<'x, R: Threads + Sync>(
     rt: &HostRuntime,
     threads: &R,
-    words: &FamilyWords<'_>,
-    texts: &FamilyTexts,
-    noted: Option<&NotedFamily>,
+    words: &FamilyWords<'x>,
+    texts: &'x FamilyTexts,
+    noted: Option<&'x NotedFamily>,
 ) -> Result<Option<Vec<u8>>, Ending> {
     let form = form_by(words, noted)?;
     let parts = usize::from(workers_or_all(threads, None));
@@ -85,7 +85,7 @@ fn shown_in<R: Threads + Sync>(
         family: words.family.as_bytes(),
         person: words.person.map(|person| person.as_bytes()),
     };
-    show_family(
+    let shown = show_family(
         threads,
         rt.alloc(),
         parts,
@@ -93,15 +93,18 @@ fn shown_in<R: Threads + Sync>(
         &texts.books,
         &asked,
         form,
-    )
-    .map_err(|fault| refused(rt, words, texts, fault))
+    );
+    match shown {
+        Ok(text) => Ok(text),
+        Err(fault) => Err(refused(rt, words, texts, fault)),
+    }
 }
 
 // The ending where sheet or books are refused.
-fn refused(
+fn refused<'x>(
     rt: &HostRuntime,
-    words: &FamilyWords<'_>,
-    texts: &FamilyTexts,
+    words: &FamilyWords<'x>,
+    texts: &'x FamilyTexts,
     fault: SwitchFault,
 ) -> Ending {
     let paths = Inputs {

@@ -58,13 +58,9 @@ impl<'a> GivenTexts<'a> {
     }
 }
 
-/// The ending where the plan sheet at a path is refused, in words.
-pub fn refused_sheet<'x>(
-    rt: &HostRuntime,
-    path: &'x str,
-    text: &'x [u8],
-    fault: SheetFault,
-) -> Ending {
+/// The ending where a plan sheet, its path and text, is refused, in words.
+pub fn refused_sheet<'x>(rt: &HostRuntime, file: (&'x str, &'x [u8]), fault: SheetFault) -> Ending {
+    let (path, text) = file;
     let paths = inputs(path, "", "");
     let texts = inputs(Some(text), None, None);
     GivenTexts::of(paths, texts).refused(rt, SwitchFault::from(fault))

@@ -47,7 +47,7 @@ pub fn percent_of_sheet(rt: &HostRuntime, path: &str) -> Result<u64, Ending>
     let text = text_of(rt, path, Device::Sheet)?;
     let percent = match read_sheet(rt.alloc(), &text) {
         Ok(sheet) => sheet.figures().refill_percent,
-        Err(fault) => return Err(refused_sheet(rt, path, &text, fault)),
+        Err(fault) => return Err(refused_sheet(rt, (path, &text), fault)),
     };
     Ok(percent.min(100))
 }
