@@ -50,11 +50,16 @@ abbrev pub skip_text : Layout → List ℕ
 skip_text Index = codes "<a class=\"skip\" href=\"#providers\">Skip to the providers</a>\n"
 skip_text other = codes "<a class=\"skip\" href=\"#claims\">Skip to the claims</a>\n"
 
+-- how the page looks; on paper the batch stands at the head of each sheet, as a string of digits and letters
+abbrev pub style_text : LotParts → List ℕ
+style_text lot =
+    codes "<style>\n" ++ (STYLE.now ++ (codes "@page{@top-left{content:'" ++ (lot_text lot ++ codes "'}}\n</style>\n")))
+
 -- the page's name, and how it looks
 unfoldable pub head_text : Layout → LotParts → List ℕ
 head_text layout lot =
-    policy_text ++ (called_text layout lot ++ (codes "</title>\n<style>\n" ++ (STYLE.now
-    ++ (codes "</style>\n</head>\n<body>\n" ++ skip_text layout))))
+    policy_text ++ (called_text layout lot ++ (codes "</title>\n" ++ (style_text lot
+    ++ (codes "</head>\n<body>\n" ++ skip_text layout))))
 
 -- the front of the header; of a page in a folder with the way to the first
 abbrev pub header_text : Layout → List ℕ

@@ -128,5 +128,6 @@ thead{display:table-header-group}
 tbody{break-inside:avoid}
 tbody:target{background:none}
 td.bar span{print-color-adjust:exact}
+.claims td.member{white-space:nowrap}
 }
 ";

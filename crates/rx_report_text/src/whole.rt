@@ -7,7 +7,7 @@ ghost use Rattle.rx_report_text.specs.Claims.{sections_text};
 ghost use Rattle.rx_report_text.specs.ClaimsShown.{shows_claims};
 ghost use Rattle.rx_report_text.specs.Pages.{provider_text};
 ghost use Rattle.rx_report_text.specs.Whole.{below_table, called_text, claims_part, end_text, family_text, head_text, header_text, leaf_portion_text, lot_text};
-ghost use Rattle.rx_report_text.specs.Whole.{page_text, parts_of_page, portion_text, print_text, skip_text, title_text, too_many_text};
+ghost use Rattle.rx_report_text.specs.Whole.{page_text, parts_of_page, portion_text, print_text, skip_text, style_text, title_text, too_many_text};
 ghost use Rattle.rx_report_text.specs.Whole.{whose_text};
 
 use crate::claims::put_claims;
@@ -166,10 +166,21 @@ fn put_head(page: &mut Page, layout: Layout, lot: Lot) -> Result<(), AllocError>
         "<meta name=\"viewport\" content=\"width=device-width, initial-scale=1\">\n<title>",
     )?;
     put_called(page, layout, lot)?;
-    page.markup("</title>\n<style>\n")?;
-    page.markup(STYLE)?;
-    page.markup("</style>\n</head>\n<body>\n")?;
+    page.markup("</title>\n")?;
+    put_style(page, lot)?;
+    page.markup("</head>\n<body>\n")?;
     page.markup(skip_text(layout))
+}
+
+// How the page looks; on paper the batch stands at the head of each sheet.
+fn put_style(page: &mut Page, lot: Lot) -> Result<(), AllocError>
+    ensures { OnOk result (page.new.bytes.items ≡ page.old.bytes.items ++ style_text lot) }
+{
+    page.markup("<style>\n")?;
+    page.markup(STYLE)?;
+    page.markup("@page{@top-left{content:'")?;
+    put_lot(page, lot)?;
+    page.markup("'}}\n</style>\n")
 }
 
 // The first link, past what stands at the head.
