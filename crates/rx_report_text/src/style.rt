@@ -118,7 +118,7 @@ td i{display:block;color:var(--soft);font-size:.75rem;font-style:normal;font-wei
 .claims .reasons td:last-child{grid-column:1/3;color:var(--soft)}
 }
 @media print{
-@page{margin:14mm;@bottom-right{content:counter(page) ' of ' counter(pages)}}
+@page{margin:14mm;font:11px system-ui,sans-serif;@bottom-right{content:counter(page) ' of ' counter(pages)}}
 :root{--ink:#000;--soft:#444;--rule:#999;--paper:#fff;--tint:#fff;--minus:#000}
 body{max-width:none;padding:0;font-size:11px}
 .skip{display:none}
@@ -128,6 +128,8 @@ thead{display:table-header-group}
 tbody{break-inside:avoid}
 tbody:target{background:none}
 td.bar span{print-color-adjust:exact}
+.claims th,.claims td{padding:.35rem .25rem}
+.claims td.answer{overflow-wrap:break-word}
 .claims td.member{white-space:nowrap}
 }
 ";
