@@ -352,6 +352,7 @@ def check_head(text, lines, origin, others):
     want([link for link in page.links if link[:1] != "#" or link[1:] not in page.ids], others, "links that lead to no anchor of the page")
     check_script(page)
     check_contrast(page)
+    check_sheets(page, origin)
     check_summary(page, lines[-1])
     return page
 
@@ -413,11 +414,12 @@ def check_folder(program, folder, rows, lines, words, whys, stamp=None):
 
 
 def check_origin(page, wanted):
-    """The plan, the files with their sums, the program, and a time of the last minutes."""
+    """The batch, the plan, the files with their sums, the program, and a time of the last minutes."""
     (origin,) = [node for node in page.all("dl") if node.attributes.get("class") == "origin"]
     found = dict(zip([node.words() for node in origin.below("dt")], [node.words() for node in origin.below("dd")]))
     made = datetime.datetime.strptime(found.pop("Made"), "%Y-%m-%d %H:%M")
     want(abs((datetime.datetime.now() - made).total_seconds()) < 600, True, "the time of the page")
+    (found["Batch"],) = [node.words() for node in page.all("h1")]
     want(found, wanted, "the origin of the page")
 
 
@@ -436,7 +438,8 @@ def origin_of(program, folder, inputs, stamp=None):
     sums = {name: f"{as_bytes_shown(path)} {hashlib.sha256(texts[name]).hexdigest()}" for name, path in paths.items()}
     plan = {"Plan": f"BIN {sheet['bin']}, PCN {sheet['pcn']}".strip()}
     of_run = {"Stamp": stamp_in_words(stamp)} if stamp else {}
-    return plan | of_run | sums | {"Program": program.text(folder, "--version").strip()}
+    batch = {"Batch": "Batch " + lot_in(texts["Batch file"])["number"]}
+    return plan | of_run | sums | batch | {"Program": program.text(folder, "--version").strip()}
 
 
 def as_bytes_shown(path):
@@ -474,6 +477,12 @@ def check_contrast(page):
             for ground in ("paper", "tint", "mark"):
                 light, dark = sorted((luminance(colours[text]), luminance(colours[ground])), reverse=True)
                 want((light + 0.05) / (dark + 0.05) >= 4.5, True, f"the contrast of {text} on {ground} in {screen}")
+
+
+def check_sheets(page, origin):
+    """On paper the batch stands at the head of each sheet."""
+    (style,) = [node.text() for node in page.all("style")]
+    want(style.splitlines()[-1], "@page{@top-left{content:'%s'}}" % origin["Batch"], "the head of each sheet")
 
 
 def check_summary(page, total):
@@ -617,9 +626,13 @@ def check_told(rows, told):
 
 
 def lot_of(folder):
-    """The number and the day of the batch's header."""
     with open(os.path.join(folder, "batch.bin"), "rb") as file:
-        header = re.search(rb"\x02([^\x03]*)\x03", file.read())[1].decode()
+        return lot_in(file.read())
+
+
+def lot_in(batch):
+    """The number and the day of the batch's header."""
+    header = re.search(rb"\x02([^\x03]*)\x03", batch)[1].decode()
     return {"number": header[27:34], "created": f"{header[34:38]}-{header[38:40]}-{header[40:42]}"}
 
 
