@@ -43,10 +43,19 @@ pub fn read_all<S: Source>(alloc: Global, source: &mut S) -> Result<Vec<u8>, Rea
 fn room_of(alloc: Global, hint: Option<usize>) -> Vec<u8>
     ensures { result.items ≡ [] }
 {
-    let expected = hint.unwrap_or(0).min(MOST_BYTES);
-    match Vec::with_capacity(alloc, expected + ROOM) {
+    match Vec::with_capacity(alloc, expected(hint) + LEAST_ROOM) {
         Ok(room) => room,
         Err(_) => Vec::new(alloc),
+    }
+}
+
+// How many bytes are expected; as many as one read takes where nothing is told, and where a pipe tells none.
+fn expected(hint: Option<usize>) -> usize
+    ensures { result ≤ most_bytes }
+{
+    match hint {
+        None | Some(0) => ROOM,
+        Some(expected) => expected.min(MOST_BYTES),
     }
 }
 
@@ -70,7 +79,7 @@ fn fill<S: Source>(source: &mut S, text: &mut Vec<u8>) -> Result<usize, ReadFaul
     Err(ReadFault::Long)
 }
 
-// Room for a read after the first bytes of a text.
+// Room for a read after the first bytes of a text: as far as memory is taken already, but for at most ROOM.
 fn make_room(text: &mut Vec<u8>, len: usize) -> Result<(), AllocError>
     requires most { len ≤ most_bytes }
     requires within { len ≤ vec_len text.old }
@@ -80,8 +89,20 @@ fn make_room(text: &mut Vec<u8>, len: usize) -> Result<(), AllocError>
     if text.len() - len >= LEAST_ROOM {
         return Ok(());
     }
-    let missing = len + ROOM - text.len();
+    let room = room_within(text.capacity().saturating_sub(len));
+    let missing = len + room - text.len();
     text.extend_from_slice(&ZEROS[..missing])
+}
+
+// How much room a read is offered where this much is there.
+fn room_within(there: usize) -> usize
+    ensures least { least_room ≤ result }
+    ensures most { result ≤ ROOM }
+{
+    if there < LEAST_ROOM {
+        return ROOM;
+    }
+    there.min(ROOM)
 }
 
 // Reads the next piece into a text after its first bytes; none at the end.
@@ -137,7 +158,7 @@ pub fn read_each<S: Source, C: Consumer>(
     ensures reads { AreFewReads S.reads S.cramped source.old source.new }
     ensures front { OnErr result (PassesFront (S.left source.old) (C.stands_for consumer.old) (C.stands_for consumer.new)) }
 {
-    let mut room = room(alloc)?;
+    let mut room = room(alloc, source.hint())?;
     let mut total = 0;
     'by_piece: for _ in 0..MOST_READS {
         let count = read_piece(source, consumer, room.as_mut_slice(), total)?;
@@ -149,11 +170,12 @@ pub fn read_each<S: Source, C: Consumer>(
     Err(ReadFault::Long)
 }
 
-// Room for a piece.
-fn room(alloc: Global) -> Result<Vec<u8>, AllocError>
+// Room for a piece, less where fewer bytes are expected.
+fn room(alloc: Global, hint: Option<usize>) -> Result<Vec<u8>, AllocError>
     ensures { IfOk result (λ room. least_room ≤ vec_len room) }
 {
-    Vec::from_slice(alloc, &ZEROS)
+    let room = room_within(expected(hint).max(LEAST_ROOM));
+    Vec::from_slice(alloc, &ZEROS[..room])
 }
 
 // Reads the next piece, and hands it on; none at the end.
