@@ -80,13 +80,18 @@ impl Places {
         self.kept_place_of(members, key)
     }
 
-    /// Where the members of the first of these rows probably are. No guess hangs on another, so the processor waits for many
-    /// of them at once.
-    pub(crate) fn guesses(&self, rows: &[Row]) -> [u32; AHEAD] {
+    /// Where the members of the first of these rows probably are. No guess hangs on another, nor on what is found at another's
+    /// place, so the processor waits for many of them at once.
+    pub(crate) fn guesses(&self, members: &[Member], rows: &[Row]) -> [u32; AHEAD] {
         let mut guesses = [EMPTY; AHEAD];
         for (guess, row) in guesses.iter_mut().zip(rows) {
             let at = nth_try(self.places.len(), hash_of(&row.member()), 0);
             *guess = self.places.get(at).copied().unwrap_or(EMPTY);
+        }
+        for (guess, row) in guesses.iter_mut().zip(rows) {
+            if !may_be_at(members, *guess as usize, row) {
+                *guess = EMPTY;
+            }
         }
         guesses
     }
@@ -151,6 +156,14 @@ fn hashed(hash: u64, bytes: &[u8]) -> u64 {
 fn mixed(word: u64) -> u64 {
     let product = word.wrapping_add(1).wrapping_mul(GOLDEN);
     product ^ (product >> 32)
+}
+
+// Whether the member at the place may be the row's: a look that brings the member into the cache.
+fn may_be_at(members: &[Member], place: usize, row: &Row) -> bool {
+    match members.get(place) {
+        Some(member) => member.key.family.bytes().len() == row.family.bytes().len(),
+        None => false,
+    }
 }
 
 // Whether the member at the place has the key.

@@ -104,7 +104,7 @@ fn holders_in(
     let mut guesses = [0; AHEAD];
     for (at, row) in run.iter().enumerate() {
         if at % AHEAD == 0 {
-            guesses = places.guesses(&run[at..]);
+            guesses = places.guesses(members.as_slice(), &run[at..]);
         }
         let place = places.place_near(members, guesses[at % AHEAD], &row.member())?;
         let Ok(()) = holders.push(place) else {
