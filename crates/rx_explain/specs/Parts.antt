@@ -6,7 +6,7 @@ use Rattle.rx_explain.specs.declared.events.Event.{Event}
 
 -- this many parts
 abbrev pub parts_count : ℕ
-parts_count = 65536
+parts_count = 4096
 
 -- the part of a text: its bytes as digits to the base 31
 abbrev pub part_with : ℕ → ℕ → ℕ

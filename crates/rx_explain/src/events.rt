@@ -88,7 +88,7 @@ fn in_parts(alloc: Global, events: &[Event]) -> Result<Vec<Vec<Event>>, Memory>
 }
 
 fn empty_parts(alloc: Global) -> Result<Vec<Vec<Event>>, Memory>
-    ensures many { IfOk result (λ parts. length parts.items ≡ 65_536) }
+    ensures many { IfOk result (λ parts. length parts.items ≡ 4_096) }
     ensures empty { IfOk result (λ parts. All (λ v. v.items ≡ []) parts.items) }
 {
     let mut parts = Vec::with_capacity(alloc, PARTS)?;

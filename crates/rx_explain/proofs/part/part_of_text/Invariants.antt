@@ -7,5 +7,5 @@ abbrev pub invariant-loop-byte : goal.invariant-loop-byte
 invariant-loop-byte l =
     record {
       value : l.part ≡ part_of_text (take l.byte-index l.bytes);
-      within : l.part < 65536;
+      within : l.part < 4096;
     }
