@@ -1,5 +1,5 @@
 -- Meaning: the reject codes in the bytes that passed (docs/FORMATS.md, "Reply transmission").
-use Rattle.std.specs.Prelude.{◌≡◌, ℕ, ◌+◌, ◌*◌, ◌/◌, ◌%◌, ◌^◌, ◌==◌, if◌then◌else◌, List, [], ◌∷◌, ◌++◌, count_by}
+use Rattle.std.specs.Prelude.{◌≡◌, ℕ, ◌+◌, ◌*◌, ◌/◌, ◌%◌, ◌^◌, ◌<◌, ◌==◌, ◌||◌, if◌then◌else◌, Bool, List, [], ◌∷◌, ◌++◌, count_by, length, slice_index}
 use Rattle.rx_run_log.specs.declared.codes_passed.CodesPassed.{CodesPassed}
 
 -- the last five bytes as a number, after one more: four of them stay
@@ -26,6 +26,14 @@ code_in five = if five / 65_536 == field_front then (five % 65_536) ∷ [] else 
 abbrev pub codes_in : ℕ → List ℕ → List ℕ
 codes_in five [] = []
 codes_in five (b ∷ bs) = code_in (next five b) ++ codes_in (next five b) bs
+
+-- no byte is a B
+abbrev pub IsPlain : List ℕ → Type 0
+IsPlain bytes = (k : ℕ) → k < length bytes → ¬ (slice_index bytes k ≡ 66)
+
+-- one of the last two of five bytes is a B
+abbrev pub ends_before_code : ℕ → Bool
+ends_before_code five = five % 256 == 66 || five / 256 % 256 == 66
 
 -- these bytes passed
 pub record AreCodesOf (c : CodesPassed) (bytes : List ℕ) : Type 0 where

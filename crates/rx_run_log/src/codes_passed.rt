@@ -1,10 +1,15 @@
-ghost use Rattle.std.specs.Prelude.{◌≡◌, ◌++◌, [], ℕ, List, OnOk, slice_index};
-ghost use Rattle.rx_run_log.specs.CodesPassed.{AddsCodes, AreCodesOf, code_in, codes_in, last_five, next, times, two_bytes};
+ghost use Rattle.std.specs.Prelude.{◌≡◌, ◌++◌, [], ℕ, List, IsTrue, OnOk, slice_index};
+ghost use Rattle.rx_run_log.specs.CodesPassed.{AddsCodes, AreCodesOf, IsPlain, code_in, codes_in, ends_before_code, last_five, next, times};
+ghost use Rattle.rx_run_log.specs.CodesPassed.{two_bytes};
 
+use memchr::memchr;
 use std::alloc::{AllocError, Global};
 
 // FS, F and B, which stand in front of a code.
 const FIELD_FRONT: u64 = 0x1C_46_42;
+
+// How many bytes a B and the code behind it have.
+const MARKED: usize = 3;
 
 /// The reject codes in the bytes of a response file that passed: the two bytes after each FS, F and B.
 #[derive(Debug, Drop)]
@@ -36,8 +41,40 @@ impl CodesPassed {
         self.pass(piece)
     }
 
-    // Adds what a piece ends and has.
+    // Adds what a piece ends and has. Most bytes are in front of the next B, and have no code.
     fn pass(&mut self, piece: &[u8]) -> Result<(), AllocError>
+        ensures { OnOk result ((self.new.five ≡ last_five self.old.five piece.now)
+            × (self.new.codes.items ≡ self.old.codes.items ++ codes_in self.old.five piece.now)) }
+    {
+        let mut rest = piece;
+        while let Some(at) = memchr(b'B', rest) {
+            let (plain, marked) = rest.split_at(at);
+            self.pass_plain(plain)?;
+            let (front, after) = marked.split_at(marked.len().min(MARKED));
+            self.pass_each(front)?;
+            rest = after;
+        }
+        self.pass_plain(rest)
+    }
+
+    // The same of bytes without a B.
+    fn pass_plain(&mut self, plain: &[u8]) -> Result<(), AllocError>
+        requires { IsPlain plain.now }
+        ensures { OnOk result ((self.new.five ≡ last_five self.old.five plain.now)
+            × (self.new.codes.items ≡ self.old.codes.items ++ codes_in self.old.five plain.now)) }
+    {
+        if ends_before_code(self.five) {
+            return self.pass_each(plain);
+        }
+        let Some((_front, last)) = plain.split_last_chunk::<5>() else {
+            return self.pass_each(plain);
+        };
+        self.five = five_of(last);
+        Ok(())
+    }
+
+    // The same, byte by byte.
+    fn pass_each(&mut self, piece: &[u8]) -> Result<(), AllocError>
         ensures { OnOk result ((self.new.five ≡ last_five self.old.five piece.now)
             × (self.new.codes.items ≡ self.old.codes.items ++ codes_in self.old.five piece.now)) }
     {
@@ -81,4 +118,19 @@ fn next(five: u64, byte: u8) -> u64
     ensures { result ≡ next five byte }
 {
     (five % (1 << 32)) * 256 + u64::from(byte)
+}
+
+// Whether the last two of five bytes have a B, so that a code may end in the next two.
+fn ends_before_code(five: u64) -> bool
+    ensures { result ≡ ends_before_code five }
+{
+    five % 256 == u64::from(b'B') || five / 256 % 256 == u64::from(b'B')
+}
+
+// Five bytes as a number.
+fn five_of(bytes: &[u8; 5]) -> u64
+    ensures { (five : ℕ) → result ≡ last_five five bytes.now }
+{
+    let four = next(next(next(next(0, bytes[0]), bytes[1]), bytes[2]), bytes[3]);
+    next(four, bytes[4])
 }
