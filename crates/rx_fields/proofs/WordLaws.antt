@@ -3,7 +3,7 @@ use Rattle.std.proofs.Common.{◌≡◌, ℕ, zero, suc, ◌+◌, ◌-◌, ◌*�
 use Rattle.std.proofs.Common.{take, drop, replicate, take-append-drop, length-take}
 use Rattle.std.proofs.Common.{refl, sym, ap, ◌∙◌, inl, inr, arith}
 use Rattle.std.specs.Prelude.{◌⊎◌, nat_eq}
-use Rattle.std.specs.Int.{from_be_bytes, w64}
+use Rattle.std.specs.Int.{from_be_bytes, w32, w64}
 use Rattle.std.specs.Ordering.{is_eq, nat_cmp, ordering_then}
 use Rattle.std.specs.Cmp.{nat_cmp_is}
 use Rattle.std.specs.Cmp.Lexicographic.{pointwise, slice_cmp}
@@ -102,6 +102,15 @@ word_number (a ∷ b ∷ c ∷ d ∷ e ∷ f ∷ g ∷ []) l = absurd (omega ari
 word_number (a ∷ b ∷ c ∷ d ∷ e ∷ f ∷ g ∷ h ∷ []) l = omega arith
 word_number (a ∷ b ∷ c ∷ d ∷ e ∷ f ∷ g ∷ h ∷ i ∷ xs) l = absurd (omega arith)
 
+-- half a word of four bytes is their number
+half_number : (xs : List ℕ) → length xs ≡ 4 → from_be_bytes w32 xs ≡ number_from 0 xs
+half_number [] l = absurd (omega arith)
+half_number (a ∷ []) l = absurd (omega arith)
+half_number (a ∷ b ∷ []) l = absurd (omega arith)
+half_number (a ∷ b ∷ c ∷ []) l = absurd (omega arith)
+half_number (a ∷ b ∷ c ∷ d ∷ []) l = omega arith
+half_number (a ∷ b ∷ c ∷ d ∷ e ∷ xs) l = absurd (omega arith)
+
 -- ---- parts
 
 -- where the fronts are as long, the rest decides only where the fronts are equal
@@ -114,22 +123,35 @@ slice_cmp-append (x ∷ xs) (y ∷ ys) front back l =
     ap (ordering_then (nat_cmp x y)) (slice_cmp-append xs ys front back (omega arith))
     ∙ sym (then_assoc (nat_cmp x y) (slice_cmp nat_cmp xs ys) (slice_cmp nat_cmp front back))
 
+-- as many bytes as a number, and then the rest
+front_first : (n : ℕ) (f : List ℕ → ℕ) → ((zs : List ℕ) → length zs ≡ n → f zs ≡ number_from 0 zs) → (xs ys : List ℕ)
+    → n ≤ length xs → n ≤ length ys → AreBytes xs → AreBytes ys
+    → slice_cmp nat_cmp xs ys
+    ≡ ordering_then (nat_cmp (f (take n xs)) (f (take n ys))) (slice_cmp nat_cmp (drop n xs) (drop n ys))
+front_first n f is xs ys lx ly bx by =
+    let left : length (take n xs) ≡ n = omega (arith, length-take n xs) in
+    let right : length (take n ys) ≡ n = omega (arith, length-take n ys) in
+    let numbers : nat_cmp (f (take n xs)) (f (take n ys)) ≡ slice_cmp nat_cmp (take n xs) (take n ys) =
+    ap (λ m. nat_cmp m (f (take n ys))) (is (take n xs) left)
+    ∙ ap (nat_cmp (number_from 0 (take n xs))) (is (take n ys) right)
+    ∙ number_order (take n xs) (take n ys) (left ∙ sym right) (AreBytes-take n xs bx) (AreBytes-take n ys by) in
+    let parts = rw (take-append-drop n xs, take-append-drop n ys) at
+    (slice_cmp-append (take n xs) (take n ys) (drop n xs) (drop n ys) (left ∙ sym right)) in
+    parts ∙ ap (λ o. ordering_then o (slice_cmp nat_cmp (drop n xs) (drop n ys))) (sym numbers)
+
 -- eight bytes as a word, and then the rest
 pub word_first : (xs ys : List ℕ) → 8 ≤ length xs → 8 ≤ length ys → AreBytes xs → AreBytes ys
     → slice_cmp nat_cmp xs ys
     ≡ ordering_then (nat_cmp (from_be_bytes w64 (take 8 xs)) (from_be_bytes w64 (take 8 ys)))
     (slice_cmp nat_cmp (drop 8 xs) (drop 8 ys))
-word_first xs ys lx ly bx by =
-    let left : length (take 8 xs) ≡ 8 = omega (arith, length-take 8 xs) in
-    let right : length (take 8 ys) ≡ 8 = omega (arith, length-take 8 ys) in
-    let words : nat_cmp (from_be_bytes w64 (take 8 xs)) (from_be_bytes w64 (take 8 ys))
-    ≡ slice_cmp nat_cmp (take 8 xs) (take 8 ys) =
-    ap (λ n. nat_cmp n (from_be_bytes w64 (take 8 ys))) (word_number (take 8 xs) left)
-    ∙ ap (nat_cmp (number_from 0 (take 8 xs))) (word_number (take 8 ys) right)
-    ∙ number_order (take 8 xs) (take 8 ys) (left ∙ sym right) (AreBytes-take 8 xs bx) (AreBytes-take 8 ys by) in
-    let parts = rw (take-append-drop 8 xs, take-append-drop 8 ys) at
-    (slice_cmp-append (take 8 xs) (take 8 ys) (drop 8 xs) (drop 8 ys) (left ∙ sym right)) in
-    parts ∙ ap (λ o. ordering_then o (slice_cmp nat_cmp (drop 8 xs) (drop 8 ys))) (sym words)
+word_first = front_first 8 (from_be_bytes w64) word_number
+
+-- four bytes as half a word, and then the rest
+pub half_first : (xs ys : List ℕ) → 4 ≤ length xs → 4 ≤ length ys → AreBytes xs → AreBytes ys
+    → slice_cmp nat_cmp xs ys
+    ≡ ordering_then (nat_cmp (from_be_bytes w32 (take 4 xs)) (from_be_bytes w32 (take 4 ys)))
+    (slice_cmp nat_cmp (drop 4 xs) (drop 4 ys))
+half_first = front_first 4 (from_be_bytes w32) half_number
 
 pub order_tied : (o : Ordering) → is_eq o ≡ true → o ≡ Equal
 order_tied Less h = cc

@@ -34,5 +34,24 @@ pub(crate) fn compare(first: &[u8], second: &[u8]) -> Ordering
         left = others;
         right = rest;
     }
-    left.cmp(right)
+    compare_rest(left, right)
+}
+
+// The same of texts that have no eight bytes more: four at once, and then one by one.
+#[inline]
+fn compare_rest(left: &[u8], right: &[u8]) -> Ordering
+    requires { length left.now ≡ length right.now }
+    ensures { result ≡ slice_cmp nat_cmp left.now right.now }
+{
+    let Some((half, others)) = left.split_first_chunk::<4>() else {
+        return left.cmp(right);
+    };
+    let Some((against, rest)) = right.split_first_chunk::<4>() else {
+        unreachable!();
+    };
+    let order = u32::from_be_bytes(*half).cmp(&u32::from_be_bytes(*against));
+    if !order.is_eq() {
+        return order;
+    }
+    others.cmp(rest)
 }
