@@ -49,7 +49,7 @@ fn room_of(alloc: Global, hint: Option<usize>) -> Vec<u8>
     }
 }
 
-// How many bytes are expected; as many as one read takes where nothing is told, and where a pipe tells none.
+// How many bytes are expected; as many as one read takes where their number is unknown, or 0 as that of a pipe.
 fn expected(hint: Option<usize>) -> usize
     ensures { result ≤ most_bytes }
 {

@@ -8,7 +8,7 @@ use std::alloc::{AllocError, Global};
 // FS, F and B, which stand in front of a code.
 const FIELD_FRONT: u64 = 0x1C_46_42;
 
-// How many bytes a B and the code behind it have.
+// How many bytes a B and the code after it have.
 const MARKED: usize = 3;
 
 /// The reject codes in the bytes of a response file that passed: the two bytes after each FS, F and B.

@@ -1,4 +1,4 @@
--- The bytes up to a B pass, and the B with the two behind it.
+-- The bytes up to a B pass, and the B with the two after it.
 use Rattle.std.proofs.Common.{◌++◌, ap, sym, ◌∙◌}
 use Rattle.rx_run_log.specs.CodesPassed.{codes_in, last_five}
 use Rattle.rx_run_log.proofs.Codes.{passed_on}
