@@ -1,11 +1,10 @@
 -- What one transaction does to the row under a fill key, and what is said of it: it pays the row, takes it back or leaves it.
-use Rattle.std.proofs.Common.{◌≡◌, ℕ, Bool, true, false, List, [], ◌∷◌, Option, Some, None, refl, sym, ap, ◌∙◌, ◌⊎◌, inl, inr}
-use Rattle.std.specs.Prelude.{◌||◌, if◌then◌else◌, nat_lt, not, ◌==◌}
-use Rattle.std.specs.List.{find, list_any}
-use Rattle.std.specs.Ordering.{is_eq, is_gt, is_lt}
+use Rattle.std.proofs.Common.{◌≡◌, ℕ, Bool, true, false, List, [], ◌∷◌, Option, Some, None, refl, sym, ap, ◌∙◌, ◌⊎◌, inl, inr, arith}
+use Rattle.std.specs.Prelude.{if◌then◌else◌}
+use Rattle.std.specs.List.{find}
+use Rattle.std.specs.Ordering.{is_eq}
 use Rattle.std.proofs.lemmas.Bool.{cases_Bool}
-use Rattle.rx_fields.specs.Calendar.{day_cmp}
-use Rattle.rx_fields.specs.Numbered.{LotParts, is_within}
+use Rattle.rx_fields.specs.Numbered.{LotParts}
 use Rattle.rx_fields.specs.Order.{key_cmp}
 use Rattle.rx_fields.specs.declared.key.Key.{Key}
 use Rattle.rx_d0_values.specs.declared.bill.BillParts.{BillParts}
@@ -24,11 +23,10 @@ use Rattle.rx_ledger.specs.declared.decision.Decision.TheVariants as decision
 use Rattle.rx_ledger.specs.declared.row.Row.{Row}
 use Rattle.rx_ledger.specs.Answers.{Asked, after, answer, answer_by, paid_row}
 use Rattle.rx_ledger.specs.Fold.{asked}
-use Rattle.rx_ledger.specs.Decisions.{billing, if_found, is_same_claim, is_too_soon, key_of, reversal, unless_found}
-use Rattle.rx_ledger.specs.Ledger.{Ledger, members_of, row_under, rows_of}
-use Rattle.rx_ledger.specs.Members.{of_family, person_in}
+use Rattle.rx_ledger.specs.Decisions.{billing, if_found, reversal, unless_found}
+use Rattle.rx_ledger.specs.Ledger.{Ledger, row_under}
 use Rattle.rx_ledger.specs.Named.{key_in}
-use Rattle.rx_ledger.specs.Plan.{Plan, drug_of}
+use Rattle.rx_ledger.specs.Plan.{Plan}
 use Rattle.rx_ledger.specs.Rows.{row_key}
 use Rattle.rx_ledger.proofs.Orders.{key_exact, key_total}
 use Rattle.rx_ledger.proofs.PaidShape.{paid_new}
@@ -66,57 +64,21 @@ module _ (test : Decision → Bool) where
   found (Some x) row below first rest = first x
 
 billing_takes_none : (a : Asked) (L : Ledger) (b : BillParts) → takes (billing a L b) ≡ false
-billing_takes_none a L b =
-    chosen takes (not (list_any (of_family b.family) L.members)) _ _ refl
-    (unless takes (person_in (members_of L b.family) b.person) _ _ refl (λ m.
-    found takes (row_under L (key_of a b.reference)) _ _ (λ r. chosen takes (is_same_claim b r) _ _ refl refl)
-    (chosen takes (is_lt (day_cmp a.date a.plan.figures.period.first)) _ _ refl
-    (chosen takes (is_gt (day_cmp a.date a.lot.created)) _ _ refl
-    (chosen takes (not (is_within m.coverage a.date) || is_gt (day_cmp a.date a.plan.figures.period.last)) _ _ refl
-    (unless takes (drug_of a.plan b.product) _ _ refl (λ drug.
-    chosen takes (nat_lt a.plan.figures.max_days b.days) _ _ refl
-    (chosen takes (list_any (is_too_soon a.plan.figures a.date b) (rows_of L b.family)) _ _ refl refl))))))))
+billing_takes_none a L b = search (chosen takes, unless takes, found takes) depth 40
 
 reversal_pays_none : (a : Asked) (L : Ledger) (v : Reversal) → pays (reversal a L v) ≡ false
-reversal_pays_none a L v =
-    unless pays (row_under L (key_of a v.reference)) _ _ refl (λ r. chosen pays (r.product == v.product) _ _ refl refl)
+reversal_pays_none a L v = grind arith
 
 module _ (number reference : ℕ) where
   paid_shape : (p : PaidParts) (d : Decision) → answer_by number reference d ≡ Paid p
       → (pays d ≡ true) × (p.reference ≡ reference)
   paid_shape p (decision.Payable payment) paid = (refl, sym (cc))
-  paid_shape p decision.NoFamily paid = cc
-  paid_shape p decision.NoPerson paid = cc
-  paid_shape p (decision.SameStands r) paid = cc
-  paid_shape p (decision.OtherStands r) paid = cc
-  paid_shape p decision.BeforePeriod paid = cc
-  paid_shape p decision.AfterCreation paid = cc
-  paid_shape p (decision.NotCovered m) paid = cc
-  paid_shape p decision.NotListed paid = cc
-  paid_shape p decision.TooManyDays paid = cc
-  paid_shape p decision.TooSoon paid = cc
-  paid_shape p decision.NoneStands paid = cc
-  paid_shape p (decision.OtherProduct r) paid = cc
-  paid_shape p (decision.TakenBack r) paid = cc
-  paid_shape p (decision.Unread f) paid = cc
+  paid_shape p other paid = cc
 
   approved_shape : (p : ApprovedParts) (d : Decision) → answer_by number reference d ≡ Approved p
       → (takes d ≡ true) × (p.reference ≡ reference)
   approved_shape p (decision.TakenBack r) approved = (refl, sym (cc))
-  approved_shape p (decision.Payable payment) approved = cc
-  approved_shape p decision.NoFamily approved = cc
-  approved_shape p decision.NoPerson approved = cc
-  approved_shape p (decision.SameStands r) approved = cc
-  approved_shape p (decision.OtherStands r) approved = cc
-  approved_shape p decision.BeforePeriod approved = cc
-  approved_shape p decision.AfterCreation approved = cc
-  approved_shape p (decision.NotCovered m) approved = cc
-  approved_shape p decision.NotListed approved = cc
-  approved_shape p decision.TooManyDays approved = cc
-  approved_shape p decision.TooSoon approved = cc
-  approved_shape p decision.NoneStands approved = cc
-  approved_shape p (decision.OtherProduct r) approved = cc
-  approved_shape p (decision.Unread f) approved = cc
+  approved_shape p other approved = cc
 
 -- ---- what a transaction does
 

@@ -1,13 +1,12 @@
 -- The claims that an explanation shows stand on the ledger before it.
-use Rattle.std.specs.Prelude.{◌||◌, ◌==◌, IfSome, filter, if◌then◌else◌, int_lt, nat_lt, not}
+use Rattle.std.specs.Prelude.{◌==◌, IfSome, filter, if◌then◌else◌, int_lt}
 use Rattle.std.specs.Option.{option_map}
-use Rattle.std.specs.List.{All, Contains, fold, list_any}
-use Rattle.std.specs.Ordering.{is_gt, is_lt}
+use Rattle.std.specs.List.{All, Contains, fold}
 use Rattle.std.proofs.Common.{◌≡◌, ℕ, ◌+◌, ◌-◌, Bool, true, false, List, [], ◌∷◌, Option, Some, None, map, take}
 use Rattle.std.proofs.Common.{refl, sym, ap, subst, ◌∙◌, inl, inr}
 use Rattle.std.proofs.lemmas.List.Elements.{All-contains, All-contains_itself, All-filter, All-head, All-map, All-nil, All-tail}
-use Rattle.rx_fields.specs.Calendar.{Civil, day_cmp}
-use Rattle.rx_fields.specs.Numbered.{LotParts, Span, is_within}
+use Rattle.rx_fields.specs.Calendar.{Civil}
+use Rattle.rx_fields.specs.Numbered.{LotParts, Span}
 use Rattle.rx_fields.specs.Order.{key_cmp}
 use Rattle.rx_fields.specs.declared.key.Key.{Key}
 use Rattle.rx_d0_values.specs.declared.bill.BillParts.{BillParts}
@@ -29,11 +28,10 @@ use Rattle.rx_ledger.specs.declared.decision.Decision.TheVariants as decision
 use Rattle.rx_ledger.specs.declared.figures.Figures.{Figures}
 use Rattle.rx_ledger.specs.declared.row.Row.{Row}
 use Rattle.rx_ledger.specs.Answers.{Asked, after, answer, answer_by, key_of, paid_row}
-use Rattle.rx_ledger.specs.Decisions.{billing, decision_of, if_found, is_same_claim, is_too_soon, reversal, row_of, unless_found}
+use Rattle.rx_ledger.specs.Decisions.{billing, decision_of, if_found, is_too_soon, reversal, row_of, unless_found}
 use Rattle.rx_ledger.specs.Fold.{asked, fold_ledger, ledger_after, ledger_from, ledger_of_body}
-use Rattle.rx_ledger.specs.Ledger.{Ledger, members_of, row_under, rows_of}
-use Rattle.rx_ledger.specs.Members.{of_family, person_in}
-use Rattle.rx_ledger.specs.Plan.{Plan, drug_of}
+use Rattle.rx_ledger.specs.Ledger.{Ledger, row_under, rows_of}
+use Rattle.rx_ledger.specs.Plan.{Plan}
 use Rattle.rx_ledger.specs.Rows.{claimed_by, row_key}
 use Rattle.rx_ledger.proofs.Orders.{key_total}
 use Rattle.rx_explain.specs.declared.at.At.{At}
@@ -118,17 +116,7 @@ module _ (L : Ledger) where
   found (Some x) row below first rest = first x refl
 
   billing_names : (a : Asked) (b : BillParts) → NamesStanding (billing a L b)
-  billing_names a b =
-      chosen (not (list_any (of_family b.family) L.members)) _ _ tt
-      (unless (person_in (members_of L b.family) b.person) _ _ tt (λ m m_is.
-      found (row_under L (key_of a b.reference)) _ _
-      (λ r r_is. let own = stands-found (key_of a b.reference) r r_is in chosen (is_same_claim b r) _ _ own own)
-      (chosen (is_lt (day_cmp a.date a.plan.figures.period.first)) _ _ tt
-      (chosen (is_gt (day_cmp a.date a.lot.created)) _ _ tt
-      (chosen (not (is_within m.coverage a.date) || is_gt (day_cmp a.date a.plan.figures.period.last)) _ _ tt
-      (unless (drug_of a.plan b.product) _ _ tt (λ drug drug_is.
-      chosen (nat_lt a.plan.figures.max_days b.days) _ _ tt
-      (chosen (list_any (is_too_soon a.plan.figures a.date b) (rows_of L b.family)) _ _ tt tt))))))))
+  billing_names a b = search (chosen, unless, found, stands-found) depth 40
 
   decision_names : (a : Asked) (t : Transaction) → NamesStanding (decision_of a L t)
   decision_names a (Bill b) = billing_names a b

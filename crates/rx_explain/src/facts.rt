@@ -14,7 +14,7 @@ use crate::subject::Subject;
 use crate::workings::{Workings, workings_for};
 use rx_d0_values::{Answer, Transaction};
 use rx_fields::{Authorization, Day, Id, Memory, Period, Provider};
-use rx_ledger::{Basis, Decision, Figures, Occasion, Row, decide};
+use rx_ledger::{Basis, Decision, Figures, Row, decide};
 use std::alloc::Global;
 
 /// What decided a transaction: facts of the ledger before it. Where the claims come from and what becomes of them is known
@@ -64,15 +64,15 @@ pub(crate) fn facts_on<S: Basis>(
         (record { heard = subject.now.heard.now; transaction = subject.now.transaction.now })) }
 {
     let Subject {
-        lot,
         sheet,
         terms,
         at,
         heard,
         transaction,
+        ..
     } = *subject;
     let date = heard.date;
-    let occasion = Occasion::new(lot, sheet.figures(), at.place, heard, at.nth);
+    let occasion = subject.occasion();
     let decision = decide(basis, &occasion, terms, transaction);
     Ok(Facts {
         at,

@@ -13,7 +13,7 @@
 //! The replay that gives replies and ledger is left to the caller, and so are words for people.
 #![tactic(auto)]
 
-mod advancing;
+mod advance;
 mod at;
 mod events;
 mod explanation;
@@ -28,7 +28,7 @@ mod subject;
 mod traced;
 mod workings;
 
-pub use advancing::explain_next;
+pub use advance::explain_next;
 pub use at::{At, place_at};
 pub use events::{Change, Event, Events};
 pub use explanation::Explanation;

@@ -11,7 +11,7 @@ use Rattle.rx_explain.proofs.facts.facts_on.Goals as goal
 
 pub decide-decision-requires-clause-figures : goal.decide-decision-requires-clause-figures
 decide-decision-requires-clause-figures g c =
-    ap (λ (o : Occasion). o.figures) c.new-occasion.ensures ∙ c.figures.ensures.value
+    ap (λ (o : Occasion). o.figures) c.occasion-occasion.ensures
     ∙ sym c.requires.terms.same_figures
 
 pub workings_for-requires : goal.workings_for-requires
@@ -19,10 +19,10 @@ workings_for-requires g c =
     let s = c.args.subject.now in
     let plan = s.sheet.now in
     let L = g.S.Basis.ledger c.args.basis.now in
-    let under : asked_on c.new-occasion.result plan.drugs ≡ asked s.lot plan s.at.place s.heard.now s.at.nth =
-    rw (c.new-occasion.ensures, c.figures.ensures.value) refl in
+    let under : asked_on c.occasion-occasion.result plan.drugs ≡ asked s.lot plan s.at.place s.heard.now s.at.nth =
+    rw c.occasion-occasion.ensures refl in
     listed_drug (asked s.lot plan s.at.place s.heard.now s.at.nth) L s.transaction.now c.decide-decision.result
-    (c.decide-decision.ensures ∙ c.requires.terms.same_decision c.new-occasion.result L
+    (c.decide-decision.ensures ∙ c.requires.terms.same_decision c.occasion-occasion.result L
     ∙ ap (λ (a : Asked). decision_of a L s.transaction.now) under)
 
 pub returns : goal.returns
@@ -32,11 +32,11 @@ returns g c =
     let t = s.transaction.now in
     let L = g.S.Basis.ledger c.args.basis.now in
     let a = asked s.lot plan s.at.place s.heard.now s.at.nth in
-    let under : asked_on c.new-occasion.result plan.drugs ≡ a =
-    rw (c.new-occasion.ensures, c.figures.ensures.value) refl in
-    let number = ap (λ (o : Occasion). o.number) c.new-occasion.ensures in
+    let under : asked_on c.occasion-occasion.result plan.drugs ≡ a =
+    rw c.occasion-occasion.ensures refl in
+    let number = ap (λ (o : Occasion). o.number) c.occasion-occasion.ensures in
     let decided : c.decide-decision.result ≡ decision_of a L t =
-    c.decide-decision.ensures ∙ c.requires.terms.same_decision c.new-occasion.result L
+    c.decide-decision.ensures ∙ c.requires.terms.same_decision c.occasion-occasion.result L
     ∙ ap (λ (a : Asked). decision_of a L t) under in
     record {
       at_is = refl;
@@ -46,8 +46,8 @@ returns g c =
       transaction_is = refl;
       decision_is = decided;
       answer_is = rw (number, decided) at c.answer_to.ensures;
-      standing_is = rw c.figures-2.ensures.value at (c.standing.ensures L c.requires.rows);
-      open_from_is = rw c.figures-3.ensures.value at (c.open_from.ensures L c.requires.rows);
+      standing_is = rw c.figures.ensures.value at (c.standing.ensures L c.requires.rows);
+      open_from_is = rw c.figures-2.ensures.value at (c.open_from.ensures L c.requires.rows);
       workings_are = c.workings_for.ensures;
       counted_are = c.in_ok-counted_for.ensures L c.requires.rows
           ∙ ap (λ (p : Span). counted_for p L t c.decide-decision.result) c.period.ensures;

@@ -12,7 +12,7 @@ use crate::facts::{Facts, facts_on};
 use crate::subject::Subject;
 use rx_d0_values::{Answer, Bill, Reversal, Transaction};
 use rx_fields::Memory;
-use rx_ledger::{Basis, Occasion, Row};
+use rx_ledger::{Basis, Row};
 use std::alloc::Global;
 
 /// What decides a transaction on what answers as the ledger before it, where it is adjudicated then: a claim that is paid
@@ -66,15 +66,8 @@ fn stand_where_paid<S: Basis>(
         OnOk result (S.ledger basis.new ≡ after a (S.ledger basis.old) (asks.Bill bill.now) given.now) }
     ensures scope { OnOk result (S.scope basis.new ≡ S.scope basis.old) }
 {
-    let occasion = Occasion::new(
-        subject.lot,
-        subject.sheet.figures(),
-        subject.at.place,
-        subject.heard,
-        subject.at.nth,
-    );
     if let Answer::Paid(paid) = given {
-        basis.add(occasion.row(bill, paid))?;
+        basis.add(subject.occasion().row(bill, paid))?;
     }
     Ok(())
 }
@@ -94,14 +87,7 @@ fn take_back<S: Basis>(
         OnOk result (S.ledger basis.new ≡ after a (S.ledger basis.old) t (answer a (S.ledger basis.old) t)) }
     ensures scope { OnOk result (S.scope basis.new ≡ S.scope basis.old) }
 {
-    let occasion = Occasion::new(
-        subject.lot,
-        subject.sheet.figures(),
-        subject.at.place,
-        subject.heard,
-        subject.at.nth,
-    );
-    let key = occasion.key(reversal.reference);
+    let key = subject.occasion().key(reversal.reference);
     if let Some(row) = basis.row_under(&key) {
         if row.product == reversal.product {
             basis.remove(&key)?;
