@@ -18,8 +18,11 @@ use Rattle.rx_d0_values.specs.declared.reply.Reply.{Reply}
 use Rattle.rx_settle.specs.declared.tally.Tally.{Tally}
 use Rattle.rx_settle.specs.Answers.{answers_in, tally, plus, weight}
 use Rattle.rx_settle.specs.Counting.{field_text, tally_at, tally_for, tallies_of, counted, line}
-use Rattle.rx_settle.specs.Providers.{provider_of, providers, is_same, without, replies_to}
-use Rattle.rx_settle.specs.Settlement.{provider_line}
+use Rattle.rx_settle.specs.Providers.{named, provider_of, providers, is_same, without, replies_to}
+use Rattle.rx_fields.specs.Numbered.{LotParts}
+use Rattle.rx_fields.specs.declared.stamp.Stamp.{Stamp}
+use Rattle.rx_settle.specs.Settlement.{head_line, provider_line, settlement_text, total_line}
+use Rattle.rx_settle.specs.Together.{line_alone, together_text}
 use Rattle.rx_settle.proofs.Firsts.{firsts, seen, Distinct, Distinct-firsts, firsts-push, seen_alike, none_alike}
 use Rattle.rx_settle.proofs.Names.{same_fields, named_again}
 use Rattle.rx_settle.proofs.Tallies.{tally_of, tally_of-push, weight-filter}
@@ -200,3 +203,27 @@ lines_among rs (f ∷ fs) = rw (named_again f.echo.provider, lines_among rs fs) 
 pub lines : (rs : List Reply) → flat_map line (tallies_of rs) ≡ flat_map (provider_line rs) (providers rs)
 lines rs = ap (flat_map line) (sym (entries-tallies rs)) ∙ lines_among rs (first_replies rs)
     ∙ ap (flat_map (provider_line rs)) (names rs)
+
+-- those of the entries of one id
+alone_among : (id : List ℕ) (rs fs : List Reply)
+    → flat_map line (filter (λ e. is_same id (named e.0)) (map (entry rs) fs))
+    ≡ flat_map (provider_line rs) (filter (is_same id) (map provider_of fs))
+alone_among id rs [] = refl
+alone_among id rs (f ∷ fs) = rw (named_again f.echo.provider) (elim (cases_Bool (is_same id (provider_of f))) [
+  | inl here ↦ rw (here, named_again f.echo.provider, alone_among id rs fs) refl
+  | inr other ↦ rw other (alone_among id rs fs)
+])
+
+-- the line of one tally is that of its provider
+pub lines_alone : (id : List ℕ) (rs : List Reply)
+    → flat_map line (filter (λ e. is_same id (named e.0)) (tallies_of rs)) ≡ line_alone id rs
+lines_alone id rs =
+    ap (λ es. flat_map line (filter (λ e. is_same id (named e.0)) es)) (sym (entries-tallies rs))
+    ∙ alone_among id rs (first_replies rs)
+    ∙ ap (λ ns. flat_map (provider_line rs) (filter (is_same id) ns)) (names rs)
+
+-- one batch together is that batch
+pub one_run : (lot : LotParts) (stamp : Stamp) (rs : List Reply)
+    → together_text (record { lot = lot; stamp = stamp } ∷ []) rs ≡ settlement_text lot stamp rs
+one_run lot stamp rs =
+    ap (λ bs. bs ++ (flat_map (provider_line rs) (providers rs) ++ total_line rs)) (append-nil (head_line lot stamp))

@@ -3,3 +3,4 @@ pub mod Answers
 pub mod Counting
 pub mod Providers
 pub mod Settlement
+pub mod Together

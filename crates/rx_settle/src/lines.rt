@@ -3,15 +3,27 @@ ghost use Rattle.std.specs.Result.{IfOk, OnOk};
 ghost use Rattle.std.specs.String.{string_bytes};
 ghost use Rattle.rx_settle.specs.Providers.{named};
 ghost use Rattle.rx_settle.specs.Settlement.{counts_text, head_line};
+ghost use Rattle.rx_settle.specs.Together.{head_lines};
 
+use crate::batch_run::BatchRun;
 use crate::provider::{Field, put_provider};
 use crate::tally::Tally;
 use rx_fields::{Lot, Stamp, digits_write};
 use std::alloc::{AllocError, Global};
 
-/// The head line: the batch number and the stamp.
+/// The head line of each batch.
+pub(crate) fn put_heads(text: &mut Vec<u8>, runs: &[BatchRun]) -> Result<(), AllocError>
+    ensures { OnOk result (text.new.items ≡ text.old.items ++ head_lines runs.now) }
+{
+    for run in runs {
+        put_head(text, run.lot, run.stamp)?;
+    }
+    Ok(())
+}
+
+// The head line: the batch number and the stamp.
 #[tactic(auto, using(std::proofs::Common::append_assoc))]
-pub(crate) fn put_head(text: &mut Vec<u8>, lot: Lot, stamp: Stamp) -> Result<(), AllocError>
+fn put_head(text: &mut Vec<u8>, lot: Lot, stamp: Stamp) -> Result<(), AllocError>
     ensures { OnOk result (text.new.items ≡ text.old.items ++ head_line lot stamp) }
 {
     let number: [u8; 7] = digits_write(u64::from(lot.number()));

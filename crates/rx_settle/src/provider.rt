@@ -1,6 +1,6 @@
 ghost use Rattle.std.specs.Prelude.{◌≡◌, ◌++◌};
 ghost use Rattle.std.specs.Result.{OnOk};
-ghost use Rattle.rx_settle.specs.Providers.{named, provider_of};
+ghost use Rattle.rx_settle.specs.Providers.{is_same, named, provider_of};
 ghost use Rattle.rx_settle.specs.Counting.{field_text};
 
 use rx_d0_values::Reply;
@@ -25,6 +25,16 @@ pub fn known_or_blank(field: Field) -> Field
         field
     } else {
         [b' '; 15]
+    }
+}
+
+/// Whether a field names the provider with this id, which is empty where the field holds none.
+pub fn names_provider(id: &[u8], field: &Field) -> bool
+    ensures { result ≡ is_same id.now (named field.now) }
+{
+    match Provider::new(field) {
+        Ok(provider) => id == provider.bytes(),
+        Err(_) => id.is_empty(),
     }
 }
 

@@ -3,9 +3,11 @@ ghost use Rattle.std.specs.List.{flat_map};
 ghost use Rattle.std.specs.Result.{IfOk, OnOk};
 ghost use Rattle.rx_settle.specs.Answers.{answers_of, tally, weight};
 ghost use Rattle.rx_settle.specs.Counting.{counted, line, tallies_of, tally_at};
-ghost use Rattle.rx_settle.specs.Settlement.{counts_text, head_line, settlement_text};
+ghost use Rattle.rx_settle.specs.Settlement.{counts_text, settlement_text};
+ghost use Rattle.rx_settle.specs.Together.{head_lines, together_text};
 
-use crate::lines::{put_head, put_line, put_total};
+use crate::batch_run::BatchRun;
+use crate::lines::{put_heads, put_line, put_total};
 use crate::provider::{Field, provider_field};
 use crate::tally::Tally;
 use indexmap::IndexMap;
@@ -32,23 +34,36 @@ pub struct Settled {
 
 /// The settlement of a batch's replies: counts of their answers and the net in cents, per provider in order of first
 /// appearance and over all (docs/FORMATS.md, "Settlement file").
-#[tactic(auto, using(crate::proofs::Tallied::lines))]
+#[tactic(auto, using(crate::proofs::Tallied::one_run))]
 pub fn settle(alloc: Global, lot: Lot, stamp: Stamp, replies: &[Reply]) -> Result<Vec<u8>, Memory>
     ensures { IfOk result (λ text. text.items ≡ settlement_text lot stamp replies.now) }
 {
+    settle_together(alloc, &[BatchRun { lot, stamp }], replies)
+}
+
+/// The settlement of several batches together: the head line of each, and below them what the replies to all of them come
+/// to, as one settlement.
+#[tactic(auto, using(crate::proofs::Tallied::lines))]
+pub fn settle_together(
+    alloc: Global,
+    runs: &[BatchRun],
+    replies: &[Reply],
+) -> Result<Vec<u8>, Memory>
+    ensures { IfOk result (λ text. text.items ≡ together_text runs.now replies.now) }
+{
     let tallied = tally_replies(alloc, replies)?;
-    settled_text(alloc, lot, stamp, &tallied)
+    settled_text(alloc, runs, &tallied)
 }
 
 // The settlement that has these tallies.
 #[tactic(auto, using(std::proofs::Common::append_assoc))]
-fn settled_text(alloc: Global, lot: Lot, stamp: Stamp, settled: &Settled) -> Result<Vec<u8>, Memory>
-    ensures { IfOk result (λ text. text.items ≡ head_line lot stamp
+fn settled_text(alloc: Global, runs: &[BatchRun], settled: &Settled) -> Result<Vec<u8>, Memory>
+    ensures { IfOk result (λ text. text.items ≡ head_lines runs.now
         ++ (flat_map line settled.now.providers.entries ++ (codes "TOTAL" ++ counts_text settled.now.total))) }
 {
     let lines = settled.providers.len().saturating_mul(LINE);
     let mut text = Vec::with_capacity(alloc, lines.saturating_add(ENDS))?;
-    put_head(&mut text, lot, stamp)?;
+    put_heads(&mut text, runs)?;
     put_lines(alloc, &mut text, &settled.providers)?;
     put_total(alloc, &mut text, &settled.total)?;
     Ok(text)
