@@ -14,3 +14,5 @@ pub mod Faults
 pub mod Readings
 pub mod Lists
 pub mod Bodies
+pub mod Strays
+mod WorkedDoors

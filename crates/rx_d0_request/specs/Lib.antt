@@ -2,6 +2,7 @@
 pub mod Bills
 pub mod Codes
 pub mod Cut
+pub mod Doors
 pub mod Headers
 pub mod Known
 pub mod Marks

@@ -14,6 +14,7 @@
 
 mod bill;
 mod codes;
+mod doors;
 mod field;
 mod header;
 mod known;
@@ -25,6 +26,7 @@ mod reading;
 mod request;
 mod value;
 
+pub use doors::{decode_routed, door_in, plan_named};
 pub use header::{BIN_LENGTH, HEADER_LENGTH, PCN_AT, PCN_LENGTH};
 pub use law::written_is_heard;
 pub use request::decode;
