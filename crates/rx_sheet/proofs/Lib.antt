@@ -4,6 +4,7 @@ pub mod Blanks
 pub mod Documents
 pub mod DrugLists
 pub mod OneReading
+pub mod PlanLists
 pub mod Products
 pub mod Shares
 mod WorkedSheets

@@ -19,9 +19,17 @@ mod fault;
 mod figures;
 mod law;
 mod names;
+mod plan_files;
+mod plan_key;
+mod plans;
+mod plans_fault;
 mod sheet_text;
 mod values;
 
 pub use fault::SheetFault;
 pub use law::one_reading;
+pub use plan_files::PlanFiles;
+pub use plan_key::PlanKey;
+pub use plans::read_plans;
+pub use plans_fault::PlansFault;
 pub use sheet_text::read_sheet;

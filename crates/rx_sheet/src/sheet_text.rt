@@ -29,9 +29,9 @@ pub fn read_sheet(alloc: Global, text: &[u8]) -> Result<Sheet, SheetFault>
     sheet_of(alloc, figures, drugs.as_slice())
 }
 
-// The table of a TOML document.
+/// The table of a TOML document.
 #[tactic(auto, unfolding(crate::specs::SheetText::tree_of))]
-fn tree_of(alloc: Global, text: &[u8]) -> Result<Table, SheetFault>
+pub(crate) fn tree_of(alloc: Global, text: &[u8]) -> Result<Table, SheetFault>
     ensures { GivesAs table_view result (tree_of text.now) }
 {
     match toml::table_from_slice(alloc, text) {

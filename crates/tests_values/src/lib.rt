@@ -37,6 +37,8 @@ mod parcels;
 #[cfg(test)]
 mod plan;
 #[cfg(test)]
+mod plans;
+#[cfg(test)]
 mod reply;
 #[cfg(test)]
 mod request;
