@@ -1,4 +1,4 @@
--- A request is read at the door of the plan that it names; one that names none, at a door that it misses by one thing alone.
+-- A request is read at the door of the plan that it names; one that names none, at a door that it misses by just one thing.
 use Rattle.std.proofs.Common.{◌≡◌, ℕ, suc, ◌<◌, ◌≤◌, Bool, true, false, not, ◌||◌, ◌&&◌, List, [], ◌∷◌, get_or, length, refl, sym, ap, ◌∙◌, inl, inr, arith}
 use Rattle.std.specs.Prelude.{codes, is_none, is_some, max, min, nat_eq, set}
 use Rattle.std.specs.List.{list_any}

@@ -50,7 +50,7 @@ number_codes : stray_rejected doors (request (codes "900002") (codes "D0") (code
 unfolding stray_rejected first_five header_of header_bytes is_clean common groups parts common_of is_part segments insurance_in segment insurance_of field is_segment fields
 number_codes = refl
 
--- 01 alone: no plan has the BIN
+-- only 01: no plan has the BIN
 bin_codes : stray_rejected doors (request (codes "900009") (codes "D0") (codes "RXDEMO    "))
     ≡ record { codes = code.Bin ∷ []; groups = 1 }
 unfolding stray_rejected first_five header_of header_bytes is_clean common groups parts common_of is_part segments insurance_in segment insurance_of field is_segment fields

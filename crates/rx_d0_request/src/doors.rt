@@ -66,7 +66,7 @@ pub fn decode_routed(alloc: Global, doors: &[Door], bytes: &[u8]) -> Result<Tran
 }
 
 // The door at which a request that asks for this one is read: that of the plan that it names. Where it names none, a door
-// that it misses by one thing alone: by the processor control number where a plan has its BIN, else by the BIN.
+// that it misses by just one thing: by the processor control number where a plan has its BIN, else by the BIN.
 fn door_for(doors: &[Door], asked: &Door) -> Door
     ensures { (bytes : List ℕ) → door_in bytes ≡ asked.now → transmission_of result bytes ≡ routed doors.now bytes }
 {

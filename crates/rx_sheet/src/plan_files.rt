@@ -1,7 +1,7 @@
 /// A plan as a plans file names it (docs/FORMATS.md, "Plans file"). No text is empty.
 #[derive(Debug, Drop)]
 pub struct PlanFiles {
-    /// The name by which the plan is told.
+    /// The name of the plan in reports and messages.
     pub name: String,
     /// The path of the plan sheet.
     pub sheet: String,

@@ -4,7 +4,7 @@ ghost use Rattle.rx_sheet.specs.Plans.{plan_key_name};
 /// A key of a plan's table in a plans file, in the order in which they are looked at (docs/FORMATS.md, "Plans file").
 #[derive(Clone, Copy, Debug, PartialEq, Eq)]
 pub enum PlanKey {
-    /// The plan's name, by which it is told.
+    /// The plan's name in reports and messages.
     Name,
     /// The plan sheet.
     Sheet,

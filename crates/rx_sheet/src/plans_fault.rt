@@ -16,7 +16,7 @@ pub enum PlansFault {
     NoTable(usize),
     /// This plan's key isn't there.
     Missing(usize, PlanKey),
-    /// The value of this plan's key is no text, or an empty one.
+    /// The value of this plan's key isn't a text, or is an empty one.
     Wrong(usize, PlanKey),
     /// Out of memory. No plan is to blame.
     Memory,

@@ -1,4 +1,4 @@
--- The named plan's door, or one that is missed by one thing alone.
+-- The named plan's door, or one that is missed by just one thing.
 use Rattle.std.proofs.Common.{◌≡◌, ◌<◌, ◌≤◌, [], get_or, length, true, false, sym, ap, ◌∙◌, arith}
 use Rattle.std.specs.List.{list_any}
 use Rattle.rx_fields.specs.declared.door.Door.{Door}
