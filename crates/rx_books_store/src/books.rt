@@ -13,7 +13,8 @@ use crate::reader::Quick;
 use crate::whole::Whole;
 use rx_books_text::{BooksFault, Version, read_printed};
 use rx_fields::{Id, Key, Memory, Period, Person};
-use rx_ledger::{Ledger, Row};
+use rx_ledger::{Ledger, Member, Row};
+use rx_sorted::Ascending;
 use std::alloc::Global;
 use std::marker::Model;
 
@@ -97,6 +98,23 @@ impl Books {
             Form::Plain(books) => Ok(books.copy(alloc, period)?.close()),
             Form::Amended(books) => Ok(books.whole().made_plain(alloc, period)?.close()),
         }
+    }
+
+    /// The same claims, of these members, among whom each claim's is. The totals are of the same period.
+    pub fn with_members(&self, alloc: Global, members: Ascending<Member>) -> Result<Books, Memory>
+        requires { IsLedger (record { members = members; rows = self.now.ledger.rows }) }
+        ensures { IfOk result (λ books. books ≡ record {
+          period = self.now.period;
+          ledger = record { members = members; rows = self.now.ledger.rows };
+        }) }
+    {
+        if let Some(books) = self.plain()
+            && books.has_no_slot()
+        {
+            return Ok(books.with_members(alloc, members)?.close());
+        }
+        let (_, rows) = self.ledger(alloc)?.into_lists();
+        Books::from_ledger(alloc, &Ledger::from_lists(members, rows), self.period())
     }
 
     /// These books, with the totals of this period.

@@ -155,6 +155,7 @@ impl OpenBooks {
     pub fn members(&self) -> &[Member]
         ensures value { result.now ≡ self.now.books.ledger.members }
         ensures rise { IsAscending member_cmp member_key self.now.books.ledger.members }
+        ensures within { IsLedger self.now.books.ledger }
     {
         self.opening.members().as_slice()
     }

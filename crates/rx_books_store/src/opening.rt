@@ -15,6 +15,7 @@ ghost use Rattle.rx_books_store.specs.Held.{AreHeld};
 ghost use Rattle.rx_books_store.specs.Store.{AreHolders, AreHomes};
 
 use crate::hints::Places;
+use crate::holders::holders_of;
 use crate::kept::Kept;
 use rx_fields::{Id, Memory};
 use rx_ledger::{Member, MemberKey, Row};
@@ -43,7 +44,7 @@ impl Keyed for FamilyName {
 #[derive(Debug, Drop)]
 pub(crate) struct Lists {
     members: Ascending<Member>,
-    rows: Runs<Row>,
+    rows: Arc<Runs<Row>, Global>,
     families: Ascending<FamilyName>,
     homes: Vec<u32>,
     holders: Vec<u32>,
@@ -55,12 +56,14 @@ impl Model for Lists {
 
     ghost Value = { Ledger };
 
+    ghost use Rattle.std.specs.Arc.{arc_value};
     ghost use Rattle.rx_books_store.specs.Opening.{names_of};
     ghost use Rattle.rx_books_store.specs.Store.{AreLists};
 
-    ghost view = { λ l. record { members = l.members; rows = l.rows } };
+    ghost view = { λ l. record { members = l.members; rows = arc_value l.rows } };
 
-    ghost invariant = { λ l. AreLists (record { members = l.members; rows = l.rows }) (names_of l.families) l.homes.items l.holders.items };
+    ghost invariant = { λ l. AreLists (record { members = l.members; rows = arc_value l.rows }) (names_of l.families) l.homes.items
+        l.holders.items };
 }
 
 /// What books were made from. It never changes, and copies share it. Contracts see the ledger.
@@ -99,9 +102,35 @@ impl Opening {
         ensures value { IfOk result (λ opening. opening ≡ record { members = members; rows = rows }) }
         ensures within { IfOk result (λ opening. IsLedger opening) }
     {
+        let rows = Arc::new(alloc, rows)?;
         let lists = Lists::of(alloc, members, rows, holders, places)?;
         let lists = Arc::new(alloc, lists)?;
         Ok(Opening { lists, kept: None })
+    }
+
+    /// The same rows, with the text that they were read from, of these members, among whom each row's is.
+    pub(crate) fn with_members(
+        &self,
+        alloc: Global,
+        members: Ascending<Member>,
+    ) -> Result<Opening, Memory>
+        ensures value { IfOk result (λ opening. opening ≡ record { members = members; rows = self.now.rows }) }
+        ensures within { IfOk result (λ opening. IsLedger opening) }
+    {
+        let lists = self.lists.with_members(alloc, members)?;
+        let lists = Arc::new(alloc, lists)?;
+        let kept = self.share_kept()?;
+        Ok(Opening { lists, kept })
+    }
+
+    // The text that the rows were read from, shared.
+    fn share_kept(&self) -> Result<Option<Arc<Kept, Global>>, Memory>
+        ensures { IfOk result (λ kept. IfSome kept (λ kept. IsKept (arc_value kept) self.now.rows)) }
+    {
+        match &self.kept {
+            Some(kept) => Ok(Some(Arc::try_clone(kept)?)),
+            None => Ok(None),
+        }
     }
 
     /// The same lists, shared.
@@ -109,10 +138,7 @@ impl Opening {
         ensures { IfOk result (λ opening. opening ≡ self.now) }
     {
         let lists = Arc::try_clone(&self.lists)?;
-        let kept = match &self.kept {
-            Some(kept) => Some(Arc::try_clone(kept)?),
-            None => None,
-        };
+        let kept = self.share_kept()?;
         Ok(Opening { lists, kept })
     }
 
@@ -225,13 +251,13 @@ impl Lists {
     fn of(
         alloc: Global,
         members: Ascending<Member>,
-        rows: Runs<Row>,
+        rows: Arc<Runs<Row>, Global>,
         holders: Vec<u32>,
         places: Places,
     ) -> Result<Lists, Memory>
         requires few { length members < 2 ^ 32 }
-        requires held { AreHeld members rows holders.items }
-        ensures value { IfOk result (λ lists. lists ≡ record { members = members; rows = rows }) }
+        requires held { AreHeld members (arc_value rows) holders.items }
+        ensures value { IfOk result (λ lists. lists ≡ record { members = members; rows = arc_value rows }) }
         ensures within { IfOk result (λ lists. IsLedger lists) }
     {
         let (families, homes) = homes_of(alloc, members.as_slice())?;
@@ -243,6 +269,17 @@ impl Lists {
             holders,
             places,
         })
+    }
+
+    // The same rows, shared, of these members, among whom each row's is.
+    fn with_members(&self, alloc: Global, members: Ascending<Member>) -> Result<Lists, Memory>
+        ensures value { IfOk result (λ lists. lists ≡ record { members = members; rows = self.now.rows }) }
+        ensures within { IfOk result (λ lists. IsLedger lists) }
+    {
+        let rows = Arc::try_clone(&self.rows)?;
+        let places = Places::of(alloc, members.as_slice()).ok_or(Memory)?;
+        let holders = holders_of(alloc, &places, &members, self.rows()).ok_or(Memory)?;
+        Lists::of(alloc, members, rows, holders, places)
     }
 
     fn members(&self) -> &Ascending<Member>
@@ -257,7 +294,8 @@ impl Lists {
         ensures value { result.now ≡ self.now.rows }
         ensures within { IsLedger self.now }
     {
-        &self.rows
+        let rows: &Runs<Row> = &self.rows;
+        rows
     }
 
     fn families(&self) -> &[FamilyName]

@@ -20,7 +20,7 @@ use crate::standing::Standing;
 use crate::sums::{Figures, summed};
 use rx_books_text::TotalLine;
 use rx_fields::{Key, Memory, Period};
-use rx_ledger::{Ledger, Row};
+use rx_ledger::{Ledger, Member, Row};
 use rx_sorted::Ascending;
 use std::alloc::Global;
 use std::thread::Threads;
@@ -137,6 +137,29 @@ impl OpenBooks {
             family_deductibles: _,
         } = self;
         OpenBooks::added_up(alloc, period, opening, changed)
+    }
+
+    /// The same claims, of these members, among whom each claim's is; no slot is open.
+    pub(crate) fn with_members(
+        &self,
+        alloc: Global,
+        members: Ascending<Member>,
+    ) -> Result<OpenBooks, Memory>
+        requires { self.now.slots ≡ [] }
+        ensures { IfOk result (λ b. b.books ≡ record {
+          period = self.now.books.period;
+          ledger = record { members = members; rows = self.now.books.ledger.rows };
+        }) }
+    {
+        let opening = self.opening.with_members(alloc, members)?;
+        OpenBooks::added_up(alloc, self.period, opening, Ascending::new(alloc))
+    }
+
+    /// Whether no fill key has a slot.
+    pub(crate) fn has_no_slot(&self) -> bool
+        ensures { IsTrue result → self.now.slots ≡ [] }
+    {
+        self.changed.as_slice().is_empty()
     }
 
     /// The row under a fill key.

@@ -68,8 +68,8 @@ impl OpenBooks {
         }
     }
 
-    // Takes out the row under a slot's fill key, if there is one.
-    fn clear_slot(&mut self, slot: usize, key: &Key)
+    /// Takes out the row under a slot's fill key, if there is one. It takes no memory.
+    pub fn clear_slot(&mut self, slot: usize, key: &Key)
         requires { slice_get self.old.slots slot ≡ Some key.now }
         ensures { self.new ≡ open_without self.old key.now }
     {

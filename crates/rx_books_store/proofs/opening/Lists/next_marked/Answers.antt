@@ -1,4 +1,5 @@
 use Rattle.std.proofs.Common.{◌≡◌, ◌+◌, ◌-◌, ◌<◌, ◌≤◌, ℕ, List, length, drop, take, ap, sym, subst, refl, ◌∙◌, Option, Some, None, arith, get_or}
+use Rattle.std.specs.Arc.{arc_value}
 use Rattle.std.specs.Prelude.{IfSome, slice_get}
 use Rattle.std.proofs.lemmas.List.{get_or-drop, get_or-take, length-drop, length-take}
 use Rattle.std.proofs.lemmas.Option.{slice_get_within}
@@ -40,8 +41,8 @@ returns c = record {
         let holders : List ℕ = c.self.inside.holders.items in
         let all : List ℕ = c.deref.result.now in
         let same : all ≡ holders = c.deref.ensures.value in
-        let here : slice_get c.self.inside.rows m ≡ Some r = ap (λ (L : Ledger). slice_get L.rows m) c.self.view_is ∙ there in
-        let within = slice_get_within c.self.inside.rows m r here in
+        let here : slice_get (arc_value c.self.inside.rows) m ≡ Some r = ap (λ (L : Ledger). slice_get L.rows m) c.self.view_is ∙ there in
+        let within = slice_get_within (arc_value c.self.inside.rows) m r here in
         let one_each = c.self.invariant.held_by.one_each in
         let room : m - from < length all - from = omega (arith, le, within, one_each, ap length same) in
         let back : from + (m - from) ≡ m = omega (arith, le) in

@@ -1,3 +1,4 @@
+use Rattle.std.specs.Arc.{arc_value}
 use Rattle.rx_books_store.proofs.Openings.{held-ledger}
 use Rattle.rx_books_store.proofs.opening.Lists.of.Goals as goal
 
@@ -8,7 +9,7 @@ pub invariant_of-result : goal.invariant_of-result
 invariant_of-result c =
     let families = rw c.as_slice.ensures.value at c.in_ok-families.ensures in
     record {
-      in_order = held-ledger c.args.members c.args.rows c.args.holders.items c.as_slice.ensures.ascending
+      in_order = held-ledger c.args.members (arc_value c.args.rows) c.args.holders.items c.as_slice.ensures.ascending
           c.requires.held.rise c.requires.held.held_by;
       all_families = families.names;
       at_home = rw families.names families.homes;
@@ -17,5 +18,5 @@ invariant_of-result c =
     }
 
 pub returns-clause-within : goal.returns-clause-within
-returns-clause-within c = held-ledger c.args.members c.args.rows c.args.holders.items c.as_slice.ensures.ascending
+returns-clause-within c = held-ledger c.args.members (arc_value c.args.rows) c.args.holders.items c.as_slice.ensures.ascending
     c.requires.held.rise c.requires.held.held_by
