@@ -35,17 +35,14 @@ abbrev pub counted_part : Option Counted → List ℕ
 counted_part None = []
 counted_part (Some c) = codes "  " ++ counted_text c
 
-abbrev pub size_part : Option ℕ → List ℕ
-size_part None = []
-size_part (Some bytes) = codes "  " ++ size_text bytes
+-- a number of bytes after this text, if there is one
+abbrev pub size_part : List ℕ → Option ℕ → List ℕ
+size_part front None = []
+size_part front (Some bytes) = front ++ size_text bytes
 
 abbrev pub time_part : Option ℕ → List ℕ
 time_part None = []
 time_part (Some micros) = codes "  " ++ time_text micros
-
-abbrev pub peak_part : Option ℕ → List ℕ
-peak_part None = []
-peak_part (Some bytes) = codes "  peak " ++ size_text bytes
 
 -- a count, and what is counted
 unfoldable pub named : ℕ → List ℕ → List ℕ
@@ -63,7 +60,7 @@ totals_part (Some t) = codes "  " ++ totals_text t
 
 -- LABEL  COUNT lines  SIZE  TIME
 abbrev pub step_text : StepReport → List ℕ
-step_text r = label_of r.step ++ (counted_part r.counted ++ (size_part r.bytes ++ (time_part r.micros ++ 10 ∷ [])))
+step_text r = label_of r.step ++ (counted_part r.counted ++ (size_part (codes "  ") r.bytes ++ (time_part r.micros ++ 10 ∷ [])))
 
 -- shards  COUNT, the largest has COUNT of ALL transactions
 abbrev pub shards_text : Shards → List ℕ
@@ -78,4 +75,4 @@ progress_text adjudicated records =
 
 -- done  TOTALS  peak SIZE  TIME
 abbrev pub done_text : RunReport → List ℕ
-done_text r = codes "done       " ++ (totals_part r.totals ++ (peak_part r.peak ++ (time_part r.micros ++ 10 ∷ [])))
+done_text r = codes "done       " ++ (totals_part r.totals ++ (size_part (codes "  peak ") r.peak ++ (time_part r.micros ++ 10 ∷ [])))

@@ -1,7 +1,7 @@
 ghost use Rattle.std.specs.Prelude.{◌≡◌, ◌++◌, IfOk, OnOk};
 ghost use Rattle.rx_print.specs.Decimal.{grouped};
 ghost use Rattle.rx_run_log.specs.Lines.{totals_part, totals_text, counted_part, counted_text, done_text, ending, named};
-ghost use Rattle.rx_run_log.specs.Lines.{peak_part, progress_text, shards_text, size_part, step_text, time_part};
+ghost use Rattle.rx_run_log.specs.Lines.{progress_text, shards_text, size_part, step_text, time_part};
 
 use crate::numbers::{put_net, put_size, put_time};
 use crate::report::{Counted, RunReport, Shards, StepReport};
@@ -21,7 +21,7 @@ pub fn step_line(alloc: Global, report: &StepReport) -> Result<Vec<u8>, AllocErr
     let mut line = Vec::new(alloc);
     line.extend_from_slice(report.step.label().as_bytes())?;
     put_counted(&mut line, report.counted)?;
-    put_size_part(&mut line, report.bytes)?;
+    put_size_part(&mut line, b"  ", report.bytes)?;
     put_time_part(&mut line, report.micros)?;
     line.push(b'\n')?;
     Ok(line)
@@ -75,7 +75,7 @@ pub fn done_line(alloc: Global, run: &RunReport) -> Result<Vec<u8>, AllocError>
     let mut line = Vec::new(alloc);
     line.extend_from_slice(b"done       ")?;
     put_totals_part(&mut line, run.totals)?;
-    put_peak_part(&mut line, run.peak)?;
+    put_size_part(&mut line, b"  peak ", run.peak)?;
     put_time_part(&mut line, run.micros)?;
     line.push(b'\n')?;
     Ok(line)
@@ -123,13 +123,13 @@ fn put_ending(line: &mut Vec<u8>, count: u64) -> Result<(), AllocError>
 }
 
 #[tactic(auto, using(std::proofs::Common::append_assoc))]
-fn put_size_part(line: &mut Vec<u8>, bytes: Option<u64>) -> Result<(), AllocError>
-    ensures { OnOk result (line.new.items ≡ line.old.items ++ size_part bytes) }
+fn put_size_part(line: &mut Vec<u8>, front: &[u8], bytes: Option<u64>) -> Result<(), AllocError>
+    ensures { OnOk result (line.new.items ≡ line.old.items ++ size_part front.now bytes) }
 {
     let Some(bytes) = bytes else {
         return Ok(());
     };
-    line.extend_from_slice(b"  ")?;
+    line.extend_from_slice(front)?;
     put_size(line, bytes)
 }
 
@@ -142,17 +142,6 @@ fn put_time_part(line: &mut Vec<u8>, micros: Option<u64>) -> Result<(), AllocErr
     };
     line.extend_from_slice(b"  ")?;
     put_time(line, micros)
-}
-
-#[tactic(auto, using(std::proofs::Common::append_assoc))]
-fn put_peak_part(line: &mut Vec<u8>, peak: Option<u64>) -> Result<(), AllocError>
-    ensures { OnOk result (line.new.items ≡ line.old.items ++ peak_part peak) }
-{
-    let Some(peak) = peak else {
-        return Ok(());
-    };
-    line.extend_from_slice(b"  peak ")?;
-    put_size(line, peak)
 }
 
 #[tactic(auto, using(std::proofs::Common::append_assoc))]
