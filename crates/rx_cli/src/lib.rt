@@ -28,11 +28,11 @@ mod people;
 mod people_syntax;
 mod people_words;
 mod retrace;
-mod retracing;
+mod retrace_options;
 mod syntax;
 mod upkeep;
+mod upkeep_options;
 mod upkeep_syntax;
-mod upkeeping;
 mod words;
 
 pub use asked::{CheckWords, Command, RunWords, ShowWords};

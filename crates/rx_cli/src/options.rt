@@ -72,13 +72,10 @@ pub(crate) fn inputs<'a>(found: &ArgMatches<'a>) -> Option<Inputs<&'a str>>
     ensures some { IfSome result (HoldsInputs (rows_of (found_of found.now))) }
     ensures none { IfNone result (NoneHolds (HoldsInputs (rows_of (found_of found.now)))) }
 {
-    let sheet = text(found, "sheet")?;
-    let books = text(found, "books")?;
-    let batch = text(found, "batch")?;
     Some(Inputs {
-        sheet,
-        books,
-        batch,
+        sheet: text(found, "sheet")?,
+        books: text(found, "books")?,
+        batch: text(found, "batch")?,
     })
 }
 
@@ -87,12 +84,9 @@ pub(crate) fn outputs<'a>(found: &ArgMatches<'a>) -> Option<Outputs<&'a str>>
     ensures some { IfSome result (HoldsOutputs (rows_of (found_of found.now))) }
     ensures none { IfNone result (NoneHolds (HoldsOutputs (rows_of (found_of found.now)))) }
 {
-    let response = text(found, "response")?;
-    let books = text(found, "books-out")?;
-    let settlement = text(found, "settlement")?;
     Some(Outputs {
-        response,
-        books,
-        settlement,
+        response: text(found, "response")?,
+        books: text(found, "books-out")?,
+        settlement: text(found, "settlement")?,
     })
 }

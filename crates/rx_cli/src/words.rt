@@ -13,9 +13,9 @@ use crate::misuse::{
 };
 use crate::options::{flag, inputs, number_if_given, outputs, text};
 use crate::people_words::{adjudicate_taken, fault};
-use crate::retracing::{explain, report, verify};
+use crate::retrace_options::{explain, report, verify};
 use crate::syntax::line;
-use crate::upkeeping::{age, family, members};
+use crate::upkeep_options::{age, family, members};
 use clap::ArgMatches;
 use rx_io::Inputs;
 use std::alloc::Global;

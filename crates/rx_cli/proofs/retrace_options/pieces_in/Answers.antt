@@ -1,7 +1,7 @@
 use Rattle.std.proofs.Common.{eqb, rules}
 use Rattle.std.proofs.lemmas.Iterator.Consumers.{count_from_yields_List}
 use Rattle.std.proofs.lemmas.Iterator.Splits.{YieldsList-from_slice_split}
-use Rattle.rx_cli.proofs.retracing.pieces_in.Goals as goal
+use Rattle.rx_cli.proofs.retrace_options.pieces_in.Goals as goal
 
 pub returns : goal.returns
 returns c =

@@ -1,7 +1,7 @@
 use Rattle.std.proofs.Common.{codes, rules}
 use Rattle.clap.specs.Words.{found_of, rows_of}
 use Rattle.rx_cli.specs.Asked.{HasNumberOr, HoldsVerify, NoneHolds}
-use Rattle.rx_cli.proofs.retracing.verify.Goals as goal
+use Rattle.rx_cli.proofs.retrace_options.verify.Goals as goal
 
 pub returns-in_err-workers-clause-none : goal.returns-in_err-workers-clause-none
 returns-in_err-workers-clause-none c =

@@ -3,7 +3,7 @@ use Rattle.std.proofs.lemmas.Iterator.Search.{all_from_yields_List}
 use Rattle.std.proofs.lemmas.Iterator.Splits.{YieldsList-from_slice_split}
 use borrow.Author.Tests.{tests}
 use Rattle.rx_cli.specs.Asked.{is_number}
-use Rattle.rx_cli.proofs.retracing.are_numbers.Goals as goal
+use Rattle.rx_cli.proofs.retrace_options.are_numbers.Goals as goal
 
 pub returns : goal.returns
 returns c =
