@@ -53,12 +53,16 @@ misplaced_line name = codes "tier " ++ (name ++ codes " has the name of a key of
 abbrev pub misplaced_lines : List ℕ → List (List ℕ)
 misplaced_lines name = if is_among name sheet_keys then misplaced_line name ∷ [] else []
 
+-- the names in the table of a tier or of a drug, if it is a table
+abbrev pub named_lines : List ℕ → List ℕ → List (List ℕ) → Data → List (List ℕ)
+named_lines part name known value =
+    lines_of (table_lines (part ++ (codes " " ++ (name ++ codes ": "))) known) (as_table value)
+
 abbrev pub tier_lines : List ℕ → Data → List (List ℕ)
-tier_lines name tier =
-    misplaced_lines name ++ lines_of (table_lines (codes "tier " ++ (name ++ codes ": ")) tier_keys) (as_table tier)
+tier_lines name tier = misplaced_lines name ++ named_lines (codes "tier") name tier_keys tier
 
 abbrev pub drug_lines : List ℕ → Data → List (List ℕ)
-drug_lines product drug = lines_of (table_lines (codes "drug " ++ (product ++ codes ": ")) drug_keys) (as_table drug)
+drug_lines product drug = named_lines (codes "drug") product drug_keys drug
 
 -- those of a tier, or of a drug
 abbrev pub part_lines : Part → List ℕ → Data → List (List ℕ)

@@ -1,5 +1,5 @@
 -- Meaning: what the inputs of a run are read as: what each text stands for, where it is given and accepted, or else its fault.
-use Rattle.std.specs.Prelude.{ℕ, List, Option, Some, None}
+use Rattle.std.specs.Prelude.{ℕ, List, Option, option_and_then}
 use Rattle.std.specs.Borrow.{Bor}
 use Rattle.std.specs.Result.{result_err, result_ok}
 use Rattle.rx_batch.specs.Reading.{batch_of}
@@ -27,18 +27,14 @@ sheet_fault text = result_err (sheet_of_text text)
 
 -- the same of inputs that may not be given: the books
 abbrev pub books_taken : Option (List ℕ) → Option LedgerBooks
-books_taken None = None
-books_taken (Some text) = result_ok (books_of text)
+books_taken given = option_and_then (λ text. result_ok (books_of text)) given
 
 abbrev pub books_fault : Option (List ℕ) → Option BooksFault
-books_fault None = None
-books_fault (Some text) = result_err (books_of text)
+books_fault given = option_and_then (λ text. result_err (books_of text)) given
 
 -- and the batch
 abbrev pub batch_taken : Option (List ℕ) → Option Batch
-batch_taken None = None
-batch_taken (Some text) = result_ok (batch_of text)
+batch_taken given = option_and_then (λ text. result_ok (batch_of text)) given
 
 abbrev pub batch_fault : Option (List ℕ) → Option BatchFault
-batch_fault None = None
-batch_fault (Some text) = result_err (batch_of text)
+batch_fault given = option_and_then (λ text. result_err (batch_of text)) given

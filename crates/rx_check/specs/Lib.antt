@@ -7,7 +7,7 @@ pub mod Inputs
 pub mod Numbered
 pub mod Refusals
 pub mod Report
-pub mod Stamping
-pub mod Stopping
+pub mod Stamp
+pub mod Stop
 pub mod Warned
 pub mod Wording

@@ -4,8 +4,8 @@ ghost use Rattle.rx_check.specs.Found.{IsFound};
 ghost use Rattle.rx_check.specs.Inputs.{books_fault, books_taken, sheet_fault, sheet_taken};
 
 use crate::found::Found;
-use crate::reading;
-use crate::reading::Read;
+use crate::inputs;
+use crate::inputs::Read;
 use crate::warnings::Warnings;
 use rx_books_store::Books;
 use rx_books_text::BooksFault;
@@ -26,8 +26,8 @@ pub type Files<'a> = Inputs<&'a [u8], Option<&'a [u8]>, Option<&'a [u8]>>;
 pub(crate) fn find(alloc: Global, files: &Files<'_>) -> Result<Found, Memory>
     ensures { IfOk result (IsFound files.now) }
 {
-    let sheet = reading::sheet(alloc, files.sheet)?;
-    let books = reading::books(alloc, files.books)?;
+    let sheet = inputs::sheet(alloc, files.sheet)?;
+    let books = inputs::books(alloc, files.books)?;
     found(alloc, files, &sheet, &books)
 }
 
@@ -44,7 +44,7 @@ fn found(
     requires books_fault { books.now.fault ≡ books_fault (option_copied files.now.books) }
     ensures { IfOk result (IsFound files.now) }
 {
-    let batch = reading::batch(alloc, files.batch)?;
+    let batch = inputs::batch(alloc, files.batch)?;
     let warnings = Warnings::of(alloc, files, &sheet.taken, &books.taken, &batch.taken)?;
     Ok(Found {
         sheet: sheet.fault,

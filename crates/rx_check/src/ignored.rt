@@ -1,8 +1,8 @@
 ghost use Rattle.std.specs.Prelude.{◌≡◌, ◌++◌, IfOk, OnOk, map, string_bytes};
 ghost use Rattle.std.specs.Option.{option_copied, option_map};
 ghost use Rattle.toml.specs.View.{table_view, view};
-ghost use Rattle.rx_check.specs.Ignored.{drug_lines, each_of, hint, ignored_line, ignored_lines, line_with};
-ghost use Rattle.rx_check.specs.Ignored.{lines_of, misplaced_line, misplaced_lines, name_lines, part_lines, sheet_lines};
+ghost use Rattle.rx_check.specs.Ignored.{each_of, hint, ignored_line, ignored_lines, line_with, lines_of};
+ghost use Rattle.rx_check.specs.Ignored.{misplaced_line, misplaced_lines, name_lines, named_lines, part_lines, sheet_lines};
 ghost use Rattle.rx_check.specs.Ignored.{table_at, table_lines, texts_of, tier_lines};
 
 use rx_diagnostics::{SHEET_KEYS, is_among, nearest};
@@ -174,7 +174,7 @@ fn put_part(
 {
     match part {
         Part::Tier => put_tier(alloc, lines, name, value),
-        Part::Drug => put_drug(alloc, lines, name, value),
+        Part::Drug => put_named(alloc, lines, "drug", name, value, &DRUG_KEYS),
     }
 }
 
@@ -189,11 +189,7 @@ fn put_tier(
         (map string_bytes lines.new.items ≡ map string_bytes lines.old.items ++ tier_lines name.now (view tier.now)) }
 {
     put_misplaced(alloc, lines, name)?;
-    let Some(table) = tier.as_table() else {
-        return Ok(());
-    };
-    let within = format!(in alloc; "tier {name}: ")?;
-    put_table(alloc, lines, within.as_str(), table, &TIER_KEYS)
+    put_named(alloc, lines, "tier", name, tier, &TIER_KEYS)
 }
 
 // The line of a tier that has the name of a key of the sheet.
@@ -216,19 +212,21 @@ fn misplaced_line(alloc: Global, name: &str) -> Result<String, AllocError>
     )
 }
 
-// The lines of a drug: the names in its table.
-fn put_drug(
+// The lines of the names in the table of a tier or of a drug, if it is a table.
+fn put_named(
     alloc: Global,
     lines: &mut Vec<String>,
-    product: &str,
-    drug: &Value,
+    part: &str,
+    name: &str,
+    value: &Value,
+    known: &[&'static str],
 ) -> Result<(), AllocError>
-    ensures { OnOk result
-        (map string_bytes lines.new.items ≡ map string_bytes lines.old.items ++ drug_lines product.now (view drug.now)) }
+    ensures { OnOk result (map string_bytes lines.new.items
+        ≡ map string_bytes lines.old.items ++ named_lines part.now name.now (texts_of known.now) (view value.now)) }
 {
-    let Some(table) = drug.as_table() else {
+    let Some(table) = value.as_table() else {
         return Ok(());
     };
-    let within = format!(in alloc; "drug {product}: ")?;
-    put_table(alloc, lines, within.as_str(), table, &DRUG_KEYS)
+    let within = format!(in alloc; "{part} {name}: ")?;
+    put_table(alloc, lines, within.as_str(), table, known)
 }

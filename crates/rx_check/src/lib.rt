@@ -17,7 +17,7 @@
 //! let line = rx_check::fault_words(alloc, fault, &run)?;
 //! ```
 //!
-//! `Warnings::stop` says at which warnings an adjudication ends before it writes anything (`specs/Stopping.antt`), and
+//! `Warnings::stop` says at which warnings an adjudication ends before it writes anything (`specs/Stop.antt`), and
 //! `fault_numbered` which refusal three numbers are of.
 //!
 //! Nothing is adjudicated.
@@ -28,13 +28,13 @@ mod fault_lines;
 mod findings;
 mod found;
 mod ignored;
+mod inputs;
 mod laws;
 mod numbered;
-mod reading;
 mod refusals;
 mod report_lines;
-mod stamping;
-mod stopping;
+mod stamp;
+mod stop;
 mod warned;
 mod warnings;
 
@@ -46,6 +46,6 @@ pub use ignored::ignored_keys;
 pub use laws::{faults_of_some_are_the_runs, first_fault_is_the_runs};
 pub use numbered::fault_numbered;
 pub use report_lines::Names;
-pub use stamping::{early_stamp, stamp_line};
+pub use stamp::{early_stamp, stamp_line};
 pub use warned::{adjudicated, feeds, has_none_under, may_pass, period_apart};
 pub use warnings::Warnings;

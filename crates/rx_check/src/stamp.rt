@@ -1,5 +1,5 @@
 ghost use Rattle.std.specs.Prelude.{◌≡◌, IfOk, string_bytes};
-ghost use Rattle.rx_check.specs.Stamping.{early_line, early_text, is_dated_before, stamp_line};
+ghost use Rattle.rx_check.specs.Stamp.{early_line, early_text, is_dated_before, stamp_line};
 
 use crate::report_lines::date;
 use rx_fields::{Day, date_read};

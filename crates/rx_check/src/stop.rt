@@ -1,5 +1,5 @@
 ghost use Rattle.std.specs.Prelude.{◌≡◌};
-ghost use Rattle.rx_check.specs.Stopping.{is_unlikely, is_worth_a_look, stops};
+ghost use Rattle.rx_check.specs.Stop.{is_unlikely, is_worth_a_look, stops};
 
 use crate::warnings::Warnings;
 
