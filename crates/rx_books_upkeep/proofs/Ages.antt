@@ -1,8 +1,8 @@
 -- No batch shows a difference without a claim that was over before its dates, where the plan's period begins after the claim.
 use Rattle.std.proofs.Common.{◌≡◌, ℕ, ◌*◌, ◌≤◌, List, Bool, true, false, not, refl, ap, sym, subst, ◌∙◌, inl, inr, Option, Some, None}
-use Rattle.std.specs.Prelude.{◌&&◌, ◌||◌, ◌==◌, nat_lt, if◌then◌else◌, ◌-ℤ◌, ◌*ℤ◌, int_lt, pos, sum_by}
+use Rattle.std.specs.Prelude.{◌&&◌, ◌==◌, if◌then◌else◌, ◌-ℤ◌, ◌*ℤ◌, int_lt, pos, sum_by}
 use Rattle.std.specs.List.{All, filter, list_all, list_any}
-use Rattle.std.specs.Ordering.{is_gt, is_le, is_lt, ordering_reverse}
+use Rattle.std.specs.Ordering.{is_le, is_lt, ordering_reverse}
 use Rattle.std.specs.declared.cmp.Ordering.{Ordering}
 use Rattle.std.specs.declared.cmp.Ordering.TheVariants.{Less, Equal, Greater}
 use Rattle.std.proofs.lemmas.Bool.{and_parts, both_ways, cases_Bool}
@@ -24,17 +24,16 @@ use Rattle.rx_sorted.proofs.FilteredPuts.{filter-put, filter-put_other, filter-w
 use Rattle.rx_sorted.proofs.Filters.{filter_swap}
 use Rattle.rx_sorted.proofs.Keys.{Equal-from_is_eq, Less-from_is_lt}
 use Rattle.rx_sorted.proofs.Kept.{IsAscending-put, IsAscending-without}
-use Rattle.rx_ledger.specs.declared.decision.Decision.{Decision}
 use Rattle.rx_ledger.specs.declared.decision.Decision.TheVariants as decision
 use Rattle.rx_ledger.specs.declared.figures.Figures.{Figures}
 use Rattle.rx_ledger.specs.declared.member.Member.{Member}
 use Rattle.rx_ledger.specs.declared.row.Row.{Row}
 use Rattle.rx_ledger.specs.Answers.{Asked, after, answer, answer_by, is_same_claim, is_too_soon, key_of, paid_row}
-use Rattle.rx_ledger.specs.Decisions.{if_found, payment, unless_found}
+use Rattle.rx_ledger.specs.Decisions.{if_found, unless_found}
 use Rattle.rx_ledger.specs.Fold.{asked}
 use Rattle.rx_ledger.specs.Ledger.{Ledger, members_of, row_under, rows_of}
 use Rattle.rx_ledger.specs.Members.{is_same, of_family, person_in}
-use Rattle.rx_ledger.specs.Plan.{Plan, drug_of}
+use Rattle.rx_ledger.specs.Plan.{Plan}
 use Rattle.rx_ledger.specs.Rows.{claimed_by, row_key}
 use Rattle.rx_ledger.specs.Sums.{counted, deductible_paid, paid_by_patient, persons_deductible_paid}
 use Rattle.rx_ledger.proofs.Orders.{day_exact, day_total, key_exact, key_total}
@@ -75,33 +74,21 @@ outside period before r le is =
 
 -- a billing of before the period isn't paid
 never_paid : (number reference : ℕ) (p : PaidParts) (none : Bool) (person : Option Member) (row : Option Row) (same : Row → Bool)
-    (rest : Member → Decision)
     → answer_by number reference (if none then decision.NoFamily else (unless_found person decision.NoPerson (λ m.
-    if_found row (λ r. if same r then decision.SameStands r else decision.OtherStands r)
-    (if true then decision.BeforePeriod else rest m)))) ≡ Paid p → ⊥
-never_paid number reference p true person row same rest paid = cc
-never_paid number reference p false None row same rest paid = cc
-never_paid number reference p false (Some m) None same rest paid = cc
-never_paid number reference p false (Some m) (Some r) same rest paid = elim (cases_Bool (same r)) [
+    if_found row (λ r. if same r then decision.SameStands r else decision.OtherStands r) decision.BeforePeriod))) ≡ Paid p → ⊥
+never_paid number reference p true person row same paid = cc
+never_paid number reference p false None row same paid = cc
+never_paid number reference p false (Some m) None same paid = cc
+never_paid number reference p false (Some m) (Some r) same paid = elim (cases_Bool (same r)) [
   | inl t ↦ let w = rw t at paid in cc
   | inr f ↦ let w = rw f at paid in cc
 ]
-
--- what decides on a billing that is dated within the period
-abbrev later_rows : Asked → Ledger → BillParts → Member → Decision
-later_rows a L b m =
-    if is_gt (day_cmp a.date a.lot.created) then decision.AfterCreation
-    else (if not (is_within m.coverage a.date) || is_gt (day_cmp a.date a.plan.figures.period.last) then decision.NotCovered m
-    else (unless_found (drug_of a.plan b.product) decision.NotListed (λ drug.
-    if nat_lt a.plan.figures.max_days b.days then decision.TooManyDays
-    else (if list_any (is_too_soon a.plan.figures a.date b) (rows_of L b.family) then decision.TooSoon
-    else decision.Payable (payment a.plan.figures drug b (rows_of L b.family))))))
 
 paid_within : (a : Asked) (L : Ledger) (b : BillParts) (p : PaidParts) → answer a L (Bill b) ≡ Paid p
     → is_lt (day_cmp a.date a.plan.figures.period.first) ≡ false
 paid_within a L b p paid = elim (cases_Bool (is_lt (day_cmp a.date a.plan.figures.period.first))) [
   | inl early ↦ absurd (never_paid a.number b.reference p (not (list_any (of_family b.family) L.members))
-      (person_in (members_of L b.family) b.person) (row_under L (key_of a b.reference)) (is_same_claim b) (later_rows a L b) (rw early at paid))
+      (person_in (members_of L b.family) b.person) (row_under L (key_of a b.reference)) (is_same_claim b) (rw early at paid))
   | inr not_early ↦ not_early
 ]
 
