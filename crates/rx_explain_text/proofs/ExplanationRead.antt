@@ -164,36 +164,7 @@ decided_is d cs = list_member_is (suc d) (codes "codes") json.decided_code tree.
 whole_part_is : (d : ℕ) (request : List ℕ) (nth : ℕ) (c : Code)
     → AreMembers d (json.whole_part request nth c) (tree.whole_part request nth c)
 whole_part_is d request nth code.Syntax = bytes_is d (codes "bytes") request nth code.Syntax refl
-whole_part_is d request nth code.Bin = no_members_are d
-whole_part_is d request nth code.Version = no_members_are d
-whole_part_is d request nth code.TransactionCode = no_members_are d
-whole_part_is d request nth code.ProcessorControlNumber = no_members_are d
-whole_part_is d request nth code.Provider = no_members_are d
-whole_part_is d request nth code.Cardholder = no_members_are d
-whole_part_is d request nth code.OtherCoverage = no_members_are d
-whole_part_is d request nth code.DateOfService = no_members_are d
-whole_part_is d request nth code.Reference = no_members_are d
-whole_part_is d request nth code.DaysSupply = no_members_are d
-whole_part_is d request nth code.Compound = no_members_are d
-whole_part_is d request nth code.ProductId = no_members_are d
-whole_part_is d request nth code.IngredientCost = no_members_are d
-whole_part_is d request nth code.UnknownCardholder = no_members_are d
-whole_part_is d request nth code.Person = no_members_are d
-whole_part_is d request nth code.NotCovered = no_members_are d
-whole_part_is d request nth code.ProductNotCovered = no_members_are d
-whole_part_is d request nth code.PlanLimits = no_members_are d
-whole_part_is d request nth code.RefillTooSoon = no_members_are d
-whole_part_is d request nth code.TooOld = no_members_are d
-whole_part_is d request nth code.PostDated = no_members_are d
-whole_part_is d request nth code.DuplicatePaid = no_members_are d
-whole_part_is d request nth code.ReversalNotProcessed = no_members_are d
-whole_part_is d request nth code.TransactionCount = no_members_are d
-whole_part_is d request nth code.DispensingFee = no_members_are d
-whole_part_is d request nth code.UsualCharge = no_members_are d
-whole_part_is d request nth code.GrossAmount = no_members_are d
-whole_part_is d request nth code.ProductQualifier = no_members_are d
-whole_part_is d request nth code.Quantity = no_members_are d
-whole_part_is d request nth code.ReferenceQualifier = no_members_are d
+whole_part_is d request nth other = no_members_are d
 
 spoken_is : (d : ℕ) (request : List ℕ) (nth : ℕ) (c : Code) (o : Option (List ℕ)) → is_field o ≡ true
     → AreMembers d (json.field_json request nth c o) (tree.field_data request nth c o)
@@ -311,21 +282,12 @@ coverage_is d period coverage =
 
 case_is : (d : ℕ) (c : Decision) (lot : LotParts) (figures : Figures) (e : Explanation)
     → AreMembers d (json.case_json c lot figures e) (tree.case_data c lot figures e)
-case_is d decision.NoFamily lot figures e = no_members_are d
-case_is d decision.NoPerson lot figures e = no_members_are d
-case_is d (decision.SameStands x) lot figures e = no_members_are d
-case_is d (decision.OtherStands x) lot figures e = no_members_are d
 case_is d decision.BeforePeriod lot figures e = day_is d (codes "period_first") figures.period.first refl
 case_is d decision.AfterCreation lot figures e = day_is d (codes "created") lot.created refl
 case_is d (decision.NotCovered m) lot figures e = coverage_is d figures.period m.coverage
-case_is d decision.NotListed lot figures e = no_members_are d
 case_is d decision.TooManyDays lot figures e = number_is d (codes "most_days") figures.max_days refl
 case_is d decision.TooSoon lot figures e = soon_is d figures e e.standing
-case_is d (decision.Payable x) lot figures e = no_members_are d
-case_is d decision.NoneStands lot figures e = no_members_are d
-case_is d (decision.OtherProduct x) lot figures e = no_members_are d
-case_is d (decision.TakenBack x) lot figures e = no_members_are d
-case_is d (decision.Unread x) lot figures e = no_members_are d
+case_is d other lot figures e = no_members_are d
 
 -- ---- a standing claim
 

@@ -84,36 +84,7 @@ is_field (Some field) = is_name field
 
 words_of : (c : Code) → (is_name (name_of c) && (is_name (wanted_for c) && is_field (field_number c))) ≡ true
 words_of code.Bin = refl
-words_of code.Version = refl
-words_of code.TransactionCode = refl
-words_of code.ProcessorControlNumber = refl
-words_of code.Provider = refl
-words_of code.Cardholder = refl
-words_of code.OtherCoverage = refl
-words_of code.DateOfService = refl
-words_of code.Reference = refl
-words_of code.DaysSupply = refl
-words_of code.Compound = refl
-words_of code.ProductId = refl
-words_of code.IngredientCost = refl
-words_of code.UnknownCardholder = refl
-words_of code.Person = refl
-words_of code.NotCovered = refl
-words_of code.ProductNotCovered = refl
-words_of code.PlanLimits = refl
-words_of code.RefillTooSoon = refl
-words_of code.TooOld = refl
-words_of code.PostDated = refl
-words_of code.DuplicatePaid = refl
-words_of code.ReversalNotProcessed = refl
-words_of code.TransactionCount = refl
-words_of code.DispensingFee = refl
-words_of code.UsualCharge = refl
-words_of code.GrossAmount = refl
-words_of code.ProductQualifier = refl
-words_of code.Quantity = refl
-words_of code.ReferenceQualifier = refl
-words_of code.Syntax = refl
+words_of other = refl
 
 pub code_name : (c : Code) → is_name (name_of c) ≡ true
 code_name c = (and_parts _ _ (words_of c)).0
@@ -126,17 +97,4 @@ field_is c = (and_parts _ _ (and_parts _ _ (words_of c)).1).1
 
 pub case_name : (c : Decision) → is_name (case_name_of c) ≡ true
 case_name decision.NoFamily = refl
-case_name decision.NoPerson = refl
-case_name (decision.SameStands x) = refl
-case_name (decision.OtherStands x) = refl
-case_name decision.BeforePeriod = refl
-case_name decision.AfterCreation = refl
-case_name (decision.NotCovered x) = refl
-case_name decision.NotListed = refl
-case_name decision.TooManyDays = refl
-case_name decision.TooSoon = refl
-case_name (decision.Payable x) = refl
-case_name decision.NoneStands = refl
-case_name (decision.OtherProduct x) = refl
-case_name (decision.TakenBack x) = refl
-case_name (decision.Unread x) = refl
+case_name other = refl

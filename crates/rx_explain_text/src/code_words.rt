@@ -1,8 +1,48 @@
 ghost use Rattle.std.specs.Prelude.{◌≡◌};
+ghost use Rattle.rx_fields.specs.Codes.{all_codes};
 ghost use Rattle.rx_explain_text.specs.Words.{case_name_of, name_of, wanted_for};
 
 use rx_fields::Code;
 use rx_ledger::Decision;
+
+/// Every reject code, in the order of its characters.
+pub fn all_codes() -> [Code; 31]
+    ensures { result ≡ all_codes }
+{
+    [
+        Code::Bin,
+        Code::Version,
+        Code::TransactionCode,
+        Code::ProcessorControlNumber,
+        Code::Provider,
+        Code::Cardholder,
+        Code::OtherCoverage,
+        Code::DateOfService,
+        Code::Reference,
+        Code::DaysSupply,
+        Code::Compound,
+        Code::ProductId,
+        Code::IngredientCost,
+        Code::UnknownCardholder,
+        Code::Person,
+        Code::NotCovered,
+        Code::ProductNotCovered,
+        Code::PlanLimits,
+        Code::RefillTooSoon,
+        Code::TooOld,
+        Code::PostDated,
+        Code::DuplicatePaid,
+        Code::ReversalNotProcessed,
+        Code::TransactionCount,
+        Code::DispensingFee,
+        Code::UsualCharge,
+        Code::GrossAmount,
+        Code::ProductQualifier,
+        Code::Quantity,
+        Code::ReferenceQualifier,
+        Code::Syntax,
+    ]
+}
 
 /// The name of a reject code, in the standard's words.
 pub fn name(code: Code) -> &'static str

@@ -240,41 +240,27 @@ fn put_accumulators(
         ++ accumulator_lines listing figures.now explanation.now.counted.items bill.now workings.now) }
 {
     let used = &workings.payment.used;
-    let counted = explanation.counted.as_slice();
+    let claims = Claims {
+        counted: explanation.counted.as_slice(),
+        bill,
+        counts: Counts::MemberDeductible,
+        listing,
+    };
     line(
         page,
         "member's deductible left",
         u128::from(workings.deductible_left),
     )?;
-    put_left(
-        page,
-        figures.member_deductible,
-        used.deductible,
-        &Claims {
-            counted,
-            bill,
-            counts: Counts::MemberDeductible,
-            listing,
-        },
-    )?;
-    put_family(
-        page,
-        figures.family_deductible,
-        counted,
-        bill,
-        workings,
-        listing,
-    )?;
+    put_left(page, figures.member_deductible, used.deductible, &claims)?;
+    put_family(page, figures.family_deductible, workings, &claims)?;
     line(page, "family's maximum left", u128::from(workings.room))?;
     put_left(
         page,
         figures.family_maximum,
         used.out_of_pocket,
         &Claims {
-            counted,
-            bill,
             counts: Counts::OutOfPocket,
-            listing,
+            ..claims
         },
     )
 }
@@ -284,22 +270,18 @@ fn put_accumulators(
 fn put_family(
     page: &mut Page,
     figure: Option<u64>,
-    counted: &[Traced],
-    bill: &Bill,
     workings: &Workings,
-    listing: Listing,
+    claims: &Claims<'_>,
 ) -> Result<(), AllocError>
-    ensures { OnOk result (page.new.bytes.items ≡ page.old.bytes.items
-        ++ family_lines listing figure workings.now.family_deductible_left counted.now bill.now workings.now) }
+    ensures { let b = claims.now in OnOk result (page.new.bytes.items ≡ page.old.bytes.items
+        ++ family_lines b.listing figure workings.now.family_deductible_left b.counted.now b.bill.now workings.now) }
 {
     match (figure, workings.family_deductible_left) {
         (Some(figure), Some(left)) => {
             let used = workings.payment.used.family_deductible;
             let claims = Claims {
-                counted,
-                bill,
                 counts: Counts::FamilyDeductible,
-                listing,
+                ..*claims
             };
             put_family_left(page, figure, left, used, &claims)
         }

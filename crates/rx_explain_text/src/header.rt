@@ -13,13 +13,11 @@ use crate::codes::{put_codes, put_named};
 use crate::compared::Compared;
 use crate::counted::Listing;
 use crate::figures::put_figures;
-use crate::reasons::{put_member, put_reason};
+use crate::reasons::{put_batch_number, put_member, put_reason};
 use crate::request_field::field_bytes;
 use rx_d0_values::{Answer, Bill, BillParts, Rejected, Transaction};
 use rx_explain::{At, Explanation};
-use rx_fields::{
-    Authorization, Code, Id, Lot, Memory, Person, Product, Reference, digits_write, trimmed,
-};
+use rx_fields::{Authorization, Code, Id, Lot, Memory, Person, Product, Reference, trimmed};
 use rx_ledger::{Decision, Figures};
 use rx_print::{Page, Style};
 use std::alloc::{AllocError, Global};
@@ -302,8 +300,7 @@ fn put_compared_words(page: &mut Page, compared: Compared) -> Result<(), AllocEr
 fn put_other_batch(page: &mut Page, lot: Lot) -> Result<(), AllocError>
     ensures { OnOk result (page.new.bytes.items ≡ page.old.bytes.items ++ other_batch_text lot.number) }
 {
-    let digits: [u8; 7] = digits_write(u64::from(lot.number()));
     page.say(" isn't this reply: the response file ANSWERS batch ")?;
-    page.put(&digits)?;
+    put_batch_number(page, lot)?;
     page.say("\n")
 }

@@ -24,7 +24,7 @@ mod request_field;
 
 pub use absent::absent_text;
 pub use cited::Cited;
-pub use code_words::{name, wanted};
+pub use code_words::{all_codes, name, wanted};
 pub use compared::Compared;
 pub use counted::Listing;
 pub use header::{explanation_text, rejection_text};

@@ -1,4 +1,5 @@
 ghost use Rattle.std.specs.Prelude.{◌≡◌, ◌++◌, OnOk};
+ghost use Rattle.rx_fields.specs.Digits.{digits_text};
 ghost use Rattle.rx_explain_text.specs.Claims.{as_decided, end_text, from_text, source_text, standing_text, whose_member};
 ghost use Rattle.rx_explain_text.specs.Claims.{traced_text};
 ghost use Rattle.rx_explain_text.specs.Reasons.{again_of, again_text, bill_reason, coverage_text, covered_text, dated_text};
@@ -214,10 +215,17 @@ fn is_of_batch(lot: Lot, source: Source, number: Authorization) -> bool
 fn put_again(page: &mut Page, lot: Lot) -> Result<(), AllocError>
     ensures { OnOk result (page.new.bytes.items ≡ page.old.bytes.items ++ again_text lot.number) }
 {
-    let digits: [u8; 7] = digits_write(u64::from(lot.number()));
     page.say("  the opening books have it by batch ")?;
-    page.put(&digits)?;
+    put_batch_number(page, lot)?;
     page.say(": this batch was adjudicated on them already\n")
+}
+
+/// Writes a batch number in its seven digits.
+pub(crate) fn put_batch_number(page: &mut Page, lot: Lot) -> Result<(), AllocError>
+    ensures { OnOk result (page.new.bytes.items ≡ page.old.bytes.items ++ digits_text 7 lot.number) }
+{
+    let digits: [u8; 7] = digits_write(u64::from(lot.number()));
+    page.put(&digits)
 }
 
 #[tactic(auto, using(std::proofs::Common::append_assoc), unfolding(crate::specs::Reasons::same_text))]

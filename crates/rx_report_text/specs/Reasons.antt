@@ -28,8 +28,12 @@ has_amount front rest = ends_with nat_eq front (32 ∷ 32 ∷ []) && nat_lt 0 (l
 
 -- ---- its row
 
+-- a text between two pieces of markup
+abbrev pub framed : List ℕ → List ℕ → List ℕ → List ℕ
+framed front text end = front ++ (escaped Html text ++ end)
+
 abbrev pub row_heading : List ℕ → List ℕ
-row_heading label = codes "<tr><th scope=\"row\">" ++ (escaped Html label ++ codes "</th>")
+row_heading label = framed (codes "<tr><th scope=\"row\">") label (codes "</th>")
 
 -- a row without a label belongs to the one above it
 abbrev pub label_cell : List ℕ → List ℕ
@@ -47,7 +51,7 @@ parts_row front rest =
     figure_row (without_end (without_front front)) (take (until 32 rest) rest) (without_front (drop (until 32 rest) rest))
 
 abbrev pub said_row : List ℕ → List ℕ
-said_row words = codes "<tr><td colspan=\"3\">" ++ (escaped Html words ++ codes "</td></tr>\n")
+said_row words = framed (codes "<tr><td colspan=\"3\">") words (codes "</td></tr>\n")
 
 -- words without an amount; none for an empty line
 abbrev pub words_row : List ℕ → List ℕ

@@ -2,14 +2,14 @@
 use Rattle.std.specs.Prelude.{ℕ, ◌==◌, if◌then◌else◌, Bool, true, false, List, [], ◌∷◌, ◌++◌, codes, length}
 use Rattle.std.specs.Fmt.{decimal}
 use Rattle.std.specs.List.{flat_map}
-use Rattle.rx_explain_text.specs.Words.{name_of}
-use Rattle.rx_fields.specs.Codes.{all_codes, code_text}
+use Rattle.rx_fields.specs.Codes.{all_codes}
 use Rattle.rx_fields.specs.declared.code.Code.{Code}
 use Rattle.rx_report.specs.declared.line.Line.{Line}
 use Rattle.rx_report.specs.declared.section.Section.{Section}
 use Rattle.rx_report_text.specs.declared.shown.Shown.TheVariants.{Record}
 use Rattle.rx_report_text.specs.Pages.{cell_text}
 use Rattle.rx_report_text.specs.RejectCounts.{lines_with}
+use Rattle.rx_report_text.specs.Rows.{code_within}
 
 -- a claim's record, which leads to its row
 unfoldable pub claim_link : Line → List ℕ
@@ -21,12 +21,8 @@ abbrev pub links_text : Bool → List Line → List ℕ
 links_text true lines = flat_map claim_link lines
 links_text false lines = []
 
-abbrev pub named_cells : List ℕ → List ℕ → List ℕ
-named_cells code words =
-    codes "<tr><th scope=\"row\">" ++ (code ++ (codes "</th><td>" ++ (words ++ codes "</td><td class=\"count\">")))
-
 abbrev pub code_cells : Code → List ℕ
-code_cells c = named_cells (code_text c) (name_of c)
+code_cells c = code_within (codes "<tr><th scope=\"row\">") (codes "</th><td>") (codes "</td><td class=\"count\">") c
 
 -- the code and its words, how many answers have it, and which
 unfoldable pub reject_row : Bool → Code → List Line → List ℕ

@@ -78,12 +78,12 @@ record_text l =
     group_front l.answer ++ (cell_text shown.Record l ++ (codes "\">\n<tr><th scope=\"row\"><a href=\"#r"
     ++ (cell_text shown.Record l ++ (codes "\">" ++ (cell_text shown.Record l ++ codes "</a></th>")))))
 
-abbrev pub named_code : List ℕ → List ℕ → List ℕ
-named_code code words = codes " <span><b>" ++ (code ++ (codes "</b> " ++ (words ++ codes "</span>")))
+-- a reject code and its words, with markup before, between and after the two
+abbrev pub code_within : List ℕ → List ℕ → List ℕ → Code → List ℕ
+code_within front between end c = front ++ (code_text c ++ (between ++ (name_of c ++ end)))
 
--- a reject code with its words
 abbrev pub code_words : Code → List ℕ
-code_words c = named_code (code_text c) (name_of c)
+code_words c = code_within (codes " <span><b>") (codes "</b> ") (codes "</span>") c
 
 -- the answer in a word, with the codes of a reject
 abbrev pub answer_words : Answer → List ℕ

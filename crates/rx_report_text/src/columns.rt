@@ -147,15 +147,9 @@ fn put_tally(alloc: Global, text: &mut Vec<u8>, tally: &Tally) -> Result<(), All
 fn counts(alloc: Global, tally: &Tally) -> Result<String, AllocError>
     ensures { IfOk result (λ s. string_bytes s ≡ tally_counts tally.now) }
 {
-    let Tally {
-        paid,
-        duplicate,
-        approved,
-        rejected,
-        ..
-    } = *tally;
     format!(in alloc;
-        ": {paid} paid, {duplicate} duplicate, {approved} reversed, {rejected} rejected, net "
+        ": {} paid, {} duplicate, {} reversed, {} rejected, net ",
+        tally.paid, tally.duplicate, tally.approved, tally.rejected
     )
 }
 

@@ -1,7 +1,6 @@
-ghost use Rattle.std.specs.Prelude.{◌≡◌, ◌≤◌, ◌==◌, ◌++◌, not, length, OnOk};
-ghost use Rattle.std.specs.List.{prefix_len};
+ghost use Rattle.std.specs.Prelude.{◌≡◌, ◌≤◌, ◌++◌, length, OnOk};
 ghost use Rattle.rx_report_text.specs.Reasons.{command_text, cut_row, figure_row, has_amount, label_cell, line_row, parts_row};
-ghost use Rattle.rx_report_text.specs.Reasons.{reason_text, reasons_text, row_heading, rows_text, said_row, until};
+ghost use Rattle.rx_report_text.specs.Reasons.{framed, reason_text, reasons_text, rows_text, until};
 ghost use Rattle.rx_report_text.specs.Reasons.{without_front, words_row};
 
 use crate::columns::without_end;
@@ -109,16 +108,8 @@ fn put_label(page: &mut Page, label: &[u8]) -> Result<(), AllocError>
     if label.is_empty() {
         page.markup("<tr class=\"part\"><td></td>")
     } else {
-        put_row_heading(page, label)
+        put_framed(page, "<tr><th scope=\"row\">", label, "</th>")
     }
-}
-
-fn put_row_heading(page: &mut Page, label: &[u8]) -> Result<(), AllocError>
-    ensures { OnOk result (page.new.bytes.items ≡ page.old.bytes.items ++ row_heading label.now) }
-{
-    page.markup("<tr><th scope=\"row\">")?;
-    page.escaped(Style::Html, label)?;
-    page.markup("</th>")
 }
 
 fn put_words(page: &mut Page, line: &[u8]) -> Result<(), AllocError>
@@ -127,16 +118,23 @@ fn put_words(page: &mut Page, line: &[u8]) -> Result<(), AllocError>
     if line.is_empty() {
         Ok(())
     } else {
-        put_words_row(page, without_front(line))
+        let words = without_front(line);
+        put_framed(page, "<tr><td colspan=\"3\">", words, "</td></tr>\n")
     }
 }
 
-fn put_words_row(page: &mut Page, words: &[u8]) -> Result<(), AllocError>
-    ensures { OnOk result (page.new.bytes.items ≡ page.old.bytes.items ++ said_row words.now) }
+// A text between two pieces of markup.
+fn put_framed(
+    page: &mut Page,
+    front: &'static str,
+    text: &[u8],
+    end: &'static str,
+) -> Result<(), AllocError>
+    ensures { OnOk result (page.new.bytes.items ≡ page.old.bytes.items ++ framed front.now text.now end.now) }
 {
-    page.markup("<tr><td colspan=\"3\">")?;
-    page.escaped(Style::Html, words)?;
-    page.markup("</td></tr>\n")
+    page.markup(front)?;
+    page.escaped(Style::Html, text)?;
+    page.markup(end)
 }
 
 // How many bytes stand before the first of this kind.
@@ -155,16 +153,9 @@ fn until(text: &[u8], mark: u8) -> usize
 fn without_front(text: &[u8]) -> &[u8]
     ensures { result.now ≡ without_front text.now }
 {
-    &text[blanks(text)..]
-}
-
-fn blanks(text: &[u8]) -> usize
-    ensures value { result ≡ prefix_len (λ b. b == 32) text.now }
-    ensures within { result ≤ length text.now }
-{
-    let mut count = 0;
-    while count < text.len() && text[count] == b' ' {
-        count += 1;
+    let mut rest = text;
+    while let [b' ', more @ ..] = rest {
+        rest = more;
     }
-    count
+    rest
 }

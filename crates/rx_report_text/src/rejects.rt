@@ -2,53 +2,19 @@ ghost use Rattle.std.specs.Prelude.{◌≡◌, ◌++◌, IfOk, OnOk};
 ghost use Rattle.std.specs.List.{filter, flat_map, list_any};
 ghost use Rattle.rx_fields.specs.Codes.{code_text};
 ghost use Rattle.rx_report_text.specs.RejectCounts.{codes_of, has_code, lines_with};
-ghost use Rattle.rx_report_text.specs.Rejects.{claim_link, code_cells, code_row, given_row, links_text, named_cells, reject_row};
+ghost use Rattle.rx_report_text.specs.Rejects.{claim_link, code_cells, code_row, given_row, links_text, reject_row};
 ghost use Rattle.rx_report_text.specs.Rejects.{rejects_front, rejects_text};
 ghost use Rattle.rx_settle.specs.Providers.{is_same};
 
 use crate::html::put_cell;
+use crate::row::put_code_within;
 use crate::shown::Shown;
 use rx_d0_values::Answer;
-use rx_explain_text::name;
+use rx_explain_text::all_codes;
 use rx_fields::Code;
 use rx_print::Page;
 use rx_report::{Line, Section};
 use std::alloc::{AllocError, Global};
-
-// Every code, in the order of its characters.
-const ALL_CODES: [Code; 31] = [
-    Code::Bin,
-    Code::Version,
-    Code::TransactionCode,
-    Code::ProcessorControlNumber,
-    Code::Provider,
-    Code::Cardholder,
-    Code::OtherCoverage,
-    Code::DateOfService,
-    Code::Reference,
-    Code::DaysSupply,
-    Code::Compound,
-    Code::ProductId,
-    Code::IngredientCost,
-    Code::UnknownCardholder,
-    Code::Person,
-    Code::NotCovered,
-    Code::ProductNotCovered,
-    Code::PlanLimits,
-    Code::RefillTooSoon,
-    Code::TooOld,
-    Code::PostDated,
-    Code::DuplicatePaid,
-    Code::ReversalNotProcessed,
-    Code::TransactionCount,
-    Code::DispensingFee,
-    Code::UsualCharge,
-    Code::GrossAmount,
-    Code::ProductQualifier,
-    Code::Quantity,
-    Code::ReferenceQualifier,
-    Code::Syntax,
-];
 
 /// Why answers were rejected: each code that one has, with its words and with how many have it, and where the page has the
 /// claims, with links to them.
@@ -60,7 +26,7 @@ pub(crate) fn put_rejects(
     ensures { OnOk result (page.new.bytes.items ≡ page.old.bytes.items ++ rejects_text unfolds sections.now) }
 {
     put_headings(page)?;
-    put_each_code(page, sections, unfolds, &ALL_CODES)?;
+    put_each_code(page, sections, unfolds, &all_codes())?;
     page.markup("</tbody>\n</table>\n")
 }
 
@@ -126,17 +92,13 @@ fn put_row(page: &mut Page, unfolds: bool, code: Code, lines: &[Line]) -> Result
 fn put_code_cells(page: &mut Page, code: Code) -> Result<(), AllocError>
     ensures { OnOk result (page.new.bytes.items ≡ page.old.bytes.items ++ code_cells code) }
 {
-    put_named(page, &code.text(), name(code))
-}
-
-fn put_named(page: &mut Page, code: &[u8], words: &'static str) -> Result<(), AllocError>
-    ensures { OnOk result (page.new.bytes.items ≡ page.old.bytes.items ++ named_cells code.now words.now) }
-{
-    page.markup("<tr><th scope=\"row\">")?;
-    page.put(code)?;
-    page.markup("</th><td>")?;
-    page.markup(words)?;
-    page.markup("</td><td class=\"count\">")
+    put_code_within(
+        page,
+        "<tr><th scope=\"row\">",
+        "</th><td>",
+        "</td><td class=\"count\">",
+        code,
+    )
 }
 
 // None where the page has no claims.

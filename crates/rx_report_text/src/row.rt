@@ -1,7 +1,7 @@
 ghost use Rattle.std.specs.Prelude.{◌≡◌, ◌++◌, codes, OnOk};
 ghost use Rattle.std.specs.List.{flat_map};
 ghost use Rattle.rx_report_text.specs.Rows.{answer_cell, answer_words, class_of, classed_cell, code_words, data_cell};
-ghost use Rattle.rx_report_text.specs.Rows.{group_front, heading_text, named_code, record_text, row_text, title_cell};
+ghost use Rattle.rx_report_text.specs.Rows.{code_within, group_front, heading_text, record_text, row_text, title_cell};
 ghost use Rattle.rx_report_text.specs.Rows.{title_of, titles_text};
 
 use crate::html::put_cell;
@@ -171,30 +171,32 @@ fn put_rejected(page: &mut Page, listed: &[Code]) -> Result<(), AllocError>
     put_codes(page, listed)
 }
 
+// Reject codes, each with its words.
 fn put_codes(page: &mut Page, listed: &[Code]) -> Result<(), AllocError>
     ensures { OnOk result (page.new.bytes.items ≡ page.old.bytes.items ++ flat_map code_words listed.now) }
 {
     for code in listed {
-        put_code(page, *code)?;
+        put_code_within(page, " <span><b>", "</b> ", "</span>", *code)?;
     }
     Ok(())
 }
 
-// A reject code with its words.
-fn put_code(page: &mut Page, code: Code) -> Result<(), AllocError>
-    ensures { OnOk result (page.new.bytes.items ≡ page.old.bytes.items ++ code_words code) }
+/// Writes a reject code and its words, with markup before, between and after the two.
+pub(crate) fn put_code_within(
+    page: &mut Page,
+    front: &'static str,
+    between: &'static str,
+    end: &'static str,
+    code: Code,
+) -> Result<(), AllocError>
+    ensures { OnOk result (page.new.bytes.items ≡ page.old.bytes.items ++ code_within front.now between.now end.now code) }
 {
-    put_code_named(page, &code.text(), name(code))
-}
-
-fn put_code_named(page: &mut Page, code: &[u8], words: &'static str) -> Result<(), AllocError>
-    ensures { OnOk result (page.new.bytes.items ≡ page.old.bytes.items ++ named_code code.now words.now) }
-{
-    page.markup(" <span><b>")?;
-    page.put(code)?;
-    page.markup("</b> ")?;
-    page.markup(words)?;
-    page.markup("</span>")
+    let text = code.text();
+    page.markup(front)?;
+    page.put(&text)?;
+    page.markup(between)?;
+    page.markup(name(code))?;
+    page.markup(end)
 }
 
 fn put_cells(page: &mut Page, line: &Line, columns: &[Shown]) -> Result<(), AllocError>

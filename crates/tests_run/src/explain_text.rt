@@ -1,5 +1,5 @@
 use crate::same::same;
-use rx_explain_text::field_bytes;
+use rx_explain_text::{all_codes, field_bytes};
 use rx_fields::Code;
 use rx_print::{Page, Style};
 use std::alloc::{AllocError, Global};
@@ -53,4 +53,15 @@ fn the_bytes_of_a_field_are_found(rt: HostRuntime) {
     }
     let cut: &[u8] = b"9000";
     same(&rt, field_bytes(cut, 0, Code::Bin), Some(cut));
+}
+
+#[test]
+fn codes_stand_in_the_order_of_their_characters(rt: HostRuntime) {
+    let mut last = *b"00";
+    for code in all_codes().iter() {
+        let text = code.text();
+        same(&rt, last < text, true);
+        last = text;
+    }
+    same(&rt, last, *b"R8");
 }

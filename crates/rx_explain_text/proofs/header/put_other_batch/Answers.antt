@@ -1,4 +1,4 @@
-use Rattle.std.proofs.Common.{ap, rules, ◌++◌, ◌∙◌}
+use Rattle.std.proofs.Common.{rules}
 use Rattle.rx_explain_text.specs.Rejections.{other_batch_text}
 use Rattle.rx_explain_text.specs.Said.{say}
 use Rattle.rx_fields.specs.Digits.{digits_text}
@@ -8,8 +8,7 @@ use Rattle.rx_explain_text.proofs.header.put_other_batch.Goals as goal
 pub returns : goal.returns
 unfolding other_batch_text
 returns c =
-    joined_3 c.say-2.result _ c.say.new.self.bytes.items c.put.new.self.bytes.items _ (say
+    joined_3 c.say-2.result _ c.say.new.self.bytes.items c.put_batch_number.new.page.bytes.items _ (say
     " isn't this reply: the response file ANSWERS batch ") (digits_text 7 c.args.lot.number) (say "\n")
     (search (rules, c.in_ok-say.ensures))
-    (c.in_ok-put.ensures ∙ ap (λ digits. c.say.new.self.bytes.items ++ digits) c.digits_write-digits.ensures.text
-    ∙ ap (λ n. c.say.new.self.bytes.items ++ digits_text 7 n) (search rules)) (search rules)
+    c.in_ok-put_batch_number.ensures (search rules)

@@ -13,5 +13,5 @@ returns c =
     (flat_map (code_row c.args.unfolds c.args.sections.now) all_codes)
     (codes "</tbody>\n</table>\n")
     c.in_ok-put_headings.ensures
-    c.in_ok-put_each_code.ensures
+    (rw c.all_codes.ensures at c.in_ok-put_each_code.ensures)
     c.markup.ensures

@@ -1,15 +1,14 @@
-use Rattle.std.proofs.Common.{codes}
 use Rattle.rx_print.specs.Escape.{escaped}
 use Rattle.rx_print.specs.declared.style.Style.TheVariants.{Html}
 use Rattle.rx_report_text.proofs.Written.{three}
-use Rattle.rx_report_text.proofs.reasons.put_words_row.Goals as goal
+use Rattle.rx_report_text.proofs.reasons.put_framed.Goals as goal
 
 pub returns : goal.returns
 returns c =
     three c.markup-2.result c.markup-2.new.self.bytes.items c.args.page.now.bytes.items
-    (codes "<tr><td colspan=\"3\">")
-    (escaped Html c.args.words.now)
-    (codes "</td></tr>\n")
+    c.args.front.now
+    (escaped Html c.args.text.now)
+    c.args.end.now
     c.in_ok-markup.ensures
     c.in_ok-escaped.ensures
     c.markup-2.ensures
