@@ -420,6 +420,22 @@ fn put_decider(page: &mut Page, traced: &Traced) -> Result<(), AllocError>
     put_traced(page, traced)
 }
 
+// The steps to the amounts of a claim that is paid, and the claims that count; nothing of another.
+fn put_figures(
+    page: &mut Page,
+    figures: &Figures,
+    explanation: &Explanation,
+    tier: Option<&str>,
+) -> Result<(), AllocError>
+    ensures { OnOk result (page.new.bytes.items ≡ page.old.bytes.items
+        ++ figures_json (option_copied tier.entry) explanation.now.transaction figures.now explanation.now) }
+{
+    match paid(explanation) {
+        Some((bill, workings)) => put_payable(page, figures, explanation, bill, workings, tier),
+        None => Ok(()),
+    }
+}
+
 #[tactic(auto, using(std::proofs::Common::append_assoc), unfolding(crate::specs::Json::payable_json))]
 fn put_payable(
     page: &mut Page,
@@ -435,22 +451,6 @@ fn put_payable(
     put_price(page, figures, bill, workings)?;
     put_workings(page, figures, workings, tier)?;
     put_counted(page, &explanation.counted)
-}
-
-// The steps to the amounts of a claim that is paid, and the claims that count; nothing of another.
-fn put_figures(
-    page: &mut Page,
-    figures: &Figures,
-    explanation: &Explanation,
-    tier: Option<&str>,
-) -> Result<(), AllocError>
-    ensures { OnOk result (page.new.bytes.items ≡ page.old.bytes.items
-        ++ figures_json (option_copied tier.entry) explanation.now.transaction figures.now explanation.now) }
-{
-    match paid(explanation) {
-        Some((bill, workings)) => put_payable(page, figures, explanation, bill, workings, tier),
-        None => Ok(()),
-    }
 }
 
 // What was submitted and what the plan has next to it; the price is in hundredths of a cent.

@@ -298,10 +298,10 @@ fn put_too_soon(
 ) -> Result<(), AllocError>
     ensures { OnOk result (page.new.bytes.items ≡ page.old.bytes.items ++ soon_text figures.now explanation.now explanation.now.standing) }
 {
-    match &explanation.standing {
-        Some(earlier) => put_earlier(page, figures, explanation, earlier),
-        None => Ok(()),
-    }
+    let Some(earlier) = &explanation.standing else {
+        return Ok(());
+    };
+    put_earlier(page, figures, explanation, earlier)
 }
 
 #[tactic(auto, using(std::proofs::Common::append_assoc), unfolding(crate::specs::Reasons::earlier_text))]

@@ -1,3 +1,4 @@
 -- Lemmas of what is written.
 mod AccountRead
+mod Minus
 pub mod Written

@@ -6,6 +6,7 @@ pub mod Columns
 pub mod Folder
 pub mod Json
 pub mod Layouts
+pub mod Money
 pub mod Origin
 pub mod Pages
 pub mod Providers
