@@ -4,11 +4,11 @@ ghost use Rattle.rx_report.specs.Accounts.{IsAccount, first_tally, is_of, parts_
 
 use crate::groups::Groups;
 use crate::line::Line;
-use crate::portion::{Portion, names_provider};
+use crate::portion::Portion;
 use crate::section::{Account, Section};
 use crate::tallying::tally_lines;
 use rx_fields::Memory;
-use rx_settle::{ByProvider, Settled, Tally};
+use rx_settle::{ByProvider, Settled, Tally, names_provider};
 use std::alloc::Global;
 
 /// The account of a portion of a batch whose settlement has these tallies; `kept` are the portion's lines, `groups` the

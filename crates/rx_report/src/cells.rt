@@ -20,8 +20,8 @@ pub fn cell_of(alloc: Global, column: Column, line: &Line) -> Result<Vec<u8>, Al
     Ok(text)
 }
 
-// Puts it.
-pub(crate) fn put_cell(text: &mut Vec<u8>, column: Column, line: &Line) -> Result<(), AllocError>
+/// Puts it.
+pub fn put_cell(text: &mut Vec<u8>, column: Column, line: &Line) -> Result<(), AllocError>
     ensures { OnOk result (text.new.items ≡ text.old.items ++ cell column line.now) }
 {
     match column {

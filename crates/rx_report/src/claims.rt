@@ -85,8 +85,9 @@ fn put_stamp_value(text: &mut Vec<u8>, stamp: &Option<Stamp>) -> Result<(), Allo
     }
 }
 
+/// Puts the first of these members, without the stamp.
 #[tactic(auto, using(std::proofs::Common::append_assoc), unfolding(crate::specs::Texts::lot_json))]
-fn put_lot(text: &mut Vec<u8>, lot: Lot) -> Result<(), AllocError>
+pub fn put_lot(text: &mut Vec<u8>, lot: Lot) -> Result<(), AllocError>
     ensures { OnOk result (text.new.items ≡ text.old.items ++ lot_json lot) }
 {
     text.extend_from_slice(b"\"lot\":{")?;

@@ -37,8 +37,8 @@ mod tallying;
 mod texts;
 
 pub use accounting::account_of;
-pub use cells::{cell_of, cents_of};
-pub use claims::{claims_json, put_batch};
+pub use cells::{cell_of, cents_of, put_cell};
+pub use claims::{claims_json, put_batch, put_lot};
 pub use column::Column;
 pub use groups::Groups;
 pub use laws::{accounts_add_up, claims_read_as_json, lines_read_as_json, sections_have_own_lines};
@@ -47,4 +47,4 @@ pub use lines::report_lines;
 pub use net_order::by_net;
 pub use portion::{Portion, kept_lines};
 pub use section::{Account, Section};
-pub use texts::{lines_json, put_quoted, tsv_text};
+pub use texts::{lines_json, put_cells, put_member, put_members, put_names, put_quoted, tsv_text};

@@ -1,9 +1,10 @@
 ghost use Rattle.std.specs.Prelude.{◌≡◌, IfOk};
 ghost use Rattle.std.specs.List.{filter};
-ghost use Rattle.rx_report.specs.Accounts.{is_in, names_family, names_provider};
+ghost use Rattle.rx_report.specs.Accounts.{is_in, names_family};
 
 use crate::line::Line;
-use rx_fields::{Memory, Provider};
+use rx_fields::Memory;
+use rx_settle::names_provider;
 use std::alloc::Global;
 
 /// Which lines of a batch to report.
@@ -37,16 +38,6 @@ fn is_in(portion: Portion<'_>, line: &Line) -> bool
         Portion::Whole => true,
         Portion::Provider(id) => names_provider(id, &line.provider),
         Portion::Family(id) => names_family(id, line),
-    }
-}
-
-/// Whether a field names the provider with this id.
-pub(crate) fn names_provider(id: &[u8], field: &[u8; 15]) -> bool
-    ensures { result ≡ names_provider id.now field.now }
-{
-    match Provider::new(field) {
-        Ok(provider) => id == provider.bytes(),
-        Err(_) => id.is_empty(),
     }
 }
 

@@ -67,8 +67,8 @@ fn put_three(
     text.extend_from_slice(third)
 }
 
-// Each name after a tab.
-fn put_names(text: &mut Vec<u8>, columns: &[Column]) -> Result<(), AllocError>
+/// Puts the name of each column after a tab.
+pub fn put_names(text: &mut Vec<u8>, columns: &[Column]) -> Result<(), AllocError>
     ensures { OnOk result (text.new.items ≡ text.old.items ++ flat_map tab_name columns.now) }
 {
     for column in columns {
@@ -118,8 +118,8 @@ fn put_batch_cells(text: &mut Vec<u8>, lot: Lot, stamp: &Option<Stamp>) -> Resul
     }
 }
 
-// Each cell after a tab.
-fn put_cells(text: &mut Vec<u8>, line: &Line, columns: &[Column]) -> Result<(), AllocError>
+/// Puts what a line has in each column after a tab.
+pub fn put_cells(text: &mut Vec<u8>, line: &Line, columns: &[Column]) -> Result<(), AllocError>
     ensures { OnOk result (text.new.items ≡ text.old.items ++ flat_map (tab_cell line.now) columns.now) }
 {
     for column in columns {
@@ -168,8 +168,9 @@ fn put_object(alloc: Global, text: &mut Vec<u8>, line: &Line) -> Result<(), Allo
     text.extend_from_slice(b"}")
 }
 
+/// Puts what a line has in a column as a member of JSON: `null` where it is blank, a number as it is, else a string.
 #[tactic(auto, using(std::proofs::Common::append_assoc))]
-pub(crate) fn put_member(
+pub fn put_member(
     alloc: Global,
     text: &mut Vec<u8>,
     line: &Line,
@@ -207,8 +208,8 @@ pub fn put_quoted(text: &mut Vec<u8>, bytes: &[u8]) -> Result<(), AllocError>
     text.extend_from_slice(b"\"")
 }
 
-// Each member after a comma.
-pub(crate) fn put_members(
+/// Puts such a member for each column after a comma.
+pub fn put_members(
     alloc: Global,
     text: &mut Vec<u8>,
     line: &Line,

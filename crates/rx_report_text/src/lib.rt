@@ -47,6 +47,7 @@ pub use columns::columns_text;
 pub use folder::{PageFile, folder_pages};
 pub use json::account_json;
 pub use laws::account_reads_as_json;
+pub use money::{put_net, put_net_cents};
 pub use origin::{InputFile, Origin, PageHead, put_file, put_term};
 pub use script::POLICY;
 pub use shown::{COLUMNS, Shown, shown_cell};

@@ -10,7 +10,7 @@ use std::alloc::AllocError;
 
 /// Puts the net of a tally in cents, with a minus where more was taken back than paid out.
 #[tactic(auto, using(std::proofs::Common::append_assoc, crate::proofs::Minus::after_minus))]
-pub(crate) fn put_net_cents(text: &mut Vec<u8>, tally: &Tally) -> Result<(), AllocError>
+pub fn put_net_cents(text: &mut Vec<u8>, tally: &Tally) -> Result<(), AllocError>
     ensures { OnOk result (text.new.items ≡ text.old.items ++ signed_decimal (net tally.now)) }
 {
     let cents = put_minus(text, tally)?;
@@ -19,7 +19,7 @@ pub(crate) fn put_net_cents(text: &mut Vec<u8>, tally: &Tally) -> Result<(), All
 
 /// Puts the net of a tally in dollars and cents, with a minus where more was taken back than paid out.
 #[tactic(auto, using(std::proofs::Common::append_assoc, crate::proofs::Minus::dollars_after_minus))]
-pub(crate) fn put_net(text: &mut Vec<u8>, tally: &Tally) -> Result<(), AllocError>
+pub fn put_net(text: &mut Vec<u8>, tally: &Tally) -> Result<(), AllocError>
     ensures { OnOk result (text.new.items ≡ text.old.items ++ signed_dollars (net tally.now)) }
 {
     let cents = put_minus(text, tally)?;
