@@ -11,7 +11,7 @@ The browser is worked through its debugging pipe, so each page stands as it is, 
 - a table whose heading is pressed once and twice has to stand in the order of the column, up and down;
 - in the tree that a screen reader is given, each table that stands by itself has a name, each cell a named heading in its column,
   each link, button and field a name, and headings go down one level at a time;
-- by the tabulator alone each link, button, field and explanation is reached, first the link past the head, and Enter unfolds an
+- by the tabulator key each link, button, field and explanation is reached, first the link past the head, and Enter unfolds an
   explanation;
 - on a phone of 390 pixels, with all explanations unfolded, nothing is outside, light and dark.
 

@@ -182,7 +182,7 @@ def paid_lines(wanted, whole=False):
     words = "as submitted; the plan's fee is " if lower else money(wanted["submitted_fee"]) + " submitted, paid by the plan's fee of "
     words += money(wanted["plan_fee"])
     lines.append(line("dispensing fee F7", fee, f"  {words}{cut('the charge', fee, wanted['fee_before_charge'])}"))
-    charge = "the usual charge DQ is " if wanted["charge_field"] == "DQ" else "the gross amount due DU, for want of a usual charge, is "
+    charge = "the usual charge DQ is " if wanted["charge_field"] == "DQ" else "the gross amount due DU, as no usual charge is given, is "
     before = wanted["cost_before_charge"] + wanted["fee_before_charge"]
     lines.append(line("allowed", cost + fee, f"{due('the charge', cost + fee, before)}  {charge}{money(wanted['charge'])}"))
     deductibles = [one["deductible"] for one in wanted["counted"]]

@@ -38,7 +38,7 @@ unfoldable pub named_code : Code → List ℕ
 named_code c = code_text c ++ (say " " ++ said (name_of c))
 
 unfoldable pub wanted_text : Door → Code → List ℕ
-wanted_text d c = say ", wanted is " ++ (said (wanted_for c) ++ (own_text d c ++ say "\n"))
+wanted_text d c = say ", expected is " ++ (said (wanted_for c) ++ (own_text d c ++ say "\n"))
 
 -- the code, the field of the nth group that it speaks of, that field's bytes, and what is expected
 unfoldable pub code_line : Door → List ℕ → ℕ → Code → List ℕ

@@ -71,7 +71,7 @@ fee_line figures b w =
 
 -- the charge by its field
 abbrev pub charge_text : Option ℕ → List ℕ
-charge_text None = say "  the gross amount due DU, for want of a usual charge, is "
+charge_text None = say "  the gross amount due DU, as no usual charge is given, is "
 charge_text (Some cents) = say "  the usual charge DQ is "
 
 -- what both come to, next to the charge

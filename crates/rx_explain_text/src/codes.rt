@@ -60,7 +60,7 @@ fn field_or_text(code: Code) -> &'static str
 fn put_wanted(page: &mut Page, door: &Door, code: Code) -> Result<(), AllocError>
     ensures { OnOk result (page.new.bytes.items ≡ page.old.bytes.items ++ wanted_text door.now code) }
 {
-    page.say(", wanted is ")?;
+    page.say(", expected is ")?;
     page.say(wanted(code))?;
     put_own(page, door, code)?;
     page.say("\n")

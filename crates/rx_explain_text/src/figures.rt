@@ -222,7 +222,7 @@ fn put_charge(page: &mut Page, bill: &Bill) -> Result<(), AllocError>
 {
     match bill.parts().usual_charge {
         Some(_) => page.say("  the usual charge DQ is "),
-        None => page.say("  the gross amount due DU, for want of a usual charge, is "),
+        None => page.say("  the gross amount due DU, as no usual charge is given, is "),
     }
 }
 

@@ -9,6 +9,6 @@ pub returns : goal.returns
 unfolding wanted_text
 returns c =
     joined_4 c.say-3.result _ c.say.new.self.bytes.items c.say-2.new.self.bytes.items c.put_own.new.page.bytes.items _
-    (say ", wanted is ") (said (wanted_for c.args.code)) (own_text c.args.door.now c.args.code) (say "\n")
+    (say ", expected is ") (said (wanted_for c.args.code)) (own_text c.args.door.now c.args.code) (say "\n")
     (search (rules, c.in_ok-say.ensures)) (search (rules, c.in_ok-say-2.ensures)) (search (rules, c.in_ok-put_own.ensures))
     (search rules)
