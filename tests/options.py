@@ -1,9 +1,11 @@
-"""The words on the command line that the tests of whole cases share."""
+"""What the tests of whole cases share: the words on the command line, and the loop over the cases."""
 
 import argparse
+import concurrent.futures
 import os
 import shlex
 import shutil
+import subprocess
 
 
 def is_line_with_words(told, line):
@@ -30,3 +32,24 @@ def read_options(parser, words):
         parser.error(f"can't run {options.program}")
     options.program = program
     return options
+
+
+def try_cases(options, cases):
+    """Tries each case whose name has the word of `--only`, and prints what differs; the exit status. A case is its name, a
+    function and what that is given after the options; the function says what differs, or nothing."""
+    cases = [case for case in cases if options.only in case[0]]
+
+    def difference(case):
+        try:
+            return case[1](options, case[2])
+        except (AssertionError, OSError, ValueError, IndexError, subprocess.SubprocessError) as error:
+            return f"{type(error).__name__} {error}"
+
+    failed = 0
+    with concurrent.futures.ThreadPoolExecutor(options.jobs) as pool:
+        for case, found in zip(cases, pool.map(difference, cases)):
+            if found:
+                failed += 1
+                print(f"{case[0]}: {found}", flush=True)
+    print(f"{len(cases) - failed} passed, {failed} failed")
+    return 1 if failed or not cases else 0

@@ -10,7 +10,6 @@ that this file makes of only the lines of the books. A page is read by an HTML p
 A case that differs has one line. The last line is `N passed, M failed`; the exit status is 0 where M is 0, else 1.
 """
 
-import concurrent.futures
 import hashlib
 import html.parser
 import json
@@ -20,7 +19,7 @@ import subprocess
 import sys
 import tempfile
 
-from options import is_line_with_words, parser_of, read_options
+from options import is_line_with_words, parser_of, read_options, try_cases
 
 # ---------------------------------------------------------------- worked cases
 
@@ -429,22 +428,7 @@ def main(words):
     options = read_options(parser, words)
     cases = [(case[0], worked, case) for case in WORKED]
     cases += [(f"books {options.seed}.{place}", drawn_books, f"{options.seed}.{place}") for place in range(1, options.random + 1)]
-    cases = [case for case in cases if options.only in case[0]]
-
-    def difference(case):
-        try:
-            return case[1](options, case[2])
-        except (AssertionError, OSError, ValueError, IndexError, subprocess.SubprocessError) as error:
-            return f"{type(error).__name__} {error}"
-
-    failed = 0
-    with concurrent.futures.ThreadPoolExecutor(options.jobs) as pool:
-        for case, found in zip(cases, pool.map(difference, cases)):
-            if found:
-                failed += 1
-                print(f"{case[0]}: {found}", flush=True)
-    print(f"{len(cases) - failed} passed, {failed} failed")
-    return 1 if failed or not cases else 0
+    return try_cases(options, cases)
 
 
 if __name__ == "__main__":

@@ -13,7 +13,6 @@ and the end books the others less the claims that left.
 A case that differs has one line. The last line is `N passed, M failed`; the exit status is 0 where M is 0, else 1.
 """
 
-import concurrent.futures
 import datetime
 import importlib.util
 import os
@@ -23,7 +22,7 @@ import subprocess
 import sys
 import tempfile
 
-from options import parser_of, read_options
+from options import parser_of, read_options, try_cases
 from run_cases import read
 
 sys.path.insert(0, os.path.join(os.path.dirname(os.path.abspath(__file__)), "..", "bench"))
@@ -410,22 +409,7 @@ def main(words):
     cases = [(case[0], worked, case) for case in WORKED] + [(f"a table: {case[0]}", fault, case) for case in FAULTS]
     cases += [("a table of 500,000 rows", large, 500_000)]
     cases += [(f"plan {options.seed}.{place}", lived, f"{options.seed}.{place}") for place in range(1, options.plans + 1)]
-    cases = [case for case in cases if options.only in case[0]]
-
-    def difference(case):
-        try:
-            return case[1](options, case[2])
-        except (AssertionError, OSError, subprocess.SubprocessError) as error:
-            return str(error)
-
-    failed = 0
-    with concurrent.futures.ThreadPoolExecutor(options.jobs) as pool:
-        for case, found in zip(cases, pool.map(difference, cases)):
-            if found:
-                failed += 1
-                print(f"{case[0]}: {found}", flush=True)
-    print(f"{len(cases) - failed} passed, {failed} failed")
-    return 1 if failed or not cases else 0
+    return try_cases(options, cases)
 
 
 if __name__ == "__main__":

@@ -2,10 +2,12 @@ pub mod AgedLedger
 pub mod Ages
 pub mod Carried
 pub mod CountedChanges
+pub mod LineFeeds
 pub mod LoadedLedger
 pub mod Loads
 pub mod MergedMembers
 pub mod SafeDays
 pub mod TableCuts
 pub mod TableSteps
+pub mod TakenOut
 pub mod Thinned

@@ -8,5 +8,6 @@ pub mod Table
 pub mod TableAnswer
 pub mod TableField
 pub mod TableLine
+pub mod TakenOut
 pub mod TextFault
 pub mod Texts

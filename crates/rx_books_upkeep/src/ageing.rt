@@ -1,12 +1,16 @@
-ghost use Rattle.std.specs.Prelude.{◌≡◌, ◌↔◌, IfOk, IsErrOf, filter, not, true, unwrap_or};
+ghost use Rattle.std.specs.Prelude.{◌≡◌, ◌↔◌, IfOk, IsErrOf, map, true, unwrap_or};
 ghost use Rattle.std.specs.Ordering.{is_gt};
+ghost use Rattle.rx_fields.specs.Order.{key_cmp};
+ghost use Rattle.rx_sorted.specs.Ascending.{IsAscending};
+ghost use Rattle.rx_ledger.specs.Ledger.{IsLedger};
+ghost use Rattle.rx_ledger.specs.Rows.{row_key};
 ghost use Rattle.rx_fields.specs.Calendar.{day_cmp};
 ghost use Rattle.rx_books_upkeep.specs.Ageing.{aged, dropped, is_before};
+ghost use Rattle.rx_books_upkeep.specs.TakenOut.{without_rows};
 
 use rx_books_store::Books;
-use rx_fields::{Day, Memory, Period};
-use rx_ledger::{Ledger, Row};
-use rx_sorted::Ascending;
+use rx_fields::{Day, Key, Memory, Period};
+use rx_ledger::Row;
 use std::alloc::Global;
 
 /// Books without the claims before a day, and those claims.
@@ -65,44 +69,49 @@ fn aged_within(alloc: Global, books: &Books, before: Day, period: Period) -> Res
     ensures books { IfOk result (λ out. out.books ≡ record { period = period; ledger = aged before books.now.ledger }) }
     ensures dropped { IfOk result (λ out. out.dropped.items ≡ dropped before books.now.ledger.rows) }
 {
-    let ledger = books.ledger(alloc)?;
-    let dropped = rows_before(alloc, ledger.rows(), before)?;
-    let ledger = without_rows_before(alloc, ledger, before)?;
-    let books = Books::from_ledger(alloc, &ledger, period)?;
+    let dropped = rows_before(alloc, books, before)?;
+    let keys = keys_of(alloc, &dropped)?;
+    let books = without_rows(alloc, books.copy(alloc, period)?, &keys)?;
     Ok(Aged { books, dropped })
 }
 
-fn without_rows_before(alloc: Global, ledger: Ledger, day: Day) -> Result<Ledger, Memory>
-    ensures { IfOk result (λ after. after ≡ aged day ledger) }
+// The claims before a day, in order.
+fn rows_before(alloc: Global, books: &Books, day: Day) -> Result<Vec<Row>, Memory>
+    ensures value { IfOk result (λ list. list.items ≡ dropped day books.now.ledger.rows) }
+    ensures within { IfOk result (λ _. IsLedger books.now.ledger) }
 {
-    let (members, rows) = ledger.into_lists();
-    let rows = rows_from(alloc, rows.as_slice(), day)?;
-    match Ascending::from_vec(rows) {
-        Ok(rows) => Ok(Ledger::from_lists(members, rows)),
-        Err(_) => unreachable!(),
+    let mut list = Vec::new(alloc);
+    let lent = books.lend(alloc)?;
+    let mut standing = lent.books().standing();
+    'rows: while let Some((row, _)) = standing.next_row() {
+        if is_before(day, row) {
+            list.push(*row)?;
+        }
     }
+    Ok(list)
 }
 
-fn rows_before(alloc: Global, rows: &[Row], day: Day) -> Result<Vec<Row>, Memory>
-    ensures { IfOk result (λ list. list.items ≡ dropped day rows.now) }
+// The fill keys of these claims.
+fn keys_of(alloc: Global, rows: &[Row]) -> Result<Vec<Key>, Memory>
+    ensures { IfOk result (λ keys. keys.items ≡ map row_key rows.now) }
 {
-    Ok(
-        rows.iter()
-            .filter(|row| is_before(day, row))
-            .copied()
-            .collect(alloc)?,
-    )
+    Ok(rows.iter().map(|row| row.key).collect(alloc)?)
 }
 
-fn rows_from(alloc: Global, rows: &[Row], day: Day) -> Result<Vec<Row>, Memory>
-    ensures { IfOk result (λ list. list.items ≡ filter (λ r. not (is_before day r)) rows.now) }
+// The books without the claims under these fill keys, which ascend.
+fn without_rows(alloc: Global, books: Books, keys: &[Key]) -> Result<Books, Memory>
+    requires { IsAscending key_cmp (λ key. key) keys.now }
+    ensures { IfOk result (λ after. after
+        ≡ record { period = books.period; ledger = without_rows books.ledger keys.now }) }
 {
-    Ok(
-        rows.iter()
-            .filter(|row| !is_before(day, row))
-            .copied()
-            .collect(alloc)?,
-    )
+    let mut opened = books.open(alloc, keys)?;
+    for (at, key) in keys.iter().enumerate() {
+        match opened.slot_near(at, key) {
+            Some(slot) => opened.clear_slot(slot, key),
+            None => unreachable!(),
+        }
+    }
+    Ok(opened.close())
 }
 
 // Whether a claim is dated before the day.

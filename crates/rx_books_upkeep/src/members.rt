@@ -1,6 +1,4 @@
 ghost use Rattle.std.specs.Prelude.{◌≡◌, IfOk};
-ghost use Rattle.rx_sorted.specs.Ascending.{IsAscending};
-ghost use Rattle.rx_ledger.specs.Members.{member_cmp, member_key};
 ghost use Rattle.rx_books_upkeep.specs.ChangeKinds.{counts_in};
 ghost use Rattle.rx_books_upkeep.specs.Loading.{IsLoaded, changes_of, counts_of, loaded};
 
@@ -8,7 +6,7 @@ use crate::change::{Loaded, MemberChange, changes_of, counted};
 use crate::merging::merged;
 use rx_books_store::Books;
 use rx_fields::Memory;
-use rx_ledger::{Ledger, Member};
+use rx_ledger::Member;
 use rx_sorted::Ascending;
 use std::alloc::Global;
 
@@ -42,19 +40,10 @@ pub fn load_each(
     ensures changes { IfOk result (λ out. out.1.items ≡ changes_of books.now.ledger table.now) }
     ensures counts { IfOk result (λ out. counts_in out.1.items ≡ counts_of books.now.ledger table.now) }
 {
-    let ledger = books.ledger(alloc)?;
-    let changes = changes_of(alloc, ledger.members(), table.as_slice())?;
-    let ledger = with_table(alloc, ledger, table.as_slice())?;
-    let books = Books::from_ledger(alloc, &ledger, books.period())?;
-    Ok((books, changes))
-}
-
-// The ledger with the members of the table.
-fn with_table(alloc: Global, ledger: Ledger, table: &[Member]) -> Result<Ledger, Memory>
-    requires { IsAscending member_cmp member_key table.now }
-    ensures { IfOk result (λ after. after ≡ loaded ledger table.now) }
-{
-    let (members, rows) = ledger.into_lists();
-    let members = merged(alloc, members.as_slice(), table)?;
-    Ok(Ledger::from_lists(members, rows))
+    let lent = books.lend(alloc)?;
+    let members = lent.books().members();
+    let changes = changes_of(alloc, members, table.as_slice())?;
+    let members = merged(alloc, members, table.as_slice())?;
+    let loaded = books.with_members(alloc, members)?;
+    Ok((loaded, changes))
 }

@@ -5,7 +5,7 @@ ghost use Rattle.rx_ledger.specs.Members.{member_cmp, member_key};
 
 use rx_fields::Memory;
 use rx_ledger::{Member, MemberKey};
-use rx_sorted::{Ascending, place_of};
+use rx_sorted::{Ascending, place_near};
 use std::alloc::Global;
 
 /// The members with those of the table, each in its place; where both lists have one, the table's.
@@ -33,13 +33,14 @@ pub(crate) fn merged(
     }
 }
 
-// The members before a key and those after it, between which a member of this key goes.
+// The members before a key and those after it, between which a member of this key goes. It is looked for at the first of them
+// before the others.
 fn sides_of<'a>(members: &'a [Member], key: &MemberKey) -> (&'a [Member], &'a [Member])
     requires { IsAscending member_cmp member_key members.now }
     ensures { (m : Member) → m.key ≡ key.now
         → put member_cmp member_key members.now m ≡ result.0.now ++ m ∷ result.1.now }
 {
-    match place_of(members, key) {
+    match place_near(members, 0, key) {
         Ok(at) => (&members[..at], &members[at + 1..]),
         Err(at) => (&members[..at], &members[at..]),
     }

@@ -55,7 +55,13 @@ pub fn read_members(alloc: Global, text: &[u8]) -> Result<Ascending<Member>, Tab
 pub(crate) fn line_feeds(text: &[u8]) -> usize
     ensures { result ≡ line_feeds text.now }
 {
-    text.iter().filter(|b| **b == LINE_FEED).count()
+    let mut found = 0;
+    let mut rest = text;
+    while let Some(end) = memchr(LINE_FEED, rest) {
+        found += 1;
+        rest = &rest[end + 1..];
+    }
+    found
 }
 
 impl Table {

@@ -3,6 +3,7 @@ use crate::ending::Ending;
 use crate::file_fault::ProgramFile;
 use crate::files::open_input;
 use crate::kept_file::KeptFile;
+use crate::moment::workers_or_all;
 use crate::nodes::Node;
 use crate::standard_output::print;
 use crate::texts::{bytes_in, opened, text_in};
@@ -17,19 +18,27 @@ use rx_fields::{Day, Memory, date_write};
 use rx_io::Device;
 use std::alloc::Global;
 use std::fs::File;
+use std::thread::Threads;
 
 const BOOKS: ProgramFile = ProgramFile::Of(Device::Books);
 
 const END_BOOKS: ProgramFile = ProgramFile::Of(Device::EndBooks);
 
 /// Loads a table of members into books, and prints what became of its members. A refused call writes nothing.
-pub fn members(rt: &HostRuntime, words: &MembersWords<'_>) -> Result<(), Ending> {
+pub fn members<R: Threads + Sync>(
+    rt: &HostRuntime,
+    threads: &R,
+    words: &MembersWords<'_>,
+) -> Result<(), Ending> {
     let table = open_table(rt, words.members)?;
     let table_node = Node::of(&table);
     let (books_node, done) = match words.origin {
         Origin::Books(path) => {
             let books = opened(rt, path, Device::Books)?;
-            (Node::of(&books), loaded(rt, words, path, &books, &table)?)
+            (
+                Node::of(&books),
+                loaded(rt, threads, words, path, &books, &table)?,
+            )
         }
         Origin::Period(period) => (Node::Other, first_books(rt, words, period, &table)?),
     };
@@ -41,8 +50,9 @@ pub fn members(rt: &HostRuntime, words: &MembersWords<'_>) -> Result<(), Ending>
 }
 
 // The table loaded into opening books.
-fn loaded(
+fn loaded<R: Threads + Sync>(
     rt: &HostRuntime,
+    threads: &R,
     words: &MembersWords<'_>,
     path: &str,
     books: &File,
@@ -50,7 +60,8 @@ fn loaded(
 ) -> Result<MembersText, Ending> {
     let books = text_in(rt, books, path, Device::Books)?;
     let table = table_in(rt, table, words.members)?;
-    members_text(rt.alloc(), &books, &table).map_err(|fault| {
+    let parts = usize::from(workers_or_all(threads, None));
+    members_text(threads, rt.alloc(), parts, &books, &table).map_err(|fault| {
         let given = Given {
             books: (path, books.as_slice()),
             table: (words.members, table.as_slice()),
@@ -147,7 +158,11 @@ fn counts_line(alloc: Global, counts: Loaded) -> Result<String, Memory> {
 
 /// Takes the claims before a day out of books, and prints how many left and the first safe day. A refused call writes
 /// nothing.
-pub fn age(rt: &HostRuntime, words: &AgeWords<'_>) -> Result<(), Ending> {
+pub fn age<R: Threads + Sync>(
+    rt: &HostRuntime,
+    threads: &R,
+    words: &AgeWords<'_>,
+) -> Result<(), Ending> {
     let before = day_in(words.before, "--before")?;
     let period = match words.period {
         Some(period) => Some(period_in(period)?),
@@ -160,7 +175,8 @@ pub fn age(rt: &HostRuntime, words: &AgeWords<'_>) -> Result<(), Ending> {
     let books = opened(rt, words.books, Device::Books)?;
     let node = Node::of(&books);
     let text = text_in(rt, &books, words.books, Device::Books)?;
-    let done = match age_text(rt.alloc(), &text, before, period, percent) {
+    let parts = usize::from(workers_or_all(threads, None));
+    let done = match age_text(threads, rt.alloc(), parts, &text, before, period, percent) {
         Ok(done) => done,
         Err(fault) => return Err(refused_books(rt, words.books, &text, words.books_out, fault)),
     };

@@ -17,6 +17,8 @@ mod books_kept;
 #[cfg(test)]
 mod books_lines;
 #[cfg(test)]
+mod books_members;
+#[cfg(test)]
 mod books_quick;
 #[cfg(test)]
 mod books_text;
