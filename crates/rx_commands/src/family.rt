@@ -15,12 +15,14 @@ mod columns;
 mod families;
 mod law;
 mod page;
+mod rows;
 mod shown;
 mod sums;
 mod tables;
 
-pub use families::{Family, FamilyMember, Total, family_of, members_of, part_of, rows_of};
-pub use law::law_of_claims;
+pub use families::{Family, FamilyMember, Total, family_of, part_of};
+pub use law::{family_reads_as_json, law_of_claims};
 pub use page::FamilyOrigin;
+pub use rows::{members_of, rows_of};
 pub use shown::{FamilyAsked, FamilyForm, family_text, show_family};
 pub use sums::{Claim, Limits, Running, by_date, reaches, summed};

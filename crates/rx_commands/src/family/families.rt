@@ -1,17 +1,16 @@
 //! A family of the books.
 ghost use Rattle.std.specs.Prelude.{◌≡◌, filter, [], find, IfNone, IfOk, IfSome, map, option_map, Some, unwrap_or};
 ghost use Rattle.rx_ledger.specs.Ledger.{members_of, rows_of};
-ghost use Rattle.rx_ledger.specs.Members.{of_family};
-ghost use Rattle.rx_ledger.specs.Rows.{claimed_by};
 ghost use Rattle.rx_books_store.specs.LedgerBooks.{deductible_of_family, out_of_pocket_of_family};
 ghost use Rattle.rx_commands.specs.Families.{IsFamily, IsFound, IsPart, is_of_person, is_person, member_shown, own_deductible, reaches_deductible};
 ghost use Rattle.rx_commands.specs.Families.{reaches_out_of_pocket, reaches_own, summed_over};
 ghost use Rattle.rx_commands.specs.FamilySums.{AreClaims, claim_row, left_of};
 
+use crate::family::rows::{members_of, rows_of};
 use crate::family::sums::{Claim, Limits, by_date, left_of};
-use rx_books_store::Books;
+use rx_books_store::{Books, OpenBooks};
 use rx_fields::{Id, Memory, Period, Person};
-use rx_ledger::{Ledger, Member, MemberKey, Row};
+use rx_ledger::{Member, MemberKey, Row};
 use std::alloc::Global;
 
 /// A sum over the claims of a benefit period, in cents.
@@ -88,27 +87,35 @@ fn family_in(
         return Ok(None);
     };
     let out_of_pocket = books.out_of_pocket(id).unwrap_or(0);
-    let ledger = books.ledger(alloc)?;
-    let family = listed(alloc, books, &ledger, id, limits, deductible, out_of_pocket)?;
+    let lent = books.lend(alloc)?;
+    let family = listed(
+        alloc,
+        books,
+        lent.books(),
+        id,
+        limits,
+        deductible,
+        out_of_pocket,
+    )?;
     Ok(Some(family))
 }
 
-// The family of a ledger, which is that of the books, with these sums.
+// The family of the books, which are lent opened, with these sums.
 fn listed(
     alloc: Global,
     books: &Books,
-    ledger: &Ledger,
+    opened: &OpenBooks,
     id: &Id,
     limits: &Limits,
     deductible: u128,
     out_of_pocket: u128,
 ) -> Result<Family, Memory>
-    ensures { IfOk result (λ f. ledger.now ≡ books.now.ledger
+    ensures { IfOk result (λ f. opened.now.books ≡ books.now
         → Some deductible ≡ deductible_of_family books.now id.now
         → out_of_pocket ≡ unwrap_or (out_of_pocket_of_family books.now id.now) 0 → IsFamily limits.now books.now id.now f) }
 {
-    let claims = claims_in(alloc, ledger, id, limits, books.period())?;
-    let members = members_in(alloc, books, ledger, id, limits, &claims)?;
+    let claims = claims_in(alloc, opened, id, limits, books.period())?;
+    let members = members_in(alloc, books, opened, id, limits, &claims)?;
     let deductible_at = deductible_reached(&claims);
     let out_of_pocket_at = out_of_pocket_reached(&claims);
     Ok(Family {
@@ -124,14 +131,14 @@ fn listed(
 // The claims of a family by date, each with its sums.
 fn claims_in(
     alloc: Global,
-    ledger: &Ledger,
+    opened: &OpenBooks,
     id: &Id,
     limits: &Limits,
     period: Period,
 ) -> Result<Vec<Claim>, Memory>
-    ensures { IfOk result (λ claims. AreClaims limits.now period (rows_of ledger.now id.now) claims.items) }
+    ensures { IfOk result (λ claims. AreClaims limits.now period (rows_of opened.now.books.ledger id.now) claims.items) }
 {
-    let rows = rows_of(alloc, ledger, id)?;
+    let rows = rows_of(alloc, opened, id)?;
     let claims = by_date(alloc, *limits, period, rows)?;
     Ok(claims)
 }
@@ -140,50 +147,17 @@ fn claims_in(
 fn members_in(
     alloc: Global,
     books: &Books,
-    ledger: &Ledger,
+    opened: &OpenBooks,
     id: &Id,
     limits: &Limits,
     claims: &[Claim],
 ) -> Result<Vec<FamilyMember>, Memory>
     ensures { IfOk result (λ list. list.items
-        ≡ map (member_shown limits.now.deductible books.now claims.now) (members_of ledger.now id.now)) }
+        ≡ map (member_shown limits.now.deductible books.now claims.now) (members_of opened.now.books.ledger id.now)) }
 {
-    let members = members_of(alloc, ledger, id)?;
+    let members = members_of(alloc, opened, id)?;
     let shown = members_shown(alloc, books, limits, &members, claims)?;
     Ok(shown)
-}
-
-/// The members of a family, ascending by person.
-pub fn members_of(alloc: Global, ledger: &Ledger, id: &Id) -> Result<Vec<Member>, Memory>
-    ensures { IfOk result (λ list. list.items ≡ members_of ledger.now id.now) }
-{
-    let members = ledger
-        .members()
-        .iter()
-        .filter(|member| of_family(id, member));
-    Ok(members.copied().collect(alloc)?)
-}
-
-/// The standing claims of a family, ascending by fill key.
-pub fn rows_of(alloc: Global, ledger: &Ledger, id: &Id) -> Result<Vec<Row>, Memory>
-    ensures { IfOk result (λ list. list.items ≡ rows_of ledger.now id.now) }
-{
-    let rows = ledger.rows().iter().filter(|row| claimed_by(id, row));
-    Ok(rows.copied().collect(alloc)?)
-}
-
-#[tactic(auto, using(rx_ledger::proofs::SameText::same_text))]
-fn of_family(id: &Id, member: &Member) -> bool
-    ensures { result ≡ of_family id.now member.now }
-{
-    member.key.family == *id
-}
-
-#[tactic(auto, using(rx_ledger::proofs::SameText::same_text))]
-fn claimed_by(id: &Id, row: &Row) -> bool
-    ensures { result ≡ claimed_by id.now row.now }
-{
-    row.family == *id
 }
 
 // A sum, with the claim that reaches its limit.
