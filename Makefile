@@ -40,7 +40,7 @@ all-edits: kit cc
 
 cases: kit cc
 	python3 tools/check_docs.py
-	python3 tools/find_doubles.py --allowed 39
+	python3 tools/find_doubles.py --allowed 38
 	python3 tools/count_dialect.py --allowed 6
 	test -x $(PROGRAM) || (cd crates/rxbatch && rt run -- sample)
 	python3 packaging/make_pages.py $(PROGRAM) --check
@@ -59,6 +59,7 @@ cases: kit cc
 	python3 tests/run_explain.py $(PROGRAM)
 	python3 tests/run_verify.py $(PROGRAM)
 	python3 tests/run_replies.py $(PROGRAM)
+	python3 tests/run_settle.py $(PROGRAM)
 	python3 tests/run_report.py $(PROGRAM)
 	python3 tests/run_upkeep.py $(PROGRAM)
 	python3 tests/run_family.py $(PROGRAM)

@@ -14,12 +14,12 @@ import re
 import subprocess
 import sys
 
-OPTION = re.compile(r"^ +(?:(-\w), )? *(--[\w-]+)(?: <([\w-]+)>)? {2,}(.*)$")
+OPTION = re.compile(r"^ +(?:(-\w), )? *(--[\w-]+)(?: <([\w-]+)>(\.\.\.)?)? {2,}(.*)$")
 COMMAND = re.compile(r"^  (\w+) {2,}(.*)$")
 # What `--help` doesn't say.
 STATUSES = [
     ("0", "Success."),
-    ("1", "An input is refused: the line \"refused N M P\" on standard error, or \"response M P\" for a response file."),
+    ("1", "An input is refused: the line \"refused N M P\" on standard error, or \"response M P\" or \"reply M P\" for a response file."),
     ("2", "The arguments aren't understood or ask for help, or two options of run lead to one file."),
     ("3", "A file failed: the line \"file K\" on standard error."),
     ("4", "check: warnings, and no fault. adjudicate: a warning stops it. explain, family, fault: nothing of the kind."),
@@ -72,7 +72,7 @@ class Command:
     def __init__(self, name, about):
         self.name, self.about = name, about
         self.usage = ""
-        # (short, long, value, help)
+        # (short, long, value, dots where it may stand again, help)
         self.options = []
 
 
@@ -123,7 +123,7 @@ def manual(commands, version):
     ]
     for command in commands:
         lines += [".SS " + command.name, escaped(command.about) + "."]
-        for short, name, value, told in command.options:
+        for short, name, value, _, told in command.options:
             shown = "\\fB" + escaped(", ".join(filter(None, (short, name)))) + "\\fR"
             lines += [".TP", shown + (f" \\fI{value}\\fR" if value else ""), escaped(told) + "."]
     lines += [".SS help", "Prints the help, or that of a command, on standard output.",
@@ -142,14 +142,15 @@ def manual(commands, version):
 def bash(commands):
     cases = []
     for command in commands:
-        words = " ".join(" ".join(filter(None, (short, name))) for short, name, _, _ in command.options)
-        files = "|".join(name for _, name, value, _ in command.options if value in ("FILE", "DIR"))
-        others = "|".join(name for _, name, value, _ in command.options if value not in ("FILE", "DIR", None))
-        cases.append(f"    {command.name}) words='{words}'; files='{files}'; others='{others}' ;;")
+        words = " ".join(" ".join(filter(None, (short, name))) for short, name, *_ in command.options)
+        files = "|".join(name for _, name, value, *_ in command.options if value in ("FILE", "DIR"))
+        others = "|".join(name for _, name, value, *_ in command.options if value not in ("FILE", "DIR", None))
+        again = "".join(f"; again=' {name} '" for _, name, _, dots, _ in command.options if dots)
+        cases.append(f"    {command.name}) words='{words}'; files='{files}'; others='{others}'{again} ;;")
     names = " ".join(command.name for command in commands)
     return f"""# Completions of rxbatch for bash.
 _rxbatch() {{
-  local word=${{COMP_WORDS[COMP_CWORD]}} before=${{COMP_WORDS[COMP_CWORD - 1]}} words files others left name
+  local word=${{COMP_WORDS[COMP_CWORD]}} before=${{COMP_WORDS[COMP_CWORD - 1]}} words files others again left name
   if [ "$COMP_CWORD" -eq 1 ]; then
     mapfile -t COMPREPLY < <(compgen -W '{names} help --help --version -V' -- "$word")
     return
@@ -167,7 +168,7 @@ _rxbatch() {{
   else
     left=
     for name in $words; do
-      [[ " ${{COMP_WORDS[*]:2:COMP_CWORD-2}} " == *" $name "* ]] || left+=" $name"
+      [[ " ${{COMP_WORDS[*]:2:COMP_CWORD-2}} " == *" $name "* && $again != *" $name "* ]] || left+=" $name"
     done
     mapfile -t COMPREPLY < <(compgen -W "$left" -- "$word")
   fi
@@ -184,9 +185,9 @@ def zsh(commands):
     cases = []
     for command in commands:
         options = []
-        for short, name, value, text in command.options:
+        for short, name, value, dots, text in command.options:
             action = {"FILE": ":file:_files", "DIR": ":folder:_files -/", None: ""}.get(value, f":{value}:")
-            names = f"'({short} {name})'{{{short},{name}}}'" if short else f"'{name}{'=' if value else ''}"
+            names = f"'({short} {name})'{{{short},{name}}}'" if short else f"'{'*' if dots else ''}{name}{'=' if value else ''}"
             options.append(f"{names}[{quoted(text)}]{action}'")
         cases.append(f"    {command.name}) _arguments {' '.join(options)} ;;")
     return f"""#compdef rxbatch

@@ -1,8 +1,8 @@
 # Completions of rxbatch for bash.
 _rxbatch() {
-  local word=${COMP_WORDS[COMP_CWORD]} before=${COMP_WORDS[COMP_CWORD - 1]} words files others left name
+  local word=${COMP_WORDS[COMP_CWORD]} before=${COMP_WORDS[COMP_CWORD - 1]} words files others again left name
   if [ "$COMP_CWORD" -eq 1 ]; then
-    mapfile -t COMPREPLY < <(compgen -W 'run show plan sample check explain verify report replies adjudicate fault members age family help --help --version -V' -- "$word")
+    mapfile -t COMPREPLY < <(compgen -W 'run show plan sample check explain verify report replies settle adjudicate fault members age family help --help --version -V' -- "$word")
     return
   fi
   # --option=value is three words here
@@ -17,12 +17,13 @@ _rxbatch() {
     verify) words='--sheet --books --batch --response --books-out --settlement --stamp --workers --plain --desk'; files='--sheet|--books|--batch|--response|--books-out|--settlement'; others='--stamp|--workers' ;;
     report) words='--sheet --books --batch --stamp --provider --family --tsv --json --jsonl --html --html-dir'; files='--sheet|--books|--batch|--html-dir'; others='--stamp|--provider|--family' ;;
     replies) words='--response'; files='--response'; others='' ;;
+    settle) words='--response --provider'; files='--response'; others='--provider'; again=' --response ' ;;
     adjudicate) words='--sheet --books --batch --out --stamp --workers --again --strict --quiet'; files='--sheet|--books|--batch|--out'; others='--stamp|--workers' ;;
     fault) words=''; files=''; others='' ;;
     members) words='--books --period --members --books-out --report --safe'; files='--books|--members|--books-out|--report'; others='--period' ;;
     age) words='--books --before --period --sheet --refill-percent --books-out --dropped --safe'; files='--books|--sheet|--books-out|--dropped'; others='--before|--period|--refill-percent' ;;
     family) words='--books --family --person --sheet --tsv --json --html'; files='--books|--sheet'; others='--family|--person' ;;
-    help) words='run show plan sample check explain verify report replies adjudicate fault members age family'; files=''; others='' ;;
+    help) words='run show plan sample check explain verify report replies settle adjudicate fault members age family'; files=''; others='' ;;
   esac
   if [ -n "$files" ] && [[ "|$files|" == *"|$before|"* ]]; then
     mapfile -t COMPREPLY < <(compgen -f -- "$word")
@@ -31,7 +32,7 @@ _rxbatch() {
   else
     left=
     for name in $words; do
-      [[ " ${COMP_WORDS[*]:2:COMP_CWORD-2} " == *" $name "* ]] || left+=" $name"
+      [[ " ${COMP_WORDS[*]:2:COMP_CWORD-2} " == *" $name "* && $again != *" $name "* ]] || left+=" $name"
     done
     mapfile -t COMPREPLY < <(compgen -W "$left" -- "$word")
   fi

@@ -1,4 +1,5 @@
 pub mod DraftLemmas
+pub mod GivenTexts
 pub mod NamedFault
 pub mod PathLemmas
 pub mod SubcommandMet

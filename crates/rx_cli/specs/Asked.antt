@@ -1,19 +1,19 @@
 -- Plumbing: what a command holds of the words' matches: the subcommand's name and its options' values.
 use Rattle.std.specs.Prelude.{◌≡◌, ◌≤◌, ◌⊎◌, ℕ, Bool, true, false, not, ◌&&◌, ◌==◌, nat_le, List, length, Option, Some, None, codes}
-use Rattle.std.specs.Prelude.{option_map}
+use Rattle.std.specs.Prelude.{map, option_map}
 use Rattle.std.specs.List.{list_all}
 use Rattle.std.specs.Option.{option_map_or}
 use Rattle.rx_text.specs.Bytes.{all_digits, cut}
 use Rattle.std.specs.Str.{bytes_eq}
 use Rattle.std.specs.Borrow.{Bor}
 use Rattle.std.specs.Str.Parse.{IsNumeral, digits_value}
-use Rattle.clap.specs.Words.{Row, Text, first_of}
+use Rattle.clap.specs.Words.{Row, Text, all_of, first_of}
 use Rattle.rx_io.specs.declared.files.Inputs.{Inputs}
 use Rattle.rx_io.specs.declared.files.Outputs.{Outputs}
 use Rattle.rx_cli.specs.Paths.{has_twice, paths_of}
 use Rattle.rx_cli.specs.declared.asked.Command.{Command}
 use Rattle.rx_cli.specs.declared.asked.Command.TheVariants.{Run, Show, Plan, Sample, Check, Explain, Verify, Report, Replies}
-use Rattle.rx_cli.specs.declared.asked.Command.TheVariants.{Adjudicate, Age, Fault, Members, ShowFamily}
+use Rattle.rx_cli.specs.declared.asked.Command.TheVariants.{Adjudicate, Age, Fault, Members, Settle, ShowFamily}
 use Rattle.rx_cli.specs.declared.people.AdjudicateWords.{AdjudicateWords}
 use Rattle.rx_cli.specs.declared.people.FaultNumbers.{FaultNumbers}
 use Rattle.rx_cli.specs.declared.asked.RunWords.{RunWords}
@@ -27,6 +27,7 @@ use Rattle.rx_cli.specs.declared.retrace.Portion.{Portion}
 use Rattle.rx_cli.specs.declared.retrace.Portion.TheVariants.{Whole, Provider, Family}
 use Rattle.rx_cli.specs.declared.retrace.ReportWords.{ReportWords}
 use Rattle.rx_cli.specs.declared.retrace.VerifyWords.{VerifyWords}
+use Rattle.rx_cli.specs.declared.settle_options.SettleWords.{SettleWords}
 use Rattle.rx_cli.specs.declared.upkeep.AgeWords.{AgeWords}
 use Rattle.rx_cli.specs.declared.upkeep.FamilyForm.{FamilyForm}
 use Rattle.rx_cli.specs.declared.upkeep.FamilyForm.TheVariants as family
@@ -203,6 +204,15 @@ pub record HoldsAdjudicate (rows : List Row) (a : AdjudicateWords) : Type 0 wher
   pub strict : a.strict ≡ is_set (codes "strict") rows
   pub quiet : a.quiet ≡ is_set (codes "quiet") rows
 
+-- the option's values are these texts, of all its uses in their order
+abbrev pub HasTexts : List Row → Text → List Text → Type 0
+HasTexts rows name texts = all_of name rows ≡ Some texts
+
+-- what `settle` takes is the values of its options
+pub record HoldsSettle (rows : List Row) (s : SettleWords) : Type 0 where
+  pub responses : HasTexts rows (codes "response") (map (λ t. t.now) s.responses.items)
+  pub provider : MayHaveText rows (codes "provider") s.provider
+
 -- the three numbers of a refusal
 pub record HoldsFault (rows : List Row) (f : FaultNumbers) : Type 0 where
   pub kind : HasLongNumber rows (codes "N") f.kind
@@ -274,6 +284,7 @@ HoldsNamed name rows (Members m) = (name ≡ codes "members") × HoldsMembers ro
 HoldsNamed name rows (Age a) = (name ≡ codes "age") × HoldsAge rows a
 HoldsNamed name rows (ShowFamily f) = (name ≡ codes "family") × HoldsFamily rows f
 HoldsNamed name rows (Replies path) = (name ≡ codes "replies") × HasText rows (codes "response") path.now
+HoldsNamed name rows (Settle s) = (name ≡ codes "settle") × HoldsSettle rows s
 
 -- the command is the subcommand that was found, with the values of its options
 abbrev pub Holds : Option (Text × List Row) → Command → Type 0

@@ -1,9 +1,10 @@
 -- Meaning: the command line: its subcommands and their options (docs/CLI.md, "Commands").
 use Rattle.std.specs.Prelude.{◌≡◌, true, false, IfOk, Some, codes}
+use Rattle.clap.specs.Lexer.{usize_max}
 use Rattle.clap.specs.Words.{App, Rule, Text, app_of, new_app, new_rule, with_rule, with_subcommand}
 use Rattle.clap.specs.declared.builder.command.Command.{Command}
 use Rattle.clap.specs.declared.builder.command.Command.TheViews.{out-Command}
-use Rattle.clap.specs.declared.builder.action.ArgAction.TheVariants.{SetTrue}
+use Rattle.clap.specs.declared.builder.action.ArgAction.TheVariants.{Append, SetTrue}
 use Rattle.rx_cli.specs.declared.draft.Draft.{Draft}
 
 -- `--name VALUE`, which has to stand
@@ -13,6 +14,11 @@ required_option name = record (new_rule name) { long = Some name; value_names = 
 -- `--name VALUE`, which may stand
 abbrev pub optional_option : Text → Rule
 optional_option name = record (required_option name) { required = false }
+
+-- `--name VALUE..`, which has to stand, once or more, and each time has a value or more
+abbrev pub repeated_option : Text → Rule
+repeated_option name =
+    record (required_option name) { action = Some Append; range = Some (record { start_inclusive = 1; end_inclusive = usize_max }) }
 
 -- `--workers N`, which may stand
 abbrev pub workers_option : Rule
@@ -113,6 +119,11 @@ report_line = with_forms (with_rule (with_rule (with_rule (with_inputs (new_app 
 abbrev pub replies_line : App
 replies_line = with_rule (new_app (codes "replies")) (required_option (codes "response"))
 
+-- `settle --response F.. [--provider ID]`
+abbrev pub settle_line : App
+settle_line = with_rule (with_rule (new_app (codes "settle")) (repeated_option (codes "response")))
+    (optional_option (codes "provider"))
+
 -- the line with what `adjudicate` may be asked for
 abbrev pub with_wishes : App → App
 with_wishes line = with_rule (with_rule (with_rule (with_rule (with_rule line (optional_option (codes "stamp")))
@@ -169,8 +180,8 @@ with_adjudication line = with_subcommand (with_subcommand (with_subcommand (with
 
 -- the line with the subcommands that check a run's files and retrace it
 abbrev pub with_retracing : App → App
-with_retracing line = with_subcommand (with_subcommand (with_subcommand (with_subcommand (with_subcommand line
-    check_line.top) explain_line.top) verify_line.top) report_line.top) replies_line.top
+with_retracing line = with_subcommand (with_subcommand (with_subcommand (with_subcommand (with_subcommand (with_subcommand
+    line check_line.top) explain_line.top) verify_line.top) report_line.top) replies_line.top) settle_line.top
 
 -- the line with the subcommands that people need and no program
 abbrev pub with_people : App → App

@@ -5,6 +5,7 @@ ghost use Rattle.rx_cli.specs.Paths.{files_of, has_twice, paths_of};
 use crate::paths::has_one_twice;
 use crate::people::{AdjudicateWords, FaultNumbers};
 use crate::retrace::{ExplainWords, ReportWords, VerifyWords};
+use crate::settle_options::SettleWords;
 use crate::upkeep::{AgeWords, FamilyWords, MembersWords};
 use rx_io::{Inputs, Outputs};
 
@@ -74,7 +75,7 @@ pub struct ShowWords<'a> {
 pub type CheckWords<'a> = Inputs<&'a str, Option<&'a str>, Option<&'a str>>;
 
 /// One of the subcommands, with the values of its options (docs/CLI.md, "Commands").
-#[derive(Clone, Copy, Debug, PartialEq, Eq)]
+#[derive(Debug, Drop, PartialEq, Eq)]
 pub enum Command<'a> {
     /// `run`: adjudicates a batch file.
     Run(RunWords<'a>),
@@ -104,4 +105,6 @@ pub enum Command<'a> {
     ShowFamily(FamilyWords<'a>),
     /// `replies`: one line per reply of this response file.
     Replies(&'a str),
+    /// `settle`: the settlement of response files.
+    Settle(SettleWords<'a>),
 }

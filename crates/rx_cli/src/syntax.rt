@@ -9,6 +9,7 @@ ghost use Rattle.rx_cli.specs.Syntax.{whole_line, with_asked, with_forms, with_v
 
 use crate::draft::Draft;
 use crate::people_syntax::takes_people;
+use crate::settle_options::settle_line;
 use crate::upkeep_syntax::takes_upkeep;
 use clap::{Arg, ArgAction, Command as Line};
 use std::alloc::{AllocError, Global};
@@ -346,6 +347,7 @@ fn takes_retracing<'a>(alloc: Global, line: Draft<'a>) -> Draft<'a>
         .subcommand(verify(alloc))
         .subcommand(report(alloc))
         .subcommand(replies(alloc))
+        .subcommand(settle_line(alloc))
 }
 
 /// The command line of the program.

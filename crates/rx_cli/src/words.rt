@@ -14,6 +14,7 @@ use crate::misuse::{
 use crate::options::{flag, inputs, number_if_given, outputs, text};
 use crate::people_words::{adjudicate_taken, fault};
 use crate::retrace_options::{explain, report, verify};
+use crate::settle_options::settle;
 use crate::syntax::line;
 use crate::upkeep_options::{age, family, members};
 use clap::ArgMatches;
@@ -133,6 +134,7 @@ fn named<'a>(alloc: Global, name: &str, found: &ArgMatches<'a>) -> Result<Comman
             Some(response) => Ok(Command::Replies(response)),
             None => Err(WordsFault::Words(None)),
         },
+        "settle" => Ok(Command::Settle(settle(found, alloc)?)),
         _ => Err(WordsFault::Words(None)),
     }
 }

@@ -1,9 +1,15 @@
--- Lemmas: what is found in a list, files that are the same, sizes put one after the other, a report that is explained, reversals with the members of their claims, and how a comparison ends.
+-- Lemmas: response files of a pay cycle, what is found in a list, files that are the same, sizes put one after the other, a report that is explained, reversals with the members of their claims, and how a comparison ends.
 pub mod Accounted
 pub mod Courses
+pub mod CycleBack
+pub mod CycleInside
+pub mod CycleOnce
+pub mod CycleRead
 pub mod EachExplained
 pub mod FamilyClaims
 pub mod FamilyLaws
+pub mod FamilyPassed
+pub mod FamilyRead
 pub mod FamilyRefused
 pub mod Folded
 pub mod Found

@@ -1,5 +1,5 @@
 -- Meaning: a family of the books: its members, its standing claims by date, and what the sums of a period come to.
-use Rattle.std.specs.Prelude.{◌≡◌, ℕ, Bool, ◌&&◌, false, List, Option, Some, None, option_map, unwrap_or, filter, find, map}
+use Rattle.std.specs.Prelude.{◌≡◌, ℕ, Bool, ◌&&◌, false, List, [], Option, Some, None, option_map, unwrap_or, filter, find, map}
 use Rattle.rx_fields.specs.Numbered.{Span}
 use Rattle.rx_ledger.specs.declared.member.Member.{Member}
 use Rattle.rx_ledger.specs.declared.member.MemberKey.{MemberKey}
@@ -66,8 +66,9 @@ is_person person m = is_same m.member.key.person person
 abbrev pub is_of_person : List ℕ → Claim → Bool
 is_of_person person c = is_same c.row.person person
 
--- the family with this person and its claims only; the sums stay those of the family
+-- the family with just this person, one of its members, and this person's claims; the sums stay those of the family
 pub record IsPart (person : List ℕ) (f part : Family) : Type 0 where
+  pub some : ¬ (part.members.items ≡ [])
   pub named : part.id ≡ f.id
   pub period : part.period ≡ f.period
   pub members : part.members.items ≡ filter (is_person person) f.members.items

@@ -3,12 +3,15 @@ pub mod Adjudicated
 pub mod Asked
 pub mod Compared
 pub mod Courses
+pub mod Cycle
+pub mod CycleSteps
 pub mod Difference
 pub mod ExplainFault
 pub mod Explaining
 pub mod Families
 pub mod FamilyCells
 pub mod FamilyColumns
+pub mod FamilyData
 pub mod FamilyLaw
 pub mod FamilyPage
 pub mod FamilyShown

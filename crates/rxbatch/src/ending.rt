@@ -50,6 +50,8 @@ pub enum Numbers {
     File(u64),
     /// The number of the fault of a response file, and its place.
     Response([u64; 2]),
+    /// The number of the fault of a detail that holds no reply, and its place.
+    Reply([u64; 2]),
 }
 
 impl From<AllocError> for Ending {
@@ -62,7 +64,7 @@ impl Numbers {
     // The exit status with such a line.
     fn status(self) -> u8 {
         match self {
-            Numbers::Refused(_) | Numbers::Response(_) => 1,
+            Numbers::Refused(_) | Numbers::Response(_) | Numbers::Reply(_) => 1,
             Numbers::File(_) => 3,
         }
     }
@@ -256,7 +258,8 @@ fn tell_numbers(rt: &HostRuntime, numbers: Numbers) -> io::Result<()> {
     match numbers {
         Numbers::Refused(numbers) => tell_refusal(rt, numbers),
         Numbers::File(number) => tell_file(rt, number),
-        Numbers::Response(numbers) => tell_response(rt, numbers),
+        Numbers::Response(numbers) => tell_two(rt, "response", numbers),
+        Numbers::Reply(numbers) => tell_two(rt, "reply", numbers),
     }
 }
 
@@ -265,9 +268,9 @@ fn tell_refusal(rt: &HostRuntime, numbers: [u64; 3]) -> io::Result<()> {
     eprintln!(rt; "refused {first} {second} {third}")
 }
 
-fn tell_response(rt: &HostRuntime, numbers: [u64; 2]) -> io::Result<()> {
+fn tell_two(rt: &HostRuntime, word: &str, numbers: [u64; 2]) -> io::Result<()> {
     let [number, place] = numbers;
-    eprintln!(rt; "response {number} {place}")
+    eprintln!(rt; "{word} {number} {place}")
 }
 
 fn tell_file(rt: &HostRuntime, number: u64) -> io::Result<()> {

@@ -21,6 +21,7 @@
 //! rxbatch family --books F --family ID [--person P] [--sheet F] [--tsv | --json | --html]
 //!                                                   a family's members, claims and sums
 //! rxbatch replies --response F                      a line for each answer of a response file
+//! rxbatch settle --response F.. [--provider ID]     the settlement of response files, all together
 //! rxbatch fault N M P                               the numbers of a refusal in words
 //! rxbatch help                                      the help, on standard output
 //! rxbatch sample                                    the reply to the base claim, on one line
@@ -59,6 +60,7 @@ mod run_files;
 mod run_gate;
 mod safe_files;
 mod settings;
+mod settle;
 mod shown_path;
 mod standard_output;
 mod streams;
@@ -114,10 +116,11 @@ fn perform<R: Threads + Wait + Sync>(rt: &HostRuntime, threads: &R) -> Result<()
         Ok(Command::Explain(words)) => commands::explain(rt, threads, &words),
         Ok(Command::Verify(words)) => commands::verify(rt, threads, &words),
         Ok(Command::Report(words)) => commands::report(rt, threads, &words),
-        Ok(Command::Members(words)) => upkeep_files::members(rt, &words),
-        Ok(Command::Age(words)) => upkeep_files::age(rt, &words),
+        Ok(Command::Members(words)) => upkeep_files::members(rt, threads, &words),
+        Ok(Command::Age(words)) => upkeep_files::age(rt, threads, &words),
         Ok(Command::ShowFamily(words)) => family_files::family(rt, threads, &words),
         Ok(Command::Replies(path)) => commands::replies(rt, path),
+        Ok(Command::Settle(words)) => settle::settle(rt, &words),
         Err(fault) if fault.is_version() => commands::told(rt, &fault),
         Err(fault) if fault.is_help() && names_help(&words) => commands::told(rt, &fault),
         Err(fault) => {

@@ -252,7 +252,7 @@ fn end_of(done: &Result<(), Ending>) -> (u8, Option<[u64; 3]>, Option<u64>) {
         Err(ending) => match ending.numbers() {
             Some(Numbers::Refused(numbers)) => (ending.status(), Some(numbers), None),
             Some(Numbers::File(number)) => (ending.status(), None, Some(number)),
-            Some(Numbers::Response(_)) | None => (ending.status(), None, None),
+            Some(Numbers::Response(_) | Numbers::Reply(_)) | None => (ending.status(), None, None),
         },
     }
 }

@@ -2,7 +2,7 @@
 use crate::same::same;
 use rx_cli::{
     AdjudicateWords, Asked, Command, ExplainWords, FaultNumbers, Form, Portion, ReportWords,
-    RunWords, ShowWords, VerifyWords, command,
+    RunWords, SettleWords, ShowWords, VerifyWords, command,
 };
 use rx_io::{Inputs, Outputs};
 use std::alloc::Global;
@@ -243,6 +243,31 @@ fn the_others_have_their_files(rt: HostRuntime) {
     same(&rt, given, Command::Replies("e"));
     let given = understood(&rt, rt.alloc(), &["rxbatch", "sample"]);
     same(&rt, given, Command::Sample);
+}
+
+const SETTLE: &[&str] = &[
+    "rxbatch",
+    "settle",
+    "--response",
+    "a",
+    "b",
+    "--provider",
+    "p",
+    "--response=c",
+];
+
+#[test]
+fn settle_has_its_files_in_order(rt: HostRuntime) {
+    let mut responses = Vec::new(rt.alloc());
+    for path in ["a", "b", "c"] {
+        responses.push(path).expect(&rt, "memory");
+    }
+    let wanted = SettleWords {
+        responses,
+        provider: Some("p"),
+    };
+    let given = understood(&rt, rt.alloc(), SETTLE);
+    same(&rt, given, Command::Settle(wanted));
 }
 
 fn owned(alloc: Global, words: &[&str]) -> Option<Vec<String>> {

@@ -1,4 +1,4 @@
-use Rattle.rx_cli.specs.Syntax.{check_line, explain_line, replies_line, report_line, verify_line}
+use Rattle.rx_cli.specs.Syntax.{check_line, explain_line, replies_line, report_line, settle_line, verify_line}
 use Rattle.rx_cli.proofs.syntax.takes_retracing.Goals as goal
 
 -- one subcommand after another
@@ -8,4 +8,5 @@ returns c app drawn =
     let explain = c.subcommand-2.ensures _ explain_line check c.explain.ensures in
     let verify = c.subcommand-3.ensures _ verify_line explain c.verify.ensures in
     let report = c.subcommand-4.ensures _ report_line verify c.report.ensures in
-    c.subcommand-5.ensures _ replies_line report c.replies.ensures
+    let replies = c.subcommand-5.ensures _ replies_line report c.replies.ensures in
+    c.subcommand-6.ensures _ settle_line replies c.settle_line.ensures
