@@ -16,7 +16,7 @@ use rx_settle::{settle_provider, settle_together};
 use std::alloc::Global;
 
 /// What `settle` prints of response files: the settlement of the batches that they answer, all together, or only the line
-/// of one provider. Of one file it is the settlement of its run (docs/CLI.md, "settle"). The empty id stands for all that
+/// of one provider. Of one file it is the settlement of its replies (docs/CLI.md, "settle"). The empty id stands for all that
 /// are no id.
 ///
 /// # Errors
