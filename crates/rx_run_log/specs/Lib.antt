@@ -7,5 +7,6 @@ pub mod Numbers
 pub mod RunTraffic
 pub mod Settlement
 pub mod Steps
+pub mod Sums
 pub mod Times
 pub mod Traffic

@@ -2,8 +2,8 @@
 use Rattle.std.specs.Prelude.{◌≡◌, ℕ, ◌-◌, ◌^◌, ◌==◌, List, ◌++◌, count_by, drop, length, min, take}
 use Rattle.std.specs.Prelude.{IfOk, IfSome, OnErr, Result, Some, true}
 use Rattle.rx_batch.specs.declared.layout.TheConstants.{STX}
-use Rattle.sha2.specs.Hashers.{Holds256}
 use Rattle.rx_io.specs.declared.fault.Failed.{Failed}
+use Rattle.rx_run_log.specs.Sums.{IsSumOf}
 use Rattle.rx_run_log.specs.declared.traffic.Traffic.{Traffic}
 use Rattle.rx_run_log.specs.declared.traffic.TheConstants.{KEPT}
 
@@ -21,7 +21,7 @@ in_64_bits n = min n (2 ^ 64 - 1)
 
 -- these bytes passed: the sum, where one is made, the front, the end and the counts are theirs
 pub record IsTrafficOf (t : Traffic) (bytes : List ℕ) : Type 0 where
-  pub sum : IfSome t.sum (λ sum. Holds256 sum bytes)
+  pub sum : IfSome t.sum (λ sum. IsSumOf sum bytes)
   pub front : t.front.items ≡ take KEPT bytes
   pub end : t.end.items ≡ last_of KEPT bytes
   pub size : t.bytes ≡ in_64_bits (length bytes)

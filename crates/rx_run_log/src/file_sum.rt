@@ -34,6 +34,17 @@ impl FileSum {
         }
     }
 
+    /// Of a file through which this passed, with a digest that was made of it.
+    pub fn of_digest(alloc: Global, traffic: &Traffic, digest: [u8; 32]) -> FileSum
+        ensures bytes { result.bytes ≡ bytes_passed traffic.now }
+        ensures sha256 { IfSome result.sha256 (λ text. string_bytes text ≡ encode_lower digest) }
+    {
+        FileSum {
+            bytes: bytes_of(traffic),
+            sha256: in_digits(alloc, digest),
+        }
+    }
+
     /// Of a file that holds these bytes. There is no sum where memory ran out for it.
     pub fn of_bytes(alloc: Global, bytes: &[u8]) -> FileSum
         ensures bytes { result.bytes ≡ Some (in_64_bits (length bytes.now)) }
@@ -71,6 +82,17 @@ impl FileSum {
     }
 }
 
+// How many bytes passed, where the file was read or written.
+fn bytes_of(traffic: &Traffic) -> Option<u64>
+    ensures { result ≡ bytes_passed traffic.now }
+{
+    if traffic.is_called() {
+        Some(traffic.bytes())
+    } else {
+        None
+    }
+}
+
 // The sum of what passed, in 64 hexadecimal digits.
 fn sum_of(alloc: Global, traffic: &Traffic) -> Option<String>
     ensures { (bytes : List ℕ) → IsTrafficOf traffic.now bytes
@@ -79,5 +101,12 @@ fn sum_of(alloc: Global, traffic: &Traffic) -> Option<String>
     let Ok(Some(digest)) = traffic.digest() else {
         return None;
     };
+    in_digits(alloc, digest)
+}
+
+// A digest in hexadecimal digits.
+fn in_digits(alloc: Global, digest: [u8; 32]) -> Option<String>
+    ensures { IfSome result (λ text. string_bytes text ≡ encode_lower digest) }
+{
     hex::encode(alloc, digest.as_slice()).ok()
 }

@@ -3,6 +3,7 @@
 //! - A watched device (`Watched`) stays the device that it is. Besides it come out the number of bytes that went through, their SHA-256 where it
 //!   is asked for, the first and the last of them, and the times of the first and the last call (`Traffic`). `RunTraffic` has that of the six
 //!   files of a run, and by it how long each step took.
+//! - A device may keep what passes instead (`Watched::keeping`), whose SHA-256 is then made by a thread of its own (`Summing`).
 //! - `step_line`, `shards_line`, `progress_line` and `done_line` spell numbers as people read them (`specs/Lines.antt`).
 //! - `log_line` is the log: one line of JSON, whose value is defined in `specs/Log.antt`. What it says of the batch and of
 //!   the answers is taken from the front of the batch file (`Lot`) and from the end of the settlement (`Totals`).
@@ -34,6 +35,8 @@ mod settlement;
 mod sink;
 mod source;
 mod step;
+mod sum;
+mod summing;
 mod times;
 mod traffic;
 mod watched;
@@ -50,6 +53,7 @@ pub use report::{Counted, RunReport, Shards, StepReport};
 pub use run_traffic::{RunTraffic, details_in, details_passed, input_report, lines_passed};
 pub use settlement::Totals;
 pub use step::{Step, StepTimes};
+pub use summing::Summing;
 pub use times::{RunTimes, micros_between};
 pub use traffic::Traffic;
 pub use watched::Watched;

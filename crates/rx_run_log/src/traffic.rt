@@ -1,15 +1,15 @@
 ghost use Rattle.std.specs.Prelude.{◌≡◌, ◌+◌, ◌-◌, ◌^◌, ◌≤◌, ◌++◌, [], ℕ, IfOk, IfSome, List, None};
-ghost use Rattle.std.specs.Prelude.{false, is_some, length, min, take, true};
+ghost use Rattle.std.specs.Prelude.{false, if◌then◌else◌, is_some, length, min, take, true};
 ghost use Rattle.std.specs.Option.{option_or};
 ghost use Rattle.rx_batch.specs.declared.layout.TheConstants.{STX};
-ghost use Rattle.sha2.specs.Hashers.{Holds256};
 ghost use Rattle.sha2.specs.Sha256.{sha256};
+ghost use Rattle.rx_run_log.specs.Sums.{IsSumOf};
 ghost use Rattle.rx_run_log.specs.Traffic.{Adds, IsTrafficOf, count_of, in_64_bits, last_of};
 
 use crate::marks::Marks;
+use crate::sum::Sum;
 use arrayvec::ArrayVec;
-use sha2::{Digest, Sha256};
-use std::alloc::AllocError;
+use std::alloc::{AllocError, Global};
 use std::time::Duration;
 
 // How many bytes are kept of the front and of the end.
@@ -22,7 +22,7 @@ pub struct Traffic {
     line_feeds: u64,
     starts: u64,
     // The sum of the bytes, where one is made.
-    sum: Option<Sha256>,
+    sum: Option<Sum>,
     front: ArrayVec<u8, KEPT>,
     end: ArrayVec<u8, KEPT>,
     called: bool,
@@ -44,11 +44,38 @@ impl Traffic {
         ensures first { result.first ≡ None }
         ensures last { result.last ≡ None }
     {
+        let sum = if sums { Some(Sum::new()) } else { None };
+        Traffic::with_sum(sum)
+    }
+
+    /// The same with a sum that is made later: what passes is kept, in room for this many bytes.
+    pub fn keeping(alloc: Global, room: usize) -> Traffic
+        ensures traffic { IsTrafficOf result [] }
+        ensures sum { is_some result.sum ≡ true }
+        ensures called { result.called ≡ false }
+    {
+        Traffic::with_sum(Some(Sum::keeping(alloc, room)))
+    }
+
+    // Nothing passed yet, with what the sum is made of, if there is one.
+    fn with_sum(sum: Option<Sum>) -> Traffic
+        requires { IfSome sum (λ s. IsSumOf s []) }
+        ensures traffic { IsTrafficOf result [] }
+        ensures sum { result.sum ≡ sum }
+        ensures bytes { result.bytes ≡ 0 }
+        ensures line_feeds { result.line_feeds ≡ 0 }
+        ensures starts { result.starts ≡ 0 }
+        ensures front { result.front.items ≡ [] }
+        ensures end { result.end.items ≡ [] }
+        ensures called { result.called ≡ false }
+        ensures first { result.first ≡ None }
+        ensures last { result.last ≡ None }
+    {
         Traffic {
             bytes: 0,
             line_feeds: 0,
             starts: 0,
-            sum: sums.then(|| Sha256::new()),
+            sum,
             front: ArrayVec::new(),
             end: ArrayVec::new(),
             called: false,
@@ -166,20 +193,38 @@ impl Traffic {
             → IfOk result (λ digest. IfSome digest (λ d. d ≡ sha256 bytes)) }
     {
         match &self.sum {
-            Some(sum) => Ok(Some(sum.clone()?.finalize())),
+            Some(sum) => Ok(Some(sum.digest()?)),
             None => Ok(None),
+        }
+    }
+
+    /// What passed, where it is kept. From then on no sum is made here.
+    pub fn take_kept(&mut self) -> Option<Vec<u8>>
+        ensures kept { (bytes : List ℕ) → IsTrafficOf self.old bytes → IfSome result (λ text. text.items ≡ bytes) }
+        ensures traffic { (bytes : List ℕ) → IsTrafficOf self.old bytes → IsTrafficOf self.new bytes }
+        ensures sum { self.new.sum ≡ (if is_some result then None else self.old.sum) }
+        ensures called { self.new.called ≡ self.old.called }
+        ensures first { self.new.first ≡ self.old.first }
+        ensures last { self.new.last ≡ self.old.last }
+    {
+        match self.sum.take() {
+            Some(Sum::Kept(text)) => Some(text),
+            other => {
+                self.sum = other;
+                None
+            }
         }
     }
 }
 
 // Adds a piece to a sum, where one is made.
-fn update(sum: &mut Option<Sha256>, piece: &[u8])
+fn update(sum: &mut Option<Sum>, piece: &[u8])
     ensures made { is_some sum.new ≡ is_some sum.old }
-    ensures holds { (bytes : List ℕ) → IfSome sum.old (λ s. Holds256 s bytes)
-        → IfSome sum.new (λ s. Holds256 s (bytes ++ piece.now)) }
+    ensures holds { (bytes : List ℕ) → IfSome sum.old (λ s. IsSumOf s bytes)
+        → IfSome sum.new (λ s. IsSumOf s (bytes ++ piece.now)) }
 {
-    if let Some(sum) = sum {
-        sum.update(piece);
+    if let Some(made) = sum.take() {
+        *sum = Some(made.with(piece));
     }
 }
 

@@ -1,7 +1,8 @@
-ghost use Rattle.std.specs.Prelude.{◌≡◌, [], IfSome, Some, false, is_some, true};
+ghost use Rattle.std.specs.Prelude.{◌≡◌, [], IfSome, List, Some, false, is_some, true, ℕ};
 ghost use Rattle.rx_run_log.specs.Traffic.{Adds, IsTrafficOf};
 
 use crate::traffic::Traffic;
+use std::alloc::Global;
 use std::time::{Clock, Duration};
 
 /// A device and its traffic: what a sink takes, and what a source gives. It answers what the device answers.
@@ -26,6 +27,30 @@ impl<'c, D, C: Clock> Watched<'c, D, C> {
             traffic: Traffic::new(sums),
             clock,
         }
+    }
+
+    /// The same with a sum that is made later: what passes is kept, in room for this many bytes.
+    pub fn keeping(alloc: Global, device: D, clock: &'c C, room: usize) -> Watched<'c, D, C>
+        ensures device { result.device ≡ device }
+        ensures traffic { IsTrafficOf result.traffic [] }
+        ensures sum { is_some result.traffic.sum ≡ true }
+        ensures called { result.traffic.called ≡ false }
+    {
+        Watched {
+            device,
+            traffic: Traffic::keeping(alloc, room),
+            clock,
+        }
+    }
+
+    /// What passed so far, where it is kept; the device is as before. From then on no sum is made here.
+    pub fn take_kept(&mut self) -> Option<Vec<u8>>
+        ensures device { self.new.device ≡ self.old.device }
+        ensures kept { (bytes : List ℕ) → IsTrafficOf self.old.traffic bytes → IfSome result (λ text. text.items ≡ bytes) }
+        ensures traffic { (bytes : List ℕ) → IsTrafficOf self.old.traffic bytes → IsTrafficOf self.new.traffic bytes }
+    {
+        let traffic = &mut self.traffic;
+        traffic.take_kept()
     }
 
     /// What passed so far.
