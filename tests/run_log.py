@@ -53,6 +53,11 @@ def log_of(path, more):
     return {"path": path.name, "bytes": len(text), "sha256": hashlib.sha256(text).hexdigest() if "--sums" in more else None}
 
 
+def logs_of(folder, files, more):
+    """What the log says of files."""
+    return {name: log_of(folder / path, more) for name, path in files.items()}
+
+
 def codes_in(response):
     """How often each reject code stands in a response file."""
     codes = collections.Counter(re.findall(rb"\x1cFB([^\x1c-\x1e\x03]*)", response))
@@ -93,8 +98,8 @@ def done(program, folder, case, more):
         "status": 0, "refused": None, "file": None,
         "lot": {"number": header[28:35].decode(), "created": header[35:43].decode()},
         "totals": dict(zip(("paid", "duplicate", "approved", "rejected", "net"), map(int, total[1:]))),
-        "inputs": {name: log_of(folder / path, more) for name, path in INPUTS.items()},
-        "outputs": {name: log_of(case / path, more) for name, path in OUTPUTS.items()},
+        "inputs": logs_of(folder, INPUTS, more),
+        "outputs": logs_of(case, OUTPUTS, more),
     }
     run = {
         "stamp": stamp, "workers": 2, "plain": "--plain" in more, "desk": "--desk" in more, "safe": "--safe" in more,
@@ -146,7 +151,7 @@ def refused(program, folder, case, more):
     if ended.returncode != 1 or len(numbers) != 3:
         return f"status {ended.returncode}, {ended.stderr!r}"
     wanted = {"status": 1, "refused": numbers, "file": None, "totals": None,
-              "inputs": {name: log_of(folder / path, more) for name, path in INPUTS.items()},
+              "inputs": logs_of(folder, INPUTS, more),
               "outputs": {name: unknown(path) for name, path in OUTPUTS.items()}, "shards": None}
     return differs(wanted, log)
 
@@ -238,16 +243,20 @@ def long_books(program):
             for is_logged in (True, False):
                 paths = {**INPUTS, **OUTPUTS}
                 words = ["run", "--stamp", (case / "stamp").read_text(), "--workers", "2", *way]
-                words += ["--log", "log.json"] if is_logged else []
+                words += ["--log", "log.json", "--sums"] if is_logged else []
                 words += [word for key, path in paths.items() for word in (OPTIONS.get(key, "--" + key), path)]
                 ended = subprocess.run([program, *words], cwd=folder, stdin=subprocess.DEVNULL, capture_output=True, text=True)
                 lines = (folder / "books-out.txt").read_bytes().count(b"\n")
                 warning = f"--books-out books-out.txt: {lines} lines, and no run reads books of more than 1000000 (age takes claims out)"
                 if ended.returncode != 0 or lines <= 1_000_000 or not ended.stderr.endswith(f"rxbatch: {warning}\n"):
                     return f"long books: status {ended.returncode}, {lines} lines, {ended.stderr!r}"
-            run = lines_of(folder)[0]["run"]
+            log = lines_of(folder)[0]
+            run = log["run"]
             if (run["counts"]["end_books_lines"], run["words"]) != (lines, {"fault": None, "warning": warning}):
                 return f"long books: {run['counts']}, {run['words']}"
+            # inputs as long as these are summed by threads of their own
+            if fault := differs({"inputs": logs_of(folder, INPUTS, ["--sums"]), "outputs": logs_of(folder, OUTPUTS, ["--sums"])}, log):
+                return f"long books: {fault}"
     return None
 
 

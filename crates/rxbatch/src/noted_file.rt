@@ -8,6 +8,9 @@ use std::fs::File;
 use std::io;
 use std::io::{Read, Write};
 
+// The most bytes that one call writes: as many as the processor still has at hand when they are looked at.
+const MOST_WRITTEN: usize = 262_144;
+
 /// What the system answered to the last call on the files of a run, where that call failed.
 pub type LastError = Cell<Option<io::Error>>;
 
@@ -112,7 +115,8 @@ impl<'a> Read for NotedFile<'a> {
 impl<'a> Write for NotedFile<'a> {
     fn write(&mut self, piece: &[u8]) -> io::Result<usize> {
         let mut file = self.file;
-        self.note(file.write(piece))
+        let front = &piece[..piece.len().min(MOST_WRITTEN)];
+        self.note(file.write(front))
     }
 
     fn flush(&mut self) -> io::Result<()> {

@@ -9,13 +9,13 @@ use crate::read_again::ReadInputs;
 use crate::run_files::RunFiles;
 use crate::settings::RunSettings;
 use crate::teller::Teller;
-use crate::told_source::ToldSource;
+use crate::told_source::{Sums, ToldSource};
 use jiff::Timestamp;
 use rx_cli::VERSION;
 use rx_io::{Inputs, Outputs};
 use rx_run_log::{
     CodeCount, CodesPassed, FileLog, FileSum, Lot, RunLog, RunTimes, RunTraffic, Shards, Step,
-    Totals, Traffic, Watched, details_passed, lines_passed, log_line, micros_between,
+    Summing, Totals, Traffic, Watched, details_passed, lines_passed, log_line, micros_between,
 };
 use rx_switch::{IoFault, run_io};
 use std::alloc::{AllocError, Global};
@@ -54,6 +54,9 @@ pub fn run<R: Threads + Wait + Sync>(
     }
 }
 
+// The SHA-256 of an input that a thread of its own summed.
+type Digest = [u8; 32];
+
 // A run that was watched.
 #[derive(Drop)]
 struct WatchedRun {
@@ -61,6 +64,7 @@ struct WatchedRun {
     // Why it isn't done, in words.
     fault: Option<String>,
     traffic: RunTraffic,
+    digests: Inputs<Option<Digest>>,
     // The reject codes in the response.
     codes: Option<CodesPassed>,
     shards: Option<Shards>,
@@ -80,9 +84,14 @@ fn watched<R: Threads + Wait + Sync>(
     let teller = Teller::new(rt, words);
     // Only the log has the codes.
     let codes = Cell::new(words.log.map(|_| CodesPassed::new(rt.alloc())));
-    let (done, fault, traffic) = match RunFiles::open(rt, words, log) {
+    let Passed {
+        done,
+        fault,
+        traffic,
+        digests,
+    } = match RunFiles::open(rt, words, log) {
         Ok(files) => on_files(rt, threads, words, files, &teller, &codes),
-        Err(ending) => (Err(ending), None, RunTraffic::nothing()),
+        Err(ending) => Passed::nothing(ending),
     };
     let fault = match (&done, fault) {
         (Err(Ending::File(fault)), None) => file_words(rt, words, fault).ok(),
@@ -100,6 +109,7 @@ fn watched<R: Threads + Wait + Sync>(
         done,
         fault,
         traffic,
+        digests,
         codes: codes.into_inner(),
         shards: teller.shards(),
         start,
@@ -107,7 +117,45 @@ fn watched<R: Threads + Wait + Sync>(
     }
 }
 
-// The run on its files, a refusal in words, and what passed through the files.
+// What became of the files of a run: how it ended, a refusal in words, what passed through them, and the sums of inputs that
+// threads of their own made.
+#[derive(Drop)]
+struct Passed {
+    done: Result<(), Ending>,
+    fault: Option<String>,
+    traffic: RunTraffic,
+    digests: Inputs<Option<Digest>>,
+}
+
+impl Passed {
+    // Of a run whose files couldn't be opened.
+    fn nothing(ending: Ending) -> Passed {
+        Passed {
+            done: Err(ending),
+            fault: None,
+            traffic: RunTraffic::nothing(),
+            digests: Inputs {
+                sheet: None,
+                books: None,
+                batch: None,
+            },
+        }
+    }
+}
+
+// How the sums of inputs are made: only the log has them, and with several workers they are made while the run goes on.
+fn sums_of(words: &RunSettings<'_>) -> Sums {
+    match (
+        words.manner.sums && words.log.is_some(),
+        words.manner.workers,
+    ) {
+        (false, _) => Sums::Unasked,
+        (true, 1) => Sums::AsRead,
+        (true, _) => Sums::Apart,
+    }
+}
+
+// The run on its files.
 fn on_files<R: Threads + Wait + Sync>(
     rt: &HostRuntime,
     threads: &R,
@@ -115,19 +163,19 @@ fn on_files<R: Threads + Wait + Sync>(
     files: RunFiles,
     teller: &Teller<'_>,
     codes: &CodesWritten,
-) -> (Result<(), Ending>, Option<String>, RunTraffic) {
+) -> Passed {
     let alloc = rt.alloc();
-    // Only the log has sums.
-    let sums = words.manner.sums && words.log.is_some();
+    let sums = sums_of(words);
     let last: LastError = Cell::new(None);
     let RunFiles { inputs, outputs } = files;
     let read = ReadInputs::new(&inputs);
     let mut sources = Inputs {
-        sheet: ToldSource::new(rt, &inputs.sheet, &last, Step::Sheet, teller, sums),
-        books: ToldSource::new(rt, &inputs.books, &last, Step::Books, teller, sums),
-        batch: ToldSource::new(rt, &inputs.batch, &last, Step::Batch, teller, sums),
+        sheet: ToldSource::new(rt, threads, &inputs.sheet, &last, Step::Sheet, teller, sums),
+        books: ToldSource::new(rt, threads, &inputs.books, &last, Step::Books, teller, sums),
+        batch: ToldSource::new(rt, threads, &inputs.batch, &last, Step::Batch, teller, sums),
     };
     let files = outputs.files();
+    let sums = sums.is_asked();
     let mut sinks = Outputs {
         response: Watched::new(coded_output(files.response, &last, codes), rt, sums),
         books: Watched::new(noted_output(files.books, &last), rt, sums),
@@ -143,8 +191,17 @@ fn on_files<R: Threads + Wait + Sync>(
         &mut sources,
         &mut sinks,
     );
+    let Inputs {
+        sheet,
+        books,
+        batch,
+    } = sources.map(|source| source.into_traffic());
     let traffic = RunTraffic {
-        inputs: sources.map(|source| source.into_traffic()),
+        inputs: Inputs {
+            sheet: sheet.0,
+            books: books.0,
+            batch: batch.0,
+        },
         outputs: Outputs {
             response: sinks.response.into_traffic(),
             books: sinks.books.into_traffic(),
@@ -153,7 +210,24 @@ fn on_files<R: Threads + Wait + Sync>(
     };
     let fault = refusal_of(rt, words, &done, &read, &traffic.inputs);
     let done = done.map_err(|fault| Ending::of_run(fault, last.get()));
-    (outputs.end(rt, done), fault, traffic)
+    Passed {
+        done: outputs.end(rt, done),
+        fault,
+        traffic,
+        digests: Inputs {
+            sheet: digest_of(threads, sheet.1),
+            books: digest_of(threads, books.1),
+            batch: digest_of(threads, batch.1),
+        },
+    }
+}
+
+// The digest that a thread makes, once it is made.
+fn digest_of<R: Threads>(threads: &R, summing: Option<Summing>) -> Option<Digest> {
+    match summing {
+        Some(summing) => Some(summing.end(threads)),
+        None => None,
+    }
 }
 
 // The refusal of a run, in words.
@@ -192,7 +266,7 @@ fn line(rt: &HostRuntime, words: &RunSettings<'_>, run: &WatchedRun) -> Result<S
     let warning = warning_of(rt, words, &run.done, lines);
     let host = host_name(rt);
     let codes = given_codes(alloc, run);
-    let read = inputs.as_ref().map(|file| FileSum::of(alloc, file));
+    let read = sums_read(alloc, run);
     let written = outputs.as_ref().map(|file| FileSum::of(alloc, file));
     let log = RunLog {
         version: VERSION,
@@ -224,6 +298,23 @@ fn line(rt: &HostRuntime, words: &RunSettings<'_>, run: &WatchedRun) -> Result<S
     let mut line = log_line(alloc, &log)?;
     line.push('\n')?;
     Ok(line)
+}
+
+// The sizes and the sums of the inputs.
+fn sums_read(alloc: Global, run: &WatchedRun) -> Inputs<FileSum> {
+    let (inputs, digests) = (&run.traffic.inputs, &run.digests);
+    Inputs {
+        sheet: sum_read(alloc, &inputs.sheet, digests.sheet),
+        books: sum_read(alloc, &inputs.books, digests.books),
+        batch: sum_read(alloc, &inputs.batch, digests.batch),
+    }
+}
+
+fn sum_read(alloc: Global, input: &Traffic, digest: Option<Digest>) -> FileSum {
+    match digest {
+        Some(digest) => FileSum::of_digest(alloc, input, digest),
+        None => FileSum::of(alloc, input),
+    }
 }
 
 fn inputs_in_log<'a>(sums: &'a Inputs<FileSum>, paths: &Inputs<&'a str>) -> Inputs<FileLog<'a>> {
