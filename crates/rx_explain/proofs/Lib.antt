@@ -2,6 +2,7 @@
 pub mod Changed
 pub mod Counted
 pub mod Flattened
+pub mod InOrder
 pub mod Laws
 pub mod ListedDrugs
 pub mod Nexts
@@ -12,4 +13,5 @@ pub mod Reckoned
 pub mod ShownRows
 pub mod Since
 pub mod SourceLaws
+pub mod Unnamed
 pub mod Until

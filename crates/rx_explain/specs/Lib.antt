@@ -7,6 +7,7 @@ pub mod Listed
 pub mod Opens
 pub mod Parts
 pub mod Reckoned
+pub mod Seen
 pub mod Shown
 pub mod Sources
 pub mod Spots

@@ -20,6 +20,7 @@ ghost use Rattle.rx_explain.specs.declared.events.Event.{Event};
 ghost use Rattle.rx_explain.specs.declared.explanation.Explanation.{Explanation};
 ghost use Rattle.rx_explain.specs.Explained.{IsExplained, IsOnLedger};
 ghost use Rattle.rx_explain.specs.Reckoned.{IsAccountedFor};
+ghost use Rattle.rx_explain.specs.Seen.{IsAlike, IsSameSaid, IsSeen};
 ghost use Rattle.rx_explain.specs.Shown.{counted_rows};
 ghost use Rattle.rx_explain.specs.Spots.{Spot, spot_at};
 ghost use Rattle.rx_explain.specs.declared.traced.Source.TheVariants as source;
@@ -95,4 +96,11 @@ pub fn sums_are_of_counted_rows()
 pub fn steps_lead_to_the_answer()
     ensures { (lot : LotParts) → (plan : Plan) → (L : Ledger) → (events : List Event) → (at : At) → (s : Spot)
         → (x : Explanation) → IsOnLedger lot plan L events at s x → IsAccountedFor plan x }
+{}
+
+/// What a pharmacy may see of its transaction has of other pharmacies' claims nothing but dates and amounts: of two
+/// explanations that differ only in names, products, prescriptions and pharmacies of other pharmacies' claims, and in the order
+/// that hangs on these, the same is seen.
+pub fn others_stay_unnamed()
+    ensures { (x y u v : Explanation) → IsAlike x y → IsSeen x u → IsSeen y v → IsSameSaid u v }
 {}

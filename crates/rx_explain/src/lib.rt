@@ -23,6 +23,7 @@ mod finding;
 mod law;
 mod open_from;
 mod part;
+mod seen;
 mod spot;
 mod subject;
 mod traced;
@@ -35,7 +36,8 @@ pub use explanation::Explanation;
 pub use facts::Facts;
 pub use finding::{Wanted, find};
 pub use law::{
-    reply_is_shown, sources_are_true, steps_lead_to_the_answer, sums_are_of_counted_rows,
+    others_stay_unnamed, reply_is_shown, sources_are_true, steps_lead_to_the_answer,
+    sums_are_of_counted_rows,
 };
 pub use spot::item;
 pub use subject::Subject;

@@ -16,6 +16,8 @@ pub enum Source {
     Opening,
     /// The transaction of the batch that was paid.
     Record(At),
+    /// It isn't shown: the claim is another pharmacy's (`Explanation::seen`).
+    Elsewhere,
 }
 
 /// A claim that stands before a transaction, with what came before and comes after. A claim is known by its fill key:
