@@ -15,7 +15,7 @@ use Rattle.rx_d0_values.specs.declared.transmission.Rejected.{Rejected}
 use Rattle.rx_explain.specs.declared.at.At.{At}
 use Rattle.rx_explain.specs.declared.explanation.Explanation.{Explanation}
 use Rattle.rx_explain.specs.declared.traced.Source.{Source}
-use Rattle.rx_explain.specs.declared.traced.Source.TheVariants.{Opening, Record}
+use Rattle.rx_explain.specs.declared.traced.Source.TheVariants.{Opening, Record, Elsewhere}
 use Rattle.rx_explain.specs.declared.traced.Traced.{Traced}
 use Rattle.rx_explain.specs.declared.workings.Workings.{Workings}
 use Rattle.rx_explain_text.proofs.JsonNames.{case_name, code_name, day_name, field_is, is_field, number_name, wanted_name, words_are}
@@ -51,7 +51,7 @@ use Rattle.rx_print.proofs.JsonPieces.{null_text_is, number_text_is}
 use Rattle.rx_print.proofs.JsonPieces.{object_is, opens, text_at, text_is}
 use Rattle.rx_print.proofs.JsonWords.{is_name}
 use Rattle.rx_print.specs.Dates.{dashed}
-use Rattle.rx_print.specs.JsonData.{Value, Number, Text, array, object}
+use Rattle.rx_print.specs.JsonData.{Value, Null, Number, Text, array, object}
 
 -- ---- one member
 
@@ -294,6 +294,7 @@ case_is d other lot figures e = no_members_are d
 from_is : (d : ℕ) (s : Source) → AreMembers (suc d) (json.from_json s) (tree.from_data s)
 from_is d Opening = no_members_are (suc d)
 from_is d (Record at) = at_is d (codes "paid_by") at refl
+from_is d Elsewhere = no_members_are (suc d)
 
 end_is : (d : ℕ) (o : Option At) → AreMembers (suc d) (json.end_json o) (tree.end_data o)
 end_is d None = no_members_are (suc d)
@@ -322,12 +323,36 @@ row_closes d r rest ms close =
     (closes_after d _ _ (_ ∷ []) _ (number_is d (codes "days") r.days refl)
     (closes_after d _ _ (tree.amounts_data r.pricing) ms (amounts_are d r.pricing) close))))))))
 
-traced_is : (d : ℕ) (t : Traced) → IsText (suc (suc d)) (json.traced_json t) (tree.traced_data t)
-unfolding json.traced_json said
-traced_is d t =
+whole_is : (d : ℕ) (t : Traced) → IsText (suc (suc d)) (json.whole_json t) (tree.whole_data t)
+unfolding json.whole_json said
+whole_is d t =
     row_closes (suc d) t.row _ (tree.from_data t.source ++ tree.end_data t.taken_back)
     (closes_after (suc d) _ _ (tree.from_data t.source) (tree.end_data t.taken_back) (from_is d t.source)
     (closes_last (suc d) _ _ (tree.end_data t.taken_back) (end_is d t.taken_back) (closes (suc d))))
+
+elsewhere_apart : (r : Row)
+    → json.elsewhere_json r ≡ (123 ∷ 34 ∷ (codes "pharmacy" ++ (34 ∷ 58 ∷ codes "null")))
+    ++ (day_member (codes "date") r.key.date ++ (number_member (codes "deductible") r.pricing.deductible
+    ++ (number_member (codes "patient_pay") (patient_pay r.pricing) ++ 125 ∷ [])))
+unfolding json.elsewhere_json said
+elsewhere_apart r = refl
+
+elsewhere_is : (d : ℕ) (r : Row) → IsText (suc d) (json.elsewhere_json r) (tree.elsewhere_data r)
+elsewhere_is d r =
+    text_at (suc d) _ _ (tree.elsewhere_data r) (elsewhere_apart r)
+    (object_is d _ _ (codes "pharmacy", Null) _ (opens d _ _ (member_is d (codes "pharmacy") (codes "null") Null refl (null_text_is d)))
+    (closes_after d _ _ (_ ∷ []) _ (day_is d (codes "date") r.key.date refl)
+    (closes_after d _ _ (_ ∷ []) _ (number_is d (codes "deductible") r.pricing.deductible refl)
+    (closes_after d _ _ (_ ∷ []) [] (number_is d (codes "patient_pay") (patient_pay r.pricing) refl) (closes d)))))
+
+claim_is : (d : ℕ) (s : Source) (t : Traced) → IsText (suc (suc d)) (json.claim_by s t) (tree.claim_by s t)
+claim_is d Opening t = whole_is d t
+claim_is d (Record at) t = whole_is d t
+claim_is d Elsewhere t = elsewhere_is (suc d) t.row
+
+traced_is : (d : ℕ) (t : Traced) → IsText (suc (suc d)) (json.traced_json t) (tree.traced_data t)
+unfolding json.traced_json
+traced_is d t = claim_is d t.source t
 
 standing_is : (d : ℕ) (c : Decision) (o : Option Traced) → AreMembers (suc (suc d)) (json.standing_json c o) (tree.standing_data c o)
 unfolding json.decider_json

@@ -4,3 +4,4 @@ pub mod Joined
 mod JsonNames
 pub mod Largest
 mod Worked
+pub mod SameSaid

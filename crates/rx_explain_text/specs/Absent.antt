@@ -65,3 +65,7 @@ has_text w records (first ∷ others) = near_text w first others
 -- the transactions of the record, or of the prescription at any pharmacy, are near
 unfoldable pub absent_line : Wanted → ℕ → List At → List ℕ
 absent_line w records near = say "rxbatch: " ++ (named_text w ++ (has_text w records near ++ say "\n"))
+
+-- where what was asked for is no transaction of the pharmacy, which may see only its own
+unfoldable pub absent_for : Wanted → List ℕ → List ℕ
+absent_for w provider = say "rxbatch: " ++ (named_text w ++ (say " of pharmacy " ++ (shown provider ++ say "\n")))

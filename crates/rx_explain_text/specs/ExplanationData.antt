@@ -13,7 +13,7 @@ use Rattle.rx_d0_values.specs.declared.transmission.Rejected.{Rejected}
 use Rattle.rx_explain.specs.declared.at.At.{At}
 use Rattle.rx_explain.specs.declared.explanation.Explanation.{Explanation}
 use Rattle.rx_explain.specs.declared.traced.Source.{Source}
-use Rattle.rx_explain.specs.declared.traced.Source.TheVariants.{Opening, Record}
+use Rattle.rx_explain.specs.declared.traced.Source.TheVariants.{Opening, Record, Elsewhere}
 use Rattle.rx_explain.specs.declared.traced.Traced.{Traced}
 use Rattle.rx_explain.specs.declared.workings.Workings.{Workings}
 use Rattle.rx_explain_text.specs.Claims.{as_decided}
@@ -178,6 +178,7 @@ case_data other lot figures e = []
 abbrev pub from_data : Source → List Member
 from_data Opening = []
 from_data (Record at) = (codes "paid_by", at_data at) ∷ []
+from_data Elsewhere = []
 
 abbrev pub end_data : Option At → List Member
 end_data None = []
@@ -189,8 +190,22 @@ row_data r =
     ∷ text (codes "family") r.family ∷ text (codes "person") r.person ∷ text (codes "product") (digits_text 11 r.product)
     ∷ count (codes "days") r.days ∷ amounts_data r.pricing
 
+abbrev pub whole_data : Traced → Value
+whole_data t = object (row_data t.row ++ (from_data t.source ++ end_data t.taken_back))
+
+-- of another pharmacy's claim the date and what counts
+abbrev pub elsewhere_data : Row → Value
+elsewhere_data r =
+    object ((codes "pharmacy", Null) ∷ day (codes "date") r.key.date ∷ count (codes "deductible") r.pricing.deductible
+    ∷ count (codes "patient_pay") (patient_pay r.pricing) ∷ [])
+
+abbrev pub claim_by : Source → Traced → Value
+claim_by Opening t = whole_data t
+claim_by (Record at) t = whole_data t
+claim_by Elsewhere t = elsewhere_data t.row
+
 abbrev pub traced_data : Traced → Value
-traced_data t = object (row_data t.row ++ (from_data t.source ++ end_data t.taken_back))
+traced_data t = claim_by t.source t
 
 abbrev pub standing_data : Decision → Option Traced → List Member
 standing_data c None = []

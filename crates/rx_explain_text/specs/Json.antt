@@ -21,7 +21,7 @@ use Rattle.rx_ledger.specs.declared.decision.Decision.TheVariants as decision
 use Rattle.rx_explain.specs.declared.workings.Workings.{Workings}
 use Rattle.rx_explain.specs.declared.explanation.Explanation.{Explanation}
 use Rattle.rx_explain.specs.declared.traced.Source.{Source}
-use Rattle.rx_explain.specs.declared.traced.Source.TheVariants.{Opening, Record}
+use Rattle.rx_explain.specs.declared.traced.Source.TheVariants.{Opening, Record, Elsewhere}
 use Rattle.rx_explain.specs.declared.traced.Traced.{Traced}
 use Rattle.rx_explain_text.specs.Claims.{as_decided}
 use Rattle.rx_print.specs.Dates.{dashed}
@@ -224,6 +224,7 @@ case_json other lot figures e = []
 abbrev pub from_json : Source → List ℕ
 from_json Opening = []
 from_json (Record at) = at_member (codes "paid_by") at
+from_json Elsewhere = []
 
 abbrev pub end_json : Option At → List ℕ
 end_json None = []
@@ -236,8 +237,23 @@ row_json r =
     ++ (text_member (codes "person") r.person ++ (text_member (codes "product") (digits_text 11 r.product)
     ++ (number_member (codes "days") r.days ++ amounts_json r.pricing)))))))
 
+unfoldable pub whole_json : Traced → List ℕ
+whole_json t = row_json t.row ++ (from_json t.source ++ (end_json t.taken_back ++ say "}"))
+
+-- of another pharmacy's claim the date and what counts
+unfoldable pub elsewhere_json : Row → List ℕ
+elsewhere_json r =
+    say "{\"pharmacy\":null" ++ (day_member (codes "date") r.key.date
+    ++ (number_member (codes "deductible") r.pricing.deductible
+    ++ (number_member (codes "patient_pay") (patient_pay r.pricing) ++ say "}")))
+
+abbrev pub claim_by : Source → Traced → List ℕ
+claim_by Opening t = whole_json t
+claim_by (Record at) t = whole_json t
+claim_by Elsewhere t = elsewhere_json t.row
+
 unfoldable pub traced_json : Traced → List ℕ
-traced_json t = row_json t.row ++ (from_json t.source ++ (end_json t.taken_back ++ say "}"))
+traced_json t = claim_by t.source t
 
 unfoldable pub decider_json : Traced → List ℕ
 decider_json t = named (codes "standing") ++ traced_json t

@@ -10,7 +10,7 @@ use Rattle.rx_ledger.specs.declared.decision.Decision.{Decision}
 use Rattle.rx_ledger.specs.declared.decision.Decision.TheVariants as decision
 use Rattle.rx_explain.specs.declared.explanation.Explanation.{Explanation}
 use Rattle.rx_explain.specs.declared.traced.Source.{Source}
-use Rattle.rx_explain.specs.declared.traced.Source.TheVariants.{Opening, Record}
+use Rattle.rx_explain.specs.declared.traced.Source.TheVariants.{Opening, Record, Elsewhere}
 use Rattle.rx_explain.specs.declared.traced.Traced.{Traced}
 use Rattle.rx_explain_text.specs.Claims.{standing_text, traced_text}
 use Rattle.rx_explain_text.specs.Codes.{code_lines, shown}
@@ -68,9 +68,18 @@ earlier_text figures e t =
     say "  earlier fill " ++ (traced_text t ++ (say ", " ++ (decimal t.row.days ++ (say " days: "
     ++ (sum_text (days_between e.date t.row.key.date) t.row.days figures.refill_percent ++ open_text e.open_from)))))
 
+-- of an earlier fill at another pharmacy its date, and from when on it isn't too soon
+unfoldable pub elsewhere_fill : Civil → Option Civil → List ℕ
+elsewhere_fill date open_from = say "  earlier fill at another pharmacy, of " ++ (dashed date ++ open_text open_from)
+
+abbrev pub fill_by : Source → Figures → Explanation → Traced → List ℕ
+fill_by Opening figures e t = earlier_text figures e t
+fill_by (Record at) figures e t = earlier_text figures e t
+fill_by Elsewhere figures e t = elsewhere_fill t.row.key.date e.open_from
+
 abbrev pub soon_text : Figures → Explanation → Option Traced → List ℕ
 soon_text figures e None = []
-soon_text figures e (Some t) = earlier_text figures e t
+soon_text figures e (Some t) = fill_by t.source figures e t
 
 unfoldable pub family_text : List ℕ → List ℕ
 family_text family = say "  the books list no member of family " ++ (shown family ++ say "\n")
@@ -87,6 +96,7 @@ same_text e a = say "  this claim stands already: " ++ (standing_text e.decision
 abbrev pub is_of_batch : LotParts → Source → ℕ → Bool
 is_of_batch lot Opening number = number / NUMBERS_OF_A_BATCH == lot.number
 is_of_batch lot (Record at) number = false
+is_of_batch lot Elsewhere number = false
 
 -- so the batch was adjudicated on them
 unfoldable pub again_text : ℕ → List ℕ

@@ -1,7 +1,7 @@
 ghost use Rattle.std.specs.Prelude.{◌≡◌, ◌∷◌, ◌++◌, IfOk, OnOk};
 ghost use Rattle.std.specs.List.{flat_map};
 ghost use Rattle.rx_explain_text.specs.Absent.{absent_line, after_comma, has_text, places_left, named_text, near_text, near_words};
-ghost use Rattle.rx_explain_text.specs.Absent.{pharmacy_text, prescription_text, record_text, records_text, transaction_text};
+ghost use Rattle.rx_explain_text.specs.Absent.{absent_for, pharmacy_text, prescription_text, record_text, records_text, transaction_text};
 
 use crate::header::{put_at, put_numbered};
 use rx_explain::{At, Wanted};
@@ -28,6 +28,24 @@ pub fn absent_text(
     page.say("rxbatch: ")?;
     put_named(&mut page, wanted)?;
     put_has(&mut page, wanted, records, near)?;
+    page.say("\n")?;
+    Ok(page.into_bytes())
+}
+
+/// The line where no transaction of a pharmacy, which may see only its own, is what was asked for.
+#[tactic(auto, using(std::proofs::Common::append_assoc), unfolding(crate::specs::Absent::absent_for))]
+pub fn absent_for_text(
+    alloc: Global,
+    wanted: &Wanted,
+    provider: &Provider,
+) -> Result<Vec<u8>, Memory>
+    ensures { IfOk result (λ text. text.items ≡ absent_for wanted.now provider.now) }
+{
+    let mut page = Page::new(alloc);
+    page.say("rxbatch: ")?;
+    put_named(&mut page, wanted)?;
+    page.say(" of pharmacy ")?;
+    page.escaped(Style::Terminal, provider.bytes())?;
     page.say("\n")?;
     Ok(page.into_bytes())
 }

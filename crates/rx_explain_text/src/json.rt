@@ -10,6 +10,7 @@ ghost use Rattle.rx_explain_text.specs.Json.{numbered_json, open_json, paid_json
 ghost use Rattle.rx_explain_text.specs.Json.{quoted, reference_json, refusal_json, refused_json, rejection_object, row_json};
 ghost use Rattle.rx_explain_text.specs.Json.{said_member, share_json, soon_json, spoken_field, standing_json, text_member};
 ghost use Rattle.rx_explain_text.specs.Json.{tier_json, traced_json, whole_part, workings_json};
+ghost use Rattle.rx_explain_text.specs.Json.{elsewhere_json, whole_json};
 ghost use Rattle.rx_explain_text.specs.RequestField.{field_number};
 
 use crate::cited::Cited;
@@ -602,6 +603,28 @@ fn put_counted(page: &mut Page, counted: &[Traced]) -> Result<(), AllocError>
 pub(crate) fn put_traced(page: &mut Page, traced: &Traced) -> Result<(), AllocError>
     ensures { OnOk result (page.new.bytes.items ≡ page.old.bytes.items ++ traced_json traced.now) }
 {
+    match traced.source {
+        Source::Elsewhere => put_elsewhere(page, &traced.row),
+        Source::Opening | Source::Record(_) => put_whole(page, traced),
+    }
+}
+
+// Of another pharmacy's claim the date and what counts.
+#[tactic(auto, using(std::proofs::Common::append_assoc), unfolding(crate::specs::Json::elsewhere_json))]
+fn put_elsewhere(page: &mut Page, row: &Row) -> Result<(), AllocError>
+    ensures { OnOk result (page.new.bytes.items ≡ page.old.bytes.items ++ elsewhere_json row.now) }
+{
+    page.say("{\"pharmacy\":null")?;
+    put_day(page, "date", row.key.date)?;
+    put_number(page, "deductible", row.pricing.amounts().deductible)?;
+    put_number(page, "patient_pay", row.pricing.patient_pay())?;
+    page.say("}")
+}
+
+#[tactic(auto, using(std::proofs::Common::append_assoc), unfolding(crate::specs::Json::whole_json))]
+fn put_whole(page: &mut Page, traced: &Traced) -> Result<(), AllocError>
+    ensures { OnOk result (page.new.bytes.items ≡ page.old.bytes.items ++ whole_json traced.now) }
+{
     put_row(page, &traced.row)?;
     put_from(page, traced.source)?;
     put_end(page, traced.taken_back)?;
@@ -628,7 +651,7 @@ fn put_from(page: &mut Page, source: Source) -> Result<(), AllocError>
     ensures { OnOk result (page.new.bytes.items ≡ page.old.bytes.items ++ from_json source) }
 {
     match source {
-        Source::Opening => Ok(()),
+        Source::Opening | Source::Elsewhere => Ok(()),
         Source::Record(at) => put_at(page, "paid_by", at),
     }
 }

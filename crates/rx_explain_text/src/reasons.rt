@@ -1,12 +1,12 @@
 ghost use Rattle.std.specs.Prelude.{◌≡◌, ◌++◌, OnOk};
 ghost use Rattle.rx_fields.specs.Digits.{digits_text};
 ghost use Rattle.rx_explain_text.specs.Claims.{as_decided, end_text, from_text, source_text, standing_text, whose_member};
-ghost use Rattle.rx_explain_text.specs.Claims.{traced_text};
+ghost use Rattle.rx_explain_text.specs.Claims.{elsewhere_text, traced_text, whole_text};
 ghost use Rattle.rx_explain_text.specs.Reasons.{again_of, again_text, bill_reason, coverage_text, covered_text, dated_text};
 ghost use Rattle.rx_explain_text.specs.Reasons.{days_between, is_of_batch, stands_text};
 ghost use Rattle.rx_explain_text.specs.Reasons.{earlier_text, ended_text, family_text, open_text, other_text, paid_text};
 ghost use Rattle.rx_explain_text.specs.Reasons.{person_text, product_text, reason_text, reversal_reason, same_text, soon_text};
-ghost use Rattle.rx_explain_text.specs.Reasons.{sum_text, supply_text, taken_text, unlisted_text};
+ghost use Rattle.rx_explain_text.specs.Reasons.{elsewhere_fill, fill_by, sum_text, supply_text, taken_text, unlisted_text};
 
 use crate::codes::put_codes;
 use crate::header::put_at;
@@ -207,7 +207,7 @@ fn is_of_batch(lot: Lot, source: Source, number: Authorization) -> bool
 {
     match source {
         Source::Opening => number.get() / NUMBERS_OF_A_BATCH == u64::from(lot.number()),
-        Source::Record(_) => false,
+        Source::Record(_) | Source::Elsewhere => false,
     }
 }
 
@@ -301,7 +301,34 @@ fn put_too_soon(
     let Some(earlier) = &explanation.standing else {
         return Ok(());
     };
-    put_earlier(page, figures, explanation, earlier)
+    put_fill(page, figures, explanation, earlier)
+}
+
+fn put_fill(
+    page: &mut Page,
+    figures: &Figures,
+    explanation: &Explanation,
+    earlier: &Traced,
+) -> Result<(), AllocError>
+    ensures { OnOk result (page.new.bytes.items
+        ≡ page.old.bytes.items ++ fill_by earlier.now.source figures.now explanation.now earlier.now) }
+{
+    match earlier.source {
+        Source::Elsewhere => {
+            put_fill_elsewhere(page, earlier.row.key.date, explanation.open_from)
+        }
+        Source::Opening | Source::Record(_) => put_earlier(page, figures, explanation, earlier),
+    }
+}
+
+// An earlier fill at another pharmacy.
+#[tactic(auto, using(std::proofs::Common::append_assoc), unfolding(crate::specs::Reasons::elsewhere_fill))]
+fn put_fill_elsewhere(page: &mut Page, date: Day, open_from: Option<Day>) -> Result<(), AllocError>
+    ensures { OnOk result (page.new.bytes.items ≡ page.old.bytes.items ++ elsewhere_fill date open_from) }
+{
+    page.say("  earlier fill at another pharmacy, of ")?;
+    page.day(date)?;
+    put_open_from(page, open_from)
 }
 
 #[tactic(auto, using(std::proofs::Common::append_assoc), unfolding(crate::specs::Reasons::earlier_text))]
@@ -381,10 +408,29 @@ pub(crate) fn as_decided(decision: &Decision, traced: &Traced) -> Traced
     }
 }
 
-/// A claim by its prescription and date, with where it comes from and what becomes of it.
+/// A claim by its prescription and date, with where it comes from and what becomes of it; another pharmacy's by its date.
 #[tactic(auto, using(std::proofs::Common::append_assoc), unfolding(crate::specs::Claims::traced_text))]
 pub(crate) fn put_traced(page: &mut Page, traced: &Traced) -> Result<(), AllocError>
     ensures { OnOk result (page.new.bytes.items ≡ page.old.bytes.items ++ traced_text traced.now) }
+{
+    match traced.source {
+        Source::Elsewhere => put_elsewhere(page, traced.row.key.date),
+        Source::Opening | Source::Record(_) => put_whole(page, traced),
+    }
+}
+
+#[tactic(auto, using(std::proofs::Common::append_assoc), unfolding(crate::specs::Claims::elsewhere_text))]
+fn put_elsewhere(page: &mut Page, date: Day) -> Result<(), AllocError>
+    ensures { OnOk result (page.new.bytes.items ≡ page.old.bytes.items ++ elsewhere_text date) }
+{
+    page.say("claim of ")?;
+    page.day(date)?;
+    page.say(" at another pharmacy")
+}
+
+#[tactic(auto, using(std::proofs::Common::append_assoc), unfolding(crate::specs::Claims::whole_text))]
+fn put_whole(page: &mut Page, traced: &Traced) -> Result<(), AllocError>
+    ensures { OnOk result (page.new.bytes.items ≡ page.old.bytes.items ++ whole_text traced.now) }
 {
     page.say("rx ")?;
     page.number(u128::from(traced.row.key.reference.get()))?;
@@ -434,6 +480,7 @@ fn put_from(page: &mut Page, source: Source) -> Result<(), AllocError>
             page.say(" (record ")?;
             put_at(page, at)
         }
+        Source::Elsewhere => page.say(" (not shown"),
     }
 }
 

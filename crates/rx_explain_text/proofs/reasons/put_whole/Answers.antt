@@ -1,15 +1,15 @@
 use Rattle.std.proofs.Common.{rules}
 use Rattle.std.specs.Prelude.{codes}
-use Rattle.rx_explain_text.specs.Claims.{source_text, traced_text, whose_member}
+use Rattle.rx_explain_text.specs.Claims.{source_text, whole_text, whose_member}
 use Rattle.rx_explain_text.specs.Codes.{shown}
 use Rattle.rx_print.specs.Dates.{dashed}
 use Rattle.rx_explain_text.specs.Said.{say}
 use Rattle.std.specs.Fmt.{decimal}
 use Rattle.rx_explain_text.proofs.Joined.{joined_8}
-use Rattle.rx_explain_text.proofs.reasons.put_traced.Goals as goal
+use Rattle.rx_explain_text.proofs.reasons.put_whole.Goals as goal
 
 pub returns : goal.returns
-unfolding traced_text
+unfolding whole_text
 returns c =
     joined_8 c.put_source.result _ c.say.new.self.bytes.items c.number.new.self.bytes.items c.say-2.new.self.bytes.items
     c.day.new.self.bytes.items c.say-3.new.self.bytes.items c.escaped.new.self.bytes.items c.put_member.new.page.bytes.items _
