@@ -18,6 +18,7 @@ pub mod FamilyShown
 pub mod FamilySums
 pub mod FamilyTables
 pub mod Folder
+pub mod ForProvider
 pub mod Forms
 pub mod Lines
 pub mod Places

@@ -55,8 +55,8 @@ pub fn explain<R: Threads + Sync>(
     printed
 }
 
-// The same of a batch that was replayed.
-fn printed_beside(
+/// The same of a batch that was replayed.
+pub(crate) fn printed_beside(
     alloc: Global,
     retraced: &Retraced,
     wanted: &Wanted,
@@ -230,8 +230,8 @@ fn show(alloc: Global, task: &Task<'_, '_>, wanted: &Wanted) -> Result<Shown, Me
     Ok(shown)
 }
 
-// Where a record, or one of its transactions, is asked for by its place.
-fn place_asked(wanted: &Wanted) -> Option<At>
+/// Where a record, or one of its transactions, is asked for by its place.
+pub(crate) fn place_asked(wanted: &Wanted) -> Option<At>
     ensures { result ≡ place_asked wanted.now }
 {
     match wanted {

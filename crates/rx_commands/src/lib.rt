@@ -10,6 +10,8 @@
 //!   explanations, `specs/Explaining.antt` the text). The records are adjudicated once, in file order, and explained on the way
 //!   where the requests say that a transaction is asked for. `record_asked`, `number_asked` and `reference_asked` read what
 //!   is asked for.
+//! - `explain_for` is the same for a pharmacy: of its own transactions, with nothing but dates and amounts of other pharmacies'
+//!   claims (`specs/ForProvider.antt`).
 //! - `verify` does the run again and compares the texts of an earlier one's three files with it: the files are found the same
 //!   exactly where they are what the rules of docs/ make of the inputs (`specs/Verified.antt`, `specs/Verdict.antt`).
 //! - `settle_cycle` has the settlement of the batches that response files answer, from nothing else (`specs/Cycle.antt`);
@@ -38,6 +40,7 @@ mod explain_fault;
 mod explanations;
 pub mod family;
 mod folder;
+mod for_provider;
 mod inputs;
 mod manner;
 mod pieces;
@@ -60,6 +63,7 @@ pub use difference::first_difference;
 pub use explain_fault::ExplainFault;
 pub use explanations::explain;
 pub use folder::{PrintedFolder, report_folder};
+pub use for_provider::explain_for;
 pub use manner::Manner;
 pub use pieces::{pieces_before, rest_of_piece};
 pub use printed::{Outcome, Printed};
