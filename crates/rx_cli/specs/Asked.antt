@@ -24,7 +24,7 @@ use Rattle.rx_cli.specs.declared.retrace.ExplainWords.{ExplainWords}
 use Rattle.rx_cli.specs.declared.retrace.Form.{Form}
 use Rattle.rx_cli.specs.declared.retrace.Form.TheVariants.{Columns, Tsv, Json, Jsonl, Html, HtmlDir}
 use Rattle.rx_cli.specs.declared.retrace.Portion.{Portion}
-use Rattle.rx_cli.specs.declared.retrace.Portion.TheVariants.{Whole, Provider, Family}
+use Rattle.rx_cli.specs.declared.retrace.Portion.TheVariants.{Whole, Provider, Family, ForProvider}
 use Rattle.rx_cli.specs.declared.retrace.ReportWords.{ReportWords}
 use Rattle.rx_cli.specs.declared.retrace.VerifyWords.{VerifyWords}
 use Rattle.rx_cli.specs.declared.settle_options.SettleWords.{SettleWords}
@@ -148,6 +148,7 @@ pub record HoldsExplain (rows : List Row) (e : ExplainWords) : Type 0 where
   pub response : MayHaveText rows (codes "response") e.response
   pub json : e.json ≡ is_set (codes "json") rows
   pub all : e.all ≡ is_set (codes "all") rows
+  pub for_provider : MayHaveText rows (codes "for-provider") e.for_provider
 
 -- what `verify` takes is the values of its options
 pub record HoldsVerify (rows : List Row) (v : VerifyWords) : Type 0 where
@@ -158,11 +159,15 @@ pub record HoldsVerify (rows : List Row) (v : VerifyWords) : Type 0 where
   pub plain : v.plain ≡ is_set (codes "plain") rows
   pub desk : v.desk ≡ is_set (codes "desk") rows
 
--- at most one of `--provider` and `--family` stands
+-- at most one of `--provider`, `--family` and `--for-provider` stands
 abbrev pub HoldsPortion : List Row → Portion → Type 0
-HoldsPortion rows Whole = IsAbsent rows (codes "provider") × IsAbsent rows (codes "family")
+HoldsPortion rows Whole = IsAbsent rows (codes "provider") × IsAbsent rows (codes "family") × IsAbsent rows (codes "for-provider")
 HoldsPortion rows (Provider id) = HasText rows (codes "provider") id.now × IsAbsent rows (codes "family")
+    × IsAbsent rows (codes "for-provider")
 HoldsPortion rows (Family id) = HasText rows (codes "family") id.now × IsAbsent rows (codes "provider")
+    × IsAbsent rows (codes "for-provider")
+HoldsPortion rows (ForProvider id) = HasText rows (codes "for-provider") id.now × IsAbsent rows (codes "provider")
+    × IsAbsent rows (codes "family")
 
 -- the form, by whether `--tsv`, `--json`, `--jsonl` and `--html` stand, of which at most one may
 abbrev pub form_of : Bool → Bool → Bool → Bool → Option Form

@@ -90,11 +90,15 @@ abbrev pub with_asked : App → App
 with_asked line = with_rule (with_rule (with_rule (with_rule line (optional_option (codes "record")))
     (optional_option (codes "number"))) (optional_option (codes "rx"))) (optional_option (codes "provider"))
 
+-- the line with the pharmacy that a text is for
+abbrev pub with_reader : App → App
+with_reader line = with_rule line (optional_option (codes "for-provider"))
+
 -- `explain --sheet F --books F --batch F [--record PLACE] [--number AUTHORIZATION] [--rx REFERENCE] [--provider ID]
--- [--response F] [--json] [--all]`
+-- [--response F] [--json] [--all] [--for-provider ID]`
 abbrev pub explain_line : App
-explain_line = with_rule (with_rule (with_rule (with_asked (with_inputs (new_app (codes "explain"))))
-    (optional_option (codes "response"))) (flag (codes "json"))) (flag (codes "all"))
+explain_line = with_reader (with_rule (with_rule (with_rule (with_asked (with_inputs (new_app (codes "explain"))))
+    (optional_option (codes "response"))) (flag (codes "json"))) (flag (codes "all")))
 
 -- the line with the options of `verify` that are no files
 abbrev pub with_verify_options : App → App
@@ -109,11 +113,11 @@ abbrev pub with_forms : App → App
 with_forms line = with_rule (with_rule (with_rule (with_rule (with_rule line (flag (codes "tsv"))) (flag (codes "json")))
     (flag (codes "jsonl"))) (flag (codes "html"))) (optional_option (codes "html-dir"))
 
--- `report --sheet F --books F --batch F [--stamp S] [--provider ID] [--family ID] [--tsv] [--json] [--jsonl] [--html]
--- [--html-dir DIR]`
+-- `report --sheet F --books F --batch F [--stamp S] [--provider ID] [--family ID] [--for-provider ID] [--tsv] [--json] [--jsonl]
+-- [--html] [--html-dir DIR]`
 abbrev pub report_line : App
-report_line = with_forms (with_rule (with_rule (with_rule (with_inputs (new_app (codes "report")))
-    (optional_option (codes "stamp"))) (optional_option (codes "provider"))) (optional_option (codes "family")))
+report_line = with_forms (with_reader (with_rule (with_rule (with_rule (with_inputs (new_app (codes "report")))
+    (optional_option (codes "stamp"))) (optional_option (codes "provider"))) (optional_option (codes "family"))))
 
 -- `replies --response F`
 abbrev pub replies_line : App

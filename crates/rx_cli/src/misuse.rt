@@ -88,7 +88,7 @@ pub(crate) fn report_conflict(alloc: Global) -> WordsFault
     ensures { IsMisuse ErrorKind.ArgumentConflict result }
 {
     let text =
-        "at most one of '--provider <ID>' and '--family <ID>' is taken, and of '--tsv', '--json', '--jsonl', '--html' and '--html-dir <DIR>'";
+        "at most one of '--provider <ID>', '--family <ID>' and '--for-provider <ID>' is taken, and of '--tsv', '--json', '--jsonl', '--html' and '--html-dir <DIR>'";
     conflict(report(alloc).line(), "rxbatch report", text)
 }
 

@@ -28,6 +28,8 @@ pub struct ExplainWords<'a> {
     pub json: bool,
     /// `--all`: all claims of a sum, and not only the largest.
     pub all: bool,
+    /// `--for-provider ID`: the pharmacy that the text is for, if it is for one.
+    pub for_provider: Option<&'a str>,
 }
 
 /// The words of `verify`.
@@ -55,6 +57,8 @@ pub enum Portion<'a> {
     Provider(&'a str),
     /// `--family ID`: those of one family.
     Family(&'a str),
+    /// `--for-provider ID`: those of one provider, as it may see them.
+    ForProvider(&'a str),
 }
 
 /// What a report is written as.

@@ -78,6 +78,7 @@ pub(crate) fn explain<'a>(found: &ArgMatches<'a>) -> Option<ExplainWords<'a>>
         response: text(found, "response"),
         json: flag(found, "json"),
         all: flag(found, "all"),
+        for_provider: text(found, "for-provider"),
     })
 }
 
@@ -104,11 +105,15 @@ fn portion<'a>(found: &ArgMatches<'a>) -> Option<Portion<'a>>
     ensures some { IfSome result (HoldsPortion (rows_of (found_of found.now))) }
     ensures none { IfNone result (NoneHolds (HoldsPortion (rows_of (found_of found.now)))) }
 {
-    match (text(found, "provider"), text(found, "family")) {
-        (None, None) => Some(Portion::Whole),
-        (Some(id), None) => Some(Portion::Provider(id)),
-        (None, Some(id)) => Some(Portion::Family(id)),
-        (Some(_), Some(_)) => None,
+    let provider = text(found, "provider");
+    let family = text(found, "family");
+    let reader = text(found, "for-provider");
+    match (provider, family, reader) {
+        (None, None, None) => Some(Portion::Whole),
+        (Some(id), None, None) => Some(Portion::Provider(id)),
+        (None, Some(id), None) => Some(Portion::Family(id)),
+        (None, None, Some(id)) => Some(Portion::ForProvider(id)),
+        _ => None,
     }
 }
 

@@ -5,7 +5,7 @@ ghost use Rattle.rx_cli.specs.Syntax.{Draws, IsLocal, flag, optional_option, req
 ghost use Rattle.rx_cli.specs.Syntax.{with_inputs, with_log, with_outputs, with_run_options, with_watch, with_ways};
 ghost use Rattle.rx_cli.specs.Syntax.{check_line, plan_line, run_line, show_line, with_adjudication};
 ghost use Rattle.rx_cli.specs.Syntax.{explain_line, replies_line, report_line, verify_line, with_retracing};
-ghost use Rattle.rx_cli.specs.Syntax.{whole_line, with_asked, with_forms, with_verify_options};
+ghost use Rattle.rx_cli.specs.Syntax.{whole_line, with_asked, with_forms, with_reader, with_verify_options};
 
 use crate::draft::Draft;
 use crate::people_syntax::takes_people;
@@ -255,7 +255,20 @@ pub(crate) fn explain<'a>(alloc: Global) -> Draft<'a>
     let response = optional(alloc, "response", "FILE", "Response file to compare");
     let json = flag(alloc, "json", "Print JSON");
     let all = flag(alloc, "all", "List all claims of each sum");
-    asked.arg(response).arg(json).arg(all)
+    takes_reader(alloc, asked.arg(response).arg(json).arg(all))
+}
+
+/// A line with the pharmacy that a text is for.
+fn takes_reader<'a>(alloc: Global, line: Draft<'a>) -> Draft<'a>
+    ensures { (app : App) → Draws app line.entry → Draws (with_reader app) result }
+{
+    let reader = optional(
+        alloc,
+        "for-provider",
+        "ID",
+        "Only what this provider may see: its own claims, of others' dates and amounts",
+    );
+    line.arg(reader)
 }
 
 /// A line with the options of `verify` that are no files.
@@ -312,7 +325,7 @@ pub(crate) fn report<'a>(alloc: Global) -> Draft<'a>
     let provider = optional(alloc, "provider", "ID", "Only the lines of this provider");
     let family = optional(alloc, "family", "ID", "Only the lines of this family");
     let portions = inputs.arg(stamp).arg(provider).arg(family);
-    takes_forms(alloc, portions)
+    takes_forms(alloc, takes_reader(alloc, portions))
 }
 
 /// The subcommand `replies`.

@@ -16,11 +16,12 @@ use rx_cli::{
     ShowWords, VerifyWords, WordsFault,
 };
 use rx_commands::{
-    ExplainFault, Form, Manner, PrintedFolder, PrintedReport, family_asked, number_asked,
-    provider_asked, record_asked, reference_asked, report_folder, show_table, stamp_asked,
+    ExplainFault, Form, Manner, Printed, PrintedFolder, PrintedReport, explain_for, family_asked,
+    number_asked, provider_asked, record_asked, reference_asked, report_folder, show_table,
+    stamp_asked,
 };
 use rx_explain::Wanted;
-use rx_fields::{Memory, Stamp};
+use rx_fields::{Memory, Provider, Stamp};
 use rx_io::{Device, Inputs};
 use rx_report::Portion;
 use rx_show::replies_text;
@@ -153,19 +154,14 @@ pub fn explain<R: Threads + Sync>(
     threads: &R,
     words: &ExplainWords<'_>,
 ) -> Result<(), Ending> {
+    let reader = reader_by(words.for_provider)?;
     let texts = read_each(rt, &words.inputs)?;
     let response = match words.response {
         None => None,
         Some(path) => Some(text_of(rt, path, Device::Response)?),
     };
-    let printed = rx_commands::explain(
-        threads,
-        rt.alloc(),
-        &slices(&texts),
-        &wanted_by(&words.asked),
-        response.as_ref().map(|text| text.as_slice()),
-        manner_by(words),
-    );
+    let given = response.as_ref().map(|text| text.as_slice());
+    let printed = explained(rt, threads, words, &texts, reader, given);
     let printed = printed.map_err(|fault| not_explained(
         rt,
         words,
@@ -175,6 +171,41 @@ pub fn explain<R: Threads + Sync>(
     ));
     drop((texts, response));
     print_outcome(rt, printed?)
+}
+
+// What is printed, for the pharmacy that is named, if one is.
+fn explained<R: Threads + Sync>(
+    rt: &HostRuntime,
+    threads: &R,
+    words: &ExplainWords<'_>,
+    texts: &Inputs<Vec<u8>>,
+    reader: Option<Provider>,
+    response: Option<&[u8]>,
+) -> Result<Printed, ExplainFault> {
+    let (inputs, wanted) = (slices(texts), wanted_by(&words.asked));
+    let (alloc, manner) = (rt.alloc(), manner_by(words));
+    match reader {
+        None => rx_commands::explain(threads, alloc, &inputs, &wanted, response, manner),
+        Some(provider) => {
+            explain_for(
+                threads, alloc, &inputs, &wanted, &provider, response, manner,
+            )
+        }
+    }
+}
+
+// The pharmacy that a text is for, if one is named.
+fn reader_by(id: Option<&str>) -> Result<Option<Provider>, Ending> {
+    let Some(id) = id else {
+        return Ok(None);
+    };
+    match Provider::new(id.as_bytes()) {
+        Ok(provider) => Ok(Some(provider)),
+        Err(_) => Err(Ending::NoValue(
+            "--for-provider",
+            "an id of 1 to 15 printable characters without '|'",
+        )),
+    }
 }
 
 // The ending where an input or the response file is refused.
@@ -219,6 +250,7 @@ pub fn report<R: Threads + Sync>(
     threads: &R,
     words: &ReportWords<'_>,
 ) -> Result<(), Ending> {
+    need_reader(words)?;
     let files = open_each(rt, &words.inputs)?;
     let nodes = files.as_ref().map(|file| Node::of(file));
     let texts = read_opened(rt, &files, &words.inputs);
@@ -236,6 +268,21 @@ pub fn report<R: Threads + Sync>(
     let printed = printed?;
     need_lines(rt, words.portion, printed.has_lines)?;
     print(rt, &printed.text)
+}
+
+// Ends where a report is for a pharmacy that no id names, or as a page: its head has checksums of the whole inputs.
+fn need_reader(words: &ReportWords<'_>) -> Result<(), Ending> {
+    let PortionWords::ForProvider(id) = words.portion else {
+        return Ok(());
+    };
+    reader_by(Some(id))?;
+    match words.form {
+        FormWords::Html | FormWords::HtmlDir(_) => Err(Ending::NoValue(
+            "--for-provider",
+            "a report without '--html' and '--html-dir'",
+        )),
+        _ => Ok(()),
+    }
 }
 
 // The stamp that is given; a text that is none is refused as by a run.
@@ -305,6 +352,7 @@ fn asked_by<'a>(words: PortionWords<'a>) -> Option<(&'static str, &'a str)> {
         PortionWords::Whole => None,
         PortionWords::Provider(id) => Some(("--provider", id)),
         PortionWords::Family(id) => Some(("--family", id)),
+        PortionWords::ForProvider(id) => Some(("--for-provider", id)),
     }
 }
 
@@ -346,7 +394,7 @@ fn report_in<R: Threads + Sync>(
 fn portion_by(words: PortionWords<'_>) -> Portion<'_> {
     match words {
         PortionWords::Whole => Portion::Whole,
-        PortionWords::Provider(id) => provider_asked(id),
+        PortionWords::Provider(id) | PortionWords::ForProvider(id) => provider_asked(id),
         PortionWords::Family(id) => family_asked(id),
     }
 }

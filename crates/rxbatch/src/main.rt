@@ -9,10 +9,10 @@
 //! rxbatch plan --sheet F --books F --batch F        the waves of the records, and the chain
 //! rxbatch check --sheet F [--books F] [--batch F]   the faults of these files in words, and warnings
 //! rxbatch explain --sheet F --books F --batch F (--record P[.N] | --number A | --rx R [--provider ID])
-//!     [--response F] [--json]                       why a claim was answered as it was
+//!     [--response F] [--json] [--for-provider ID]   why a claim was answered as it was
 //! rxbatch verify --sheet F --books F --batch F --stamp S --response F --books-out F --settlement F [--plain]
 //!     [--desk] [--workers N]                        whether the files of a run are what it gives
-//! rxbatch report --sheet F --books F --batch F [--stamp S] [--provider ID | --family ID] [--tsv | --json | --jsonl |
+//! rxbatch report --sheet F --books F --batch F [--stamp S] [--provider ID | --family ID | --for-provider ID] [--tsv | --json | --jsonl |
 //!     --html | --html-dir DIR]                      a line for each answer, by provider, with counts and net
 //! rxbatch members (--books F | --period FIRST-LAST) --members F --books-out F [--safe]
 //!                                                   a table of members loaded into books

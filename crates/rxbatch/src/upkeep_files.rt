@@ -9,7 +9,7 @@ use crate::standard_output::print;
 use crate::texts::{bytes_in, opened, text_in};
 use crate::two_outputs::TwoOutputs;
 use crate::upkeep_values::{day_in, percent_in, percent_of_sheet, period_in};
-use crate::upkeep_words::{Given, refused_books, refused_table};
+use crate::upkeep_words::Given;
 use rx_books_upkeep::{
     AgedText, Loaded, MembersText, age_text, changes_text, founded_text, members_text,
 };
@@ -82,7 +82,9 @@ fn first_books(
     let table = table_in(rt, table, words.members)?;
     match founded_text(rt.alloc(), period, &table) {
         Ok(done) => Ok(done),
-        Err(fault) => Err(refused_table(rt, words.members, &table, words.books_out, fault)),
+        Err(fault) => Err(Given::of_table(words.members, &table, words.books_out).refused(
+            rt, fault,
+        )),
     }
 }
 
@@ -178,7 +180,9 @@ pub fn age<R: Threads + Sync>(
     let parts = usize::from(workers_or_all(threads, None));
     let done = match age_text(threads, rt.alloc(), parts, &text, before, period, percent) {
         Ok(done) => done,
-        Err(fault) => return Err(refused_books(rt, words.books, &text, words.books_out, fault)),
+        Err(fault) => {
+            return Err(Given::of_books(words.books, &text, words.books_out).refused(rt, fault));
+        },
     };
     drop(text);
     write_aged(&done, rt, words, node)?;

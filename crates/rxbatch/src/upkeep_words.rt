@@ -17,6 +17,28 @@ pub struct Given<'a> {
 }
 
 impl<'a> Given<'a> {
+    /// Only a table, of this path and this text.
+    pub fn of_table(path: &'a str, text: &'a [u8], books_out: &'a str) -> Given<'a> {
+        let books = ("", "".as_bytes());
+        let table = (path, text);
+        Given {
+            books,
+            table,
+            books_out,
+        }
+    }
+
+    /// Only books, of this path and this text.
+    pub fn of_books(path: &'a str, text: &'a [u8], books_out: &'a str) -> Given<'a> {
+        let table = ("", "".as_bytes());
+        let books = (path, text);
+        Given {
+            books,
+            table,
+            books_out,
+        }
+    }
+
     /// The ending where these are refused: the numbers, and then the words.
     pub fn refused(&self, rt: &HostRuntime, fault: UpkeepFault) -> Ending {
         let alloc = rt.alloc();
@@ -52,38 +74,6 @@ impl<'a> Given<'a> {
         };
         GivenTexts::of(paths, texts).refused(rt, fault)
     }
-}
-
-/// The ending where only a table was given, and is refused.
-pub fn refused_table<'x>(
-    rt: &HostRuntime,
-    path: &'x str,
-    text: &'x [u8],
-    books_out: &'x str,
-    fault: UpkeepFault,
-) -> Ending {
-    let given = Given {
-        books: ("", "".as_bytes()),
-        table: (path, text),
-        books_out,
-    };
-    given.refused(rt, fault)
-}
-
-/// The ending where only books were given, and are refused.
-pub fn refused_books<'x>(
-    rt: &HostRuntime,
-    path: &'x str,
-    text: &'x [u8],
-    books_out: &'x str,
-    fault: UpkeepFault,
-) -> Ending {
-    let given = Given {
-        books: (path, text),
-        table: ("", "".as_bytes()),
-        books_out,
-    };
-    given.refused(rt, fault)
 }
 
 fn after_period(alloc: Global) -> Result<String, Memory> {
