@@ -57,6 +57,7 @@ cases: kit cc
 	python3 tests/run_cases.py $(PROGRAM) --big
 	python3 tests/run_told.py $(PROGRAM)
 	python3 tests/run_explain.py $(PROGRAM)
+	python3 tests/run_for_provider.py $(PROGRAM)
 	python3 tests/run_verify.py $(PROGRAM)
 	python3 tests/run_replies.py $(PROGRAM)
 	python3 tests/run_settle.py $(PROGRAM)

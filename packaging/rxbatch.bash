@@ -13,9 +13,9 @@ _rxbatch() {
     plan) words='--sheet --books --batch'; files='--sheet|--books|--batch'; others='' ;;
     sample) words=''; files=''; others='' ;;
     check) words='--sheet --books --batch'; files='--sheet|--books|--batch'; others='' ;;
-    explain) words='--sheet --books --batch --record --number --rx --provider --response --json --all'; files='--sheet|--books|--batch|--response'; others='--record|--number|--rx|--provider' ;;
+    explain) words='--sheet --books --batch --record --number --rx --provider --response --json --all --for-provider'; files='--sheet|--books|--batch|--response'; others='--record|--number|--rx|--provider|--for-provider' ;;
     verify) words='--sheet --books --batch --response --books-out --settlement --stamp --workers --plain --desk'; files='--sheet|--books|--batch|--response|--books-out|--settlement'; others='--stamp|--workers' ;;
-    report) words='--sheet --books --batch --stamp --provider --family --tsv --json --jsonl --html --html-dir'; files='--sheet|--books|--batch|--html-dir'; others='--stamp|--provider|--family' ;;
+    report) words='--sheet --books --batch --stamp --provider --family --for-provider --tsv --json --jsonl --html --html-dir'; files='--sheet|--books|--batch|--html-dir'; others='--stamp|--provider|--family|--for-provider' ;;
     replies) words='--response'; files='--response'; others='' ;;
     settle) words='--response --provider'; files='--response'; others='--provider'; again=' --response ' ;;
     adjudicate) words='--sheet --books --batch --out --stamp --workers --again --strict --quiet'; files='--sheet|--books|--batch|--out'; others='--stamp|--workers' ;;
