@@ -195,12 +195,15 @@ fn on_files<R: Threads + Wait + Sync>(
         sheet,
         books,
         batch,
-    } = sources.map(|source| source.into_traffic());
+    } = sources;
+    let (sheet, sheet_sum) = sheet.into_traffic();
+    let (books, books_sum) = books.into_traffic();
+    let (batch, batch_sum) = batch.into_traffic();
     let traffic = RunTraffic {
         inputs: Inputs {
-            sheet: sheet.0,
-            books: books.0,
-            batch: batch.0,
+            sheet,
+            books,
+            batch,
         },
         outputs: Outputs {
             response: sinks.response.into_traffic(),
@@ -215,9 +218,9 @@ fn on_files<R: Threads + Wait + Sync>(
         fault,
         traffic,
         digests: Inputs {
-            sheet: digest_of(threads, sheet.1),
-            books: digest_of(threads, books.1),
-            batch: digest_of(threads, batch.1),
+            sheet: digest_of(threads, sheet_sum),
+            books: digest_of(threads, books_sum),
+            batch: digest_of(threads, batch_sum),
         },
     }
 }
