@@ -168,6 +168,7 @@ fn explain_is_asked_after_one_thing(rt: HostRuntime) {
         response: None,
         json: true,
         all: false,
+        for_provider: None,
     };
     let given = understood(&rt, rt.alloc(), EXPLAIN);
     same(&rt, given, Command::Explain(wanted));
