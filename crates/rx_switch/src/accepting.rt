@@ -5,17 +5,24 @@ ghost use Rattle.rx_batch.specs.Reading.{HasFault};
 ghost use Rattle.rx_books_store.specs.BooksFile.{NamesFirstFault, ReadsBooksAlone};
 ghost use Rattle.rx_switch.specs.Job.{HasBytes, accepted_of, books_bytes, given_read};
 ghost use Rattle.rx_switch.specs.Output.{IsRefused, StandFor, stamp_for};
+ghost use Rattle.rx_wave.specs.Decoding.{transmissions_of};
 
 use crate::adjudicating::parts_of;
 use crate::fault::SwitchFault;
-use rx_batch::{Batch, BatchFault, Pieces, read_batch};
+use rx_batch::{Batch, BatchFault, Detail, Pieces, read_batch};
 use rx_books_store::Books;
 use rx_books_text::BooksFault;
-use rx_fields::{MOST_WORKERS, Stamp};
+use rx_d0_values::Transmission;
+use rx_fields::{Door, MOST_WORKERS, Memory, Stamp};
 use rx_ledger::Sheet;
 use rx_sheet::read_sheet;
+use rx_wave::decode_in_parts;
 use std::alloc::Global;
+use std::thread;
 use std::thread::Threads;
+
+// About as many bytes has a detail with one billing.
+const DETAIL_BYTES: usize = 200;
 
 // The batch file: its bytes, or the pieces that they were fed to.
 #[derive(Drop)]
@@ -45,28 +52,6 @@ pub(crate) enum BooksFile<'a> {
     Given(Vec<u8>),
 }
 
-impl BooksFile<'_> {
-    fn read<R: Threads + Sync>(
-        self,
-        rt: &R,
-        alloc: Global,
-        workers: u16,
-    ) -> Result<Books, BooksFault>
-        ensures ok { ReadsBooksAlone (books_bytes self.entry) result }
-        ensures refuses { NamesFirstFault (books_bytes self.entry) result }
-    {
-        match self {
-            BooksFile::Lent(text) => {
-                Books::read_in_parts(rt, alloc, parts_of(workers, text.len()), text)
-            }
-            BooksFile::Given(text) => {
-                let parts = parts_of(workers, text.len());
-                Books::read_kept(rt, alloc, parts, text)
-            }
-        }
-    }
-}
-
 // What a run is given, once it is accepted.
 #[derive(Drop)]
 pub(crate) struct Accepted {
@@ -74,6 +59,8 @@ pub(crate) struct Accepted {
     pub(crate) sheet: Sheet,
     pub(crate) books: Books,
     pub(crate) batch: Batch,
+    // What the details of the batch ask for.
+    pub(crate) asked: Vec<Transmission>,
 }
 
 // Looks at what is given in the order of the refusals, of which it answers the first.
@@ -88,6 +75,8 @@ pub(crate) fn accept<R: Threads + Sync>(
 ) -> Result<Accepted, SwitchFault>
     ensures accepted { (bytes : List ℕ) → HasBytes batch.entry bytes → IfOk result (λ accepted.
         StandFor (given_read stamp.now workers sheet.now (books_bytes books.entry) bytes) (accepted_of accepted)) }
+    ensures asked { IfOk result (λ accepted.
+        accepted.asked.items ≡ transmissions_of accepted.sheet.figures.door accepted.batch.details) }
     ensures refused { (bytes : List ℕ) → HasBytes batch.entry bytes
         → IfErr result (λ fault. IsRefused (given_read stamp.now workers sheet.now (books_bytes books.entry) bytes) fault) }
     ensures words { (fault : SwitchFault) → stamp_for workers stamp.now ≡ Err fault → result ≡ Err fault }
@@ -95,14 +84,111 @@ pub(crate) fn accept<R: Threads + Sync>(
 {
     let stamp = stamp_for(workers, stamp)?;
     let sheet = read_sheet(alloc, sheet)?;
-    let books = books.read(rt, alloc, workers)?;
-    let batch = batch.read(alloc)?;
+    let batch = batch.read(alloc);
+    let details = details_of(&batch);
+    let (asked, books) = asked_and_books(rt, alloc, workers, sheet.door(), details, books);
+    let books = books?;
+    let batch = batch?;
+    let asked = asked?;
     Ok(Accepted {
         stamp,
         sheet,
         books,
         batch,
+        asked,
     })
+}
+
+// The details of a batch, none where it can't be read.
+fn details_of(batch: &Result<Batch, BatchFault>) -> &[Detail]
+    ensures { IfOk batch.now (λ read. result.now ≡ read.details) }
+{
+    match batch {
+        Ok(batch) => batch.details.as_slice(),
+        Err(_) => &[],
+    }
+}
+
+// What the details ask for, and the books.
+fn asked_and_books<R: Threads + Sync>(
+    rt: &R,
+    alloc: Global,
+    workers: u16,
+    door: &Door,
+    details: &[Detail],
+    books: BooksFile<'_>,
+) -> (Result<Vec<Transmission>, Memory>, Result<Books, BooksFault>)
+    ensures asked { IfOk result.0 (λ asked. asked.items ≡ transmissions_of door.now details.now) }
+    ensures ok { ReadsBooksAlone (books_bytes books.entry) result.1 }
+    ensures refuses { NamesFirstFault (books_bytes books.entry) result.1 }
+{
+    match books {
+        BooksFile::Lent(text) => {
+            let parts = parts_of(workers, bytes_of(details));
+            let asked = decode_in_parts(rt, alloc, parts, door, details);
+            let parts = parts_of(workers, text.len());
+            (asked, Books::read_in_parts(rt, alloc, parts, text))
+        }
+        BooksFile::Given(text) => decode_while_reading(rt, alloc, workers, text, door, details),
+    }
+}
+
+/// About how many bytes the details have.
+pub(crate) fn bytes_of(details: &[Detail]) -> usize {
+    details.len().saturating_mul(DETAIL_BYTES)
+}
+
+// The books of a text that they keep.
+fn read_given<R: Threads + Sync>(
+    rt: &R,
+    alloc: Global,
+    workers: u16,
+    text: Vec<u8>,
+) -> Result<Books, BooksFault>
+    ensures ok { ReadsBooksAlone text.items result }
+    ensures refuses { NamesFirstFault text.items result }
+{
+    let parts = parts_of(workers, text.len());
+    Books::read_kept(rt, alloc, parts, text)
+}
+
+// What the details ask for, and the books of a text that they keep: side by side, where there are several workers and the
+// details aren't few.
+fn decode_while_reading<R: Threads + Sync>(
+    rt: &R,
+    alloc: Global,
+    workers: u16,
+    text: Vec<u8>,
+    door: &Door,
+    details: &[Detail],
+) -> (Result<Vec<Transmission>, Memory>, Result<Books, BooksFault>)
+    ensures asked { IfOk result.0 (λ asked. asked.items ≡ transmissions_of door.now details.now) }
+    ensures ok { ReadsBooksAlone text.items result.1 }
+    ensures refuses { NamesFirstFault text.items result.1 }
+{
+    let bytes = bytes_of(details);
+    let parts = parts_of(workers, bytes);
+    if parts < 2 {
+        let asked = decode_in_parts(rt, alloc, parts, door, details);
+        return (asked, read_given(rt, alloc, workers, text));
+    }
+    let parts = share_of(parts, bytes, text.len());
+    thread::join(
+        rt,
+        || -> Result<Vec<Transmission>, Memory>
+            ensures { IfOk result (λ asked. asked.items ≡ transmissions_of door.entry.now details.entry.now) }
+        { decode_in_parts(rt, alloc, parts, door, details) },
+        || -> Result<Books, BooksFault>
+            ensures ok { ReadsBooksAlone text.items result }
+            ensures refuses { NamesFirstFault text.items result }
+        { read_given(rt, alloc, workers, text) },
+    )
+}
+
+// How many of the parts have to do with this many bytes, where others are read meanwhile.
+fn share_of(parts: usize, bytes: usize, others: usize) -> usize {
+    let all = bytes.saturating_add(others).max(1);
+    (parts.saturating_mul(bytes) / all).max(1)
 }
 
 // The run's date and time.

@@ -24,7 +24,7 @@ use rx_ledger::{Sheet, plain_run};
 use rx_response::response_pieces;
 use rx_serial::Finished;
 use rx_settle::settle;
-use rx_wave::{Gate, decode_in_parts, run_waves};
+use rx_wave::{Gate, run_waves};
 use std::alloc::Global;
 use std::sync::Wait;
 use std::thread;
@@ -58,8 +58,8 @@ pub(crate) struct Adjudicated {
     pub(crate) freeing: Option<JoinHandle<()>>,
 }
 
-/// The texts of adjudicating the details, as if one after another in file order. Decoding, rendering and freeing go in
-/// this many parts in parallel; one part starts no thread.
+/// The texts of adjudicating the details, as if one after another in file order. Rendering and freeing go in this many
+/// parts in parallel; one part starts no thread.
 pub(crate) fn adjudicate<R: Threads + Wait + Sync, G: Gate + Sync>(
     rt: &R,
     alloc: Global,
@@ -68,6 +68,7 @@ pub(crate) fn adjudicate<R: Threads + Wait + Sync, G: Gate + Sync>(
     accepted: Accepted,
 ) -> Result<Adjudicated, SwitchFault>
     requires few { length accepted.batch.details ≤ MOST_DETAILS }
+    requires asked { accepted.asked.items ≡ transmissions_of accepted.sheet.figures.door accepted.batch.details }
     requires workers { are_workers manner.now.workers ≡ true }
     ensures output { IfOk result (λ adjudicated. texts_made adjudicated ≡ texts_of (accepted_of accepted)) }
     ensures stopped { IfErr result (λ fault.
@@ -78,8 +79,10 @@ pub(crate) fn adjudicate<R: Threads + Wait + Sync, G: Gate + Sync>(
         sheet,
         books,
         batch,
+        asked,
     } = accepted;
-    let finished = finish_batch(rt, alloc, manner, parts, &sheet, books, &batch)?;
+    let finished = finish_batch(rt, alloc, manner, &sheet, books, &batch, &asked)?;
+    drop(asked);
     let pieces = render(rt, alloc, parts, &batch, &stamp, &finished)?;
     let remains = Remains {
         sheet,
@@ -224,12 +227,13 @@ fn finish_batch<R: Threads + Wait + Sync, G: Gate + Sync>(
     rt: &R,
     alloc: Global,
     manner: &Manner<'_, G>,
-    parts: usize,
     sheet: &Sheet,
     books: Books,
     batch: &Batch,
+    asked: &[Transmission],
 ) -> Result<Finished, SwitchFault>
     requires few { length batch.now.details ≤ MOST_DETAILS }
+    requires asked { asked.now ≡ transmissions_of sheet.now.figures.door batch.now.details }
     requires workers { are_workers manner.now.workers ≡ true }
     ensures books { IfOk result (λ finished. finished.books ≡ record {
       period = sheet.now.figures.period;
@@ -241,8 +245,7 @@ fn finish_batch<R: Threads + Wait + Sync, G: Gate + Sync>(
     ensures stopped { IfErr result (λ fault.
         IsStopped manner.now.plain (G.starts manner.now.gate.now) manner.now.workers fault) }
 {
-    let asked = decode_in_parts(rt, alloc, parts, sheet.door(), batch.details.as_slice())?;
-    finish(rt, alloc, manner, batch.head.lot(), sheet, books, &asked)
+    finish(rt, alloc, manner, batch.head.lot(), sheet, books, asked)
 }
 
 // The same of records that are decoded.

@@ -8,7 +8,7 @@ ghost use Rattle.rx_switch.specs.Rendered.{texts_made};
 ghost use Rattle.rx_io.specs.declared.device.Device.TheVariants as device;
 ghost use Rattle.rx_switch.specs.declared.fault.IoFault.TheVariants as io;
 
-use crate::accepting::{BatchFile, BooksFile, accept};
+use crate::accepting::{BatchFile, BooksFile, accept, bytes_of};
 use crate::adjudicating::{Adjudicated, Manner, adjudicate, parts_of, wait_for};
 use crate::fault::{IoFault, SwitchFault};
 use crate::inputs::read_inputs;
@@ -19,9 +19,6 @@ use rx_wave::Gate;
 use std::alloc::Global;
 use std::sync::Wait;
 use std::thread::Threads;
-
-// About as many bytes has a detail with one billing.
-const DETAIL_BYTES: usize = 200;
 
 /// Adjudicates the batch of three inputs, and writes the three outputs (docs/CLI.md, "run").
 ///
@@ -111,7 +108,7 @@ fn output_of<R: Threads + Wait + Sync, G: Gate + Sync>(
     let len = books.len();
     let (books, batch) = (BooksFile::Given(books), BatchFile::Fed(batch));
     let accepted = accept(rt, alloc, manner.workers, stamp, &sheet, books, batch)?;
-    let bytes = accepted.batch.details.len().saturating_mul(DETAIL_BYTES);
+    let bytes = bytes_of(accepted.batch.details.as_slice());
     let parts = parts_of(manner.workers, len.max(bytes));
     adjudicate(rt, alloc, manner, parts, accepted)
 }
