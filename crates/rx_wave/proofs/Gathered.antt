@@ -16,3 +16,8 @@ pub IfOk-matched : {X E : Type 0} (r : Result X E) (P Q : X → Type 0) (S : E �
     → ((x : X) → P x → Q x) → IfOk r Q
 IfOk-matched (Ok x) P Q S h f = f x h
 IfOk-matched (Err e) P Q S h f = tt
+
+-- what follows from two facts where a result is Ok
+pub IfOk-both : {X E : Type 0} (r : Result X E) (P Q S : X → Type 0) → IfOk r P → IfOk r Q → ((x : X) → P x → Q x → S x) → IfOk r S
+IfOk-both (Ok x) P Q S p q f = f x p q
+IfOk-both (Err e) P Q S p q f = tt

@@ -2,13 +2,18 @@
 use Rattle.std.specs.Prelude.{◌≡◌, ◌<◌, ◌≤◌, ◌↔◌, ℕ, List, [], length, map, slice_get, slice_index_or, Some}
 use Rattle.std.specs.List.{All, Contains}
 use Rattle.rx_d0_values.specs.declared.reply.Reply.{Reply}
+use Rattle.rx_d0_values.specs.declared.transmission.Transmission.{Transmission}
+use Rattle.rx_fields.specs.Numbered.{Span}
 use Rattle.rx_fields.specs.declared.key.Key.{Key}
 use Rattle.rx_fields.specs.declared.limits.TheConstants.{MOST_DETAILS}
 use Rattle.rx_books_family.specs.Books.{IsInOrder}
+use Rattle.rx_books_store.specs.OpenBooks.{OpenParts}
 use Rattle.rx_ledger.specs.Fold.{fold_ledger, fold_replies}
+use Rattle.rx_ledger.specs.Ledger.{Ledger}
 use Rattle.rx_schedule.specs.Footprints.{footprint_at}
 use Rattle.rx_schedule.specs.Shards.{IsGrouping, is_of, keys_at, ledger_of, places_of, replies_of}
 use Rattle.rx_schedule.specs.Waves.{number_in}
+use Rattle.rx_serial.specs.Named.{keys_named}
 use Rattle.rx_serial.specs.declared.finished.Finished.{Finished}
 use Rattle.rx_wave.specs.declared.job.Job.{Job}
 use Rattle.rx_wave.specs.declared.shard.Ended.{Ended}
@@ -17,6 +22,11 @@ use Rattle.rx_wave.specs.declared.shard.Ended.{Ended}
 pub record IsPlaceOf (count place : ℕ) : Type 0 where
   pub from_one : 1 ≤ place
   pub to_count : place ≤ count
+
+-- books of this period, opened with a slot for each fill key that the records name
+pub record IsOpenedAt (period : Span) (ledger : Ledger) (records : List Transmission) (opened : OpenParts) : Type 0 where
+  pub same : opened.books ≡ record { period = period; ledger = ledger }
+  pub slots : (key : Key) → Contains (keys_named records) key → Contains opened.slots key
 
 module _ (job : Job) where
   -- the books have the period of the sheet, and there are no more records than a batch may have
@@ -35,6 +45,10 @@ module _ (job : Job) where
       ledger = fold_ledger job.lot job.sheet.now 1 job.transmissions.now job.books.now.ledger;
     }
     pub replies : finished.replies.items ≡ fold_replies job.lot job.sheet.now 1 job.transmissions.now job.books.now.ledger
+
+  -- the opening books with the period of the sheet, and a slot for each fill key that the records name
+  abbrev pub IsOpened : OpenParts → Type 0
+  IsOpened = IsOpenedAt job.sheet.now.figures.period job.books.now.ledger job.transmissions.now
 
   -- the records at these places were adjudicated one after another on the opening books
   pub record HasRun (places : List ℕ) (ended : Ended) : Type 0 where

@@ -1,69 +1,68 @@
 ghost use Rattle.std.specs.Prelude.{◌≡◌, ◌<◌, ◌∷◌, ℕ, List, IfOk, length, map, set, slice_index_or, []};
-ghost use Rattle.std.specs.List.{Contains, flat_map, range_with_len};
+ghost use Rattle.std.specs.List.{range_with_len};
 ghost use Rattle.rx_d0_values.specs.declared.reply.Reply.{Reply as ReplyValue};
-ghost use Rattle.rx_fields.specs.Order.{key_cmp};
-ghost use Rattle.rx_fields.specs.declared.key.Key.{Key as KeyValue};
 ghost use Rattle.rx_ledger.specs.Fold.{fold_ledger};
-ghost use Rattle.rx_sorted.specs.Ascending.{IsAscending};
-ghost use Rattle.rx_wave.specs.Jobs.{AreReplies, HaveRun, IsFinished};
+ghost use Rattle.rx_wave.specs.Jobs.{AreReplies, HaveRun, IsFinished, IsOpened, IsOpenedAt};
 
 use crate::job::Job;
+use crate::names::named_keys;
 use crate::shard::Ended;
-use rx_books_store::Books;
-use rx_d0_values::Reply;
-use rx_fields::{Key, Memory};
+use rx_books_store::{Books, OpenBooks};
+use rx_d0_values::{Reply, Transmission};
+use rx_fields::{Memory, Period};
 use rx_schedule::Shards;
 use rx_serial::Finished;
 use std::alloc::Global;
 use std::marker::Model;
 use std::vec;
 
+/// These books with the totals of a period, and a slot for each fill key that the records name.
+pub(crate) fn opened(
+    alloc: Global,
+    period: Period,
+    books: &Books,
+    transmissions: &[Transmission],
+) -> Result<OpenBooks, Memory>
+    ensures { IfOk result (IsOpenedAt period books.now.ledger transmissions.now) }
+{
+    let keys = named_keys(alloc, transmissions)?;
+    let books = books.copy(alloc, period)?;
+    books.open(alloc, &keys)
+}
+
 /// What the shards of a batch leave together: the books after all records, and the replies in file order.
 pub(crate) fn joined(
     alloc: Global,
     job: &Job<'_>,
+    opened: OpenBooks,
     shards: &Shards,
     ended: Vec<Ended>,
 ) -> Result<Finished, Memory>
-    requires { HaveRun job.now shards.now.numbers.items ended.items }
+    requires opened { IsOpened job.now opened }
+    requires run { HaveRun job.now shards.now.numbers.items ended.items }
     ensures { IfOk result (IsFinished job.now) }
 {
-    let books = joined_books(alloc, job, &ended)?;
+    let books = joined_books(job, opened, &ended);
     let replies = joined_replies(alloc, &shards.numbers, ended)?;
     Ok(Finished { books, replies })
 }
 
-// The opening books, with what each shard leaves under the fill keys that it names.
-fn joined_books(alloc: Global, job: &Job<'_>, ended: &[Ended]) -> Result<Books, Memory>
-    requires { (numbers : List ℕ) × HaveRun job.now numbers ended.now }
-    ensures { IfOk result (λ joined. joined ≡ record {
+// The opened books, with what each shard leaves under the fill keys that it names.
+fn joined_books(job: &Job<'_>, opened: OpenBooks, ended: &[Ended]) -> Books
+    requires opened { IsOpened job.now opened }
+    requires run { (numbers : List ℕ) × HaveRun job.now numbers ended.now }
+    ensures { result ≡ record {
       period = job.now.sheet.now.figures.period;
       ledger = fold_ledger job.now.lot job.now.sheet.now 1 job.now.transmissions.now job.now.books.now.ledger;
-    }) }
+    } }
 {
-    let keys = all_keys(alloc, ended)?;
-    let books = job.books.copy(alloc, job.sheet.period())?;
-    let mut books = books.open(alloc, &keys)?;
+    let mut books = opened;
     for end in ended {
         books.take_over(&end.books, &end.keys);
     }
     let books = books.close();
     prove!(books.period() == job.sheet.period());
-    Ok(books)
-}
-
-// The fill keys that the shards name, in order, each once.
-fn all_keys(alloc: Global, ended: &[Ended]) -> Result<Vec<Key>, Memory>
-    ensures rise { IfOk result (λ keys. IsAscending key_cmp (λ key. key) keys.items) }
-    ensures keeps { IfOk result (λ keys. (key : KeyValue) → Contains (flat_map (λ end. end.keys.items) ended.now) key → Contains keys.items key) }
-{
-    let mut keys = Vec::new(alloc);
-    for end in ended {
-        keys.extend_from_slice(&end.keys)?;
-    }
-    keys.sort()?;
-    keys.dedup();
-    Ok(keys)
+    books
 }
 
 // The replies of the shards, in file order, by the shard of each record.

@@ -19,6 +19,7 @@ mod gate;
 mod in_order;
 mod job;
 mod joined;
+mod names;
 mod run_fault;
 mod shard;
 mod spread;

@@ -1,15 +1,19 @@
 ghost use Rattle.std.specs.Prelude.{◌≡◌, ◌<◌, ◌≤◌, ℕ, IfOk, IfSome, Ok, Some, length, map, slice_get, slice_index_or};
 ghost use Rattle.std.specs.List.{All};
-ghost use Rattle.rx_schedule.specs.Shards.{list_at};
-ghost use Rattle.rx_wave.specs.Jobs.{ArePlaces, HasRun, IsFinished, IsJob};
+ghost use Rattle.rx_schedule.specs.Footprints.{footprint_at};
+ghost use Rattle.rx_schedule.specs.Shards.{IsGrouping, list_at};
+ghost use Rattle.rx_schedule.specs.Waves.{number_in};
+ghost use Rattle.rx_wave.specs.Jobs.{ArePlaces, HasRun, IsFinished, IsJob, IsOpenedAt};
 ghost use Rattle.rx_wave.specs.declared.shard.Ended.{Ended as EndedValue};
 
 use crate::gate::{Deal, Gate};
 use crate::job::Job;
-use crate::joined::joined;
+use crate::joined::{joined, opened};
 use crate::shard::{Ended, run_shard};
-use rx_fields::Memory;
-use rx_schedule::shards;
+use rx_books_store::{Books, OpenBooks};
+use rx_d0_values::Transmission;
+use rx_fields::{Memory, Period};
+use rx_schedule::{Shards, shards};
 use rx_serial::Finished;
 use std::alloc::{AllocError, Global};
 use std::thread;
@@ -28,7 +32,16 @@ pub(crate) fn run_in_shards<R: Threads + Sync, G: Gate + Sync>(
     requires job { IsJob job.now }
     ensures { IfOk result (λ answer. IfSome answer (IsFinished job.now)) }
 {
-    let shards = shards(alloc, job.books, job.transmissions, workers as usize)?;
+    let period = job.sheet.period();
+    let (opened, shards) = dealt_and_opened(
+        rt,
+        alloc,
+        workers,
+        period,
+        job.books,
+        job.transmissions,
+    );
+    let shards = shards?;
     gate.deal(&Deal {
         shards: shards.count,
         largest: shards.largest,
@@ -37,11 +50,44 @@ pub(crate) fn run_in_shards<R: Threads + Sync, G: Gate + Sync>(
     if shards.count < 2 {
         return Ok(None);
     }
+    let opened = opened?;
     let places = shards.places(alloc)?;
     let ended = run_all(rt, alloc, gate, job, places)?;
     prove!(job.books.period() == job.sheet.period());
-    let finished = joined(alloc, job, &shards, ended)?;
+    let finished = joined(alloc, job, opened, &shards, ended)?;
     Ok(Some(finished))
+}
+
+// The shards of the records, and the opened books that are to take them over: dealt out and opened side by side.
+fn dealt_and_opened<R: Threads>(
+    rt: &R,
+    alloc: Global,
+    workers: u16,
+    period: Period,
+    books: &Books,
+    transmissions: &[Transmission],
+) -> (Result<OpenBooks, Memory>, Result<Shards, Memory>)
+    requires several { 2 ≤ workers }
+    ensures opened { IfOk result.0 (IsOpenedAt period books.now.ledger transmissions.now) }
+    ensures together { IfOk result.1 (λ found. IsGrouping (footprint_at books.now.ledger transmissions.now)
+        (length transmissions.now) (number_in found.numbers.items)) }
+    ensures one_each { IfOk result.1 (λ found. length found.numbers.items ≡ length transmissions.now) }
+    ensures within { IfOk result.1 (λ found. All (λ number. number < found.count) found.numbers.items) }
+{
+    thread::join(
+        rt,
+        || -> Result<OpenBooks, Memory>
+            ensures { IfOk result (IsOpenedAt period books.entry.now.ledger transmissions.entry.now) }
+        { opened(alloc, period, books, transmissions) },
+        || -> Result<Shards, Memory>
+            requires { 2 ≤ workers }
+            ensures together { IfOk result (λ found. IsGrouping
+                (footprint_at books.entry.now.ledger transmissions.entry.now)
+                (length transmissions.entry.now) (number_in found.numbers.items)) }
+            ensures one_each { IfOk result (λ found. length found.numbers.items ≡ length transmissions.entry.now) }
+            ensures within { IfOk result (λ found. All (λ number. number < found.count) found.numbers.items) }
+        { shards(alloc, books, transmissions, workers as usize) },
+    )
 }
 
 // What each shard leaves, whose records go by a thread of its own.

@@ -2,7 +2,7 @@
 use Rattle.std.proofs.Common.{◌≡◌, ◌<◌, List, Some, get_or, length, refl, sym, ap, subst, ◌∙◌, inl, inr, arith}
 use Rattle.std.specs.List.{All, Contains, slice_get}
 use Rattle.std.proofs.lemmas.Bool.{cases_lt}
-use Rattle.std.proofs.lemmas.List.Elements.{All-contains, Contains-get_or}
+use Rattle.std.proofs.lemmas.List.Elements.{Contains-get_or}
 use Rattle.std.proofs.lemmas.Option.{same_Some, slice_get_read}
 use Rattle.rx_fields.specs.declared.key.Key.{Key}
 use Rattle.rx_ledger.specs.Fold.{fold_ledger}
@@ -11,18 +11,18 @@ use Rattle.rx_books_family.specs.Books.{IsInOrder}
 use Rattle.rx_books_store.specs.LedgerBooks.{LedgerBooks}
 use Rattle.rx_schedule.specs.Shards.{is_of, places_of}
 use Rattle.rx_schedule.specs.Waves.{number_in}
-use Rattle.rx_schedule.proofs.Mentioned.{flat_map_has}
 use Rattle.rx_wave.specs.declared.shard.Ended.{Ended}
 use Rattle.rx_wave.proofs.Joining.{all_joined, apart, books_path, low_of, rises_of}
+use Rattle.rx_wave.proofs.Keys.{named_of_all}
 use Rattle.rx_wave.proofs.RunOn.{members_kept}
 use Rattle.rx_wave.proofs.joined.joined_books.Goals as goal
 
 pub loop-end-init : goal.loop-end-init
 loop-end-init c =
-    let same = c.in_ok-books-2.ensures.same ∙ c.in_ok-books.ensures in
+    let same = c.requires.opened.same in
     record {
-      period = ap (λ (b : LedgerBooks). b.period) same ∙ c.period.ensures;
-      slots = rw c.deref.ensures.value at c.in_ok-books-2.ensures.slots;
+      period = ap (λ (b : LedgerBooks). b.period) same;
+      slots = c.requires.opened.slots;
       members = ap (λ (b : LedgerBooks). b.ledger.members) same;
       taken = λ k end lt. absurd (omega arith);
       kept = λ key none. ap (λ (b : LedgerBooks). row_under b.ledger key) same;
@@ -34,25 +34,24 @@ take_over-requires-clause-members c =
     let at = c.loop-end.end-index in
     let is : slice_get c.args.ended.now at ≡ Some c.end-item.result =
     slice_get_read c.args.ended.now (length c.args.ended.now) at c.end-item.result refl (omega arith) c.end-item.is in
-    let ran = c.requires.1.each at c.end-item.result is in
+    let ran = c.requires.run.1.each at c.end-item.result is in
     ap (λ (N : Ledger). N.members) ran.ledger
     ∙ members_kept job.lot job.sheet.now job.transmissions.now
-    (places_of (is_of (number_in c.requires.0) at) (length job.transmissions.now)) job.books.now.ledger
+    (places_of (is_of (number_in c.requires.run.0) at) (length job.transmissions.now)) job.books.now.ledger
     ∙ sym c.loop-end.invariant.members
 
 pub take_over-requires-clause-slots : goal.take_over-requires-clause-slots
 take_over-requires-clause-slots c =
-    let ended = c.args.ended.now in
+    let job = c.args.job.now in
     let at = c.loop-end.end-index in
     let end = c.end-item.result in
-    let keys = c.in_ok-keys.keys.items in
-    let within : at < length ended = omega arith in
-    let among : Contains ended end = subst (Contains ended) (sym c.end-item.is) (Contains-get_or ended at end within) in
-    subst (All (Contains c.loop-end.books.slots)) (sym c.deref-in-loop-end.ensures.value) (λ k d lt.
+    let is : slice_get c.args.ended.now at ≡ Some end =
+    slice_get_read c.args.ended.now (length c.args.ended.now) at end refl (omega arith) c.end-item.is in
+    let ran = c.requires.run.1.each at end is in
+    subst (All (Contains c.loop-end.books.slots)) (sym c.deref.ensures.value) (λ k d lt.
     let key : Key = get_or end.keys.items k d in
-    All-contains (Contains c.loop-end.books.slots) keys key c.loop-end.invariant.slots
-    (c.in_ok-keys.ensures.keeps key
-    (flat_map_has (λ (e : Ended). e.keys.items) ended end key among (Contains-get_or end.keys.items k d lt))))
+    c.loop-end.invariant.slots key (named_of_all job.transmissions.now (is_of (number_in c.requires.run.0) at) key
+    ((ran.keys key).0 (Contains-get_or end.keys.items k d lt))))
 
 pub loop-end-preserved : goal.loop-end-preserved
 loop-end-preserved c =
@@ -62,16 +61,16 @@ loop-end-preserved c =
     let item = c.end-item.result in
     let inv = c.loop-end.invariant in
     let h = c.take_over.ensures in
-    let E = c.deref-in-loop-end.ensures.value in
+    let E = c.deref.ensures.value in
     let is_at : slice_get ended at ≡ Some item =
     slice_get_read ended (length ended) at item refl (omega arith) c.end-item.is in
     record {
       period = h.period ∙ inv.period;
-      slots = subst (λ (s : List Key). All (Contains s) c.in_ok-keys.keys.items) (sym h.slots) inv.slots;
+      slots = λ key named. subst (λ (s : List Key). Contains s key) (sym h.slots) (inv.slots key named);
       members = h.members ∙ inv.members;
       taken = λ k end lt is key in_end. elim (cases_lt k at) [
         | inl low ↦ h.kept key (λ in_at.
-            let e : k ≡ at = apart job c.requires.0 ended c.requires.1 k at end item key is is_at in_end
+            let e : k ≡ at = apart job c.requires.run.0 ended c.requires.run.1 k at end item key is is_at in_end
             (subst (λ (ks : List Key). Contains ks key) E in_at) in absurd (omega arith))
             ∙ inv.taken k end low is key in_end
         | inr high ↦
@@ -94,9 +93,9 @@ returns c =
     let M = c.loop-end.books.books.ledger in
     let closed = c.close-books.ensures in
     let rises = subst (λ (b : LedgerBooks). IsInOrder b.ledger) closed
-    (rises_of c.close-books.result.ledger c.period-2.ensures.within) in
+    (rises_of c.close-books.result.ledger c.period.ensures.within) in
     let all : M ≡ fold_ledger job.lot job.sheet.now 1 job.transmissions.now job.books.now.ledger =
-    all_joined job c.requires.0 ended c.requires.1 M rises inv.members
+    all_joined job c.requires.run.0 ended c.requires.run.1 M rises inv.members
     (λ k end is. let low = low_of ended k end is in inv.taken k end (omega arith) is)
     (λ key none. inv.kept key (λ k end lt is. none k end is)) in
     closed ∙ books_path c.loop-end.books.books _ _ inv.period all
