@@ -5,6 +5,7 @@ pub mod CycleBack
 pub mod CycleInside
 pub mod CycleOnce
 pub mod CycleRead
+pub mod CycleRun
 pub mod EachExplained
 pub mod FamilyClaims
 pub mod FamilyLaws

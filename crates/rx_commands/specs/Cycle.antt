@@ -1,5 +1,5 @@
 -- Meaning: the settlement of a pay cycle, from its response files and nothing else.
-use Rattle.std.specs.Prelude.{◌≡◌, ℕ, ◌+◌, List, ◌∷◌, ◌++◌, Option, Some, None, Result, Ok, Err, length, map}
+use Rattle.std.specs.Prelude.{◌≡◌, ℕ, ◌+◌, List, [], ◌∷◌, ◌++◌, Option, Some, None, Result, Ok, Err, length, map}
 use Rattle.std.specs.List.{AllZip, flat_map}
 use Rattle.std.specs.declared.vec.Vec.{Vec}
 use Rattle.rx_batch.specs.declared.detail.Detail.{Detail}
@@ -11,6 +11,7 @@ use Rattle.rx_settle.specs.declared.batch_run.BatchRun.{BatchRun}
 use Rattle.rx_settle.specs.Together.{line_alone, together_text}
 use Rattle.rx_show.specs.Found.{IsTextOf, IsUnreadable}
 use Rattle.rx_show.specs.ResponseFile.{IsResponse, as_batch}
+use Rattle.rx_switch.specs.Output.{Given, IsOutput, Texts}
 use Rattle.rx_commands.specs.declared.cycle.fault.CycleFault.{CycleFault}
 use Rattle.rx_commands.specs.declared.cycle.fault.CycleFault.TheVariants as fault
 
@@ -62,6 +63,19 @@ pub record IsCycleText (files : List (List ℕ)) (only : Option (List ℕ)) (tex
 abbrev pub IsSettledAs : {Z : Type 0} → Result (Vec ℕ Z) CycleFault → List ℕ → Type 0
 IsSettledAs (Ok text) meant = text.items ≡ meant
 IsSettledAs (Err f) meant = f ≡ fault.Memory
+
+-- ---- a run
+
+-- of the response file among the texts of a run this is printed, and it is the settlement among them
+pub record IsSettlementOf (texts : Texts) (text : List ℕ) : Type 0 where
+  pub printed : IsCycleText (texts.response ∷ []) None text
+  pub same : text ≡ texts.settlement
+
+-- a run of what is given has such texts
+pub record IsSettledBack (given : Given) (text : List ℕ) : Type 0 where
+  pub texts : Texts
+  pub output : IsOutput given texts
+  pub settled : IsSettlementOf texts text
 
 -- ---- what is refused
 

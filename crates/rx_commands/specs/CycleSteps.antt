@@ -1,6 +1,7 @@
 -- Plumbing: response files of a pay cycle while they are read, one after another.
 use Rattle.std.specs.Prelude.{◌≡◌, ℕ, All, List, [], ◌∷◌, ◌++◌}
 use Rattle.std.specs.List.{AllZip}
+use Rattle.rx_batch.specs.declared.batch.Batch.{Batch}
 use Rattle.rx_batch.specs.declared.detail.Detail.{Detail}
 use Rattle.rx_batch.specs.declared.fault.BatchFault.{BatchFault}
 use Rattle.rx_batch.specs.declared.fault.BatchFault.TheVariants as batch
@@ -8,12 +9,16 @@ use Rattle.rx_batch.specs.declared.head.Head.{Head}
 use Rattle.rx_batch.specs.declared.head.Kind.TheVariants.{Transmission}
 use Rattle.rx_batch.specs.Grammar.{IsInside}
 use Rattle.rx_batch.specs.Reading.{HasFault}
+use Rattle.rx_books_store.specs.LedgerBooks.{LedgerBooks}
 use Rattle.rx_d0_values.specs.declared.reply.Reply.{Reply}
 use Rattle.rx_fields.specs.declared.stamp.Stamp.{Stamp}
+use Rattle.rx_io.specs.declared.files.Inputs.{Inputs}
+use Rattle.rx_ledger.specs.Plan.{Plan}
 use Rattle.rx_response.specs.Response.{response_head}
 use Rattle.rx_settle.specs.declared.batch_run.BatchRun.{BatchRun}
 use Rattle.rx_show.specs.Found.{IsUnreadable}
 use Rattle.rx_show.specs.ResponseFile.{as_batch}
+use Rattle.rx_switch.specs.Output.{Accepted}
 use Rattle.rx_commands.specs.declared.cycle.fault.CycleFault.{CycleFault}
 use Rattle.rx_commands.specs.declared.cycle.fault.CycleFault.TheVariants as fault
 use Rattle.rx_commands.specs.Cycle.{Answered, AreTexts, IsAnswered, IsFirstUnreadable, replies_in, run_of, runs_in}
@@ -71,3 +76,15 @@ pub record IsSent (head : Head) (details : List Detail) : Type 0 where
 -- the header of the response file with the type of a batch file
 abbrev pub asked_back : Head → Stamp → Head
 asked_back head stamp = record (response_head head stamp) { kind = Transmission }
+
+-- what the inputs of a run stand for, once they are read
+abbrev pub accepted_of : Inputs Plan LedgerBooks Batch → Stamp → Accepted
+accepted_of inputs stamp =
+    record {
+      stamp = stamp;
+      plan = inputs.sheet;
+      period = inputs.books.period;
+      opening = inputs.books.ledger;
+      head = inputs.batch.head;
+      details = inputs.batch.details;
+    }

@@ -99,16 +99,16 @@ fn adjudicated<R: Threads + Sync>(
     })
 }
 
-// What a batch asks, the books before its records, and the replies to them.
+/// What a batch asks, the books before its records, and the replies to them.
 #[derive(Drop)]
-struct Answered {
-    asked: Vec<Transmission>,
-    opening: Books,
-    replies: Vec<Reply>,
+pub(crate) struct Answered {
+    pub asked: Vec<Transmission>,
+    pub opening: Books,
+    pub replies: Vec<Reply>,
 }
 
-// The batch's records answered at this plan.
-fn answer_batch<R: Threads + Sync>(
+/// The batch's records answered at this plan.
+pub(crate) fn answer_batch<R: Threads + Sync>(
     rt: &R,
     alloc: Global,
     sheet: &Sheet,

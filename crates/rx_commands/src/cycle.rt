@@ -9,7 +9,7 @@ mod law;
 mod reading;
 
 pub use fault::CycleFault;
-pub use law::settled_back;
+pub use law::{run_settled_back, settled_back};
 use reading::{Cycle, read_cycle};
 use rx_fields::Memory;
 use rx_settle::{settle_provider, settle_together};

@@ -15,7 +15,7 @@
 //! - `verify` does the run again and compares the texts of an earlier one's three files with it: the files are found the same
 //!   exactly where they are what the rules of docs/ make of the inputs (`specs/Verified.antt`, `specs/Verdict.antt`).
 //! - `settle_cycle` has the settlement of the batches that response files answer, from nothing else (`specs/Cycle.antt`);
-//!   of the response file made of replies it is their settlement (`settled_back`).
+//!   of a run's response file it is that run's settlement (`run_settled_back`).
 //! - `show_table` has the table of `show --tsv`.
 //! - Module `family` shows a family of books: `show_family` (`specs/FamilyShown.antt`).
 //! - Module `replay` has what `report` and `explain` stand on: a batch replayed, with explanations of any of its transactions.
@@ -58,7 +58,7 @@ mod whys;
 pub use asked_words::{
     family_asked, number_asked, provider_asked, record_asked, reference_asked, stamp_asked,
 };
-pub use cycle::{CycleFault, settle_cycle, settled_back};
+pub use cycle::{CycleFault, run_settled_back, settle_cycle, settled_back};
 pub use difference::first_difference;
 pub use explain_fault::ExplainFault;
 pub use explanations::explain;

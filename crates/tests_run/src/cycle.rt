@@ -1,10 +1,11 @@
 //! The settlement of response files: the worked case one-billing's by itself, with itself and with a batch file, and that of
 //! a file that is made here.
-use crate::one_billing::{BATCH, RESPONSE, SETTLEMENT};
+use crate::one_billing::{BATCH, BOOKS, RESPONSE, SETTLEMENT, SHEET, STAMP};
 use crate::response::{details, head, replies};
 use crate::same::same;
-use rx_commands::{CycleFault, settle_cycle, settled_back};
+use rx_commands::{CycleFault, run_settled_back, settle_cycle, settled_back};
 use rx_fields::Stamp;
+use rx_switch::Job;
 use std::alloc::Global;
 use std::process::Abort;
 
@@ -21,6 +22,20 @@ fn files(rt: &impl Abort, alloc: Global, texts: &[&[u8]]) -> Vec<Vec<u8>> {
 fn a_response_file_comes_to_its_settlement(rt: HostRuntime) {
     let files = files(&rt, rt.alloc(), &[RESPONSE]);
     let text = settle_cycle(rt.alloc(), &files, None).ok();
+    same(&rt, text.expect(&rt, "a text").as_slice(), SETTLEMENT);
+}
+
+#[test]
+fn a_runs_response_file_comes_to_its_settlement(rt: HostRuntime) {
+    let job = Job {
+        sheet: SHEET,
+        books: BOOKS,
+        batch: BATCH,
+        stamp: STAMP,
+        workers: 1,
+        plain: false,
+    };
+    let text = run_settled_back(&rt, rt.alloc(), &job).ok();
     same(&rt, text.expect(&rt, "a text").as_slice(), SETTLEMENT);
 }
 

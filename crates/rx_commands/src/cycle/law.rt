@@ -1,20 +1,31 @@
-//! The response file made of replies comes to their settlement.
+//! A run's response file comes to the run's settlement.
 ghost use Rattle.std.specs.Prelude.{◌≡◌, ◌≤◌, ◌∷◌, [], IfErr, IfOk, None, length};
 ghost use Rattle.std.specs.List.{AllByRecursion};
 ghost use Rattle.rx_fields.specs.declared.limits.TheConstants.{MOST_DETAILS};
+ghost use Rattle.rx_ledger.specs.Fold.{fold_replies};
+ghost use Rattle.rx_wave.specs.Decoding.{transmissions_of};
 ghost use Rattle.rx_d0_reply.specs.Limits.{IsReply};
-ghost use Rattle.rx_response.specs.Response.{response_detail, response_details};
+ghost use Rattle.rx_response.specs.Response.{response_detail, response_details, response_text};
 ghost use Rattle.rx_settle.specs.Settlement.{settlement_text};
-ghost use Rattle.rx_commands.specs.Cycle.{Answered, IsAnswered, IsSettledAs, cycle_text};
-ghost use Rattle.rx_commands.specs.CycleSteps.{IsSent, asked_back};
+ghost use Rattle.rx_switch.specs.Job.{given_by};
+ghost use Rattle.rx_switch.specs.Output.{IsRefused, stamp_for, texts_of};
+ghost use Rattle.rx_commands.specs.Cycle.{IsAnswered, IsCycleText, IsSettledAs, IsSettledBack, IsSettlementOf, cycle_text};
+ghost use Rattle.rx_commands.specs.Cycle.{Answered as AnsweredBatch};
+ghost use Rattle.rx_commands.specs.CycleSteps.{IsSent, accepted_of, asked_back};
 
 use super::fault::CycleFault;
 use super::settle_cycle;
-use rx_batch::{Detail, Head, Kind, Text, write_batch};
+use crate::batch_report::{Answered, answer_batch};
+use crate::inputs::read_inputs;
+use rx_batch::{Batch, Detail, Head, Kind, Text, write_batch};
+use rx_books_store::Books;
 use rx_d0_reply::encode;
 use rx_d0_values::Reply;
-use rx_fields::{Lot, Memory, Stamp};
+use rx_fields::{Lot, MOST_WORKERS, Memory, Stamp};
+use rx_io::Inputs;
+use rx_ledger::Sheet;
 use rx_response::response_file;
+use rx_switch::{Job, SwitchFault};
 use std::alloc::Global;
 use std::thread::Threads;
 
@@ -34,6 +45,8 @@ pub fn settled_back<R: Threads + Sync>(
     ensures ok { IsSent head.now details.now
         → IfOk result (λ text. text.items ≡ settlement_text head.now.lot stamp.now replies.now) }
     ensures err { IsSent head.now details.now → IfErr result (λ fault. fault ≡ CycleFault.Memory) }
+    ensures printed { IfOk result (λ text.
+        IsCycleText (response_text head.now stamp.now details.now replies.now ∷ []) None text.items) }
 {
     let response = response_file(rt, alloc, head, *stamp, details, replies)?;
     let answers = answered_details(alloc, details, replies)?;
@@ -42,9 +55,95 @@ pub fn settled_back<R: Threads + Sync>(
     settle_alone(alloc, response)
 }
 
+/// The law of `rx_switch::run` and `settle_cycle`: a run of this job gives three texts, and no others
+/// (`rx_switch::one_output`); what is printed of the response file among them is the settlement among them, byte for byte.
+///
+/// # Errors
+///
+/// Those of a run; there is no response file then.
+pub fn run_settled_back<R: Threads + Sync>(
+    rt: &R,
+    alloc: Global,
+    job: &Job<'_>,
+) -> Result<Vec<u8>, SwitchFault>
+    ensures settled { IfOk result (λ text. IsSettledBack (given_by job.now) text.items) }
+    ensures refused { IfErr result (λ fault. IsRefused (given_by job.now) fault) }
+{
+    let stamp = stamp_for(job)?;
+    let texts = Inputs {
+        sheet: job.sheet,
+        books: job.books,
+        batch: job.batch,
+    };
+    let inputs = read_inputs(alloc, &texts)?;
+    let Ok(text) = settlement_of(rt, alloc, inputs, &stamp) else {
+        return Err(SwitchFault::Memory);
+    };
+    Ok(text)
+}
+
+// The stamp of a job, as a run reads it.
+fn stamp_for(job: &Job<'_>) -> Result<Stamp, SwitchFault>
+    ensures { result ≡ stamp_for job.now.workers job.now.stamp.now }
+{
+    if job.workers < 1 || job.workers > MOST_WORKERS {
+        return Err(SwitchFault::Workers);
+    }
+    Stamp::new(job.stamp).ok_or(SwitchFault::Stamp)
+}
+
+// What is printed of the response file of a run on these inputs. They are of files that were read, so only memory can lack.
+fn settlement_of<R: Threads + Sync>(
+    rt: &R,
+    alloc: Global,
+    inputs: Inputs<Sheet, Books, Batch>,
+    stamp: &Stamp,
+) -> Result<Vec<u8>, CycleFault>
+    requires within { length inputs.batch.details ≤ MOST_DETAILS }
+    requires sent { IsSent inputs.batch.head inputs.batch.details }
+    ensures settled { IfOk result (λ text. IsSettlementOf (texts_of (accepted_of inputs stamp.now)) text.items) }
+    ensures err { IfErr result (λ fault. fault ≡ CycleFault.Memory) }
+{
+    let Inputs {
+        sheet,
+        books,
+        batch,
+    } = inputs;
+    let replies = replies_to(rt, alloc, &sheet, books, &batch)?;
+    let details = batch.details.as_slice();
+    let printed = settled_back(rt, alloc, &batch.head, details, stamp, &replies);
+    drop((sheet, batch, replies));
+    let text = printed?;
+    Ok(text)
+}
+
+// The replies to a batch that is adjudicated on these books.
+#[tactic(auto, using(crate::proofs::CycleRun::as_many_replies))]
+fn replies_to<R: Threads + Sync>(
+    rt: &R,
+    alloc: Global,
+    sheet: &Sheet,
+    books: Books,
+    batch: &Batch,
+) -> Result<Vec<Reply>, Memory>
+    requires { length batch.now.details ≤ MOST_DETAILS }
+    ensures replies { IfOk result (λ replies. replies.items ≡ fold_replies batch.now.head.lot sheet.now 1
+        (transmissions_of sheet.now.figures.door batch.now.details) books.ledger) }
+    ensures as_many { IfOk result (λ replies. length batch.now.details ≡ length replies.items) }
+{
+    let Answered {
+        asked: _,
+        opening: _,
+        replies,
+    } = answer_batch(rt, alloc, sheet, books, batch)?;
+    Ok(replies)
+}
+
 // The settlement of one file.
 fn settle_alone(alloc: Global, response: Vec<u8>) -> Result<Vec<u8>, CycleFault>
-    ensures { (batch : Answered) → IsAnswered response.items batch → IsSettledAs result (cycle_text None (batch ∷ [])) }
+    ensures reads { (batch : AnsweredBatch) → IsAnswered response.items batch
+        → IsSettledAs result (cycle_text None (batch ∷ [])) }
+    ensures printed { IfOk result (λ text. IsCycleText (response.items ∷ []) None text.items) }
 {
     let mut files = Vec::new(alloc);
     files.push(response)?;

@@ -1,4 +1,6 @@
-use Rattle.std.proofs.Common.{◌∙◌}
+use Rattle.std.proofs.Common.{◌∙◌, ◌∷◌, [], None, subst}
+use Rattle.std.specs.Prelude.{IfOk}
+use Rattle.rx_commands.specs.Cycle.{IsCycleText}
 use Rattle.rx_commands.proofs.CycleBack.{answered, as_many, read_back, settled_alone, settled_err, settled_ok}
 use Rattle.rx_commands.proofs.cycle.law.settled_back.Goals as goal
 
@@ -19,7 +21,7 @@ returns-clause-ok g c sent =
     c.asked_back.result c.deref.result.now sent c.requires.equally_many
     c.in_ok-answers.ensures.within c.asked_back.ensures (c.deref.ensures.value ∙ c.in_ok-answers.ensures.same) c.in_ok-batch.ensures.text
     c.in_ok-batch.ensures.again c.in_ok-response.ensures in
-    settled_ok c.settle_alone.result _ _ (c.settle_alone.ensures (answered head stamp replies) back)
+    settled_ok c.settle_alone.result _ _ (c.settle_alone.ensures.reads (answered head stamp replies) back)
     (settled_alone head stamp replies)
 
 pub returns-clause-err : goal.returns-clause-err
@@ -31,4 +33,9 @@ returns-clause-err g c sent =
     c.asked_back.result c.deref.result.now sent c.requires.equally_many
     c.in_ok-answers.ensures.within c.asked_back.ensures (c.deref.ensures.value ∙ c.in_ok-answers.ensures.same) c.in_ok-batch.ensures.text
     c.in_ok-batch.ensures.again c.in_ok-response.ensures in
-    settled_err c.settle_alone.result _ (c.settle_alone.ensures (answered head stamp replies) back)
+    settled_err c.settle_alone.result _ (c.settle_alone.ensures.reads (answered head stamp replies) back)
+
+pub returns-clause-printed : goal.returns-clause-printed
+returns-clause-printed g c =
+    subst (λ t. IfOk c.settle_alone.result (λ text. IsCycleText (t ∷ []) None text.items)) c.in_ok-response.ensures
+    c.settle_alone.ensures.printed
