@@ -1,5 +1,5 @@
 -- What another version can print of a ledger, version 3 can print too, in as many lines.
-use Rattle.std.proofs.Common.{◌≡◌, ℕ, ◌+◌, ◌≤◌, List, [], ◌∷◌, ◌++◌, length, map, eqb, true, false, cond, refl, ◌∙◌, inl, inr, arith}
+use Rattle.std.proofs.Common.{◌≡◌, ℕ, ◌+◌, ◌≤◌, List, [], ◌∷◌, ◌++◌, length, map, eqb, true, false, cond, refl, sym, ap, ◌∙◌, inl, inr, arith}
 use Rattle.std.specs.Prelude.{◌==◌}
 use Rattle.std.specs.List.{All, flat_map}
 use Rattle.std.proofs.lemmas.Bool.{cases_Bool}
@@ -25,9 +25,10 @@ use Rattle.rx_books_text.proofs.Cuts.{Without}
 use Rattle.rx_books_text.proofs.Feedless.{line_feedless}
 use Rattle.rx_books_text.proofs.HeadLaws.{head_feedless}
 use Rattle.rx_books_store.specs.BooksFile.{IsBooksText}
-use Rattle.rx_books_store.specs.BooksText.{books_text, deductibles_of, families_of, parts_of, total_of}
+use Rattle.rx_books_store.specs.BooksText.{books_text, claims_text, deductibles_of, families_of, parts_of, total_of}
 use Rattle.rx_books_store.proofs.FamilyOrder.{families_rise, itself}
 use Rattle.rx_books_store.proofs.Figured.{all_back, all_behind, all_front, all_inhabited, passes}
+use Rattle.rx_books_store.proofs.Written.{claims-map}
 use Rattle.rx_books_store.proofs.Wrong.{length-lines}
 
 -- ---- the lines
@@ -180,3 +181,14 @@ printed_three v p L is =
 
 pub three : (text : List ℕ) (p : Span) (L : Ledger) → IsBooksText text p L → IsBooksText (books_text Three p L) p L
 three text p L books = record { version = Three; is_text = refl; printed = printed_three books.version p L books.printed }
+
+-- each claim of books has one line
+pub claims_feeds : (text : List ℕ) (p : Span) (L : Ledger) → IsBooksText text p L → line_feeds (claims_text L.rows) ≡ length L.rows
+claims_feeds text p L books =
+    let first = member_lines L.members (deductibles_of p L) in
+    let second : List Line = map (λ r. line.Claim r) L.rows in
+    let third : List Line = map (λ t. line.Total t) (map (total_of Three p L) (families_of L.members)) in
+    let lines = lines_three books.version p L books.printed.lines in
+    let claims : All (IsLine Three) second = all_front (IsLine Three) second third (all_back (IsLine Three) first (second ++ third) lines) in
+    let long : length second ≡ length L.rows = simp length-map in
+    ap line_feeds (sym (claims-map L.rows)) ∙ lines_feeds Three second claims ∙ long

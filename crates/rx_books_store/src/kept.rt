@@ -23,14 +23,14 @@ impl Kept {
     /// The text, shared.
     pub(crate) fn of(
         alloc: Global,
-        text: Vec<u8>,
+        text: &Arc<Vec<u8>, Global>,
         above: usize,
         lengths: Vec<u8>,
     ) -> Result<Arc<Kept, Global>, Memory>
-        ensures { (rows : List Row) → HoldsLines text.items above lengths.items rows
+        ensures { (rows : List Row) → HoldsLines (arc_value text.now).items above lengths.items rows
             → IfOk result (λ kept. IsKept (arc_value kept) rows) }
     {
-        let text = Arc::new(alloc, text)?;
+        let text = Arc::try_clone(text)?;
         let kept = Kept {
             text,
             above,

@@ -1,4 +1,5 @@
 ghost use Rattle.std.specs.Prelude.{◌≡◌, IfOk};
+ghost use Rattle.std.specs.Arc.{arc_value};
 ghost use Rattle.rx_io.specs.Pieces.{text_of};
 ghost use Rattle.rx_books_store.specs.BooksFile.{NamesFirstFault, ReadsAllBooks, ReadsBooksAlone, ReadsWhatIsWritten};
 ghost use Rattle.rx_books_store.specs.BooksText.{books_text};
@@ -12,6 +13,7 @@ use rx_books_text::{BooksFault, Version};
 use rx_fields::Memory;
 use rx_io::Pieces;
 use std::alloc::Global;
+use std::sync::Arc;
 use std::thread::Threads;
 
 impl Books {
@@ -55,6 +57,26 @@ impl Books {
     {
         let quick = Quick::read_in_parts(rt, alloc, parts, &text);
         Books::kept_or_summed(alloc, text, quick)
+    }
+
+    /// The same of a text that is shared.
+    pub fn read_shared<R: Threads + Sync>(
+        rt: &R,
+        alloc: Global,
+        parts: usize,
+        text: &Arc<Vec<u8>, Global>,
+    ) -> Result<Books, BooksFault>
+        ensures ok { ReadsBooksAlone (arc_value text.now).items result }
+        // The text of books is read as those books, unless memory ran out.
+        ensures reads { ReadsAllBooks (arc_value text.now).items result }
+        // What was read, written in version 3, is a text of the same books.
+        ensures again { ReadsWhatIsWritten result }
+        ensures refuses { NamesFirstFault (arc_value text.now).items result }
+        // The same, computed.
+        ensures value { Gives result (books_of (arc_value text.now).items) }
+    {
+        let quick = Quick::read_in_parts(rt, alloc, parts, text.as_slice());
+        Books::shared_or_summed(alloc, text, quick)
     }
 
     /// The text of `write` in pieces, one after another, which no copy joins. Lines of claims that stand unchanged are lent from

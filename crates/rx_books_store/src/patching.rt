@@ -1,4 +1,4 @@
-ghost use Rattle.std.specs.Prelude.{◌≡◌, ◌+◌, ◌-◌, ◌≤◌, ◌++◌, IsTrue, OnOk, drop, length, take};
+ghost use Rattle.std.specs.Prelude.{◌≡◌, ◌+◌, ◌-◌, ◌≤◌, ◌++◌, IfOk, IsTrue, OnOk, drop, length, take};
 ghost use Rattle.std.specs.List.{All};
 ghost use Rattle.rx_fields.specs.Order.{key_cmp};
 ghost use Rattle.rx_sorted.specs.Ascending.{IsAscending};
@@ -20,9 +20,30 @@ use rx_ledger::Row;
 use rx_sorted::Runs;
 use std::alloc::Global;
 
-/// Puts the lines of the rows that stand: those of rows that stand as they were read are lent from the text that is kept,
-/// runs of them at once.
-pub(crate) fn put_standing(
+/// The lines of the rows that stand, after what is above them and before what is below. Those of rows that stand as they
+/// were read are lent from the text that is kept.
+pub(crate) fn lent_between(
+    alloc: Global,
+    kept: &Kept,
+    opening: &Opening,
+    slots: &[KeySlot],
+    above: Vec<u8>,
+    below: &[u8],
+) -> Result<Patched, Memory>
+    requires kept { IsKept kept.now opening.now.rows }
+    requires rise { IsAscending key_cmp slot_key slots.now }
+    requires own { All (IsSlot opening.now.members) slots.now }
+    ensures { IfOk result (λ text. text.text ≡ above.items ++ (claims_text (standing_rows opening.now.rows slots.now) ++ below.now)) }
+{
+    let mut text = kept.patch(alloc, above)?;
+    put_standing(alloc, &mut text, kept, opening, slots)?;
+    text.put(below)?;
+    Ok(text)
+}
+
+// Puts the lines of the rows that stand: those of rows that stand as they were read are lent from the text that is kept,
+// runs of them at once.
+fn put_standing(
     alloc: Global,
     text: &mut Patched,
     kept: &Kept,

@@ -162,6 +162,22 @@ impl OpenBooks {
         self.changed.as_slice().is_empty()
     }
 
+    /// How many claims stand.
+    pub fn claims(&self) -> usize
+        ensures value { result ≡ length self.now.books.ledger.rows }
+        ensures within { IsLedger self.now.books.ledger }
+    {
+        if self.has_no_slot() {
+            return self.opening.rows().len();
+        }
+        let mut count = 0;
+        let mut standing = self.standing();
+        'claims: while let Some(_) = standing.next_row() {
+            count += 1;
+        }
+        count
+    }
+
     /// The row under a fill key.
     pub fn row(&self, key: &Key) -> Option<&Row>
         ensures { option_copied result ≡ row_under self.now.books.ledger key.now }

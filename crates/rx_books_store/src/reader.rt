@@ -21,7 +21,7 @@ pub(crate) struct Rest {
     totals: Ascending<TotalLine>,
 }
 
-ghost use Rattle.std.specs.Prelude.{◌≡◌, ◌<◌, ◌^◌, [], IfSome, IsTrue, length, map};
+ghost use Rattle.std.specs.Prelude.{◌≡◌, ◌<◌, ◌^◌, [], IfOk, IfSome, IsTrue, length, map};
 ghost use Rattle.std.specs.Arc.{arc_value};
 ghost use Rattle.rx_books_text.specs.Fault.{Gives};
 ghost use Rattle.rx_ledger.specs.Ledger.{IsLedger};
@@ -39,6 +39,7 @@ use crate::kept::Kept;
 use crate::opening::{FamilyName, Opening};
 use rx_books_scan::{Lists, read_lists, read_lists_in_parts};
 use rx_books_text::BooksFault;
+use rx_fields::Memory;
 use std::alloc::Global;
 use std::sync::Arc;
 use std::thread::Threads;
@@ -106,8 +107,8 @@ impl Quick {
     }
 
     // The books, which keep the text if it is one of version 3, and there is memory for that.
-    fn keep(self, alloc: Global, text: Vec<u8>) -> Books
-        requires { IsQuick text.items self }
+    fn keep(self, alloc: Global, text: &Arc<Vec<u8>, Global>) -> Books
+        requires { IsQuick (arc_value text.now).items self }
         ensures { result ≡ self.books.books }
     {
         let Quick {
@@ -209,11 +210,31 @@ impl Books {
         requires { IfSome quick (IsQuick text.items) }
         ensures { Gives result (books_of text.items) }
     {
+        let text = shared(alloc, text)?;
+        Books::shared_or_summed(alloc, &text, quick)
+    }
+
+    /// The same, of a text that is shared.
+    pub(crate) fn shared_or_summed(
+        alloc: Global,
+        text: &Arc<Vec<u8>, Global>,
+        quick: Option<Quick>,
+    ) -> Result<Books, BooksFault>
+        requires { IfSome quick (IsQuick (arc_value text.now).items) }
+        ensures { Gives result (books_of (arc_value text.now).items) }
+    {
         match quick {
             Some(quick) => Ok(quick.keep(alloc, text)),
-            None => Books::read_summed(alloc, &text),
+            None => Books::read_summed(alloc, text.as_slice()),
         }
     }
+}
+
+// The text, to be shared.
+fn shared(alloc: Global, text: Vec<u8>) -> Result<Arc<Vec<u8>, Global>, Memory>
+    ensures { IfOk result (λ arc. (arc_value arc).items ≡ text.items) }
+{
+    Ok(Arc::new(alloc, text)?)
 }
 
 impl OpenBooks {

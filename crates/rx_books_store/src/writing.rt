@@ -5,7 +5,7 @@ ghost use Rattle.rx_io.specs.Pieces.{text_of};
 ghost use Rattle.rx_books_store.specs.BooksText.{above_text, below_text, books_text, claims_text};
 
 use crate::open_books::OpenBooks;
-use crate::patching::put_standing;
+use crate::patching::lent_between;
 use crate::writer::{CLAIM, claims_in_parts, put_members, put_totals};
 use rx_books_text::{Version, put_claim, put_head};
 use rx_fields::Memory;
@@ -68,18 +68,33 @@ impl OpenBooks {
         };
         let mut above = Vec::with_capacity(alloc, self.room_above())?;
         self.put_above(&mut above)?;
-        let mut text = kept.patch(alloc, above)?;
-        put_standing(
-            alloc,
-            &mut text,
-            kept,
-            &self.opening,
-            self.changed.as_slice(),
-        )?;
         let mut below = Vec::new(alloc);
         self.put_below(&mut below)?;
-        text.put(&below)?;
+        let slots = self.changed.as_slice();
+        let text = lent_between(alloc, kept, &self.opening, slots, above, &below)?;
         Ok(Some(text))
+    }
+
+    /// The lines of the claims that stand, after what is above them and before what is below. Where the text is kept that
+    /// the claims were read from, the lines of those that stand unchanged are lent from it.
+    pub fn claims_between(
+        &self,
+        alloc: Global,
+        above: Vec<u8>,
+        below: &[u8],
+    ) -> Result<Pieces, Memory>
+        ensures { IfOk result (λ pieces. text_of pieces ≡ above.items ++ (claims_text self.now.books.ledger.rows ++ below.now)) }
+    {
+        let Some(kept) = self.opening.kept() else {
+            let mut text = above;
+            self.put_claims(&mut text)?;
+            text.extend_from_slice(below)?;
+            let pieces = in_one_piece(alloc, text)?;
+            return Ok(pieces);
+        };
+        let slots = self.changed.as_slice();
+        let text = lent_between(alloc, kept, &self.opening, slots, above, below)?;
+        Ok(Pieces::Patched(text))
     }
 
     // The text, in which each line is written anew.
