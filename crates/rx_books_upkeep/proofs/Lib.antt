@@ -2,12 +2,16 @@ pub mod AgedLedger
 pub mod Ages
 pub mod Carried
 pub mod CountedChanges
+pub mod FamilyLists
+pub mod FiguredText
 pub mod LineFeeds
 pub mod LoadedLedger
 pub mod Loads
 pub mod MergedMembers
+pub mod QuickTables
 pub mod SafeDays
 pub mod TableCuts
 pub mod TableSteps
 pub mod TakenOut
 pub mod Thinned
+pub mod Unlisted

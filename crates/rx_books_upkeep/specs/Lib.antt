@@ -2,7 +2,10 @@
 pub mod Ageing
 pub mod Batches
 pub mod ChangeKinds
+pub mod Figured
+pub mod LoadedText
 pub mod Loading
+pub mod QuickTable
 pub mod Report
 pub mod Table
 pub mod TableAnswer

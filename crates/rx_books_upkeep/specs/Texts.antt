@@ -6,6 +6,7 @@ use Rattle.rx_fields.specs.Numbered.{Span}
 use Rattle.rx_fields.specs.declared.limits.TheConstants.{MOST_LINES}
 use Rattle.rx_ledger.specs.declared.member.Member.{Member}
 use Rattle.rx_ledger.specs.Ledger.{Ledger}
+use Rattle.rx_io.specs.Pieces.{text_of}
 use Rattle.rx_text.specs.Results.{◌>>=◌}
 use Rattle.rx_books_text.specs.declared.version.Version.TheVariants.{Three}
 use Rattle.rx_books_text.specs.Printed.{line_feeds}
@@ -42,7 +43,7 @@ abbrev pub MembersMade : Type 0
 MembersMade = List ℕ × Loaded
 
 abbrev pub seen_members : MembersText → MembersMade
-seen_members done = (done.books.items, done.counts)
+seen_members done = (text_of done.books, done.counts)
 
 -- books that can be read again: they have at most 1,000,000 lines
 abbrev pub readable : MembersMade → Result MembersMade UpkeepFault
@@ -81,7 +82,7 @@ abbrev pub AgedMade : Type 0
 AgedMade = List ℕ × List ℕ × ℕ
 
 abbrev pub seen_aged : AgedText → AgedMade
-seen_aged done = (done.books.items, done.dropped.items, done.left)
+seen_aged done = (text_of done.books, done.dropped.items, done.left)
 
 -- the books without the claims before the day, with the totals of the period
 abbrev pub without_claims : Civil → Span → Ledger → AgedMade

@@ -15,9 +15,13 @@
 
 mod ageing;
 mod change;
+mod families;
+mod figured;
 mod law;
+mod loaded_text;
 mod members;
 mod merging;
+mod quick_table;
 mod report;
 mod safe_day;
 mod table;

@@ -5,6 +5,7 @@ ghost use Rattle.rx_books_text.specs.TextReading.{lines};
 ghost use Rattle.rx_books_upkeep.specs.Table.{headed, listed_at, member_added, member_at, row_read, rows_read, table_of};
 ghost use Rattle.rx_books_upkeep.specs.TableAnswer.{Gives, Takes};
 
+use crate::quick_table::read_readily;
 use crate::table_fault::TableFault;
 use crate::table_line::member_in;
 use memchr::memchr;
@@ -15,9 +16,11 @@ use std::alloc::Global;
 use std::collections::BTreeMap;
 use std::marker::Model;
 
-const LINE_FEED: u8 = b'\n';
+/// What ends a line.
+pub(crate) const LINE_FEED: u8 = b'\n';
 
-const HEADING: &[u8; 24] = b"family\tperson\tfirst\tlast";
+/// The first line.
+pub(crate) const HEADING: &[u8; 24] = b"family\tperson\tfirst\tlast";
 
 /// Where a member is listed, and with which coverage.
 #[derive(Clone, Copy, Debug, PartialEq, Eq)]
@@ -46,6 +49,9 @@ pub fn read_members(alloc: Global, text: &[u8]) -> Result<Ascending<Member>, Tab
 {
     if line_feeds(text) > MOST_LINES {
         return Err(TableFault::TooMuch);
+    }
+    if let Some(list) = read_readily(alloc, text)? {
+        return Ok(list);
     }
     let table = Table::read(alloc, text)?;
     Ok(table.members(alloc)?)

@@ -123,6 +123,17 @@ impl Ending {
         }
     }
 
+    /// The same where a sink failed, with what the system answered last, where that call failed.
+    pub fn of_sink(file: ProgramFile, last: Option<io::Error>) -> Ending {
+        match last {
+            Some(error) => Ending::of_output(file, error),
+            None => Ending::File(FileFault {
+                file,
+                reason: Reason::Unknown,
+            }),
+        }
+    }
+
     /// The ending of a run on devices, with what the system answered last, where that call failed.
     pub fn of_run(fault: IoFault, last: Option<io::Error>) -> Ending {
         let (device, reason) = match fault {

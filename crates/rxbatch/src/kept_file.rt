@@ -4,8 +4,11 @@ use crate::file_fault::ProgramFile;
 use crate::files::names_stream;
 use crate::in_place::LockedFile;
 use crate::nodes::Node;
+use crate::noted_file::{LastError, noted_output};
 use crate::safe_files::{SafeFile, SoFar};
 use crate::streams::stream_of;
+use rx_io::{Failed, Pieces};
+use std::cell::Cell;
 use std::fs::File;
 use std::io::Write;
 
@@ -88,15 +91,44 @@ impl KeptFile {
 
     /// Writes the text, and brings it to the disk.
     pub fn put(&self, name: ProgramFile, text: &[u8]) -> Result<(), Ending> {
+        self.empty(name)?;
+        write_all(self.file(), name, text)?;
+        self.keep()
+    }
+
+    /// The same of a text in pieces.
+    pub fn put_pieces(
+        &self,
+        rt: &HostRuntime,
+        name: ProgramFile,
+        text: &Pieces,
+    ) -> Result<(), Ending> {
+        self.empty(name)?;
+        write_pieces(rt, self.file(), name, text)?;
+        self.keep()
+    }
+
+    // The file that is written.
+    fn file(&self) -> &File {
         match self {
-            KeptFile::InPlace(file) => {
-                file.empty(name)?;
-                write_all(file.file(), name, text)
-            }
-            KeptFile::Beside(file) => {
-                write_all(file.file(), name, text)?;
-                file.keep()
-            }
+            KeptFile::InPlace(file) => file.file(),
+            KeptFile::Beside(file) => file.file(),
+        }
+    }
+
+    // Empties a file that is written where it stands.
+    fn empty(&self, name: ProgramFile) -> Result<(), Ending> {
+        match self {
+            KeptFile::InPlace(file) => file.empty(name),
+            KeptFile::Beside(_) => Ok(()),
+        }
+    }
+
+    // Brings what is written of a file next to the output to the disk.
+    fn keep(&self) -> Result<(), Ending> {
+        match self {
+            KeptFile::InPlace(_) => Ok(()),
+            KeptFile::Beside(file) => file.keep(),
         }
     }
 
@@ -138,6 +170,21 @@ fn refuse_stream(path: &str, name: ProgramFile) -> Result<(), Ending> {
         return Err(Ending::OneFile(name.option(), "standard output"));
     }
     Ok(())
+}
+
+// Writes a text in pieces to a file.
+fn write_pieces(
+    rt: &HostRuntime,
+    file: &File,
+    name: ProgramFile,
+    text: &Pieces,
+) -> Result<(), Ending> {
+    let last: LastError = Cell::new(None);
+    let mut sink = noted_output(file, &last);
+    match text.write_to(rt.alloc(), &mut sink) {
+        Ok(()) => Ok(()),
+        Err(Failed) => Err(Ending::of_sink(name, last.get())),
+    }
 }
 
 /// Writes the text to a file.

@@ -3,7 +3,7 @@ use crate::ending::Ending;
 use crate::file_fault::ProgramFile;
 use crate::kept_file::KeptFile;
 use crate::nodes::Node;
-use rx_io::Device;
+use rx_io::{Device, Pieces};
 
 const END_BOOKS: ProgramFile = ProgramFile::Of(Device::EndBooks);
 
@@ -12,7 +12,7 @@ const END_BOOKS: ProgramFile = ProgramFile::Of(Device::EndBooks);
 #[derive(Clone, Copy)]
 pub struct TwoOutputs<'a> {
     pub books_out: &'a str,
-    pub books: &'a [u8],
+    pub books: &'a Pieces,
     pub other: &'a str,
     pub name: ProgramFile,
     pub text: &'a [u8],
@@ -82,7 +82,7 @@ impl<'a> TwoOutputs<'a> {
         other: &mut KeptFile,
     ) -> Result<(), Ending> {
         other.put(self.name, self.text)?;
-        end_books.put(END_BOOKS, self.books)?;
+        end_books.put_pieces(rt, END_BOOKS, self.books)?;
         other.take_path(rt)?;
         end_books.take_path(rt)
     }

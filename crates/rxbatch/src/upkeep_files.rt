@@ -15,9 +15,10 @@ use rx_books_upkeep::{
 };
 use rx_cli::{AgeWords, MembersWords, Origin, Percent};
 use rx_fields::{Day, Memory, date_write};
-use rx_io::Device;
+use rx_io::{Device, Pieces};
 use std::alloc::Global;
 use std::fs::File;
+use std::sync::Arc;
 use std::thread::Threads;
 
 const BOOKS: ProgramFile = ProgramFile::Of(Device::Books);
@@ -40,7 +41,10 @@ pub fn members<R: Threads + Sync>(
                 loaded(rt, threads, words, path, &books, &table)?,
             )
         }
-        Origin::Period(period) => (Node::Other, first_books(rt, words, period, &table)?),
+        Origin::Period(period) => (
+            Node::Other,
+            first_books(rt, threads, words, period, &table)?,
+        ),
     };
     let inputs = [(BOOKS, books_node), (ProgramFile::Members, table_node)];
     write_members(rt, words, &inputs, &done)?;
@@ -58,7 +62,7 @@ fn loaded<R: Threads + Sync>(
     books: &File,
     table: &File,
 ) -> Result<MembersText, Ending> {
-    let books = text_in(rt, books, path, Device::Books)?;
+    let books = shared_text(rt, books, path)?;
     let table = table_in(rt, table, words.members)?;
     let parts = usize::from(workers_or_all(threads, None));
     members_text(threads, rt.alloc(), parts, &books, &table).map_err(|fault| {
@@ -72,20 +76,27 @@ fn loaded<R: Threads + Sync>(
 }
 
 // The first books of a plan.
-fn first_books(
+fn first_books<R: Threads + Sync>(
     rt: &HostRuntime,
+    threads: &R,
     words: &MembersWords<'_>,
     period: &str,
     table: &File,
 ) -> Result<MembersText, Ending> {
     let period = period_in(period)?;
     let table = table_in(rt, table, words.members)?;
-    match founded_text(rt.alloc(), period, &table) {
+    match founded_text(threads, rt.alloc(), period, &table) {
         Ok(done) => Ok(done),
         Err(fault) => Err(Given::of_table(words.members, &table, words.books_out).refused(
             rt, fault,
         )),
     }
+}
+
+// The whole text of opened books, to be shared with the end books.
+fn shared_text(rt: &HostRuntime, books: &File, path: &str) -> Result<Arc<Vec<u8>, Global>, Ending> {
+    let text = text_in(rt, books, path, Device::Books)?;
+    Ok(Arc::new(rt.alloc(), text).map_err(|_| Memory)?)
 }
 
 fn open_table(rt: &HostRuntime, path: &str) -> Result<File, Ending> {
@@ -109,7 +120,7 @@ fn write_members(
     done: &MembersText,
 ) -> Result<(), Ending> {
     let Some(report) = words.report else {
-        let put = write_books(rt, words, inputs, &done.books);
+        let put = write_books(rt, words.books_out, words.safe, inputs, &done.books);
         return put.map_err(|ending| ending.at_path(rt, words.books_out));
     };
     let text = changes_text(rt.alloc(), &done.changes)?;
@@ -127,13 +138,14 @@ fn write_members(
 // Writes the end books, which are no file of these.
 fn write_books(
     rt: &HostRuntime,
-    words: &MembersWords<'_>,
+    path: &str,
+    safe: bool,
     inputs: &[(ProgramFile, Node); 2],
-    text: &[u8],
+    text: &Pieces,
 ) -> Result<(), Ending> {
     let [(_, books), (_, table)] = *inputs;
     let kept = [books, table];
-    let mut file = KeptFile::open(rt, words.books_out, END_BOOKS, words.safe, &kept)?;
+    let mut file = KeptFile::open(rt, path, END_BOOKS, safe, &kept)?;
     if let Some(ending) = file.twice(rt, END_BOOKS, inputs.as_slice()) {
         file.remove_made(rt);
         return Err(ending);
@@ -144,8 +156,8 @@ fn write_books(
     ended
 }
 
-fn written(rt: &HostRuntime, file: &mut KeptFile, text: &[u8]) -> Result<(), Ending> {
-    file.put(END_BOOKS, text)?;
+fn written(rt: &HostRuntime, file: &mut KeptFile, text: &Pieces) -> Result<(), Ending> {
+    file.put_pieces(rt, END_BOOKS, text)?;
     file.take_path(rt)
 }
 
@@ -176,7 +188,7 @@ pub fn age<R: Threads + Sync>(
     };
     let books = opened(rt, words.books, Device::Books)?;
     let node = Node::of(&books);
-    let text = text_in(rt, &books, words.books, Device::Books)?;
+    let text = shared_text(rt, &books, words.books)?;
     let parts = usize::from(workers_or_all(threads, None));
     let done = match age_text(threads, rt.alloc(), parts, &text, before, period, percent) {
         Ok(done) => done,
