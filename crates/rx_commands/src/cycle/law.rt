@@ -60,7 +60,7 @@ pub fn settled_back<R: Threads + Sync>(
 ///
 /// # Errors
 ///
-/// Those of a run; there is no response file then.
+/// Those of a run; no response file is written then.
 pub fn run_settled_back<R: Threads + Sync>(
     rt: &R,
     alloc: Global,
