@@ -64,6 +64,7 @@ cases: kit cc
 	python3 tests/run_report.py $(PROGRAM)
 	python3 tests/run_upkeep.py $(PROGRAM)
 	python3 tests/run_family.py $(PROGRAM)
+	python3 tests/run_excerpt.py $(PROGRAM)
 	test -x $(TRIALS) || (cd crates/rx_bench && rt run -- orders 1 > /dev/null)
 	python3 tests/run_failing.py $(PROGRAM)
 	python3 tests/refused_memory.py $(PROGRAM)

@@ -22,8 +22,8 @@ STATUSES = [
     ("1", "An input is refused: the line \"refused N M P\" on standard error, or \"response M P\" or \"reply M P\" for a response file."),
     ("2", "The arguments aren't understood or ask for help, or two options of run lead to one file."),
     ("3", "A file failed: the line \"file K\" on standard error."),
-    ("4", "check: warnings, and no fault. adjudicate: a warning stops it. explain, family, fault: nothing of the kind."),
-    ("5", "verify: a file differs from the run's. explain: the response file doesn't have this reply."),
+    ("4", "check: warnings, and no fault. adjudicate: a warning stops it. explain, excerpt, family, fault: nothing of the kind; excerpt: the folder is there."),
+    ("5", "verify: a file differs from the run's. explain, excerpt: the response file doesn't have this reply."),
 ]
 # The numbers of the lines on standard error.
 DIAGNOSTICS = [
@@ -32,7 +32,7 @@ DIAGNOSTICS = [
                       "batch. The words follow; of run, show and plan "
                       "with -v or on a terminal. fault N M P prints them."),
     ("file K", "K: 1 sheet, 2 books, 3 batch, 4 response, 5 end books, 6 settlement, 7 log, 8 members table, 9 claims that left, "
-               "10 a page of a report, 11 members report, 0 standard output."),
+               "10 a page of a report, 11 members report, 12 a file of an excerpt, 0 standard output."),
 ]
 FILES = [
     ("plan sheet", "TOML: the plan's BIN and processor control number, period, figures, tiers and drugs."),
@@ -63,6 +63,8 @@ EXAMPLES = [
      "rxbatch fault 4 5 6"),
     ("Why was the second record answered so?",
      "rxbatch explain --sheet sheet.toml --books books.txt --batch batch.bin --record 2"),
+    ("The same as a job of its own, to send to who disputes it:",
+     "rxbatch excerpt --sheet sheet.toml --books books.txt --batch batch.bin --record 2 --out record-2"),
 ]
 
 

@@ -13,6 +13,7 @@ INPUTS = ("--sheet=s", "--books=b", "--batch=c")
 OUTPUTS = ("--stamp=d", "--response=e", "--books-out=f", "--settlement=g")
 RUN = ("run", *INPUTS, *OUTPUTS)
 EXPLAIN = ("explain", *INPUTS)
+EXCERPT = ("excerpt", *INPUTS, "--out=o")
 ADJUDICATE = ("adjudicate", *INPUTS, "--out=o")
 REPORT = ("report", *INPUTS)
 VERIFY = ("verify", *INPUTS, *OUTPUTS)
@@ -45,6 +46,9 @@ REFUSED = (
     *(((*EXPLAIN, word), "error: expected only digits after '--record', '--number' and '--rx'", "Usage: rxbatch explain ")
       for word in ("--record=x", "--record=", "--record=5.", "--record=.1", "--record=1.2.3", "--record=+1", "--number=12a",
                    "--number=", "--rx=4-1", "--rx= 4")),
+    (EXCERPT, "error: the following required arguments were not provided:\n  --record <PLACE>\n", "Usage: rxbatch excerpt "),
+    *(((*EXCERPT, word), "error: expected only digits after '--record': an excerpt is of a whole record, as 5\n\n",
+       "Usage: rxbatch excerpt ") for word in ("--record=x", "--record=", "--record=5.1", "--record=+1")),
     ((*EXPLAIN, "--record=4", "--provider=P1"), "error: ", "\n\nUsage: rxbatch explain "),
     ((*EXPLAIN, "--number=1", "--rx=412"), "error: ", "\n\nUsage: rxbatch explain "),
     ((*REPORT, "--family=F1", "--provider=P1"), "error: ", "\n\nUsage: rxbatch report "),

@@ -1,9 +1,9 @@
 -- A command of a name.
 use Rattle.std.proofs.Common.{◌≡◌, ◌∙◌, ◌<◌, ℕ, List, [], ◌∷◌, codes, sym, ap, arith}
 use Rattle.clap.specs.Words.{Row, Text}
-use Rattle.rx_cli.specs.Asked.{HoldsFault, HoldsNamed, NoneHolds}
+use Rattle.rx_cli.specs.Asked.{HoldsExcerpt, HoldsFault, HoldsNamed, NoneHolds}
 use Rattle.rx_cli.specs.declared.asked.Command.TheVariants.{Run, Show, Plan, Sample, Check, Explain, Verify, Report, Replies}
-use Rattle.rx_cli.specs.declared.asked.Command.TheVariants.{Adjudicate, Age, Fault, Members, Settle, ShowFamily}
+use Rattle.rx_cli.specs.declared.asked.Command.TheVariants.{Adjudicate, Age, Excerpt, Fault, Members, Settle, ShowFamily}
 
 -- the first letter
 letter : Text → ℕ
@@ -31,6 +31,8 @@ no_fault_named name rows is none Sample h =
     below 102 115 (ap letter (sym is ∙ h)) (omega arith)
 no_fault_named name rows is none (Check k) h =
     below 99 102 (ap letter (sym h.0 ∙ is)) (omega arith)
+no_fault_named name rows is none (Excerpt e) h =
+    below 101 102 (ap letter (sym h.0 ∙ is)) (omega arith)
 no_fault_named name rows is none (Explain e) h =
     below 101 102 (ap letter (sym h.0 ∙ is)) (omega arith)
 no_fault_named name rows is none (Verify v) h =
@@ -50,3 +52,39 @@ no_fault_named name rows is none (Replies p) h =
 no_fault_named name rows is none (Settle s) h =
     below 102 115 (ap letter (sym is ∙ h.0)) (omega arith)
 no_fault_named name rows is none (Fault f) h = none f h.1
+
+-- and where no words of an excerpt are held, none is the one of that name
+pub no_excerpt_named : (name : Text) (rows : List Row) → name ≡ codes "excerpt" → NoneHolds (HoldsExcerpt rows)
+    → NoneHolds (HoldsNamed name rows)
+unfolding letter third
+no_excerpt_named name rows is none (Run r) h =
+    below 101 114 (ap letter (sym is ∙ h.0)) (omega arith)
+no_excerpt_named name rows is none (Show s) h =
+    below 101 115 (ap letter (sym is ∙ h.0)) (omega arith)
+no_excerpt_named name rows is none (Plan i) h =
+    below 101 112 (ap letter (sym is ∙ h.0)) (omega arith)
+no_excerpt_named name rows is none Sample h =
+    below 101 115 (ap letter (sym is ∙ h)) (omega arith)
+no_excerpt_named name rows is none (Check k) h =
+    below 99 101 (ap letter (sym h.0 ∙ is)) (omega arith)
+no_excerpt_named name rows is none (Explain e) h =
+    below 99 112 (ap third (sym is ∙ h.0)) (omega arith)
+no_excerpt_named name rows is none (Verify v) h =
+    below 101 118 (ap letter (sym is ∙ h.0)) (omega arith)
+no_excerpt_named name rows is none (Report r) h =
+    below 101 114 (ap letter (sym is ∙ h.0)) (omega arith)
+no_excerpt_named name rows is none (Adjudicate a) h =
+    below 97 101 (ap letter (sym h.0 ∙ is)) (omega arith)
+no_excerpt_named name rows is none (Members m) h =
+    below 101 109 (ap letter (sym is ∙ h.0)) (omega arith)
+no_excerpt_named name rows is none (Age a) h =
+    below 97 101 (ap letter (sym h.0 ∙ is)) (omega arith)
+no_excerpt_named name rows is none (ShowFamily f) h =
+    below 101 102 (ap letter (sym is ∙ h.0)) (omega arith)
+no_excerpt_named name rows is none (Replies p) h =
+    below 101 114 (ap letter (sym is ∙ h.0)) (omega arith)
+no_excerpt_named name rows is none (Settle s) h =
+    below 101 115 (ap letter (sym is ∙ h.0)) (omega arith)
+no_excerpt_named name rows is none (Fault f) h =
+    below 101 102 (ap letter (sym is ∙ h.0)) (omega arith)
+no_excerpt_named name rows is none (Excerpt e) h = none e h.1

@@ -13,7 +13,8 @@ use Rattle.rx_io.specs.declared.files.Outputs.{Outputs}
 use Rattle.rx_cli.specs.Paths.{has_twice, paths_of}
 use Rattle.rx_cli.specs.declared.asked.Command.{Command}
 use Rattle.rx_cli.specs.declared.asked.Command.TheVariants.{Run, Show, Plan, Sample, Check, Explain, Verify, Report, Replies}
-use Rattle.rx_cli.specs.declared.asked.Command.TheVariants.{Adjudicate, Age, Fault, Members, Settle, ShowFamily}
+use Rattle.rx_cli.specs.declared.asked.Command.TheVariants.{Adjudicate, Age, Excerpt, Fault, Members, Settle, ShowFamily}
+use Rattle.rx_cli.specs.declared.dispute.ExcerptWords.{ExcerptWords}
 use Rattle.rx_cli.specs.declared.people.AdjudicateWords.{AdjudicateWords}
 use Rattle.rx_cli.specs.declared.people.FaultNumbers.{FaultNumbers}
 use Rattle.rx_cli.specs.declared.asked.RunWords.{RunWords}
@@ -218,6 +219,13 @@ pub record HoldsSettle (rows : List Row) (s : SettleWords) : Type 0 where
   pub responses : HasTexts rows (codes "response") (map (λ t. t.now) s.responses.items)
   pub provider : MayHaveText rows (codes "provider") s.provider
 
+-- what `excerpt` takes is the values of its options
+pub record HoldsExcerpt (rows : List Row) (e : ExcerptWords) : Type 0 where
+  pub inputs : HoldsInputs rows e.inputs
+  pub place : HasLongNumber rows (codes "record") e.place
+  pub out : HasText rows (codes "out") e.out.now
+  pub response : MayHaveText rows (codes "response") e.response
+
 -- the three numbers of a refusal
 pub record HoldsFault (rows : List Row) (f : FaultNumbers) : Type 0 where
   pub kind : HasLongNumber rows (codes "N") f.kind
@@ -281,6 +289,7 @@ HoldsNamed name rows (Plan i) = (name ≡ codes "plan") × HoldsInputs rows i
 HoldsNamed name rows Sample = name ≡ codes "sample"
 HoldsNamed name rows (Check c) = (name ≡ codes "check") × HoldsCheck rows c
 HoldsNamed name rows (Explain e) = (name ≡ codes "explain") × HoldsExplain rows e
+HoldsNamed name rows (Excerpt e) = (name ≡ codes "excerpt") × HoldsExcerpt rows e
 HoldsNamed name rows (Verify v) = (name ≡ codes "verify") × HoldsVerify rows v
 HoldsNamed name rows (Report r) = (name ≡ codes "report") × HoldsReport rows r
 HoldsNamed name rows (Adjudicate a) = (name ≡ codes "adjudicate") × HoldsAdjudicate rows a

@@ -187,6 +187,15 @@ abbrev pub with_retracing : App → App
 with_retracing line = with_subcommand (with_subcommand (with_subcommand (with_subcommand (with_subcommand (with_subcommand
     line check_line.top) explain_line.top) verify_line.top) report_line.top) replies_line.top) settle_line.top
 
+-- `excerpt --sheet F --books F --batch F --record P --out DIR [--response F]`
+abbrev pub excerpt_line : App
+excerpt_line = with_rule (with_rule (with_rule (with_inputs (new_app (codes "excerpt"))) (required_option (codes "record")))
+    (required_option (codes "out"))) (optional_option (codes "response"))
+
+-- the line with the subcommands for disputes
+abbrev pub with_disputes : App → App
+with_disputes line = with_subcommand line excerpt_line.top
+
 -- the line with the subcommands that people need and no program
 abbrev pub with_people : App → App
 with_people line = with_subcommand (with_subcommand line adjudicate_line.top) fault_line.top
@@ -197,7 +206,7 @@ with_upkeep line = with_subcommand (with_subcommand (with_subcommand line member
 
 -- `rxbatch run ..` and so on, or `rxbatch --version`
 abbrev pub whole_line : App
-whole_line = with_upkeep (with_people (with_retracing (with_adjudication program)))
+whole_line = with_upkeep (with_people (with_disputes (with_retracing (with_adjudication program))))
 
 -- no option of the line is one of its subcommands' too
 abbrev pub IsLocal : Command → Type 0

@@ -2,6 +2,7 @@
 ghost use Rattle.std.specs.Prelude.{◌≡◌, map};
 ghost use Rattle.rx_cli.specs.Paths.{files_of, has_twice, paths_of};
 
+use crate::dispute::ExcerptWords;
 use crate::paths::has_one_twice;
 use crate::people::{AdjudicateWords, FaultNumbers};
 use crate::retrace::{ExplainWords, ReportWords, VerifyWords};
@@ -89,6 +90,8 @@ pub enum Command<'a> {
     Check(CheckWords<'a>),
     /// `explain`: why a transaction was answered so.
     Explain(ExplainWords<'a>),
+    /// `excerpt`: a record with what its answer hangs on.
+    Excerpt(ExcerptWords<'a>),
     /// `verify`: whether the outputs are those of the inputs.
     Verify(VerifyWords<'a>),
     /// `report`: a line for each answer, by provider.

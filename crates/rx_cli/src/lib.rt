@@ -19,6 +19,9 @@
 #![tactic(auto)]
 
 mod asked;
+mod dispute;
+mod dispute_syntax;
+mod dispute_words;
 mod draft;
 mod fault;
 mod misuse;
@@ -37,6 +40,7 @@ mod upkeep_syntax;
 mod words;
 
 pub use asked::{CheckWords, Command, RunWords, ShowWords};
+pub use dispute::ExcerptWords;
 pub use fault::WordsFault;
 pub use people::{AdjudicateWords, FaultNumbers};
 pub use retrace::{Asked, ExplainWords, Form, Portion, ReportWords, VerifyWords};

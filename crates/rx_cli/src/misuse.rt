@@ -3,6 +3,7 @@ ghost use Rattle.std.specs.Prelude.{◌≡◌, IfOk};
 ghost use Rattle.clap.specs.Words.{kind_of};
 ghost use Rattle.rx_cli.specs.Faults.{IsMisuse, IsMisuseOfOne, misuse_of};
 
+use crate::dispute_syntax::excerpt;
 use crate::fault::WordsFault;
 use crate::options::text;
 use crate::people_syntax::{adjudicate, fault as fault_line};
@@ -72,6 +73,14 @@ fn explain_no_number(alloc: Global) -> WordsFault
         "expected only digits after '--record', '--number' and '--rx', or after '--record' two numbers \
                 with a point between them, as 5.3";
     invalid(explain(alloc).line(), "rxbatch explain", text)
+}
+
+/// The fault of `excerpt` with a record that isn't a number.
+pub(crate) fn excerpt_no_number(alloc: Global) -> WordsFault
+    ensures { IsMisuse ErrorKind.ValueValidation result }
+{
+    let text = "expected only digits after '--record': an excerpt is of a whole record, as 5";
+    invalid(excerpt(alloc).line(), "rxbatch excerpt", text)
 }
 
 fn explain_conflict(alloc: Global) -> WordsFault

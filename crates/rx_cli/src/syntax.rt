@@ -7,6 +7,7 @@ ghost use Rattle.rx_cli.specs.Syntax.{check_line, plan_line, run_line, show_line
 ghost use Rattle.rx_cli.specs.Syntax.{explain_line, replies_line, report_line, verify_line, with_retracing};
 ghost use Rattle.rx_cli.specs.Syntax.{whole_line, with_asked, with_forms, with_reader, with_verify_options};
 
+use crate::dispute_syntax::takes_disputes;
 use crate::draft::Draft;
 use crate::people_syntax::takes_people;
 use crate::settle_options::settle_line;
@@ -372,6 +373,7 @@ pub(crate) fn line<'a>(alloc: Global) -> Result<Line<'a>, AllocError>
         .version(VERSION);
     let adjudicates = takes_adjudication(alloc, Draft::of(top));
     let retraces = takes_retracing(alloc, adjudicates);
-    let peopled = takes_people(alloc, retraces);
+    let disputed = takes_disputes(alloc, retraces);
+    let peopled = takes_people(alloc, disputed);
     takes_upkeep(alloc, peopled).line()
 }

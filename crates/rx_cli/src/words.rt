@@ -6,10 +6,11 @@ ghost use Rattle.rx_cli.specs.Asked.{Holds, HoldsCheck, HoldsNamed, HoldsRun, Ho
 ghost use Rattle.rx_cli.specs.Faults.{IsWords};
 
 use crate::asked::{CheckWords, Command, RunWords, ShowWords};
+use crate::dispute_words::excerpt;
 use crate::fault::WordsFault;
 use crate::misuse::{
-    age_conflict, explain_misuse, family_conflict, fault_no_number, members_conflict,
-    report_conflict, run_miscounted, verify_miscounted,
+    age_conflict, excerpt_no_number, explain_misuse, family_conflict, fault_no_number,
+    members_conflict, report_conflict, run_miscounted, verify_miscounted,
 };
 use crate::options::{flag, inputs, number_if_given, outputs, text};
 use crate::people_words::{adjudicate_taken, fault};
@@ -97,6 +98,10 @@ fn named<'a>(alloc: Global, name: &str, found: &ArgMatches<'a>) -> Result<Comman
             None => Err(WordsFault::Words(None)),
         },
         "sample" => Ok(Command::Sample),
+        "excerpt" => match excerpt(found) {
+            Some(excerpt) => Ok(Command::Excerpt(excerpt)),
+            None => Err(excerpt_no_number(alloc)),
+        },
         "check" => match check(found) {
             Some(check) => Ok(Command::Check(check)),
             None => Err(WordsFault::Words(None)),

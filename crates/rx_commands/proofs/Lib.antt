@@ -7,6 +7,12 @@ pub mod CycleOnce
 pub mod CycleRead
 pub mod CycleRun
 pub mod EachExplained
+pub mod EmptyRecords
+pub mod ExcerptBooks
+pub mod ExcerptLaw
+pub mod ExcerptLedgers
+pub mod ExcerptPlans
+pub mod ExcerptTop
 pub mod FamilyClaims
 pub mod FamilyLaws
 pub mod FamilyPassed
@@ -19,6 +25,7 @@ pub mod Listed
 pub mod MembersBack
 pub mod NoResponse
 mod Places
+pub mod PlainParts
 pub mod ProductNames
 pub mod Replied
 pub mod Same

@@ -6,6 +6,9 @@ pub mod Courses
 pub mod Cycle
 pub mod CycleSteps
 pub mod Difference
+pub mod ExcerptParts
+pub mod ExcerptReadme
+pub mod Excerpts
 pub mod ExplainFault
 pub mod Explaining
 pub mod Families

@@ -16,6 +16,7 @@
 //!   exactly where they are what the rules of docs/ make of the inputs (`specs/Verified.antt`, `specs/Verdict.antt`).
 //! - `settle_cycle` has the settlement of the batches that response files answer, from nothing else (`specs/Cycle.antt`);
 //!   of a run's response file it is that run's settlement (`run_settled_back`).
+//! - `excerpt_record` has the inputs that one record hangs on, as a job of its own that answers it alike (`specs/Excerpts.antt`).
 //! - `show_table` has the table of `show --tsv`.
 //! - Module `family` shows a family of books: `show_family` (`specs/FamilyShown.antt`).
 //! - Module `replay` has what `report` and `explain` stand on: a batch replayed, with explanations of any of its transactions.
@@ -36,6 +37,7 @@ mod asked_words;
 mod batch_report;
 mod cycle;
 mod difference;
+mod excerpts;
 mod explain_fault;
 mod explanations;
 pub mod family;
@@ -60,6 +62,7 @@ pub use asked_words::{
 };
 pub use cycle::{CycleFault, run_settled_back, settle_cycle, settled_back};
 pub use difference::first_difference;
+pub use excerpts::{Excerpt, ExcerptFault, excerpt_record, law_of_excerpts};
 pub use explain_fault::ExplainFault;
 pub use explanations::explain;
 pub use folder::{PrintedFolder, report_folder};

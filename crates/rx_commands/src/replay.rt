@@ -13,11 +13,13 @@
 //! Which transactions are asked for is left to the caller, and so are words for people.
 
 mod batch;
+mod before;
 mod course;
 mod explaining;
 mod record;
 mod replaying;
 
 pub use batch::{Adjudicated, Batch};
+pub use before::books_after;
 pub use explaining::{Pass, explain_each, explanations, traced};
 pub use replaying::{Explained, Replayed, replay};

@@ -44,8 +44,8 @@ impl Tiers {
         }
     }
 
-    // The name of a product's tier, as its entry has it.
-    fn name(&self, product: Product) -> Option<&str>
+    /// The name of a product's tier, as its entry has it.
+    pub(crate) fn name(&self, product: Product) -> Option<&str>
         ensures { option_copied result ≡ tier_name (table_of self.now) product }
     {
         tier_in(self.sheet.as_ref()?, product)

@@ -155,20 +155,16 @@ pub fn explain<R: Threads + Sync>(
     words: &ExplainWords<'_>,
 ) -> Result<(), Ending> {
     let reader = reader_by(words.for_provider)?;
-    let texts = read_each(rt, &words.inputs)?;
-    let response = match words.response {
-        None => None,
-        Some(path) => Some(text_of(rt, path, Device::Response)?),
-    };
+    let (texts, response) = read_explained(rt, &words.inputs, words.response)?;
     let given = response.as_ref().map(|text| text.as_slice());
     let printed = explained(rt, threads, words, &texts, reader, given);
-    let printed = printed.map_err(|fault| not_explained(
-        rt,
-        words,
-        &texts,
-        response.as_ref(),
-        fault,
-    ));
+    let files = ExplainedFiles {
+        paths: &words.inputs,
+        texts: &texts,
+        path: words.response,
+        response: response.as_ref(),
+    };
+    let printed = printed.map_err(|fault| files.refused(rt, fault));
     drop((texts, response));
     print_outcome(rt, printed?)
 }
@@ -208,20 +204,39 @@ fn reader_by(id: Option<&str>) -> Result<Option<Provider>, Ending> {
     }
 }
 
-// The ending where an input or the response file is refused.
-fn not_explained(
+/// Reads the inputs, and the response file, if there is one.
+pub fn read_explained(
     rt: &HostRuntime,
-    words: &ExplainWords<'_>,
-    texts: &Inputs<Vec<u8>>,
-    response: Option<&Vec<u8>>,
-    fault: ExplainFault,
-) -> Ending {
-    match (fault, words.response, response) {
-        (ExplainFault::Refused(fault), _, _) => refused(rt, &words.inputs, texts, fault),
-        (ExplainFault::Response(fault), Some(path), Some(text)) => {
-            refused_response(rt, path, text, fault)
+    inputs: &Inputs<&str>,
+    path: Option<&str>,
+) -> Result<(Inputs<Vec<u8>>, Option<Vec<u8>>), Ending> {
+    let texts = read_each(rt, inputs)?;
+    let response = match path {
+        None => None,
+        Some(path) => Some(text_of(rt, path, Device::Response)?),
+    };
+    Ok((texts, response))
+}
+
+/// What a record is explained of: the inputs and their paths, the path of a response file and its text, if there is one.
+#[derive(Clone, Copy)]
+pub struct ExplainedFiles<'a> {
+    pub paths: &'a Inputs<&'a str>,
+    pub texts: &'a Inputs<Vec<u8>>,
+    pub path: Option<&'a str>,
+    pub response: Option<&'a Vec<u8>>,
+}
+
+impl<'a> ExplainedFiles<'a> {
+    /// The ending where an input or the response file is refused.
+    pub fn refused(self, rt: &HostRuntime, fault: ExplainFault) -> Ending {
+        match (fault, self.path, self.response) {
+            (ExplainFault::Refused(fault), _, _) => refused(rt, self.paths, self.texts, fault),
+            (ExplainFault::Response(fault), Some(path), Some(text)) => {
+                refused_response(rt, path, text, fault)
+            }
+            (ExplainFault::Response(fault), _, _) => Ending::of_response(fault),
         }
-        (ExplainFault::Response(fault), _, _) => Ending::of_response(fault),
     }
 }
 

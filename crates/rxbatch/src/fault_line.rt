@@ -30,6 +30,7 @@ pub fn file_words(
         | ProgramFile::Members
         | ProgramFile::Dropped
         | ProgramFile::Page
+        | ProgramFile::Excerpt
         | ProgramFile::Report => "",
     };
     fault.words(rt.alloc(), path)

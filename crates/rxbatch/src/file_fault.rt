@@ -20,6 +20,8 @@ pub enum ProgramFile {
     Report,
     /// A page of a report.
     Page,
+    /// A file of an excerpt.
+    Excerpt,
     /// Standard output.
     Output,
 }
@@ -34,6 +36,7 @@ impl ProgramFile {
             ProgramFile::Dropped => 9,
             ProgramFile::Page => 10,
             ProgramFile::Report => 11,
+            ProgramFile::Excerpt => 12,
             ProgramFile::Output => 0,
         }
     }
@@ -47,6 +50,7 @@ impl ProgramFile {
             ProgramFile::Dropped => "--dropped",
             ProgramFile::Page => "--html-dir",
             ProgramFile::Report => "--report",
+            ProgramFile::Excerpt => "--out",
             ProgramFile::Output => "standard output",
         }
     }

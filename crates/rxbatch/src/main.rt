@@ -10,6 +10,8 @@
 //! rxbatch check --sheet F [--books F] [--batch F]   the faults of these files in words, and warnings
 //! rxbatch explain --sheet F --books F --batch F (--record P[.N] | --number A | --rx R [--provider ID])
 //!     [--response F] [--json] [--for-provider ID]   why a claim was answered as it was
+//! rxbatch excerpt --sheet F --books F --batch F --record P --out DIR [--response F]
+//!                                                   a record with what it hangs on, a job of its own
 //! rxbatch verify --sheet F --books F --batch F --stamp S --response F --books-out F --settlement F [--plain]
 //!     [--desk] [--workers N]                        whether the files of a run are what it gives
 //! rxbatch report --sheet F --books F --batch F [--stamp S] [--provider ID | --family ID | --for-provider ID] [--tsv | --json | --jsonl |
@@ -38,6 +40,7 @@ mod check_files;
 mod code_counts;
 mod commands;
 mod ending;
+mod excerpt_files;
 mod family_files;
 mod fault_line;
 mod file_fault;
@@ -114,6 +117,7 @@ fn perform<R: Threads + Wait + Sync>(rt: &HostRuntime, threads: &R) -> Result<()
         Ok(Command::Plan(words)) => for_programs(rt, commands::plan(rt, &words)),
         Ok(Command::Check(words)) => check_files::check(rt, &words),
         Ok(Command::Explain(words)) => commands::explain(rt, threads, &words),
+        Ok(Command::Excerpt(words)) => excerpt_files::excerpt(rt, threads, &words),
         Ok(Command::Verify(words)) => commands::verify(rt, threads, &words),
         Ok(Command::Report(words)) => commands::report(rt, threads, &words),
         Ok(Command::Members(words)) => upkeep_files::members(rt, threads, &words),

@@ -34,7 +34,7 @@ pub fn write_pages(
     let mut last = None;
     for page in pages.iter().rev() {
         let path = path_of(rt, folder, page)?;
-        if let Err(ending) = write_page(rt, path.as_str(), &page.text) {
+        if let Err(ending) = write_file(rt, PAGE, path.as_str(), &page.text) {
             return Err(ending.at_path(rt, path.as_str()));
         }
         last = Some(path);
@@ -77,17 +77,23 @@ fn path_of(rt: &HostRuntime, folder: &str, page: &PageFile) -> Result<PathBuf, A
     Path::new(folder).join(rt.alloc(), name)
 }
 
-fn write_page(rt: &HostRuntime, path: &str, text: &[u8]) -> Result<(), Ending> {
+/// Writes a text to a path, which leads to it once it is whole.
+pub fn write_file(
+    rt: &HostRuntime,
+    kind: ProgramFile,
+    path: &str,
+    text: &[u8],
+) -> Result<(), Ending> {
     let so_far = SoFar {
         kept: &[],
         made: &[],
     };
-    let mut file = match SafeFile::open(rt, path, PAGE, &so_far) {
+    let mut file = match SafeFile::open(rt, path, kind, &so_far) {
         Ok(file) => file,
-        Err(Ending::NotPlain(_)) => return Err(Ending::of_output(PAGE, not_plain())),
+        Err(Ending::NotPlain(_)) => return Err(Ending::of_output(kind, not_plain())),
         Err(ending) => return Err(ending),
     };
-    let done = written(rt, &mut file, text);
+    let done = written(rt, kind, &mut file, text);
     file.discard(rt);
     done
 }
@@ -96,7 +102,12 @@ fn not_plain() -> io::Error {
     io::Error::new(ErrorKind::InvalidInput, "it isn't a regular file")
 }
 
-fn written(rt: &HostRuntime, file: &mut SafeFile, text: &[u8]) -> Result<(), Ending> {
-    write_all(file.file(), PAGE, text)?;
+fn written(
+    rt: &HostRuntime,
+    kind: ProgramFile,
+    file: &mut SafeFile,
+    text: &[u8],
+) -> Result<(), Ending> {
+    write_all(file.file(), kind, text)?;
     file.rename(rt)
 }

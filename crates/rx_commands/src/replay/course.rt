@@ -3,6 +3,7 @@ ghost use Rattle.rx_fields.specs.declared.limits.TheConstants.{MOST_DETAILS};
 ghost use Rattle.rx_commands.specs.Courses.{IsCourse};
 
 use crate::replay::batch::Batch;
+use rx_books_store::Books;
 use rx_d0_values::Reply;
 use rx_fields::Memory;
 use rx_serial::InOrder;
@@ -24,6 +25,15 @@ impl Course {
         let Course { order, replies, .. } = self;
         drop(order);
         replies
+    }
+
+    /// The books so far, once no more records are done.
+    pub(crate) fn into_books(self) -> Books
+        ensures { result ≡ self.order.books }
+    {
+        let Course { order, replies, .. } = self;
+        drop(replies);
+        order.close()
     }
 }
 

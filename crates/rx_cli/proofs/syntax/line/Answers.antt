@@ -1,6 +1,6 @@
 use Rattle.std.proofs.Common.{◌∙◌, ap}
 use Rattle.clap.specs.Simple.{app_of_fields}
-use Rattle.rx_cli.specs.Syntax.{program, whole_line, with_adjudication, with_people, with_retracing}
+use Rattle.rx_cli.specs.Syntax.{program, whole_line, with_adjudication, with_disputes, with_people, with_retracing}
 use Rattle.rx_cli.specs.Syntax.{with_subcommand_required, with_version}
 use Rattle.rx_cli.proofs.DraftLemmas.{draws_line}
 use Rattle.rx_cli.proofs.syntax.line.Goals as goal
@@ -13,5 +13,7 @@ returns c =
     let drawn = draws_line c.of.result top c.of.ensures in
     let adjudicates = c.takes_adjudication-adjudicates.ensures program drawn in
     let retraces = c.takes_retracing-retraces.ensures (with_adjudication program) adjudicates in
-    let peopled = c.takes_people-peopled.ensures (with_retracing (with_adjudication program)) retraces in
-    c.line.ensures whole_line (c.takes_upkeep.ensures (with_people (with_retracing (with_adjudication program))) peopled)
+    let disputed = c.takes_disputes-disputed.ensures (with_retracing (with_adjudication program)) retraces in
+    let peopled = c.takes_people-peopled.ensures (with_disputes (with_retracing (with_adjudication program))) disputed in
+    c.line.ensures whole_line
+    (c.takes_upkeep.ensures (with_people (with_disputes (with_retracing (with_adjudication program)))) peopled)
