@@ -61,6 +61,7 @@ cases: kit cc
 	python3 tests/run_verify.py $(PROGRAM)
 	python3 tests/run_replies.py $(PROGRAM)
 	python3 tests/run_settle.py $(PROGRAM)
+	python3 tests/run_compare.py $(PROGRAM)
 	python3 tests/run_report.py $(PROGRAM)
 	python3 tests/run_upkeep.py $(PROGRAM)
 	python3 tests/run_family.py $(PROGRAM)

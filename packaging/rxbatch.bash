@@ -2,7 +2,7 @@
 _rxbatch() {
   local word=${COMP_WORDS[COMP_CWORD]} before=${COMP_WORDS[COMP_CWORD - 1]} words files others again left name
   if [ "$COMP_CWORD" -eq 1 ]; then
-    mapfile -t COMPREPLY < <(compgen -W 'run show plan sample check explain verify report replies settle excerpt adjudicate fault members age family help --help --version -V' -- "$word")
+    mapfile -t COMPREPLY < <(compgen -W 'run show plan sample check explain verify report replies settle compare excerpt adjudicate fault members age family help --help --version -V' -- "$word")
     return
   fi
   # --option=value is three words here
@@ -18,13 +18,14 @@ _rxbatch() {
     report) words='--sheet --books --batch --stamp --provider --family --for-provider --tsv --json --jsonl --html --html-dir'; files='--sheet|--books|--batch|--html-dir'; others='--stamp|--provider|--family|--for-provider' ;;
     replies) words='--response'; files='--response'; others='' ;;
     settle) words='--response --provider'; files='--response'; others='--provider'; again=' --response ' ;;
+    compare) words='--sheet --books --batch --with-sheet --with-books --tsv --json'; files='--sheet|--books|--batch|--with-sheet|--with-books'; others='' ;;
     excerpt) words='--sheet --books --batch --record --out --response'; files='--sheet|--books|--batch|--out|--response'; others='--record' ;;
     adjudicate) words='--sheet --books --batch --out --stamp --workers --again --strict --quiet'; files='--sheet|--books|--batch|--out'; others='--stamp|--workers' ;;
     fault) words=''; files=''; others='' ;;
     members) words='--books --period --members --books-out --report --safe'; files='--books|--members|--books-out|--report'; others='--period' ;;
     age) words='--books --before --period --sheet --refill-percent --books-out --dropped --safe'; files='--books|--sheet|--books-out|--dropped'; others='--before|--period|--refill-percent' ;;
     family) words='--books --family --person --sheet --tsv --json --html'; files='--books|--sheet'; others='--family|--person' ;;
-    help) words='run show plan sample check explain verify report replies settle excerpt adjudicate fault members age family'; files=''; others='' ;;
+    help) words='run show plan sample check explain verify report replies settle compare excerpt adjudicate fault members age family'; files=''; others='' ;;
   esac
   if [ -n "$files" ] && [[ "|$files|" == *"|$before|"* ]]; then
     mapfile -t COMPREPLY < <(compgen -f -- "$word")

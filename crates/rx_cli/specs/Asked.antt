@@ -13,11 +13,14 @@ use Rattle.rx_io.specs.declared.files.Outputs.{Outputs}
 use Rattle.rx_cli.specs.Paths.{has_twice, paths_of}
 use Rattle.rx_cli.specs.declared.asked.Command.{Command}
 use Rattle.rx_cli.specs.declared.asked.Command.TheVariants.{Run, Show, Plan, Sample, Check, Explain, Verify, Report, Replies}
-use Rattle.rx_cli.specs.declared.asked.Command.TheVariants.{Adjudicate, Age, Excerpt, Fault, Members, Settle, ShowFamily}
+use Rattle.rx_cli.specs.declared.asked.Command.TheVariants.{Adjudicate, Age, Compare, Excerpt, Fault, Members, Settle, ShowFamily}
 use Rattle.rx_cli.specs.declared.dispute.ExcerptWords.{ExcerptWords}
 use Rattle.rx_cli.specs.declared.people.AdjudicateWords.{AdjudicateWords}
 use Rattle.rx_cli.specs.declared.people.FaultNumbers.{FaultNumbers}
 use Rattle.rx_cli.specs.declared.asked.RunWords.{RunWords}
+use Rattle.rx_cli.specs.declared.compare_options.CompareForm.{CompareForm}
+use Rattle.rx_cli.specs.declared.compare_options.CompareForm.TheVariants as compared
+use Rattle.rx_cli.specs.declared.compare_options.CompareWords.{CompareWords}
 use Rattle.rx_cli.specs.declared.asked.ShowWords.{ShowWords}
 use Rattle.rx_cli.specs.declared.retrace.Asked.{Asked}
 use Rattle.rx_cli.specs.declared.retrace.Asked.TheVariants.{Record, Number, Rx}
@@ -214,6 +217,23 @@ pub record HoldsAdjudicate (rows : List Row) (a : AdjudicateWords) : Type 0 wher
 abbrev pub HasTexts : List Row → Text → List Text → Type 0
 HasTexts rows name texts = all_of name rows ≡ Some texts
 
+-- the form that these flags ask for, of which at most one is set
+abbrev pub compare_form_of : Bool → Bool → Option CompareForm
+compare_form_of false false = Some compared.Words
+compare_form_of true false = Some compared.Tsv
+compare_form_of false true = Some compared.Json
+compare_form_of true true = None
+
+abbrev pub compare_form_in : List Row → Option CompareForm
+compare_form_in rows = compare_form_of (is_set (codes "tsv") rows) (is_set (codes "json") rows)
+
+-- what `compare` takes is the values of its options
+pub record HoldsCompare (rows : List Row) (c : CompareWords) : Type 0 where
+  pub inputs : HoldsInputs rows c.inputs
+  pub with_sheet : MayHaveText rows (codes "with-sheet") c.with_sheet
+  pub with_books : MayHaveText rows (codes "with-books") c.with_books
+  pub form : compare_form_in rows ≡ Some c.form
+
 -- what `settle` takes is the values of its options
 pub record HoldsSettle (rows : List Row) (s : SettleWords) : Type 0 where
   pub responses : HasTexts rows (codes "response") (map (λ t. t.now) s.responses.items)
@@ -298,6 +318,7 @@ HoldsNamed name rows (Members m) = (name ≡ codes "members") × HoldsMembers ro
 HoldsNamed name rows (Age a) = (name ≡ codes "age") × HoldsAge rows a
 HoldsNamed name rows (ShowFamily f) = (name ≡ codes "family") × HoldsFamily rows f
 HoldsNamed name rows (Replies path) = (name ≡ codes "replies") × HasText rows (codes "response") path.now
+HoldsNamed name rows (Compare c) = (name ≡ codes "compare") × HoldsCompare rows c
 HoldsNamed name rows (Settle s) = (name ≡ codes "settle") × HoldsSettle rows s
 
 -- the command is the subcommand that was found, with the values of its options

@@ -128,6 +128,11 @@ abbrev pub settle_line : App
 settle_line = with_rule (with_rule (new_app (codes "settle")) (repeated_option (codes "response")))
     (optional_option (codes "provider"))
 
+-- `compare --sheet F --books F --batch F [--with-sheet F] [--with-books F] [--tsv] [--json]`
+abbrev pub compare_line : App
+compare_line = with_rule (with_rule (with_rule (with_rule (with_inputs (new_app (codes "compare")))
+    (optional_option (codes "with-sheet"))) (optional_option (codes "with-books"))) (flag (codes "tsv"))) (flag (codes "json"))
+
 -- the line with what `adjudicate` may be asked for
 abbrev pub with_wishes : App → App
 with_wishes line = with_rule (with_rule (with_rule (with_rule (with_rule line (optional_option (codes "stamp")))
@@ -185,7 +190,8 @@ with_adjudication line = with_subcommand (with_subcommand (with_subcommand (with
 -- the line with the subcommands that check a run's files and retrace it
 abbrev pub with_retracing : App → App
 with_retracing line = with_subcommand (with_subcommand (with_subcommand (with_subcommand (with_subcommand (with_subcommand
-    line check_line.top) explain_line.top) verify_line.top) report_line.top) replies_line.top) settle_line.top
+    (with_subcommand line check_line.top) explain_line.top) verify_line.top) report_line.top) replies_line.top)
+    settle_line.top) compare_line.top
 
 -- `excerpt --sheet F --books F --batch F --record P --out DIR [--response F]`
 abbrev pub excerpt_line : App

@@ -2,6 +2,7 @@
 ghost use Rattle.std.specs.Prelude.{◌≡◌, map};
 ghost use Rattle.rx_cli.specs.Paths.{files_of, has_twice, paths_of};
 
+use crate::compare_options::CompareWords;
 use crate::dispute::ExcerptWords;
 use crate::paths::has_one_twice;
 use crate::people::{AdjudicateWords, FaultNumbers};
@@ -108,6 +109,8 @@ pub enum Command<'a> {
     ShowFamily(FamilyWords<'a>),
     /// `replies`: one line per reply of this response file.
     Replies(&'a str),
+    /// `compare`: which answers would be others.
+    Compare(CompareWords<'a>),
     /// `settle`: the settlement of response files.
     Settle(SettleWords<'a>),
 }

@@ -19,6 +19,7 @@
 #![tactic(auto)]
 
 mod asked;
+mod compare_options;
 mod dispute;
 mod dispute_syntax;
 mod dispute_words;
@@ -40,6 +41,7 @@ mod upkeep_syntax;
 mod words;
 
 pub use asked::{CheckWords, Command, RunWords, ShowWords};
+pub use compare_options::{CompareForm, CompareWords};
 pub use dispute::ExcerptWords;
 pub use fault::WordsFault;
 pub use people::{AdjudicateWords, FaultNumbers};

@@ -138,7 +138,7 @@ fn miscounted(
 }
 
 // Of options that exclude or require each other.
-fn conflict(line: Result<Line<'_>, AllocError>, program: &str, text: &str) -> WordsFault
+pub(crate) fn conflict(line: Result<Line<'_>, AllocError>, program: &str, text: &str) -> WordsFault
     ensures { IsMisuse ErrorKind.ArgumentConflict result }
 {
     fault(told(line, program, ErrorKind::ArgumentConflict, text))

@@ -7,6 +7,7 @@ ghost use Rattle.rx_cli.specs.Syntax.{check_line, plan_line, run_line, show_line
 ghost use Rattle.rx_cli.specs.Syntax.{explain_line, replies_line, report_line, verify_line, with_retracing};
 ghost use Rattle.rx_cli.specs.Syntax.{whole_line, with_asked, with_forms, with_reader, with_verify_options};
 
+use crate::compare_options::compare_line;
 use crate::dispute_syntax::takes_disputes;
 use crate::draft::Draft;
 use crate::people_syntax::takes_people;
@@ -362,6 +363,7 @@ fn takes_retracing<'a>(alloc: Global, line: Draft<'a>) -> Draft<'a>
         .subcommand(report(alloc))
         .subcommand(replies(alloc))
         .subcommand(settle_line(alloc))
+        .subcommand(compare_line(alloc))
 }
 
 /// The command line of the program.

@@ -6,6 +6,7 @@ ghost use Rattle.rx_cli.specs.Asked.{Holds, HoldsCheck, HoldsNamed, HoldsRun, Ho
 ghost use Rattle.rx_cli.specs.Faults.{IsWords};
 
 use crate::asked::{CheckWords, Command, RunWords, ShowWords};
+use crate::compare_options::{compare, compare_conflict};
 use crate::dispute_words::excerpt;
 use crate::fault::WordsFault;
 use crate::misuse::{
@@ -138,6 +139,10 @@ fn named<'a>(alloc: Global, name: &str, found: &ArgMatches<'a>) -> Result<Comman
         "replies" => match text(found, "response") {
             Some(response) => Ok(Command::Replies(response)),
             None => Err(WordsFault::Words(None)),
+        },
+        "compare" => match compare(found) {
+            Some(compare) => Ok(Command::Compare(compare)),
+            None => Err(compare_conflict(alloc)),
         },
         "settle" => Ok(Command::Settle(settle(found, alloc)?)),
         _ => Err(WordsFault::Words(None)),

@@ -1,11 +1,15 @@
--- Lemmas: response files of a pay cycle, what is found in a list, files that are the same, sizes put one after the other, a report that is explained, reversals with the members of their claims, and how a comparison ends.
+-- Lemmas: two adjudications of a batch compared, response files of a pay cycle, what is found in a list, files that are the same, sizes put one after the other, a report that is explained, reversals with the members of their claims, and how a comparison ends.
 pub mod Accounted
+pub mod Compared
+pub mod ComparedLines
+pub mod Counts
 pub mod Courses
 pub mod CycleBack
 pub mod CycleInside
 pub mod CycleOnce
 pub mod CycleRead
 pub mod CycleRun
+pub mod Differences
 pub mod EachExplained
 pub mod EmptyRecords
 pub mod ExcerptBooks

@@ -1,11 +1,15 @@
 -- Plumbing: which files there are.
 pub mod Adjudicated
 pub mod Asked
+pub mod Changes
+pub mod Compare
 pub mod Compared
+pub mod ComparedText
 pub mod Courses
 pub mod Cycle
 pub mod CycleSteps
 pub mod Difference
+pub mod Differing
 pub mod ExcerptParts
 pub mod ExcerptReadme
 pub mod Excerpts

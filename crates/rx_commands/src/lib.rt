@@ -14,6 +14,8 @@
 //!   claims (`specs/ForProvider.antt`).
 //! - `verify` does the run again and compares the texts of an earlier one's three files with it: the files are found the same
 //!   exactly where they are what the rules of docs/ make of the inputs (`specs/Verified.antt`, `specs/Verdict.antt`).
+//! - `compare` says which answers another sheet or other books would change, and the difference of the nets
+//!   (`specs/Differing.antt` has the answers, `specs/ComparedText.antt` the texts).
 //! - `settle_cycle` has the settlement of the batches that response files answer, from nothing else (`specs/Cycle.antt`);
 //!   of a run's response file it is that run's settlement (`run_settled_back`).
 //! - `excerpt_record` has the inputs that one record hangs on, as a job of its own that answers it alike (`specs/Excerpts.antt`).
@@ -35,6 +37,7 @@
 
 mod asked_words;
 mod batch_report;
+mod comparing;
 mod cycle;
 mod difference;
 mod excerpts;
@@ -60,6 +63,7 @@ mod whys;
 pub use asked_words::{
     family_asked, number_asked, provider_asked, record_asked, reference_asked, stamp_asked,
 };
+pub use comparing::{CompareFault, CompareForm, Others, compare};
 pub use cycle::{CycleFault, run_settled_back, settle_cycle, settled_back};
 pub use difference::first_difference;
 pub use excerpts::{Excerpt, ExcerptFault, excerpt_record, law_of_excerpts};

@@ -23,6 +23,8 @@
 //! rxbatch family --books F --family ID [--person P] [--sheet F] [--tsv | --json | --html]
 //!                                                   a family's members, claims and sums
 //! rxbatch replies --response F                      a line for each answer of a response file
+//! rxbatch compare --sheet F [--with-sheet F] --books F [--with-books F] --batch F [--tsv | --json]
+//!                                                   which answers another sheet or other books would change
 //! rxbatch settle --response F.. [--provider ID]     the settlement of response files, all together
 //! rxbatch fault N M P                               the numbers of a refusal in words
 //! rxbatch help                                      the help, on standard output
@@ -39,6 +41,7 @@ mod beside_file;
 mod check_files;
 mod code_counts;
 mod commands;
+mod compare;
 mod ending;
 mod excerpt_files;
 mod family_files;
@@ -124,6 +127,7 @@ fn perform<R: Threads + Wait + Sync>(rt: &HostRuntime, threads: &R) -> Result<()
         Ok(Command::Age(words)) => upkeep_files::age(rt, threads, &words),
         Ok(Command::ShowFamily(words)) => family_files::family(rt, threads, &words),
         Ok(Command::Replies(path)) => commands::replies(rt, path),
+        Ok(Command::Compare(words)) => compare::compare(rt, threads, &words),
         Ok(Command::Settle(words)) => settle::settle(rt, &words),
         Err(fault) if fault.is_version() => commands::told(rt, &fault),
         Err(fault) if fault.is_help() && names_help(&words) => commands::told(rt, &fault),

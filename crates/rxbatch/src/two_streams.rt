@@ -2,9 +2,11 @@
 use crate::files::STREAM;
 
 // The options that take a path.
-const OPTIONS: [&str; 7] = [
+const OPTIONS: [&str; 9] = [
     "--sheet",
+    "--with-sheet",
     "--books",
+    "--with-books",
     "--batch",
     "--response",
     "--books-out",

@@ -2,7 +2,7 @@
 //! underway, the shelf, queues and the desk; the workers of a run (requests decoded side by side, records answered in file order,
 //! and workers at a gate); words, log, devices, devices that are watched, runs on devices, and the texts that are written.
 //! `decoding`, `run_one` and `workers` have those of `rx_wave`, `failing` those of a run on devices that fail, `runs` those of
-//! a run over bytes, at `gates`, and `cycle` those of `settle`, each other module those of the crate of its name; `worked`, `one_billing` and `texts` have
+//! a run over bytes, at `gates`, `cycle` and `comparing` those of `settle` and `compare`, each other module those of the crate of its name; `worked`, `one_billing` and `texts` have
 //! what the worked cases are made of.
 //!
 //! What the crates at the edge write whole, a command of the program prints: the scripts in `tests/` compare it there. So of texts
@@ -15,6 +15,8 @@
 mod adjudicate;
 #[cfg(test)]
 mod amounts;
+#[cfg(test)]
+mod comparing;
 #[cfg(test)]
 mod cycle;
 #[cfg(test)]

@@ -1,8 +1,8 @@
 // What is understood; what is refused, and how, is tested on the built program (`tests/run_words.py`).
 use crate::same::same;
 use rx_cli::{
-    AdjudicateWords, Asked, Command, ExplainWords, FaultNumbers, Form, Portion, ReportWords,
-    RunWords, SettleWords, ShowWords, VerifyWords, command,
+    AdjudicateWords, Asked, Command, CompareForm, CompareWords, ExplainWords, FaultNumbers, Form,
+    Portion, ReportWords, RunWords, SettleWords, ShowWords, VerifyWords, command,
 };
 use rx_io::{Inputs, Outputs};
 use std::alloc::Global;
@@ -269,6 +269,31 @@ fn settle_has_its_files_in_order(rt: HostRuntime) {
     };
     let given = understood(&rt, rt.alloc(), SETTLE);
     same(&rt, given, Command::Settle(wanted));
+}
+
+const COMPARE: &[&str] = &[
+    "rxbatch",
+    "compare",
+    "--sheet",
+    "s",
+    "--books",
+    "b",
+    "--batch",
+    "c",
+    "--with-books=n",
+    "--json",
+];
+
+#[test]
+fn compare_has_both_sides(rt: HostRuntime) {
+    let wanted = CompareWords {
+        inputs: INPUTS,
+        with_sheet: None,
+        with_books: Some("n"),
+        form: CompareForm::Json,
+    };
+    let given = understood(&rt, rt.alloc(), COMPARE);
+    same(&rt, given, Command::Compare(wanted));
 }
 
 fn owned(alloc: Global, words: &[&str]) -> Option<Vec<String>> {

@@ -1,4 +1,4 @@
-use Rattle.rx_cli.specs.Syntax.{check_line, explain_line, replies_line, report_line, settle_line, verify_line}
+use Rattle.rx_cli.specs.Syntax.{check_line, compare_line, explain_line, replies_line, report_line, settle_line, verify_line}
 use Rattle.rx_cli.proofs.syntax.takes_retracing.Goals as goal
 
 -- one subcommand after another
@@ -9,4 +9,5 @@ returns c app drawn =
     let verify = c.subcommand-3.ensures _ verify_line explain c.verify.ensures in
     let report = c.subcommand-4.ensures _ report_line verify c.report.ensures in
     let replies = c.subcommand-5.ensures _ replies_line report c.replies.ensures in
-    c.subcommand-6.ensures _ settle_line replies c.settle_line.ensures
+    let settle = c.subcommand-6.ensures _ settle_line replies c.settle_line.ensures in
+    c.subcommand-7.ensures _ compare_line settle c.compare_line.ensures

@@ -1,0 +1,108 @@
+//! `compare`: which answers another sheet or other books would change.
+use crate::ending::{Ending, Numbers};
+use crate::file_fault::FileFault;
+use crate::files::open_input;
+use crate::refused_text::GivenTexts;
+use crate::standard_output::print;
+use crate::texts::{bytes_in, read_each, slices};
+use rx_cli::{CompareForm as FormWords, CompareWords};
+use rx_commands::{CompareFault, CompareForm, Others};
+use rx_fields::Memory;
+use rx_io::{Device, Inputs};
+use std::thread::Threads;
+
+/// Prints the answers of a batch that another sheet or other books would change.
+pub fn compare<R: Threads + Sync>(
+    rt: &HostRuntime,
+    threads: &R,
+    words: &CompareWords<'_>,
+) -> Result<(), Ending> {
+    let texts = read_each(rt, &words.inputs)?;
+    let sheet = other_text(rt, "--with-sheet", words.with_sheet, Device::Sheet)?;
+    let books = other_text(rt, "--with-books", words.with_books, Device::Books)?;
+    let given = slices(&texts);
+    let others = Others {
+        sheet: given_or(sheet.as_ref(), given.sheet),
+        books: given_or(books.as_ref(), given.books),
+    };
+    let printed = rx_commands::compare(threads, rt.alloc(), &given, others, form_by(words));
+    let printed = printed.map_err(|fault| not_compared(rt, words, &given, others, fault));
+    drop((texts, sheet, books));
+    print(rt, &printed?)
+}
+
+// The text of a file that may be left out. One that can't be opened or read is reported in words too.
+fn other_text(
+    rt: &HostRuntime,
+    option: &str,
+    path: Option<&str>,
+    device: Device,
+) -> Result<Option<Vec<u8>>, Ending> {
+    let Some(path) = path else {
+        return Ok(None);
+    };
+    match text_at(rt, path, device) {
+        Ok(text) => Ok(Some(text)),
+        Err(Ending::File(fault)) => Err(failed(rt, option, path, fault)),
+        Err(ending) => Err(ending),
+    }
+}
+
+fn text_at(rt: &HostRuntime, path: &str, device: Device) -> Result<Vec<u8>, Ending> {
+    let file = open_input(rt, path, device)?;
+    bytes_in(rt, &file, device)
+}
+
+// The ending where the file of an option failed.
+fn failed(rt: &HostRuntime, option: &str, path: &str, fault: FileFault) -> Ending {
+    match fault.words_of(rt.alloc(), option, path) {
+        Ok(line) => Ending::InWords(Numbers::File(fault.file.number()), line),
+        Err(Memory) => Ending::File(fault),
+    }
+}
+
+fn given_or<'a>(text: Option<&'a Vec<u8>>, other: &'a [u8]) -> &'a [u8] {
+    match text {
+        Some(text) => text.as_slice(),
+        None => other,
+    }
+}
+
+fn form_by(words: &CompareWords<'_>) -> CompareForm {
+    match words.form {
+        FormWords::Words => CompareForm::Words,
+        FormWords::Tsv => CompareForm::Tsv,
+        FormWords::Json => CompareForm::Json,
+    }
+}
+
+// The ending where an input is refused, as it is given or in place of one that is.
+fn not_compared(
+    rt: &HostRuntime,
+    words: &CompareWords<'_>,
+    given: &Inputs<&[u8]>,
+    others: Others<'_>,
+    fault: CompareFault,
+) -> Ending {
+    let (paths, texts, fault) = match fault {
+        CompareFault::Given(fault) => (words.inputs, *given, fault),
+        CompareFault::Changed(fault) => (paths_with(words), texts_with(given, others), fault),
+    };
+    GivenTexts::of(paths, texts.map(|text| Some(text))).refused(rt, fault)
+}
+
+fn paths_with<'a>(words: &CompareWords<'a>) -> Inputs<&'a str> {
+    Inputs {
+        sheet: words.with_sheet.unwrap_or(words.inputs.sheet),
+        books: words.with_books.unwrap_or(words.inputs.books),
+        batch: words.inputs.batch,
+    }
+}
+
+fn texts_with<'a>(given: &Inputs<&'a [u8]>, others: Others<'a>) -> Inputs<&'a [u8]> {
+    Inputs {
+        sheet: others.sheet,
+        books: others.books,
+        batch: given.batch,
+    }
+}
