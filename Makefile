@@ -46,6 +46,7 @@ cases: kit cc
 	python3 packaging/make_pages.py $(PROGRAM) --check
 	python3 tests/run_packaging.py $(PROGRAM) --shells
 	python3 tests/run_pages.py $(PROGRAM)
+	python3 tests/run_dispute.py $(PROGRAM)
 	python3 tests/run_words.py $(PROGRAM)
 	python3 tests/run_people.py $(PROGRAM)
 	python3 tests/run_paths.py $(PROGRAM)

@@ -6,7 +6,7 @@
 A shown command is a line `$ COMMAND` in a block of a page, which goes on where a line ends in `\\`; below it stands what it
 prints, up to the next one or the end of the block. The commands of a block are those of one session, in the page's folder of a
 tree that has bench/ and examples/ and `rxbatch` at its top, as `make demo` leaves it; `rxbatch` is also found by name, and is
-PROGRAM, a path.
+PROGRAM, a path. Those of docs/DISPUTE.md are left to run_dispute.py: all its blocks are one session.
 
 Commands that take too long here or change the system stand without `$`. Of them, in blocks and in backquotes, each goal of
 `make` has to be there, and each script `python3 PATH ..`, which has to know the options.
@@ -24,6 +24,7 @@ import tempfile
 
 ROOT = pathlib.Path(__file__).resolve().parent.parent
 PAGES = ("*.md", "docs/*.md", "bench/*.md", "examples/*/*.md", "tests/*.md", "tests/cases/*.md")
+STORY = ROOT / "docs/DISPUTE.md"
 BLOCK = re.compile(r"^```\w*\n(.*?)^```$", re.M | re.S)
 SHOWN = re.compile(r"^\$ ((?:.*\\\n)*.*)\n((?:(?!\$ ).*\n)*)", re.M)
 QUOTED = re.compile(r"`([^`\n]+)`")
@@ -82,7 +83,7 @@ def named_in(page, text):
 def try_page(page, program):
     """How many commands of a page hold, and those that don't."""
     text = page.read_text()
-    blocks = [shown for shown in map(SHOWN.findall, BLOCK.findall(text)) if shown]
+    blocks = [shown for shown in map(SHOWN.findall, BLOCK.findall(text)) if shown and page != STORY]
     failed = [line for shown in blocks for line in try_block(page, shown, program)]
     named = list(named_in(page, text))
     failed += [words for words, holds in named if not holds]
