@@ -62,8 +62,8 @@ fn read_two(rt: &HostRuntime, words: &ShowWords<'_>) -> Result<Inputs<Vec<u8>>, 
     })
 }
 
-// The ending where one of three inputs is refused.
-fn refused(
+/// The ending where one of three inputs is refused.
+pub fn refused(
     rt: &HostRuntime,
     paths: &Inputs<&str>,
     texts: &Inputs<Vec<u8>>,
@@ -158,13 +158,14 @@ pub fn explain<R: Threads + Sync>(
     let (texts, response) = read_explained(rt, &words.inputs, words.response)?;
     let given = response.as_ref().map(|text| text.as_slice());
     let printed = explained(rt, threads, words, &texts, reader, given);
-    let files = ExplainedFiles {
-        paths: &words.inputs,
-        texts: &texts,
-        path: words.response,
-        response: response.as_ref(),
-    };
-    let printed = printed.map_err(|fault| files.refused(rt, fault));
+    let printed = printed.map_err(|fault| not_explained(
+        rt,
+        &words.inputs,
+        &texts,
+        words.response,
+        response.as_ref(),
+        fault,
+    ));
     drop((texts, response));
     print_outcome(rt, printed?)
 }
@@ -218,25 +219,21 @@ pub fn read_explained(
     Ok((texts, response))
 }
 
-/// What a record is explained of: the inputs and their paths, the path of a response file and its text, if there is one.
-#[derive(Clone, Copy)]
-pub struct ExplainedFiles<'a> {
-    pub paths: &'a Inputs<&'a str>,
-    pub texts: &'a Inputs<Vec<u8>>,
-    pub path: Option<&'a str>,
-    pub response: Option<&'a Vec<u8>>,
-}
-
-impl<'a> ExplainedFiles<'a> {
-    /// The ending where an input or the response file is refused.
-    pub fn refused(self, rt: &HostRuntime, fault: ExplainFault) -> Ending {
-        match (fault, self.path, self.response) {
-            (ExplainFault::Refused(fault), _, _) => refused(rt, self.paths, self.texts, fault),
-            (ExplainFault::Response(fault), Some(path), Some(text)) => {
-                refused_response(rt, path, text, fault)
-            }
-            (ExplainFault::Response(fault), _, _) => Ending::of_response(fault),
+/// The ending where an input or the response file is refused.
+pub fn not_explained(
+    rt: &HostRuntime,
+    inputs: &Inputs<&str>,
+    texts: &Inputs<Vec<u8>>,
+    path: Option<&str>,
+    response: Option<&Vec<u8>>,
+    fault: ExplainFault,
+) -> Ending {
+    match (fault, path, response) {
+        (ExplainFault::Refused(fault), _, _) => refused(rt, inputs, texts, fault),
+        (ExplainFault::Response(fault), Some(path), Some(text)) => {
+            refused_response(rt, path, text, fault)
         }
+        (ExplainFault::Response(fault), _, _) => Ending::of_response(fault),
     }
 }
 

@@ -1,4 +1,5 @@
 //! `compare`: which answers another sheet or other books would change.
+use crate::commands::refused;
 use crate::ending::{Ending, Numbers};
 use crate::file_fault::FileFault;
 use crate::files::open_input;
@@ -9,6 +10,7 @@ use rx_cli::{CompareForm as FormWords, CompareWords};
 use rx_commands::{CompareFault, CompareForm, Others};
 use rx_fields::Memory;
 use rx_io::{Device, Inputs};
+use rx_switch::SwitchFault;
 use std::thread::Threads;
 
 /// Prints the answers of a batch that another sheet or other books would change.
@@ -26,7 +28,10 @@ pub fn compare<R: Threads + Sync>(
         books: given_or(books.as_ref(), given.books),
     };
     let printed = rx_commands::compare(threads, rt.alloc(), &given, others, form_by(words));
-    let printed = printed.map_err(|fault| not_compared(rt, words, &given, others, fault));
+    let printed = match printed {
+        Ok(text) => Ok(text),
+        Err(fault) => Err(not_compared(rt, words, &texts, sheet.as_ref(), books.as_ref(), fault)),
+    };
     drop((texts, sheet, books));
     print(rt, &printed?)
 }
@@ -80,29 +85,41 @@ fn form_by(words: &CompareWords<'_>) -> CompareForm {
 fn not_compared(
     rt: &HostRuntime,
     words: &CompareWords<'_>,
-    given: &Inputs<&[u8]>,
-    others: Others<'_>,
+    texts: &Inputs<Vec<u8>>,
+    sheet: Option<&Vec<u8>>,
+    books: Option<&Vec<u8>>,
     fault: CompareFault,
 ) -> Ending {
-    let (paths, texts, fault) = match fault {
-        CompareFault::Given(fault) => (words.inputs, *given, fault),
-        CompareFault::Changed(fault) => (paths_with(words), texts_with(given, others), fault),
+    match fault {
+        CompareFault::Given(fault) => refused(rt, &words.inputs, texts, fault),
+        CompareFault::Changed(fault) => {
+            let sheet_path = words.with_sheet.unwrap_or(words.inputs.sheet);
+            let books_path = words.with_books.unwrap_or(words.inputs.books);
+            let sheet = given_or(sheet, texts.sheet.as_slice());
+            let books = given_or(books, texts.books.as_slice());
+            let batch = (words.inputs.batch, texts.batch.as_slice());
+            refused_changed(rt, (sheet_path, sheet), (books_path, books), batch, fault)
+        }
+    }
+}
+
+// The ending where the others are refused; each file with its path and its text.
+fn refused_changed<'x>(
+    rt: &HostRuntime,
+    sheet: (&'x str, &'x [u8]),
+    books: (&'x str, &'x [u8]),
+    batch: (&'x str, &'x [u8]),
+    fault: SwitchFault,
+) -> Ending {
+    let paths = Inputs {
+        sheet: sheet.0,
+        books: books.0,
+        batch: batch.0,
     };
-    GivenTexts::of(paths, texts.map(|text| Some(text))).refused(rt, fault)
-}
-
-fn paths_with<'a>(words: &CompareWords<'a>) -> Inputs<&'a str> {
-    Inputs {
-        sheet: words.with_sheet.unwrap_or(words.inputs.sheet),
-        books: words.with_books.unwrap_or(words.inputs.books),
-        batch: words.inputs.batch,
-    }
-}
-
-fn texts_with<'a>(given: &Inputs<&'a [u8]>, others: Others<'a>) -> Inputs<&'a [u8]> {
-    Inputs {
-        sheet: others.sheet,
-        books: others.books,
-        batch: given.batch,
-    }
+    let texts = Inputs {
+        sheet: Some(sheet.1),
+        books: Some(books.1),
+        batch: Some(batch.1),
+    };
+    GivenTexts::of(paths, texts).refused(rt, fault)
 }

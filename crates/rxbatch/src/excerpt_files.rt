@@ -1,5 +1,5 @@
 //! The command `excerpt`: a record of a batch with what it hangs on, written into a folder of its own.
-use crate::commands::{ExplainedFiles, read_explained};
+use crate::commands::{not_explained, read_explained};
 use crate::ending::Ending;
 use crate::file_fault::ProgramFile;
 use crate::page_folder::write_file;
@@ -11,6 +11,7 @@ use rx_cli::ExcerptWords;
 use rx_commands::{Excerpt, ExcerptFault};
 use rx_explain_text::Compared;
 use rx_fields::Memory;
+use rx_io::Inputs;
 use std::path::Path;
 use std::thread::Threads;
 
@@ -32,13 +33,7 @@ pub fn excerpt<R: Threads + Sync>(
         words.place,
         response.as_ref().map(|text| text.as_slice()),
     );
-    let given = ExplainedFiles {
-        paths: &words.inputs,
-        texts: &texts,
-        path: words.response,
-        response: response.as_ref(),
-    };
-    let made = made.map_err(|fault| not_excerpted(rt, &given, words.place, fault));
+    let made = made.map_err(|fault| not_excerpted(rt, words, &texts, response.as_ref(), fault));
     drop((texts, response));
     let made = made?;
     let done = write_all(rt, words.out, &made);
@@ -86,13 +81,16 @@ fn write_one(rt: &HostRuntime, folder: &str, name: &str, text: &[u8]) -> Result<
 // The ending if there is no excerpt.
 fn not_excerpted(
     rt: &HostRuntime,
-    given: &ExplainedFiles<'_>,
-    record: u64,
+    words: &ExcerptWords<'_>,
+    texts: &Inputs<Vec<u8>>,
+    response: Option<&Vec<u8>>,
     fault: ExcerptFault,
 ) -> Ending {
     let said = match fault {
-        ExcerptFault::Input(fault) => return given.refused(rt, fault),
-        other => said(rt, record, other),
+        ExcerptFault::Input(fault) => {
+            return not_explained(rt, &words.inputs, texts, words.response, response, fault);
+        }
+        other => said(rt, words.place, other),
     };
     match said {
         Ok(line) => Ending::Stopped(line),

@@ -1,4 +1,5 @@
 //! The answers that differ as JSON.
+ghost use Rattle.std.specs.Fmt.{signed_decimal};
 ghost use Rattle.std.specs.Prelude.{◌≡◌, ◌++◌, ◌<◌, ◌^◌, OnOk};
 ghost use Rattle.rx_commands.specs.Changes.{cents_of, weight};
 ghost use Rattle.rx_commands.specs.ComparedText.{json_end, known_json, nets_json, object, side_json, sides_json};
@@ -69,7 +70,7 @@ pub(crate) fn put_end(
 {
     put_nets(page, given, changed)?;
     page.put(b",\"difference\":")?;
-    put_signed(&mut page.bytes, change.cents())?;
+    put_difference(page, change)?;
     page.put(b",")?;
     put_lot(&mut page.bytes, lot)?;
     page.put(b"}\n")
@@ -83,4 +84,12 @@ fn put_nets(page: &mut Page, given: &Tally, changed: &Tally) -> Result<(), Alloc
     put_net_cents(&mut page.bytes, given)?;
     page.put(b",\"with_net\":")?;
     put_net_cents(&mut page.bytes, changed)
+}
+
+fn put_difference(page: &mut Page, change: &Change) -> Result<(), AllocError>
+    requires { weight change.now < 2 ^ 127 }
+    ensures { OnOk result (page.new.bytes.items ≡ page.old.bytes.items ++ signed_decimal (cents_of change.now)) }
+{
+    let cents = change.cents();
+    put_signed(&mut page.bytes, cents)
 }

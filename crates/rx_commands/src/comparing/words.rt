@@ -1,5 +1,6 @@
 //! The answers that differ as lines for people.
 ghost use Rattle.std.specs.Prelude.{◌≡◌, ◌++◌, ◌<◌, ◌^◌, OnOk};
+ghost use Rattle.rx_print.specs.Money.{signed_dollars};
 ghost use Rattle.rx_commands.specs.Changes.{cents_of, weight};
 ghost use Rattle.rx_commands.specs.ComparedText.{front, matter_of, nets_words, shown_text, side_words, sides_words, words_end, words_line};
 ghost use Rattle.rx_commands.specs.Differing.{both};
@@ -91,8 +92,15 @@ pub(crate) fn put_end(
     page.put(b" differ; net ")?;
     put_nets(page, given, changed)?;
     page.put(b", difference ")?;
-    put_signed_dollars(&mut page.bytes, change.cents())?;
+    put_difference(page, change)?;
     page.put(b"\n")
+}
+
+fn put_difference(page: &mut Page, change: &Change) -> Result<(), AllocError>
+    requires { weight change.now < 2 ^ 127 }
+    ensures { OnOk result (page.new.bytes.items ≡ page.old.bytes.items ++ signed_dollars (cents_of change.now)) }
+{
+    put_signed_dollars(&mut page.bytes, change.cents())
 }
 
 #[tactic(auto, using(std::proofs::Common::append_assoc), unfolding(crate::specs::ComparedText::nets_words))]

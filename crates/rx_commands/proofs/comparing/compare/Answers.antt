@@ -8,6 +8,11 @@ returns-in_err-text-clause-refused g c =
     let p = err_from_is_err_and c.from_residual-in_err-text.result c.from_residual-in_err-text.ensures.1 in
     rw (p.1, p.2) memory
 
+pub returns-in_err-given-clause-refused : goal.returns-in_err-given-clause-refused
+returns-in_err-given-clause-refused g c =
+    let p = err_from_is_err_and c.from_residual.result c.from_residual.ensures.1 in
+    rw (p.1, p.2) (c.in_err-given.ensures.refused _ _)
+
 -- what is given was accepted
 pub returns-in_err-changed-clause-refused : goal.returns-in_err-changed-clause-refused
 returns-in_err-changed-clause-refused g c =

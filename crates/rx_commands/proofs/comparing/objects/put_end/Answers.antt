@@ -1,4 +1,4 @@
-use Rattle.std.proofs.Common.{ap, codes, ◌++◌, ◌∷◌, [], ◌∙◌}
+use Rattle.std.proofs.Common.{codes, ◌∷◌, []}
 use Rattle.std.specs.Fmt.{signed_decimal}
 use Rattle.rx_report.specs.Texts.{lot_json}
 use Rattle.rx_report_text.proofs.Written.{six}
@@ -18,7 +18,7 @@ returns c =
     (codes "}\n")
     c.in_ok-put_nets.ensures
     c.in_ok-put.ensures
-    (c.in_ok-put_signed.ensures ∙ ap (λ z. c.put.new.self.bytes.items ++ signed_decimal z) c.cents.ensures)
+    c.in_ok-put_difference.ensures
     c.in_ok-put-2.ensures
     c.in_ok-put_lot.ensures
     c.put-3.ensures

@@ -1,4 +1,4 @@
-use Rattle.std.proofs.Common.{ap, codes, ◌++◌, ◌∷◌, [], ◌∙◌}
+use Rattle.std.proofs.Common.{codes, ◌∷◌, []}
 use Rattle.std.specs.Fmt.{decimal}
 use Rattle.rx_print.specs.Money.{signed_dollars}
 use Rattle.rx_report_text.proofs.Written.{six}
@@ -20,5 +20,5 @@ returns c =
     c.in_ok-put.ensures
     c.in_ok-put_nets.ensures
     c.in_ok-put-2.ensures
-    (c.in_ok-put_signed_dollars.ensures ∙ ap (λ z. c.put-2.new.self.bytes.items ++ signed_dollars z) c.cents.ensures)
+    c.in_ok-put_difference.ensures
     c.put-3.ensures
