@@ -23,6 +23,7 @@ pub mod Same
 pub mod SameLedger
 pub mod SameRows
 pub mod Sides
+pub mod Spans
 pub mod Split
 pub mod Stored
 pub mod Taken

@@ -34,7 +34,7 @@ front_held r rows k (Some x) less under =
     let before : key_cmp r.key x.key ≡ Less = ap (λ j. key_cmp r.key j) (key_exact x.key k under) ∙ less in
     rw before refl
 
-row_front : (r : Row) (rows : List Row) (slots : List KeySlot) → IsBelow key_cmp slot_key r.key slots → All Own slots
+pub row_front : (r : Row) (rows : List Row) (slots : List KeySlot) → IsBelow key_cmp slot_key r.key slots → All Own slots
     → standing_rows (r ∷ rows) slots ≡ r ∷ standing_rows rows slots
 row_front r rows [] below own = refl
 row_front r rows (s ∷ slots) below own =

@@ -6,8 +6,8 @@ use Rattle.std.specs.List.{All, slice_range}
 use Rattle.std.specs.declared.cmp.Ordering.TheVariants.{Less, Equal, Greater}
 use Rattle.std.proofs.lemmas.Bool.{cases_lt}
 use Rattle.std.proofs.lemmas.Grind.{flat_map-append}
-use Rattle.std.proofs.lemmas.List.{drop-append-le, drop-drop, drop_all, drop_more, get_or-drop, length-drop, take-append-drop}
-use Rattle.std.proofs.lemmas.List.{take-append-le, take-map, take_rest}
+use Rattle.std.proofs.lemmas.List.{drop-append-le, drop-drop, drop_more, get_or-drop, length-drop, take-append-drop}
+use Rattle.std.proofs.lemmas.List.{take-append-le, take-map}
 use Rattle.std.proofs.lemmas.List.Elements.{All-cons, All-drop, All-head, All-nil}
 use Rattle.std.proofs.lemmas.List.Sums.{sum_by-cons}
 use Rattle.std.proofs.lemmas.Option.{get_or_from_slice_get}
@@ -32,7 +32,7 @@ use Rattle.rx_books_store.proofs.Joined.{begin_more, begin_within, joined_betwee
 use Rattle.rx_books_store.proofs.Passes.{Own}
 use Rattle.rx_books_store.proofs.Runs.{after, run_at, run_gap}
 
-abbrev line_of : Row → List ℕ
+abbrev pub line_of : Row → List ℕ
 line_of r = ended (line_text Three (line.Claim r))
 
 -- ---- where lines are
@@ -102,7 +102,7 @@ module _ (text lengths : List ℕ) (above : ℕ) (rows : List Row) (held : Holds
 abbrev Before : List Row → Key → ℕ → Type 0
 Before rows k row = AreBefore key_cmp row_key rows k row
 
-dropped : (rows : List Row) (row place : ℕ) (d : Row) → row ≤ place → get_or (drop row rows) (place - row) d ≡ get_or rows place d
+pub dropped : (rows : List Row) (row place : ℕ) (d : Row) → row ≤ place → get_or (drop row rows) (place - row) d ≡ get_or rows place d
 dropped rows row place d le =
     let there : row + (place - row) ≡ place = omega arith in
     get_or-drop row rows (place - row) d ∙ ap (λ (n : ℕ). get_or rows n d) there
@@ -304,12 +304,3 @@ run_lent done before run held_text behind all rest longer lent put whole split i
   where
     regroup : (a b c d e : List ℕ) → (((a ++ (b ++ c)) ++ d) ++ []) ++ e ≡ (a ++ b) ++ (c ++ (d ++ e))
     regroup a b c d e = simp append_assoc
-
--- after the last slot, the rows that are left
-pub text_rest : (rows : List Row) (all : List KeySlot) (first row i : ℕ) → first ≤ row → row ≤ length rows → length all ≤ i
-    → claims_text (take (length rows - first) (drop first rows))
-    ≡ claims_text (take (row - first) (drop first rows)) ++ claims_text (standing_rows (drop row rows) (drop i all))
-text_rest rows all first row i order within past =
-    text_join rows first row (length rows) order within
-    ∙ ap (λ (t : List ℕ). claims_text (take (row - first) (drop first rows)) ++ t) (ap claims_text (take_rest rows row)
-    ∙ ap (λ (ss : List KeySlot). claims_text (standing_rows (drop row rows) ss)) (sym (drop_all i all past)))

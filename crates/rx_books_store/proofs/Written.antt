@@ -52,8 +52,8 @@ texts-pieces rows_of (piece ∷ pieces) (text ∷ texts) all =
     ∙ sym (flat_map-append (λ (r : Bor Row). line_of (line.Claim r.now)) (rows_of piece) (flat_map rows_of pieces))
 
 -- the text of pieces that stand between two
-pub pieces-between : {Z : Type 0} (above below : Vec ℕ Z) (pieces : List (Vec ℕ Z))
-    → flat_map vec_items ((above ∷ pieces) ++ below ∷ []) ≡ above.items ++ (flat_map vec_items pieces ++ below.items)
-pieces-between above below pieces =
-    ap (λ t. above.items ++ t) (flat_map-append vec_items pieces (below ∷ [])
-    ∙ ap (λ t. flat_map vec_items pieces ++ t) (append-nil below.items))
+pub between : {A : Type 0} (f : A → List ℕ) (above below : A) (pieces : List A)
+    → flat_map f ((above ∷ pieces) ++ below ∷ []) ≡ f above ++ (flat_map f pieces ++ f below)
+between f above below pieces =
+    ap (λ t. f above ++ t) (flat_map-append f pieces (below ∷ [])
+    ∙ ap (λ t. flat_map f pieces ++ t) (append-nil (f below)))

@@ -21,7 +21,7 @@
 //! - `opening`: the lists that books were made from, and `kept`: the text that they were read from
 //! - `holders`, `hints`, `search`: where members and rows are in these lists
 //! - `slot`, `slots`: what stands under a fill key of the batch; `standing`: a pass over the rows that stand
-//! - `taking`: what stands under fill keys in other open books, taken over
+//! - `looks`: at what is asked for soon; `taking`: what stands under fill keys in other open books, taken over
 //! - `amended`, `whole`, `amended_lists`, `comparison`: books of the second form; `lent`: either form, opened for reading
 //! - `reader`, `writing`, `writer`, `patching`, `parts`: the text, on one thread and in parts
 //! - `law`: that a text has one reading, and that members and rows determine a ledger
@@ -42,6 +42,7 @@ mod holders;
 mod kept;
 mod law;
 mod lent;
+mod looks;
 mod open_books;
 mod opening;
 mod opening_sums;

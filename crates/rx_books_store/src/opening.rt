@@ -207,6 +207,11 @@ impl Opening {
         self.lists.member_of(key)
     }
 
+    /// Looks where a member is first looked for, by which the processor has it near. It promises nothing.
+    pub(crate) fn is_member_seen(&self, key: &MemberKey) -> bool {
+        self.lists.is_member_seen(key)
+    }
+
     /// The place of a member, as a slot keeps it.
     pub(crate) fn kept_place(&self, member: usize) -> u32
         requires { member < length self.now.members }
@@ -319,6 +324,10 @@ impl Lists {
         ensures listed { is_some result ≡ is_listed self.now key.now }
     {
         self.places.place_of(&self.members, key)
+    }
+
+    fn is_member_seen(&self, key: &MemberKey) -> bool {
+        self.places.is_seen(self.members.as_slice(), key)
     }
 
     fn kept_place(&self, member: usize) -> u32

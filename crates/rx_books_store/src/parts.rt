@@ -1,5 +1,6 @@
 ghost use Rattle.std.specs.Prelude.{◌≡◌, IfOk};
 ghost use Rattle.std.specs.Arc.{arc_value};
+ghost use Rattle.std.specs.List.{flat_map};
 ghost use Rattle.rx_io.specs.Pieces.{text_of};
 ghost use Rattle.rx_books_store.specs.BooksFile.{NamesFirstFault, ReadsAllBooks, ReadsBooksAlone, ReadsWhatIsWritten};
 ghost use Rattle.rx_books_store.specs.BooksText.{books_text};
@@ -8,7 +9,7 @@ ghost use Rattle.rx_books_text.specs.Fault.{Gives};
 
 use crate::books::Books;
 use crate::reader::Quick;
-use crate::writing::in_one_piece;
+use crate::writing::{in_one_piece, only_piece};
 use rx_books_text::{BooksFault, Version};
 use rx_fields::Memory;
 use rx_io::Pieces;
@@ -99,5 +100,25 @@ impl Books {
             // Where threads or memory for parts run out, one part may do.
             Err(Memory) => books.write_pieces(rt, alloc, 1),
         }
+    }
+
+    /// The same in pieces of pieces: where the books keep the text that they were read from, and several parts are asked for, each
+    /// part of the claims is pieces of its own, which a thread of its own makes.
+    pub fn write_parts<R: Threads + Sync>(
+        &self,
+        rt: &R,
+        alloc: Global,
+        parts: usize,
+    ) -> Result<Vec<Pieces>, Memory>
+        ensures { IfOk result (λ list.
+            flat_map text_of list.items ≡ books_text Version.Three self.now.period self.now.ledger) }
+    {
+        if let Some(books) = self.plain()
+            && let Ok(list) = books.write_parts(rt, alloc, parts)
+        {
+            return Ok(list);
+        }
+        // Where threads or memory for parts run out, one part may do.
+        only_piece(alloc, self.write_pieces(rt, alloc, 1)?)
     }
 }

@@ -11,6 +11,9 @@ use crate::slots::fresh_slot;
 use rx_fields::Key;
 use rx_sorted::place_near;
 
+// How many slots are looked at ahead.
+const AHEAD: usize = 16;
+
 impl OpenBooks {
     /// Takes over what stands under these fill keys in other books of the same members: the row there, or none. Each key
     /// has a slot here. Keys that ascend are found in one pass. It takes no memory.
@@ -19,10 +22,11 @@ impl OpenBooks {
         requires slots { All (Contains self.old.slots) keys.now }
         ensures { HasTaken self.old from.now.books.ledger keys.now self.new }
     {
-        let (mut ours, mut theirs) = (0, 0);
+        let (mut ours, mut theirs, mut looked) = (0, 0, 0);
         for key in keys {
             ours = self.slot_guess(ours, key);
             theirs = from.slot_guess(theirs, key);
+            looked = self.looked_after(from, looked, theirs);
             self.take_slot(ours, from.slot_under(theirs, key));
         }
     }
@@ -30,6 +34,25 @@ impl OpenBooks {
     // About where the slot of a fill key is, looked for from a place on. It promises nothing.
     fn slot_guess(&self, from: usize, key: &Key) -> usize {
         guess_slot(self.changed.as_slice(), from, key)
+    }
+
+    // Up to which slot of other books the totals of the rows' members were looked at, where a slot is the next: some are looked
+    // at from there on where none was yet. It promises nothing.
+    fn looked_after(&self, from: &OpenBooks, looked: usize, next: usize) -> usize {
+        if next < looked {
+            return looked;
+        }
+        let mut at = next;
+        for _ in 0..AHEAD {
+            let Some(slot) = from.changed.as_slice().get(at) else {
+                return at.saturating_add(1);
+            };
+            at = at.saturating_add(1);
+            if slot.held.is_some() && !self.are_totals_seen(slot.holder as usize) {
+                return at;
+            }
+        }
+        at
     }
 
     // What stands under a fill key: its slot, which is looked for at `near`, or the one that would be opened for it.

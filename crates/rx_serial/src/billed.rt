@@ -2,6 +2,7 @@ ghost use Rattle.std.specs.Prelude.{◌≡◌, ◌<◌, ◌≤◌, [], IfOk, IfS
 ghost use Rattle.std.specs.List.{All};
 ghost use Rattle.rx_serial.specs.Underway.{IsHolder};
 
+use crate::ahead::looked_after;
 use crate::fill::{Course, Entry, Fill, FillKey, when_at};
 use rx_books_store::OpenBooks;
 use rx_d0_values::{Body, Heard, Transaction, Transmission};
@@ -27,7 +28,9 @@ pub(crate) fn billed_by(
     ensures own { IfOk result (λ found. All (λ e. e.fill.count ≡ 0) found.own.items) }
 {
     let mut found = none_billed(alloc, records.len())?;
+    let mut looked = 0;
     for transmission in records {
+        looked = looked_after(books, records, looked, found.firsts.len());
         put_record(&mut found, books, transmission)?;
     }
     Ok(found)

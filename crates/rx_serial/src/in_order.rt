@@ -44,6 +44,8 @@ pub struct InOrder {
     pub(crate) firsts: Vec<usize>,
     pub(crate) next: usize,
     pub(crate) at: usize,
+    // Up to which transaction what is asked for was looked at.
+    pub(crate) looked: usize,
     // Where the slots of the transactions' fill keys probably are, and the entries of their own fills, in the same order.
     // They are compared too.
     pub(crate) slots: Vec<usize>,
@@ -131,6 +133,7 @@ impl InOrder {
             firsts,
             next: 0,
             at: 0,
+            looked: 0,
             slots,
             own: places,
             marks,
@@ -173,6 +176,7 @@ impl InOrder {
         if let Some(first) = self.firsts.get(self.next) {
             self.at = *first;
         }
+        self.looked = self.looked_after(self.looked, self.at);
     }
 
     // Passes the record that was the next.

@@ -15,6 +15,7 @@
 //! rows.
 #![tactic(auto)]
 
+mod ahead;
 mod billed;
 mod counted;
 mod ended;
