@@ -64,7 +64,7 @@ not_after a b less = ap is_le (day_total.antisymm b a) ∙ by (day_cmp a b) (Les
     by Greater h = cc
 
 -- a claim of before the period isn't in it
-outside : (period : Span) (before : Civil) (r : Row) → is_le (day_cmp before period.first) ≡ true → is_before before r ≡ true
+pub outside : (period : Span) (before : Civil) (r : Row) → is_le (day_cmp before period.first) ≡ true → is_before before r ≡ true
     → is_within period r.key.date ≡ false
 outside period before r le is =
     ap (λ b. b && is_le (day_cmp r.key.date period.last))

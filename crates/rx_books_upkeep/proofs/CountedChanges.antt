@@ -1,5 +1,5 @@
 -- The kinds of the changes, counted.
-use Rattle.std.proofs.Common.{◌≡◌, ◌+◌, ℕ, List, [], ◌∷◌, Bool, cond, map, Option, Some, None, refl, sym, ap, ◌∙◌, inl, inr}
+use Rattle.std.proofs.Common.{◌≡◌, ◌+◌, List, [], ◌∷◌, Bool, cond, map, Option, Some, None, refl, sym, ap, ◌∙◌, inl, inr}
 use Rattle.std.specs.List.{count_by}
 use Rattle.std.proofs.lemmas.Bool.{cases_Bool}
 use Rattle.std.proofs.lemmas.List.Sums.{sum_by-cons}
@@ -8,7 +8,7 @@ use Rattle.rx_ledger.specs.declared.member.Member.{Member}
 use Rattle.rx_ledger.specs.Ledger.{Ledger}
 use Rattle.rx_books_upkeep.specs.declared.change.MemberChange.{MemberChange}
 use Rattle.rx_books_upkeep.specs.ChangeKinds.{came_in, changed, counts_in, stayed}
-use Rattle.rx_books_upkeep.specs.Loading.{change_from, change_of, changes, changes_of, comes_in, counts_of, member_in, stays}
+use Rattle.rx_books_upkeep.specs.Loading.{change_of, changes, changes_of, comes_in, counts_of, member_in, stays}
 
 counted_map : (p : MemberChange → Bool) (q : Member → Bool) (g : Member → MemberChange) → ((m : Member) → p (g m) ≡ q m)
     → (ms : List Member) → count_by p (map g ms) ≡ count_by q ms

@@ -1,6 +1,8 @@
+pub mod AgedFigures
 pub mod AgedLedger
 pub mod Ages
 pub mod Carried
+pub mod ClaimRuns
 pub mod CountedChanges
 pub mod FamilyLists
 pub mod FiguredText
@@ -14,4 +16,5 @@ pub mod TableCuts
 pub mod TableSteps
 pub mod TakenOut
 pub mod Thinned
+pub mod ThreeTexts
 pub mod Unlisted

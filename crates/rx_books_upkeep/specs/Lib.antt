@@ -1,7 +1,9 @@
 -- Plumbing: which files there are.
+pub mod AgedText
 pub mod Ageing
 pub mod Batches
 pub mod ChangeKinds
+pub mod ClaimRuns
 pub mod Figured
 pub mod LoadedText
 pub mod Loading

@@ -1,5 +1,5 @@
 -- Meaning: members loaded from a table: each member of the table has the table's coverage, each other one its own.
-use Rattle.std.specs.Prelude.{◌≡◌, ◌&&◌, ℕ, Bool, true, false, not, if◌then◌else◌, List, Option, Some, None, map}
+use Rattle.std.specs.Prelude.{◌≡◌, ◌&&◌, ℕ, Bool, true, not, if◌then◌else◌, List, Option, Some, None, map}
 use Rattle.std.specs.List.{All, count_by}
 use Rattle.std.specs.Option.{option_eq}
 use Rattle.rx_d0_values.specs.declared.transaction.Transaction.{Transaction}

@@ -75,8 +75,8 @@ fn aged_within(alloc: Global, books: &Books, before: Day, period: Period) -> Res
     Ok(Aged { books, dropped })
 }
 
-// The claims before a day, in order.
-fn rows_before(alloc: Global, books: &Books, day: Day) -> Result<Vec<Row>, Memory>
+/// The claims before a day, in order.
+pub(crate) fn rows_before(alloc: Global, books: &Books, day: Day) -> Result<Vec<Row>, Memory>
     ensures value { IfOk result (λ list. list.items ≡ dropped day books.now.ledger.rows) }
     ensures within { IfOk result (λ _. IsLedger books.now.ledger) }
 {
@@ -114,8 +114,8 @@ fn without_rows(alloc: Global, books: Books, keys: &[Key]) -> Result<Books, Memo
     Ok(opened.close())
 }
 
-// Whether a claim is dated before the day.
-fn is_before(day: Day, row: &Row) -> bool
+/// Whether a claim is dated before the day.
+pub(crate) fn is_before(day: Day, row: &Row) -> bool
     ensures { result ≡ is_before day row.now }
 {
     row.key.date < day

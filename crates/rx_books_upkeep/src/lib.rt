@@ -13,8 +13,10 @@
 //! `specs/Table.antt`, and the texts in `specs/Texts.antt`.
 #![tactic(auto)]
 
+mod aged_text;
 mod ageing;
 mod change;
+mod claim_runs;
 mod families;
 mod figured;
 mod law;

@@ -1,10 +1,9 @@
 //! Books kept up from text to text.
-ghost use Rattle.std.specs.Prelude.{◌≡◌, ◌≤◌, IfOk, MatchOption, Ok, length};
+ghost use Rattle.std.specs.Prelude.{◌≡◌, ◌≤◌, IfOk, MatchOption, Ok};
 ghost use Rattle.std.specs.Arc.{arc_value};
 ghost use Rattle.rx_fields.specs.Calendar.{Civil, IsCivil};
 ghost use Rattle.rx_io.specs.Pieces.{text_of};
-ghost use Rattle.rx_books_text.specs.declared.version.Version.TheVariants as versions;
-ghost use Rattle.rx_books_store.specs.BooksText.{books_text, claims_text};
+ghost use Rattle.rx_books_store.specs.BooksFile.{IsBooksText};
 ghost use Rattle.rx_books_store.specs.Figures.{books_of};
 ghost use Rattle.rx_books_store.specs.LedgerBooks.{LedgerBooks};
 ghost use Rattle.rx_books_upkeep.specs.Ageing.{IsFirstSafe, IsSafe, dropped};
@@ -13,24 +12,20 @@ ghost use Rattle.rx_books_upkeep.specs.TextFault.{GivesAs};
 ghost use Rattle.rx_books_upkeep.specs.Texts.{aged_made, changes_made, changes_put, listed, members_founded, members_made, members_put, no_books};
 ghost use Rattle.rx_books_upkeep.specs.Texts.{opened, seen_aged, seen_members};
 
-use crate::ageing::{Aged, age};
+use crate::aged_text::{aged_text, text_of_three};
 use crate::change::{Loaded, MemberChange};
 use crate::loaded_text::loaded_text;
-use crate::safe_day::first_safe_day;
 use crate::table::read_members;
 use crate::text_fault::UpkeepFault;
 use rx_books_store::Books;
-use rx_books_text::{BooksFault, put_claim};
-use rx_fields::{Day, Memory, Period};
+use rx_books_text::BooksFault;
+use rx_fields::{Day, Period};
 use rx_io::Pieces;
-use rx_ledger::{Ledger, Member, Row};
+use rx_ledger::{Ledger, Member};
 use rx_sorted::Ascending;
 use std::alloc::Global;
 use std::sync::Arc;
 use std::thread::{self, Threads};
-
-// About the bytes of a claim's line.
-const CLAIM: usize = 128;
 
 /// What became of books into which a members table was loaded.
 #[derive(Debug, Drop)]
@@ -137,10 +132,14 @@ pub fn age_text<R: Threads + Sync>(
         → MatchOption done.first_safe ((day : Civil) → IsCivil day → ¬ IsSafe refill_percent (dropped before b.ledger.rows) day)
         (IsFirstSafe refill_percent (dropped before b.ledger.rows))) }
 {
-    let books = opened(rt, alloc, parts, books)?;
-    let aged = age(alloc, &books, before, period)?;
-    drop(books);
-    Ok(aged_text(rt, alloc, parts, &aged, refill_percent)?)
+    let opened = opened(rt, alloc, parts, books)?;
+    let period = period.unwrap_or(opened.period());
+    if before > period.first() {
+        return Err(UpkeepFault::AfterPeriod);
+    }
+    let text = text_of_three(rt, alloc, parts, &opened, books)?;
+    let done = aged_text(rt, alloc, &opened, &text, before, period, refill_percent)?;
+    Ok(done)
 }
 
 // The books and the members of these texts, each read on a thread of its own.
@@ -179,6 +178,7 @@ fn opened<R: Threads + Sync>(
 ) -> Result<Books, UpkeepFault>
     ensures books { GivesAs (λ b. b) result (opened (arc_value text.now).items) }
     ensures lines { ReadsLines result }
+    ensures text { IfOk result (λ b. IsBooksText (arc_value text.now).items b.period b.ledger) }
 {
     match Books::read_shared(rt, alloc, parts, text) {
         Ok(books) => Ok(books),
@@ -192,62 +192,4 @@ fn listed(alloc: Global, text: &[u8]) -> Result<Ascending<Member>, UpkeepFault>
     ensures { GivesAs (λ ms. ms) result (listed text.now) }
 {
     Ok(read_members(alloc, text)?)
-}
-
-// Aged books as text.
-fn aged_text<R: Threads + Sync>(
-    rt: &R,
-    alloc: Global,
-    parts: usize,
-    aged: &Aged,
-    refill_percent: u64,
-) -> Result<AgedText, Memory>
-    requires { refill_percent ≤ 100 }
-    ensures books { IfOk result (λ done. text_of done.books ≡ books_text versions.Three aged.now.books.period aged.now.books.ledger) }
-    ensures dropped { IfOk result (λ done. done.dropped.items ≡ claims_text aged.now.dropped.items) }
-    ensures left { IfOk result (λ done. done.left ≡ length aged.now.dropped.items) }
-    ensures first_safe { IfOk result (λ done.
-        MatchOption done.first_safe ((day : Civil) → IsCivil day → ¬ IsSafe refill_percent aged.now.dropped.items day)
-        (IsFirstSafe refill_percent aged.now.dropped.items)) }
-{
-    let (books, dropped) = write_both(rt, alloc, parts, aged);
-    Ok(AgedText {
-        books: books?,
-        dropped: dropped?,
-        left: aged.dropped.len(),
-        first_safe: first_safe_day(&aged.dropped, refill_percent),
-    })
-}
-
-// The text of aged books, and the lines of the claims that left, each written on a thread of its own.
-fn write_both<R: Threads + Sync>(
-    rt: &R,
-    alloc: Global,
-    parts: usize,
-    aged: &Aged,
-) -> (Result<Pieces, Memory>, Result<Vec<u8>, Memory>)
-    ensures books { IfOk result.0 (λ pieces. text_of pieces ≡ books_text versions.Three aged.now.books.period aged.now.books.ledger) }
-    ensures dropped { IfOk result.1 (λ text. text.items ≡ claims_text aged.now.dropped.items) }
-{
-    thread::join(
-        rt,
-        || -> Result<Pieces, Memory>
-            ensures { IfOk result (λ pieces. text_of pieces
-                ≡ books_text versions.Three aged.entry.now.books.period aged.entry.now.books.ledger) }
-        { aged.books.write_pieces(rt, alloc, parts) },
-        || -> Result<Vec<u8>, Memory>
-            ensures { IfOk result (λ text. text.items ≡ claims_text aged.entry.now.dropped.items) }
-        { claim_lines(alloc, &aged.dropped) },
-    )
-}
-
-// The lines of these claims.
-fn claim_lines(alloc: Global, rows: &[Row]) -> Result<Vec<u8>, Memory>
-    ensures { IfOk result (λ text. text.items ≡ claims_text rows.now) }
-{
-    let mut text = Vec::with_capacity(alloc, rows.len().saturating_mul(CLAIM))?;
-    for row in rows {
-        put_claim(&mut text, row)?;
-    }
-    Ok(text)
 }

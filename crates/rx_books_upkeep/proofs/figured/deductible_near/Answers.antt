@@ -1,4 +1,4 @@
-use Rattle.std.proofs.Common.{◌≡◌, false, sym, subst, ap, ◌∙◌}
+use Rattle.std.proofs.Common.{◌≡◌, false, sym, subst}
 use Rattle.rx_sorted.specs.Ascending.{IsAscending, IsAt, IsGap}
 use Rattle.rx_sorted.proofs.Places.{contains_key-gap}
 use Rattle.rx_ledger.specs.Ledger.{is_listed}
