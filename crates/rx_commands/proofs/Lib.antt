@@ -1,5 +1,7 @@
--- Lemmas: two adjudications of a batch compared, response files of a pay cycle, what is found in a list, files that are the same, sizes put one after the other, a report that is explained, reversals with the members of their claims, and how a comparison ends.
+-- Lemmas: two adjudications of a batch compared, response files of a pay cycle, what is found in a list, files that are the same, sizes put one after the other, a report that is explained, reversals with the members of their claims, how a comparison ends, and texts and reports of jobs that differ elsewhere.
 pub mod Accounted
+pub mod BackAlike
+pub mod Beside
 pub mod Compared
 pub mod ComparedLines
 pub mod Counts
@@ -11,6 +13,7 @@ pub mod CycleRead
 pub mod CycleRun
 pub mod Differences
 pub mod EachExplained
+pub mod Elsewhere
 pub mod EmptyRecords
 pub mod ExcerptBooks
 pub mod ExcerptLaw
@@ -25,14 +28,24 @@ pub mod FamilyRefused
 pub mod Folded
 pub mod Found
 pub mod Items
+pub mod KeptAlike
 pub mod Listed
 pub mod MembersBack
+pub mod NamesFound
+pub mod NamesReplies
 pub mod NoResponse
+pub mod OneReading
+pub mod OneReport
+pub mod OneText
+pub mod OwnHeader
+pub mod OwnSection
+pub mod PartsText
 mod Places
 pub mod PlainParts
 pub mod ProductNames
 pub mod Replied
 pub mod Same
+pub mod Shown
 pub mod Sizes
 pub mod Spots
 pub mod Verdicts

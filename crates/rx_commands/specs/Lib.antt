@@ -10,6 +10,7 @@ pub mod Cycle
 pub mod CycleSteps
 pub mod Difference
 pub mod Differing
+pub mod Elsewhere
 pub mod ExcerptParts
 pub mod ExcerptReadme
 pub mod Excerpts
@@ -28,6 +29,7 @@ pub mod Folder
 pub mod ForProvider
 pub mod Forms
 pub mod Lines
+pub mod OthersReport
 pub mod Places
 pub mod Records
 pub mod Reported

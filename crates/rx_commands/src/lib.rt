@@ -11,7 +11,8 @@
 //!   where the requests say that a transaction is asked for. `record_asked`, `number_asked` and `reference_asked` read what
 //!   is asked for.
 //! - `explain_for` is the same for a pharmacy: of its own transactions, with nothing but dates and amounts of other pharmacies'
-//!   claims (`specs/ForProvider.antt`).
+//!   claims (`specs/ForProvider.antt`). Two jobs that differ only in names of these give it one text and one
+//!   report (`law`, `specs/Elsewhere.antt`).
 //! - `verify` does the run again and compares the texts of an earlier one's three files with it: the files are found the same
 //!   exactly where they are what the rules of docs/ make of the inputs (`specs/Verified.antt`, `specs/Verdict.antt`).
 //! - `compare` says which answers another sheet or other books would change, and the difference of the nets
@@ -47,6 +48,7 @@ pub mod family;
 mod folder;
 mod for_provider;
 mod inputs;
+mod law;
 mod manner;
 mod pieces;
 mod printed;
@@ -71,6 +73,7 @@ pub use explain_fault::ExplainFault;
 pub use explanations::explain;
 pub use folder::{PrintedFolder, report_folder};
 pub use for_provider::explain_for;
+pub use law::{others_names_leave_the_report, others_names_leave_the_text};
 pub use manner::Manner;
 pub use pieces::{pieces_before, rest_of_piece};
 pub use printed::{Outcome, Printed};

@@ -1,10 +1,17 @@
 -- Lemmas of a claim retraced.
 pub mod Changed
 pub mod Counted
+pub mod FirstFill
 pub mod Flattened
 pub mod InOrder
 pub mod Laws
 pub mod ListedDrugs
+pub mod NamesAlike
+pub mod NamesApart
+pub mod NamesDecided
+pub mod NamesFolded
+pub mod NamesOrdered
+pub mod NamesTraced
 pub mod Nexts
 pub mod Opened
 pub mod Parted

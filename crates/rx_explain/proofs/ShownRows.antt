@@ -1,7 +1,8 @@
 -- The claims that an explanation shows stand on the ledger before it.
-use Rattle.std.specs.Prelude.{◌==◌, IfSome, filter, if◌then◌else◌, int_lt}
+use Rattle.std.specs.Prelude.{◌==◌, IfSome, filter, if◌then◌else◌}
 use Rattle.std.specs.Option.{option_map}
 use Rattle.std.specs.List.{All, Contains, fold}
+use Rattle.std.specs.Ordering.{is_lt}
 use Rattle.std.proofs.Common.{◌≡◌, ℕ, ◌+◌, ◌-◌, Bool, true, false, List, [], ◌∷◌, Option, Some, None, map, take}
 use Rattle.std.proofs.Common.{refl, sym, ap, subst, ◌∙◌, inl, inr}
 use Rattle.std.proofs.lemmas.List.Elements.{All-contains, All-contains_itself, All-filter, All-head, All-map, All-nil, All-tail}
@@ -40,7 +41,7 @@ use Rattle.rx_explain.specs.declared.explanation.Explanation.{Explanation}
 use Rattle.rx_explain.specs.declared.traced.Traced.{Traced}
 use Rattle.rx_explain.specs.Before.{ledger_at, ledger_before}
 use Rattle.rx_explain.specs.Explained.{IsOnLedger}
-use Rattle.rx_explain.specs.Shown.{binds_until, counted_for, is_counted, longest_fill, longest_with, row_in}
+use Rattle.rx_explain.specs.Shown.{counted_for, fill_cmp, first_with, is_counted, longest_fill, row_in}
 use Rattle.rx_explain.specs.Sources.{IsShown, IsTakenBackBy}
 use Rattle.rx_explain.specs.Spots.{Spot}
 use Rattle.rx_explain.specs.Traces.{traced}
@@ -152,31 +153,32 @@ module _ (L : Ledger) where
     all_stand i d within =
         item_at-from_contains key_cmp key_total row_key L.rows _ in_order (All-contains_itself L.rows i d within)
 
-    longer_stands : (f : Figures) (o : Option Row) (r : Row) → IfSome o Stands → Stands r → IfSome (longest_with f o r) Stands
-    longer_stands f None r before one = one
-    longer_stands f (Some best) r before one = longer_of_two (int_lt (binds_until f best) (binds_until f r))
+    longer_stands : (f : Figures) (p : List ℕ) (o : Option Row) (r : Row) → IfSome o Stands → Stands r
+        → IfSome (first_with (fill_cmp f p) o r) Stands
+    longer_stands f p None r before one = one
+    longer_stands f p (Some best) r before one = longer_of_two (is_lt (fill_cmp f p r best))
       where
         longer_of_two : (b : Bool) → Stands (if b then r else best)
         longer_of_two true = one
         longer_of_two false = before
 
-    longest_stands : (f : Figures) (rows : List Row) (o : Option Row) → All Stands rows → IfSome o Stands
-        → IfSome (fold (longest_with f) o rows) Stands
-    longest_stands f [] o all before = before
-    longest_stands f (r ∷ rows) o all before =
-        longest_stands f rows (longest_with f o r) (All-tail Stands r rows all)
-        (longer_stands f o r before (All-head Stands r rows all))
+    longest_stands : (f : Figures) (p : List ℕ) (rows : List Row) (o : Option Row) → All Stands rows → IfSome o Stands
+        → IfSome (fold (first_with (fill_cmp f p)) o rows) Stands
+    longest_stands f p [] o all before = before
+    longest_stands f p (r ∷ rows) o all before =
+        longest_stands f p rows (first_with (fill_cmp f p) o r) (All-tail Stands r rows all)
+        (longer_stands f p o r before (All-head Stands r rows all))
 
-    too_soon_stands : (f : Figures) (date : Civil) (b : BillParts) → IfSome (longest_fill f date L b) Stands
-    too_soon_stands f date b =
-        longest_stands f (filter (is_too_soon f date b) (rows_of L b.family)) None
+    too_soon_stands : (f : Figures) (p : List ℕ) (date : Civil) (b : BillParts) → IfSome (longest_fill f p date L b) Stands
+    too_soon_stands f p date b =
+        longest_stands f p (filter (is_too_soon f date b) (rows_of L b.family)) None
         (All-filter (is_too_soon f date b) Stands (rows_of L b.family) (All-filter (claimed_by b.family) Stands L.rows all_stand))
         tt
 
-    row_in_stands : (f : Figures) (date : Civil) (t : Transaction) (d : Decision) → NamesStanding d
-        → IfSome (row_in f date L t d) Stands
-    row_in_stands f date (Bill b) decision.TooSoon own = too_soon_stands f date b
-    row_in_stands f date t d own = own
+    row_in_stands : (f : Figures) (p : List ℕ) (date : Civil) (t : Transaction) (d : Decision) → NamesStanding d
+        → IfSome (row_in f p date L t d) Stands
+    row_in_stands f p date (Bill b) decision.TooSoon own = too_soon_stands f p date b
+    row_in_stands f p date t d own = own
 
     counted_stand : (period : Span) (t : Transaction) (d : Decision) → All Stands (counted_for period L t d)
     counted_stand period (Bill b) (decision.Payable p) = All-filter (is_counted period b.family) Stands L.rows all_stand
@@ -199,8 +201,8 @@ module _ (L : Ledger) where
           let a = asked lot plan at.place s.heard at.nth in
           let names : NamesStanding x.decision =
           subst (λ (d : Decision). NamesStanding d) (sym is.decision_is) (decision_names a s.transaction) in
-          told_one (row_in plan.figures s.heard.date L s.transaction x.decision) t
-          (row_in_stands plan.figures s.heard.date s.transaction x.decision names) (sym is.standing_is ∙ decided)
+          told_one (row_in plan.figures s.heard.provider s.heard.date L s.transaction x.decision) t
+          (row_in_stands plan.figures s.heard.provider s.heard.date s.transaction x.decision names) (sym is.standing_is ∙ decided)
       shown_stands x t is (inr listed) =
           let rows = counted_for plan.figures.period L s.transaction x.decision in
           let all : All Stands rows = counted_stand plan.figures.period s.transaction x.decision in

@@ -16,7 +16,8 @@ use Rattle.rx_explain.specs.declared.explanation.Explanation.{Explanation}
 use Rattle.rx_explain.specs.declared.traced.Source.TheVariants.{Elsewhere}
 use Rattle.rx_explain.specs.declared.traced.Traced.{Traced}
 use Rattle.rx_explain.specs.Seen.{AreAlike, AreAlikeOf, AreSeen, AreSeenOf, IsAlike, IsDeciderAlike, IsSameSaid, IsSeen}
-use Rattle.rx_explain.specs.Seen.{flag_if, is_of, is_own, is_person, masked, person_if, seen_claim, seen_standing, visible}
+use Rattle.rx_explain.specs.Seen.{is_of, is_own, is_person, masked, person_if, seen_claim, seen_standing, visible}
+use Rattle.rx_explain.specs.Shown.{flag_if}
 use Rattle.rx_explain.proofs.InOrder.{one_if, one_list, rises}
 
 -- ---- one claim

@@ -29,7 +29,7 @@ pub record AreFacts (lot : LotParts) (plan : Plan) (L : Ledger) (at : At) (s : S
   pub transaction_is : x.transaction ≡ s.transaction
   pub decision_is : x.decision ≡ decision_of (asked lot plan at.place s.heard at.nth) L s.transaction
   pub answer_is : x.answer ≡ answer (asked lot plan at.place s.heard at.nth) L s.transaction
-  pub standing_is : x.standing ≡ row_in plan.figures s.heard.date L s.transaction x.decision
+  pub standing_is : x.standing ≡ row_in plan.figures s.heard.provider s.heard.date L s.transaction x.decision
   pub open_from_is : IsOpenFrom plan.figures s.heard.date L s.transaction x.decision x.open_from
   pub workings_are : x.workings ≡ workings_for plan.figures s.transaction x.decision
   pub counted_are : x.counted.items ≡ counted_for plan.figures.period L s.transaction x.decision
@@ -45,7 +45,7 @@ pub record IsOnLedger (lot : LotParts) (plan : Plan) (L : Ledger) (events : List
   pub decision_is : x.decision ≡ decision_of (asked lot plan at.place s.heard at.nth) L s.transaction
   pub answer_is : x.answer ≡ answer (asked lot plan at.place s.heard at.nth) L s.transaction
   pub standing_is : x.standing
-      ≡ option_map (traced events at) (row_in plan.figures s.heard.date L s.transaction x.decision)
+      ≡ option_map (traced events at) (row_in plan.figures s.heard.provider s.heard.date L s.transaction x.decision)
   pub open_from_is : IsOpenFrom plan.figures s.heard.date L s.transaction x.decision x.open_from
   pub workings_are : x.workings ≡ workings_for plan.figures s.transaction x.decision
   pub counted_are : x.counted.items ≡ map (traced events at) (counted_for plan.figures.period L s.transaction x.decision)

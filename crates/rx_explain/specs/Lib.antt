@@ -4,6 +4,7 @@ pub mod Before
 pub mod Explained
 pub mod Found
 pub mod Listed
+pub mod Names
 pub mod Opens
 pub mod Parts
 pub mod Reckoned

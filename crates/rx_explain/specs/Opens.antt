@@ -25,11 +25,11 @@ is_open f rows b d = not (list_any (is_early_fill f d b) rows)
 abbrev pub IsFrom : Civil → Civil → Type 0
 IsFrom date d = IsCivil d × (day_number date ≤ℤ day_number d)
 
--- the first date from another on that is open; None exactly where no such date of the calendar is
+-- the first date of the calendar from another on that is open; None exactly where no such date is
 abbrev pub IsFirstOpen : Figures → List Row → BillParts → Civil → Option Civil → Type 0
 IsFirstOpen f rows b date None = (e : Civil) → IsFrom date e → is_open f rows b e ≡ false
 IsFirstOpen f rows b date (Some d) =
-    (day_number date ≤ℤ day_number d) × (is_open f rows b d ≡ true)
+    IsFrom date d × (is_open f rows b d ≡ true)
     × ((e : Civil) → IsFrom date e → day_number e <ℤ day_number d → is_open f rows b e ≡ false)
 
 -- the first open date from the date of service on, of a billing that is too soon; there is none of any other transaction

@@ -1,6 +1,6 @@
 -- Meaning: what a pharmacy may see of the explanation of its own transaction: its own claims whole, of other pharmacies' claims
 -- only dates and amounts.
-use Rattle.std.specs.Prelude.{◌≡◌, ℕ, Bool, true, false, not, if◌then◌else◌, List, [], ◌∷◌, ◌++◌, ◌⊎◌}
+use Rattle.std.specs.Prelude.{◌≡◌, ℕ, Bool, true, false, not, if◌then◌else◌, List, [], ◌++◌, ◌⊎◌}
 use Rattle.std.specs.Prelude.{Option, Some, None, codes, map}
 use Rattle.std.specs.List.{filter}
 use Rattle.std.specs.List.Sorted.{IsPermutation, IsSortedByKey}
@@ -10,6 +10,7 @@ use Rattle.rx_d0_values.specs.declared.transaction.Transaction.TheVariants.{Bill
 use Rattle.rx_explain.specs.declared.explanation.Explanation.{Explanation}
 use Rattle.rx_explain.specs.declared.traced.Source.TheVariants.{Elsewhere}
 use Rattle.rx_explain.specs.declared.traced.Traced.{Traced}
+use Rattle.rx_explain.specs.Shown.{numbers_of}
 use Rattle.rx_ledger.specs.Members.{is_same}
 use Rattle.rx_sorted.specs.Orders.{text_cmp}
 
@@ -32,20 +33,13 @@ abbrev pub person_if : List ℕ → Bool → List ℕ
 person_if person true = person
 person_if person false = another person
 
-abbrev pub flag_if : Bool → ℕ
-flag_if true = 0
-flag_if false = 1
-
 -- the claim is of the person who is billed for
 abbrev pub is_person : BillParts → Traced → Bool
 is_person b t = is_same t.row.person b.person
 
 -- what is visible of another pharmacy's claim: its date, whether it is of that person, and its amounts
 abbrev pub visible : BillParts → Traced → List ℕ
-visible b t =
-    t.row.key.date.year ∷ t.row.key.date.month ∷ t.row.key.date.day ∷ flag_if (is_person b t)
-    ∷ t.row.pricing.ingredient_cost ∷ t.row.pricing.dispensing_fee ∷ t.row.pricing.deductible ∷ t.row.pricing.copay
-    ∷ t.row.pricing.coinsurance ∷ []
+visible b t = numbers_of (is_person b t) t.row
 
 -- the claim with nothing else of its own: pharmacy, prescription, family, product, quantity, days and number are those of the
 -- transaction that is explained, and so is the person, or one who isn't that

@@ -12,7 +12,7 @@ use crate::family::{is_same, longest_fill};
 use crate::open_from::open_from;
 use crate::subject::Subject;
 use crate::workings::{Workings, workings_for};
-use rx_d0_values::{Answer, Transaction};
+use rx_d0_values::{Answer, Heard, Transaction};
 use rx_fields::{Authorization, Day, Id, Memory, Period, Provider};
 use rx_ledger::{Basis, Decision, Figures, Row, decide};
 use std::alloc::Global;
@@ -82,7 +82,7 @@ pub(crate) fn facts_on<S: Basis>(
         transaction: *transaction,
         decision,
         answer: decision.answer_to(occasion.number, transaction),
-        standing: standing(sheet.figures(), date, rows, transaction, &decision),
+        standing: standing(sheet.figures(), heard, rows, transaction, &decision),
         open_from: open_from(sheet.figures(), date, rows, transaction, &decision),
         workings: workings_for(sheet, transaction, &decision),
         counted: counted_for(alloc, sheet.period(), rows, transaction, &decision)?,
@@ -92,17 +92,19 @@ pub(crate) fn facts_on<S: Basis>(
 // The standing claim that decided: the fill that makes it too soon for longest, else the one that the decision names.
 fn standing(
     figures: &Figures,
-    date: Day,
+    heard: &Heard,
     rows: &[Row],
     transaction: &Transaction,
     decision: &Decision,
 ) -> Option<Row>
     requires { figures.now.refill_percent ≤ 100 }
     ensures { (L : LedgerLists) → HasRows L rows.now transaction.now
-        → result ≡ row_in figures.now date L transaction.now decision.now }
+        → result ≡ row_in figures.now heard.now.provider heard.now.date L transaction.now decision.now }
 {
     match (transaction, decision) {
-        (Transaction::Bill(bill), Decision::TooSoon) => longest_fill(figures, date, bill, rows),
+        (Transaction::Bill(bill), Decision::TooSoon) => {
+            longest_fill(figures, &heard.provider, heard.date, bill, rows)
+        }
         _ => decision.row(),
     }
 }

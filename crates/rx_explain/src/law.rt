@@ -1,4 +1,4 @@
-ghost use Rattle.std.specs.Prelude.{◌≡◌, ◌+◌, ℕ, List, Some, filter, slice_get, sum_by, take};
+ghost use Rattle.std.specs.Prelude.{◌≡◌, ◌+◌, ℕ, List, Some, filter, slice_get, sum_by, take, true};
 ghost use Rattle.rx_d0_values.specs.declared.transaction.Transaction.{Transaction};
 ghost use Rattle.rx_d0_values.specs.declared.transmission.Heard.{Heard as HeardRecord};
 ghost use Rattle.rx_d0_values.specs.declared.transmission.Transmission.{Transmission};
@@ -10,7 +10,7 @@ ghost use Rattle.rx_ledger.specs.declared.row.Row.{Row};
 ghost use Rattle.rx_ledger.specs.Answers.{answer};
 ghost use Rattle.rx_ledger.specs.Decisions.{decision_of};
 ghost use Rattle.rx_ledger.specs.Fold.{answers_from, asked, fold_ledger, fold_replies, ledger_from, reply_to};
-ghost use Rattle.rx_ledger.specs.Ledger.{Ledger, row_under, rows_of};
+ghost use Rattle.rx_ledger.specs.Ledger.{IsLedger, Ledger, row_under, rows_of};
 ghost use Rattle.rx_ledger.specs.Members.{is_same};
 ghost use Rattle.rx_ledger.specs.Plan.{Plan};
 ghost use Rattle.rx_ledger.specs.Rows.{row_key};
@@ -19,6 +19,7 @@ ghost use Rattle.rx_explain.specs.declared.at.At.{At};
 ghost use Rattle.rx_explain.specs.declared.events.Event.{Event};
 ghost use Rattle.rx_explain.specs.declared.explanation.Explanation.{Explanation};
 ghost use Rattle.rx_explain.specs.Explained.{IsExplained, IsOnLedger};
+ghost use Rattle.rx_explain.specs.Names.{DifferInNames};
 ghost use Rattle.rx_explain.specs.Reckoned.{IsAccountedFor};
 ghost use Rattle.rx_explain.specs.Seen.{IsAlike, IsSameSaid, IsSeen};
 ghost use Rattle.rx_explain.specs.Shown.{counted_rows};
@@ -103,4 +104,16 @@ pub fn steps_lead_to_the_answer()
 /// that hangs on these, the same is seen.
 pub fn others_stay_unnamed()
     ensures { (x y u v : Explanation) → IsAlike x y → IsSeen x u → IsSeen y v → IsSameSaid u v }
+{}
+
+/// Names of other pharmacies decide nothing for a pharmacy: in two jobs that differ only in names, products, prescriptions and
+/// pharmacies of other pharmacies' claims, each of its transactions stands at the same place, and is explained alike.
+pub fn others_names_decide_nothing()
+    ensures stands { (own : List ℕ) → (plan : Plan) → (ts us : List Transmission) → (L M : Ledger) → IsLedger L
+        → DifferInNames own plan ts us L M → (at : At) → (s : Spot) → spot_at ts at ≡ Some s
+        → is_same s.heard.provider own ≡ true → spot_at us at ≡ Some s }
+    ensures explained { (own : List ℕ) → (lot : LotParts) → (plan : Plan) → (ts us : List Transmission) → (L M : Ledger)
+        → IsLedger L → DifferInNames own plan ts us L M → (at : At) → (s : Spot) → spot_at ts at ≡ Some s
+        → is_same s.heard.provider own ≡ true → (x y : Explanation) → IsExplained lot plan ts L at (Some s) (Some x)
+        → IsExplained lot plan us M at (Some s) (Some y) → IsAlike x y }
 {}

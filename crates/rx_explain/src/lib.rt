@@ -27,6 +27,7 @@ mod seen;
 mod spot;
 mod subject;
 mod traced;
+mod visible;
 mod workings;
 
 pub use advance::explain_next;
@@ -36,8 +37,8 @@ pub use explanation::Explanation;
 pub use facts::Facts;
 pub use finding::{Wanted, find};
 pub use law::{
-    others_stay_unnamed, reply_is_shown, sources_are_true, steps_lead_to_the_answer,
-    sums_are_of_counted_rows,
+    others_names_decide_nothing, others_stay_unnamed, reply_is_shown, sources_are_true,
+    steps_lead_to_the_answer, sums_are_of_counted_rows,
 };
 pub use spot::item;
 pub use subject::Subject;

@@ -34,10 +34,13 @@ fn first_open(figures: &Figures, date: Day, bill: &Bill, rows: &[Row]) -> Option
     ensures { IsFirstOpen figures.now rows.now bill.now date result }
 {
     let mut day = date;
-    while has_early_fill(figures, day, bill, rows) {
-        day = day.plus(1)?;
+    loop {
+        let next = day.plus(1);
+        if !has_early_fill(figures, day, bill, rows) {
+            return Some(day);
+        }
+        day = next?;
     }
-    Some(day)
 }
 
 fn has_early_fill(figures: &Figures, date: Day, bill: &Bill, rows: &[Row]) -> bool

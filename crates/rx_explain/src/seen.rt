@@ -3,12 +3,13 @@ ghost use Rattle.std.specs.List.{filter};
 ghost use Rattle.std.specs.List.Sorted.{IsPermutation, IsSortedByKey};
 ghost use Rattle.rx_ledger.specs.Members.{is_same};
 ghost use Rattle.rx_sorted.specs.Orders.{text_cmp};
-ghost use Rattle.rx_explain.specs.Seen.{AreSeen, AreSeenOf, IsSeen, another, flag_if, is_of, is_own, is_person, masked};
+ghost use Rattle.rx_explain.specs.Seen.{AreSeen, AreSeenOf, IsSeen, another, is_of, is_own, is_person, masked};
 ghost use Rattle.rx_explain.specs.Seen.{person_if, seen_claim, seen_standing, visible};
 
 use crate::explanation::Explanation;
 use crate::traced::{Source, Traced};
-use rx_d0_values::{Amounts, Bill, BillParts, Transaction};
+use crate::visible::numbers_of;
+use rx_d0_values::{Bill, BillParts, Transaction};
 use rx_fields::{Key, Memory, Person, Provider};
 use rx_ledger::Row;
 use std::alloc::{AllocError, Global};
@@ -136,33 +137,7 @@ fn in_order(claims: Vec<Traced>, bill: &Bill) -> Result<Vec<Traced>, Memory>
 fn visible(bill: &Bill, traced: &Traced) -> [u64; 9]
     ensures { result ≡ visible bill.now traced.now }
 {
-    let date = traced.row.key.date;
-    let Amounts {
-        ingredient_cost,
-        dispensing_fee,
-        deductible,
-        copay,
-        coinsurance,
-    } = traced.row.pricing.amounts();
-    let person = flag_if(is_person(bill, traced));
-    [
-        u64::from(date.year()),
-        u64::from(date.month()),
-        u64::from(date.day()),
-        person,
-        ingredient_cost,
-        dispensing_fee,
-        deductible,
-        copay,
-        coinsurance,
-    ]
-}
-
-// The person who is billed for as a number, or another.
-fn flag_if(is_person: bool) -> u64
-    ensures { result ≡ flag_if is_person }
-{
-    if is_person { 0 } else { 1 }
+    numbers_of(is_person(bill, traced), &traced.row)
 }
 
 // Puts the claims after others, masked.
