@@ -2,7 +2,7 @@
 _rxbatch() {
   local word=${COMP_WORDS[COMP_CWORD]} before=${COMP_WORDS[COMP_CWORD - 1]} words files others again left name
   if [ "$COMP_CWORD" -eq 1 ]; then
-    mapfile -t COMPREPLY < <(compgen -W 'run show plan sample check explain verify report replies settle compare excerpt adjudicate fault members age family help --help --version -V' -- "$word")
+    mapfile -t COMPREPLY < <(compgen -W 'run show plan sample check explain verify report replies settle compare excerpt adjudicate fault members age family route help --help --version -V' -- "$word")
     return
   fi
   # --option=value is three words here
@@ -25,7 +25,8 @@ _rxbatch() {
     members) words='--books --period --members --books-out --report --safe'; files='--books|--members|--books-out|--report'; others='--period' ;;
     age) words='--books --before --period --sheet --refill-percent --books-out --dropped --safe'; files='--books|--sheet|--books-out|--dropped'; others='--before|--period|--refill-percent' ;;
     family) words='--books --family --person --sheet --tsv --json --html'; files='--books|--sheet'; others='--family|--person' ;;
-    help) words='run show plan sample check explain verify report replies settle compare excerpt adjudicate fault members age family'; files=''; others='' ;;
+    route) words='--plans --batch --stamp --workers --response --settlement --safe -v --verbose --log'; files='--plans|--batch|--response|--settlement|--log'; others='--stamp|--workers' ;;
+    help) words='run show plan sample check explain verify report replies settle compare excerpt adjudicate fault members age family route'; files=''; others='' ;;
   esac
   if [ -n "$files" ] && [[ "|$files|" == *"|$before|"* ]]; then
     mapfile -t COMPREPLY < <(compgen -f -- "$word")

@@ -12,6 +12,7 @@ import tempfile
 INPUTS = ("--sheet=s", "--books=b", "--batch=c")
 OUTPUTS = ("--stamp=d", "--response=e", "--books-out=f", "--settlement=g")
 RUN = ("run", *INPUTS, *OUTPUTS)
+ROUTE = ("route", "--plans=p", "--batch=c", "--stamp=d", "--response=e", "--settlement=g")
 EXPLAIN = ("explain", *INPUTS)
 EXCERPT = ("excerpt", *INPUTS, "--out=o")
 ADJUDICATE = ("adjudicate", *INPUTS, "--out=o")
@@ -40,6 +41,9 @@ REFUSED = (
     ((*ADJUDICATE, "--safe"), "error: unexpected argument '--safe' found\n", "Usage: rxbatch adjudicate "),
     (("fault", "4", "5"), "error: the following required arguments were not provided:\n  <P>\n", "Usage: rxbatch fault "),
     (("fault", "4", "5", "x"), "error: expected the three numbers of a line 'refused N M P'\n", "Usage: rxbatch fault "),
+    (ROUTE[:-1], "error: the following required arguments were not provided:\n  --settlement <FILE>\n", "Usage: rxbatch route "),
+    ((*ROUTE, "--workers=+4"), "error: invalid value '+4' for '--workers <N>': expected a number from 1 to 64", "rxbatch route "),
+    ((*ROUTE, "--sheet=s"), "error: unexpected argument '--sheet' found\n", "Usage: rxbatch route "),
     ((*VERIFY, "--workers=+4"), "error: invalid value '+4' for '--workers <N>': ", "Usage: rxbatch verify "),
     (EXPLAIN, "error: expected one of '--record <PLACE>', '--number <AUTHORIZATION>' and", "\n\nUsage: rxbatch explain "),
     ((*EXPLAIN, "--record=4", "--number=1"), "error: ", "\n\nUsage: rxbatch explain "),

@@ -3,7 +3,7 @@ use Rattle.std.proofs.Common.{◌≡◌, ◌∙◌, ◌<◌, ℕ, List, [], ◌�
 use Rattle.clap.specs.Words.{Row, Text}
 use Rattle.rx_cli.specs.Asked.{HoldsExcerpt, HoldsFault, HoldsNamed, NoneHolds}
 use Rattle.rx_cli.specs.declared.asked.Command.TheVariants.{Run, Show, Plan, Sample, Check, Explain, Verify, Report, Replies}
-use Rattle.rx_cli.specs.declared.asked.Command.TheVariants.{Adjudicate, Age, Compare, Excerpt, Fault, Members, Settle, ShowFamily}
+use Rattle.rx_cli.specs.declared.asked.Command.TheVariants.{Adjudicate, Age, Compare, Excerpt, Fault, Members, Route, Settle, ShowFamily}
 
 -- the first letter
 letter : Text → ℕ
@@ -47,6 +47,8 @@ no_fault_named name rows is none (Age a) h =
     below 97 102 (ap letter (sym h.0 ∙ is)) (omega arith)
 no_fault_named name rows is none (ShowFamily f) h =
     below 109 117 (ap third (sym h.0 ∙ is)) (omega arith)
+no_fault_named name rows is none (Route r) h =
+    below 102 114 (ap letter (sym is ∙ h.0)) (omega arith)
 no_fault_named name rows is none (Replies p) h =
     below 102 114 (ap letter (sym is ∙ h.0)) (omega arith)
 no_fault_named name rows is none (Compare c) h =
@@ -83,6 +85,8 @@ no_excerpt_named name rows is none (Age a) h =
     below 97 101 (ap letter (sym h.0 ∙ is)) (omega arith)
 no_excerpt_named name rows is none (ShowFamily f) h =
     below 101 102 (ap letter (sym is ∙ h.0)) (omega arith)
+no_excerpt_named name rows is none (Route r) h =
+    below 101 114 (ap letter (sym is ∙ h.0)) (omega arith)
 no_excerpt_named name rows is none (Replies p) h =
     below 101 114 (ap letter (sym is ∙ h.0)) (omega arith)
 no_excerpt_named name rows is none (Compare c) h =

@@ -13,7 +13,7 @@ use Rattle.rx_io.specs.declared.files.Outputs.{Outputs}
 use Rattle.rx_cli.specs.Paths.{has_twice, paths_of}
 use Rattle.rx_cli.specs.declared.asked.Command.{Command}
 use Rattle.rx_cli.specs.declared.asked.Command.TheVariants.{Run, Show, Plan, Sample, Check, Explain, Verify, Report, Replies}
-use Rattle.rx_cli.specs.declared.asked.Command.TheVariants.{Adjudicate, Age, Compare, Excerpt, Fault, Members, Settle, ShowFamily}
+use Rattle.rx_cli.specs.declared.asked.Command.TheVariants.{Adjudicate, Age, Compare, Excerpt, Fault, Members, Route, Settle, ShowFamily}
 use Rattle.rx_cli.specs.declared.dispute.ExcerptWords.{ExcerptWords}
 use Rattle.rx_cli.specs.declared.people.AdjudicateWords.{AdjudicateWords}
 use Rattle.rx_cli.specs.declared.people.FaultNumbers.{FaultNumbers}
@@ -32,6 +32,8 @@ use Rattle.rx_cli.specs.declared.retrace.Portion.TheVariants.{Whole, Provider, F
 use Rattle.rx_cli.specs.declared.retrace.ReportWords.{ReportWords}
 use Rattle.rx_cli.specs.declared.retrace.VerifyWords.{VerifyWords}
 use Rattle.rx_cli.specs.declared.settle_options.SettleWords.{SettleWords}
+use Rattle.rx_cli.specs.declared.switch.RouteWords.{RouteWords}
+use Rattle.rx_cli.specs.declared.switch.SwitchFiles.{SwitchFiles}
 use Rattle.rx_cli.specs.declared.upkeep.AgeWords.{AgeWords}
 use Rattle.rx_cli.specs.declared.upkeep.FamilyForm.{FamilyForm}
 use Rattle.rx_cli.specs.declared.upkeep.FamilyForm.TheVariants as family
@@ -301,6 +303,22 @@ pub record HoldsFamily (rows : List Row) (f : FamilyWords) : Type 0 where
   pub sheet : MayHaveText rows (codes "sheet") f.sheet
   pub form : family_form_in rows ≡ Some f.form
 
+-- the files of a command for several plans are the values of their options
+pub record HoldsSwitchFiles (rows : List Row) (f : SwitchFiles) : Type 0 where
+  pub plans : HasText rows (codes "plans") f.plans.now
+  pub batch : HasText rows (codes "batch") f.batch.now
+  pub response : HasText rows (codes "response") f.response.now
+  pub settlement : HasText rows (codes "settlement") f.settlement.now
+
+-- what `route` takes is the values of its options
+pub record HoldsRoute (rows : List Row) (r : RouteWords) : Type 0 where
+  pub files : HoldsSwitchFiles rows r.files
+  pub stamp : HasText rows (codes "stamp") r.stamp.now
+  pub workers : MayHaveNumber rows (codes "workers") r.workers
+  pub safe : r.safe ≡ is_set (codes "safe") rows
+  pub verbose : r.verbose ≡ is_set (codes "verbose") rows
+  pub log : MayHaveText rows (codes "log") r.log
+
 -- the command has the name of this subcommand, and the values of its options
 abbrev pub HoldsNamed : Text → List Row → Command → Type 0
 HoldsNamed name rows (Run r) = (name ≡ codes "run") × HoldsRunApart rows r
@@ -317,6 +335,7 @@ HoldsNamed name rows (Fault f) = (name ≡ codes "fault") × HoldsFault rows f
 HoldsNamed name rows (Members m) = (name ≡ codes "members") × HoldsMembers rows m
 HoldsNamed name rows (Age a) = (name ≡ codes "age") × HoldsAge rows a
 HoldsNamed name rows (ShowFamily f) = (name ≡ codes "family") × HoldsFamily rows f
+HoldsNamed name rows (Route r) = (name ≡ codes "route") × HoldsRoute rows r
 HoldsNamed name rows (Replies path) = (name ≡ codes "replies") × HasText rows (codes "response") path.now
 HoldsNamed name rows (Compare c) = (name ≡ codes "compare") × HoldsCompare rows c
 HoldsNamed name rows (Settle s) = (name ≡ codes "settle") × HoldsSettle rows s

@@ -170,6 +170,28 @@ family_line = with_rule (with_rule (with_rule (with_rule (with_rule (with_rule (
     (required_option (codes "books"))) (required_option (codes "family"))) (optional_option (codes "person")))
     (optional_option (codes "sheet"))) (flag (codes "tsv"))) (flag (codes "json"))) (flag (codes "html"))
 
+-- the line with the plans file and the batch file
+abbrev pub with_switch_inputs : App → App
+with_switch_inputs line = with_rule (with_rule line (required_option (codes "plans"))) (required_option (codes "batch"))
+
+-- the line with the outputs of all plans
+abbrev pub with_switch_outputs : App → App
+with_switch_outputs line =
+    with_rule (with_rule line (required_option (codes "response"))) (required_option (codes "settlement"))
+
+-- the line with the stamp and the workers
+abbrev pub with_route_options : App → App
+with_route_options line = with_rule (with_rule line (required_option (codes "stamp"))) workers_option
+
+-- the line with what a run of several plans says of itself
+abbrev pub with_switch_watch : App → App
+with_switch_watch line = with_rule (with_rule line verbose_flag) (optional_option (codes "log"))
+
+-- `route --plans F --batch F --stamp S [--workers N] --response F --settlement F [--safe] [-v] [--log F]`
+abbrev pub route_line : App
+route_line = with_switch_watch (with_rule (with_switch_outputs (with_route_options (with_switch_inputs
+    (new_app (codes "route"))))) (flag (codes "safe")))
+
 -- the line of which a subcommand has to stand
 abbrev pub with_subcommand_required : App → App
 with_subcommand_required line = record line { top = record line.top { subcommand_required = true } }
@@ -210,9 +232,13 @@ with_people line = with_subcommand (with_subcommand line adjudicate_line.top) fa
 abbrev pub with_upkeep : App → App
 with_upkeep line = with_subcommand (with_subcommand (with_subcommand line members_line.top) age_line.top) family_line.top
 
+-- the line with the subcommand for several plans
+abbrev pub with_switch : App → App
+with_switch line = with_subcommand line route_line.top
+
 -- `rxbatch run ..` and so on, or `rxbatch --version`
 abbrev pub whole_line : App
-whole_line = with_upkeep (with_people (with_disputes (with_retracing (with_adjudication program))))
+whole_line = with_switch (with_upkeep (with_people (with_disputes (with_retracing (with_adjudication program)))))
 
 -- no option of the line is one of its subcommands' too
 abbrev pub IsLocal : Command → Type 0

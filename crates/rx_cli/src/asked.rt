@@ -8,6 +8,7 @@ use crate::paths::has_one_twice;
 use crate::people::{AdjudicateWords, FaultNumbers};
 use crate::retrace::{ExplainWords, ReportWords, VerifyWords};
 use crate::settle_options::SettleWords;
+use crate::switch::RouteWords;
 use crate::upkeep::{AgeWords, FamilyWords, MembersWords};
 use rx_io::{Inputs, Outputs};
 
@@ -107,6 +108,8 @@ pub enum Command<'a> {
     Age(AgeWords<'a>),
     /// `family`: a family of the books.
     ShowFamily(FamilyWords<'a>),
+    /// `route`: adjudicates a batch file for several plans.
+    Route(RouteWords<'a>),
     /// `replies`: one line per reply of this response file.
     Replies(&'a str),
     /// `compare`: which answers would be others.

@@ -7,6 +7,7 @@ use crate::dispute_syntax::excerpt;
 use crate::fault::WordsFault;
 use crate::options::text;
 use crate::people_syntax::{adjudicate, fault as fault_line};
+use crate::switch_syntax::route;
 use crate::syntax::{explain, report, run, verify};
 use crate::upkeep_syntax::{age, family, members};
 use clap::error::ErrorKind;
@@ -40,6 +41,13 @@ pub(crate) fn fault_no_number(alloc: Global) -> WordsFault
 {
     let text = "expected the three numbers of a line 'refused N M P'";
     invalid(fault_line(alloc).line(), "rxbatch fault", text)
+}
+
+/// The fault of `route` with such workers.
+pub(crate) fn route_miscounted(alloc: Global, found: &ArgMatches<'_>) -> WordsFault
+    ensures { IsMisuse ErrorKind.ValueValidation result }
+{
+    miscounted(alloc, route(alloc).line(), "rxbatch route", found)
 }
 
 /// The fault of `explain`: it is asked after no thing or more than one, or after what isn't a number.

@@ -12,6 +12,7 @@ use crate::dispute_syntax::takes_disputes;
 use crate::draft::Draft;
 use crate::people_syntax::takes_people;
 use crate::settle_options::settle_line;
+use crate::switch_syntax::takes_switch;
 use crate::upkeep_syntax::takes_upkeep;
 use clap::{Arg, ArgAction, Command as Line};
 use std::alloc::{AllocError, Global};
@@ -377,5 +378,6 @@ pub(crate) fn line<'a>(alloc: Global) -> Result<Line<'a>, AllocError>
     let retraces = takes_retracing(alloc, adjudicates);
     let disputed = takes_disputes(alloc, retraces);
     let peopled = takes_people(alloc, disputed);
-    takes_upkeep(alloc, peopled).line()
+    let kept_up = takes_upkeep(alloc, peopled);
+    takes_switch(alloc, kept_up).line()
 }

@@ -11,12 +11,13 @@ use crate::dispute_words::excerpt;
 use crate::fault::WordsFault;
 use crate::misuse::{
     age_conflict, excerpt_no_number, explain_misuse, family_conflict, fault_no_number,
-    members_conflict, report_conflict, run_miscounted, verify_miscounted,
+    members_conflict, report_conflict, route_miscounted, run_miscounted, verify_miscounted,
 };
 use crate::options::{flag, inputs, number_if_given, outputs, text};
 use crate::people_words::{adjudicate_taken, fault};
 use crate::retrace_options::{explain, report, verify};
 use crate::settle_options::settle;
+use crate::switch_options::route;
 use crate::syntax::line;
 use crate::upkeep_options::{age, family, members};
 use clap::ArgMatches;
@@ -114,6 +115,10 @@ fn named<'a>(alloc: Global, name: &str, found: &ArgMatches<'a>) -> Result<Comman
         "verify" => match verify(found) {
             Some(verify) => Ok(Command::Verify(verify)),
             None => Err(verify_miscounted(alloc, found)),
+        },
+        "route" => match route(found) {
+            Some(route) => Ok(Command::Route(route)),
+            None => Err(route_miscounted(alloc, found)),
         },
         "report" => match report(found) {
             Some(report) => Ok(Command::Report(report)),

@@ -107,9 +107,9 @@ said_data r = object (member (codes "fault") (text_data r.fault) (member (codes 
 abbrev pub run_data : RunLog → Data
 run_data r = object (member (codes "counts") (counts_data r) (member (codes "desk") (boolean r.desk)
     (member (codes "machine") (machine_data r) (member (codes "plain") (boolean r.plain)
-    (member (codes "safe") (boolean r.safe) (member (codes "stamp") (string r.stamp.now)
-    (member (codes "time") (time_data r) (member (codes "words") (said_data r)
-    (member (codes "workers") (number (unsigned r.workers)) no_members)))))))))
+    (member (codes "plan") (text_data r.plan) (member (codes "safe") (boolean r.safe)
+    (member (codes "stamp") (string r.stamp.now) (member (codes "time") (time_data r)
+    (member (codes "words") (said_data r) (member (codes "workers") (number (unsigned r.workers)) no_members))))))))))
 
 -- the whole
 abbrev pub log_data : RunLog → Data

@@ -201,6 +201,7 @@ fn run(alloc: Global, log: &RunLog<'_>) -> Result<Value, AllocError>
         "desk": log.desk,
         "machine": machine(alloc, log)?,
         "plain": log.plain,
+        "plan": text(alloc, log.plan)?,
         "safe": log.safe,
         "stamp": log.stamp,
         "time": time(alloc, log)?,

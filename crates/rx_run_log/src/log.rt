@@ -35,6 +35,8 @@ pub struct RunLog<'a> {
     pub host: Option<&'a str>,
     /// The number of the process.
     pub process: u32,
+    /// The name of the plan, where the run is one of several plans'.
+    pub plan: Option<&'a str>,
     /// The exit status.
     pub status: u8,
     /// The three numbers of a refusal.

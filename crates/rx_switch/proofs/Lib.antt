@@ -1,8 +1,16 @@
+pub mod Alone
+pub mod Finished
+pub mod Mapped
 pub mod NoThread
 pub mod OneOutput
+pub mod OneRoute
+pub mod Opening
+pub mod PlanRefusals
 pub mod Refusals
 pub mod Replied
 pub mod Unplanned
 pub mod Unread
 pub mod Unwritten
 pub mod Stopped
+pub mod Routing
+pub mod Runs

@@ -19,21 +19,21 @@ use Rattle.rx_switch.specs.Output.{Accepted, Given, IsOutput, StandFor, Texts, t
 abbrev good : {A E : Type 0} → A → Result A E
 good x = Ok x
 
-good_same : {A E : Type 0} (x y : A) → good {A = A} {E = E} x ≡ good y → x ≡ y
+pub good_same : {A E : Type 0} (x y : A) → good {A = A} {E = E} x ≡ good y → x ≡ y
 good_same x y e = cc
 
-abbrev books_read : Span → Ledger → LedgerBooks
+abbrev pub books_read : Span → Ledger → LedgerBooks
 books_read period L = record { period = period; ledger = L }
 
 -- a books text is read as its books
-books_are : (text : List ℕ) (period : Span) (L : Ledger) → IsBooksText text period L
+pub books_are : (text : List ℕ) (period : Span) (L : Ledger) → IsBooksText text period L
     → books_of text ≡ Ok (books_read period L)
 books_are text period L is =
     let q : PrintedParts = parts_of is.version period L in
     ap books_of is.is_text ∙ ap (λ s. s >>= books_of_parts) (printed_again q is.printed)
     ∙ ap (unless_wrong (unsummed q)) (parts_right is.version period L is.printed)
 
-abbrev batch_read : Head → List Detail → Batch
+abbrev pub batch_read : Head → List Detail → Batch
 batch_read head details = record { head = head; details = details }
 
 same_inputs : (g : Given) (x y : Accepted) → StandFor g x → StandFor g y → x ≡ y

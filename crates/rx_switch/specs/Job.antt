@@ -40,11 +40,11 @@ texts_in output =
     }
 
 -- the same of an output in pieces
-abbrev pub texts_in_pieces : {X Y Z : Type 0} → Outputs (Vec (Vec ℕ X) Y) Pieces (Vec ℕ Z) → Texts
+abbrev pub texts_in_pieces : {W X Y Z : Type 0} → Outputs (Vec (Vec ℕ X) Y) (Vec Pieces W) (Vec ℕ Z) → Texts
 texts_in_pieces output =
     record {
       response = flat_map vec_items output.response.items;
-      books = text_of output.books;
+      books = flat_map text_of output.books.items;
       settlement = output.settlement.items;
     }
 

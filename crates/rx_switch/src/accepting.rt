@@ -192,7 +192,7 @@ fn share_of(parts: usize, bytes: usize, others: usize) -> usize {
 }
 
 // The run's date and time.
-fn stamp_for(workers: u16, stamp: &[u8]) -> Result<Stamp, SwitchFault>
+pub(crate) fn stamp_for(workers: u16, stamp: &[u8]) -> Result<Stamp, SwitchFault>
     ensures { result ≡ stamp_for workers stamp.now }
 {
     if workers < 1 || workers > MOST_WORKERS {

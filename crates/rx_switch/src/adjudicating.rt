@@ -1,4 +1,6 @@
 ghost use Rattle.std.specs.Prelude.{◌≡◌, ◌≤◌, IfErr, IfOk, length, true};
+ghost use Rattle.std.specs.List.{flat_map};
+ghost use Rattle.std.specs.Vec.{vec_items};
 ghost use Rattle.rx_books_store.specs.BooksText.{books_text};
 ghost use Rattle.rx_books_text.specs.declared.version.Version.TheVariants.{Three};
 ghost use Rattle.rx_fields.specs.declared.limits.TheConstants.{MOST_DETAILS};
@@ -141,8 +143,8 @@ fn render<R: Threads + Sync>(
     }) }
 {
     if parts < 2 {
-        let replied = render_replies(rt, alloc, parts, batch, stamp, &finished.replies)?;
-        let books = finished.books.write_pieces(rt, alloc, parts)?;
+        let replied = render_replies(rt, alloc, batch, stamp, &finished.replies, parts)?;
+        let books = finished.books.write_parts(rt, alloc, parts)?;
         return Ok(replied.with_books(books));
     }
     let (books, replied) = render_apart(rt, alloc, parts, batch, stamp, finished);
@@ -157,35 +159,36 @@ fn render_apart<R: Threads + Sync>(
     batch: &Batch,
     stamp: &Stamp,
     finished: &Finished,
-) -> (Result<Pieces, Memory>, Result<Replied, Memory>)
+) -> (Result<Vec<Pieces>, Memory>, Result<Replied, Memory>)
     requires equally_many { length batch.now.details ≡ length finished.now.replies.items }
     requires few { length batch.now.details ≤ MOST_DETAILS }
-    ensures books { IfOk result.0 (λ books. text_of books ≡ books_text Three finished.now.books.period finished.now.books.ledger) }
+    ensures books { IfOk result.0 (λ books. flat_map text_of books.items
+        ≡ books_text Three finished.now.books.period finished.now.books.ledger) }
     ensures replied { IfOk result.1 (IsOfReplies batch.now stamp.now finished.now.replies.items) }
 {
     thread::join(
         rt,
-        || -> Result<Pieces, Memory>
-            ensures { IfOk result (λ books. text_of books
+        || -> Result<Vec<Pieces>, Memory>
+            ensures { IfOk result (λ books. flat_map text_of books.items
                 ≡ books_text Three finished.entry.now.books.period finished.entry.now.books.ledger) }
-        { finished.books.write_pieces(rt, alloc, parts) },
+        { finished.books.write_parts(rt, alloc, parts) },
         || -> Result<Replied, Memory>
             requires { (length batch.now.details ≡ length finished.now.replies.items) × (length batch.now.details ≤ MOST_DETAILS) }
             ensures { IfOk result (IsOfReplies batch.entry.now stamp.entry.now finished.entry.now.replies.items) }
-        { render_replies(rt, alloc, parts, batch, stamp, &finished.replies) },
+        { render_replies(rt, alloc, batch, stamp, &finished.replies, parts) },
     )
 }
 
 // The texts of the replies to a batch's details.
 #[derive(Drop)]
-struct Replied {
-    response: Vec<Vec<u8>>,
-    settlement: Vec<u8>,
+pub(crate) struct Replied {
+    pub(crate) response: Vec<Vec<u8>>,
+    pub(crate) settlement: Vec<u8>,
 }
 
 impl Replied {
     // All three texts.
-    fn with_books(self, books: Pieces) -> OutputPieces
+    fn with_books(self, books: Vec<Pieces>) -> OutputPieces
         ensures { result ≡ record { response = self.response; books = books; settlement = self.settlement } }
     {
         let Replied {
@@ -201,25 +204,60 @@ impl Replied {
 }
 
 // The response file and the settlement.
-fn render_replies<R: Threads + Sync>(
+pub(crate) fn render_replies<R: Threads + Sync>(
     rt: &R,
     alloc: Global,
-    parts: usize,
     batch: &Batch,
     stamp: &Stamp,
     replies: &[Reply],
+    parts: usize,
 ) -> Result<Replied, Memory>
     requires equally_many { length batch.now.details ≡ length replies.now }
     requires few { length batch.now.details ≤ MOST_DETAILS }
     ensures { IfOk result (IsOfReplies batch.now stamp.now replies.now) }
 {
-    let details = batch.details.as_slice();
-    let response = response_pieces(rt, alloc, parts, &batch.head, *stamp, details, replies)?;
-    let settlement = settle(alloc, batch.head.lot(), *stamp, replies)?;
+    let (lot, stamp) = (batch.head.lot(), *stamp);
+    if parts < 2 {
+        let response = response_of(rt, alloc, parts, batch, stamp, replies)?;
+        let settlement = settle(alloc, lot, stamp, replies)?;
+        return Ok(Replied {
+            response,
+            settlement,
+        });
+    }
+    let (settlement, response) = thread::join(
+        rt,
+        || -> Result<Vec<u8>, Memory>
+            ensures { IfOk result (λ text. text.items ≡ settlement_text lot stamp replies.entry.now) }
+        { settle(alloc, lot, stamp, replies) },
+        || -> Result<Vec<Vec<u8>>, Memory>
+            requires { (length batch.now.details ≡ length replies.now) × (length batch.now.details ≤ MOST_DETAILS) }
+            ensures { IfOk result (λ pieces. flat_map vec_items pieces.items
+                ≡ response_text batch.entry.now.head stamp batch.entry.now.details replies.entry.now) }
+        { response_of(rt, alloc, parts, batch, stamp, replies) },
+    );
     Ok(Replied {
-        response,
-        settlement,
+        response: response?,
+        settlement: settlement?,
     })
+}
+
+// The response file, in pieces.
+fn response_of<R: Threads + Sync>(
+    rt: &R,
+    alloc: Global,
+    parts: usize,
+    batch: &Batch,
+    stamp: Stamp,
+    replies: &[Reply],
+) -> Result<Vec<Vec<u8>>, Memory>
+    requires equally_many { length batch.now.details ≡ length replies.now }
+    requires few { length batch.now.details ≤ MOST_DETAILS }
+    ensures { IfOk result (λ pieces. flat_map vec_items pieces.items
+        ≡ response_text batch.now.head stamp batch.now.details replies.now) }
+{
+    let details = batch.details.as_slice();
+    response_pieces(rt, alloc, parts, &batch.head, stamp, details, replies)
 }
 
 // The books after a batch's records, with the totals of the sheet's period, and the replies to them.

@@ -1,4 +1,7 @@
 ghost use Rattle.std.specs.Prelude.{◌≡◌, IfOk};
+ghost use Rattle.std.specs.List.{flat_map};
+ghost use Rattle.std.specs.Vec.{vec_items};
+ghost use Rattle.rx_io.specs.Pieces.{text_of};
 ghost use Rattle.rx_switch.specs.Job.{texts_in, texts_in_pieces};
 
 use rx_fields::Memory;
@@ -34,7 +37,7 @@ pub struct Output {
 }
 
 /// The same, where the response and the end books are in pieces, one after another.
-pub(crate) type OutputPieces = Outputs<Vec<Vec<u8>>, Pieces, Vec<u8>>;
+pub(crate) type OutputPieces = Outputs<Vec<Vec<u8>>, Vec<Pieces>, Vec<u8>>;
 
 /// The three texts, each whole.
 pub(crate) fn joined(alloc: Global, pieces: OutputPieces) -> Result<Output, Memory>
@@ -47,7 +50,18 @@ pub(crate) fn joined(alloc: Global, pieces: OutputPieces) -> Result<Output, Memo
     } = pieces;
     Ok(Output {
         response: one_text(alloc, response)?,
-        books: books.joined(alloc)?,
+        books: one_text(alloc, texts_of(alloc, books)?)?,
         settlement,
     })
+}
+
+// The text of each of these pieces.
+fn texts_of(alloc: Global, list: Vec<Pieces>) -> Result<Vec<Vec<u8>>, Memory>
+    ensures { IfOk result (λ texts. flat_map vec_items texts.items ≡ flat_map text_of list.items) }
+{
+    let mut texts = Vec::with_capacity(alloc, list.len())?;
+    for pieces in list {
+        texts.push(pieces.joined(alloc)?)?;
+    }
+    Ok(texts)
 }

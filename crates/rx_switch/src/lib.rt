@@ -14,14 +14,21 @@
 
 mod accepting;
 mod adjudicating;
+mod dealt_records;
 mod fault;
+mod finished_plans;
 mod inputs;
 mod job;
 mod law;
 mod on_devices;
+mod open_plans;
 mod outputs;
 mod plan;
+mod route_fault;
+mod route_job;
+mod route_law;
 mod running;
+mod several_plans;
 mod show;
 mod telling;
 
@@ -31,6 +38,9 @@ pub use job::{Job, Output};
 pub use law::one_output;
 pub use on_devices::run_io;
 pub use plan::plan_text;
+pub use route_fault::RouteFault;
+pub use route_job::{PlanJob, PlanOutput, RouteJob, RouteOutput};
+pub use route_law::{law_of_one_route, law_of_own_records, law_of_route, law_of_runs};
 pub use running::run;
 pub use rx_batch::BatchFault;
 pub use rx_books_text::BooksFault;
@@ -39,5 +49,6 @@ pub use rx_ledger::SheetKey;
 pub use rx_sheet::SheetFault;
 pub use rx_show::sample_line;
 pub use rx_wave::{Deal, Gate, NoGate};
+pub use several_plans::route;
 pub use show::show_text;
 pub use telling::told;

@@ -1,4 +1,4 @@
-ghost use Rattle.std.specs.Prelude.{◌≡◌, IfErr, OnOk, false};
+ghost use Rattle.std.specs.Prelude.{◌≡◌, IfErr, OnOk, false, is_err};
 ghost use Rattle.std.specs.Io.KnownBytes.{Appends};
 ghost use Rattle.std.specs.List.{flat_map};
 ghost use Rattle.std.specs.Vec.{vec_items};
@@ -10,7 +10,7 @@ ghost use Rattle.rx_switch.specs.declared.fault.IoFault.TheVariants as io;
 
 use crate::fault::IoFault;
 use crate::job::OutputPieces;
-use rx_io::{Device, Outputs, Pieces, Sink, write_pieces};
+use rx_io::{Device, Failed, Outputs, Pieces, Sink, write_pieces};
 use std::alloc::Global;
 use std::slice;
 
@@ -55,15 +55,28 @@ fn write_text<S: Sink>(sink: &mut S, pieces: &[Vec<u8>], device: Device) -> Resu
 }
 
 // Writes the text of the end books to its end.
-fn write_books<S: Sink>(alloc: Global, sink: &mut S, pieces: &Pieces) -> Result<(), IoFault>
+fn write_books<S: Sink>(alloc: Global, sink: &mut S, list: &[Pieces]) -> Result<(), IoFault>
     requires { S.failed sink.old ≡ false }
-    ensures whole { OnOk result (Appends (S.written sink.old) (S.written sink.new) (text_of pieces.now)) }
-    ensures front { AppendsFront (S.written sink.old) (S.written sink.new) (text_of pieces.now) }
+    ensures whole { OnOk result (Appends (S.written sink.old) (S.written sink.new) (flat_map text_of list.now)) }
+    ensures front { AppendsFront (S.written sink.old) (S.written sink.new) (flat_map text_of list.now) }
     ensures fault { IfErr result (λ fault. fault ≡ io.Write Device.EndBooks) }
     ensures failed { S.failed sink.new ≡ has_failed Device.EndBooks result }
 {
-    match pieces.write_to(alloc, sink) {
+    match write_each(alloc, sink, list) {
         Ok(()) => Ok(()),
         Err(_) => Err(IoFault::Write(Device::EndBooks)),
     }
+}
+
+// Writes the texts of these pieces, one after another.
+fn write_each<S: Sink>(alloc: Global, sink: &mut S, list: &[Pieces]) -> Result<(), Failed>
+    requires { S.failed sink.old ≡ false }
+    ensures whole { OnOk result (Appends (S.written sink.old) (S.written sink.new) (flat_map text_of list.now)) }
+    ensures front { AppendsFront (S.written sink.old) (S.written sink.new) (flat_map text_of list.now) }
+    ensures failed { S.failed sink.new ≡ is_err result }
+{
+    for pieces in list {
+        pieces.write_to(alloc, sink)?;
+    }
+    Ok(())
 }

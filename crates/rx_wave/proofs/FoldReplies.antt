@@ -18,7 +18,7 @@ module _ (lot : LotParts) (plan : Plan) where
   replies_count place [] L = refl
   replies_count place (t ∷ ts) L = ap suc (replies_count (place + 1) ts (ledger_after lot plan place t L))
 
-  reply_in : (place : ℕ) (records : List Transmission) (L : Ledger) (i : ℕ) (d : Reply) → i < length records
+  pub reply_in : (place : ℕ) (records : List Transmission) (L : Ledger) (i : ℕ) (d : Reply) → i < length records
       → get_or (fold_replies lot plan place records L) i d
       ≡ reply_to lot plan (place + i) (get_or records i no_record) (fold_ledger lot plan place (take i records) L)
   reply_in place [] L i d h = absurd (omega arith)

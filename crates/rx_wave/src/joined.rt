@@ -75,6 +75,33 @@ fn joined_replies(alloc: Global, numbers: &[usize], ended: Vec<Ended>) -> Result
     in_file_order(alloc, numbers, &mut coming)
 }
 
+/// The replies of several lists in file order, by the list of each record, counted from 0.
+pub fn replies_in_order(
+    alloc: Global,
+    numbers: &[usize],
+    lists: Vec<Vec<Reply>>,
+) -> Result<Vec<Reply>, Memory>
+    requires { (reply : ℕ → ReplyValue) × AreReplies reply numbers.now (map (λ list. list.items) lists.items) }
+    ensures { (reply : ℕ → ReplyValue) → AreReplies reply numbers.now (map (λ list. list.items) lists.items)
+        → IfOk result (λ replies. replies.items ≡ map reply (range_with_len 1 (length numbers.now))) }
+{
+    let mut coming = lists_coming(alloc, lists)?;
+    in_file_order(alloc, numbers, &mut coming)
+}
+
+// The replies of each list.
+fn lists_coming(alloc: Global, lists: Vec<Vec<Reply>>) -> Result<Vec<Coming>, Memory>
+    ensures { IfOk result (λ coming. coming.items ≡ map (λ list. list.items) lists.items) }
+{
+    let mut coming = Vec::with_capacity(alloc, lists.len())?;
+    for list in lists {
+        coming.push(Coming {
+            replies: list.into_iter(),
+        })?;
+    }
+    Ok(coming)
+}
+
 // The same of the replies that are to come.
 fn in_file_order(
     alloc: Global,

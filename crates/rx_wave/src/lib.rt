@@ -25,9 +25,11 @@ mod shard;
 mod spread;
 mod workers;
 
-pub use decoding::{decode_all, decode_in_parts};
+pub use decoding::{decode_all, decode_for_plans, decode_in_parts};
 pub use gate::{Deal, Gate, NoGate};
 pub use in_order::{run_one, run_one_on};
+pub use joined::replies_in_order;
 pub use run_fault::RunFault;
 pub use rx_serial::Finished;
+pub use shard::run_places;
 pub use workers::run_waves;

@@ -1,5 +1,6 @@
-ghost use Rattle.std.specs.Prelude.{◌≡◌, IfOk, OnOk, length, map};
+ghost use Rattle.std.specs.Prelude.{◌≡◌, ◌≤◌, IfOk, OnOk, length, map};
 ghost use Rattle.std.specs.List.{All};
+ghost use Rattle.rx_fields.specs.declared.limits.TheConstants.{MOST_DETAILS};
 ghost use Rattle.rx_schedule.specs.Footprints.{record_at};
 ghost use Rattle.rx_schedule.specs.Shards.{ledger_of, replies_of};
 ghost use Rattle.rx_serial.specs.Underway.{IsAwaited};
@@ -7,10 +8,11 @@ ghost use Rattle.rx_wave.specs.Jobs.{ArePlaces, HasRun, IsJob, IsPlaceOf};
 
 use crate::gate::Gate;
 use crate::job::Job;
-use rx_books_store::OpenBooks;
+use rx_books_store::{Books, OpenBooks};
 use rx_d0_values::{Reply, Transmission};
-use rx_fields::{Key, Memory};
-use rx_serial::InOrder;
+use rx_fields::{Key, Lot, Memory};
+use rx_ledger::Sheet;
+use rx_serial::{Finished, InOrder};
 use std::alloc::Global;
 
 /// What the records of a shard leave: the books, the fill keys that they name, and a reply to each record.
@@ -42,6 +44,41 @@ pub(crate) fn run_shard<G: Gate>(
         keys: ended.keys,
         replies,
     })
+}
+
+/// Adjudicates those records of a batch that stand at these places, one after another, on a copy of the books: the books
+/// after them, and a reply to each of them, in the order of the places. The places are those of the batch, counted from 1, so
+/// authorization numbers are as in a run of all records. The gate is passed before and after each record; no worker is
+/// started.
+pub fn run_places<G: Gate>(
+    gate: &G,
+    alloc: Global,
+    lot: Lot,
+    sheet: &Sheet,
+    books: &Books,
+    transmissions: &[Transmission],
+    places: &[usize],
+) -> Result<Finished, Memory>
+    requires period { books.now.period ≡ sheet.now.figures.period }
+    requires few { length transmissions.now ≤ MOST_DETAILS }
+    requires places { All (IsPlaceOf (length transmissions.now)) places.now }
+    ensures books { IfOk result (λ finished. finished.books ≡ record {
+      period = sheet.now.figures.period;
+      ledger = ledger_of lot sheet.now transmissions.now places.now books.now.ledger;
+    }) }
+    ensures replies { IfOk result (λ finished.
+        finished.replies.items ≡ replies_of lot sheet.now transmissions.now places.now books.now.ledger) }
+{
+    let job = Job {
+        lot,
+        sheet,
+        books,
+        transmissions,
+    };
+    let ended = run_shard(gate, alloc, &job, places)?;
+    let Ended { books, replies, .. } = ended;
+    let books = books.close();
+    Ok(Finished { books, replies })
 }
 
 // The records at these places.

@@ -1,9 +1,8 @@
 ghost use Rattle.std.specs.Prelude.{◌≡◌, ◌<◌, ◌≤◌, ℕ, IfOk, IfSome, Ok, Some, length, map, slice_get, slice_index_or};
 ghost use Rattle.std.specs.List.{All};
-ghost use Rattle.rx_schedule.specs.Footprints.{footprint_at};
-ghost use Rattle.rx_schedule.specs.Shards.{IsGrouping, list_at};
-ghost use Rattle.rx_schedule.specs.Waves.{number_in};
-ghost use Rattle.rx_wave.specs.Jobs.{ArePlaces, HasRun, IsFinished, IsJob, IsOpenedAt};
+ghost use Rattle.rx_schedule.specs.Shards.{list_at};
+ghost use Rattle.rx_wave.specs.Jobs.{ArePlaces, HasRun, HaveRun, IsFinished, IsJob, IsOpenedAt};
+ghost use Rattle.rx_wave.specs.declared.job.Job.{Job as JobValue};
 ghost use Rattle.rx_wave.specs.declared.shard.Ended.{Ended as EndedValue};
 
 use crate::gate::{Deal, Gate};
@@ -12,7 +11,8 @@ use crate::joined::{joined, opened};
 use crate::shard::{Ended, run_shard};
 use rx_books_store::{Books, OpenBooks};
 use rx_d0_values::Transmission;
-use rx_fields::{Memory, Period};
+use rx_fields::{Lot, Memory};
+use rx_ledger::Sheet;
 use rx_schedule::{Shards, shards};
 use rx_serial::Finished;
 use std::alloc::{AllocError, Global};
@@ -32,16 +32,83 @@ pub(crate) fn run_in_shards<R: Threads + Sync, G: Gate + Sync>(
     requires job { IsJob job.now }
     ensures { IfOk result (λ answer. IfSome answer (IsFinished job.now)) }
 {
-    let period = job.sheet.period();
-    let (opened, shards) = dealt_and_opened(
+    let (opened, ran) = opened_and_run(
         rt,
         alloc,
+        gate,
         workers,
-        period,
+        job.sheet,
         job.books,
+        job.lot,
         job.transmissions,
     );
-    let shards = shards?;
+    let Some(Ran { shards, ended }) = ran? else {
+        return Ok(None);
+    };
+    let finished = joined(alloc, job, opened?, &shards, ended)?;
+    Ok(Some(finished))
+}
+
+/// The shards of the records, and what each leaves.
+#[derive(Drop)]
+pub(crate) struct Ran {
+    shards: Shards,
+    ended: Vec<Ended>,
+}
+
+// The opened books that are to take the shards over, and the shards, which are dealt out and run: side by side. No shards
+// where the records fall into one.
+fn opened_and_run<R: Threads + Sync, G: Gate + Sync>(
+    rt: &R,
+    alloc: Global,
+    gate: &G,
+    workers: u16,
+    sheet: &Sheet,
+    books: &Books,
+    lot: Lot,
+    transmissions: &[Transmission],
+) -> (Result<OpenBooks, Memory>, Result<Option<Ran>, Memory>)
+    requires several { 2 ≤ workers }
+    requires job { IsJob (record { lot = lot; sheet = sheet; books = books; transmissions = transmissions }) }
+    ensures opened { IfOk result.0 (IsOpenedAt sheet.now.figures.period books.now.ledger transmissions.now) }
+    ensures run { let job : JobValue =
+        record { lot = lot; sheet = sheet.entry; books = books.entry; transmissions = transmissions.entry } in
+        IfOk result.1 (λ ran. IfSome ran (λ ran. HaveRun job ran.shards.numbers.items ran.ended.items)) }
+{
+    let period = sheet.period();
+    thread::join(
+        rt,
+        || -> Result<OpenBooks, Memory>
+            ensures { IfOk result (IsOpenedAt period books.entry.now.ledger transmissions.entry.now) }
+        { opened(alloc, period, books, transmissions) },
+        || -> Result<Option<Ran>, Memory>
+            requires several { 2 ≤ workers }
+            requires job { IsJob (record { lot = lot; sheet = sheet; books = books; transmissions = transmissions }) }
+            ensures { let job : JobValue =
+                record { lot = lot; sheet = sheet.entry; books = books.entry; transmissions = transmissions.entry } in
+                IfOk result (λ ran. IfSome ran (λ ran. HaveRun job ran.shards.numbers.items ran.ended.items)) }
+        { dealt_and_run(rt, alloc, gate, workers, transmissions, books, sheet, lot) },
+    )
+}
+
+// The shards of the records, dealt out, and what each leaves. None where the records fall into one.
+fn dealt_and_run<R: Threads + Sync, G: Gate + Sync>(
+    rt: &R,
+    alloc: Global,
+    gate: &G,
+    workers: u16,
+    transmissions: &[Transmission],
+    books: &Books,
+    sheet: &Sheet,
+    lot: Lot,
+) -> Result<Option<Ran>, Memory>
+    requires several { 2 ≤ workers }
+    requires job { IsJob (record { lot = lot; sheet = sheet; books = books; transmissions = transmissions }) }
+    ensures { let job : JobValue =
+        record { lot = lot; sheet = sheet.entry; books = books.entry; transmissions = transmissions.entry } in
+        IfOk result (λ ran. IfSome ran (λ ran. HaveRun job ran.shards.numbers.items ran.ended.items)) }
+{
+    let shards = shards(alloc, books, transmissions, workers as usize)?;
     gate.deal(&Deal {
         shards: shards.count,
         largest: shards.largest,
@@ -50,44 +117,16 @@ pub(crate) fn run_in_shards<R: Threads + Sync, G: Gate + Sync>(
     if shards.count < 2 {
         return Ok(None);
     }
-    let opened = opened?;
     let places = shards.places(alloc)?;
-    let ended = run_all(rt, alloc, gate, job, places)?;
-    prove!(job.books.period() == job.sheet.period());
-    let finished = joined(alloc, job, opened, &shards, ended)?;
-    Ok(Some(finished))
-}
-
-// The shards of the records, and the opened books that are to take them over: dealt out and opened side by side.
-fn dealt_and_opened<R: Threads>(
-    rt: &R,
-    alloc: Global,
-    workers: u16,
-    period: Period,
-    books: &Books,
-    transmissions: &[Transmission],
-) -> (Result<OpenBooks, Memory>, Result<Shards, Memory>)
-    requires several { 2 ≤ workers }
-    ensures opened { IfOk result.0 (IsOpenedAt period books.now.ledger transmissions.now) }
-    ensures together { IfOk result.1 (λ found. IsGrouping (footprint_at books.now.ledger transmissions.now)
-        (length transmissions.now) (number_in found.numbers.items)) }
-    ensures one_each { IfOk result.1 (λ found. length found.numbers.items ≡ length transmissions.now) }
-    ensures within { IfOk result.1 (λ found. All (λ number. number < found.count) found.numbers.items) }
-{
-    thread::join(
-        rt,
-        || -> Result<OpenBooks, Memory>
-            ensures { IfOk result (IsOpenedAt period books.entry.now.ledger transmissions.entry.now) }
-        { opened(alloc, period, books, transmissions) },
-        || -> Result<Shards, Memory>
-            requires { 2 ≤ workers }
-            ensures together { IfOk result (λ found. IsGrouping
-                (footprint_at books.entry.now.ledger transmissions.entry.now)
-                (length transmissions.entry.now) (number_in found.numbers.items)) }
-            ensures one_each { IfOk result (λ found. length found.numbers.items ≡ length transmissions.entry.now) }
-            ensures within { IfOk result (λ found. All (λ number. number < found.count) found.numbers.items) }
-        { shards(alloc, books, transmissions, workers as usize) },
-    )
+    let job = Job {
+        lot,
+        sheet,
+        books,
+        transmissions,
+    };
+    let ended = run_all(rt, alloc, gate, &job, places)?;
+    prove!(books.period() == sheet.period());
+    Ok(Some(Ran { shards, ended }))
 }
 
 // What each shard leaves, whose records go by a thread of its own.

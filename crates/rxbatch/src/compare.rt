@@ -48,22 +48,13 @@ fn other_text(
     };
     match text_at(rt, path, device) {
         Ok(text) => Ok(Some(text)),
-        Err(Ending::File(fault)) => Err(failed(rt, option, path, fault)),
-        Err(ending) => Err(ending),
+        Err(ending) => Err(ending.at_label(rt, option, path)),
     }
 }
 
 fn text_at(rt: &HostRuntime, path: &str, device: Device) -> Result<Vec<u8>, Ending> {
     let file = open_input(rt, path, device)?;
     bytes_in(rt, &file, device)
-}
-
-// The ending where the file of an option failed.
-fn failed(rt: &HostRuntime, option: &str, path: &str, fault: FileFault) -> Ending {
-    match fault.words_of(rt.alloc(), option, path) {
-        Ok(line) => Ending::InWords(Numbers::File(fault.file.number()), line),
-        Err(Memory) => Ending::File(fault),
-    }
 }
 
 fn given_or<'a>(text: Option<&'a Vec<u8>>, other: &'a [u8]) -> &'a [u8] {

@@ -4,7 +4,7 @@ use rx_cli::WordsFault;
 use rx_fields::Memory;
 use rx_io::Device;
 use rx_switch::{IoFault, SwitchFault, told};
-use std::alloc::{AllocError, Global};
+use std::alloc::{AllocError, AllocFailed, Global};
 use std::io;
 use std::io::Write;
 
@@ -17,6 +17,8 @@ pub enum Ending {
     OneFile(&'static str, &'static str),
     /// The paths of these two options are `-`.
     TwoStreams(&'static str, &'static str),
+    /// The files that the words name can't be written so: a line says why.
+    Conflict(String),
     /// The path of this option is there, and leads to no regular file; `--safe` replaces no other.
     NotPlain(&'static str),
     /// The value of this option isn't what is expected.
@@ -60,6 +62,12 @@ impl From<AllocError> for Ending {
     }
 }
 
+impl<T: Drop> From<AllocFailed<T>> for Ending {
+    fn from(_refused: AllocFailed<T>) -> Ending {
+        Ending::Refused(SwitchFault::Memory)
+    }
+}
+
 impl Numbers {
     // The exit status with such a line.
     fn status(self) -> u8 {
@@ -97,8 +105,16 @@ impl Ending {
     /// The same, of a file that failed with its words: the option, this path, and the reason.
     pub fn at_path(self, rt: &HostRuntime, path: &str) -> Ending {
         match self {
+            Ending::File(fault) => Ending::File(fault).at_label(rt, fault.file.option(), path),
+            other => other,
+        }
+    }
+
+    /// The same where a message calls the file so.
+    pub fn at_label(self, rt: &HostRuntime, label: &str, path: &str) -> Ending {
+        match self {
             Ending::File(fault) if !fault.is_closed_output() => {
-                match fault.words(rt.alloc(), path) {
+                match fault.words_of(rt.alloc(), label, path) {
                     Ok(line) => Ending::InWords(Numbers::File(fault.file.number()), line),
                     Err(Memory) => Ending::File(fault),
                 }
@@ -189,7 +205,7 @@ impl Ending {
         match self {
             Ending::NoText | Ending::OneFile(..) | Ending::TwoStreams(..) | Ending::NotPlain(_) =>
                 2,
-            Ending::NoValue(..) => 2,
+            Ending::Conflict(_) | Ending::NoValue(..) => 2,
             Ending::Words(WordsFault::Words(_)) => 2,
             Ending::Words(WordsFault::Memory) => 1,
             Ending::Refused(_) => 1,
@@ -252,7 +268,7 @@ impl Ending {
                 eprintln!(rt; "{line}")
             }
             Ending::Bare(numbers) => tell_numbers(rt, *numbers),
-            Ending::Stopped(line) => eprintln!(rt; "rxbatch: {line}"),
+            Ending::Stopped(line) | Ending::Conflict(line) => eprintln!(rt; "rxbatch: {line}"),
             Ending::NotFound(line) => rt.stderr().write_all(line.as_slice()),
             Ending::Warned | Ending::Differs => Ok(()),
         };

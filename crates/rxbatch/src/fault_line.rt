@@ -31,6 +31,7 @@ pub fn file_words(
         | ProgramFile::Dropped
         | ProgramFile::Page
         | ProgramFile::Excerpt
+        | ProgramFile::Plans
         | ProgramFile::Report => "",
     };
     fault.words(rt.alloc(), path)
@@ -38,12 +39,17 @@ pub fn file_words(
 
 /// What an operator should know of end books with this number of lines, in words; none where a run can read them.
 pub fn long_books_words(rt: &HostRuntime, words: &RunSettings<'_>, lines: u64) -> Option<String> {
+    long_books(rt, "--books-out", words.outputs.books, lines)
+}
+
+/// The same of end books that a message calls so.
+pub fn long_books(rt: &HostRuntime, label: &str, path: &str, lines: u64) -> Option<String> {
     if lines <= MOST_LINES as u64 {
         return None;
     }
-    let shown = shown_path(rt.alloc(), words.outputs.books).ok()?;
+    let shown = shown_path(rt.alloc(), path).ok()?;
     format!(in rt.alloc();
-        "--books-out {shown}: {lines} lines, and no run reads books of more than {MOST_LINES} (age takes claims out)"
+        "{label} {shown}: {lines} lines, and no run reads books of more than {MOST_LINES} (age takes claims out)"
     ).ok()
 }
 

@@ -22,6 +22,8 @@ pub enum ProgramFile {
     Page,
     /// A file of an excerpt.
     Excerpt,
+    /// The plans file of a switch.
+    Plans,
     /// Standard output.
     Output,
 }
@@ -37,6 +39,7 @@ impl ProgramFile {
             ProgramFile::Page => 10,
             ProgramFile::Report => 11,
             ProgramFile::Excerpt => 12,
+            ProgramFile::Plans => 13,
             ProgramFile::Output => 0,
         }
     }
@@ -51,6 +54,7 @@ impl ProgramFile {
             ProgramFile::Page => "--html-dir",
             ProgramFile::Report => "--report",
             ProgramFile::Excerpt => "--out",
+            ProgramFile::Plans => "--plans",
             ProgramFile::Output => "standard output",
         }
     }

@@ -1,7 +1,9 @@
 //! The file of a run's log.
 use crate::ending::Ending;
+use crate::file_fault::ProgramFile;
 use crate::nodes::Node;
 use crate::output_file::OutputFile;
+use crate::paths_apart::KnownFiles;
 use crate::settings::RunSettings;
 use crate::streams::stream_of;
 use rx_io::Device;
@@ -25,6 +27,23 @@ impl LogFile {
             return Err(Ending::OneFile(other, "--log"));
         }
         Ok(log)
+    }
+
+    /// The same of a command whose files are known. The log is known from then on.
+    pub fn open_known(
+        rt: &HostRuntime,
+        path: &str,
+        known: &mut KnownFiles,
+    ) -> Result<LogFile, Ending> {
+        let label = String::from_str(rt.alloc(), ProgramFile::Log.option())?;
+        known.add_output(rt, label, path, ProgramFile::Log, false)?;
+        match OutputFile::open_to_append(rt, path) {
+            Ok(output) => {
+                known.add_opened(Node::of(&output.file))?;
+                Ok(LogFile { output })
+            }
+            Err(error) => Err(Ending::of_log(error).at_path(rt, path)),
+        }
     }
 
     /// What the system says of the file.

@@ -22,6 +22,8 @@
 //!     [--safe]                                      books without the claims before a day
 //! rxbatch family --books F --family ID [--person P] [--sheet F] [--tsv | --json | --html]
 //!                                                   a family's members, claims and sums
+//! rxbatch route --plans F --batch F --stamp S [--workers N] --response F --settlement F [--safe] [-v] [--log F]
+//!                                                   adjudicates a batch for several plans
 //! rxbatch replies --response F                      a line for each answer of a response file
 //! rxbatch compare --sheet F [--with-sheet F] --books F [--with-books F] --batch F [--tsv | --json]
 //!                                                   which answers another sheet or other books would change
@@ -59,9 +61,14 @@ mod origin;
 mod output_file;
 mod outputs;
 mod page_folder;
+mod paths_apart;
 mod places;
+mod plan_words;
+mod plans_file;
 mod read_again;
 mod refused_text;
+mod route_files;
+mod route_log;
 mod run_files;
 mod run_gate;
 mod safe_files;
@@ -70,6 +77,8 @@ mod settle;
 mod shown_path;
 mod standard_output;
 mod streams;
+mod switch_inputs;
+mod switch_outputs;
 mod teller;
 mod texts;
 mod told_source;
@@ -79,6 +88,7 @@ mod upkeep_files;
 mod upkeep_values;
 mod upkeep_words;
 mod watched_run;
+mod written_texts;
 
 use ending::Ending;
 use negative_workers::tell_negative_workers;
@@ -126,6 +136,7 @@ fn perform<R: Threads + Wait + Sync>(rt: &HostRuntime, threads: &R) -> Result<()
         Ok(Command::Members(words)) => upkeep_files::members(rt, threads, &words),
         Ok(Command::Age(words)) => upkeep_files::age(rt, threads, &words),
         Ok(Command::ShowFamily(words)) => family_files::family(rt, threads, &words),
+        Ok(Command::Route(words)) => route_files::route(rt, threads, &words),
         Ok(Command::Replies(path)) => commands::replies(rt, path),
         Ok(Command::Compare(words)) => compare::compare(rt, threads, &words),
         Ok(Command::Settle(words)) => settle::settle(rt, &words),

@@ -66,7 +66,8 @@ pub fn refused_sheet<'x>(rt: &HostRuntime, file: (&'x str, &'x [u8]), fault: She
     GivenTexts::of(paths, texts).refused(rt, SwitchFault::from(fault))
 }
 
-fn inputs<T>(sheet: T, books: T, batch: T) -> Inputs<T> {
+/// Inputs, in the order of their numbers.
+pub fn inputs<T>(sheet: T, books: T, batch: T) -> Inputs<T> {
     Inputs {
         sheet,
         books,

@@ -2,7 +2,8 @@
 use crate::files::STREAM;
 
 // The options that take a path.
-const OPTIONS: [&str; 9] = [
+const OPTIONS: [&str; 10] = [
+    "--plans",
     "--sheet",
     "--with-sheet",
     "--books",

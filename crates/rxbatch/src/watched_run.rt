@@ -277,6 +277,7 @@ fn line(rt: &HostRuntime, words: &RunSettings<'_>, run: &WatchedRun) -> Result<S
         duration: micros_between(run.times.begin, run.times.end),
         host: text_of(&host),
         process: process::id(rt.process()),
+        plan: None,
         status,
         refused,
         file,
@@ -343,11 +344,16 @@ fn outputs_in_log<'a>(
 fn end_of(done: &Result<(), Ending>) -> (u8, Option<[u64; 3]>, Option<u64>) {
     match done {
         Ok(()) => (0, None, None),
-        Err(ending) => match ending.numbers() {
-            Some(Numbers::Refused(numbers)) => (ending.status(), Some(numbers), None),
-            Some(Numbers::File(number)) => (ending.status(), None, Some(number)),
-            Some(Numbers::Response(_) | Numbers::Reply(_)) | None => (ending.status(), None, None),
-        },
+        Err(ending) => failed_end(ending),
+    }
+}
+
+/// The same of a run that isn't done.
+pub fn failed_end(ending: &Ending) -> (u8, Option<[u64; 3]>, Option<u64>) {
+    match ending.numbers() {
+        Some(Numbers::Refused(numbers)) => (ending.status(), Some(numbers), None),
+        Some(Numbers::File(number)) => (ending.status(), None, Some(number)),
+        Some(Numbers::Response(_) | Numbers::Reply(_)) | None => (ending.status(), None, None),
     }
 }
 
@@ -381,22 +387,23 @@ fn slice_of(counts: &Option<Vec<CodeCount>>) -> Option<&[CodeCount]> {
     }
 }
 
-fn text_of(text: &Option<String>) -> Option<&str> {
+/// The same text, borrowed.
+pub fn text_of(text: &Option<String>) -> Option<&str> {
     match text {
         Some(text) => Some(text.as_str()),
         None => None,
     }
 }
 
-// The time of the clock, as RFC 3339 has it, in UTC.
-fn time_now(rt: &HostRuntime) -> Option<String> {
+/// The time of the clock, as RFC 3339 has it, in UTC.
+pub fn time_now(rt: &HostRuntime) -> Option<String> {
     let seconds = rt.since_1970().ok()?.as_secs();
     let time = Timestamp::from_second(i64::try_from(seconds).ok()?).ok()?;
     format!(in rt.alloc(); "{time}").ok()
 }
 
-// The name of the machine, where the system says it.
-fn host_name(rt: &HostRuntime) -> Option<String> {
+/// The name of the machine, where the system says it.
+pub fn host_name(rt: &HostRuntime) -> Option<String> {
     let name = fs::read_to_string(rt, "/proc/sys/kernel/hostname").ok()?;
     String::from_str(rt.alloc(), name.as_str().trim()).ok()
 }

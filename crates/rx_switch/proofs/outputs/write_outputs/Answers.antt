@@ -19,12 +19,13 @@ pub returns-in_err-write_books-clause-unwritten : goal.returns-in_err-write_book
 returns-in_err-write_books-clause-unwritten g c =
     let p = err_from_is_err_and c.from_residual-in_err-write_books.result c.from_residual-in_err-write_books.ensures.1 in
     let whole = rw c.deref.ensures.value at c.in_ok-write_text.ensures.whole in
-    rw (p.1, p.2, c.in_err-write_books.ensures.fault) (books whole c.in_err-write_books.ensures.front refl)
+    let front = rw c.deref-2.ensures.value at c.in_err-write_books.ensures.front in
+    rw (p.1, p.2, c.in_err-write_books.ensures.fault) (books whole front refl)
 
 pub returns-clause-unwritten : goal.returns-clause-unwritten
 returns-clause-unwritten g c =
     let first = rw c.deref.ensures.value at c.in_ok-write_text.ensures.whole in
-    let second = c.in_ok-write_books.ensures.whole in
+    let second = rw c.deref-2.ensures.value at c.in_ok-write_books.ensures.whole in
     let alone : flat_map vec_items c.from_ref.result.now ≡ c.args.output.now.settlement.items =
     ap (flat_map vec_items) c.from_ref.ensures.value ∙ append-nil c.args.output.now.settlement.items in
     let front = rw alone at c.write_text-2.ensures.front in
@@ -34,7 +35,7 @@ returns-clause-unwritten g c =
 pub returns-clause-done : goal.returns-clause-done
 returns-clause-done g c =
     let first = rw c.deref.ensures.value at c.in_ok-write_text.ensures.whole in
-    let second = c.in_ok-write_books.ensures.whole in
+    let second = rw c.deref-2.ensures.value at c.in_ok-write_books.ensures.whole in
     let alone : flat_map vec_items c.from_ref.result.now ≡ c.args.output.now.settlement.items =
     ap (flat_map vec_items) c.from_ref.ensures.value ∙ append-nil c.args.output.now.settlement.items in
     on_ok_weaker c.write_text-2.result (λ all. record {
