@@ -40,7 +40,7 @@ all-edits: kit cc
 
 cases: kit cc
 	python3 tools/check_docs.py
-	python3 tools/find_doubles.py --allowed 38
+	python3 tools/find_doubles.py --allowed 39
 	python3 tools/count_dialect.py --allowed 6
 	test -x $(PROGRAM) || (cd crates/rxbatch && rt run -- sample)
 	python3 packaging/make_pages.py $(PROGRAM) --check
@@ -67,6 +67,8 @@ cases: kit cc
 	python3 tests/run_upkeep.py $(PROGRAM)
 	python3 tests/run_family.py $(PROGRAM)
 	python3 tests/run_excerpt.py $(PROGRAM)
+	python3 tests/run_route.py $(PROGRAM)
+	python3 tests/run_switch.py $(PROGRAM)
 	test -x $(TRIALS) || (cd crates/rx_bench && rt run -- orders 1 > /dev/null)
 	python3 tests/run_failing.py $(PROGRAM)
 	python3 tests/refused_memory.py $(PROGRAM)

@@ -17,8 +17,9 @@ names, by which the digests are made: what was seen refused under an old name st
     gate.py --note     writes down all crates' edits, after a gate that passed on these very texts and tried them all
 
 The proofs, tests and programs come first. Edits are tried then, of a few crates at a time and the lowest first, for as long as
-GATE_MINUTES (90) since the start aren't over. After the first part and at the end one line says how many minutes it took, by the
-clock and of processors; out/gate-minutes keeps these lines.
+GATE_MINUTES (90) since the start aren't over: of three hours the scripts that follow take 8 minutes on four processors, and
+about twice that on two. After the first part and at the end one line says how many minutes it took, by the clock and of
+processors; out/gate-minutes keeps these lines.
 """
 
 import argparse
@@ -39,7 +40,7 @@ RENAMES = f"{TOP}/.ci/renames.txt"
 ASIDE = f"{TOP}/out/edits-aside"
 OWN = ("src", "specs", "proofs", "must-fail")
 STATED = ("src", "specs")
-# how long the gate may take before it begins no further edit
+# how long the gate may take before it tries no further edit
 MINUTES = 90
 # what `rt` says of an edit that can't be applied, and of one that says nothing of the contract: a proof file names what it took away
 BAD = ("BAD EDIT", "only because a proof file names what the edit took away")
@@ -189,7 +190,8 @@ def passed_on(run, bad):
 
 def rt_ci(at, seconds=None):
     """`rt ci` over the repository that stands there, with a check on each processor: its status, 1 where an edit shows nothing, or
-    None where it took longer."""
+    None where it took longer. Without RT_JOBS `rt` would keep to the memory that it counts for each crate, which is more than each
+    takes: with 23 GB the largest would go one after another, 160 minutes in place of 133 on four processors."""
     jobs, bad = os.environ.get("RT_JOBS") or str(len(os.sched_getaffinity(0))), []
     run = subprocess.Popen(
         ["rt", "ci"], cwd=at, env={**os.environ, "RT_JOBS": jobs}, start_new_session=True, stdout=subprocess.PIPE, stderr=subprocess.STDOUT, text=True

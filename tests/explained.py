@@ -202,9 +202,9 @@ class Explained:
             return {**codes, "case": "unread"}
         code = answer.codes[0]
         case = ("other product" if stands else "none stands") if code == b"87" else CASES[code]
-        return {**codes, "case": case, **self.because(case, place, body.date, transaction, stands, before)}
+        return {**codes, "case": case, **self.because(case, place, body, transaction, stands, before)}
 
-    def because(self, case, place, date, bill, stands, before):
+    def because(self, case, place, body, bill, stands, before):
         """What decided a refusal."""
         plan = self.plan
         if case in ("other claim stands", "other product"):
@@ -218,18 +218,22 @@ class Explained:
             return {"covered_first": dashed(member.first), "covered_last": dashed(member.last), "period_last": dashed(plan.period.last)}
         if case == "too many days":
             return {"most_days": plan.max_days}
-        return self.soon(place, date, bill, before) if case == "too soon" else {}
+        return self.soon(place, body, bill, before) if case == "too soon" else {}
 
-    def soon(self, place, date, bill, before):
-        """The fill that makes it too soon for longest, and the first date on which none does."""
+    def soon(self, place, body, bill, before):
+        """The fill that makes it too soon for longest, of these by date, owner and amounts, and the first date on which none does."""
         number, percent = self.reference.day_number, self.plan.refill_percent
         fills = [row for row in before if (row.family, row.person, row.product) == (bill.family, bill.person, bill.product)]
 
         def early(day):
             return [row for row in fills if 0 <= (day - number(row.key.date)) * 100 < row.days * percent]
 
-        today = number(date)
-        longest = max(early(today), key=lambda row: number(row.key.date) * 100 + row.days * percent)
+        def rank(row):
+            until = number(row.key.date) * 100 + row.days * percent
+            return -until, row.key.date, row.key.provider != body.provider, row.f6, row.f7, row.fh, row.fi, row.coinsurance
+
+        today = number(body.date)
+        longest = min(early(today), key=rank)
         ends = sorted(number(row.key.date) - -row.days * percent // 100 for row in fills)
         return {"standing": self.traced(longest, place), "days_passed": today - number(longest.key.date), "refill_percent": percent,
                 "first_date": day_of(next(day for day in ends if day >= today and not early(day)))}

@@ -4,15 +4,14 @@
     tests/run_for_provider.py PROGRAM [--pairs N] [--seed S] [--keep DIR]
 
 A pair is a random job and the same with other names: each other pharmacy has another id, each of its prescriptions another
-number, each family and each person without a claim of the pharmacy another name, and the claims of some of these another
-product of the same price and tier. The books are in order again, so claims stand at other places. `explain --for-provider` of
-records, in words, with all claims and as JSON, and `report --for-provider` in each form have to print the same texts of both.
+number, each family and each person without a claim of the pharmacy another name, and some products that a person gets only at
+other pharmacies another number: of the same price and tier, or of another tier where no record bills it. The books are in order
+again, so claims stand at other places. `explain --for-provider` of records, in words, with all claims and as JSON, and
+`report --for-provider` in each form have to print the same texts of both.
 
 What `explain --for-provider --json` says has to be what `explain --json` says, but for other pharmacies' claims: of these only
 date, deductible and patient pay, after the own claims, earliest first. The words have to be those of run_explain.py for these
 values. A record of another pharmacy ends with status 4 and a line that is the same for both jobs.
-
-No two fills of a product by one person bind equally long: which of them is shown then hangs on the order of fill keys.
 
 What differs has a line, and its jobs are kept in a folder of DIR. The last line is `N passed, M failed`.
 """
@@ -37,7 +36,7 @@ sys.path.insert(0, os.path.join(HERE, "..", "bench"))
 import make_job  # noqa: E402
 
 FORMS = ([], ["--tsv"], ["--json"], ["--jsonl"])
-TWIN = "9"              # a product's twin begins with this digit
+TWIN, OTHER = "9", "8"  # a product's twin, and one of another tier, begin with these digits
 PROVIDER = slice(23, 38)
 LETTERS = "ABCDEFGHIJKLMNOPQRSTUVWXYZ0123456789"
 
@@ -51,15 +50,12 @@ def job_of(rng):
                               transactions=rng.choice((1, 3)), reversals=rng.choice((0, 20)), hot=0, billed=0,
                               billed_claims=None, again=0)
     job = make_job.Job(options)
-    fills = {}
-    for claim in job.claims:
-        fills.setdefault((claim[2], *claim[3:6]), claim)
-    job.claims = sorted(fills.values())
-    job.reversible = list(job.claims)
     twins = [(TWIN + product[1:], tier, price) for product, tier, price in job.drugs]
+    tiers = sorted(make_job.TIERS)
+    twins += [(OTHER + product[1:], tiers[tiers.index(tier) - 1], price + 1) for product, tier, price in job.drugs]
     first, *details, last = make_job.batch_records(job)
     sheet = make_job.sheet_text(SimpleNamespace(drugs=job.drugs + twins))
-    percent = rng.choice((51, 77, 83))      # no two supplies of 7, 14 and 30 days end on one day
+    percent = rng.choice((50, 75, 100))     # some supplies of 7, 14 and 30 days end on one day
     return SimpleNamespace(sheet=sheet.replace("refill_percent = 75", f"refill_percent = {percent}"), claims=job.claims, job=job,
                            first=first, details=[detail[:-1] for detail in details], last=last), rng.choice(job.providers)
 
@@ -97,7 +93,10 @@ class Names:
         asked = [fields_of(detail[random_runs.FRONT:]) for detail in files.details]
         people = {(c[0], c[3], c[4]) for c in claims} | {(provider, family, person) for provider, family, person, _ in asked if family}
         self.families = {family for provider, family, _ in people if provider == own}
+        billed = {(*fields_of(detail[random_runs.FRONT:])[:3], product) for detail in files.details
+                  for product in re.findall("\x1cD7([0-9]{11})", detail)}
         self.people = {(family, person) for provider, family, person in people if provider == own}
+        self.codes = {"01", *(person for _, person in self.people)}
         owners = {}
         for provider, reference, _, family, person in (c[:5] for c in claims):
             owners.setdefault((provider, reference), set()).add((family, person))
@@ -106,15 +105,24 @@ class Names:
                 if family:
                     owners.setdefault((provider, reference), set()).add((family, person))
         self.owners = owners
-        others = {owner for found in owners.values() for owner in found} - self.people
         shared = {owner for found in owners.values() if len(found) > 1 for owner in found}
-        self.swapped = {owner for owner in others - shared if rng.random() < 0.5}
+        self.products = self.other_products({(c[0], c[3], c[4], c[5]) for c in claims}, billed, shared)
+
+    def other_products(self, claimed, billed, shared):
+        """Other products for some that persons get: none that the pharmacy names, and of nobody who shares a prescription."""
+        kept = {one[1:] for one in claimed | billed if one[0] == self.own}
+        asked = {one[1:] for one in billed}
+        products = {}
+        for one in sorted(got[1:] for got in claimed | billed if got[1]):
+            if one not in kept and one[:2] not in shared and one not in products and self.rng.random() < 0.5:
+                products[one] = self.rng.choice((TWIN, TWIN if one in asked else OTHER)) + one[2][1:]
+        return products
 
     def fresh(self, kind, name, size):
-        """Another name of at most this many letters, always the same for a name, and no one's before."""
+        """Another name of at most this many letters, always the same for a name, and no one's before or a person's that stays."""
         while (kind, name) not in self.known:
             other = "".join(self.rng.choice(LETTERS) for _ in range(self.rng.randrange(size // 2 + 1, size + 1)))
-            if (kind, other) not in self.known.values():
+            if (kind, other) not in self.known.values() and other not in self.codes:
                 self.known[kind, name] = (kind, other)
         return self.known[kind, name][1]
 
@@ -137,7 +145,7 @@ class Names:
         return code if (family, code) in self.people or code == "01" else self.fresh("person", code, 3)
 
     def product(self, owner, product):
-        return TWIN + product[1:] if owner in self.swapped else product
+        return self.products.get((*owner, product), product)
 
     def claim(self, claim):
         provider, reference, day, family, person, product, *rest = claim
@@ -256,7 +264,8 @@ def refusals(program, folder, own):
                 yield f"{command} {name!r}: {ended}"
         if printed(program, folder, command + ["--for-provider", "NOBODY"])[:2] != (4, b""):
             yield f"{command}: a text for nobody"
-        if printed(program, folder, command + ["--for-provider", own + " "]) != printed(program, folder, command + ["--for-provider", own]):
+        padded, plain = (printed(program, folder, command + ["--for-provider", name]) for name in (own + " ", own))
+        if padded[:2] != plain[:2]:
             yield f"{command}: a blank at the end of an id counts"
     for form in (["--html"], ["--html-dir", "pages"]):
         if printed(program, folder, ["report", "--for-provider", own] + form)[0] != 2:

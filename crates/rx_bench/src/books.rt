@@ -1,10 +1,9 @@
-//! Books: the lists of their lines and the books read on one thread and in parts, copied to the same period and to another,
-//! and written on one thread, in parts, and over the text that was read; compared with a plain count of the lines.
+//! Books: read on one thread and in parts, copied to the same period and to another, and written on one thread, in parts, and
+//! over the text that was read; compared with a plain count of the lines.
 
 use crate::inputs::Inputs;
 use crate::timing::{Watch, length, one_if};
 use memchr::memchr_iter;
-use rx_books_scan::{read_lists, read_lists_in_parts};
 use rx_books_store::Books;
 use rx_fields::Period;
 use std::rt::Clock;
@@ -17,8 +16,6 @@ pub fn round<R: Clock + Threads + Sync>(watch: &mut Watch<R>, inputs: &Inputs) -
     let text = inputs.books.as_slice();
     watch.begin();
     watch.lap("lines counted", memchr_iter(b'\n', text).count());
-    lists(watch, text);
-    lists_in_parts(watch, text);
     read_in_parts(watch, text);
     let books = Books::read(watch.alloc, text).ok()?;
     watch.lap("bytes read", text.len());
@@ -27,16 +24,6 @@ pub fn round<R: Clock + Threads + Sync>(watch: &mut Watch<R>, inputs: &Inputs) -
     drop(books);
     kept(watch, text);
     Some(())
-}
-
-fn lists<R: Clock>(watch: &mut Watch<R>, text: &[u8]) {
-    let lists = one_if(read_lists(watch.alloc, text));
-    watch.lap("lists read", lists);
-}
-
-fn lists_in_parts<R: Clock + Threads + Sync>(watch: &mut Watch<R>, text: &[u8]) {
-    let lists = one_if(read_lists_in_parts(watch.rt, watch.alloc, PARTS, text));
-    watch.lap("lists read in 4 parts", lists);
 }
 
 fn read_in_parts<R: Clock + Threads + Sync>(watch: &mut Watch<R>, text: &[u8]) {

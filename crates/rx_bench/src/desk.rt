@@ -4,7 +4,7 @@ use crate::inputs::Inputs;
 use crate::job::Job;
 use crate::timing::Watch;
 use rx_adjudicate::{Done, Order, adjudicate};
-use rx_desk::{Desk, Finished, Next};
+use rx_desk::{Desk, Next};
 use rx_fields::MOST_DETAILS;
 use std::alloc::Global;
 use std::rt::Clock;
@@ -25,7 +25,7 @@ pub fn round<R: Clock + Threads + Sync>(watch: &mut Watch<R>, inputs: &Inputs) -
     let mut desk = Job::of(watch.rt, watch.alloc, inputs)?.into_desk(watch.alloc)?;
     watch.begin();
     work_off(watch, &mut desk);
-    watch.lap("replies", replies(desk));
+    drop(desk);
     Some(())
 }
 
@@ -87,16 +87,4 @@ fn give(desk: &mut Desk, done: &mut Vec<Done>) {
             drop(desk.give(one));
         }
     }
-}
-
-// How many replies there are at the end.
-fn replies(desk: Desk) -> usize {
-    let finished = desk.close().ok();
-    let count = counted(finished.as_ref());
-    drop(finished);
-    count
-}
-
-fn counted(finished: Option<&Finished>) -> usize {
-    finished.map_or(0, |finished| finished.replies.len())
 }

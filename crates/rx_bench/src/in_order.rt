@@ -1,15 +1,14 @@
-//! A run in file order on one thread: the books opened for the batch, the records adjudicated, and the response and the
-//! settlement rendered, compared with a plain copy of the response.
+//! A run in file order on one thread: the books opened for the batch, the records adjudicated, the end books written over the
+//! text that was read, and the response rendered, compared with a plain copy of it.
 
 use crate::inputs::{Inputs, STAMP};
 use crate::job::Job;
-use crate::timing::{Watch, length};
+use crate::timing::{Watch, length, one_if};
 use rx_batch::Batch;
 use rx_d0_values::Reply;
 use rx_fields::{MOST_DETAILS, Stamp};
 use rx_response::response_file;
 use rx_serial::{Finished, InOrder};
-use rx_settle::settle;
 use rx_wave::{NoGate, run_one_on};
 use std::alloc::Global;
 use std::rt::Clock;
@@ -38,6 +37,8 @@ fn adjudicated<R: Clock + Threads + Sync>(watch: &mut Watch<R>, job: &Job) -> Op
     watch.begin();
     let finished = finished(watch.alloc, job)?;
     watch.lap("records adjudicated", finished.replies.len());
+    let pieces = finished.books.write_pieces(watch.rt, watch.alloc, 1);
+    watch.lap("times end books written", one_if(pieces.ok()));
     let rendered = rendered(watch, &job.batch, finished.replies.as_slice());
     drop(finished);
     rendered
@@ -66,7 +67,5 @@ fn rendered<R: Clock + Threads + Sync>(
     watch.lap("bytes of the response", response.len());
     let copy = Vec::from_slice(watch.alloc, &response);
     watch.lap("bytes copied", length(&copy));
-    let settlement = settle(watch.alloc, batch.head.lot(), stamp, replies);
-    watch.lap("bytes of the settlement", length(&settlement));
     Some(())
 }

@@ -39,12 +39,6 @@ pub const BATCH: &[u8] =
 /// The stamp of each response and settlement.
 pub const STAMP: &[u8; 12] = b"202603020600";
 
-/// The text of one-billing's reply.
-pub const REPLY: &[u8] =
-    b"D0B11A011234567893     20260228\x1D\x1E\x1CAM21\x1CANP\x1CF3000004200000011\
-\x1E\x1CAM22\x1CEM1\x1CD2000000000123\x1E\x1CAM23\x1CF50001300{\x1CF60003000{\x1CF70000017E\
-\x1CF90001717E\x1CFH0001000{\x1CFI0000300{";
-
 /// The texts of the inputs of a run.
 pub type Inputs = rx_io::Inputs<Vec<u8>>;
 

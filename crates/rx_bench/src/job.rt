@@ -28,14 +28,14 @@ impl Job {
     pub fn of<R: Threads + Sync>(rt: &R, alloc: Global, inputs: &Inputs) -> Option<Job> {
         let sheet = read_sheet(alloc, &inputs.sheet).ok()?;
         let (batch, asked) = requests(rt, alloc, &sheet, &inputs.batch)?;
-        match Books::read(alloc, &inputs.books) {
-            Ok(books) => Some(Job {
+        match books_with_text(rt, alloc, &inputs.books) {
+            Some(books) => Some(Job {
                 sheet,
                 books,
                 batch,
                 asked,
             }),
-            Err(_) => None,
+            None => None,
         }
     }
 
@@ -78,6 +78,12 @@ fn desk_of(
             None
         }
     }
+}
+
+// The books, which keep a copy of their text, as those of a run keep it.
+fn books_with_text<R: Threads + Sync>(rt: &R, alloc: Global, text: &[u8]) -> Option<Books> {
+    let own = Vec::from_slice(alloc, text).ok()?;
+    Books::read_kept(rt, alloc, 1, own).ok()
 }
 
 fn requests<R: Threads + Sync>(

@@ -5,14 +5,12 @@
 //! Without a word each call is timed in a short round on one-billing, which says what it found, and the orders are driven.
 #![tactic(auto)]
 
-mod adjudicate;
 mod batch;
 mod books;
 mod desk;
 mod in_order;
 mod inputs;
 mod job;
-mod reply;
 mod requests;
 mod schedule;
 mod shelf;
@@ -30,16 +28,7 @@ use std::{env, fs, io};
 use timing::{ROUNDS, Watch};
 
 const NAMES: &[&str] = &[
-    "adjudicate",
-    "batch",
-    "books",
-    "desk",
-    "in_order",
-    "reply",
-    "requests",
-    "schedule",
-    "shelf",
-    "waves",
+    "batch", "books", "desk", "in_order", "requests", "schedule", "shelf", "waves",
 ];
 
 // How often a call is made that is too short to be timed by itself.
@@ -137,7 +126,10 @@ fn timed<R: Print + Clock + Files + Threads + Wait + Sync>(
     folder: Option<&String>,
     micros: Option<&String>,
 ) -> io::Result<()> {
-    let micros = micros.and_then(|word| word.parse().ok()).unwrap_or(MICROS);
+    let micros = match micros {
+        Some(word) => word.as_str().parse().unwrap_or(MICROS),
+        None => MICROS,
+    };
     let inputs = match folder {
         Some(folder) => texts_in(rt, alloc, folder.as_str())?,
         None => one_billing(alloc)?,
@@ -171,12 +163,10 @@ fn round<R: Clock + Threads + Wait + Sync>(
     micros: u64,
 ) -> Option<()> {
     match name {
-        "adjudicate" => adjudicate::round(watch, inputs),
         "batch" => Some(batch::round(watch, inputs)),
         "books" => books::round(watch, inputs),
         "desk" => desk::round(watch, inputs),
         "in_order" => in_order::round(watch, inputs),
-        "reply" => reply::round(watch),
         "requests" => requests::round(watch, inputs),
         "schedule" => schedule::round(watch, inputs),
         "shelf" => shelf::round(watch, inputs),

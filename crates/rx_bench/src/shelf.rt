@@ -1,5 +1,4 @@
-//! A shelf with places for what the records of a batch name: made, a record's parcel taken and given back, and all books
-//! compared; on one thread.
+//! A shelf with places for what the records of a batch name: made, and a record's parcel taken and given back; on one thread.
 
 use crate::inputs::Inputs;
 use crate::job::Job;
@@ -34,7 +33,6 @@ fn used<R: Clock>(watch: &mut Watch<R>, job: &Job, named: &[Footprint]) -> Optio
         "parcels taken and given",
         turned(watch.alloc, &mut shelf, named, turns),
     );
-    watch.lap("shelf compared", usize::from(shelf.agrees()));
     drop(shelf);
     Some(())
 }

@@ -69,7 +69,10 @@ impl<R: Clock> Watch<'_, R> {
     // The nanoseconds since the part began; 0 without a clock.
     fn passed(&self) -> u128 {
         match self.start {
-            Some(start) => start.elapsed(self.rt).map_or(0, |time| time.as_nanos()),
+            Some(start) => match start.elapsed(self.rt) {
+                Ok(time) => time.as_nanos(),
+                Err(_) => 0,
+            },
             None => 0,
         }
     }
@@ -121,15 +124,4 @@ pub fn length<E>(text: &Result<Vec<u8>, E>) -> usize {
 /// 1 of what was made; 0 where it wasn't.
 pub fn one_if<T: Drop>(made: Option<T>) -> usize {
     usize::from(made.is_some())
-}
-
-/// What this many calls found in all.
-pub fn found_in<F: Fn() -> usize>(turns: u32, call: F) -> usize
-    requires { F.IsAlwaysCallable call }
-{
-    let mut found = 0usize;
-    for _ in 0..turns {
-        found = found.saturating_add(call());
-    }
-    found
 }

@@ -108,5 +108,8 @@ fn replies(finished: Option<Finished>) -> usize {
 }
 
 fn counted(finished: Option<&Finished>) -> usize {
-    finished.map_or(0, |finished| finished.replies.len())
+    match finished {
+        Some(finished) => finished.replies.len(),
+        None => 0,
+    }
 }

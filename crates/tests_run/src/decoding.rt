@@ -1,9 +1,8 @@
 // What no clause says: that the threads give the transmissions, and not out of memory.
-use crate::same::same;
 use rx_batch::{Detail, Text};
 use rx_d0_values::{Body, Transmission};
 use rx_fields::{Code, Door};
-use rx_wave::{Gate, NoGate, decode_all, decode_in_parts};
+use rx_wave::{decode_all, decode_in_parts};
 use std::alloc::Global;
 use std::process::Abort;
 
@@ -59,19 +58,8 @@ fn decodes_in_order(rt: HostRuntime) {
     let details = details(&rt, rt.alloc());
     let all = decode_all(&rt, rt.alloc(), &DOOR, &details).expect(&rt, "memory");
     are_theirs(&rt, &all);
-}
-
-#[test]
-fn decodes_in_parts(rt: HostRuntime) {
-    let details = details(&rt, rt.alloc());
     for &parts in &[1, 2] {
         let all = decode_in_parts(&rt, rt.alloc(), parts, &DOOR, &details).expect(&rt, "memory");
         are_theirs(&rt, &all);
     }
-}
-
-#[test]
-fn starts_every_worker(rt: HostRuntime) {
-    assert!(rt; NoGate.start(1));
-    assert!(rt; NoGate.start(64));
 }

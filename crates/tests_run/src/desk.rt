@@ -1,34 +1,25 @@
 // The case desk-by-hand: three fills that reach the family maximum, from an order to the next by hand.
+use crate::one_billing::BOOKS;
 use crate::same::same;
-use crate::worked::{bare_sheet, bill, id, lot, member, person, plain_sheet, this_year, today};
+use crate::worked::{bare_sheet, bill, books, lot, plain_sheet, today};
 use rx_adjudicate::{Done, Order, adjudicate};
 use rx_books_store::Books;
-use rx_d0_values::{Answer, Outcome, Reply, Transmission};
+use rx_d0_values::Transmission;
 use rx_desk::{Desk, Event, Finished, Next};
 use rx_fields::Lot;
-use rx_ledger::{Ledger, Sheet};
+use rx_ledger::Sheet;
 use std::alloc::Global;
 use std::process::Abort;
 
-// Lists a person of a family, who is covered to the day.
-fn enroll(rt: &impl Abort, ledger: &mut Ledger, family: &[u8], code: &[u8], last: &[u8]) {
-    let member = member(rt, family, code, last);
-    ledger.add_member(member).expect(rt, "a new member");
-}
-
-fn books_of(rt: &impl Abort, alloc: Global, ledger: &Ledger) -> Books {
-    Books::from_ledger(alloc, ledger, this_year(rt)).expect(rt, "memory")
-}
-
-// The opening books of the case, where all are covered to the day.
-fn books(rt: &impl Abort, alloc: Global, last: &[u8]) -> Books {
-    let mut ledger = Ledger::new(alloc);
-    for code in [b"01", b"02", b"03"] {
-        enroll(rt, &mut ledger, b"C100", code, last);
-    }
-    enroll(rt, &mut ledger, b"C200", b"01", last);
-    books_of(rt, alloc, &ledger)
-}
+// The opening books, where a person is covered to an earlier day.
+const SHORTER: &[u8] = b"BOOKS|3|20260101|20261231
+M|C100|01|20260101|20261130|0
+M|C100|02|20260101|20261231|0
+M|C100|03|20260101|20261231|0
+M|C200|01|20260101|20261231|0
+T|C100|0|0
+T|C200|0|0
+";
 
 // Puts a fill for a person of a family to the others.
 fn put(
@@ -52,9 +43,9 @@ fn fills(rt: &impl Abort, alloc: Global) -> Vec<Transmission> {
     fills
 }
 
-// The desk of the case, over books that cover to the day.
-fn desk(rt: &impl Abort, alloc: Global, last: &[u8]) -> Desk {
-    let books = books(rt, alloc, last);
+// The desk of the case, over the books of a text.
+fn desk(rt: &impl Abort, alloc: Global, text: &[u8]) -> Desk {
+    let books = books(rt, alloc, text);
     desk_of(rt, alloc, books, fills(rt, alloc))
 }
 
@@ -71,17 +62,6 @@ fn order(rt: &impl Abort, desk: &mut Desk) -> Order {
     match desk.next() {
         Next::Order(order) => order,
         Next::Later | Next::Over | Next::Memory => panic!(rt; "an order"),
-    }
-}
-
-// The patient pay amount of a reply to one fill.
-fn patient_pay(reply: &Reply) -> Option<u64> {
-    match &reply.outcome {
-        Outcome::Rejected(_) => None,
-        Outcome::Heard(answers) => match answers.as_slice().first()? {
-            Answer::Paid(paid) => Some(paid.pricing.patient_pay()),
-            Answer::Twice(_) | Answer::Approved(_) | Answer::Refused(_) => None,
-        },
     }
 }
 
@@ -162,7 +142,7 @@ fn closed(rt: &impl Abort, desk: Desk) -> Finished {
 
 // What the desk of the case ends with.
 fn finished(rt: &impl Abort, alloc: Global) -> Finished {
-    let mut desk = desk(rt, alloc, b"20261231");
+    let mut desk = desk(rt, alloc, BOOKS);
     for _ in 0..3 {
         goes(rt, alloc, &mut desk);
     }
@@ -171,7 +151,7 @@ fn finished(rt: &impl Abort, alloc: Global) -> Finished {
 
 #[test]
 fn sharers_go_one_after_another(rt: HostRuntime) {
-    let mut desk = desk(&rt, rt.alloc(), b"20261231");
+    let mut desk = desk(&rt, rt.alloc(), BOOKS);
     go_alone(&rt, rt.alloc(), &mut desk);
     went(&rt, &desk, ONE_AFTER_ANOTHER);
     same(&rt, next_word(&mut desk), "over");
@@ -199,24 +179,9 @@ fn ends_with_the_books_of_the_case(rt: HostRuntime) {
     drop(finished);
 }
 
-#[test]
-fn ends_with_the_replies_of_the_case(rt: HostRuntime) {
-    let finished = finished(&rt, rt.alloc());
-    are_paid(&rt, &finished.replies, &[13_000, 13_000, 4000]);
-    drop(finished);
-}
-
-// The replies have these patient pay amounts.
-fn are_paid(rt: &impl Abort, replies: &[Reply], amounts: &[u64]) {
-    same(rt, replies.len(), amounts.len());
-    for (reply, &paid) in replies.iter().zip(amounts) {
-        same(rt, patient_pay(reply), Some(paid));
-    }
-}
-
-// The first record of a desk over books that cover to the day, done.
-fn first_done(rt: &impl Abort, alloc: Global, last: &[u8]) -> Done {
-    let mut desk = desk(rt, alloc, last);
+// The first record of a desk over the books of a text, done.
+fn first_done(rt: &impl Abort, alloc: Global, text: &[u8]) -> Done {
+    let mut desk = desk(rt, alloc, text);
     let order = order(rt, &mut desk);
     drop(desk);
     done(rt, alloc, order)
@@ -224,15 +189,8 @@ fn first_done(rt: &impl Abort, alloc: Global, last: &[u8]) -> Done {
 
 // A desk whose first record is out, and won't come back.
 fn with_one_out(rt: &impl Abort, alloc: Global) -> Desk {
-    let mut desk = desk(rt, alloc, b"20261231");
+    let mut desk = desk(rt, alloc, BOOKS);
     let _out = order(rt, &mut desk);
-    desk
-}
-
-// A desk whose first record was given back.
-fn with_one_given(rt: &impl Abort, alloc: Global) -> Desk {
-    let mut desk = desk(rt, alloc, b"20261231");
-    goes(rt, alloc, &mut desk);
     desk
 }
 
@@ -244,19 +202,10 @@ fn turns_away(desk: &mut Desk, done: Done) -> bool {
 
 #[test]
 fn turns_away_a_done_over_other_books(rt: HostRuntime) {
-    let stranger = first_done(&rt, rt.alloc(), b"20261130");
+    let stranger = first_done(&rt, rt.alloc(), SHORTER);
     let mut desk = with_one_out(&rt, rt.alloc());
     same(&rt, turns_away(&mut desk, stranger), true);
     went(&rt, &desk, &[Event::Take(1)]);
-    drop(desk);
-}
-
-#[test]
-fn turns_away_an_order_given_twice(rt: HostRuntime) {
-    let again = first_done(&rt, rt.alloc(), b"20261231");
-    let mut desk = with_one_given(&rt, rt.alloc());
-    same(&rt, turns_away(&mut desk, again), true);
-    same(&rt, desk.history().len(), 2);
     drop(desk);
 }
 
@@ -266,26 +215,26 @@ fn comes_back_while_a_record_is_left(rt: HostRuntime) {
     same(&rt, is_closed(desk), false);
 }
 
-// What is asked of the desk of the case: the batch number, the drugs that the sheet lists, the last day that the books
-// cover, and how many records.
+// What is asked of the desk of the case: the batch number, the drugs that the sheet lists, the text of the books, and how
+// many records.
 #[derive(Clone, Copy)]
 struct Asked {
     batch: u32,
     drugs: usize,
-    last: &'static [u8],
+    books: &'static [u8],
     records: usize,
 }
 
 const OWN: Asked = Asked {
     batch: 42,
     drugs: 3,
-    last: b"20261231",
+    books: BOOKS,
     records: 3,
 };
 
 fn asked_sheet(rt: &impl Abort, alloc: Global, drugs: usize) -> Sheet {
     match drugs {
-        0 => bare_sheet(rt, alloc, 75),
+        0 => bare_sheet(rt, alloc),
         _ => plain_sheet(rt, alloc),
     }
 }
@@ -309,14 +258,14 @@ fn asked_job(rt: &impl Abort, alloc: Global, asked: Asked) -> Job {
     Job {
         lot: lot(rt, asked.batch),
         sheet: asked_sheet(rt, alloc, asked.drugs),
-        books: books(rt, alloc, asked.last),
+        books: books(rt, alloc, asked.books),
         records: asked_records(rt, alloc, asked.records),
     }
 }
 
 // Whether the desk of the case is for this job.
 fn is_job(rt: &impl Abort, alloc: Global, job: &Job) -> bool {
-    let desk = desk(rt, alloc, b"20261231");
+    let desk = desk(rt, alloc, BOOKS);
     let is_job = desk.job_is(job.lot, &job.sheet, &job.books, &job.records);
     drop(desk);
     is_job
@@ -330,10 +279,10 @@ fn is_for(rt: &impl Abort, alloc: Global, asked: Asked) -> bool {
 #[test]
 fn knows_its_job(rt: HostRuntime) {
     let alloc = rt.alloc();
-    let last = b"20261130";
+    let books = SHORTER;
     same(&rt, is_for(&rt, alloc, OWN), true);
     same(&rt, is_for(&rt, alloc, Asked { batch: 43, ..OWN }), false);
     same(&rt, is_for(&rt, alloc, Asked { drugs: 0, ..OWN }), false);
-    same(&rt, is_for(&rt, alloc, Asked { last, ..OWN }), false);
+    same(&rt, is_for(&rt, alloc, Asked { books, ..OWN }), false);
     same(&rt, is_for(&rt, alloc, Asked { records: 2, ..OWN }), false);
 }

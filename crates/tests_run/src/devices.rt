@@ -1,87 +1,13 @@
-// What no clause says: that a reading succeeds, which call of a device fails, and devices that don't report their
-// bytes.
+// What no clause says: that a reading and a writing succeed, and devices that don't report their bytes.
 use crate::same::same;
-use rx_fields::Memory;
 use rx_io::{
-    Consumer, Failed, ReadFault, ReaderSource, SliceSource, Source, VecSink, WriterSink, read_all,
-    read_each, write_all, write_pieces,
+    Failed, ReaderSource, SliceSource, VecSink, WriterSink, read_all, write_all, write_pieces,
 };
 use std::alloc::{AllocError, Global};
 use std::io;
-use std::io::{ErrorKind, Read, Write};
+use std::io::{ErrorKind, Read};
 
 const TEXT: &[u8] = b"SETTLE|1|";
-
-// It never ends, gives at most that many bytes a call, counts its reads and looks at their room.
-#[derive(Drop)]
-struct Endless {
-    most: usize,
-    reads: u64,
-    cramped: bool,
-}
-
-impl Endless {
-    fn new(most: usize) -> Endless {
-        Endless {
-            most,
-            reads: 0,
-            cramped: false,
-        }
-    }
-}
-
-impl Source for Endless {
-    ghost use Rattle.std.specs.Prelude.{None, false};
-
-    ghost left = { λ _. None };
-
-    ghost failed = { λ _. false };
-
-    ghost reads = { λ s. s.reads };
-
-    ghost cramped = { λ s. s.cramped };
-
-    fn read(&mut self, buffer: &mut [u8]) -> Result<usize, Failed> {
-        self.reads = self.reads.saturating_add(1);
-        self.cramped |= buffer.len() < 4096;
-        Ok(self.most.min(buffer.len()))
-    }
-}
-
-// It counts the bytes, and keeps none.
-#[derive(Drop)]
-struct Counted(u64);
-
-impl Consumer for Counted {
-    ghost use Rattle.std.specs.Prelude.{⊤};
-
-    ghost stands_for = { λ _ _. ⊤ };
-
-    fn take(&mut self, piece: &[u8]) -> Result<(), Memory> {
-        self.0 = self.0.saturating_add(piece.len() as u64);
-        Ok(())
-    }
-}
-
-// A file that can't be read or written.
-#[derive(Drop)]
-struct Broken;
-
-impl Read for Broken {
-    fn read(&mut self, _buffer: &mut [u8]) -> io::Result<usize> {
-        Err(io::Error::from(ErrorKind::Other))
-    }
-}
-
-impl Write for Broken {
-    fn write(&mut self, _piece: &[u8]) -> io::Result<usize> {
-        Err(io::Error::from(ErrorKind::Other))
-    }
-
-    fn flush(&mut self) -> io::Result<()> {
-        Ok(())
-    }
-}
 
 // A text whose first read a signal interrupts.
 #[derive(Drop)]
@@ -100,16 +26,6 @@ impl Read for Signalled {
     }
 }
 
-// Each read of it is interrupted.
-#[derive(Drop)]
-struct Interrupted;
-
-impl Read for Interrupted {
-    fn read(&mut self, _buffer: &mut [u8]) -> io::Result<usize> {
-        Err(io::Error::from(ErrorKind::Interrupted))
-    }
-}
-
 #[test]
 fn reads_pieces_of_any_size(rt: HostRuntime) {
     for most in &[1usize, 7, 4096] {
@@ -118,56 +34,12 @@ fn reads_pieces_of_any_size(rt: HostRuntime) {
     }
 }
 
-// Whether nine bytes are read by seven a call, of which this many succeed.
-fn are_read(alloc: Global, calls: usize) -> Result<bool, ReadFault> {
-    let mut source = SliceSource::new(TEXT, 7).failing_after(calls);
-    let text = read_all(alloc, &mut source)?;
-    Ok(text.as_slice() == TEXT)
-}
-
-// They take three reads, the last of which finds the end.
-#[test]
-fn takes_no_failure_for_the_end(rt: HostRuntime) {
-    for calls in 0..3usize {
-        same(&rt, are_read(rt.alloc(), calls), Err(ReadFault::Failed));
-    }
-    same(&rt, are_read(rt.alloc(), 3), Ok(true));
-}
-
-#[test]
-fn refuses_too_many_reads(rt: HostRuntime) {
-    let mut source = Endless::new(1);
-    let mut taken = Counted(0);
-    let read = read_each(rt.alloc(), &mut source, &mut taken);
-    same(&rt, read, Err(ReadFault::Long));
-    same(&rt, taken.0, 4_194_304);
-    same(&rt, source.reads, 4_194_304);
-    same(&rt, source.cramped, false);
-}
-
-#[test]
-fn refuses_too_many_bytes(rt: HostRuntime) {
-    let mut taken = Counted(0);
-    let read = read_each(rt.alloc(), &mut Endless::new(usize::MAX), &mut taken);
-    same(&rt, read, Err(ReadFault::Long));
-    same(&rt, taken.0, 268_435_456);
-}
-
 #[test]
 fn writes_pieces_of_any_size(rt: HostRuntime) {
     for most in &[1usize, 7, 4096] {
         let mut sink = VecSink::new(rt.alloc(), *most);
         same(&rt, write_all(&mut sink, TEXT), Ok(()));
         same(&rt, sink.bytes(), TEXT);
-    }
-}
-
-#[test]
-fn leaves_a_front_after_a_failure(rt: HostRuntime) {
-    for calls in 0..3usize {
-        let mut sink = VecSink::new(rt.alloc(), 4).failing_after(calls);
-        same(&rt, write_all(&mut sink, TEXT), Err(Failed));
-        same(&rt, sink.bytes(), &TEXT[..4 * calls]);
     }
 }
 
@@ -189,20 +61,6 @@ fn writes_pieces_of_a_text_in_order(rt: HostRuntime) {
     let mut sink = VecSink::new(rt.alloc(), 4).failing_after(2);
     same(&rt, write_pieces(&mut sink, &pieces), Err(Failed));
     same(&rt, sink.bytes(), b"SETTLE|1".as_slice());
-}
-
-#[test]
-fn takes_a_sink_that_takes_nothing_for_failed(rt: HostRuntime) {
-    let written = write_all(&mut VecSink::new(rt.alloc(), 0), TEXT);
-    same(&rt, written, Err(Failed));
-    let written = write_all(&mut VecSink::new(rt.alloc(), 0), b"");
-    same(&rt, written, Ok(()));
-}
-
-#[test]
-fn reads_what_std_does(rt: HostRuntime) {
-    let text = read_all(rt.alloc(), &mut ReaderSource::new(TEXT));
-    same(&rt, text.expect(&rt, "a text").as_slice(), TEXT);
 }
 
 // A text of more bytes than are read at once, the hints for it, and the calls that it takes: three give bytes.
@@ -248,14 +106,6 @@ fn reads_again_where_a_signal_interrupts(rt: HostRuntime) {
     same(&rt, source.calls(), 3);
 }
 
-#[test]
-fn fails_where_signals_interrupt_too_many_reads(rt: HostRuntime) {
-    let mut source = ReaderSource::new(Interrupted);
-    let read = read_all(rt.alloc(), &mut source);
-    same(&rt, read.err(), Some(ReadFault::Failed));
-    same(&rt, source.calls(), 65_537);
-}
-
 // It has room for four of nine bytes.
 #[test]
 fn takes_a_full_buffer_for_failed(rt: HostRuntime) {
@@ -263,12 +113,4 @@ fn takes_a_full_buffer_for_failed(rt: HostRuntime) {
     let written = write_all(&mut WriterSink::new(room.as_mut_slice()), TEXT);
     same(&rt, written, Err(Failed));
     same(&rt, room, *b"SETT");
-}
-
-#[test]
-fn tells_that_a_file_failed(rt: HostRuntime) {
-    let read = read_all(rt.alloc(), &mut ReaderSource::new(Broken));
-    same(&rt, read.err(), Some(ReadFault::Failed));
-    let written = write_all(&mut WriterSink::new(Broken), TEXT);
-    same(&rt, written, Err(Failed));
 }

@@ -1,14 +1,13 @@
 //! A run on a caller's own devices, at its own gate, through `rx_switch` only, which has every name that this takes.
 ghost use Rattle.std.specs.Prelude.{◌≡◌, false};
 
-use crate::one_billing::{BATCH, BOOKS, END_BOOKS, RESPONSE, SETTLEMENT, SHEET, STAMP};
+use crate::one_billing::STAMP;
 use crate::same::same;
 use rx_switch::{
-    BatchFault, BooksFault, Device, Failed, Gate, Inputs, IoFault, Job, NoGate, Output, Outputs,
-    SheetFault, SheetKey, Sink, Source, SwitchFault, run, run_io, told,
+    Device, Failed, Gate, Inputs, IoFault, Outputs, SheetFault, SheetKey, Sink, Source,
+    SwitchFault, run_io, told,
 };
 use std::alloc::Global;
-use std::process::Abort;
 use std::sync::Wait;
 use std::thread::Threads;
 
@@ -63,64 +62,6 @@ impl Gate for Opens {
     fn enter(&self, _place: usize) {}
 
     fn leave(&self, _place: usize) {}
-}
-
-// What a run of these texts gives with two workers.
-fn ran<R: Threads + Wait + Sync, G: Gate + Sync>(
-    rt: &R,
-    alloc: Global,
-    gate: &G,
-    texts: [&[u8]; 3],
-) -> Result<Output, SwitchFault> {
-    let [sheet, books, batch] = texts;
-    let job = Job {
-        sheet,
-        books,
-        batch,
-        stamp: STAMP,
-        workers: 2,
-        plain: false,
-    };
-    run(rt, alloc, gate, &job)
-}
-
-#[test]
-fn a_run_gives_its_three_texts(rt: HostRuntime) {
-    let output = ran(&rt, rt.alloc(), &Opens, [SHEET, BOOKS, BATCH]).expect(&rt, "an output");
-    same(&rt, output.response.as_slice(), RESPONSE);
-    same(&rt, output.books.as_slice(), END_BOOKS);
-    same(&rt, output.settlement.as_slice(), SETTLEMENT);
-}
-
-// Why a run of these texts is refused.
-fn refused<R: Threads + Wait + Sync>(
-    rt: &R,
-    alloc: Global,
-    texts: [&[u8]; 3],
-) -> Option<SwitchFault> {
-    ran(rt, alloc, &NoGate, texts).err()
-}
-
-#[test]
-fn a_refusal_names_its_fault(rt: HostRuntime) {
-    let sheet = SwitchFault::Sheet(SheetFault::Missing(SheetKey::Bin));
-    let books = SwitchFault::Books(BooksFault::Head);
-    let batch = SwitchFault::Batch(BatchFault::NoHeader { at: 0 });
-    same(
-        &rt,
-        refused(&rt, rt.alloc(), [b"", BOOKS, BATCH]),
-        Some(sheet),
-    );
-    same(
-        &rt,
-        refused(&rt, rt.alloc(), [SHEET, b"", BATCH]),
-        Some(books),
-    );
-    same(
-        &rt,
-        refused(&rt, rt.alloc(), [SHEET, BOOKS, b""]),
-        Some(batch),
-    );
 }
 
 // What a run on these devices answers.

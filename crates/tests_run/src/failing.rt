@@ -5,7 +5,7 @@ ghost use Rattle.std.specs.Prelude.{◌≡◌, ◌≤◌, false};
 use crate::one_billing::{BATCH, BOOKS, END_BOOKS, RESPONSE, SETTLEMENT, SHEET, STAMP};
 use crate::same::same;
 use rx_io::{Failed, Sink, SliceSource, Source, VecSink};
-use rx_switch::{Device, Inputs, IoFault, Job, Outputs, run, run_io};
+use rx_switch::{Device, Inputs, IoFault, Outputs, run_io};
 use rx_wave::NoGate;
 use std::alloc::Global;
 use std::process::Abort;
@@ -245,33 +245,4 @@ fn a_sheet_without_an_end_is_too_long(rt: HostRuntime) {
     same(&rt, ran.written.response.bytes().len(), 0);
     same(&rt, ran.written.books.bytes().len(), 0);
     same(&rt, ran.written.settlement.bytes().len(), 0);
-}
-
-// The case over the bytes themselves.
-fn done_over_bytes<R: Threads + Wait + Sync + Abort>(
-    rt: &R,
-    alloc: Global,
-    workers: u16,
-    plain: bool,
-) {
-    let job = Job {
-        sheet: SHEET,
-        books: BOOKS,
-        batch: BATCH,
-        stamp: STAMP,
-        workers,
-        plain,
-    };
-    let output = run(rt, alloc, &NoGate, &job).expect(rt, "an answer");
-    same(rt, output.response.as_slice(), RESPONSE);
-    same(rt, output.books.as_slice(), END_BOOKS);
-    same(rt, output.settlement.as_slice(), SETTLEMENT);
-}
-
-#[test]
-fn is_done_over_the_bytes(rt: HostRuntime) {
-    for workers in [1, 2, 64] {
-        done_over_bytes(&rt, rt.alloc(), workers, false);
-        done_over_bytes(&rt, rt.alloc(), workers, true);
-    }
 }

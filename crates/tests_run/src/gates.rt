@@ -21,14 +21,11 @@ pub(crate) enum Holds {
     Both(usize),
 }
 
-/// It notes whose start it is asked for, counts how often each place is passed, and holds records up. Records share a desk
-/// at it, or go in shards.
+/// It counts how often each place is passed, and holds records up. Records share a desk at it, or go in shards.
 #[derive(Drop)]
 pub(crate) struct Passed {
     holds: Holds,
     has_desk: bool,
-    // The workers' numbers as digits, in the order of asking.
-    asked: AtomicU64,
     // How often each place was entered and left, from place 1.
     entered: Vec<AtomicU64>,
     left: Vec<AtomicU64>,
@@ -64,7 +61,6 @@ impl Passed {
         Passed {
             holds,
             has_desk: true,
-            asked: AtomicU64::new(0),
             entered: none_passed(rt, alloc, places),
             left: none_passed(rt, alloc, places),
             failed: AtomicU64::new(0),
@@ -77,11 +73,6 @@ impl Passed {
             has_desk: false,
             ..Passed::new(rt, alloc, holds, places)
         }
-    }
-
-    /// The numbers of the workers whose start it was asked for, as digits.
-    pub(crate) fn starts(&self) -> u64 {
-        self.asked.load(Ordering::SeqCst)
     }
 
     /// Whether each place was entered and left once, and no record held up in vain.
@@ -108,10 +99,7 @@ impl Passed {
 impl Gate for Passed {
     ghost starts = { λ _ _. true };
 
-    fn start(&self, worker: usize) -> bool {
-        let asked = self.asked.load(Ordering::SeqCst).saturating_mul(10);
-        self.asked
-            .store(asked.saturating_add(worker as u64), Ordering::SeqCst);
+    fn start(&self, _worker: usize) -> bool {
         true
     }
 

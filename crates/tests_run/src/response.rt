@@ -5,8 +5,7 @@ use rx_batch::{Detail, FileType, Head, Kind, Text};
 use rx_d0_reply::decode_reply;
 use rx_d0_values::Reply;
 use rx_fields::{Lot, Stamp, Time, date_read, digits_write};
-use rx_io::one_text;
-use rx_response::{response_file, response_pieces};
+use rx_response::response_file;
 use std::alloc::{AllocError, Global};
 use std::process::Abort;
 
@@ -95,20 +94,4 @@ fn replies_stand_in_file_order(rt: HostRuntime) {
     let text = response_file(&rt, rt.alloc(), &head, stamp, &details, &replies);
     let text = text.expect(&rt, "memory");
     same(&rt, text.as_slice(), wanted.as_slice());
-}
-
-#[test]
-fn replies_stand_in_file_order_in_parts(rt: HostRuntime) {
-    let (details, replies) = (details(&rt, rt.alloc()), replies(&rt, rt.alloc()));
-    let wanted = written(rt.alloc()).expect(&rt, "memory");
-    assert!(rt; details.len() == 3000 && replies.len() == 3000);
-    let (head, stamp) = (
-        head(&rt),
-        Stamp::new(b"202603020600").expect(&rt, "a stamp"),
-    );
-    for parts in [1, 4] {
-        let pieces = response_pieces(&rt, rt.alloc(), parts, &head, stamp, &details, &replies);
-        let text = one_text(rt.alloc(), pieces.expect(&rt, "memory")).expect(&rt, "memory");
-        same(&rt, text.as_slice(), wanted.as_slice());
-    }
 }

@@ -4,10 +4,8 @@
 use crate::gates::{Holds, Passed, Without};
 use crate::one_billing::{BATCH, BOOKS, END_BOOKS, RESPONSE, SETTLEMENT, SHEET, STAMP};
 use crate::same::same;
-use crate::texts::{
-    Texts, five_hundred_families, too_many_details, two_claims, with_standing_claims,
-};
-use rx_switch::{BatchFault, BooksFault, Gate, Job, NoGate, Output, SwitchFault, run};
+use crate::texts::{Texts, five_hundred_families, two_claims, with_standing_claims};
+use rx_switch::{Gate, Job, NoGate, Output, SwitchFault, run};
 use std::alloc::Global;
 use std::process::Abort;
 use std::sync::Wait;
@@ -157,23 +155,4 @@ fn a_refused_worker_of_four_is_thread(rt: HostRuntime) {
     }
     let other = of_one_worker(&rt, rt.alloc(), &texts, OF_A_THOUSAND);
     gives(&rt, rt.alloc(), &NoGate, 4, &texts, &other);
-}
-
-#[test]
-fn a_detail_too_many_is_refused(rt: HostRuntime) {
-    let batch = too_many_details(&rt, rt.alloc());
-    let wanted = SwitchFault::Batch(BatchFault::TooMuch { at: 1_400_075 });
-    for &workers in &[1, 2] {
-        let fault = refused(&rt, rt.alloc(), &NoGate, workers, BOOKS, &batch);
-        same(&rt, fault, Some(wanted));
-    }
-}
-
-#[test]
-fn a_line_feed_too_many_is_refused(rt: HostRuntime) {
-    let books = Vec::from_elem(rt.alloc(), b'\n', 1_000_001).expect(&rt, "memory");
-    for &workers in &[1, 2] {
-        let fault = refused(&rt, rt.alloc(), &NoGate, workers, &books, BATCH);
-        same(&rt, fault, Some(SwitchFault::Books(BooksFault::TooMuch)));
-    }
 }

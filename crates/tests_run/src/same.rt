@@ -7,8 +7,3 @@ use std::process::Abort;
 pub(crate) fn same<T: PartialEq + Debug + Drop>(rt: &impl Abort, given: T, wanted: T) {
     assert_eq!(rt; given, wanted);
 }
-
-/// What is given is not this other value.
-pub(crate) fn differ<T: PartialEq + Debug + Drop>(rt: &impl Abort, given: T, other: T) {
-    assert_ne!(rt; given, other);
-}

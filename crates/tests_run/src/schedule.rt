@@ -1,9 +1,6 @@
 // The footprints, waves and queues of the worked cases (tests/cases/README.md), counted by hand.
-ghost use Rattle.std.specs.Prelude.{◌≤◌, ℕ};
-ghost use Rattle.rx_schedule.specs.Machine.{Was};
-
 use crate::same::same;
-use crate::worked::{base, id, key, rejected, reversal, today};
+use crate::worked::{base, books, id, key, reversal, today};
 use rx_books_parcel::Footprint;
 use rx_books_store::Books;
 use rx_d0_values::{Transaction, Transmission};
@@ -27,14 +24,6 @@ T|C200|0|0\n";
 // Puts a record of this one transaction to the others.
 fn put(rt: &impl Abort, alloc: Global, records: &mut Vec<Transmission>, one: Transaction) {
     records.push(today(rt, alloc, &[one])).expect(rt, "memory");
-}
-
-fn put_rejected(rt: &impl Abort, records: &mut Vec<Transmission>) {
-    records.push(rejected(rt)).expect(rt, "memory");
-}
-
-fn books(rt: &impl Abort, alloc: Global, text: &[u8]) -> Books {
-    Books::read(alloc, text).expect(rt, "books")
 }
 
 // Three claims of one family.
@@ -170,51 +159,6 @@ fn empty_batch(rt: HostRuntime) {
     all_go(&rt, rt.alloc(), &list, 0);
 }
 
-#[test]
-fn rejected_headers_share_with_nobody(rt: HostRuntime) {
-    let mut records = Vec::new(rt.alloc());
-    put_rejected(&rt, &mut records);
-    put_rejected(&rt, &mut records);
-    let list = footprints_on(&rt, rt.alloc(), BILLED, &records);
-    same(&rt, list.len(), 2);
-    names(&rt, &list, 0, &[], &[]);
-    names(&rt, &list, 1, &[], &[]);
-    waves_are(&rt, rt.alloc(), &list, &[1, 1], &[1]);
-}
-
-// Three hundred families bill under one key, and then it is taken back twenty times.
-fn billed_and_taken_back(rt: &impl Abort, alloc: Global) -> Vec<Transmission> {
-    let mut records = Vec::new(alloc);
-    for place in 0..300 {
-        let digits: [u8; 3] = digits_write(place);
-        put(rt, alloc, &mut records, base(rt, 7, &digits));
-    }
-    for _ in 0..20 {
-        put(rt, alloc, &mut records, reversal(rt, 7));
-    }
-    records
-}
-
-// How many footprints name this many families.
-fn naming(list: &[Footprint], families: usize) -> usize {
-    list.iter()
-        .filter(|footprint| footprint.families().len() == families)
-        .count()
-}
-
-#[test]
-fn reversals_after_three_hundred_billers(rt: HostRuntime) {
-    let records = billed_and_taken_back(&rt, rt.alloc());
-    let list = footprints_on(&rt, rt.alloc(), OPENING, &records);
-    same(&rt, list.len(), 320);
-    same(&rt, naming(&list, 1), 300);
-    same(&rt, naming(&list, 300), 20);
-    let waves = waves(rt.alloc(), &list).expect(&rt, "memory");
-    same(&rt, waves.count, 320);
-    same(&rt, waves.chain.len(), 320);
-    all_go(&rt, rt.alloc(), &list, 320);
-}
-
 fn queues_of(rt: &impl Abort, alloc: Global, list: &[Footprint]) -> Queues {
     Queues::of(alloc, list).expect(rt, "memory")
 }
@@ -244,60 +188,4 @@ fn all_go(rt: &impl Abort, alloc: Global, list: &[Footprint], count: usize) {
     let mut queues = queues_of(rt, alloc, list);
     same(rt, drive(&mut queues, 2000), count);
     same(rt, queues.ready(), None);
-}
-
-// Issues what is ready, and then passes it, the last of it first; it says how many went.
-fn drive_back(queues: &mut Queues, most: usize) -> usize
-    ensures few { result ≤ most }
-    ensures handed { (p : ℕ) → Was p queues.old.handed → Was p queues.new.handed }
-    ensures passed { (p : ℕ) → Was p queues.new.passed → Was p queues.old.handed → Was p queues.old.passed }
-{
-    if most == 0 {
-        return 0;
-    }
-    match queues.ready() {
-        Some(place) => {
-            queues.hand();
-            let went = drive_back(queues, most - 1);
-            queues.pass(place);
-            went + 1
-        }
-        None => 0,
-    }
-}
-
-// This many go together.
-fn go_together(rt: &impl Abort, queues: &mut Queues, count: usize) {
-    same(rt, drive_back(queues, 9), count);
-}
-
-#[test]
-fn sharers_wait_for_each_other(rt: HostRuntime) {
-    let list = of_three_fills(&rt, rt.alloc());
-    let mut queues = queues_of(&rt, rt.alloc(), &list);
-    for &place in &[1, 2, 3] {
-        same(&rt, queues.ready(), Some(place));
-        go_together(&rt, &mut queues, 1);
-    }
-    same(&rt, queues.ready(), None);
-}
-
-// Three families with two records each.
-fn two_of_three_families(rt: &impl Abort, alloc: Global) -> Vec<Transmission> {
-    let mut records = Vec::new(alloc);
-    for place in 0..6 {
-        let digits: [u8; 3] = digits_write(place % 3);
-        put(rt, alloc, &mut records, base(rt, place, &digits));
-    }
-    records
-}
-
-#[test]
-fn last_ready_goes_first(rt: HostRuntime) {
-    let records = two_of_three_families(&rt, rt.alloc());
-    let list = footprints_on(&rt, rt.alloc(), OPENING, &records);
-    let mut queues = queues_of(&rt, rt.alloc(), &list);
-    go_together(&rt, &mut queues, 3);
-    go_together(&rt, &mut queues, 3);
-    same(&rt, queues.ready(), None);
 }

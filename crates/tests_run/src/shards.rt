@@ -1,38 +1,21 @@
 // Shards of batches whose sets of records are counted by hand.
 
 use crate::same::same;
-use crate::worked::{base, rejected, reversal, today};
-use rx_books_store::Books;
+use crate::worked::{base, books, reversal, today};
 use rx_d0_values::{Transaction, Transmission};
 use rx_fields::digits_write;
 use rx_schedule::{Shards, shards};
 use std::alloc::Global;
 use std::process::Abort;
 
-const OPENING: &[u8] = b"BOOKS|3|20260101|20261231\n";
-
-// A claim of C100 stands under the key 123.
-const BILLED: &[u8] = b"BOOKS|3|20260101|20261231\n\
-M|C100|01|20260101|20261231|10000\n\
-M|C200|01|20260101|20261231|0\n\
-C|1234567893|123|20260228|C100|01|00002000202|30000|30|30000|175|10000|3000|0|000004200000011\n\
-T|C100|13000|10000\n\
-T|C200|0|0\n";
-
 // Puts a record of this one transaction to the others.
 fn put(rt: &impl Abort, alloc: Global, records: &mut Vec<Transmission>, one: Transaction) {
     records.push(today(rt, alloc, &[one])).expect(rt, "memory");
 }
 
-// The shards of the records on the books of this text, at most this many.
-fn shards_on(
-    rt: &impl Abort,
-    alloc: Global,
-    text: &[u8],
-    records: &[Transmission],
-    most: usize,
-) -> Shards {
-    let opening = Books::read(alloc, text).expect(rt, "books");
+// The shards of the records on books without a line, at most this many.
+fn shards_of(rt: &impl Abort, alloc: Global, records: &[Transmission], most: usize) -> Shards {
+    let opening = books(rt, alloc, b"BOOKS|3|20260101|20261231\n");
     let found = shards(alloc, &opening, records, most.max(1));
     drop(opening);
     found.expect(rt, "memory")
@@ -66,7 +49,7 @@ fn size_of(found: &Shards, shard: usize) -> usize {
 fn of_eight_families(rt: &impl Abort, alloc: Global) -> Shards {
     let mut records = Vec::new(alloc);
     bill(rt, alloc, &mut records, 0..40, 8);
-    shards_on(rt, alloc, OPENING, &records, 4)
+    shards_of(rt, alloc, &records, 4)
 }
 
 #[test]
@@ -81,25 +64,6 @@ fn eight_equal_sets_over_four_shards(rt: HostRuntime) {
     let first: &[usize] = &[0, 1, 2, 3, 0, 1, 2, 3];
     same(&rt, found.numbers.get(..8) == Some(first), true);
     same(&rt, found.of(1), found.of(33));
-}
-
-// The shards of thirty billings of one family, and of one billing of each of forty.
-fn of_a_heavy_family(rt: &impl Abort, alloc: Global) -> Shards {
-    let mut records = Vec::new(alloc);
-    bill(rt, alloc, &mut records, 0..40, 40);
-    bill(rt, alloc, &mut records, 100..130, 1);
-    shards_on(rt, alloc, OPENING, &records, 3)
-}
-
-#[test]
-fn heavy_set_has_a_shard_of_its_own(rt: HostRuntime) {
-    let found = of_a_heavy_family(&rt, rt.alloc());
-    same(&rt, found.count, 3);
-    same(&rt, found.largest, 31);
-    same(&rt, found.transactions, 70);
-    same(&rt, size_of(&found, found.of(1)), 31);
-    same(&rt, size_of(&found, found.of(2)), 20);
-    same(&rt, size_of(&found, found.of(3)), 19);
 }
 
 // The places of the shard are these.
@@ -117,45 +81,11 @@ fn reversal_is_with_all_billers_of_its_key(rt: HostRuntime) {
     put(&rt, alloc, &mut records, base(&rt, 7, b"C400"));
     put(&rt, alloc, &mut records, base(&rt, 8, b"C400"));
     put(&rt, alloc, &mut records, base(&rt, 9, b"C500"));
-    let found = shards_on(&rt, alloc, OPENING, &records, 5);
+    let found = shards_of(&rt, alloc, &records, 5);
     same(&rt, found.numbers.as_slice(), [0, 0, 0, 0, 1].as_slice());
     same(&rt, found.count, 2);
     let places = found.places(alloc).expect(&rt, "memory");
     same(&rt, places.len(), 2);
     places_are(&rt, &places, 0, &[1, 2, 3, 4]);
     places_are(&rt, &places, 1, &[5]);
-}
-
-#[test]
-fn reversal_is_with_the_family_that_stands_under_its_key(rt: HostRuntime) {
-    let alloc = rt.alloc();
-    let mut records = Vec::new(alloc);
-    put(&rt, alloc, &mut records, reversal(&rt, 123));
-    put(&rt, alloc, &mut records, base(&rt, 124, b"C100"));
-    put(&rt, alloc, &mut records, base(&rt, 125, b"C300"));
-    let found = shards_on(&rt, alloc, BILLED, &records, 9);
-    same(&rt, found.numbers.as_slice(), [0, 0, 1].as_slice());
-    let apart = shards_on(&rt, alloc, OPENING, &records, 9);
-    same(&rt, apart.numbers.as_slice(), [0, 1, 2].as_slice());
-}
-
-#[test]
-fn billing_is_apart_from_the_family_that_stands_under_its_key(rt: HostRuntime) {
-    let alloc = rt.alloc();
-    let mut records = Vec::new(alloc);
-    put(&rt, alloc, &mut records, base(&rt, 123, b"C200"));
-    put(&rt, alloc, &mut records, base(&rt, 124, b"C100"));
-    let found = shards_on(&rt, alloc, BILLED, &records, 9);
-    same(&rt, found.numbers.as_slice(), [0, 1].as_slice());
-}
-
-#[test]
-fn no_record_and_no_book(rt: HostRuntime) {
-    let alloc = rt.alloc();
-    same(&rt, shards_on(&rt, alloc, OPENING, &[], 4).count, 0);
-    let mut records = Vec::new(alloc);
-    records.push(rejected(&rt)).expect(&rt, "memory");
-    let found = shards_on(&rt, alloc, OPENING, &records, 1);
-    same(&rt, found.numbers.as_slice(), [0].as_slice());
-    same(&rt, found.largest, 0);
 }

@@ -158,14 +158,3 @@ pub(crate) fn five_hundred_families(rt: &impl Abort, alloc: Global) -> Texts {
         batch: batch_of_a_thousand(rt, alloc),
     }
 }
-
-/// A batch of 100,001 details without a transmission.
-pub(crate) fn too_many_details(rt: &impl Abort, alloc: Global) -> Vec<u8> {
-    let mut batch = begun(rt, alloc);
-    for number in 1..100_002 {
-        let place: [u8; 10] = digits_write(number);
-        put(rt, &mut batch, &[b"\x02G1", place.as_slice(), b"\x03"]);
-    }
-    put_trailer(rt, &mut batch, b"0000100001");
-    batch
-}

@@ -1,8 +1,7 @@
 use crate::same::same;
-use rx_io::{Sink, SliceSource, VecSink, read_all, write_all};
+use rx_io::{SliceSource, read_all};
 use rx_run_log::{Traffic, Watched};
 use std::process::Abort;
-use std::time::Duration;
 
 // The SHA-256 of "abc", of FIPS 180-4's examples: its first bytes.
 const OF_ABC: &[u8] = &[0xba, 0x78, 0x16, 0xbf];
@@ -27,13 +26,6 @@ fn what_is_read_is_counted(rt: HostRuntime) {
 }
 
 #[test]
-fn what_is_written_is_counted(rt: HostRuntime) {
-    let mut sink = Watched::new(VecSink::new(rt.alloc(), 2), &rt, true);
-    same(&rt, write_all(&mut sink, b"abc"), Ok(()));
-    is_abc(&rt, sink.traffic());
-}
-
-#[test]
 fn the_first_and_the_last_bytes_are_kept(rt: HostRuntime) {
     let mut traffic = Traffic::new(false);
     traffic.add(&[b'a'; 200]);
@@ -44,24 +36,4 @@ fn the_first_and_the_last_bytes_are_kept(rt: HostRuntime) {
     same(&rt, front.ends_with(b"bb".as_slice()), true);
     same(&rt, end.starts_with(b"a".as_slice()), true);
     same(&rt, end.ends_with(b"bc".as_slice()), true);
-}
-
-#[test]
-fn lines_and_records_are_counted(rt: HostRuntime) {
-    let mut traffic = Traffic::new(false);
-    traffic.add(b"\x0200\x03\n\x02G1\x03");
-    traffic.add(b"\x0299\x03\n");
-    same(&rt, traffic.line_feeds(), 2);
-    same(&rt, traffic.starts(), 3);
-    same(&rt, traffic.digest().expect(&rt, "memory"), None);
-}
-
-#[test]
-fn a_failed_write_is_not_counted(rt: HostRuntime) {
-    let sink = VecSink::new(rt.alloc(), 8).failing_after(0);
-    let mut sink = Watched::new(sink, &rt, true);
-    same(&rt, sink.write(b"abc").is_err(), true);
-    same(&rt, sink.traffic().bytes(), 0);
-    same(&rt, sink.traffic().is_called(), false);
-    same(&rt, sink.traffic().last(), None::<Duration>);
 }

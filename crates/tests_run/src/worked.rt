@@ -1,5 +1,6 @@
 //! What the worked cases (tests/cases/README.md) are made of: small values, the plain sheet, and records.
 
+use rx_books_store::Books;
 use rx_d0_values::{
     Bill, BillParts, Body, Codes, Echo, EchoParts, Heard, Rejected, Reversal, Transaction,
     Transactions, Transmission,
@@ -8,7 +9,7 @@ use rx_fields::{
     Authorization, Cents, Code, Count, Day, Days, Door, Id, Key, Lot, Period, Person, Product,
     Provider, Quantity, Reference, date_read,
 };
-use rx_ledger::{Drug, Figures, Member, Share, Sheet};
+use rx_ledger::{Drug, Figures, Share, Sheet};
 use std::alloc::Global;
 use std::process::Abort;
 
@@ -20,11 +21,10 @@ const HEADER: EchoParts = EchoParts {
     date: *b"20260228",
 };
 
-/// The date of the base claim.
-pub(crate) const TODAY: &[u8] = b"20260228";
+// The date of the base claim.
+const TODAY: &[u8] = b"20260228";
 
-/// The day of a text.
-pub(crate) fn day(rt: &impl Abort, digits: &[u8]) -> Day {
+fn day(rt: &impl Abort, digits: &[u8]) -> Day {
     date_read(digits).expect(rt, "a date")
 }
 
@@ -43,29 +43,21 @@ pub(crate) fn id(rt: &impl Abort, text: &[u8]) -> Id {
     Id::new(text, 20).expect(rt, "an id")
 }
 
-/// The person of a text.
-pub(crate) fn person(rt: &impl Abort, text: &[u8]) -> Person {
+fn person(rt: &impl Abort, text: &[u8]) -> Person {
     Person::new(text).expect(rt, "a person")
 }
 
-/// The product of a text.
-pub(crate) fn product(rt: &impl Abort, digits: &[u8]) -> Product {
+fn product(rt: &impl Abort, digits: &[u8]) -> Product {
     Product::new(digits).expect(rt, "a product")
 }
 
-/// The pharmacy that asks.
-pub(crate) fn provider(rt: &impl Abort) -> Provider {
+// The pharmacy that asks.
+fn provider(rt: &impl Abort) -> Provider {
     Provider::new(b"1234567893").expect(rt, "a provider")
 }
 
-/// The reference of a number.
-pub(crate) fn reference(rt: &impl Abort, number: u64) -> Reference {
+fn reference(rt: &impl Abort, number: u64) -> Reference {
     Reference::new(number).expect(rt, "a reference")
-}
-
-/// The authorization of a number.
-pub(crate) fn authorization(rt: &impl Abort, number: u64) -> Authorization {
-    Authorization::new(number).expect(rt, "an authorization")
 }
 
 /// The fill key of the base claim with this reference.
@@ -77,20 +69,9 @@ pub(crate) fn key(rt: &impl Abort, number: u64) -> Key {
     }
 }
 
-/// A person of a family, who is covered from the first day of the plain sheet's period to this one.
-pub(crate) fn member(rt: &impl Abort, family: &[u8], code: &[u8], last: &[u8]) -> Member {
-    let (first, last) = (day(rt, b"20260101"), day(rt, last));
-    Member::new(id(rt, family), person(rt, code), first, last).expect(rt, "a coverage")
-}
-
-/// The quantity of the base claim, in thousandths.
-pub(crate) fn quantity(rt: &impl Abort) -> Quantity {
-    Quantity::new(30_000).expect(rt, "a quantity")
-}
-
-/// The days supply of the base claim.
-pub(crate) fn thirty_days(rt: &impl Abort) -> Days {
-    Days::new(30).expect(rt, "days")
+/// The books of a text.
+pub(crate) fn books(rt: &impl Abort, alloc: Global, text: &[u8]) -> Books {
+    Books::read(alloc, text).expect(rt, "books")
 }
 
 /// The lot of a batch, created the day after the base claim.
@@ -100,20 +81,15 @@ pub(crate) fn lot(rt: &impl Abort, number: u32) -> Lot {
 
 /// The plain sheet.
 pub(crate) fn plain_sheet(rt: &impl Abort, alloc: Global) -> Sheet {
-    sheet_with(rt, alloc, 75, 3_000)
-}
-
-/// The plain sheet, with another percentage, and another copay for the drug of the base claim.
-pub(crate) fn sheet_with(rt: &impl Abort, alloc: Global, refill_percent: u64, copay: u64) -> Sheet {
-    let mut sheet = bare_sheet(rt, alloc, refill_percent);
+    let mut sheet = bare_sheet(rt, alloc);
     list(rt, &mut sheet, b"00001000101", 1_000, 2_500);
-    list(rt, &mut sheet, b"00002000202", copay, 100_000);
+    list(rt, &mut sheet, b"00002000202", 3_000, 100_000);
     list(rt, &mut sheet, b"00003000303", 1_000, 5_000);
     sheet
 }
 
-/// The plain sheet without drugs, and with this percentage.
-pub(crate) fn bare_sheet(rt: &impl Abort, alloc: Global, refill_percent: u64) -> Sheet {
+/// The plain sheet without drugs.
+pub(crate) fn bare_sheet(rt: &impl Abort, alloc: Global) -> Sheet {
     let figures = Figures {
         door: Door {
             bin: *b"900001",
@@ -122,7 +98,7 @@ pub(crate) fn bare_sheet(rt: &impl Abort, alloc: Global, refill_percent: u64) ->
         period: this_year(rt),
         member_deductible: 10_000,
         family_maximum: 30_000,
-        refill_percent,
+        refill_percent: 75,
         max_days: 90,
         fee: 175,
         family_deductible: None,
@@ -150,8 +126,8 @@ pub(crate) fn bill(
         family: id(rt, family),
         person: person(rt, person_code),
         product: product(rt, digits),
-        quantity: quantity(rt),
-        days: thirty_days(rt),
+        quantity: Quantity::new(30_000).expect(rt, "a quantity"),
+        days: Days::new(30).expect(rt, "days"),
         ingredient_cost: Cents::new(30_000).expect(rt, "a cost"),
         dispensing_fee: Cents::new(175),
         usual_charge: Cents::new(40_000),
@@ -163,16 +139,6 @@ pub(crate) fn bill(
 /// The base claim with this reference and family.
 pub(crate) fn base(rt: &impl Abort, number: u64, family: &[u8]) -> Transaction {
     bill(rt, number, family, b"01", b"00002000202")
-}
-
-/// The transactions of case four-transactions-in-one-record.
-pub(crate) fn four(rt: &impl Abort) -> [Transaction; 4] {
-    [
-        base(rt, 301, b"C100"),
-        base(rt, 301, b"C100"),
-        bill(rt, 302, b"C100", b"01", b"00001000101"),
-        bill(rt, 303, b"C100", b"01", b"00003000303"),
-    ]
 }
 
 /// The reversal of the base claim with this reference.
@@ -209,8 +175,8 @@ pub(crate) fn rejected(rt: &impl Abort) -> Transmission {
     }))
 }
 
-/// The record that asks for this.
-pub(crate) fn asking(body: Body) -> Transmission {
+// The record that asks for this.
+fn asking(body: Body) -> Transmission {
     let echo = Echo::blanked(HEADER);
     Transmission { echo, body }
 }

@@ -3,25 +3,18 @@
 ghost use Rattle.std.specs.Prelude.{◌≡◌, ◌≤◌, length};
 
 use crate::gates::{Holds, Passed, Without};
-use crate::run_one::{add_last_years_claim, books_of, claim, enroll, status};
+use crate::one_billing::BOOKS;
+use crate::run_one::claim;
 use crate::same::same;
-use crate::worked::{id, lot, plain_sheet};
+use crate::worked::{books, id, lot, plain_sheet};
 use rx_books_store::Books;
-use rx_d0_values::Transmission;
-use rx_ledger::{Ledger, Sheet};
+use rx_d0_values::{Answer, Outcome, Transmission};
+use rx_ledger::Sheet;
 use rx_wave::{Finished, Gate, NoGate, RunFault, run_waves};
 use std::alloc::Global;
 use std::process::Abort;
 use std::sync::Wait;
 use std::thread::Threads;
-
-// One member in each of two families.
-fn families(rt: &impl Abort, alloc: Global) -> Ledger {
-    let mut ledger = Ledger::new(alloc);
-    enroll(rt, &mut ledger, b"C100", b"01");
-    enroll(rt, &mut ledger, b"C200", b"01");
-    ledger
-}
 
 // Two records that share nothing.
 fn two_records(rt: &impl Abort, alloc: Global) -> [Transmission; 2] {
@@ -41,7 +34,7 @@ fn four_records(rt: &impl Abort, alloc: Global) -> [Transmission; 4] {
     ]
 }
 
-// What is answered on books of two families.
+// What is answered on the opening books.
 fn run<R: Threads + Wait + Sync + Abort, G: Gate + Sync>(
     rt: &R,
     alloc: Global,
@@ -49,20 +42,8 @@ fn run<R: Threads + Wait + Sync + Abort, G: Gate + Sync>(
     workers: u16,
     asked: &[Transmission],
 ) -> Result<Finished, RunFault> {
-    run_on(rt, alloc, gate, workers, &families(rt, alloc), asked)
-}
-
-// What is answered on books of a ledger.
-fn run_on<R: Threads + Wait + Sync + Abort, G: Gate + Sync>(
-    rt: &R,
-    alloc: Global,
-    gate: &G,
-    workers: u16,
-    ledger: &Ledger,
-    asked: &[Transmission],
-) -> Result<Finished, RunFault> {
     let sheet = plain_sheet(rt, alloc);
-    let books = books_of(rt, alloc, ledger);
+    let books = books(rt, alloc, BOOKS);
     is_a_job(rt, &sheet, &books, asked);
     run_waves(rt, alloc, gate, workers, lot(rt, 42), &sheet, &books, asked)
 }
@@ -97,6 +78,23 @@ fn fault<R: Threads + Wait + Sync + Abort, G: Gate + Sync>(
     asked: &[Transmission],
 ) -> Option<RunFault> {
     run(rt, alloc, gate, workers, asked).err()
+}
+
+// The status of the record's first answer, as a reply writes it; a blank if there is none.
+fn status(finished: &Finished, at: usize) -> u8 {
+    let Some(reply) = finished.replies.get(at) else {
+        return b' ';
+    };
+    let Outcome::Heard(answers) = &reply.outcome else {
+        return b' ';
+    };
+    match answers.as_slice().first() {
+        Some(Answer::Paid(_)) => b'P',
+        Some(Answer::Twice(_)) => b'D',
+        Some(Answer::Approved(_)) => b'A',
+        Some(Answer::Refused(_)) => b'R',
+        None => b' ',
+    }
 }
 
 // The first two records are paid, each family has one-billing's share of 13000, and any further one is refused.
@@ -202,98 +200,4 @@ fn a_gate_that_does_nothing_starts_every_worker(rt: HostRuntime) {
     for &workers in &[2, 4, 64] {
         is_right(&rt, rt.alloc(), &NoGate, workers, &asked);
     }
-}
-
-#[test]
-fn workers_are_1_to_64(rt: HostRuntime) {
-    let asked = two_records(&rt, rt.alloc());
-    for &workers in &[0, 65, 65_535] {
-        let fault = fault(&rt, rt.alloc(), &NoGate, workers, &asked);
-        same(&rt, fault, Some(RunFault::Workers));
-    }
-}
-
-// The claims of a large family.
-const MANY_CLAIMS: u64 = 1_000;
-
-// One member with this many claims.
-fn large_family(rt: &impl Abort, alloc: Global, claims: u64) -> Ledger {
-    let mut ledger = Ledger::new(alloc);
-    enroll(rt, &mut ledger, b"C100", b"01");
-    for claim in 0..claims {
-        add_last_years_claim(rt, &mut ledger, claim + 1);
-    }
-    ledger
-}
-
-// A fill and its refill on the same day.
-fn fill_and_refill(rt: &impl Abort, alloc: Global) -> [Transmission; 2] {
-    [
-        claim(rt, alloc, 123, b"C100"),
-        claim(rt, alloc, 124, b"C100"),
-    ]
-}
-
-// The answers to the fill and the refill, and the starts that the gate was asked for.
-fn starts_asked<R: Threads + Wait + Sync + Abort>(
-    rt: &R,
-    alloc: Global,
-    gate: &Passed,
-    workers: u16,
-    ledger: &Ledger,
-    asked: &[Transmission],
-) -> u64 {
-    let finished = run_on(rt, alloc, gate, workers, ledger, asked).expect(rt, "an answer");
-    same(
-        rt,
-        (status(&finished, 0), status(&finished, 1)),
-        (b'P', b'R'),
-    );
-    same(rt, gate.is_once(), true);
-    gate.starts()
-}
-
-// Records that share nothing are out at once at a desk, however many claims a family has.
-#[test]
-fn records_of_a_large_family_are_out_at_once(rt: HostRuntime) {
-    let alloc = rt.alloc();
-    let mut ledger = large_family(&rt, alloc, MANY_CLAIMS);
-    enroll(&rt, &mut ledger, b"C200", b"01");
-    let asked = two_records(&rt, alloc);
-    let gate = Passed::new(&rt, alloc, Holds::Both(2), asked.len());
-    let finished = run_on(&rt, alloc, &gate, 2, &ledger, &asked).expect(&rt, "an answer");
-    is_billed_once(&rt, &finished);
-    same(&rt, gate.is_once(), true);
-}
-
-// Where all records are of one family each start is asked for too, with a desk or without one, and a refused one is Thread.
-#[test]
-fn records_that_are_tied_ask_for_each_start(rt: HostRuntime) {
-    let alloc = rt.alloc();
-    let ledger = large_family(&rt, alloc, MANY_CLAIMS);
-    let asked = fill_and_refill(&rt, alloc);
-    for worker in 1..5 {
-        let refused = run_on(&rt, alloc, &Without(worker), 4, &ledger, &asked);
-        same(&rt, refused.err(), Some(RunFault::Thread));
-    }
-    for &(workers, starts) in &[(1, 0), (2, 12), (4, 1_234)] {
-        let gate = Passed::new(&rt, alloc, Holds::Nobody, asked.len());
-        same(
-            &rt,
-            starts_asked(&rt, alloc, &gate, workers, &ledger, &asked),
-            starts,
-        );
-        let gate = Passed::in_shards(&rt, alloc, Holds::Nobody, asked.len());
-        same(
-            &rt,
-            starts_asked(&rt, alloc, &gate, workers, &ledger, &asked),
-            starts,
-        );
-    }
-}
-
-#[test]
-fn faults_are_numbered(rt: HostRuntime) {
-    let faults = [RunFault::Workers, RunFault::Memory, RunFault::Thread];
-    same(&rt, faults.map(RunFault::code), [1, 2, 3]);
 }

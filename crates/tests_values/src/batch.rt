@@ -1,4 +1,4 @@
-use crate::table::{same, same_at};
+use crate::table::same;
 use rx_batch::{
     Batch, BatchFault, Detail, FileType, Head, Kind, Pieces, one_reading, read_batch, write_batch,
 };
@@ -144,97 +144,6 @@ fn writes_what_it_reads_and_counts_its_records(rt: HostRuntime) {
     is_written(&rt, alloc, &without, &changed(&rt, alloc, &empty, 94, b'2'));
 }
 
-// The count of an empty batch, and what is said of it.
-const COUNTS: &[(u8, (u32, u64))] = &[
-    (b'0', (0, 0)),
-    (b'2', (0, 0)),
-    (b'1', (10, 75)),
-    (b'3', (10, 75)),
-];
-
-#[test]
-fn counts_an_empty_batch(rt: HostRuntime) {
-    let file = joined(&rt, rt.alloc(), &[HEADER, TRAILER]);
-    for &(count, wanted) in COUNTS {
-        let file = changed(&rt, rt.alloc(), &file, 94, count);
-        same!(rt; (count, told(rt.alloc(), &file)), (count, wanted));
-    }
-}
-
-#[test]
-fn names_the_fault_of_a_cut_file(rt: HostRuntime) {
-    let file = one_billing(&rt, rt.alloc());
-    for length in 0..326usize {
-        let wanted = match length {
-            0 => (2, 0),
-            1..=74 => (4, 0),
-            75 => (8, 75),
-            76..=269 => (4, 75),
-            270 => (8, 270),
-            _ => (4, 270),
-        };
-        let cut = file.get(..length).unwrap_or(&[]);
-        same!(rt; (length, told(rt.alloc(), cut)), (length, wanted));
-    }
-}
-
-// The place of a byte in one-billing's file, another byte there, and what is said of the file then.
-const CHANGES: &[(usize, u8, (u32, u64))] = &[
-    (100, 2, (4, 75)),
-    (80, 3, (6, 75)),
-    (100, 3, (1, 101)),
-    (1, b'G', (2, 0)),
-    (49, b'1', (3, 0)),
-    (3, b'R', (3, 0)),
-    (47, b'X', (3, 0)),
-    (271, b'8', (5, 270)),
-    (279, b'3', (9, 270)),
-    (289, b'2', (10, 270)),
-    (279, b'X', (7, 270)),
-    (289, b'3', (0, 1)),
-];
-
-#[test]
-fn names_the_fault_of_a_damaged_file(rt: HostRuntime) {
-    let file = one_billing(&rt, rt.alloc());
-    for &(at, byte, wanted) in CHANGES {
-        let damaged = changed(&rt, rt.alloc(), &file, at, byte);
-        same!(rt; (at, byte, told(rt.alloc(), &damaged)), (at, byte, wanted));
-    }
-}
-
-// What is said of a file between these texts.
-fn told_between(
-    rt: &impl Abort,
-    alloc: Global,
-    before: &[u8],
-    file: &[u8],
-    behind: &[u8],
-) -> (u32, u64) {
-    let text = joined(rt, alloc, &[before, file, behind]);
-    told(alloc, &text)
-}
-
-// What stands before one-billing's file and after it, and what is said of the whole.
-const BESIDE: &[(&str, &[u8], &[u8], (u32, u64))] = &[
-    ("a byte behind", b"", b"X", (11, 326)),
-    ("a second trailer", b"", TRAILER, (11, 326)),
-    ("a byte before", b"X", b"", (1, 0)),
-    ("ends of lines", b"\r\n", b"\n\r", (0, 1)),
-    ("a blank before", b" ", b"", (1, 0)),
-];
-
-#[test]
-fn names_the_fault_of_a_file_with_more_or_less(rt: HostRuntime) {
-    let file = one_billing(&rt, rt.alloc());
-    for &(name, before, behind, wanted) in BESIDE {
-        let told = told_between(&rt, rt.alloc(), before, &file, behind);
-        same_at(&rt, name, &told, &wanted);
-    }
-    let cut = file.get(..325).unwrap_or(&[]);
-    same!(rt; told_between(&rt, rt.alloc(), b"", cut, b" \x03"), (7, 270));
-}
-
 // One-billing with ends of lines between its records.
 const SPACED: [&[u8]; 9] = [
     b"\r\n",
@@ -280,14 +189,4 @@ fn keeps_its_first_fault(rt: HostRuntime) {
         same!(rt; pieces.feed(b"X"), Err(BatchFault::AfterTrailer { at: 326 }));
     }
     same!(rt; told_of(&pieces.finish()), (11, 326));
-}
-
-#[test]
-fn refuses_one_detail_too_many(rt: HostRuntime) {
-    let mut file = Vec::from_slice(rt.alloc(), HEADER).expect(&rt, "memory");
-    for _ in 0..100_001u32 {
-        file.extend_from_slice(b"\x02G10000000001\x03")
-            .expect(&rt, "memory");
-    }
-    same!(rt; told(rt.alloc(), &file), (12, 1_400_075));
 }

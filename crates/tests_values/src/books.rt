@@ -2,8 +2,8 @@
 
 use crate::table::same;
 use rx_books::{
-    Amounts, Authorization, Books, BooksFault, Days, Few, Footprint, Id, Key, KeyBook, Parcel,
-    Person, Product, Provider, Quantity, Reference, Row, Shelf, TakeFault, date_read,
+    Amounts, Authorization, Books, BooksFault, Days, Footprint, Id, Key, Parcel, Person, Product,
+    Provider, Quantity, Reference, Row, Shelf, TakeFault, date_read,
 };
 use std::alloc::Global;
 use std::process::Abort;
@@ -127,28 +127,6 @@ fn a_parcel_is_out_until_it_is_given(rt: HostRuntime) {
     let parcel = taken(&rt, rt.alloc(), &mut shelf);
     same!(rt; refused(&rt, rt.alloc(), &mut shelf), Some(TakeFault::Absent));
     shelf.give(parcel).expect(&rt, "given back");
-}
-
-// The fill key of a parcel that has a single one.
-fn single(keys: &Few<KeyBook>) -> Option<Key> {
-    match keys {
-        Few::One(book) => Some(book.key),
-        Few::Many(_) => None,
-    }
-}
-
-// The fill key of the parcel of the claim.
-fn key_of_parcel(rt: &impl Abort, alloc: Global) -> Option<Key> {
-    let mut shelf = shelf(rt, alloc);
-    let (keys, families) = taken(rt, alloc, &mut shelf).into_books();
-    let key = single(&keys);
-    drop((keys, families));
-    key
-}
-
-#[test]
-fn a_parcel_has_the_books_that_are_named(rt: HostRuntime) {
-    same!(rt; key_of_parcel(&rt, rt.alloc()), Some(fill_key(&rt)));
 }
 
 #[test]

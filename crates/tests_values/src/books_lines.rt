@@ -1,14 +1,12 @@
 // What no clause says: that lines of claims are lent from the text that was read, and that the text of touched books is the
 // one that is written anew, whichever claims were touched.
-use crate::lines::text;
 use crate::same::same;
+use crate::values::{TODAY, claim, key, member, this_year};
 use rx_books_store::{Books, OpenBooks};
 use rx_d0_values::Amounts;
-use rx_fields::{
-    Authorization, Days, Id, Key, Period, Person, Product, Provider, Quantity, Reference, date_read,
-};
+use rx_fields::Key;
 use rx_io::{Pieces, VecSink};
-use rx_ledger::{Ledger, Member, Row};
+use rx_ledger::{Ledger, Row};
 use std::alloc::Global;
 use std::process::Abort;
 use std::thread::Threads;
@@ -61,32 +59,8 @@ const CASES: &[(u64, &[(u64, Touch)])] = &[
     (9, &[(50, Replaced), (55, Added)]),
 ];
 
-fn day(rt: &impl Abort, text: &[u8]) -> rx_fields::Day {
-    date_read(text).expect(rt, "a date")
-}
-
-fn this_year(rt: &impl Abort) -> Period {
-    Period::new(day(rt, b"20260101"), day(rt, b"20261231")).expect(rt, "a period")
-}
-
-fn key(rt: &impl Abort, reference: u64) -> Key {
-    Key {
-        provider: Provider::new(b"1234567893").expect(rt, "a provider"),
-        reference: Reference::new(reference).expect(rt, "a reference"),
-        date: day(rt, b"20260228"),
-    }
-}
-
-fn family(rt: &impl Abort) -> Id {
-    Id::new(b"C100", 20).expect(rt, "an id")
-}
-
-fn person(rt: &impl Abort) -> Person {
-    Person::new(b"01").expect(rt, "a person")
-}
-
 // The claim under a reference number, of this fee.
-fn claim(rt: &impl Abort, reference: u64, dispensing_fee: u64) -> Row {
+fn billed(rt: &impl Abort, reference: u64, dispensing_fee: u64) -> Row {
     let amounts = Amounts {
         ingredient_cost: 30_000,
         dispensing_fee,
@@ -94,37 +68,19 @@ fn claim(rt: &impl Abort, reference: u64, dispensing_fee: u64) -> Row {
         copay: 30,
         coinsurance: 0,
     };
-    let product = Product::new(b"00002000202").expect(rt, "a product");
-    let quantity = Quantity::new(30_000).expect(rt, "a quantity");
-    let days = Days::new(30).expect(rt, "days");
-    let number = Authorization::new(reference).expect(rt, "a number");
-    let row = Row::new(
-        key(rt, reference),
-        family(rt),
-        person(rt),
-        product,
-        quantity,
-        days,
-        amounts,
-        number,
-    );
+    let row = claim(rt, key(rt, reference, TODAY), b"C100", amounts, reference);
     row.expect(rt, "within the limits")
 }
 
 // The ledger of one member with this many claims.
 fn ledger_of(rt: &impl Abort, alloc: Global, claims: u64) -> Ledger {
     let mut ledger = Ledger::new(alloc);
-    let member = Member::new(
-        family(rt),
-        person(rt),
-        day(rt, b"20260101"),
-        day(rt, b"20261231"),
-    );
+    let member = member(rt, b"C100", b"01", b"20261231");
     let added = ledger.add_member(member.expect(rt, "a member"));
     added.expect(rt, "a new member");
     for place in 0..claims {
         let reference = place.saturating_add(1).saturating_mul(10);
-        let added = ledger.add_row(claim(rt, reference, 175));
+        let added = ledger.add_row(billed(rt, reference, 175));
         added.expect(rt, "a new row");
     }
     ledger
@@ -162,25 +118,25 @@ fn take_out(rt: &impl Abort, books: &mut OpenBooks, key: &Key) {
 
 // Touches a claim.
 fn make_touch(rt: &impl Abort, books: &mut OpenBooks, reference: u64, touch: Touch) {
-    let key = key(rt, reference);
+    let key = key(rt, reference, TODAY);
     match touch {
         Opened => {}
-        Added => add(rt, books, claim(rt, reference, 175)),
+        Added => add(rt, books, billed(rt, reference, 175)),
         TakenOut => take_out(rt, books, &key),
         PutBack => {
             take_out(rt, books, &key);
-            add(rt, books, claim(rt, reference, 175));
+            add(rt, books, billed(rt, reference, 175));
         }
         Replaced => {
             take_out(rt, books, &key);
-            add(rt, books, claim(rt, reference, 275));
+            add(rt, books, billed(rt, reference, 275));
         }
     }
 }
 
 // The books, in which a claim is touched.
 fn touched_once(rt: &impl Abort, alloc: Global, books: Books, reference: u64, how: Touch) -> Books {
-    let keys = [key(rt, reference)];
+    let keys = [key(rt, reference, TODAY)];
     let mut books = books.open(alloc, &keys).expect(rt, "memory");
     make_touch(rt, &mut books, reference, how);
     books.close()
@@ -212,7 +168,25 @@ fn is_written<R: Threads + Sync + Abort>(rt: &R, alloc: Global, books: &Books, w
         same(rt, taken(rt, alloc, &pieces, 9999).as_slice(), wanted);
         let text = pieces.joined(alloc).expect(rt, "memory");
         same(rt, text.as_slice(), wanted);
+        is_written_in_parts(rt, alloc, books, parts, wanted);
     }
+}
+
+// The text of the books is this one, where it is written in this many parts.
+fn is_written_in_parts<R: Threads + Sync + Abort>(
+    rt: &R,
+    alloc: Global,
+    books: &Books,
+    parts: usize,
+    wanted: &[u8],
+) {
+    let mut text = Vec::new(alloc);
+    let list = books.write_parts(rt, alloc, parts).expect(rt, "memory");
+    for pieces in &list {
+        let more = taken(rt, alloc, pieces, 7);
+        text.extend_from_slice(&more).expect(rt, "memory");
+    }
+    same(rt, text.as_slice(), wanted);
 }
 
 #[test]
@@ -249,50 +223,4 @@ fn lines_of_a_text_that_is_kept_are_lent(rt: HostRuntime) {
     let books = touched(&rt, alloc, kept(&rt, alloc, 1, 2), all);
     same(&rt, are_lent(&rt, alloc, &books, 1), true);
     same(&rt, are_lent(&rt, alloc, &books, 3), false);
-}
-
-// The members of the worked cases, and the lines of a claim in each version, with the total lines.
-const MEMBERS: &[u8] = b"M|C100|01|20260101|20261231|0\nM|C200|01|20260101|20261231|0\n";
-
-const CLAIM: &[u8] = b"C|1234567893|90|20251230|C100|01|00002000202|30000|30|30000|175|10000|3000|";
-
-const OLDER: &[&[&[u8]]] = &[
-    &[
-        b"BOOKS|1|20260101|20261231\n",
-        MEMBERS,
-        CLAIM,
-        b"000003100000051\nT|C100|0\nT|C200|0\n",
-    ],
-    &[
-        b"BOOKS|2|20260101|20261231\n",
-        MEMBERS,
-        CLAIM,
-        b"12|000003100000051\nT|C100|0\nT|C200|0\n",
-    ],
-];
-
-// Books of older versions keep no text, and are written in version 3.
-#[test]
-fn older_books_are_written_anew(rt: HostRuntime) {
-    let alloc = rt.alloc();
-    for lines in OLDER {
-        for parts in 1..MOST {
-            let older = text(&rt, alloc, lines);
-            let books = Books::read_kept(&rt, alloc, parts, older).expect(&rt, "books");
-            same(&rt, are_lent(&rt, alloc, &books, 1), false);
-            let ledger = books.ledger(alloc).expect(&rt, "memory");
-            let wanted = written_anew(&rt, alloc, &ledger);
-            is_written(&rt, alloc, &books, &wanted);
-        }
-    }
-}
-
-// A text that is only lent isn't kept.
-#[test]
-fn books_of_a_text_that_is_lent_are_written_anew(rt: HostRuntime) {
-    let alloc = rt.alloc();
-    let wanted = written_anew(&rt, alloc, &ledger_of(&rt, alloc, 3));
-    let books = Books::read(alloc, &wanted).expect(&rt, "books");
-    same(&rt, are_lent(&rt, alloc, &books, 1), false);
-    is_written(&rt, alloc, &books, &wanted);
 }

@@ -1,7 +1,7 @@
 // Books whose text is kept, of the same claims with a member more, and with a claim taken out. Each text is written by hand.
 use crate::same::same;
+use crate::values::{TODAY, key, member};
 use rx_books_store::{Books, OpenBooks};
-use rx_fields::{Id, Key, Person, Provider, Reference, date_read};
 use rx_io::Pieces;
 use rx_ledger::Member;
 use std::alloc::Global;
@@ -36,21 +36,9 @@ T|C100|0|0
 T|C200|0|0
 ";
 
-fn key(rt: &impl Abort) -> Key {
-    Key {
-        provider: Provider::new(b"1234567893").expect(rt, "a provider"),
-        reference: Reference::new(123).expect(rt, "a reference"),
-        date: date_read(b"20260228").expect(rt, "a date"),
-    }
-}
-
 // The member who comes in.
 fn newcomer(rt: &impl Abort) -> Member {
-    let family = Id::new(b"C150", 20).expect(rt, "an id");
-    let person = Person::new(b"01").expect(rt, "a person");
-    let first = date_read(b"20260101").expect(rt, "a date");
-    let last = date_read(b"20261231").expect(rt, "a date");
-    Member::new(family, person, first, last).expect(rt, "a member")
+    member(rt, b"C150", b"01", b"20261231").expect(rt, "a member")
 }
 
 fn kept<R: Threads + Sync + Abort>(rt: &R, alloc: Global) -> Books {
@@ -68,13 +56,13 @@ fn with_newcomer(rt: &impl Abort, alloc: Global, books: &Books) -> Books {
 
 // The books with a slot for the claim's fill key.
 fn opened(rt: &impl Abort, alloc: Global, books: Books) -> OpenBooks {
-    let keys = [key(rt)];
+    let keys = [key(rt, 123, TODAY)];
     books.open(alloc, &keys).expect(rt, "memory")
 }
 
 // The books, and a slot for the claim's fill key that is cleared this often.
 fn cleared(rt: &impl Abort, alloc: Global, books: Books, times: usize) -> Books {
-    let key = key(rt);
+    let key = key(rt, 123, TODAY);
     let mut books = opened(rt, alloc, books);
     for _ in 0..times {
         let slot = books.slot_of(&key).expect(rt, "a slot");
@@ -87,12 +75,6 @@ fn cleared(rt: &impl Abort, alloc: Global, books: Books, times: usize) -> Books 
 fn is_written(rt: &impl Abort, alloc: Global, books: &Books, wanted: &[u8]) {
     let text = books.write(alloc).expect(rt, "memory");
     same(rt, text.as_slice(), wanted);
-}
-
-#[test]
-fn a_text_that_is_kept_is_written_again(rt: HostRuntime) {
-    let alloc = rt.alloc();
-    is_written(&rt, alloc, &kept(&rt, alloc), BOOKS);
 }
 
 #[test]

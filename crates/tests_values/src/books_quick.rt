@@ -1,6 +1,6 @@
 // What no clause says: that good texts are read, whatever the cuts.
 use rx_books_scan::{Lists, read_lists, read_lists_in_parts};
-use rx_books_text::read_printed;
+use rx_books_text::{one_reading, read_printed};
 use rx_ledger::Row;
 use std::alloc::Global;
 use std::process::Abort;
@@ -15,6 +15,15 @@ C|1234567893|123|20260228|C100|01|00002000202|30000|30|30000|175|10000|3000|0|00
 C|1234567893|124|20260301|C200|01|00002000202|30000|30|30000|175|10000|3000|0|000004200000021\n\
 T|C100|13000|10000\n\
 T|C200|13000|10000\n";
+
+// Books without a line of a kind, and of an older version.
+const OTHERS: [&[u8]; 3] = [
+    b"BOOKS|3|20260101|20261231\n",
+    b"BOOKS|3|20260101|20261231\nM|C100|01|20260101|20261231|0\nT|C100|0|0\n",
+    b"BOOKS|1|20260101|20261231\nM|C100|01|20260101|20261231|0\n\
+C|1234567893|90|20251230|C100|01|00002000202|30000|30|30000|175|10000|3000|000003100000051\n\
+T|C100|5\n",
+];
 
 // The claims in one list.
 fn rows(rt: &impl Abort, alloc: Global, lists: &Lists) -> Vec<Row> {
@@ -54,7 +63,11 @@ fn is_left<R: Threads + Sync + Abort>(rt: &R, alloc: Global, text: &[u8]) {
 
 #[test]
 fn reads_in_one_part(rt: HostRuntime) {
+    one_reading();
     is_exact(&rt, rt.alloc(), BOOKS, read_lists(rt.alloc(), BOOKS));
+    for text in OTHERS {
+        is_exact(&rt, rt.alloc(), text, read_lists(rt.alloc(), text));
+    }
 }
 
 // The more parts there are, the more of the places at which a text can be cut.
@@ -63,24 +76,6 @@ fn reads_alike_in_any_parts(rt: HostRuntime) {
     for parts in 1..BOOKS.len() {
         is_read(&rt, rt.alloc(), parts, BOOKS);
     }
-}
-
-#[test]
-fn reads_books_without_a_kind(rt: HostRuntime) {
-    let head = b"BOOKS|3|20260101|20261231\n".as_slice();
-    is_exact(&rt, rt.alloc(), head, read_lists(rt.alloc(), head));
-    let member =
-        b"BOOKS|3|20260101|20261231\nM|C100|01|20260101|20261231|0\nT|C100|0|0\n".as_slice();
-    is_read(&rt, rt.alloc(), 2, member);
-}
-
-#[test]
-fn reads_older_versions(rt: HostRuntime) {
-    let text = b"BOOKS|1|20260101|20261231\nM|C100|01|20260101|20261231|0\n\
-C|1234567893|90|20251230|C100|01|00002000202|30000|30|30000|175|10000|3000|000003100000051\n\
-T|C100|5\n"
-        .as_slice();
-    is_exact(&rt, rt.alloc(), text, read_lists(rt.alloc(), text));
 }
 
 #[test]

@@ -2,8 +2,8 @@
 
 use crate::table::same;
 use rx_d0::{
-    Amounts, Answer, Answers, Authorization, Bill, Body, Code, Door, Outcome, Paid, Pricing, Reply,
-    ReplyFault, Transaction, Transmission, decode, decode_reply, encode,
+    Amounts, Answer, Answers, Authorization, Bill, Body, Door, Outcome, Paid, Pricing, Reply,
+    Transaction, Transmission, decode, encode,
 };
 use std::alloc::Global;
 use std::process::Abort;
@@ -83,20 +83,4 @@ fn a_request_is_answered(rt: HostRuntime) {
         ..DOOR
     };
     same!(rt; answered(&rt, rt.alloc(), &door).as_slice(), REJECTION);
-}
-
-// The codes of a rejected header.
-fn codes(reply: &Reply) -> Option<&[Code]> {
-    match &reply.outcome {
-        Outcome::Rejected(rejected) => Some(rejected.codes.as_slice()),
-        Outcome::Heard(_) => None,
-    }
-}
-
-#[test]
-fn a_reply_is_read(rt: HostRuntime) {
-    let reply = decode_reply(rt.alloc(), REJECTION).expect(&rt, "a reply");
-    same!(rt; codes(&reply), Some([Code::Bin].as_slice()));
-    let fault = decode_reply(rt.alloc(), b"").err();
-    same!(rt; fault, Some(ReplyFault::Head));
 }

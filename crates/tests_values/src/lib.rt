@@ -1,7 +1,9 @@
 //! The tests of what a batch and its books are made of: lists in order, values of fields, batch files, the standard's
-//! transmissions and replies; the ledger, plan sheets and their text, parcels, the books of families and footprints; and books,
-//! their lines read and written, exactly and quickly, whole and in parts. `plan` has those of a sheet in `rx_ledger`, each other
-//! module those of the crate of its name.
+//! transmissions and replies; the ledger, plan sheets and their text, parcels; and books, read and written, exactly and quickly,
+//! whole and in parts. `plan` has those of a sheet in `rx_ledger`, each other module those of the crate of its name; `values` has
+//! what they are made of.
+//!
+//! What commands say of damaged files, the scripts in `tests/` compare.
 //!
 //! They stand apart from those crates, since a crate that has tests is proved twice.
 #![tactic(auto)]
@@ -21,17 +23,11 @@ mod books_members;
 #[cfg(test)]
 mod books_quick;
 #[cfg(test)]
-mod books_text;
-#[cfg(test)]
-mod claim;
-#[cfg(test)]
 mod d0;
 #[cfg(test)]
 mod fields;
 #[cfg(test)]
 mod ledger;
-#[cfg(test)]
-mod lines;
 #[cfg(test)]
 mod order;
 #[cfg(test)]
@@ -50,3 +46,5 @@ mod same;
 mod sheet;
 #[cfg(test)]
 mod table;
+#[cfg(test)]
+mod values;

@@ -237,23 +237,15 @@ const HEADERS: &[Case] = &[
     ),
 ];
 
-#[test]
-fn headers(rt: HostRuntime) {
-    expect_all(&rt, rt.alloc(), HEADERS);
-}
-
 // The base claim with a segment of this many bytes more in front.
 fn with_segment(rt: &impl Abort, alloc: Global, length: usize) -> Vec<u8> {
-    let mut text = HEADER.to_vec(alloc).expect(rt, "memory");
-    text.extend_from_slice(b"\x1e\x1cAM08\x1cXX")
-        .expect(rt, "memory");
-    for _ in 0..length {
-        text.push(b'y').expect(rt, "memory");
-    }
-    for part in [COMMON, CLAIM, PRICING] {
-        text.extend_from_slice(part).expect(rt, "memory");
-    }
-    text
+    let filled = Vec::from_elem(alloc, b'y', length).expect(rt, "memory");
+    joined(
+        rt,
+        alloc,
+        HEADER,
+        &[b"\x1e\x1cAM08\x1cXX", &filled, COMMON, CLAIM, PRICING],
+    )
 }
 
 // A segment of any length in front moves each later separator past the ends of words and of vectors.
@@ -285,11 +277,6 @@ const LARGEST: &[Case] = &[(
     ],
     "heard 1234567893 20260228; bill 999999999999 ABCDEFGHIJKLMNOPQRST ZZ9 98765432109 9999999999 999 99999999 99999999 99999999 99999999; bill 999999999999 ABCDEFGHIJKLMNOPQRST ZZ9 98765432109 9999999999 999 99999999 99999999 99999999 99999999; bill 999999999999 ABCDEFGHIJKLMNOPQRST ZZ9 98765432109 9999999999 999 99999999 99999999 99999999 99999999; bill 999999999999 ABCDEFGHIJKLMNOPQRST ZZ9 98765432109 9999999999 999 99999999 99999999 99999999 99999999",
 )];
-
-#[test]
-fn largest(rt: HostRuntime) {
-    expect_all(&rt, rt.alloc(), LARGEST);
-}
 
 const CUTS: &[Case] = &[
     (
@@ -401,12 +388,6 @@ const CUTS: &[Case] = &[
     ),
 ];
 
-#[test]
-fn cut(rt: HostRuntime) {
-    written_is_heard();
-    expect_all(&rt, rt.alloc(), CUTS);
-}
-
 const FIELDS: &[Case] = &[
     (
         "group-syntax: one empty group",
@@ -513,8 +494,11 @@ const FIELDS: &[Case] = &[
 ];
 
 #[test]
-fn fields(rt: HostRuntime) {
-    expect_all(&rt, rt.alloc(), FIELDS);
+fn each_text_asks_this(rt: HostRuntime) {
+    written_is_heard();
+    for cases in [HEADERS, LARGEST, CUTS, FIELDS] {
+        expect_all(&rt, rt.alloc(), cases);
+    }
 }
 
 const ECHO: EchoParts = EchoParts {
@@ -529,6 +513,7 @@ const ECHO: EchoParts = EchoParts {
 fn echoes(rt: HostRuntime) {
     let whole = decode(rt.alloc(), &DOOR, HEADER).expect(&rt, "memory");
     same!(rt; *whole.echo.parts(), ECHO);
+    same!(rt; whole.copy(rt.alloc()).expect(&rt, "memory") == whole, true);
     let cut = decode(rt.alloc(), &DOOR, b"900001D0B1RXDEMO    10112\x7f45").expect(&rt, "memory");
     same!(rt; &cut.echo.parts().provider, b"12 45          ");
     same!(rt; &cut.echo.parts().date, b"        ");

@@ -15,7 +15,7 @@ use std::alloc::Global;
 
 /// The nth job of a profile, driven in an order of its own: how it went, where it ended as in file order.
 pub fn compared(alloc: Global, profile: Profile, nth: u64) -> Result<Went, Miss> {
-    let mut draw = Draw::new(nth, profile.stream());
+    let mut draw = Draw::new(nth, profile.stream);
     let job = Job::drawn(alloc, &mut draw, profile)?;
     let went = job.compared(alloc, &mut draw);
     drop(job);

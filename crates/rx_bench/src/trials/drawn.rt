@@ -36,7 +36,7 @@ pub fn drawn_ledger(alloc: Global, draw: &mut Draw, profile: Profile) -> Result<
 
 // The families, and up to this many claims of theirs.
 fn fill(ledger: &mut Ledger, draw: &mut Draw, profile: Profile) -> Result<(), Miss> {
-    for nth in 0..profile.families() {
+    for nth in 0..profile.families {
         enroll(ledger, nth, 0)?;
         enroll(ledger, nth, 1)?;
     }
@@ -81,7 +81,7 @@ fn drawn_row(draw: &mut Draw, profile: Profile) -> Result<Row, Miss> {
     };
     let row = Row::new(
         key,
-        family(draw.up_to(profile.families().saturating_sub(1)))?,
+        family(draw.up_to(profile.families.saturating_sub(1)))?,
         person(draw.up_to(1))?,
         drawn_drug(draw, profile)?,
         Quantity::new(30_000).ok_or(Miss::Value)?,
@@ -139,7 +139,7 @@ fn drawn_record(alloc: Global, draw: &mut Draw, profile: Profile) -> Result<Tran
 }
 
 fn drawn_heard(alloc: Global, draw: &mut Draw, profile: Profile) -> Result<Heard, Miss> {
-    let is_reversal = draw.once_in(profile.reversal_in());
+    let is_reversal = draw.once_in(profile.reversal_in);
     let date = drawn_date(draw)?;
     let list = drawn_list(alloc, draw, profile, is_reversal)?;
     match Transactions::new(list) {
@@ -191,7 +191,7 @@ fn drawn_transaction(
         return Ok(Transaction::Reverse(Reversal { reference, product }));
     }
     // One family past the last is of no member, and so is one person.
-    let family = family(draw.up_to(profile.families()))?;
+    let family = family(draw.up_to(profile.families))?;
     let person = drawn_person(draw)?;
     let days = drawn_days(draw)?;
     bill(reference, family, person, product, days)
@@ -232,7 +232,7 @@ fn bill(
 }
 
 fn drawn_reference(draw: &mut Draw, profile: Profile) -> Result<Reference, Miss> {
-    let number = draw.up_to(profile.references().saturating_sub(1));
+    let number = draw.up_to(profile.references.saturating_sub(1));
     Reference::new(u64::from(number)).ok_or(Miss::Value)
 }
 
@@ -241,7 +241,7 @@ fn drawn_drug(draw: &mut Draw, profile: Profile) -> Result<Product, Miss> {
     if draw.once_in(20) {
         return product(b"00009000909");
     }
-    let nth = draw.up_to(profile.drugs().saturating_sub(1));
+    let nth = draw.up_to(profile.drugs.saturating_sub(1));
     product(match nth {
         0 => b"00002000202".as_slice(),
         1 => b"00001000101".as_slice(),
@@ -261,7 +261,7 @@ fn drawn_date(draw: &mut Draw) -> Result<Day, Miss> {
 
 fn family(nth: u32) -> Result<Id, Miss> {
     let digits: [u8; 4] = digits_write(u64::from(nth) % 10_000);
-    Id::new(&digits, 20).map_err(|_fault| Miss::Value)
+    Id::new(&digits, 20).ok().ok_or(Miss::Value)
 }
 
 fn person(nth: u32) -> Result<Person, Miss> {
@@ -270,9 +270,9 @@ fn person(nth: u32) -> Result<Person, Miss> {
         1 => b"02".as_slice(),
         _ => b"03".as_slice(),
     };
-    Person::new(text).map_err(|_fault| Miss::Value)
+    Person::new(text).ok().ok_or(Miss::Value)
 }
 
 fn provider() -> Result<Provider, Miss> {
-    Provider::new(b"1234567893").map_err(|_fault| Miss::Value)
+    Provider::new(b"1234567893").ok().ok_or(Miss::Value)
 }

@@ -9,7 +9,7 @@ use std::alloc::Global;
 
 /// How many records went, how many were out at most, how often none was ready though some were left, and how often the
 /// desk was refused memory.
-#[derive(Clone, Copy, Debug, Default)]
+#[derive(Clone, Copy)]
 pub struct Went {
     pub records: usize,
     pub most_out: usize,
@@ -18,6 +18,16 @@ pub struct Went {
 }
 
 impl Went {
+    /// This many records, of which none went yet.
+    pub fn none(records: usize) -> Went {
+        Went {
+            records,
+            most_out: 0,
+            later: 0,
+            refused: 0,
+        }
+    }
+
     /// Both.
     pub fn and(self, other: Went) -> Went {
         Went {
@@ -36,12 +46,7 @@ pub fn driven(
     desk: &mut Desk,
     records: usize,
 ) -> Result<Went, Miss> {
-    let mut went = Went {
-        records,
-        most_out: 0,
-        later: 0,
-        refused: 0,
-    };
+    let mut went = Went::none(records);
     let mut out = Vec::new(alloc);
     let driven = drive(alloc, draw, desk, &mut out, &mut went);
     drop(out);

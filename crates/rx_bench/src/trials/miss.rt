@@ -2,7 +2,7 @@ use rx_fields::Memory;
 use std::alloc::{AllocError, AllocFailed};
 
 /// Why a job doesn't end as in file order.
-#[derive(Clone, Copy, Debug, PartialEq, Eq)]
+#[derive(Clone, Copy, Debug)]
 pub enum Miss {
     /// Out of memory.
     Memory,

@@ -37,16 +37,16 @@ fn report_all(rt: &HostRuntime, jobs: u64) -> Result<()> {
 
 // Drives the jobs of a profile, and says how they went.
 fn report(rt: &HostRuntime, profile: Profile, jobs: u64) -> Result<()> {
-    let mut all = Went::default();
+    let mut all = Went::none(0);
     for nth in 0..jobs {
         match compared(rt.alloc(), profile, nth) {
             Ok(went) => all = all.and(went),
-            Err(miss) => bail!("{profile:?}, job {nth}: {miss:?}"),
+            Err(miss) => bail!("{}, job {nth}: {miss:?}", profile.name),
         }
     }
     println!(rt;
-        "{profile:?}: {jobs} jobs end as in file order; {} records, at most {} out, {} times none ready, {} refusals",
-        all.records, all.most_out, all.later, all.refused
+        "{}: {jobs} jobs end as in file order; {} records, at most {} out, {} times none ready, {} refusals",
+        profile.name, all.records, all.most_out, all.later, all.refused
     )?;
     Ok(())
 }

@@ -37,7 +37,7 @@ fn sheet(
         fee: 175,
         family_deductible: Some(most),
     };
-    let mut sheet = Sheet::new(alloc, figures).map_err(|_wrong| Miss::Value)?;
+    let mut sheet = Sheet::new(alloc, figures).ok().ok_or(Miss::Value)?;
     unless_missed(list_drugs(&mut sheet), sheet)
 }
 
@@ -69,7 +69,7 @@ pub fn lot() -> Result<Lot, Miss> {
 
 /// The day of eight digits.
 pub fn day(digits: &[u8]) -> Result<Day, Miss> {
-    date_read(digits).map_err(|_fault| Miss::Value)
+    date_read(digits).ok().ok_or(Miss::Value)
 }
 
 /// The product of eleven digits.

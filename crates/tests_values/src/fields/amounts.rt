@@ -1,5 +1,5 @@
 use crate::table::same_at;
-use rx_fields::{FieldFault, signed_read, signed_write};
+use rx_fields::{FieldFault, signed_read};
 
 const AMOUNTS_READ: &[(&str, Result<i64, FieldFault>)] = &[
     ("0001717N", Ok(-17175)),
@@ -49,25 +49,5 @@ const AMOUNTS_READ: &[(&str, Result<i64, FieldFault>)] = &[
 fn amounts_are_read_with_their_sign(rt: HostRuntime) {
     for &(text, cents) in AMOUNTS_READ {
         same_at(&rt, text, &signed_read(text.as_bytes()), &cents);
-    }
-}
-
-const AMOUNTS_WRITTEN: &[(&str, i64)] = &[
-    ("0001717E", 17175),
-    ("0001717N", -17175),
-    ("0000000{", 0),
-    ("0000403E", 4035),
-    ("0000001}", -10),
-    ("0000000J", -1),
-    ("9999999I", 99_999_999),
-    ("9999999R", -99_999_999),
-];
-
-#[test]
-fn amounts_have_one_spelling(rt: HostRuntime) {
-    for &(text, cents) in AMOUNTS_WRITTEN {
-        assert!(rt; cents.unsigned_abs() <= 99_999_999);
-        same_at(&rt, text, &signed_write(cents).as_slice(), &text.as_bytes());
-        same_at(&rt, text, &signed_read(text.as_bytes()), &Ok(cents));
     }
 }

@@ -1,6 +1,5 @@
-use crate::table::{same, same_at};
-use rx_fields::{Code, FieldFault, IdFault, Memory};
-use std::alloc::{AllocError, AllocFailed};
+use crate::table::same_at;
+use rx_fields::Code;
 
 const CODES: &[(&str, Code)] = &[
     ("01", Code::Bin),
@@ -47,22 +46,4 @@ fn reject_codes_are_read_as_written(rt: HostRuntime) {
     for &text in NO_CODES {
         same_at(&rt, text, &Code::new(text.as_bytes()), &None);
     }
-}
-
-#[test]
-fn faults_are_numbered_in_the_order_of_the_checks(rt: HostRuntime) {
-    same!(rt; FieldFault::Empty.code(), 1);
-    same!(rt; FieldFault::TooLong.code(), 2);
-    same!(rt; FieldFault::NotDigit.code(), 3);
-    same!(rt; FieldFault::NotDate.code(), 4);
-    same!(rt; IdFault::Blank.code(), 1);
-    same!(rt; IdFault::TooLong.code(), 2);
-    same!(rt; IdFault::NotPrintable.code(), 3);
-    same!(rt; IdFault::Bar.code(), 4);
-}
-
-#[test]
-fn a_refused_growth_is_want_of_memory(rt: HostRuntime) {
-    same!(rt; Memory::from(AllocFailed { value: 7u8 }), Memory);
-    same!(rt; Memory::from(AllocError), Memory);
 }

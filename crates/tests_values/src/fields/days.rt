@@ -53,27 +53,6 @@ fn days_are_numbered_from_1970(rt: HostRuntime) {
     }
 }
 
-// By Python's `date + timedelta(days)`; it has no day after 9999-12-31 either.
-const DAYS_LATER: &[(&str, u64, Option<&str>)] = &[
-    ("20260228", 0, Some("20260228")),
-    ("20260228", 1, Some("20260301")),
-    ("20240228", 2, Some("20240301")),
-    ("20251231", 90, Some("20260331")),
-    ("00010101", 3_652_058, Some("99991231")),
-    ("99991230", 1, Some("99991231")),
-    ("99991231", 1, None),
-    ("00010101", 3_652_059, None),
-    ("20260228", 18_446_744_073_709_551_615, None),
-];
-
-#[test]
-fn days_have_days_after_them(rt: HostRuntime) {
-    for &(text, days, later) in DAYS_LATER {
-        let later = later.map(|text| day(&rt, text));
-        same_at(&rt, text, &day(&rt, text).plus(days), &later);
-    }
-}
-
 // The last day of each month but February, and the day after it.
 const ENDS: &[(&str, &str)] = &[
     ("0131", "0132"),
