@@ -20,7 +20,6 @@ import argparse
 import collections
 import json
 import os
-import re
 import shlex
 import subprocess
 import sys
@@ -29,6 +28,7 @@ import tempfile
 HERE = os.path.dirname(os.path.abspath(__file__))
 sys.path.insert(0, HERE)
 
+from options import cuts_of  # noqa: E402
 from run_route import ETX, STX, records_of, settlement, write_all  # noqa: E402
 
 CASES = os.path.join(HERE, "cases")
@@ -36,7 +36,6 @@ TWO = ["duplicate-of-an-earlier-fill", "four-transactions-in-one-record"]
 SEVEN = TWO + ["refill-too-soon", "family-deductible", "percent-tier-rounds-down", "blocking-gates", "reversal-of-last-years-claim"]
 STAMP = "202603020600"
 NUMBER = b"0000042"
-WRITING = ("write", "fsync", "rename", "renameat", "renameat2", "fchmod", "fchown")
 PLANS = ["--plans", "plans.toml", "--batch", "batch.bin"]
 OUTPUTS = ["--response", "response.bin", "--settlement", "settlement.txt"]
 ROUTE = ["route", *PLANS, "--stamp", STAMP, *OUTPUTS]
@@ -230,28 +229,19 @@ def kills(program, job):
         fresh(folder)
         trace = os.path.join(folder, "trace")
         ended(program, folder, words, ["strace", "-f", "-o", trace])
-        counts = collections.Counter(re.findall(rb"^\d+ +(\w+)\(", read(folder, "trace"), re.M))
-    tried = 0
-    for call, count in sorted(counts.items()):
-        call = call.decode()
-        if call in ("execve", "exit_group", "exit"):
-            continue
-        ways = [f"{call}:signal=KILL:when={at}" for at in range(1, count + 1)]
-        if call in WRITING:
-            ways += [f"{call}:error={error}:when={at}" for at in range(1, count + 1) for error in ("ENOSPC", "EIO")]
-        for way in ways:
-            with tempfile.TemporaryDirectory(prefix="rxbatch-switch-") as folder:
-                fresh(folder)
-                got = ended(program, folder, words, ["strace", "-f", "-o", "/dev/null", "-e", f"inject={way}"])
-                tried += 1
-                fault = torn(folder, job, earlier)
-                if not fault and ":error=" in way and got[0] not in (0, 3):
-                    fault = f"status {got[0]}"
-                if not fault and (ended(program, folder, words)[0] or wrong(folder, job)):
-                    fault = "the same command again isn't done"
-                if fault:
-                    yield f"{way}: {fault}"
-    print(f"{tried} runs were cut off", flush=True)
+        ways = list(cuts_of(read(folder, "trace").decode(errors="replace")))
+    for way in ways:
+        with tempfile.TemporaryDirectory(prefix="rxbatch-switch-") as folder:
+            fresh(folder)
+            got = ended(program, folder, words, ["strace", "-f", "-o", "/dev/null", "-e", f"inject={way}"])
+            fault = torn(folder, job, earlier)
+            if not fault and ":error=" in way and got[0] not in (0, 3):
+                fault = f"status {got[0]}"
+            if not fault and (ended(program, folder, words)[0] or wrong(folder, job)):
+                fault = "the same command again isn't done"
+            if fault:
+                yield f"{way}: {fault}"
+    print(f"{len(ways)} runs were cut off", flush=True)
 
 
 def main(words):
