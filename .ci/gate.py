@@ -17,7 +17,7 @@ names, by which the digests are made: what was seen refused under an old name st
     gate.py --note     writes down all crates' edits, after a gate that passed on these very texts and tried them all
 
 The proofs, tests and programs come first. Edits are tried then, of a few crates at a time and the lowest first, for as long as
-GATE_MINUTES (90) since the start aren't over: of three hours the scripts that follow take 8 minutes on four processors, and
+GATE_MINUTES (45) since the start aren't over: of three hours the scripts that follow take 8 minutes on four processors, and
 about twice that on two. After the first part and at the end one line says how many minutes it took, by the clock and of
 processors; out/gate-minutes keeps these lines.
 """
@@ -41,7 +41,7 @@ ASIDE = f"{TOP}/out/edits-aside"
 OWN = ("src", "specs", "proofs", "must-fail")
 STATED = ("src", "specs")
 # how long the gate may take before it tries no further edit
-MINUTES = 90
+MINUTES = 45
 # what `rt` says of an edit that can't be applied, and of one that says nothing of the contract: a proof file names what it took away
 BAD = ("BAD EDIT", "only because a proof file names what the edit took away")
 # how many crates' edits are tried at once: those of one crate go one after another

@@ -1,11 +1,27 @@
-"""What the tests of whole cases share: the words on the command line, and the loop over the cases."""
+"""What the tests of whole cases share: the words on the command line, the loop over the cases, and how a run is cut off."""
 
 import argparse
+import collections
 import concurrent.futures
 import os
+import re
 import shlex
 import shutil
 import subprocess
+
+WRITING = ("write", "fsync", "rename", "renameat", "renameat2", "fchmod", "fchown")
+
+
+def cuts_of(trace):
+    """The ways in which `strace` cuts off a run of which this is a trace: a kill before each system call, and a failure of each
+    that writes, syncs or renames."""
+    calls = collections.Counter(re.findall(r"^\d+ +(\w+)\(", trace, re.M))
+    for call, count in sorted(calls.items()):
+        if call in ("execve", "exit_group", "exit"):
+            continue
+        yield from (f"{call}:signal=KILL:when={at}" for at in range(1, count + 1))
+        if call in WRITING:
+            yield from (f"{call}:error={error}:when={at}" for at in range(1, count + 1) for error in ("ENOSPC", "EIO"))
 
 
 def is_line_with_words(told, line):

@@ -12,13 +12,11 @@ small disks, page by page larger, until one holds it. With --memory (it needs `c
 request for memory is refused, for N = 1, 2 and on.
 """
 import argparse
-import collections
 import fcntl
 import itertools
 import json
 import os
 import pathlib
-import re
 import resource
 import shutil
 import signal
@@ -27,13 +25,13 @@ import sys
 import tempfile
 
 import refused_memory
+from options import cuts_of
 
 JOB = pathlib.Path(__file__).resolve().parent / "cases" / "one-billing"
 INPUTS = {"--sheet": "sheet.toml", "--books": "books.txt", "--batch": "batch.bin"}
 OUTPUTS = {"--response": "response.bin", "--books-out": "books-out.txt", "--settlement": "settlement.txt"}
 NUMBERS = {"--response": 4, "--books-out": 5, "--settlement": 6}
 EARLIER = b"earlier\n"
-WRITING = ("write", "fsync", "rename", "renameat", "renameat2", "fchmod", "fchown")
 
 
 class Folder:
@@ -340,46 +338,35 @@ def torn(folder):
     return None
 
 
-def calls_of(program, path):
-    """The system calls of a run, each with how often it comes."""
+def trace_of(program, path):
+    """The system calls of a run, as `strace` writes them."""
     folder = Folder(path)
     trace = folder.path.parent / "trace"
     ended = folder.run(program, (), ("strace", "-f", "-o", str(trace)))
     if ended.returncode != 0:
         sys.exit(f"strace: {ended.stderr!r}")
-    counts = collections.Counter()
-    for line in trace.read_text().splitlines():
-        found = re.match(r"\d+ +(\w+)\(", line)
-        if found:
-            counts[found.group(1)] += 1
-    return counts
+    return trace.read_text()
 
 
 def cut_runs(program):
     """Runs that are killed, or of which a call fails: how many, and what is wrong after one."""
     with tempfile.TemporaryDirectory(prefix="rxbatch-safe-") as top:
         os.mkdir(os.path.join(top, "first"))
-        counts = calls_of(program, os.path.join(top, "first"))
+        trace = trace_of(program, os.path.join(top, "first"))
     tried, faults = 0, []
-    for call, count in sorted(counts.items()):
-        if call in ("execve", "exit_group", "exit"):
-            continue
-        ways = [f"{call}:signal=KILL:when={at}" for at in range(1, count + 1)]
-        if call in WRITING:
-            ways += [f"{call}:error={error}:when={at}" for at in range(1, count + 1) for error in ("ENOSPC", "EIO")]
-        for way in ways:
-            with tempfile.TemporaryDirectory(prefix="rxbatch-safe-") as path:
-                folder = Folder(path)
-                ended = folder.run(program, (), ("strace", "-f", "-o", "/dev/null", "-e", f"inject={way}"))
-                tried += 1
-                fault = torn(folder)
-                if not fault and ":error=" in way:
-                    if ended.returncode not in (0, 3) or folder.names() != PLAIN_NAMES:
-                        fault = f"status {ended.returncode}, {sorted(folder.names() - PLAIN_NAMES)} left"
-                if not fault and (folder.run(program).returncode != 0 or folder.texts() != WHOLE):
-                    fault = "a run after it isn't done"
-                if fault:
-                    faults.append(f"{way}: {fault}")
+    for way in cuts_of(trace):
+        with tempfile.TemporaryDirectory(prefix="rxbatch-safe-") as path:
+            folder = Folder(path)
+            ended = folder.run(program, (), ("strace", "-f", "-o", "/dev/null", "-e", f"inject={way}"))
+            tried += 1
+            fault = torn(folder)
+            if not fault and ":error=" in way:
+                if ended.returncode not in (0, 3) or folder.names() != PLAIN_NAMES:
+                    fault = f"status {ended.returncode}, {sorted(folder.names() - PLAIN_NAMES)} left"
+            if not fault and (folder.run(program).returncode != 0 or folder.texts() != WHOLE):
+                fault = "a run after it isn't done"
+            if fault:
+                faults.append(f"{way}: {fault}")
     return tried, faults
 
 
