@@ -9,7 +9,7 @@ FIRST = examples/first_job
 PREFIX = /usr/local
 DESTDIR =
 INTO = $(DESTDIR)$(PREFIX)
-NIGHT = $(addprefix examples/night/,night.sh pair.sh done.sh failed.sh table.py night.sbatch)
+NIGHT = $(addprefix examples/night/,night.sh pair.sh done.sh failed.sh table.py night.sbatch plans.py switch.sbatch)
 # (the letter after the number is the kit's edition: its logic is the same)
 KIT = rattle-kit-13
 LOGIC = dac8208d650f15bf
@@ -40,7 +40,7 @@ all-edits: kit cc
 
 cases: kit cc
 	python3 tools/check_docs.py
-	python3 tools/find_doubles.py --allowed 39
+	python3 tools/find_doubles.py --allowed 41
 	python3 tools/count_dialect.py --allowed 6
 	test -x $(PROGRAM) || (cd crates/rxbatch && rt run -- sample)
 	python3 packaging/make_pages.py $(PROGRAM) --check
@@ -67,8 +67,9 @@ cases: kit cc
 	python3 tests/run_upkeep.py $(PROGRAM)
 	python3 tests/run_family.py $(PROGRAM)
 	python3 tests/run_excerpt.py $(PROGRAM)
-	python3 tests/run_route.py $(PROGRAM)
-	python3 tests/run_switch.py $(PROGRAM)
+	python3 tests/run_route.py $(PROGRAM) --join
+	python3 tests/run_switch.py $(PROGRAM) --calls
+	python3 tests/run_join.py $(PROGRAM)
 	test -x $(TRIALS) || (cd crates/rx_bench && rt run -- orders 1 > /dev/null)
 	python3 tests/run_failing.py $(PROGRAM)
 	python3 tests/refused_memory.py $(PROGRAM)

@@ -20,7 +20,7 @@ COMMAND = re.compile(r"^  (\w+) {2,}(.*)$")
 STATUSES = [
     ("0", "Success."),
     ("1", "An input is refused: the line \"refused N M P\" on standard error, or \"response M P\" or \"reply M P\" for a response file."),
-    ("2", "The arguments aren't understood or ask for help, or two options of run, or two files of route, lead to one file."),
+    ("2", "The arguments aren't understood or ask for help, or two options of run, or two files of route or join, lead to one file."),
     ("3", "A file failed: the line \"file K\" on standard error."),
     ("4", "check: warnings, and no fault. adjudicate: a warning stops it. explain, excerpt, family, fault: nothing of the kind; excerpt: the folder is there."),
     ("5", "verify: a file differs from the run's. explain, excerpt: the response file doesn't have this reply."),
@@ -28,15 +28,15 @@ STATUSES = [
 # The numbers of the lines on standard error.
 DIAGNOSTICS = [
     ("refused N M P", "N: 1 workers, 2 stamp, 3 sheet, 4 books, 5 batch, 6 out of memory, 7 thread, 8 members table, 9 books that "
-                      "aren't kept up, 10 plans file. M: the fault of that input. P: the sheet's key, the line of books or table, the byte "
-                      "of the batch, or the plan. The words follow; of run, show and plan "
+                      "aren't kept up, 10 plans file, 11 a response that isn't joined. M: the fault of that input. P: the sheet's key, "
+                      "the line of books or table, the byte of the batch, the plan, or the record. The words follow; of run, show and plan "
                       "with -v or on a terminal. fault N M P prints them."),
     ("file K", "K: 1 sheet, 2 books, 3 batch, 4 response, 5 end books, 6 settlement, 7 log, 8 members table, 9 claims that left, "
                "10 a page of a report, 11 members report, 12 a file of an excerpt, 13 plans file, 0 standard output."),
 ]
 FILES = [
     ("plan sheet", "TOML: the plan's BIN and processor control number, period, figures, tiers and drugs."),
-    ("plans file", "TOML: the plans of a switch, each with name, sheet, books, books_out and, if need be, settlement."),
+    ("plans file", "TOML: the plans of a switch, each with name, sheet, books, books_out and, if need be, response and settlement."),
     ("books", "Text: the members with their coverage, the standing claims, the totals of each family. The end books of a run are "
               "the opening books of the next."),
     ("batch, response", "NCPDP Batch 1.2 with transmissions of Telecommunication D.0: billings B1 and reversals B2, and their replies."),

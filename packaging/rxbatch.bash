@@ -2,7 +2,7 @@
 _rxbatch() {
   local word=${COMP_WORDS[COMP_CWORD]} before=${COMP_WORDS[COMP_CWORD - 1]} words files others again left name
   if [ "$COMP_CWORD" -eq 1 ]; then
-    mapfile -t COMPREPLY < <(compgen -W 'run show plan sample check explain verify report replies settle compare excerpt adjudicate fault members age family route help --help --version -V' -- "$word")
+    mapfile -t COMPREPLY < <(compgen -W 'run show plan sample check explain verify report replies settle compare excerpt adjudicate fault members age family route join help --help --version -V' -- "$word")
     return
   fi
   # --option=value is three words here
@@ -12,10 +12,10 @@ _rxbatch() {
     show) words='--sheet --batch --tsv'; files='--sheet|--batch'; others='' ;;
     plan) words='--sheet --books --batch'; files='--sheet|--books|--batch'; others='' ;;
     sample) words=''; files=''; others='' ;;
-    check) words='--sheet --books --batch'; files='--sheet|--books|--batch'; others='' ;;
-    explain) words='--sheet --books --batch --record --number --rx --provider --response --json --all --for-provider'; files='--sheet|--books|--batch|--response'; others='--record|--number|--rx|--provider|--for-provider' ;;
-    verify) words='--sheet --books --batch --response --books-out --settlement --stamp --workers --plain --desk'; files='--sheet|--books|--batch|--response|--books-out|--settlement'; others='--stamp|--workers' ;;
-    report) words='--sheet --books --batch --stamp --provider --family --for-provider --tsv --json --jsonl --html --html-dir'; files='--sheet|--books|--batch|--html-dir'; others='--stamp|--provider|--family|--for-provider' ;;
+    check) words='--sheet --books --plans --batch'; files='--sheet|--books|--plans|--batch'; others='' ;;
+    explain) words='--sheet --books --plans --batch --record --number --rx --provider --response --json --all --for-provider'; files='--sheet|--books|--plans|--batch|--response'; others='--record|--number|--rx|--provider|--for-provider' ;;
+    verify) words='--sheet --books --plans --batch --response --books-out --settlement --stamp --workers --plain --desk'; files='--sheet|--books|--plans|--batch|--response|--books-out|--settlement'; others='--stamp|--workers' ;;
+    report) words='--sheet --books --plans --batch --stamp --provider --family --for-provider --tsv --json --jsonl --html --html-dir'; files='--sheet|--books|--plans|--batch|--html-dir'; others='--stamp|--provider|--family|--for-provider' ;;
     replies) words='--response'; files='--response'; others='' ;;
     settle) words='--response --provider'; files='--response'; others='--provider'; again=' --response ' ;;
     compare) words='--sheet --books --batch --with-sheet --with-books --tsv --json'; files='--sheet|--books|--batch|--with-sheet|--with-books'; others='' ;;
@@ -26,7 +26,8 @@ _rxbatch() {
     age) words='--books --before --period --sheet --refill-percent --books-out --dropped --safe'; files='--books|--sheet|--books-out|--dropped'; others='--before|--period|--refill-percent' ;;
     family) words='--books --family --person --sheet --tsv --json --html'; files='--books|--sheet'; others='--family|--person' ;;
     route) words='--plans --batch --stamp --workers --response --settlement --safe -v --verbose --log'; files='--plans|--batch|--response|--settlement|--log'; others='--stamp|--workers' ;;
-    help) words='run show plan sample check explain verify report replies settle compare excerpt adjudicate fault members age family route'; files=''; others='' ;;
+    join) words='--plans --batch --response --settlement --safe'; files='--plans|--batch|--response|--settlement'; others='' ;;
+    help) words='run show plan sample check explain verify report replies settle compare excerpt adjudicate fault members age family route join'; files=''; others='' ;;
   esac
   if [ -n "$files" ] && [[ "|$files|" == *"|$before|"* ]]; then
     mapfile -t COMPREPLY < <(compgen -f -- "$word")

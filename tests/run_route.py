@@ -1,14 +1,15 @@
 #!/usr/bin/env python3
 """Runs `route`: what refuses it, and random jobs of 1 to 12 plans next to single runs, plan by plan.
 
-    tests/run_route.py PROGRAM [--single PROGRAM] [--runs N] [--seed S] [--keep DIR]
+    tests/run_route.py PROGRAM [--single PROGRAM] [--join] [--runs N] [--seed S] [--keep DIR]
 
 A fault of a plans file and of each of a plan's files is made, and its numbers and words are compared; then nothing may be
 written. The single runs of the N jobs (40) are those of `--single`, with its words before `run`; it may be
 another program with the same command. For each record the reply is taken from the run of the plan whose BIN and processor
 control number its header has, and for one that names no plan from a run at a sheet that it misses by one thing: by the
 number where a plan has its BIN, else by the BIN. End books have to be those of the runs; the settlements are summed here over
-the replies. `route` is asked with 1 worker, and with 2, 3 and 7.
+the replies. Where a run is refused, the refusal is that of the first plan whose sheet or books are, else the batch's. `route` is
+asked with 1 worker, and with 2, 3 and 7; with --join `join` of the runs' response files has to give the same but for end books.
 
 A case or a job that differs has one line, and a job is kept in a folder of DIR. The last line is `N passed, M failed`; the exit
 status is 0 where M is 0, else 1.
@@ -115,19 +116,21 @@ def settlement(front, stamp, replies):
 
 
 def single(program, folder, place):
-    """Status and outputs of one plan's run of the whole batch."""
+    """Standard error, where it is refused, and outputs of one plan's run of the whole batch."""
     words = ["run", "--sheet", f"{place}/sheet.toml", "--books", f"{place}/books.txt", "--batch", "batch.bin", "--stamp",
              make_job.STAMP, "--workers", "1", "--response", f"{place}/r.bin", "--books-out", f"{place}/b.txt",
              "--settlement", f"{place}/s.txt"]
     ended = subprocess.run(program + words, cwd=folder, stdin=subprocess.DEVNULL, capture_output=True, timeout=60)
-    return ended.returncode, [read(folder, f"{place}/{name}") for name in ("r.bin", "b.txt", "s.txt")]
+    refused = ended.stderr.splitlines()[0] if ended.returncode else None
+    return refused, [read(folder, f"{place}/{name}") for name in ("r.bin", "b.txt", "s.txt")]
 
 
 def wanted(program, folder, doors, batch):
-    """The outputs of `route` by single runs; None where one of them is refused."""
+    """The outputs of `route` by single runs, or the line with which it is refused."""
     runs = [single(program, folder, place) for place in range(1, len(doors) + 1)]
-    if any(status for status, _ in runs):
-        return None
+    refused = [line for line, _ in runs if line]
+    if refused:
+        return next((line for line in refused if line.split()[1] in (b"3", b"4")), refused[0])
     requests = [record[12:] for record in records_of(batch)[1:-1]]
     responses = [records_of(texts[0]) for _, texts in runs]
     padded = [(bin, pcn.ljust(10)) for bin, pcn in doors]
@@ -180,6 +183,7 @@ def asked_again(program, folder, request):
 
 ROUTE = ["route", "--plans", "plans.toml", "--batch", "batch.bin", "--stamp", make_job.STAMP, "--response", "response.bin",
          "--settlement", "settlement.txt"]
+JOIN = ["join", "--plans", "plans.toml", "--batch", "batch.bin", "--response", "response.bin", "--settlement", "settlement.txt"]
 
 
 def ended(program, folder, words):
@@ -203,16 +207,21 @@ def outputs_of(folder, count):
 def difference(options, folder, files, doors):
     """What differs, None where nothing does."""
     right = wanted(options.single, folder, doors, files["batch.bin"])
-    options.refused += right is None
-    for workers in ("1", "2", "3", "7"):
-        status, _ = ended(options.program, folder, ROUTE + ["--workers", workers] + ["--safe"] * (workers == "2"))
+    is_refused = isinstance(right, bytes)
+    options.refused += is_refused
+    ways = [(f"route with {workers} workers", ROUTE + ["--workers", workers] + ["--safe"] * (workers == "2"))
+            for workers in ("1", "2", "3", "7")]
+    for way, words in ways + [("join", JOIN)] * options.join:
+        status, told = ended(options.program, folder, words)
         names, got = outputs_of(folder, len(doors))
-        if right is None:
-            if status != 1 or any(text is not None for text in got):
-                return f"status {status} with {workers} workers, or an output, though a plan's run is refused"
-        elif status or got != right:
-            part = next((name for name, a, b in zip(names, got, right) if a != b), f"status {status}")
-            return f"{part} with {workers} workers isn't that of the single runs"
+        if is_refused:
+            if status not in (1, 3) or any(text is not None for text in got) or (way != "join" and told.splitlines()[:1] != [right]):
+                return f"{way}: status {status}, {told!r}, or an output, though a plan's run is {right!r}"
+            continue
+        parts = [(name, a, b) for name, a, b in zip(names, got, right) if way != "join" or "books" not in name]
+        if status or any(a != b for _, a, b in parts):
+            part = next((name for name, a, b in parts if a != b), f"status {status}")
+            return f"{way}: {part} isn't that of the single runs"
     return None
 
 
@@ -226,7 +235,7 @@ def two_plans(options):
             continue
         with tempfile.TemporaryDirectory(prefix="rxbatch-run-") as folder:
             write_all(folder, files)
-            if wanted(options.single, folder, doors, files["batch.bin"]) is not None:
+            if isinstance(wanted(options.single, folder, doors, files["batch.bin"]), list):
                 return files, doors
     raise SystemExit("no accepted job was drawn")
 
@@ -294,6 +303,7 @@ def main(words):
     parser = argparse.ArgumentParser(description=__doc__, formatter_class=argparse.RawDescriptionHelpFormatter)
     parser.add_argument("program", metavar="PROGRAM")
     parser.add_argument("--single", help="the program of the single runs; default: PROGRAM")
+    parser.add_argument("--join", action="store_true", help="join the single runs, too")
     parser.add_argument("--runs", type=int, default=40)
     parser.add_argument("--seed", default="1")
     parser.add_argument("--keep", help="where jobs that differ are kept; default: a new folder")

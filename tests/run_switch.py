@@ -1,39 +1,51 @@
 #!/usr/bin/env python3
 """Runs `route` on the worked cases of tests/cases, put together, and cuts it off.
 
-    tests/run_switch.py PROGRAM [--kills]
+    tests/run_switch.py PROGRAM [--kills] [--calls] [--disk] [--memory] [--slurm]
 
 Two plans and seven are made of worked cases of one batch number: each case is a plan with a BIN and a processor control number
 of its own, and their records are dealt out to one batch in turn, with two strays between them. What each record is answered, and
 each plan's end books and settlement, are those of its case, but for the authorization numbers, which have the places of the
 batch. So no answer here comes from the program.
 
-`route`, with and without `--safe`, has to give these bytes, and a log of them. Outputs that can't be written are tried, and with
+`route`, with and without `--safe`, has to give these bytes, and a log of them. Outputs that can't be written are tried. With
 --kills (it needs strace) `route --safe` is killed before each of its system calls, and each call that writes, syncs or renames is
-made to fail: then each file has to be whole, a plan's end books new only where its settlement is, and the same command again has
-to give the same bytes.
+made to fail; with --calls (it needs `cc`) each of its calls on files fails or is the last, in place too; with --disk (it needs
+root) it is done on small disks, page by page larger, until one holds it; with --memory (it needs `cc`) its Nth request for memory
+is refused, for N = 1, 2 and on. Then each file has to be whole, and the new ones the first in the order response, settlement, and
+of each plan settlement and end books; a run that fails leaves nothing else, and the same command again has to give the same bytes.
+
+Twelve plans are done as tasks of examples/night/switch.sbatch, one of them refused and run again, and joined; with --slurm by
+Slurm on this machine, too.
 
 A case that differs has one line; the last line is `N passed, M failed`.
 """
 
 import argparse
 import collections
+import errno
+import itertools
 import json
 import os
 import shlex
 import subprocess
 import sys
 import tempfile
+import time
 
 HERE = os.path.dirname(os.path.abspath(__file__))
 sys.path.insert(0, HERE)
 
+import refused_memory  # noqa: E402
+import run_failing  # noqa: E402
 from options import cuts_of  # noqa: E402
 from run_route import ETX, STX, records_of, settlement, write_all  # noqa: E402
 
 CASES = os.path.join(HERE, "cases")
 TWO = ["duplicate-of-an-earlier-fill", "four-transactions-in-one-record"]
 SEVEN = TWO + ["refill-too-soon", "family-deductible", "percent-tier-rounds-down", "blocking-gates", "reversal-of-last-years-claim"]
+TWELVE = SEVEN + ["charge-caps-the-payment", "cost-rounds-down", "no-family-deductible-left", "percent-tier",
+                  "three-fills-reach-the-family-maximum"]
 STAMP = "202603020600"
 NUMBER = b"0000042"
 PLANS = ["--plans", "plans.toml", "--batch", "batch.bin"]
@@ -79,8 +91,8 @@ class Job:
         self.right["settlement.txt"] = settlement(NUMBER, STAMP.encode(), replies)
         tables = []
         for number, case in enumerate(cases, 1):
-            self.right[f"{number}/end.txt"] = moved(text_of(case, "books-out.txt"), moves[number])
             self.right[f"{number}/s.txt"] = text_of(case, "settlement.txt")
+            self.right[f"{number}/end.txt"] = moved(text_of(case, "books-out.txt"), moves[number])
             tables.append(f'[[plan]]\nname = "plan {number}"\nsheet = "{number}/sheet.toml"\nbooks = "{number}/books.txt"\n'
                           f'books_out = "{number}/end.txt"\nresponse = "{number}/r.bin"\nsettlement = "{number}/s.txt"\n')
         self.files["plans.toml"] = "\n".join(tables).encode()
@@ -176,6 +188,22 @@ def logs(program, folder, job):
     write_all(folder, job.files)
 
 
+def long_books(program, folder, job):
+    """End books that no run reads: of 1,000,001 lines, by members without a bill."""
+    lines = job.files["1/books.txt"].splitlines(keepends=True)
+    new = job.right["1/end.txt"].count(b"\n") - len(lines)
+    families = [b"F%06d" % number for number in range((1_000_002 - new - len(lines)) // 2)]
+    members = [b"M|%b|01|20260101|20261231|0\n" % family for family in families]
+    place = max(place for place, line in enumerate(lines) if line.startswith(b"M|")) + 1
+    books = b"".join([*lines[:place], *members, *lines[place:], *(b"T|%b|0\n" % family for family in families)])
+    write_all(folder, {"1/books.txt": books})
+    count = books.count(b"\n") + new
+    status, _, err = ended(program, folder, ROUTE)
+    told = b"rxbatch: plan 'plan 1': books_out 1/end.txt: %d lines, and no run reads books of more than 1000000 " % count
+    if count <= 1_000_000 or books.count(b"\n") > 1_000_000 or status or not err.startswith(told) or wrong(folder, job) != "1/end.txt":
+        yield f"end books of {count} lines: status {status}, {err!r}, {wrong(folder, job)}"
+
+
 # ---------------------------------------------------------------- outputs that can't be written, and kills
 
 def failing(program, folder, job):
@@ -208,60 +236,224 @@ def failing(program, folder, job):
     write_all(folder, job.files)
 
 
-def torn(folder, job, earlier):
-    """What is wrong after a `route --safe` that was cut off."""
+EARLIER = b"earlier\n"
+
+
+def fresh(folder, job):
+    """The inputs, and earlier outputs."""
+    write_all(folder, {**job.files, **{name: EARLIER for name in job.right}})
+
+
+def torn(folder, job):
+    """What is wrong after a `route --safe` that was cut off: the new outputs are the first of their order, each whole."""
     texts = outputs_of(folder, job)
+    is_new = []
     for name, text in texts.items():
-        if text not in (earlier, job.right[name]):
+        if text not in (EARLIER, job.right[name]):
             return f"{name} is torn"
-    for number in range(1, job.count + 1):
-        if texts[f"{number}/end.txt"] != earlier and (texts[f"{number}/s.txt"] == earlier or texts["response.bin"] == earlier):
-            return f"plan {number} has new end books, and its settlement or the response isn't"
+        is_new.append(text != EARLIER)
+    if is_new != sorted(is_new, reverse=True):
+        return f"new are {[name for name, new in zip(texts, is_new) if new]}"
     return None
+
+
+def after_failure(folder, job, got, statuses=(0, 3)):
+    """The same of one that failed, or was done all the same: nothing is left next to its outputs."""
+    left = [name for _, _, names in os.walk(folder) for name in names if name.startswith(".rxbatch-")]
+    if got[0] not in statuses or left or (got[0] == 0 and wrong(folder, job)):
+        return f"status {got[0]}, {got[2]!r}, {left} left"
+    return torn(folder, job)
+
+
+def again(program, folder, words, job):
+    """What is wrong with the same command again."""
+    got = ended(program, folder, words)
+    return f"the same command again: {got[2]!r}, {wrong(folder, job)}" if got[0] or wrong(folder, job) else None
+
+
+SAFE = ROUTE + ["--safe", "--workers", "1"]
 
 
 def kills(program, job):
     """Runs that are killed, or of which a call fails: how many, and what is wrong after one."""
-    earlier = b"earlier\n"
-    words = ROUTE + ["--safe", "--workers", "1"]
-    fresh = lambda folder: write_all(folder, {**job.files, **{name: earlier for name in job.right}})
     with tempfile.TemporaryDirectory(prefix="rxbatch-switch-") as folder:
-        fresh(folder)
+        fresh(folder, job)
         trace = os.path.join(folder, "trace")
-        ended(program, folder, words, ["strace", "-f", "-o", trace])
+        ended(program, folder, SAFE, ["strace", "-f", "-o", trace])
         ways = list(cuts_of(read(folder, "trace").decode(errors="replace")))
     for way in ways:
         with tempfile.TemporaryDirectory(prefix="rxbatch-switch-") as folder:
-            fresh(folder)
-            got = ended(program, folder, words, ["strace", "-f", "-o", "/dev/null", "-e", f"inject={way}"])
-            fault = torn(folder, job, earlier)
-            if not fault and ":error=" in way and got[0] not in (0, 3):
-                fault = f"status {got[0]}"
-            if not fault and (ended(program, folder, words)[0] or wrong(folder, job)):
-                fault = "the same command again isn't done"
-            if fault:
-                yield f"{way}: {fault}"
+            fresh(folder, job)
+            got = ended(program, folder, SAFE, ["strace", "-f", "-o", "/dev/null", "-e", f"inject={way}"])
+            fault = (after_failure(folder, job, got) if ":error=" in way else torn(folder, job)) or again(program, folder, SAFE, job)
+        if fault:
+            yield f"{way}: {fault}"
     print(f"{len(ways)} runs were cut off", flush=True)
+
+
+def failing_calls(program, job):
+    """Runs of which a call on files fails or is the last, with --safe and in place."""
+    tried = 0
+    with tempfile.TemporaryDirectory(prefix="rxbatch-switch-") as top:
+        library = run_failing.compiled(top)
+        for words in (SAFE, ROUTE):
+            treated = lambda folder, **more: ended(program, folder, words, ["env", f"LD_PRELOAD={library}", *(
+                f"CALLS_{name}={value}" for name, value in more.items())])
+            with tempfile.TemporaryDirectory(dir=top) as folder:
+                fresh(folder, job)
+                treated(folder, LIST=os.path.join(folder, "list"))
+                calls = read(folder, "list").decode().split()
+            ways = [(place, call, {"ERROR": error}) for place, call in enumerate(calls, 1)
+                    for error in run_failing.ERRORS.get(call, (errno.EIO,))]
+            ways += [(place, call, {"KILL": when}) for place, call in enumerate(calls, 1) for when in ("before", "after")]
+            for place, call, way in ways:
+                with tempfile.TemporaryDirectory(dir=top) as folder:
+                    fresh(folder, job)
+                    got = treated(folder, NTH=place, **way)
+                    fault = None
+                    if words == SAFE and "ERROR" in way and call not in run_failing.REMOVING:
+                        fault = after_failure(folder, job, got, (0, 2, 3))
+                    elif words == SAFE:
+                        fault = torn(folder, job)
+                    fault = fault or again(program, folder, words, job)
+                if fault:
+                    yield f"{' '.join(words[9:])}: call {place}, {call}, {way}: {fault}"
+            tried += len(ways)
+    print(f"{tried} runs had a call that failed or was the last", flush=True)
+
+
+def small_disks(program, job):
+    """Runs on small disks."""
+    tried = 0
+    for pages in range(2 * job.count, 40 * job.count):
+        with tempfile.TemporaryDirectory(prefix="rxbatch-switch-") as folder:
+            subprocess.run(["mount", "-t", "tmpfs", "-o", f"size={pages * 4}k", "tmpfs", folder], check=True)
+            try:
+                fresh(folder, job)
+                got = ended(program, folder, SAFE)
+                tried += 1
+                if fault := after_failure(folder, job, got):
+                    yield f"{pages} pages: {fault}"
+                if got[0] == 0:
+                    print(f"{tried} disks were tried", flush=True)
+                    return
+            except OSError:  # the disk doesn't hold the inputs
+                pass
+            finally:
+                subprocess.run(["umount", folder], check=True)
+    yield "no disk held a run"
+
+
+def refused_requests(program, job):
+    """Runs of which a request for memory is refused."""
+    with tempfile.TemporaryDirectory(prefix="rxbatch-switch-") as top:
+        library = refused_memory.compiled(top)
+        for request in itertools.count(1):
+            with tempfile.TemporaryDirectory(dir=top) as folder:
+                fresh(folder, job)
+                met = os.path.join(top, f"met-{request}")
+                words = {"LD_PRELOAD": library, "REFUSED_REQUEST": str(request), "REFUSED_MET": met}
+                got = ended(program, folder, SAFE, ["env", *(f"{name}={value}" for name, value in words.items())])
+                if fault := after_failure(folder, job, got, (0, 1, 3)) or again(program, folder, SAFE, job):
+                    yield f"request {request}: {fault}"
+            if not os.path.exists(met):
+                print(f"{request} requests for memory", flush=True)
+                return
+
+
+# ---------------------------------------------------------------- a cluster of one machine
+
+NIGHT = os.path.join(os.path.dirname(HERE), "examples", "night")
+TASK = os.path.join(NIGHT, "switch.sbatch")
+
+
+class Cluster:
+    """The tasks of switch.sbatch, one after another without Slurm."""
+
+    def __init__(self, folder, program):
+        self.folder = folder
+        self.surroundings = {**os.environ, "NIGHT": NIGHT, "RXBATCH": " ".join(program), "PLANS": "plans.toml", "BATCH": "batch.bin",
+                             "STAMP": STAMP, "RESPONSE": "response.bin", "SETTLEMENT": "settlement.txt"}
+
+    def asked(self, *words, **more):
+        done = subprocess.run(words, cwd=self.folder, env={**self.surroundings, **more}, stdin=subprocess.DEVNULL,
+                              capture_output=True, text=True, timeout=600)
+        return done.returncode, done.stdout.strip(), done.stderr
+
+    def done(self, left):
+        """Does these plans, and then joins; what the last one that failed says, else the join."""
+        tasks = [self.asked("sh", TASK, SLURM_ARRAY_TASK_ID=place) for place in left.split(",")]
+        failed = [said for status, _, said in tasks if status]
+        return failed[-1] if failed else self.asked("sh", TASK)[2]
+
+    def end(self):
+        pass
+
+
+class Slurm(Cluster):
+    """The same by Slurm on this machine."""
+
+    def __init__(self, folder, program):
+        super().__init__(folder, program)
+        self.asked("sh", os.path.join(NIGHT, "slurm_here.sh"), "start", "slurm")
+        self.surroundings["SLURM_CONF"] = os.path.join(folder, "slurm", "slurm.conf")
+
+    def done(self, left):
+        _, tasks, _ = self.asked("sbatch", "--parsable", f"--array={left}", TASK)
+        self.asked("sbatch", "--wait", f"--dependency=afterok:{tasks}", TASK)
+        texts = [read(self.folder, f"slurm-{tasks}_{place}.txt").decode() for place in left.split(",")]
+        return "".join(text for text in texts if "refused" in text or "file " in text)
+
+    def end(self):
+        self.asked("sh", os.path.join(NIGHT, "slurm_here.sh"), "stop", "slurm")
+        time.sleep(2)  # the daemons write their state
+
+
+def night_of_plans(program, kind):
+    """Twelve plans as tasks, one of them refused, mended and run again, and their join."""
+    job = Job(TWELVE)
+    with tempfile.TemporaryDirectory(prefix="rxbatch-switch-") as folder:
+        write_all(folder, {**job.files, "5/sheet.toml": job.files["5/sheet.toml"].replace(b"fee =", b"fees =")})
+        cluster = kind(folder, program)
+        try:
+            for left in (",".join(map(str, range(1, 13))), "5", ""):
+                found = cluster.asked(sys.executable, os.path.join(NIGHT, "plans.py"), "plans.toml", "batch.bin", STAMP)
+                if found != (0, left, ""):
+                    yield f"{kind.__name__}: plans.py: {found}, expected {left}"
+                    return
+                said = cluster.done(left) if left else said
+                is_written = any(read(folder, name) for name in ("response.bin", "5/end.txt"))
+                if len(left) > 1 and (is_written or "5/sheet.toml: fee is missing" not in said):
+                    yield f"{kind.__name__}, with a refused plan: {said}"
+                write_all(folder, {"5/sheet.toml": job.files["5/sheet.toml"]})
+            if name := wrong(folder, job):
+                yield f"{kind.__name__}: {name} isn't that of the plans: {said}"
+        finally:
+            cluster.end()
 
 
 def main(words):
     parser = argparse.ArgumentParser(description=__doc__, formatter_class=argparse.RawDescriptionHelpFormatter)
     parser.add_argument("program", metavar="PROGRAM")
-    parser.add_argument("--kills", action="store_true", help="kill route at each system call, too")
+    ways = {"kills": kills, "calls": failing_calls, "disk": small_disks, "memory": refused_requests}
+    for way, call in ways.items():
+        parser.add_argument(f"--{way}", action="store_true", help=call.__doc__)
+    parser.add_argument("--slurm", action="store_true", help=Slurm.__doc__)
     options = parser.parse_args(words)
     program = [os.path.abspath(word) if os.path.exists(word) else word for word in shlex.split(options.program)]
     passed = failed = 0
     for cases in (TWO, SEVEN):
         job = Job(cases)
-        for part in (routes, logs, failing):
+        for part in (routes, logs, long_books, failing):
             with tempfile.TemporaryDirectory(prefix="rxbatch-switch-") as folder:
                 write_all(folder, job.files)
                 faults = list(part(program, folder, job))
             for fault in faults:
                 print(f"{len(cases)} plans: {fault}", flush=True)
             passed, failed = passed + (not faults), failed + bool(faults)
-    if options.kills:
-        faults = list(kills(program, Job(TWO)))
+    nights = [night_of_plans(program, kind) for kind in [Cluster] + [Slurm] * options.slurm]
+    for faults in nights + [call(program, Job(TWO)) for way, call in ways.items() if getattr(options, way)]:
+        faults = list(faults)
         for fault in faults:
             print(fault, flush=True)
         passed, failed = passed + (not faults), failed + bool(faults)

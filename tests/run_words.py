@@ -12,7 +12,9 @@ import tempfile
 INPUTS = ("--sheet=s", "--books=b", "--batch=c")
 OUTPUTS = ("--stamp=d", "--response=e", "--books-out=f", "--settlement=g")
 RUN = ("run", *INPUTS, *OUTPUTS)
-ROUTE = ("route", "--plans=p", "--batch=c", "--stamp=d", "--response=e", "--settlement=g")
+PLANS = ("--plans=p", "--batch=c")
+ROUTE = ("route", *PLANS, "--stamp=d", "--response=e", "--settlement=g")
+JOIN = ("join", *PLANS, "--response=e", "--settlement=g")
 EXPLAIN = ("explain", *INPUTS)
 EXCERPT = ("excerpt", *INPUTS, "--out=o")
 ADJUDICATE = ("adjudicate", *INPUTS, "--out=o")
@@ -30,7 +32,8 @@ REFUSED = (
     (("p\x1b[2J\ty",), "error: unrecognized subcommand 'p<1B>[2J<09>y'\n", ""),
     (("sample", "more"), "error: unexpected argument 'more' found\n", "Usage: rxbatch sample"),
     (("show", "--sheet=s"), "error: the following required arguments were not provided:\n  --batch <", "Usage: rxbatch show"),
-    (("check", "--books=b"), "error: the following required arguments were not provided:\n  --sheet <", "Usage: rxbatch check"),
+    *(((*words,), "error: expected one of '--sheet <FILE>' and '--plans <FILE>', and '--books <FILE>' only with '--sheet'\n",
+       "Usage: rxbatch check") for words in (("check", "--books=b"), ("check", *PLANS, "--sheet=s"), ("check", *PLANS, "--books=b"))),
     ((*RUN, "--workers=+5"), "error: invalid value '+5' for '--workers <N>': expected a number from 1 to 64\n\nUsage: rxbatch run ", ""),
     ((*RUN, "--workers=65536"), "error: invalid value '65536' for '--workers <N>': expected a number from 1 to 64", ""),
     ((*RUN, "--workers="), "error: ", "--workers <N>"),
@@ -44,6 +47,16 @@ REFUSED = (
     (ROUTE[:-1], "error: the following required arguments were not provided:\n  --settlement <FILE>\n", "Usage: rxbatch route "),
     ((*ROUTE, "--workers=+4"), "error: invalid value '+4' for '--workers <N>': expected a number from 1 to 64", "rxbatch route "),
     ((*ROUTE, "--sheet=s"), "error: unexpected argument '--sheet' found\n", "Usage: rxbatch route "),
+    (JOIN[:-1], "error: the following required arguments were not provided:\n  --settlement <FILE>\n", "Usage: rxbatch join "),
+    ((*JOIN, "--stamp=d"), "error: unexpected argument '--stamp' found\n", "Usage: rxbatch join "),
+    *(((*words, "--record=4"), "error: expected '--sheet <FILE>' and '--books <FILE>', or '--plans <FILE>'\n", "Usage: rxbatch explain ")
+      for words in ((*EXPLAIN, "--plans=p"), ("explain", *PLANS, "--books=b"), ("explain", "--batch=c"), EXPLAIN[:2] + EXPLAIN[3:])),
+    *((words, "error: expected '--sheet <FILE>', '--books <FILE>' and '--books-out <FILE>', or '--plans <FILE>'\n",
+       "Usage: rxbatch verify ") for words in (("verify", *PLANS, *OUTPUTS), (*VERIFY, "--plans=p"), (*VERIFY[:-2], VERIFY[-1]))),
+    (("verify", *PLANS, "--stamp=d", "--response=e", "--settlement=g", "--desk"),
+     "rxbatch: --plans: expected neither '--plain' nor '--desk'\n", ""),
+    ((*REPORT, "--plans=p"), "error: expected '--sheet <FILE>' and '--books <FILE>', or '--plans <FILE>'\n", "Usage: rxbatch report "),
+    (("report", *PLANS, "--html"), "rxbatch: --plans: expected a report without '--html' and '--html-dir'", ""),
     ((*VERIFY, "--workers=+4"), "error: invalid value '+4' for '--workers <N>': ", "Usage: rxbatch verify "),
     (EXPLAIN, "error: expected one of '--record <PLACE>', '--number <AUTHORIZATION>' and", "\n\nUsage: rxbatch explain "),
     ((*EXPLAIN, "--record=4", "--number=1"), "error: ", "\n\nUsage: rxbatch explain "),
@@ -79,11 +92,12 @@ TWICE = (
 )
 
 # The command `help` is no fault: its text is on standard output.
-HELP = (("help",), ("help", "run"), ("help", "adjudicate"), ("help", "members"), ("help", "age"))
+HELP = (("help",), ("help", "join"), ("help", "run"), ("help", "adjudicate"), ("help", "members"), ("help", "age"))
 
 # What is understood goes on to its files, which aren't here: the number of the one that can't be opened. Commands for people
 # say it in words too.
 NO_SHEET = b"file 1\n--sheet s: no such file or directory\n"
+NO_PLANS = b"file 13\n--plans p: no such file or directory\n"
 UNDERSTOOD = (
     (RUN, b"file 1\n"),
     ((*ADJUDICATE, "--stamp=d", "--workers=3", "--again", "--strict", "--quiet"), NO_SHEET),
@@ -91,6 +105,12 @@ UNDERSTOOD = (
     ((*EXPLAIN, "--number=000000100000011"), NO_SHEET),
     ((*EXPLAIN, "--rx=007", "--provider=P1"), NO_SHEET),
     (REPORT, NO_SHEET),
+    (ROUTE, NO_PLANS),
+    ((*JOIN, "--safe"), NO_PLANS),
+    (("check", *PLANS), b"file 13\n"),
+    (("explain", *PLANS, "--rx=007"), NO_PLANS),
+    (("report", *PLANS, "--jsonl"), NO_PLANS),
+    (("verify", *PLANS, "--stamp=d", "--response=e", "--settlement=g", "--workers=2"), NO_PLANS),
     ((*REPORT, "--jsonl"), NO_SHEET),
     (("run", "--plain", *INPUTS, *OUTPUTS, "--workers=007"), b"file 1\n"),
     (("run", "-v", *INPUTS, *OUTPUTS, "--safe", "--log=h", "--workers=4"), None),

@@ -3,7 +3,8 @@ use Rattle.std.proofs.Common.{◌≡◌, ◌∙◌, ◌<◌, ℕ, List, [], ◌�
 use Rattle.clap.specs.Words.{Row, Text}
 use Rattle.rx_cli.specs.Asked.{HoldsExcerpt, HoldsFault, HoldsNamed, NoneHolds}
 use Rattle.rx_cli.specs.declared.asked.Command.TheVariants.{Run, Show, Plan, Sample, Check, Explain, Verify, Report, Replies}
-use Rattle.rx_cli.specs.declared.asked.Command.TheVariants.{Adjudicate, Age, Compare, Excerpt, Fault, Members, Route, Settle, ShowFamily}
+use Rattle.rx_cli.specs.declared.asked.Command.TheVariants.{Adjudicate, Age, Compare, Excerpt, Fault, Join, Members, Route, Settle}
+use Rattle.rx_cli.specs.declared.asked.Command.TheVariants.{ShowFamily}
 
 -- the first letter
 letter : Text → ℕ
@@ -49,6 +50,8 @@ no_fault_named name rows is none (ShowFamily f) h =
     below 109 117 (ap third (sym h.0 ∙ is)) (omega arith)
 no_fault_named name rows is none (Route r) h =
     below 102 114 (ap letter (sym is ∙ h.0)) (omega arith)
+no_fault_named name rows is none (Join j) h =
+    below 102 106 (ap letter (sym is ∙ h.0)) (omega arith)
 no_fault_named name rows is none (Replies p) h =
     below 102 114 (ap letter (sym is ∙ h.0)) (omega arith)
 no_fault_named name rows is none (Compare c) h =
@@ -87,6 +90,8 @@ no_excerpt_named name rows is none (ShowFamily f) h =
     below 101 102 (ap letter (sym is ∙ h.0)) (omega arith)
 no_excerpt_named name rows is none (Route r) h =
     below 101 114 (ap letter (sym is ∙ h.0)) (omega arith)
+no_excerpt_named name rows is none (Join j) h =
+    below 101 106 (ap letter (sym is ∙ h.0)) (omega arith)
 no_excerpt_named name rows is none (Replies p) h =
     below 101 114 (ap letter (sym is ∙ h.0)) (omega arith)
 no_excerpt_named name rows is none (Compare c) h =

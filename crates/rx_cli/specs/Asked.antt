@@ -13,8 +13,15 @@ use Rattle.rx_io.specs.declared.files.Outputs.{Outputs}
 use Rattle.rx_cli.specs.Paths.{has_twice, paths_of}
 use Rattle.rx_cli.specs.declared.asked.Command.{Command}
 use Rattle.rx_cli.specs.declared.asked.Command.TheVariants.{Run, Show, Plan, Sample, Check, Explain, Verify, Report, Replies}
-use Rattle.rx_cli.specs.declared.asked.Command.TheVariants.{Adjudicate, Age, Compare, Excerpt, Fault, Members, Route, Settle, ShowFamily}
+use Rattle.rx_cli.specs.declared.asked.Command.TheVariants.{Adjudicate, Age, Compare, Excerpt, Fault, Join, Members, Route, Settle}
+use Rattle.rx_cli.specs.declared.asked.Command.TheVariants.{ShowFamily}
 use Rattle.rx_cli.specs.declared.dispute.ExcerptWords.{ExcerptWords}
+use Rattle.rx_cli.specs.declared.given.CheckWords.{CheckWords}
+use Rattle.rx_cli.specs.declared.given.CheckWords.TheVariants as check
+use Rattle.rx_cli.specs.declared.given.ComparedFiles.{ComparedFiles}
+use Rattle.rx_cli.specs.declared.given.ComparedFiles.TheVariants as verified
+use Rattle.rx_cli.specs.declared.given.GivenInputs.{GivenInputs}
+use Rattle.rx_cli.specs.declared.given.GivenInputs.TheVariants as given
 use Rattle.rx_cli.specs.declared.people.AdjudicateWords.{AdjudicateWords}
 use Rattle.rx_cli.specs.declared.people.FaultNumbers.{FaultNumbers}
 use Rattle.rx_cli.specs.declared.asked.RunWords.{RunWords}
@@ -32,6 +39,7 @@ use Rattle.rx_cli.specs.declared.retrace.Portion.TheVariants.{Whole, Provider, F
 use Rattle.rx_cli.specs.declared.retrace.ReportWords.{ReportWords}
 use Rattle.rx_cli.specs.declared.retrace.VerifyWords.{VerifyWords}
 use Rattle.rx_cli.specs.declared.settle_options.SettleWords.{SettleWords}
+use Rattle.rx_cli.specs.declared.switch.JoinWords.{JoinWords}
 use Rattle.rx_cli.specs.declared.switch.RouteWords.{RouteWords}
 use Rattle.rx_cli.specs.declared.switch.SwitchFiles.{SwitchFiles}
 use Rattle.rx_cli.specs.declared.upkeep.AgeWords.{AgeWords}
@@ -86,10 +94,6 @@ InputPaths = Inputs (Bor Text) (Bor Text) (Bor Text)
 abbrev pub OutputPaths : Type 0
 OutputPaths = Outputs (Bor Text) (Bor Text) (Bor Text)
 
--- those of `check`, of which two may be left out
-abbrev pub CheckWords : Type 0
-CheckWords = Inputs (Bor Text) (Option (Bor Text)) (Option (Bor Text))
-
 -- the input files are the values of their options
 abbrev pub HoldsInputs : List Row → InputPaths → Type 0
 HoldsInputs rows i = HasText rows (codes "sheet") i.sheet.now × HasText rows (codes "books") i.books.now
@@ -100,17 +104,31 @@ abbrev pub HoldsOutputs : List Row → OutputPaths → Type 0
 HoldsOutputs rows o = HasText rows (codes "response") o.response.now × HasText rows (codes "books-out") o.books.now
     × HasText rows (codes "settlement") o.settlement.now
 
+-- the inputs are the values of their options: sheet, books and batch and no plans file, or only plans file and batch
+abbrev pub HoldsGiven : List Row → GivenInputs → Type 0
+HoldsGiven rows (given.OnePlan i) = HoldsInputs rows i × IsAbsent rows (codes "plans")
+HoldsGiven rows (given.Plans plans batch) = HasText rows (codes "plans") plans.now × HasText rows (codes "batch") batch.now
+    × IsAbsent rows (codes "sheet") × IsAbsent rows (codes "books")
+
+-- the inputs and the outputs are: with a plans file, which names the end books, no `--books-out`
+abbrev pub HoldsCompared : List Row → ComparedFiles → Type 0
+HoldsCompared rows (verified.OnePlan i o) = HoldsGiven rows (given.OnePlan i) × HoldsOutputs rows o
+HoldsCompared rows (verified.Plans plans batch response settlement) = HoldsGiven rows (given.Plans plans batch)
+    × HasText rows (codes "response") response.now × HasText rows (codes "settlement") settlement.now
+    × IsAbsent rows (codes "books-out")
+
 -- what `show` takes is the values of its options
 pub record HoldsShow (rows : List Row) (s : ShowWords) : Type 0 where
   pub sheet : HasText rows (codes "sheet") s.sheet.now
   pub batch : HasText rows (codes "batch") s.batch.now
   pub tsv : s.tsv ≡ is_set (codes "tsv") rows
 
--- what `check` takes is the values of its options
-pub record HoldsCheck (rows : List Row) (c : CheckWords) : Type 0 where
-  pub sheet : HasText rows (codes "sheet") c.sheet.now
-  pub books : MayHaveText rows (codes "books") c.books
-  pub batch : MayHaveText rows (codes "batch") c.batch
+-- what `check` takes is the values of its options, and of a plans file's neither sheet nor books
+abbrev pub HoldsCheck : List Row → CheckWords → Type 0
+HoldsCheck rows (check.OnePlan c) = HasText rows (codes "sheet") c.sheet.now × MayHaveText rows (codes "books") c.books
+    × MayHaveText rows (codes "batch") c.batch × IsAbsent rows (codes "plans")
+HoldsCheck rows (check.Plans plans batch) = HasText rows (codes "plans") plans.now × MayHaveText rows (codes "batch") batch
+    × IsAbsent rows (codes "sheet") × IsAbsent rows (codes "books")
 
 -- what `run` takes is the values of its options
 pub record HoldsRun (rows : List Row) (r : RunWords) : Type 0 where
@@ -149,7 +167,7 @@ HoldsAsked rows (Rx reference provider) = HasText rows (codes "rx") reference.no
 
 -- what `explain` takes is the values of its options
 pub record HoldsExplain (rows : List Row) (e : ExplainWords) : Type 0 where
-  pub inputs : HoldsInputs rows e.inputs
+  pub inputs : HoldsGiven rows e.inputs
   pub asked : HoldsAsked rows e.asked
   pub response : MayHaveText rows (codes "response") e.response
   pub json : e.json ≡ is_set (codes "json") rows
@@ -158,8 +176,7 @@ pub record HoldsExplain (rows : List Row) (e : ExplainWords) : Type 0 where
 
 -- what `verify` takes is the values of its options
 pub record HoldsVerify (rows : List Row) (v : VerifyWords) : Type 0 where
-  pub inputs : HoldsInputs rows v.inputs
-  pub outputs : HoldsOutputs rows v.outputs
+  pub files : HoldsCompared rows v.files
   pub stamp : HasText rows (codes "stamp") v.stamp.now
   pub workers : HasNumberOr rows (codes "workers") 1 v.workers
   pub plain : v.plain ≡ is_set (codes "plain") rows
@@ -200,7 +217,7 @@ HoldsForm rows Html = IsAbsent rows (codes "html-dir") × (form_in rows ≡ Some
 
 -- what `report` takes is the values of its options
 pub record HoldsReport (rows : List Row) (r : ReportWords) : Type 0 where
-  pub inputs : HoldsInputs rows r.inputs
+  pub inputs : HoldsGiven rows r.inputs
   pub portion : HoldsPortion rows r.portion
   pub form : HoldsForm rows r.form
   pub stamp : MayHaveText rows (codes "stamp") r.stamp
@@ -319,6 +336,11 @@ pub record HoldsRoute (rows : List Row) (r : RouteWords) : Type 0 where
   pub verbose : r.verbose ≡ is_set (codes "verbose") rows
   pub log : MayHaveText rows (codes "log") r.log
 
+-- what `join` takes is the values of its options
+pub record HoldsJoin (rows : List Row) (j : JoinWords) : Type 0 where
+  pub files : HoldsSwitchFiles rows j.files
+  pub safe : j.safe ≡ is_set (codes "safe") rows
+
 -- the command has the name of this subcommand, and the values of its options
 abbrev pub HoldsNamed : Text → List Row → Command → Type 0
 HoldsNamed name rows (Run r) = (name ≡ codes "run") × HoldsRunApart rows r
@@ -336,6 +358,7 @@ HoldsNamed name rows (Members m) = (name ≡ codes "members") × HoldsMembers ro
 HoldsNamed name rows (Age a) = (name ≡ codes "age") × HoldsAge rows a
 HoldsNamed name rows (ShowFamily f) = (name ≡ codes "family") × HoldsFamily rows f
 HoldsNamed name rows (Route r) = (name ≡ codes "route") × HoldsRoute rows r
+HoldsNamed name rows (Join j) = (name ≡ codes "join") × HoldsJoin rows j
 HoldsNamed name rows (Replies path) = (name ≡ codes "replies") × HasText rows (codes "response") path.now
 HoldsNamed name rows (Compare c) = (name ≡ codes "compare") × HoldsCompare rows c
 HoldsNamed name rows (Settle s) = (name ≡ codes "settle") × HoldsSettle rows s

@@ -41,10 +41,20 @@ abbrev pub with_inputs : App → App
 with_inputs line = with_rule (with_rule (with_rule line (required_option (codes "sheet")))
     (required_option (codes "books"))) (required_option (codes "batch"))
 
+-- the line with the batch file, and plan sheet and opening books or the plans file
+abbrev pub with_given : App → App
+with_given line = with_rule (with_rule (with_rule (with_rule line (optional_option (codes "sheet")))
+    (optional_option (codes "books"))) (optional_option (codes "plans"))) (required_option (codes "batch"))
+
 -- the line with the three output files
 abbrev pub with_outputs : App → App
 with_outputs line = with_rule (with_rule (with_rule line (required_option (codes "response")))
     (required_option (codes "books-out"))) (required_option (codes "settlement"))
+
+-- the line with the output files that are compared, of which the plans file names the end books of several plans
+abbrev pub with_compared : App → App
+with_compared line = with_rule (with_rule (with_rule line (required_option (codes "response")))
+    (optional_option (codes "books-out"))) (required_option (codes "settlement"))
 
 -- the line with the other ways to adjudicate
 abbrev pub with_ways : App → App
@@ -80,10 +90,10 @@ plan_line = with_inputs (new_app (codes "plan"))
 abbrev pub sample_line : App
 sample_line = new_app (codes "sample")
 
--- `check --sheet F [--books F] [--batch F]`
+-- `check (--sheet F [--books F] | --plans F) [--batch F]`
 abbrev pub check_line : App
-check_line = with_rule (with_rule (with_rule (new_app (codes "check")) (required_option (codes "sheet")))
-    (optional_option (codes "books"))) (optional_option (codes "batch"))
+check_line = with_rule (with_rule (with_rule (with_rule (new_app (codes "check")) (optional_option (codes "sheet")))
+    (optional_option (codes "books"))) (optional_option (codes "plans"))) (optional_option (codes "batch"))
 
 -- the line with what `explain` is asked after
 abbrev pub with_asked : App → App
@@ -94,29 +104,30 @@ with_asked line = with_rule (with_rule (with_rule (with_rule line (optional_opti
 abbrev pub with_reader : App → App
 with_reader line = with_rule line (optional_option (codes "for-provider"))
 
--- `explain --sheet F --books F --batch F [--record PLACE] [--number AUTHORIZATION] [--rx REFERENCE] [--provider ID]
+-- `explain (--sheet F --books F | --plans F) --batch F [--record PLACE] [--number AUTHORIZATION] [--rx REFERENCE] [--provider ID]
 -- [--response F] [--json] [--all] [--for-provider ID]`
 abbrev pub explain_line : App
-explain_line = with_reader (with_rule (with_rule (with_rule (with_asked (with_inputs (new_app (codes "explain"))))
+explain_line = with_reader (with_rule (with_rule (with_rule (with_asked (with_given (new_app (codes "explain"))))
     (optional_option (codes "response"))) (flag (codes "json"))) (flag (codes "all")))
 
 -- the line with the options of `verify` that are no files
 abbrev pub with_verify_options : App → App
 with_verify_options line = with_ways (with_rule (with_rule line (required_option (codes "stamp"))) workers_option)
 
--- `verify --sheet F --books F --batch F --response F --books-out F --settlement F --stamp S [--workers N] [--plain] [--desk]`
+-- `verify (--sheet F --books F --books-out F | --plans F) --batch F --response F --settlement F --stamp S [--workers N] [--plain]
+-- [--desk]`
 abbrev pub verify_line : App
-verify_line = with_verify_options (with_outputs (with_inputs (new_app (codes "verify"))))
+verify_line = with_verify_options (with_compared (with_given (new_app (codes "verify"))))
 
 -- the line with the forms of a report
 abbrev pub with_forms : App → App
 with_forms line = with_rule (with_rule (with_rule (with_rule (with_rule line (flag (codes "tsv"))) (flag (codes "json")))
     (flag (codes "jsonl"))) (flag (codes "html"))) (optional_option (codes "html-dir"))
 
--- `report --sheet F --books F --batch F [--stamp S] [--provider ID] [--family ID] [--for-provider ID] [--tsv] [--json] [--jsonl]
--- [--html] [--html-dir DIR]`
+-- `report (--sheet F --books F | --plans F) --batch F [--stamp S] [--provider ID] [--family ID] [--for-provider ID] [--tsv] [--json]
+-- [--jsonl] [--html] [--html-dir DIR]`
 abbrev pub report_line : App
-report_line = with_forms (with_reader (with_rule (with_rule (with_rule (with_inputs (new_app (codes "report")))
+report_line = with_forms (with_reader (with_rule (with_rule (with_rule (with_given (new_app (codes "report")))
     (optional_option (codes "stamp"))) (optional_option (codes "provider"))) (optional_option (codes "family"))))
 
 -- `replies --response F`
@@ -192,6 +203,10 @@ abbrev pub route_line : App
 route_line = with_switch_watch (with_rule (with_switch_outputs (with_route_options (with_switch_inputs
     (new_app (codes "route"))))) (flag (codes "safe")))
 
+-- `join --plans F --batch F --response F --settlement F [--safe]`
+abbrev pub join_line : App
+join_line = with_rule (with_switch_outputs (with_switch_inputs (new_app (codes "join")))) (flag (codes "safe"))
+
 -- the line of which a subcommand has to stand
 abbrev pub with_subcommand_required : App → App
 with_subcommand_required line = record line { top = record line.top { subcommand_required = true } }
@@ -232,9 +247,9 @@ with_people line = with_subcommand (with_subcommand line adjudicate_line.top) fa
 abbrev pub with_upkeep : App → App
 with_upkeep line = with_subcommand (with_subcommand (with_subcommand line members_line.top) age_line.top) family_line.top
 
--- the line with the subcommand for several plans
+-- the line with the subcommands for several plans
 abbrev pub with_switch : App → App
-with_switch line = with_subcommand line route_line.top
+with_switch line = with_subcommand (with_subcommand line route_line.top) join_line.top
 
 -- `rxbatch run ..` and so on, or `rxbatch --version`
 abbrev pub whole_line : App

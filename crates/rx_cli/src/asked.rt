@@ -4,11 +4,12 @@ ghost use Rattle.rx_cli.specs.Paths.{files_of, has_twice, paths_of};
 
 use crate::compare_options::CompareWords;
 use crate::dispute::ExcerptWords;
+use crate::given::CheckWords;
 use crate::paths::has_one_twice;
 use crate::people::{AdjudicateWords, FaultNumbers};
 use crate::retrace::{ExplainWords, ReportWords, VerifyWords};
 use crate::settle_options::SettleWords;
-use crate::switch::RouteWords;
+use crate::switch::{JoinWords, RouteWords};
 use crate::upkeep::{AgeWords, FamilyWords, MembersWords};
 use rx_io::{Inputs, Outputs};
 
@@ -74,9 +75,6 @@ pub struct ShowWords<'a> {
     pub tsv: bool,
 }
 
-/// The words of `check`: the plan sheet, and books and batch file where they are to be checked too.
-pub type CheckWords<'a> = Inputs<&'a str, Option<&'a str>, Option<&'a str>>;
-
 /// One of the subcommands, with the values of its options (docs/CLI.md, "Commands").
 #[derive(Debug, Drop, PartialEq, Eq)]
 pub enum Command<'a> {
@@ -110,6 +108,8 @@ pub enum Command<'a> {
     ShowFamily(FamilyWords<'a>),
     /// `route`: adjudicates a batch file for several plans.
     Route(RouteWords<'a>),
+    /// `join`: joins the response files of several plans' runs.
+    Join(JoinWords<'a>),
     /// `replies`: one line per reply of this response file.
     Replies(&'a str),
     /// `compare`: which answers would be others.

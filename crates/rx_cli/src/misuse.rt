@@ -5,10 +5,11 @@ ghost use Rattle.rx_cli.specs.Faults.{IsMisuse, IsMisuseOfOne, misuse_of};
 
 use crate::dispute_syntax::excerpt;
 use crate::fault::WordsFault;
+use crate::given::{compared, given};
 use crate::options::text;
 use crate::people_syntax::{adjudicate, fault as fault_line};
 use crate::switch_syntax::route;
-use crate::syntax::{explain, report, run, verify};
+use crate::syntax::{check, explain, report, run, verify};
 use crate::upkeep_syntax::{age, family, members};
 use clap::error::ErrorKind;
 use clap::{ArgMatches, Command as Line};
@@ -21,11 +22,36 @@ pub(crate) fn run_miscounted(alloc: Global, found: &ArgMatches<'_>) -> WordsFaul
     miscounted(alloc, run(alloc).line(), "rxbatch run", found)
 }
 
-/// The fault of `verify` with such workers.
-pub(crate) fn verify_miscounted(alloc: Global, found: &ArgMatches<'_>) -> WordsFault
-    ensures { IsMisuse ErrorKind.ValueValidation result }
+// What a command takes that is about one plan or several.
+const ONE_PLAN_OR_SEVERAL: &str =
+    "expected '--sheet <FILE>' and '--books <FILE>', or '--plans <FILE>'";
+
+/// The fault of `verify`: of the files of a run and of a plans file, or with such workers.
+pub(crate) fn verify_misuse(alloc: Global, found: &ArgMatches<'_>) -> WordsFault
+    ensures { IsMisuseOfOne ErrorKind.ArgumentConflict ErrorKind.ValueValidation result }
 {
-    miscounted(alloc, verify(alloc).line(), "rxbatch verify", found)
+    if compared(found).is_none() {
+        verify_conflict(alloc)
+    } else {
+        miscounted(alloc, verify(alloc).line(), "rxbatch verify", found)
+    }
+}
+
+fn verify_conflict(alloc: Global) -> WordsFault
+    ensures { IsMisuse ErrorKind.ArgumentConflict result }
+{
+    let text =
+        "expected '--sheet <FILE>', '--books <FILE>' and '--books-out <FILE>', or '--plans <FILE>'";
+    conflict(verify(alloc).line(), "rxbatch verify", text)
+}
+
+/// The fault of `check` of no sheet and no plans file, or of both.
+pub(crate) fn check_conflict(alloc: Global) -> WordsFault
+    ensures { IsMisuse ErrorKind.ArgumentConflict result }
+{
+    let text =
+        "expected one of '--sheet <FILE>' and '--plans <FILE>', and '--books <FILE>' only with '--sheet'";
+    conflict(check(alloc).line(), "rxbatch check", text)
 }
 
 /// The fault of `adjudicate` with such workers.
@@ -50,11 +76,17 @@ pub(crate) fn route_miscounted(alloc: Global, found: &ArgMatches<'_>) -> WordsFa
     miscounted(alloc, route(alloc).line(), "rxbatch route", found)
 }
 
-/// The fault of `explain`: it is asked after no thing or more than one, or after what isn't a number.
+/// The fault of `explain`: not one plan or a plans file; asked after no thing or more than one, or after what isn't a number.
 pub(crate) fn explain_misuse(alloc: Global, found: &ArgMatches<'_>) -> WordsFault
     ensures { IsMisuseOfOne ErrorKind.ArgumentConflict ErrorKind.ValueValidation result }
 {
-    if is_asked_once(found) {
+    if given(found).is_none() {
+        conflict(
+            explain(alloc).line(),
+            "rxbatch explain",
+            ONE_PLAN_OR_SEVERAL,
+        )
+    } else if is_asked_once(found) {
         explain_no_number(alloc)
     } else {
         explain_conflict(alloc)
@@ -100,12 +132,15 @@ fn explain_conflict(alloc: Global) -> WordsFault
     conflict(explain(alloc).line(), "rxbatch explain", text)
 }
 
-/// The fault of `report` of more than one portion, or in more than one form.
-pub(crate) fn report_conflict(alloc: Global) -> WordsFault
+/// The fault of `report`: not one plan or a plans file; of more than one portion, or in more than one form.
+pub(crate) fn report_conflict(alloc: Global, found: &ArgMatches<'_>) -> WordsFault
     ensures { IsMisuse ErrorKind.ArgumentConflict result }
 {
-    let text =
-        "at most one of '--provider <ID>', '--family <ID>' and '--for-provider <ID>' is taken, and of '--tsv', '--json', '--jsonl', '--html' and '--html-dir <DIR>'";
+    let text = if given(found).is_none() {
+        ONE_PLAN_OR_SEVERAL
+    } else {
+        "at most one of '--provider <ID>', '--family <ID>' and '--for-provider <ID>' is taken, and of '--tsv', '--json', '--jsonl', '--html' and '--html-dir <DIR>'"
+    };
     conflict(report(alloc).line(), "rxbatch report", text)
 }
 

@@ -1,6 +1,6 @@
 //! What the commands that retrace a run are asked to do.
 
-use rx_io::{Inputs, Outputs};
+use crate::given::{ComparedFiles, GivenInputs};
 
 /// What `explain` is asked after.
 #[derive(Clone, Copy, Debug, PartialEq, Eq)]
@@ -19,7 +19,7 @@ pub enum Asked<'a> {
 /// The words of `explain`.
 #[derive(Clone, Copy, Debug, PartialEq, Eq)]
 pub struct ExplainWords<'a> {
-    pub inputs: Inputs<&'a str>,
+    pub inputs: GivenInputs<'a>,
     /// `--record`, `--number` or `--rx`.
     pub asked: Asked<'a>,
     /// `--response`: the response file that is compared, if there is one.
@@ -35,9 +35,7 @@ pub struct ExplainWords<'a> {
 /// The words of `verify`.
 #[derive(Clone, Copy, Debug, PartialEq, Eq)]
 pub struct VerifyWords<'a> {
-    pub inputs: Inputs<&'a str>,
-    /// The files that are compared.
-    pub outputs: Outputs<&'a str>,
+    pub files: ComparedFiles<'a>,
     /// `--stamp`, as it was written.
     pub stamp: &'a str,
     /// `--workers`, 0 to 65535; 1 where it doesn't stand.
@@ -81,7 +79,7 @@ pub enum Form<'a> {
 /// The words of `report`.
 #[derive(Clone, Copy, Debug, PartialEq, Eq)]
 pub struct ReportWords<'a> {
-    pub inputs: Inputs<&'a str>,
+    pub inputs: GivenInputs<'a>,
     pub portion: Portion<'a>,
     pub form: Form<'a>,
     /// `--stamp`, as it was written; whether it is a stamp is the report's to say.

@@ -6,7 +6,8 @@ ghost use Rattle.clap.specs.Words.{found_of, rows_of};
 ghost use Rattle.rx_cli.specs.Asked.{HoldsAsked, HoldsExplain, HoldsForm, HoldsPortion, HoldsReport, HoldsVerify};
 ghost use Rattle.rx_cli.specs.Asked.{NoneHolds, form_in, is_number, is_record};
 
-use crate::options::{flag, inputs, number_or, outputs, text};
+use crate::given::{compared, given};
+use crate::options::{flag, number_or, text};
 use crate::retrace::{Asked, ExplainWords, Form, Portion, ReportWords, VerifyWords};
 use clap::ArgMatches;
 use rx_text::all_digits;
@@ -70,7 +71,7 @@ pub(crate) fn explain<'a>(found: &ArgMatches<'a>) -> Option<ExplainWords<'a>>
     ensures some { IfSome result (HoldsExplain (rows_of (found_of found.now))) }
     ensures none { IfNone result (NoneHolds (HoldsExplain (rows_of (found_of found.now)))) }
 {
-    let inputs = inputs(found)?;
+    let inputs = given(found)?;
     let asked = asked(found)?;
     Some(ExplainWords {
         inputs,
@@ -87,13 +88,11 @@ pub(crate) fn verify<'a>(found: &ArgMatches<'a>) -> Option<VerifyWords<'a>>
     ensures some { IfSome result (HoldsVerify (rows_of (found_of found.now))) }
     ensures none { IfNone result (NoneHolds (HoldsVerify (rows_of (found_of found.now)))) }
 {
-    let inputs = inputs(found)?;
-    let outputs = outputs(found)?;
+    let files = compared(found)?;
     let stamp = text(found, "stamp")?;
     let workers = number_or(found, "workers", 1)?;
     Some(VerifyWords {
-        inputs,
-        outputs,
+        files,
         stamp,
         workers,
         plain: flag(found, "plain"),
@@ -152,7 +151,7 @@ pub(crate) fn report<'a>(found: &ArgMatches<'a>) -> Option<ReportWords<'a>>
     ensures some { IfSome result (HoldsReport (rows_of (found_of found.now))) }
     ensures none { IfNone result (NoneHolds (HoldsReport (rows_of (found_of found.now)))) }
 {
-    let inputs = inputs(found)?;
+    let inputs = given(found)?;
     let portion = portion(found)?;
     let form = form(found)?;
     Some(ReportWords {

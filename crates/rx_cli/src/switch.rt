@@ -1,4 +1,4 @@
-//! What the command for several plans is asked to do.
+//! What the commands for several plans are asked to do.
 
 /// The files of a command for several plans.
 #[derive(Clone, Copy, Debug, PartialEq, Eq)]
@@ -27,4 +27,12 @@ pub struct RouteWords<'a> {
     pub verbose: bool,
     /// `--log`: the file to add a line about each plan to.
     pub log: Option<&'a str>,
+}
+
+/// The words of `join`.
+#[derive(Clone, Copy, Debug, PartialEq, Eq)]
+pub struct JoinWords<'a> {
+    pub files: SwitchFiles<'a>,
+    /// `--safe`: the outputs take their paths only when all are written.
+    pub safe: bool,
 }

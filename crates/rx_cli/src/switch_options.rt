@@ -1,10 +1,10 @@
-//! The words of the command for several plans, read.
+//! The words of the commands for several plans, read.
 ghost use Rattle.std.specs.Prelude.{IfNone, IfSome};
 ghost use Rattle.clap.specs.Words.{found_of, rows_of};
-ghost use Rattle.rx_cli.specs.Asked.{HoldsRoute, HoldsSwitchFiles, NoneHolds};
+ghost use Rattle.rx_cli.specs.Asked.{HoldsJoin, HoldsRoute, HoldsSwitchFiles, NoneHolds};
 
 use crate::options::{flag, number_if_given, text};
-use crate::switch::{RouteWords, SwitchFiles};
+use crate::switch::{JoinWords, RouteWords, SwitchFiles};
 use clap::ArgMatches;
 
 fn files<'a>(found: &ArgMatches<'a>) -> Option<SwitchFiles<'a>>
@@ -40,4 +40,14 @@ pub(crate) fn route<'a>(found: &ArgMatches<'a>) -> Option<RouteWords<'a>>
         verbose: flag(found, "verbose"),
         log,
     })
+}
+
+/// What `join` takes.
+pub(crate) fn join<'a>(found: &ArgMatches<'a>) -> Option<JoinWords<'a>>
+    ensures some { IfSome result (HoldsJoin (rows_of (found_of found.now))) }
+    ensures none { IfNone result (NoneHolds (HoldsJoin (rows_of (found_of found.now)))) }
+{
+    let files = files(found)?;
+    let safe = flag(found, "safe");
+    Some(JoinWords { files, safe })
 }

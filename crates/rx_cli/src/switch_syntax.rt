@@ -1,6 +1,6 @@
-//! The command line of the command for several plans.
+//! The command lines of the commands for several plans.
 ghost use Rattle.clap.specs.Words.{App};
-ghost use Rattle.rx_cli.specs.Syntax.{Draws, route_line, with_route_options, with_switch, with_switch_inputs};
+ghost use Rattle.rx_cli.specs.Syntax.{Draws, join_line, route_line, with_route_options, with_switch, with_switch_inputs};
 ghost use Rattle.rx_cli.specs.Syntax.{with_switch_outputs, with_switch_watch};
 
 use crate::draft::Draft;
@@ -53,9 +53,23 @@ fn takes_switch_watch<'a>(alloc: Global, line: Draft<'a>) -> Draft<'a>
     line.arg(verbose).arg(log)
 }
 
-/// A line with the subcommand for several plans.
+/// The subcommand `join`.
+fn join<'a>(alloc: Global) -> Draft<'a>
+    ensures { Draws join_line result }
+{
+    let join = draft(
+        alloc,
+        "join",
+        "Joins the response files of several plans' runs",
+    );
+    let inputs = takes_switch_inputs(alloc, join);
+    let outputs = takes_switch_outputs(alloc, inputs);
+    outputs.arg(flag(alloc, "safe", SAFE))
+}
+
+/// A line with the subcommands for several plans.
 pub(crate) fn takes_switch<'a>(alloc: Global, line: Draft<'a>) -> Draft<'a>
     ensures { (app : App) → Draws app line.entry → Draws (with_switch app) result }
 {
-    line.subcommand(route(alloc))
+    line.subcommand(route(alloc)).subcommand(join(alloc))
 }

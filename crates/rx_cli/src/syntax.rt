@@ -3,6 +3,7 @@ ghost use Rattle.std.specs.Prelude.{◌≡◌, false, IfOk};
 ghost use Rattle.clap.specs.Words.{App, app_of, new_app, rule_of};
 ghost use Rattle.rx_cli.specs.Syntax.{Draws, IsLocal, flag, optional_option, required_option, verbose_flag, workers_option};
 ghost use Rattle.rx_cli.specs.Syntax.{with_inputs, with_log, with_outputs, with_run_options, with_watch, with_ways};
+ghost use Rattle.rx_cli.specs.Syntax.{with_compared, with_given};
 ghost use Rattle.rx_cli.specs.Syntax.{check_line, plan_line, run_line, show_line, with_adjudication};
 ghost use Rattle.rx_cli.specs.Syntax.{explain_line, replies_line, report_line, verify_line, with_retracing};
 ghost use Rattle.rx_cli.specs.Syntax.{whole_line, with_asked, with_forms, with_reader, with_verify_options};
@@ -21,19 +22,8 @@ use std::alloc::{AllocError, Global};
 /// its edition, which proves nothing.
 pub const VERSION: &str = "0.1.0 (rattle-kit-13 logic dac8208d650f15bf)";
 
-// What is said of the outputs of a command that writes them.
-const WRITTEN: [&'static str; 3] = [
-    "Response file to write",
-    "End books to write",
-    "Settlement to write",
-];
-
-// And of one that compares them.
-const COMPARED: [&'static str; 3] = [
-    "Response file to compare",
-    "End books to compare",
-    "Settlement to compare",
-];
+// What is said of the plans file that stands in place of sheet and books.
+const PLANS: &'static str = "Plans file, in place of sheet and books";
 
 // What is said of options that may be left out.
 pub(crate) const STAMP_OR_NOW: &'static str = "Date and time, CCYYMMDDHHMM; else now";
@@ -111,22 +101,32 @@ pub(crate) fn takes_inputs<'a>(alloc: Global, line: Draft<'a>) -> Draft<'a>
         .arg(file(alloc, "batch", "Batch file"))
 }
 
-/// A line with the three output files, each with what is said of it.
-fn takes_outputs<'a>(alloc: Global, line: Draft<'a>, told: [&'a str; 3]) -> Draft<'a>
-    ensures { (app : App) → Draws app line.entry → Draws (with_outputs app) result }
+/// A line with the batch file, and plan sheet and opening books or the plans file.
+fn takes_given<'a>(alloc: Global, line: Draft<'a>) -> Draft<'a>
+    ensures { (app : App) → Draws app line.entry → Draws (with_given app) result }
 {
-    let [response, books, settlement] = told;
-    line.arg(file(alloc, "response", response))
-        .arg(file(alloc, "books-out", books))
-        .arg(file(alloc, "settlement", settlement))
+    line.arg(optional(alloc, "sheet", "FILE", "Plan sheet"))
+        .arg(optional(alloc, "books", "FILE", "Opening books"))
+        .arg(optional(alloc, "plans", "FILE", PLANS))
+        .arg(file(alloc, "batch", "Batch file"))
 }
 
-/// A line with the input files and the output files.
-fn takes_files<'a>(alloc: Global, line: Draft<'a>, told: [&'a str; 3]) -> Draft<'a>
-    ensures { (app : App) → Draws app line.entry → Draws (with_outputs (with_inputs app)) result }
+/// A line with the output files that are compared, of which the plans file names the end books of several plans.
+fn takes_compared<'a>(alloc: Global, line: Draft<'a>) -> Draft<'a>
+    ensures { (app : App) → Draws app line.entry → Draws (with_compared app) result }
 {
-    let inputs = takes_inputs(alloc, line);
-    takes_outputs(alloc, inputs, told)
+    line.arg(file(alloc, "response", "Response file to compare"))
+        .arg(optional(alloc, "books-out", "FILE", "End books to compare"))
+        .arg(file(alloc, "settlement", "Settlement to compare"))
+}
+
+/// A line with the three output files.
+fn takes_outputs<'a>(alloc: Global, line: Draft<'a>) -> Draft<'a>
+    ensures { (app : App) → Draws app line.entry → Draws (with_outputs app) result }
+{
+    line.arg(file(alloc, "response", "Response file to write"))
+        .arg(file(alloc, "books-out", "End books to write"))
+        .arg(file(alloc, "settlement", "Settlement to write"))
 }
 
 /// A line with the options of `run` that are no files.
@@ -181,7 +181,8 @@ pub(crate) fn run<'a>(alloc: Global) -> Draft<'a>
     ensures { Draws run_line result }
 {
     let run = draft(alloc, "run", "Adjudicates a batch file");
-    let files = takes_files(alloc, run, WRITTEN);
+    let inputs = takes_inputs(alloc, run);
+    let files = takes_outputs(alloc, inputs);
     let options = takes_run_options(alloc, files);
     takes_watch(alloc, options)
 }
@@ -212,11 +213,12 @@ fn plan<'a>(alloc: Global) -> Draft<'a>
 }
 
 /// The subcommand `check`.
-fn check<'a>(alloc: Global) -> Draft<'a>
+pub(crate) fn check<'a>(alloc: Global) -> Draft<'a>
     ensures { Draws check_line result }
 {
-    let sheet = file(alloc, "sheet", "Plan sheet");
+    let sheet = optional(alloc, "sheet", "FILE", "Plan sheet");
     let books = optional(alloc, "books", "FILE", "Books");
+    let plans = optional(alloc, "plans", "FILE", PLANS);
     let batch = optional(alloc, "batch", "FILE", "Batch file");
     draft(
         alloc,
@@ -225,6 +227,7 @@ fn check<'a>(alloc: Global) -> Draft<'a>
     )
     .arg(sheet)
     .arg(books)
+    .arg(plans)
     .arg(batch)
 }
 
@@ -253,7 +256,7 @@ pub(crate) fn explain<'a>(alloc: Global) -> Draft<'a>
         "explain",
         "Explains why claims are answered as they are",
     );
-    let inputs = takes_inputs(alloc, explain);
+    let inputs = takes_given(alloc, explain);
     let asked = takes_asked(alloc, inputs);
     let response = optional(alloc, "response", "FILE", "Response file to compare");
     let json = flag(alloc, "json", "Print JSON");
@@ -288,7 +291,8 @@ pub(crate) fn verify<'a>(alloc: Global) -> Draft<'a>
     ensures { Draws verify_line result }
 {
     let verify = draft(alloc, "verify", "Repeats a run and compares its outputs");
-    let files = takes_files(alloc, verify, COMPARED);
+    let inputs = takes_given(alloc, verify);
+    let files = takes_compared(alloc, inputs);
     takes_verify_options(alloc, files)
 }
 
@@ -318,7 +322,7 @@ pub(crate) fn report<'a>(alloc: Global) -> Draft<'a>
         "report",
         "Prints the answers, a line each, by provider",
     );
-    let inputs = takes_inputs(alloc, report);
+    let inputs = takes_given(alloc, report);
     let stamp = optional(
         alloc,
         "stamp",

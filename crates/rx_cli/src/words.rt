@@ -2,26 +2,27 @@
 ghost use Rattle.std.specs.Prelude.{◌≡◌, [], true, IfErr, IfNone, IfOk, IfSome, map};
 ghost use Rattle.clap.specs.Words.{fault_of, found_of, rows_of, subcommand_of, takes};
 ghost use Rattle.rx_cli.specs.Syntax.{whole_line};
-ghost use Rattle.rx_cli.specs.Asked.{Holds, HoldsCheck, HoldsNamed, HoldsRun, HoldsRunApart, HoldsShow, NoneHolds};
+ghost use Rattle.rx_cli.specs.Asked.{Holds, HoldsNamed, HoldsRun, HoldsRunApart, HoldsShow, NoneHolds};
 ghost use Rattle.rx_cli.specs.Faults.{IsWords};
 
-use crate::asked::{CheckWords, Command, RunWords, ShowWords};
+use crate::asked::{Command, RunWords, ShowWords};
 use crate::compare_options::{compare, compare_conflict};
 use crate::dispute_words::excerpt;
 use crate::fault::WordsFault;
+use crate::given::check;
 use crate::misuse::{
-    age_conflict, excerpt_no_number, explain_misuse, family_conflict, fault_no_number,
-    members_conflict, report_conflict, route_miscounted, run_miscounted, verify_miscounted,
+    age_conflict, check_conflict, excerpt_no_number, explain_misuse, family_conflict,
+    fault_no_number, members_conflict, report_conflict, route_miscounted, run_miscounted,
+    verify_misuse,
 };
 use crate::options::{flag, inputs, number_if_given, outputs, text};
 use crate::people_words::{adjudicate_taken, fault};
 use crate::retrace_options::{explain, report, verify};
 use crate::settle_options::settle;
-use crate::switch_options::route;
+use crate::switch_options::{join, route};
 use crate::syntax::line;
 use crate::upkeep_options::{age, family, members};
 use clap::ArgMatches;
-use rx_io::Inputs;
 use std::alloc::Global;
 use std::convert::AsStr;
 
@@ -33,20 +34,6 @@ fn show<'a>(found: &ArgMatches<'a>) -> Option<ShowWords<'a>>
     let batch = text(found, "batch")?;
     let tsv = flag(found, "tsv");
     Some(ShowWords { sheet, batch, tsv })
-}
-
-fn check<'a>(found: &ArgMatches<'a>) -> Option<CheckWords<'a>>
-    ensures some { IfSome result (HoldsCheck (rows_of (found_of found.now))) }
-    ensures none { IfNone result (NoneHolds (HoldsCheck (rows_of (found_of found.now)))) }
-{
-    let sheet = text(found, "sheet")?;
-    let books = text(found, "books");
-    let batch = text(found, "batch");
-    Some(Inputs {
-        sheet,
-        books,
-        batch,
-    })
 }
 
 fn run<'a>(found: &ArgMatches<'a>) -> Option<RunWords<'a>>
@@ -99,22 +86,26 @@ fn named<'a>(alloc: Global, name: &str, found: &ArgMatches<'a>) -> Result<Comman
             Some(inputs) => Ok(Command::Plan(inputs)),
             None => Err(WordsFault::Words(None)),
         },
-        "sample" => Ok(Command::Sample),
         "excerpt" => match excerpt(found) {
             Some(excerpt) => Ok(Command::Excerpt(excerpt)),
             None => Err(excerpt_no_number(alloc)),
         },
+        "sample" => Ok(Command::Sample),
         "check" => match check(found) {
             Some(check) => Ok(Command::Check(check)),
-            None => Err(WordsFault::Words(None)),
+            None => Err(check_conflict(alloc)),
         },
         "explain" => match explain(found) {
             Some(explain) => Ok(Command::Explain(explain)),
             None => Err(explain_misuse(alloc, found)),
         },
+        "join" => match join(found) {
+            Some(join) => Ok(Command::Join(join)),
+            None => Err(WordsFault::Words(None)),
+        },
         "verify" => match verify(found) {
             Some(verify) => Ok(Command::Verify(verify)),
-            None => Err(verify_miscounted(alloc, found)),
+            None => Err(verify_misuse(alloc, found)),
         },
         "route" => match route(found) {
             Some(route) => Ok(Command::Route(route)),
@@ -122,7 +113,7 @@ fn named<'a>(alloc: Global, name: &str, found: &ArgMatches<'a>) -> Result<Comman
         },
         "report" => match report(found) {
             Some(report) => Ok(Command::Report(report)),
-            None => Err(report_conflict(alloc)),
+            None => Err(report_conflict(alloc, found)),
         },
         "adjudicate" => Ok(Command::Adjudicate(adjudicate_taken(alloc, found)?)),
         "fault" => match fault(found) {

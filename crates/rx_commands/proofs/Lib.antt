@@ -38,6 +38,8 @@ pub mod OneReading
 pub mod OneReport
 pub mod OneText
 pub mod OwnHeader
+pub mod OwnLaw
+pub mod OwnRecords
 pub mod OwnSection
 pub mod PartsText
 mod Places

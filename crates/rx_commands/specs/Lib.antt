@@ -30,6 +30,7 @@ pub mod ForProvider
 pub mod Forms
 pub mod Lines
 pub mod OthersReport
+pub mod Own
 pub mod Places
 pub mod Records
 pub mod Reported

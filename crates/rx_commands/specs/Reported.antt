@@ -9,6 +9,7 @@ use Rattle.rx_d0_values.specs.declared.reply.Reply.{Reply}
 use Rattle.rx_d0_values.specs.declared.transmission.Transmission.{Transmission}
 use Rattle.rx_ledger.specs.Fold.{fold_replies}
 use Rattle.rx_ledger.specs.Plan.{Plan}
+use Rattle.rx_report.specs.AddsUp.{AreLinesOf, IsSettlementOf}
 use Rattle.rx_report.specs.Lines.{lines_of}
 use Rattle.rx_commands.specs.Reversed.{with_reversed}
 use Rattle.rx_commands.specs.declared.batch_report.Report.{Report}
@@ -24,6 +25,10 @@ pub record IsTold (asked : List Transmission) (replies : List Reply) (r : Report
   pub lines_are : r.lines.items ≡ map (with_reversed r.batch) (lines_of asked replies)
   pub providers_are : r.settled.providers.entries ≡ tallies_of replies
   pub total_is : r.settled.total ≡ tally (answers_of replies)
+
+-- its tallies count the answers of its lines, and no others
+abbrev pub IsCounted : Report → Type 0
+IsCounted r = (replies : List Reply) × (AreLinesOf r.lines.items replies × IsSettlementOf replies r.settled)
 
 -- sheet and batch are accepted, as this plan and a batch of this head and these details
 pub record AreAccepted (sheet batch : List ℕ) (plan : Plan) (head : Head) (details : List Detail) : Type 0 where

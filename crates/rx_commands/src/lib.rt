@@ -6,6 +6,8 @@
 //!
 //! - `report` has a line for each answer of the batch, in one of the forms of `Form` (`specs/Reported.antt` has the lines,
 //!   `specs/Forms.antt` the texts). `report_folder` makes pages of it, one for each provider (`specs/Folder.antt`).
+//! - `report_own` is the same of the records that name the plan, in a batch of several plans (`specs/Own.antt`); what it counts is
+//!   what a switch settles for this plan (`law_of_own_reports`).
 //! - `explain` says why the transactions that are asked for were answered as they were (`specs/Retraced.antt` has the
 //!   explanations, `specs/Explaining.antt` the text). The records are adjudicated once, in file order, and explained on the way
 //!   where the requests say that a transaction is asked for. `record_asked`, `number_asked` and `reference_asked` read what
@@ -50,6 +52,7 @@ mod for_provider;
 mod inputs;
 mod law;
 mod manner;
+mod own_records;
 mod pieces;
 mod printed;
 mod record_words;
@@ -75,8 +78,9 @@ pub use folder::{PrintedFolder, report_folder};
 pub use for_provider::explain_for;
 pub use law::{others_names_leave_the_report, others_names_leave_the_text};
 pub use manner::Manner;
+pub use own_records::law_of_own_reports;
 pub use pieces::{pieces_before, rest_of_piece};
 pub use printed::{Outcome, Printed};
-pub use report_forms::{Form, PrintedReport, report};
+pub use report_forms::{Form, PrintedReport, report, report_own};
 pub use table::show_table;
 pub use verdict::verify;

@@ -1,12 +1,14 @@
 ghost use Rattle.std.specs.Prelude.{◌≡◌, ◌==◌, IfErr, IfOk, Ok, length, not};
 ghost use Rattle.rx_commands.specs.Adjudicated.{IsAdjudicated};
 ghost use Rattle.rx_commands.specs.Forms.{HasWhys, IsPrintedReport, IsReportText, IsText, head_of};
-ghost use Rattle.rx_commands.specs.Reported.{IsTold};
+ghost use Rattle.rx_commands.specs.Own.{IsOwnReportText};
+ghost use Rattle.rx_commands.specs.Reported.{IsCounted};
 ghost use Rattle.rx_report_text.specs.ClaimsShown.{shows_claims};
 ghost use Rattle.rx_commands.specs.Tiers.{table_of_text};
 ghost use Rattle.rx_switch.specs.Planned.{IsNotPlanned};
 
 use crate::batch_report::{Report, job_report};
+use crate::own_records::own_part;
 use crate::replay::Adjudicated;
 use crate::tiers::Tiers;
 use crate::whys::whys_of;
@@ -67,6 +69,33 @@ pub fn report<R: Threads + Sync>(
     Ok(printed?)
 }
 
+/// The same of a plan's own records: in a batch of several plans those that name it, by the BIN and the processor control
+/// number of their headers (docs/FORMATS.md, "Several plans"). Each line has its place in the whole batch; what others are
+/// answered isn't counted.
+///
+/// # Errors
+///
+/// The first, in this order, of Sheet, Books and Batch; Memory may stand in place of any other answer.
+pub fn report_own<R: Threads + Sync>(
+    rt: &R,
+    alloc: Global,
+    inputs: &Inputs<&[u8]>,
+    portion: Portion<'_>,
+    form: Form<'_>,
+    stamp: Option<Stamp>,
+) -> Result<PrintedReport, SwitchFault>
+    ensures reported { let given = inputs.now in IfOk result
+        (IsOwnReportText given.sheet.now given.books.now given.batch.now stamp portion.entry form.entry) }
+    ensures refused { let given = inputs.now in
+        IfErr result (λ fault. IsNotPlanned given.sheet.now given.books.now given.batch.now fault) }
+{
+    let whole = job_report(rt, alloc, inputs, stamp)?;
+    let own = own_part(alloc, whole)?;
+    let printed = text_in_form(alloc, portion, form, inputs.sheet, &own);
+    drop(own);
+    Ok(printed?)
+}
+
 // The text of a portion in a form, with the tiers of the sheet's text, and whether the portion has lines.
 fn text_in_form(
     alloc: Global,
@@ -76,7 +105,7 @@ fn text_in_form(
     report: &Report,
 ) -> Result<PrintedReport, Memory>
     requires adjudicated { IsAdjudicated report.now.batch }
-    requires counted { IsTold report.now.batch.asked.items report.now.batch.replies.items report.now }
+    requires counted { IsCounted report.now }
     ensures { IfOk result (IsPrintedReport portion.entry form.entry (table_of_text sheet.now) report.now) }
 {
     let kept = kept_lines(alloc, portion, &report.lines)?;

@@ -39,7 +39,7 @@ pub fn verify<R: Threads + Wait + Sync, G: Gate + Sync>(
     ensures words { (fault : SwitchFault) → stamp_for job.now.workers job.now.stamp.now ≡ Err fault → result ≡ Err fault }
     ensures thread { result ≡ Err SwitchFault.Thread → RefusesOne job.now.plain (G.starts gate.now) job.now.workers }
 {
-    let verified = run_again(rt, alloc, gate, job, files)?;
+    let verified = run_again(rt, alloc, gate, files, job)?;
     let outcome = outcome_by(&verified.differences);
     let text = verdict_text(alloc, &verified, files);
     drop(verified);
@@ -72,8 +72,8 @@ fn run_again<R: Threads + Wait + Sync, G: Gate + Sync>(
     rt: &R,
     alloc: Global,
     gate: &G,
-    job: &Job<'_>,
     files: &Outputs<&[u8]>,
+    job: &Job<'_>,
 ) -> Result<Verified, SwitchFault>
     ensures same { IfOk result (λ v. (are_none v.differences ≡ true)
         ↔ IsOutput (given_by job.now) (texts_in_files files.now)) }

@@ -1,5 +1,15 @@
 pub mod Alone
+pub mod Beside
 pub mod Finished
+pub mod JoinAccepted
+pub mod JoinAnswers
+pub mod JoinDecided
+pub mod JoinDetails
+pub mod JoinFaults
+pub mod JoinLists
+pub mod JoinRuns
+pub mod JoinWhole
+pub mod Joins
 pub mod Mapped
 pub mod NoThread
 pub mod OneOutput

@@ -1,8 +1,9 @@
 -- The plans of a switch are opened one after another.
-use Rattle.std.proofs.Common.{◌≡◌, ℕ, ◌+◌, ◌<◌, Bool, true, false, not, List, [], ◌∷◌, ◌++◌, get_or, length, map, take, refl, ap, sym, subst, ◌∙◌, arith, Ok, Some}
+use Rattle.std.proofs.Common.{◌≡◌, ℕ, ◌+◌, ◌<◌, Bool, true, false, not, List, [], ◌∷◌, ◌++◌, get_or, length, map, take, refl, ap, sym}
+use Rattle.std.proofs.Common.{subst, ◌∙◌, arith, Ok, Some}
 use Rattle.std.specs.List.{AllZip, list_any, range_with_len, slice_get}
 use Rattle.std.proofs.lemmas.Bool.{and_from, and_parts}
-use Rattle.std.proofs.lemmas.List.{get_or-map, get_or_default, length-append, length-map, map-append, map-id, take_more}
+use Rattle.std.proofs.lemmas.List.{get_or-map, length-append, length-map, map-append, map-id, take_more}
 use Rattle.std.proofs.lemmas.List.FromFn.{map-range_with_len_more}
 use Rattle.std.proofs.lemmas.List.Folds.{list_any-append}
 use Rattle.std.proofs.lemmas.Option.{slice_get_read}
@@ -17,7 +18,7 @@ use Rattle.rx_switch.specs.RouteRefused.{IsNext}
 use Rattle.rx_switch.specs.Routed.{AreAccepted, OnePlan, PlanStandsFor, PlanTexts, SwitchGiven, are_apart, door_of, doors_of}
 use Rattle.rx_switch.proofs.Routing.{or_parts}
 
-AllZip-more : {A B : Type 0} (R : A → B → Type 0) (xs : List A) (ys : List B) (x : A) (y : B) → AllZip R xs ys → R x y
+pub AllZip-more : {A B : Type 0} (R : A → B → Type 0) (xs : List A) (ys : List B) (x : A) (y : B) → AllZip R xs ys → R x y
     → AllZip R (xs ++ x ∷ []) (ys ++ y ∷ [])
 AllZip-more R [] [] x y all r = (r, tt)
 AllZip-more R [] (b ∷ ys) x y all r = absurd all
@@ -29,7 +30,7 @@ not_is true e = absurd (let bad : false ≡ true = e in cc)
 not_is false e = refl
 
 -- a door that none of the others is may follow them
-apart-more : (doors : List Door) (d : Door) → are_apart doors ≡ true → list_any (λ e. names_plan e d) doors ≡ false
+pub apart-more : (doors : List Door) (d : Door) → are_apart doors ≡ true → list_any (λ e. names_plan e d) doors ≡ false
     → are_apart (doors ++ d ∷ []) ≡ true
 apart-more [] d apart none = refl
 apart-more (e ∷ doors) d apart none =
@@ -48,11 +49,8 @@ range_more n =
     sym (map-id (range_with_len 0 (n + 1))) ∙ map-range_with_len_more (λ (k : ℕ). k) 0 n n e
     ∙ ap (λ ns. ns ++ n ∷ []) (map-id (range_with_len 0 n))
 
-module _ (jobs : List PlanJob) (so_far : List OpenPlan) (at : ℕ) (none : PlanJob) (low : at < length jobs)
+module _ (jobs : List PlanJob) (so_far : List OpenPlan) (at : ℕ) (job : PlanJob) (is : job ≡ get_or jobs at job) (low : at < length jobs)
     (accepted : AreAccepted (take at (map plan_texts jobs)) (map opened so_far)) where
-  abbrev job : PlanJob
-  job = get_or jobs at none
-
   abbrev texts : List PlanTexts
   texts = map plan_texts jobs
 
@@ -60,7 +58,7 @@ module _ (jobs : List PlanJob) (so_far : List OpenPlan) (at : ℕ) (none : PlanJ
   low_text = let long = length-map jobs plan_texts in omega (arith, low, long)
 
   is_text : plan_texts job ≡ get_or texts at (plan_texts job)
-  is_text = ap plan_texts (get_or_default jobs at none job low) ∙ sym (get_or-map plan_texts jobs at job (plan_texts job) low)
+  is_text = ap plan_texts is ∙ sym (get_or-map plan_texts jobs at job (plan_texts job) low)
 
   -- with one more plan
   pub accepted_next : (next : OpenPlan) → PlanStandsFor (plan_texts job) (opened next)

@@ -1,5 +1,6 @@
 -- A switch's records: each is answered by the plan whose number it has, as in that plan's run of the whole batch.
-use Rattle.std.proofs.Common.{◌≡◌, ℕ, zero, suc, ◌+◌, ◌-◌, ◌<◌, ◌≤◌, Bool, true, false, not, ◌||◌, List, [], ◌∷◌, ◌++◌, get_or, length, map, take, refl, ap, sym, subst, ◌∙◌, inl, inr, arith}
+use Rattle.std.proofs.Common.{◌≡◌, ℕ, zero, suc, ◌+◌, ◌-◌, ◌<◌, ◌≤◌, Bool, true, false, not, ◌||◌, List, [], ◌∷◌, ◌++◌, get_or, length}
+use Rattle.std.proofs.Common.{map, take, refl, ap, sym, subst, ◌∙◌, inl, inr, arith}
 use Rattle.std.specs.Cmp.Lexicographic.{same_text}
 use Rattle.std.specs.List.{list_any, range_with_len}
 use Rattle.std.proofs.lemmas.Bool.{and_from, and_parts, both_ways, cases_Bool, cases_lt, eq-eqb, eqb-true, false_from_ne_true}
@@ -37,7 +38,7 @@ use Rattle.rx_switch.proofs.Alone.{alone_end, alone_replies, map_places, places_
 
 -- ---- numbers and doors
 
-names_self : (d : Door) → names_plan d d ≡ true
+pub names_self : (d : Door) → names_plan d d ≡ true
 names_self d = and_from (same d.bin d.bin) (same d.pcn d.pcn) (nat_list_eq_equiv.refl d.bin) (nat_list_eq_equiv.refl d.pcn)
 
 -- a door that is named is the one that is asked for
@@ -113,7 +114,7 @@ module _ (x : Switched) where
       get_or-map (λ (d : Detail). plan_named doors d.text) x.details j no_detail 0 (omega arith)
       ∙ ap (λ n. plan_at (door_in (get_or x.details n no_detail).text) doors) (sym e)
 
-  routed_there : (i : ℕ) → 1 ≤ i → i ≤ count → record_at mixed i ≡ routed doors (request_at x i)
+  pub routed_there : (i : ℕ) → 1 ≤ i → i ≤ count → record_at mixed i ≡ routed doors (request_at x i)
   routed_there i one to = get_or-map (λ (d : Detail). routed doors d.text) x.details (i - 1) no_detail no_record (omega arith)
 
   -- the reply to a stray
@@ -196,7 +197,7 @@ module _ (x : Switched) where
     own_there i one to =
         get_or-map (λ (d : Detail). transmission_of (door_of p) d.text) x.details (i - 1) no_detail no_record (omega arith)
 
-    same_there : (i : ℕ) → 1 ≤ i → i ≤ count → mine i ≡ true → record_at mixed i ≡ record_at own i
+    pub same_there : (i : ℕ) → 1 ≤ i → i ≤ count → mine i ≡ true → record_at mixed i ≡ record_at own i
     same_there i one to is_mine =
         let at = has_number i one to is_mine in
         routed_there i one to
@@ -215,7 +216,7 @@ module _ (x : Switched) where
         ap (λ t. ledger_after x.head.lot p.plan i t M) (own_there i one inside
         ∙ missed_rejected (request_at x i) (door_of p) (other_number i one inside is_other))
 
-    reply_there : (i : ℕ) → 1 ≤ i → i ≤ count → mine i ≡ true
+    pub reply_there : (i : ℕ) → 1 ≤ i → i ≤ count → mine i ≡ true
         → reply_at x.head.lot p.plan p.opening own i ≡ routed_reply x i
     reply_there i one to is_mine =
         let none = stray_reply doors (request_at x i) in

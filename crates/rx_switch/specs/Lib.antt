@@ -2,6 +2,11 @@
 pub mod Devices
 pub mod Fault
 pub mod Job
+pub mod JoinLaw
+pub mod JoinParts
+pub mod JoinRefused
+pub mod Joined
+pub mod MayReply
 pub mod Output
 pub mod Own
 pub mod Planned

@@ -1,5 +1,6 @@
 -- Plumbing: what a switch's job gives, what its plans make of it, and its output as texts.
 use Rattle.std.specs.Prelude.{◌≡◌, ◌<◌, ℕ, suc, List, [], length, map}
+use Rattle.std.specs.Arc.{arc_value}
 use Rattle.std.specs.List.{range_with_len}
 use Rattle.rx_batch.specs.declared.batch.Batch.{Batch}
 use Rattle.rx_books_store.specs.BooksText.{books_text}
@@ -31,7 +32,7 @@ use Rattle.rx_wave.specs.AtDoors.{transmissions_routed}
 use Rattle.rx_wave.specs.Jobs.{AreReplies}
 
 abbrev pub plan_texts : PlanJob → PlanTexts
-plan_texts job = record { sheet = job.sheet.now; books = job.books.now }
+plan_texts job = record { sheet = job.sheet.now; books = (arc_value job.books.now).items }
 
 abbrev pub given_route : RouteJob → SwitchGiven
 given_route job =

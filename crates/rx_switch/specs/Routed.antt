@@ -1,4 +1,5 @@
--- Meaning: what a switch gives: one batch, several plans, each record adjudicated by the plan that it names (docs/FORMATS.md, "Several plans").
+-- Meaning: what a switch gives: one batch, several plans, each record adjudicated by the plan that it names
+-- (docs/FORMATS.md, "Several plans").
 use Rattle.std.specs.Prelude.{◌≡◌, ℕ, ◌-◌, Bool, true, not, ◌&&◌, if◌then◌else◌, List, [], ◌∷◌, map, length, slice_index_or, Ok}
 use Rattle.std.specs.List.{AllZip, list_any, range_with_len}
 use Rattle.rx_batch.specs.Grammar.{IsFile}

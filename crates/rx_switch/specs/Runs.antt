@@ -1,4 +1,5 @@
--- Meaning: what the switch answers to a plan's records, next to the response file of that plan's own run (docs/GUARANTEES.md, "Several plans").
+-- Meaning: what the switch answers to a plan's records, next to the response file of that plan's own run
+-- (docs/GUARANTEES.md, "Several plans").
 use Rattle.std.specs.Prelude.{◌≡◌, ◌≤◌, ℕ, ◌-◌, true, List, length, slice_index_or, Ok}
 use Rattle.rx_batch.specs.Grammar.{IsFile}
 use Rattle.rx_batch.specs.Writing.{file_text}

@@ -1,4 +1,5 @@
 ghost use Rattle.std.specs.Prelude.{◌≡◌, List, IfErr, IfNone, IfOk, IfSome, Ok, Some, false, length, map, slice_get, true};
+ghost use Rattle.std.specs.Arc.{arc_value};
 ghost use Rattle.std.specs.List.{list_any};
 ghost use Rattle.rx_books_store.specs.BooksFile.{IsBooksText};
 ghost use Rattle.rx_d0_request.specs.Doors.{names_plan};
@@ -13,6 +14,7 @@ ghost use Rattle.rx_switch.specs.Routed.{AreAccepted, OnePlan, PlanStandsFor, Pl
 
 use crate::adjudicating::parts_of;
 use crate::fault::SwitchFault;
+use crate::plans_beside::open_beside;
 use crate::route_fault::RouteFault;
 use crate::route_job::PlanJob;
 use rx_books_store::Books;
@@ -20,6 +22,7 @@ use rx_fields::{Door, Memory};
 use rx_ledger::Sheet;
 use rx_sheet::read_sheet;
 use std::alloc::Global;
+use std::sync::Arc;
 use std::thread::Threads;
 
 /// A plan whose sheet and books are read.
@@ -31,8 +34,30 @@ pub(crate) struct OpenPlan {
     pub(crate) books: Books,
 }
 
-/// The sheet and the books of each plan, in their order, up to the first that is refused.
+/// The sheet and the books of each plan, in their order, up to the first that is refused. Where there are several workers, and as
+/// many plans, they are read side by side; where that gives nothing, one after another.
 pub(crate) fn open_plans<R: Threads + Sync>(
+    rt: &R,
+    alloc: Global,
+    workers: u16,
+    plans: &[PlanJob<'_>],
+) -> Result<Vec<OpenPlan>, RouteFault>
+    ensures opened { IfOk result (λ all. AreAccepted (map plan_texts plans.now) (map opened all.items)) }
+    ensures numbered { IfOk result (λ all. AreNumbered all.items) }
+    ensures refused { (g : SwitchGiven) → (s : Stamp) → stamp_for g.workers g.stamp ≡ Ok s → g.plans ≡ map plan_texts plans.now
+        → IfErr result (λ fault. IsNotRouted g fault) }
+{
+    let threads = usize::from(workers);
+    if threads > 1 && plans.len() >= threads {
+        if let Some(all) = open_beside(rt, alloc, threads, plans) {
+            return Ok(all);
+        }
+    }
+    open_each(rt, alloc, workers, plans)
+}
+
+// The plans, one after another.
+fn open_each<R: Threads + Sync>(
     rt: &R,
     alloc: Global,
     workers: u16,
@@ -103,15 +128,15 @@ fn books_of<R: Threads + Sync>(
     alloc: Global,
     parts: usize,
     number: usize,
-    text: &[u8],
+    text: &Arc<Vec<u8>, Global>,
 ) -> Result<Books, RouteFault>
-    ensures read { IfOk result (λ books. IsBooksText text.now books.period books.ledger) }
+    ensures read { IfOk result (λ books. IsBooksText (arc_value text.now).items books.period books.ledger) }
     ensures refused { (g : SwitchGiven) → (plans : List OnePlan) → (texts : PlanTexts) → (plan : Plan)
-        → IsNext g number plans texts → texts.books ≡ text.now → sheet_of_text texts.sheet ≡ Ok plan
+        → IsNext g number plans texts → texts.books ≡ (arc_value text.now).items → sheet_of_text texts.sheet ≡ Ok plan
         → list_any (λ door. names_plan door plan.figures.door) (doors_of plans) ≡ false
         → IfErr result (λ fault. IsNotRouted g fault) }
 {
-    match Books::read_in_parts(rt, alloc, parts, text) {
+    match Books::read_shared(rt, alloc, parts, text) {
         Ok(books) => Ok(books),
         Err(fault) => Err(of_plan(number, SwitchFault::from(fault))),
     }
@@ -138,8 +163,8 @@ pub(crate) fn doors_of(alloc: Global, plans: &[OpenPlan]) -> Result<Vec<Door>, M
     Ok(doors)
 }
 
-// The first plan that has this door.
-fn plan_with(so_far: &[OpenPlan], door: &Door) -> Option<usize>
+/// The first plan that has this door.
+pub(crate) fn plan_with(so_far: &[OpenPlan], door: &Door) -> Option<usize>
     ensures some { IfSome result (λ number. (plan : OnePlan) × (slice_get (map opened so_far.now) number ≡ Some plan)
         × (names_plan (door_of plan) door.now ≡ true)) }
     ensures none { IfNone result (list_any (λ other. names_plan other door.now) (doors_of (map opened so_far.now)) ≡ false) }
@@ -154,8 +179,8 @@ fn plan_with(so_far: &[OpenPlan], door: &Door) -> Option<usize>
     None
 }
 
-// Whether two doors are one.
-fn is_same(door: &Door, other: &Door) -> bool
+/// Whether two doors are one.
+pub(crate) fn is_same(door: &Door, other: &Door) -> bool
     ensures { result ≡ names_plan door.now other.now }
 {
     door.bin == other.bin && door.pcn == other.pcn

@@ -1,10 +1,13 @@
+use std::alloc::Global;
+use std::sync::Arc;
+
 /// A plan of a switch (docs/FORMATS.md, "Several plans").
 #[derive(Clone, Copy)]
 pub struct PlanJob<'a> {
     /// The plan sheet's text.
     pub sheet: &'a [u8],
-    /// The opening books' text.
-    pub books: &'a [u8],
+    /// The opening books' text, which the books keep.
+    pub books: &'a Arc<Vec<u8>, Global>,
 }
 
 /// What a switch is given: one batch, several plans (docs/FORMATS.md, "Several plans").

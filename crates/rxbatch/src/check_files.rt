@@ -1,29 +1,48 @@
 use crate::ending::Ending;
+use crate::plans_checked;
 use crate::shown_path::shown_path;
 use crate::standard_output::print;
 use crate::texts::text_of;
-use rx_check::Checked;
+use rx_check::{Checked, Files};
 use rx_cli::CheckWords;
 use rx_io::{Device, Inputs};
 
 /// Prints the first fault of each input file in words, and what a run would take and an operator would hardly mean. It
 /// ends with the first fault, as a run would, and where there are only warnings with a status of its own.
 pub fn check(rt: &HostRuntime, words: &CheckWords<'_>) -> Result<(), Ending> {
-    match read_given(rt, words) {
-        Ok(texts) => check_texts(rt, words, &texts),
+    match *words {
+        CheckWords::OnePlan(paths) => check_one(rt, &paths),
+        CheckWords::Plans { plans, batch } => plans_checked::check(rt, plans, batch),
+    }
+}
+
+// The same of the files of one plan.
+fn check_one(rt: &HostRuntime, paths: &CheckedPaths<'_>) -> Result<(), Ending> {
+    match read_given(rt, paths) {
+        Ok(texts) => {
+            let files = Inputs {
+                sheet: texts.sheet.as_slice(),
+                books: texts.books.as_ref().map(|text| text.as_slice()),
+                batch: texts.batch.as_ref().map(|text| text.as_slice()),
+            };
+            check_texts(rt, paths, &files)
+        }
         Err(ending) => Err(unread(rt, ending)),
     }
 }
+
+/// The paths of the files that are checked.
+pub type CheckedPaths<'a> = Inputs<&'a str, Option<&'a str>, Option<&'a str>>;
 
 // The texts of the files that are given.
 type Texts = Inputs<Vec<u8>, Option<Vec<u8>>, Option<Vec<u8>>>;
 
 // Opens the files in the order of their numbers, and reads them.
-fn read_given(rt: &HostRuntime, words: &CheckWords<'_>) -> Result<Texts, Ending> {
+fn read_given(rt: &HostRuntime, paths: &CheckedPaths<'_>) -> Result<Texts, Ending> {
     Ok(Inputs {
-        sheet: text_of(rt, words.sheet, Device::Sheet)?,
-        books: text_if_given(rt, words.books, Device::Books)?,
-        batch: text_if_given(rt, words.batch, Device::Batch)?,
+        sheet: text_of(rt, paths.sheet, Device::Sheet)?,
+        books: text_if_given(rt, paths.books, Device::Books)?,
+        batch: text_if_given(rt, paths.batch, Device::Batch)?,
     })
 }
 
@@ -38,8 +57,8 @@ fn text_if_given(
     }
 }
 
-// The ending where a file can't be read; why, is printed.
-fn unread(rt: &HostRuntime, ending: Ending) -> Ending {
+/// The ending of a check where a file can't be read or is refused; why, is printed.
+pub fn unread(rt: &HostRuntime, ending: Ending) -> Ending {
     match ending {
         Ending::InWords(numbers, line) => match told(rt, line) {
             Ok(()) => Ending::Bare(numbers),
@@ -57,17 +76,16 @@ fn told(rt: &HostRuntime, mut line: String) -> Result<(), Ending> {
     print(rt, line.as_str().as_bytes())
 }
 
-// The same of texts that were read.
-fn check_texts(rt: &HostRuntime, words: &CheckWords<'_>, texts: &Texts) -> Result<(), Ending> {
-    let files = Inputs {
-        sheet: texts.sheet.as_slice(),
-        books: texts.books.as_ref().map(|text| text.as_slice()),
-        batch: texts.batch.as_ref().map(|text| text.as_slice()),
-    };
+/// Prints what is found of texts that were read.
+pub fn check_texts(
+    rt: &HostRuntime,
+    paths: &CheckedPaths<'_>,
+    files: &Files<'_>,
+) -> Result<(), Ending> {
     let shown = Inputs {
-        sheet: shown_path(rt.alloc(), words.sheet)?,
-        books: shown_path(rt.alloc(), words.books.unwrap_or(""))?,
-        batch: shown_path(rt.alloc(), words.batch.unwrap_or(""))?,
+        sheet: shown_path(rt.alloc(), paths.sheet)?,
+        books: shown_path(rt.alloc(), paths.books.unwrap_or(""))?,
+        batch: shown_path(rt.alloc(), paths.batch.unwrap_or(""))?,
     };
     let names = shown.as_ref().map(|name| name.as_str());
     let Checked {
@@ -75,7 +93,7 @@ fn check_texts(rt: &HostRuntime, words: &CheckWords<'_>, texts: &Texts) -> Resul
         refusal,
         has_warnings,
         warnings: _,
-    } = rx_check::check(rt.alloc(), &files, &names)?;
+    } = rx_check::check(rt.alloc(), files, &names)?;
     print(rt, text.as_str().as_bytes())?;
     match refusal {
         Some(fault) => Err(Ending::from(fault)),

@@ -7,13 +7,15 @@ use crate::refused_text::{GivenTexts, refused_response};
 use crate::run_gate::RunGate;
 use crate::shown_path::shown_path;
 use crate::standard_output::{print, print_outcome};
+use crate::switch_inputs::refused_batch;
 use crate::texts::{
     open_and_read, open_each, opened, read_each, read_opened, slices, text_in, text_of,
 };
+use crate::{plans_explained, plans_reported, plans_verified};
 use rx_check::fault_numbered;
 use rx_cli::{
-    Asked, ExplainWords, FaultNumbers, Form as FormWords, Portion as PortionWords, ReportWords,
-    ShowWords, VerifyWords, WordsFault,
+    Asked, ComparedFiles, ExplainWords, FaultNumbers, Form as FormWords, GivenInputs,
+    Portion as PortionWords, ReportWords, ShowWords, VerifyWords, WordsFault,
 };
 use rx_commands::{
     ExplainFault, Form, Manner, Printed, PrintedFolder, PrintedReport, explain_for, family_asked,
@@ -22,7 +24,7 @@ use rx_commands::{
 };
 use rx_explain::Wanted;
 use rx_fields::{Memory, Provider, Stamp};
-use rx_io::{Device, Inputs};
+use rx_io::{Device, Inputs, Outputs};
 use rx_report::Portion;
 use rx_show::replies_text;
 use rx_switch::{Job, SwitchFault, plan_text, sample_line, show_text};
@@ -154,45 +156,47 @@ pub fn explain<R: Threads + Sync>(
     threads: &R,
     words: &ExplainWords<'_>,
 ) -> Result<(), Ending> {
+    let paths = match words.inputs {
+        GivenInputs::OnePlan(paths) => paths,
+        GivenInputs::Plans { plans, batch } => {
+            return plans_explained::explain(rt, threads, words, plans, batch);
+        }
+    };
     let reader = reader_by(words.for_provider)?;
-    let (texts, response) = read_explained(rt, &words.inputs, words.response)?;
+    let (texts, response) = read_explained(rt, &paths, words.response)?;
     let given = response.as_ref().map(|text| text.as_slice());
-    let printed = explained(rt, threads, words, &texts, reader, given);
-    let printed = printed.map_err(|fault| not_explained(
-        rt,
-        &words.inputs,
-        &texts,
-        words.response,
-        response.as_ref(),
-        fault,
-    ));
+    let printed = match explained(rt, threads, words, &slices(&texts), reader, given) {
+        Ok(printed) => Ok(printed),
+        Err(fault) => {
+            let path = words.response;
+            Err(not_explained(rt, &paths, &texts, path, response.as_ref(), fault))
+        }
+    };
     drop((texts, response));
     print_outcome(rt, printed?)
 }
 
-// What is printed, for the pharmacy that is named, if one is.
-fn explained<R: Threads + Sync>(
+/// What is printed of these inputs, for the pharmacy that is named, if one is.
+pub fn explained<'x, R: Threads + Sync>(
     rt: &HostRuntime,
     threads: &R,
     words: &ExplainWords<'_>,
-    texts: &Inputs<Vec<u8>>,
+    inputs: &Inputs<&'x [u8]>,
     reader: Option<Provider>,
     response: Option<&[u8]>,
 ) -> Result<Printed, ExplainFault> {
-    let (inputs, wanted) = (slices(texts), wanted_by(&words.asked));
+    let wanted = wanted_by(&words.asked);
     let (alloc, manner) = (rt.alloc(), manner_by(words));
     match reader {
-        None => rx_commands::explain(threads, alloc, &inputs, &wanted, response, manner),
+        None => rx_commands::explain(threads, alloc, inputs, &wanted, response, manner),
         Some(provider) => {
-            explain_for(
-                threads, alloc, &inputs, &wanted, &provider, response, manner,
-            )
+            explain_for(threads, alloc, inputs, &wanted, &provider, response, manner)
         }
     }
 }
 
-// The pharmacy that a text is for, if one is named.
-fn reader_by(id: Option<&str>) -> Result<Option<Provider>, Ending> {
+/// The pharmacy that a text is for, if one is named.
+pub fn reader_by(id: Option<&str>) -> Result<Option<Provider>, Ending> {
     let Some(id) = id else {
         return Ok(None);
     };
@@ -212,11 +216,16 @@ pub fn read_explained(
     path: Option<&str>,
 ) -> Result<(Inputs<Vec<u8>>, Option<Vec<u8>>), Ending> {
     let texts = read_each(rt, inputs)?;
-    let response = match path {
-        None => None,
-        Some(path) => Some(text_of(rt, path, Device::Response)?),
-    };
+    let response = response_given(rt, path)?;
     Ok((texts, response))
+}
+
+/// The text of the response file, if there is one.
+pub fn response_given(rt: &HostRuntime, path: Option<&str>) -> Result<Option<Vec<u8>>, Ending> {
+    match path {
+        None => Ok(None),
+        Some(path) => Ok(Some(text_of(rt, path, Device::Response)?)),
+    }
 }
 
 /// The ending where an input or the response file is refused.
@@ -263,18 +272,26 @@ pub fn report<R: Threads + Sync>(
     words: &ReportWords<'_>,
 ) -> Result<(), Ending> {
     need_reader(words)?;
-    let files = open_each(rt, &words.inputs)?;
+    let paths = match words.inputs {
+        GivenInputs::OnePlan(paths) => paths,
+        GivenInputs::Plans { plans, batch } => {
+            return plans_reported::report(rt, threads, words, plans, batch);
+        }
+    };
+    let files = open_each(rt, &paths)?;
     let nodes = files.as_ref().map(|file| Node::of(file));
-    let texts = read_opened(rt, &files, &words.inputs);
+    let texts = read_opened(rt, &files, &paths);
     drop(files);
     let texts = texts?;
     let printed = match words.form {
-        FormWords::Columns => report_in(rt, threads, words, &texts, Form::Columns),
-        FormWords::Tsv => report_in(rt, threads, words, &texts, Form::Tsv),
-        FormWords::Json => report_in(rt, threads, words, &texts, Form::Json),
-        FormWords::Jsonl => report_in(rt, threads, words, &texts, Form::Jsonl),
-        FormWords::Html => report_page(rt, threads, words, &texts),
-        FormWords::HtmlDir(folder) => return report_pages(rt, threads, words, texts, nodes, folder),
+        FormWords::Columns => report_in(rt, threads, words, &paths, &texts, Form::Columns),
+        FormWords::Tsv => report_in(rt, threads, words, &paths, &texts, Form::Tsv),
+        FormWords::Json => report_in(rt, threads, words, &paths, &texts, Form::Json),
+        FormWords::Jsonl => report_in(rt, threads, words, &paths, &texts, Form::Jsonl),
+        FormWords::Html => report_page(rt, threads, words, &paths, &texts),
+        FormWords::HtmlDir(folder) => {
+            return report_pages(rt, threads, words, &paths, texts, nodes, folder);
+        }
     };
     drop(texts);
     let printed = printed?;
@@ -297,25 +314,23 @@ fn need_reader(words: &ReportWords<'_>) -> Result<(), Ending> {
     }
 }
 
-// The stamp that is given; a text that is none is refused as by a run.
-fn stamp_by(
-    rt: &HostRuntime,
-    words: &ReportWords<'_>,
-    texts: &Inputs<Vec<u8>>,
-) -> Result<Option<Stamp>, Ending> {
-    stamp_asked(words.stamp).map_err(|fault| {
-        let given = GivenTexts {
-            paths: words.inputs,
-            texts: some_slices(texts),
-            stamp: words.stamp.unwrap_or(""),
-            workers: 0,
-        };
-        given.refused(rt, fault)
-    })
+/// The stamp that is given; a text that is none is refused as by a run.
+pub fn stamp_by(rt: &HostRuntime, words: &ReportWords<'_>) -> Result<Option<Stamp>, Ending> {
+    match stamp_asked(words.stamp) {
+        Ok(stamp) => Ok(stamp),
+        Err(fault) => {
+            let stamp = words.stamp.unwrap_or("");
+            Err(refused_batch(rt, "", &[], stamp, 0, fault))
+        }
+    }
 }
 
-// Ends where a portion has no line.
-fn need_lines(rt: &HostRuntime, portion: PortionWords<'_>, has_lines: bool) -> Result<(), Ending> {
+/// Ends where a portion has no line.
+pub fn need_lines(
+    rt: &HostRuntime,
+    portion: PortionWords<'_>,
+    has_lines: bool,
+) -> Result<(), Ending> {
     match asked_by(portion) {
         Some((option, id)) if !has_lines => Err(no_lines(rt, option, id)?),
         _ => Ok(()),
@@ -327,12 +342,13 @@ fn report_pages<R: Threads + Sync>(
     rt: &HostRuntime,
     threads: &R,
     words: &ReportWords<'_>,
+    paths: &Inputs<&str>,
     texts: Inputs<Vec<u8>>,
     nodes: Inputs<Node>,
     folder: &str,
 ) -> Result<(), Ending> {
-    let noted = Noted::of(rt, &words.inputs, &texts)?;
-    let printed = pages_of(rt, threads, words, &texts, &noted);
+    let noted = Noted::of(rt, paths, &texts)?;
+    let printed = pages_of(rt, threads, words, paths, &texts, &noted);
     drop((noted, texts));
     let printed = printed?;
     need_lines(rt, words.portion, printed.has_lines)?;
@@ -344,18 +360,19 @@ fn report_pages<R: Threads + Sync>(
     }
 }
 
-fn pages_of<R: Threads + Sync>(
+fn pages_of<'x, R: Threads + Sync>(
     rt: &HostRuntime,
     threads: &R,
     words: &ReportWords<'_>,
+    paths: &'x Inputs<&'x str>,
     texts: &Inputs<Vec<u8>>,
-    noted: &Noted,
+    noted: &'x Noted,
 ) -> Result<PrintedFolder, Ending> {
-    let stamp = stamp_by(rt, words, texts)?;
-    let origin = noted.origin(&words.inputs)?;
+    let stamp = stamp_by(rt, words)?;
+    let origin = noted.origin(paths)?;
     let portion = portion_by(words.portion);
     let printed = report_folder(threads, rt.alloc(), origin, &slices(texts), portion, stamp);
-    printed.map_err(|fault| refused(rt, &words.inputs, texts, fault))
+    printed.map_err(|fault| refused(rt, paths, texts, fault))
 }
 
 // The option that asks for a portion, and its ID.
@@ -380,11 +397,12 @@ fn report_page<R: Threads + Sync>(
     rt: &HostRuntime,
     threads: &R,
     words: &ReportWords<'_>,
+    paths: &Inputs<&str>,
     texts: &Inputs<Vec<u8>>,
 ) -> Result<PrintedReport, Ending> {
-    let noted = Noted::of(rt, &words.inputs, texts)?;
-    let form = Form::Html(noted.origin(&words.inputs)?);
-    let printed = report_in(rt, threads, words, texts, form);
+    let noted = Noted::of(rt, paths, texts)?;
+    let form = Form::Html(noted.origin(paths)?);
+    let printed = report_in(rt, threads, words, paths, texts, form);
     drop(noted);
     printed
 }
@@ -394,16 +412,18 @@ fn report_in<R: Threads + Sync>(
     rt: &HostRuntime,
     threads: &R,
     words: &ReportWords<'_>,
+    paths: &Inputs<&str>,
     texts: &Inputs<Vec<u8>>,
     form: Form<'_>,
 ) -> Result<PrintedReport, Ending> {
-    let stamp = stamp_by(rt, words, texts)?;
+    let stamp = stamp_by(rt, words)?;
     let portion = portion_by(words.portion);
     let printed = rx_commands::report(threads, rt.alloc(), &slices(texts), portion, form, stamp);
-    printed.map_err(|fault| refused(rt, &words.inputs, texts, fault))
+    printed.map_err(|fault| refused(rt, paths, texts, fault))
 }
 
-fn portion_by(words: PortionWords<'_>) -> Portion<'_> {
+/// Which lines a report has.
+pub fn portion_by(words: PortionWords<'_>) -> Portion<'_> {
     match words {
         PortionWords::Whole => Portion::Whole,
         PortionWords::Provider(id) | PortionWords::ForProvider(id) => provider_asked(id),
@@ -411,16 +431,34 @@ fn portion_by(words: PortionWords<'_>) -> Portion<'_> {
     }
 }
 
-/// Does a run again and prints whether the files of an earlier one are what it gives.
+/// Does a run again, of one plan or of several, and prints whether the files of an earlier one are what it gives.
 pub fn verify<R: Threads + Wait + Sync>(
     rt: &HostRuntime,
     threads: &R,
     words: &VerifyWords<'_>,
 ) -> Result<(), Ending> {
-    let inputs = read_each(rt, &words.inputs)?;
-    let outputs = words
-        .outputs
-        .try_map(|device, path| text_of(rt, path, device))?;
+    match words.files {
+        ComparedFiles::OnePlan { inputs, outputs } => {
+            verify_run(rt, threads, words, inputs, outputs)
+        }
+        ComparedFiles::Plans {
+            plans,
+            batch,
+            response,
+            settlement,
+        } => plans_verified::verify(rt, threads, words, (plans, batch), (response, settlement)),
+    }
+}
+
+fn verify_run<'x, R: Threads + Wait + Sync>(
+    rt: &HostRuntime,
+    threads: &R,
+    words: &'x VerifyWords<'x>,
+    paths: Inputs<&'x str>,
+    compared: Outputs<&'x str>,
+) -> Result<(), Ending> {
+    let inputs = read_each(rt, &paths)?;
+    let outputs = compared.try_map(|device, path| text_of(rt, path, device))?;
     let job = Job {
         sheet: &inputs.sheet,
         books: &inputs.books,
@@ -435,7 +473,7 @@ pub fn verify<R: Threads + Wait + Sync>(
     let files = outputs.as_ref().map(|text| text.as_slice());
     let printed = rx_commands::verify(threads, rt.alloc(), &gate, &job, &files);
     let given = GivenTexts {
-        paths: words.inputs,
+        paths,
         texts: some_slices(&inputs),
         stamp: words.stamp,
         workers: words.workers,

@@ -2,10 +2,9 @@
 use crate::commands::refused;
 use crate::ending::{Ending, Numbers};
 use crate::file_fault::FileFault;
-use crate::files::open_input;
 use crate::refused_text::GivenTexts;
 use crate::standard_output::print;
-use crate::texts::{bytes_in, read_each, slices};
+use crate::texts::{bytes_of, read_each, slices};
 use rx_cli::{CompareForm as FormWords, CompareWords};
 use rx_commands::{CompareFault, CompareForm, Others};
 use rx_fields::Memory;
@@ -46,15 +45,10 @@ fn other_text(
     let Some(path) = path else {
         return Ok(None);
     };
-    match text_at(rt, path, device) {
+    match bytes_of(rt, path, device) {
         Ok(text) => Ok(Some(text)),
         Err(ending) => Err(ending.at_label(rt, option, path)),
     }
-}
-
-fn text_at(rt: &HostRuntime, path: &str, device: Device) -> Result<Vec<u8>, Ending> {
-    let file = open_input(rt, path, device)?;
-    bytes_in(rt, &file, device)
 }
 
 fn given_or<'a>(text: Option<&'a Vec<u8>>, other: &'a [u8]) -> &'a [u8] {

@@ -7,15 +7,17 @@
 //!     [--desk] [--safe] [--log F [--sums]] [-v]     adjudicates a batch
 //! rxbatch show --sheet F --batch F [--tsv]          a line for each transaction
 //! rxbatch plan --sheet F --books F --batch F        the waves of the records, and the chain
-//! rxbatch check --sheet F [--books F] [--batch F]   the faults of these files in words, and warnings
-//! rxbatch explain --sheet F --books F --batch F (--record P[.N] | --number A | --rx R [--provider ID])
+//! rxbatch check (--sheet F [--books F] | --plans F) [--batch F]
+//!                                                   the faults of these files in words, and warnings
+//! rxbatch explain (--sheet F --books F | --plans F) --batch F (--record P[.N] | --number A | --rx R [--provider ID])
 //!     [--response F] [--json] [--for-provider ID]   why a claim was answered as it was
 //! rxbatch excerpt --sheet F --books F --batch F --record P --out DIR [--response F]
 //!                                                   a record with what it hangs on, a job of its own
-//! rxbatch verify --sheet F --books F --batch F --stamp S --response F --books-out F --settlement F [--plain]
+//! rxbatch verify (--sheet F --books F --books-out F | --plans F) --batch F --stamp S --response F --settlement F [--plain]
 //!     [--desk] [--workers N]                        whether the files of a run are what it gives
-//! rxbatch report --sheet F --books F --batch F [--stamp S] [--provider ID | --family ID | --for-provider ID] [--tsv | --json | --jsonl |
-//!     --html | --html-dir DIR]                      a line for each answer, by provider, with counts and net
+//! rxbatch report (--sheet F --books F | --plans F) --batch F [--stamp S] [--provider ID | --family ID | --for-provider ID]
+//!     [--tsv | --json | --jsonl | --html | --html-dir DIR]
+//!                                                   a line for each answer, by provider, with counts and net
 //! rxbatch members (--books F | --period FIRST-LAST) --members F --books-out F [--safe]
 //!                                                   a table of members loaded into books
 //! rxbatch age --books F --before DAY [--period FIRST-LAST] (--sheet F | --refill-percent N) --books-out F --dropped F
@@ -24,6 +26,8 @@
 //!                                                   a family's members, claims and sums
 //! rxbatch route --plans F --batch F --stamp S [--workers N] --response F --settlement F [--safe] [-v] [--log F]
 //!                                                   adjudicates a batch for several plans
+//! rxbatch join --plans F --batch F --response F --settlement F [--safe]
+//!                                                   joins the response files of several plans' runs
 //! rxbatch replies --response F                      a line for each answer of a response file
 //! rxbatch compare --sheet F [--with-sheet F] --books F [--with-books F] --batch F [--tsv | --json]
 //!                                                   which answers another sheet or other books would change
@@ -51,6 +55,7 @@ mod fault_line;
 mod file_fault;
 mod files;
 mod in_place;
+mod join_files;
 mod kept_file;
 mod log_file;
 mod moment;
@@ -63,8 +68,13 @@ mod outputs;
 mod page_folder;
 mod paths_apart;
 mod places;
+mod plan_json;
 mod plan_words;
+mod plans_checked;
+mod plans_explained;
 mod plans_file;
+mod plans_reported;
+mod plans_verified;
 mod read_again;
 mod refused_text;
 mod route_files;
@@ -137,6 +147,7 @@ fn perform<R: Threads + Wait + Sync>(rt: &HostRuntime, threads: &R) -> Result<()
         Ok(Command::Age(words)) => upkeep_files::age(rt, threads, &words),
         Ok(Command::ShowFamily(words)) => family_files::family(rt, threads, &words),
         Ok(Command::Route(words)) => route_files::route(rt, threads, &words),
+        Ok(Command::Join(words)) => join_files::join(rt, threads, &words),
         Ok(Command::Replies(path)) => commands::replies(rt, path),
         Ok(Command::Compare(words)) => compare::compare(rt, threads, &words),
         Ok(Command::Settle(words)) => settle::settle(rt, &words),

@@ -87,16 +87,25 @@ pub fn refused_response<'x>(
     text: &'x [u8],
     fault: BatchFault,
 ) -> Ending {
+    let ending = Ending::of_response(fault);
+    match response_words(rt, path, text, fault) {
+        Ok(line) => ending.in_words(line),
+        Err(Memory) => ending,
+    }
+}
+
+/// Its words.
+pub fn response_words<'x>(
+    rt: &HostRuntime,
+    path: &'x str,
+    text: &'x [u8],
+    fault: BatchFault,
+) -> Result<String, Memory> {
     let quoted = match fault {
         BatchFault::HeaderShape { .. } => None,
         _ => Some(text),
     };
     let paths = inputs("", "", path);
     let texts = inputs(None, None, quoted);
-    let given = GivenTexts::of(paths, texts);
-    let ending = Ending::of_response(fault);
-    match given.words(rt, SwitchFault::Batch(fault)) {
-        Ok(line) => ending.in_words(line),
-        Err(Memory) => ending,
-    }
+    GivenTexts::of(paths, texts).words(rt, SwitchFault::Batch(fault))
 }

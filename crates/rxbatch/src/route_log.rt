@@ -192,7 +192,7 @@ fn plan_inputs(
 ) -> Result<Inputs<SizedFile>, AllocError> {
     Ok(Inputs {
         sheet: SizedFile::of(alloc, plan.sheet.as_str(), &texts.sheet)?,
-        books: SizedFile::of(alloc, plan.books.as_str(), &texts.books)?,
+        books: SizedFile::of(alloc, plan.books.as_str(), texts.books.as_slice())?,
         batch: SizedFile::of(alloc, path, batch)?,
     })
 }

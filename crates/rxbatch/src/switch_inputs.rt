@@ -1,4 +1,4 @@
-//! What the command for several plans reads.
+//! What the commands for several plans read.
 use crate::ending::{Ending, Numbers};
 use crate::files::open_input;
 use crate::nodes::Node;
@@ -7,19 +7,35 @@ use crate::plan_words::{at_plan, plan_line};
 use crate::plans_file::{PLANS, SwitchPlans};
 use crate::refused_text::{GivenTexts, inputs};
 use crate::shown_path::shown_path;
-use crate::texts::{bytes_in, opened, text_in};
+use crate::texts::{bytes_in, bytes_of, opened, shared, text_in};
 use rx_fields::Memory;
 use rx_io::Device;
 use rx_sheet::PlanFiles;
 use rx_switch::{PlanJob, RouteFault, RouteJob, RouteOutput, SwitchFault, route};
 use std::alloc::Global;
+use std::sync::Arc;
 use std::thread::Threads;
 
 /// The texts of a plan.
 #[derive(Drop)]
 pub struct PlanTexts {
     pub sheet: Vec<u8>,
-    pub books: Vec<u8>,
+    pub books: Arc<Vec<u8>, Global>,
+}
+
+impl PlanTexts {
+    /// Those of a plan, whose files are known from then on.
+    pub fn read(
+        rt: &HostRuntime,
+        plan: &PlanFiles,
+        known: &mut KnownFiles,
+    ) -> Result<PlanTexts, Ending> {
+        let name = plan.name.as_str();
+        let sheet = text_at(rt, name, "sheet", plan.sheet.as_str(), Device::Sheet, known)?;
+        let books = text_at(rt, name, "books", plan.books.as_str(), Device::Books, known)?;
+        let books = shared(rt.alloc(), books)?;
+        Ok(PlanTexts { sheet, books })
+    }
 }
 
 /// The plans of a plans file, with their texts in the same order, and the batch. The files are known.
@@ -62,12 +78,34 @@ impl SwitchInputs {
             Err(RouteFault::Switch(fault)) => {
                 Err(refused_batch(rt, path, &self.batch, stamp, workers, fault))
             }
-            Err(RouteFault::Plan(number, fault)) => {
-                Err(refused_plan(rt, &self.plans, &self.texts, number, fault))
-            }
+            Err(RouteFault::Plan(number, fault)) => Err(self.refused(rt, path, number, fault)),
             Err(RouteFault::SameDoor { plan, earlier }) => {
                 Err(refused_door(rt, &self.plans, plan, earlier))
             }
+        }
+    }
+
+    /// The sheet and the books of the plan with this number.
+    pub fn texts_of(&self, number: usize) -> Result<(&[u8], &[u8]), Ending> {
+        match self.texts.get(number) {
+            Some(text) => Ok((text.sheet.as_slice(), text.books.as_slice())),
+            None => Err(Ending::from(Memory)),
+        }
+    }
+
+    /// The ending where the plan with this number, or the batch at this path, is refused.
+    pub fn refused(
+        &self,
+        rt: &HostRuntime,
+        path: &str,
+        number: usize,
+        fault: SwitchFault,
+    ) -> Ending {
+        match (fault, self.plans.get(number), self.texts.get(number)) {
+            (SwitchFault::Sheet(_) | SwitchFault::Books(_), Some(plan), Some(text)) => {
+                refused_plan(rt, plan, &text.sheet, text.books.as_slice(), fault)
+            }
+            _ => refused_batch(rt, path, &self.batch, "", 0, fault),
         }
     }
 }
@@ -80,16 +118,27 @@ fn read_texts(
 ) -> Result<Vec<PlanTexts>, Ending> {
     let mut texts = Vec::with_capacity(rt.alloc(), plans.len())?;
     for plan in plans {
-        let name = plan.name.as_str();
-        let sheet = text_at(rt, name, "sheet", plan.sheet.as_str(), Device::Sheet, known)?;
-        let books = text_at(rt, name, "books", plan.books.as_str(), Device::Books, known)?;
-        texts.push(PlanTexts { sheet, books })?;
+        texts.push(PlanTexts::read(rt, plan, known)?)?;
     }
     Ok(texts)
 }
 
-// The whole text of the file at a key of a plan, which is known from then on.
-fn text_at(
+/// The whole text of the file at a key of a plan.
+pub fn plan_text(
+    rt: &HostRuntime,
+    name: &str,
+    key: &str,
+    path: &str,
+    device: Device,
+) -> Result<Vec<u8>, Ending> {
+    match bytes_of(rt, path, device) {
+        Ok(text) => Ok(text),
+        Err(ending) => Err(at_plan(rt, name, key, path, ending)),
+    }
+}
+
+/// The same of a file that is known from then on.
+pub fn text_at(
     rt: &HostRuntime,
     name: &str,
     key: &str,
@@ -108,8 +157,8 @@ fn text_at(
     }
 }
 
-// Reads the batch file, which is known from then on.
-fn read_batch(rt: &HostRuntime, path: &str, known: &mut KnownFiles) -> Result<Vec<u8>, Ending> {
+/// Reads the batch file, which is known from then on.
+pub fn read_batch(rt: &HostRuntime, path: &str, known: &mut KnownFiles) -> Result<Vec<u8>, Ending> {
     let file = opened(rt, path, Device::Batch)?;
     let label = String::from_str(rt.alloc(), "--batch")?;
     known.add_input(rt, label, Node::of(&file))?;
@@ -125,7 +174,7 @@ fn jobs_of<'x>(alloc: Global, texts: &'x [PlanTexts]) -> Result<Vec<PlanJob<'x>>
     Ok(jobs)
 }
 
-fn job_of<'x>(sheet: &'x [u8], books: &'x [u8]) -> PlanJob<'x> {
+fn job_of<'x>(sheet: &'x [u8], books: &'x Arc<Vec<u8>, Global>) -> PlanJob<'x> {
     PlanJob { sheet, books }
 }
 
@@ -147,8 +196,8 @@ fn route_jobs<'x, R: Threads + Sync>(
     route(threads, rt.alloc(), &job)
 }
 
-// The ending where the batch, the stamp or the workers are refused: the numbers, and then the words.
-fn refused_batch<'x>(
+/// The ending where the batch, the stamp or the workers are refused: the numbers, and then the words.
+pub fn refused_batch<'x>(
     rt: &HostRuntime,
     path: &'x str,
     text: &'x [u8],
@@ -167,18 +216,15 @@ fn refused_batch<'x>(
     given.refused(rt, fault)
 }
 
-// The ending where the sheet or the books of a plan are refused: the numbers, and then the words with the plan's name.
-fn refused_plan(
+/// The ending where the sheet or the books of a plan are refused: the numbers, and then the words with the plan's name.
+pub fn refused_plan<'x>(
     rt: &HostRuntime,
-    plans: &[PlanFiles],
-    texts: &[PlanTexts],
-    number: usize,
+    plan: &'x PlanFiles,
+    sheet: &'x [u8],
+    books: &'x [u8],
     fault: SwitchFault,
 ) -> Ending {
-    let (Some(plan), Some(text)) = (plans.get(number), texts.get(number)) else {
-        return Ending::from(fault);
-    };
-    match plan_fault_words(rt, plan, &text.sheet, &text.books, fault) {
+    match plan_fault_words(rt, plan, sheet, books, fault) {
         Ok(line) => Ending::from(fault).in_words(line),
         Err(Memory) => Ending::from(fault),
     }
@@ -197,8 +243,8 @@ fn plan_fault_words<'x>(
     plan_line(rt.alloc(), plan.name.as_str(), line.as_str())
 }
 
-// The ending where a plan has the BIN and the processor control number of an earlier one.
-fn refused_door(rt: &HostRuntime, plans: &[PlanFiles], plan: usize, earlier: usize) -> Ending {
+/// The ending where a plan has the BIN and the processor control number of an earlier one.
+pub fn refused_door(rt: &HostRuntime, plans: &[PlanFiles], plan: usize, earlier: usize) -> Ending {
     let numbers = Numbers::Refused([PLANS, 6, (plan as u64).saturating_add(1)]);
     match door_words(rt.alloc(), plans, plan, earlier) {
         Ok(line) => Ending::InWords(numbers, line),

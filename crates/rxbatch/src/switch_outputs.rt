@@ -1,4 +1,4 @@
-//! What the command for several plans writes.
+//! What the commands for several plans write.
 use crate::ending::Ending;
 use crate::file_fault::ProgramFile;
 use crate::nodes::Node;
@@ -39,12 +39,25 @@ pub fn add_plan_outputs(
         let name = plan.name.as_str();
         let books = plan_line(rt.alloc(), name, "books_out")?;
         known.add_output(rt, books, plan.books_out.as_str(), END_BOOKS, safe)?;
-        if let Some(path) = &plan.settlement {
-            let settlement = plan_line(rt.alloc(), name, "settlement")?;
-            known.add_output(rt, settlement, path.as_str(), SETTLEMENT, safe)?;
-        }
+        add_settlement(rt, plan, safe, known)?;
     }
     Ok(())
+}
+
+/// The settlement of a plan is known from then on, where it is named.
+pub fn add_settlement(
+    rt: &HostRuntime,
+    plan: &PlanFiles,
+    safe: bool,
+    known: &mut KnownFiles,
+) -> Result<(), Ending> {
+    match &plan.settlement {
+        Some(path) => {
+            let settlement = plan_line(rt.alloc(), plan.name.as_str(), "settlement")?;
+            known.add_output(rt, settlement, path.as_str(), SETTLEMENT, safe)
+        }
+        None => Ok(()),
+    }
 }
 
 /// Writes the response file and the settlement of all plans.
@@ -83,6 +96,24 @@ pub fn write_plan<'x>(
             write_texts(rt, &[first, last], safe, kept)
         }
         None => write_texts(rt, &[last], safe, kept),
+    }
+}
+
+/// Writes the settlement of a plan, where it is named.
+pub fn write_settlement<'x>(
+    rt: &HostRuntime,
+    plan: &'x PlanFiles,
+    settlement: &'x [u8],
+    safe: bool,
+    kept: &[Node],
+) -> Result<(), Ending> {
+    match &plan.settlement {
+        Some(path) => {
+            let label = plan_line(rt.alloc(), plan.name.as_str(), "settlement")?;
+            let only = output_text(SETTLEMENT, label, path.as_str(), settlement);
+            write_texts(rt, &[only], safe, kept)
+        }
+        None => Ok(()),
     }
 }
 

@@ -2,10 +2,13 @@
 use crate::ending::Ending;
 use crate::files::open_input;
 use crate::noted_file::{LastError, noted_input};
+use rx_fields::Memory;
 use rx_io::{Device, Inputs};
 use rx_switch::read_all;
+use std::alloc::Global;
 use std::cell::Cell;
 use std::fs::File;
+use std::sync::Arc;
 
 /// The file at a path, opened. One that can't be opened is reported in words too.
 pub fn opened(rt: &HostRuntime, path: &str, device: Device) -> Result<File, Ending> {
@@ -33,6 +36,17 @@ pub fn bytes_in(rt: &HostRuntime, file: &File, device: Device) -> Result<Vec<u8>
     let last: LastError = Cell::new(None);
     let mut source = noted_input(file, &last);
     read_all(rt.alloc(), &mut source, device).map_err(|fault| Ending::of_run(fault, last.get()))
+}
+
+/// The whole text of the file at a path. One that can't be opened or read is reported without words.
+pub fn bytes_of(rt: &HostRuntime, path: &str, device: Device) -> Result<Vec<u8>, Ending> {
+    let file = open_input(rt, path, device)?;
+    bytes_in(rt, &file, device)
+}
+
+/// A text that several threads read.
+pub fn shared(alloc: Global, text: Vec<u8>) -> Result<Arc<Vec<u8>, Global>, Memory> {
+    Arc::new(alloc, text).map_err(|_| Memory)
 }
 
 /// Opens and reads the inputs of a job, one after another in the order of their numbers.

@@ -6,7 +6,7 @@ use crate::kept_file::KeptFile;
 use crate::moment::workers_or_all;
 use crate::nodes::Node;
 use crate::standard_output::print;
-use crate::texts::{bytes_in, opened, text_in};
+use crate::texts::{bytes_in, opened, shared, text_in};
 use crate::two_outputs::TwoOutputs;
 use crate::upkeep_values::{day_in, percent_in, percent_of_sheet, period_in};
 use crate::upkeep_words::Given;
@@ -96,7 +96,7 @@ fn first_books<R: Threads + Sync>(
 // The whole text of opened books, to be shared with the end books.
 fn shared_text(rt: &HostRuntime, books: &File, path: &str) -> Result<Arc<Vec<u8>, Global>, Ending> {
     let text = text_in(rt, books, path, Device::Books)?;
-    Ok(Arc::new(rt.alloc(), text).map_err(|_| Memory)?)
+    Ok(shared(rt.alloc(), text)?)
 }
 
 fn open_table(rt: &HostRuntime, path: &str) -> Result<File, Ending> {

@@ -5,7 +5,7 @@ use Rattle.std.proofs.lemmas.Result.{IfOk-weaker}
 use Rattle.rx_report.specs.Accounts.{IsAccount, is_in, parts_of}
 use Rattle.rx_report.specs.Groups.{grouped}
 use Rattle.rx_report.specs.declared.line.Line.{Line}
-use Rattle.rx_commands.proofs.Accounted.{adds_up}
+use Rattle.rx_commands.proofs.Accounted.{counted_up}
 use Rattle.rx_commands.specs.Tiers.{table_of_text}
 use Rattle.rx_commands.specs.Forms.{IsText, kept_of}
 use Rattle.rx_commands.proofs.report_forms.text_in_form.Goals as goal
@@ -22,7 +22,7 @@ returns c =
     let of_lines = subst (λ (ls : List Line). IsAccount p r.settled ls groups sections account.total)
     (c.deref-3.ensures.value ∙ lines) c.in_ok-account.ensures in
     let of_groups = subst (λ gs. IsAccount p r.settled (kept_of p r) gs sections account.total) grouped_so of_lines in
-    let sums = adds_up p r sections account.total c.requires.adjudicated c.requires.counted of_groups in
+    let sums = counted_up p r sections account.total c.requires.counted of_groups in
     IfOk-weaker c.with_lines.result _ _
     (λ printed h. record {
       in_form = record {

@@ -6,7 +6,7 @@ use Rattle.rx_switch.specs.RouteParts.{opened, plan_texts}
 use Rattle.rx_switch.specs.RouteRefused.IsNotRouted.{memory}
 use Rattle.rx_switch.specs.Routed.{AreAccepted, PlanTexts}
 use Rattle.rx_switch.proofs.Opening.{accepted_next, is_next, numbered_next}
-use Rattle.rx_switch.proofs.open_plans.open_plans.Goals as goal
+use Rattle.rx_switch.proofs.open_plans.open_each.Goals as goal
 
 pub returns-in_err-next-clause-refused : goal.returns-in_err-next-clause-refused
 returns-in_err-next-clause-refused g c switch s stamped given =
@@ -15,8 +15,8 @@ returns-in_err-next-clause-refused g c switch s stamped given =
     let inv = c.loop-plan.invariant in
     let low : at < length c.args.plans.now = omega arith in
     let refused = rw c.deref.ensures.value at c.in_err-next.ensures.refused in
-    rw (p.1, p.2) (refused switch (is_next c.args.plans.now c.loop-plan.so_far.items at _ low inv.accepted switch s stamped given
-    inv.count))
+    rw (p.1, p.2) (refused switch (is_next c.args.plans.now c.loop-plan.so_far.items at _ c.plan-item.is low inv.accepted switch s
+    stamped given inv.count))
 
 pub returns-in_err-push-clause-refused : goal.returns-in_err-push-clause-refused
 returns-in_err-push-clause-refused g c switch s stamped given =
@@ -36,7 +36,7 @@ loop-plan-preserved g c =
     let long = length-append so_far (next ∷ []) in
     let count = inv.count in
     record {
-      accepted = rw pushed (accepted_next c.args.plans.now so_far at _ low inv.accepted
+      accepted = rw pushed (accepted_next c.args.plans.now so_far at _ c.plan-item.is low inv.accepted
           next c.in_ok-next.ensures.opened alone);
       numbered = rw pushed (numbered_next so_far
           next inv.numbered number);

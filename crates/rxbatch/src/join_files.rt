@@ -1,0 +1,242 @@
+//! The command that joins the response files of several plans' runs.
+use crate::ending::{Ending, Numbers};
+use crate::paths_apart::KnownFiles;
+use crate::plan_words::plan_line;
+use crate::plans_file::{PLANS, SwitchPlans};
+use crate::refused_text::response_words;
+use crate::shown_path::shown_path;
+use crate::switch_inputs::{read_batch, refused_batch, refused_door, refused_plan, text_at};
+use crate::switch_outputs::{add_common_outputs, add_settlement, write_common, write_settlement};
+use rx_cli::JoinWords;
+use rx_fields::Memory;
+use rx_io::Device;
+use rx_sheet::PlanFiles;
+use rx_switch::{
+    BatchFault, JoinFault, JoinJob, JoinOutput, PlanResponse, SwitchFault, join as join_texts,
+};
+use std::alloc::Global;
+use std::thread::Threads;
+
+// The first number of response files that aren't joined (docs/CLI.md, "Refusals").
+const JOIN: u64 = 11;
+
+// What was read of a plan.
+#[derive(Drop)]
+struct RunTexts {
+    sheet: Vec<u8>,
+    response: Vec<u8>,
+}
+
+// The plans of a plans file, with their texts in the same order, and the batch. The files are known.
+#[derive(Drop)]
+struct JoinInputs {
+    plans: Vec<PlanFiles>,
+    texts: Vec<RunTexts>,
+    batch: Vec<u8>,
+    known: KnownFiles,
+}
+
+/// Joins the response files of several plans' runs. Nothing is written where a file is refused. The outputs of all plans are
+/// written first, and then the settlement of each.
+pub fn join<R: Threads + Sync>(
+    rt: &HostRuntime,
+    threads: &R,
+    words: &JoinWords<'_>,
+) -> Result<(), Ending> {
+    let files = &words.files;
+    let mut inputs = JoinInputs::read(rt, files.plans, files.batch)?;
+    add_common_outputs(rt, files, words.safe, &mut inputs.known)?;
+    for plan in &inputs.plans {
+        add_settlement(rt, plan, words.safe, &mut inputs.known)?;
+    }
+    let output = inputs.join(rt, threads, files.batch)?;
+    let kept = inputs.known.nodes();
+    let paths = (files.response, files.settlement);
+    let texts = (output.response.as_slice(), output.settlement.as_slice());
+    write_common(rt, paths, texts, words.safe, kept)?;
+    for (plan, settlement) in inputs.plans.iter().zip(output.settlements.iter()) {
+        write_settlement(rt, plan, settlement, words.safe, kept)?;
+    }
+    Ok(())
+}
+
+impl JoinInputs {
+    // Reads the plans file, plan by plan its sheet and its response file, and the batch file.
+    fn read(rt: &HostRuntime, plans: &str, batch: &str) -> Result<JoinInputs, Ending> {
+        let SwitchPlans { plans, node } = SwitchPlans::read(rt, plans)?;
+        let mut known = KnownFiles::new(rt.alloc());
+        known.add_input(rt, String::from_str(rt.alloc(), "--plans")?, node)?;
+        let mut texts = Vec::with_capacity(rt.alloc(), plans.len())?;
+        for plan in &plans {
+            let text = read_run(rt, plan, texts.len(), &mut known)?;
+            texts.push(text)?;
+        }
+        let batch = read_batch(rt, batch, &mut known)?;
+        Ok(JoinInputs {
+            plans,
+            texts,
+            batch,
+            known,
+        })
+    }
+
+    // The texts of the outputs. The path is that of the batch.
+    fn join<R: Threads + Sync>(
+        &self,
+        rt: &HostRuntime,
+        threads: &R,
+        path: &str,
+    ) -> Result<JoinOutput, Ending> {
+        let mut plans = Vec::with_capacity(rt.alloc(), self.texts.len())?;
+        for text in &self.texts {
+            plans.push(response_of(&text.sheet, &text.response))?;
+        }
+        match join_responses(rt, threads, &plans, &self.batch) {
+            Ok(output) => Ok(output),
+            Err(JoinFault::Batch(fault)) => {
+                let fault = SwitchFault::Batch(fault);
+                Err(refused_batch(rt, path, &self.batch, "", 0, fault))
+            }
+            Err(JoinFault::SameDoor { plan, earlier }) => {
+                Err(refused_door(rt, &self.plans, plan, earlier))
+            }
+            Err(fault) => Err(self.refused(rt, fault)),
+        }
+    }
+
+    // The ending where a plan is refused.
+    fn refused(&self, rt: &HostRuntime, fault: JoinFault) -> Ending {
+        let number = match fault {
+            JoinFault::Sheet(number, _)
+            | JoinFault::Response(number, _)
+            | JoinFault::OtherBatch(number)
+            | JoinFault::OtherStamp(number)
+            | JoinFault::OtherDetail(number, _)
+            | JoinFault::OtherReply(number, _) => number,
+            _ => return Ending::from(Memory),
+        };
+        match (self.plans.get(number), self.texts.get(number)) {
+            (Some(plan), Some(text)) => refused_run(rt, plan, &text.sheet, &text.response, fault),
+            _ => Ending::from(Memory),
+        }
+    }
+}
+
+// Reads the sheet and the response file of the plan with this number, which are known from then on.
+fn read_run(
+    rt: &HostRuntime,
+    plan: &PlanFiles,
+    number: usize,
+    known: &mut KnownFiles,
+) -> Result<RunTexts, Ending> {
+    let name = plan.name.as_str();
+    let Some(path) = &plan.response else {
+        return Err(no_response(rt, name, number));
+    };
+    let sheet = text_at(rt, name, "sheet", plan.sheet.as_str(), Device::Sheet, known)?;
+    let response = text_at(rt, name, "response", path.as_str(), Device::Response, known)?;
+    Ok(RunTexts { sheet, response })
+}
+
+// The ending where the plans file names no response file of a plan.
+fn no_response(rt: &HostRuntime, name: &str, number: usize) -> Ending {
+    let numbers = Numbers::Refused([PLANS, 4, (number as u64).saturating_add(1)]);
+    let why = "response is missing: join takes the response file of each plan's own run";
+    in_words(numbers, plan_line(rt.alloc(), name, why))
+}
+
+fn in_words(numbers: Numbers, line: Result<String, Memory>) -> Ending {
+    match line {
+        Ok(line) => Ending::InWords(numbers, line),
+        Err(Memory) => Ending::Bare(numbers),
+    }
+}
+
+fn response_of<'x>(sheet: &'x [u8], response: &'x [u8]) -> PlanResponse<'x> {
+    PlanResponse { sheet, response }
+}
+
+fn join_responses<'x, R: Threads + Sync>(
+    rt: &HostRuntime,
+    threads: &R,
+    plans: &'x [PlanResponse<'x>],
+    batch: &'x [u8],
+) -> Result<JoinOutput, JoinFault> {
+    let job = JoinJob { plans, batch };
+    join_texts(threads, rt.alloc(), &job)
+}
+
+// The ending where the sheet or the response file of a plan is refused.
+fn refused_run<'x>(
+    rt: &HostRuntime,
+    plan: &'x PlanFiles,
+    sheet: &'x [u8],
+    response: &'x [u8],
+    fault: JoinFault,
+) -> Ending {
+    match fault {
+        JoinFault::Sheet(_, fault) => {
+            refused_plan(rt, plan, sheet, &[], SwitchFault::Sheet(fault))
+        }
+        JoinFault::Response(_, fault) => no_response_file(rt, plan, response, fault),
+        JoinFault::OtherBatch(_) => {
+            let why = "it answers another batch: its header isn't this batch's, sent back";
+            not_joined(rt, plan, 1, 0, why)
+        }
+        JoinFault::OtherStamp(_) => {
+            let why = "its stamp isn't that of the first plan's response file";
+            not_joined(rt, plan, 2, 0, why)
+        }
+        JoinFault::OtherDetail(_, place) => {
+            let why =
+                "its reference isn't that of the batch's record, or one of the two isn't there";
+            not_joined(rt, plan, 3, place, why)
+        }
+        JoinFault::OtherReply(_, place) => {
+            let why = "it holds no reply that this plan can give the batch's record";
+            not_joined(rt, plan, 4, place, why)
+        }
+        _ => Ending::from(Memory),
+    }
+}
+
+// The ending where the file isn't a response file.
+fn no_response_file<'x>(
+    rt: &HostRuntime,
+    plan: &'x PlanFiles,
+    response: &'x [u8],
+    fault: BatchFault,
+) -> Ending {
+    let ending = Ending::of_response(fault);
+    match response_words(rt, response_path(plan), response, fault) {
+        Ok(line) => match plan_line(rt.alloc(), plan.name.as_str(), line.as_str()) {
+            Ok(line) => ending.in_words(line),
+            Err(Memory) => ending,
+        },
+        Err(Memory) => ending,
+    }
+}
+
+fn response_path(plan: &PlanFiles) -> &str {
+    match &plan.response {
+        Some(path) => path.as_str(),
+        None => "",
+    }
+}
+
+// The ending where the response file of a plan isn't one to this batch: the number of the fault, the place of the record, 0
+// where it is of none, and why.
+fn not_joined(rt: &HostRuntime, plan: &PlanFiles, fault: u64, place: usize, why: &str) -> Ending {
+    let numbers = Numbers::Refused([JOIN, fault, place as u64]);
+    in_words(numbers, join_words(rt.alloc(), plan, place, why))
+}
+
+fn join_words(alloc: Global, plan: &PlanFiles, place: usize, why: &str) -> Result<String, Memory> {
+    let shown = shown_path(alloc, response_path(plan))?;
+    let line = if place == 0 {
+        format!(in alloc; "response {shown}: {why}")?
+    } else {
+        format!(in alloc; "response {shown}: record {place}: {why}")?
+    };
+    plan_line(alloc, plan.name.as_str(), line.as_str())
+}

@@ -1,0 +1,200 @@
+//! `report` for the plans of a plans file.
+use crate::commands::{need_lines, portion_by, stamp_by};
+use crate::ending::Ending;
+use crate::plan_json::{name_member, put_named_lines, put_object};
+use crate::plan_words::plan_head;
+use crate::refused_text::inputs;
+use crate::standard_output::print;
+use crate::switch_inputs::SwitchInputs;
+use rx_cli::{Form as FormWords, Portion as PortionWords, ReportWords};
+use rx_commands::{Form, PrintedReport, report_own};
+use rx_fields::{Memory, Stamp};
+use rx_print::{Style, put_escaped};
+use rx_switch::SwitchFault;
+use std::alloc::Global;
+use std::thread::Threads;
+
+// What a report of several plans is written as.
+#[derive(Clone, Copy, PartialEq, Eq)]
+enum PlansForm {
+    Columns,
+    Tsv,
+    Json,
+    Jsonl,
+}
+
+/// Prints a line for each answer to a plan's own records, below the plan's name or with it, in the form that is asked for. Of a
+/// portion there are only the plans that have lines of it. `--html` and `--html-dir` are of one plan.
+pub fn report<R: Threads + Sync>(
+    rt: &HostRuntime,
+    threads: &R,
+    words: &ReportWords<'_>,
+    plans: &str,
+    batch: &str,
+) -> Result<(), Ending> {
+    let form = form_by(words.form)?;
+    let given = SwitchInputs::read(rt, plans, batch)?;
+    let mut reports = Reports {
+        text: Vec::new(rt.alloc()),
+        count: 0,
+        form,
+    };
+    for number in 0..given.plans.len() {
+        let printed = report_by(rt, threads, &given, number, words, batch)?;
+        if printed.has_lines || words.portion == PortionWords::Whole {
+            reports.add(rt.alloc(), name_of(&given, number), &printed.text)?;
+        }
+    }
+    need_lines(rt, words.portion, reports.count > 0)?;
+    reports.end()?;
+    print(rt, &reports.text)
+}
+
+fn form_by(words: FormWords<'_>) -> Result<PlansForm, Ending> {
+    match words {
+        FormWords::Columns => Ok(PlansForm::Columns),
+        FormWords::Tsv => Ok(PlansForm::Tsv),
+        FormWords::Json => Ok(PlansForm::Json),
+        FormWords::Jsonl => Ok(PlansForm::Jsonl),
+        FormWords::Html | FormWords::HtmlDir(_) => Err(Ending::NoValue(
+            "--plans",
+            "a report without '--html' and '--html-dir', which are of one plan",
+        )),
+    }
+}
+
+fn name_of(given: &SwitchInputs, number: usize) -> &str {
+    match given.plans.get(number) {
+        Some(plan) => plan.name.as_str(),
+        None => "",
+    }
+}
+
+// The report of the plan with this number.
+fn report_by<R: Threads + Sync>(
+    rt: &HostRuntime,
+    threads: &R,
+    given: &SwitchInputs,
+    number: usize,
+    words: &ReportWords<'_>,
+    path: &str,
+) -> Result<PrintedReport, Ending> {
+    let stamp = stamp_by(rt, words)?;
+    let plan = given.texts_of(number)?;
+    match report_texts(rt, threads, plan, &given.batch, words, stamp) {
+        Ok(printed) => Ok(printed),
+        Err(fault) => Err(given.refused(rt, path, number, fault)),
+    }
+}
+
+// That of a plan's sheet and books and the batch.
+fn report_texts<'x, R: Threads + Sync>(
+    rt: &HostRuntime,
+    threads: &R,
+    plan: (&'x [u8], &'x [u8]),
+    batch: &'x [u8],
+    words: &ReportWords<'_>,
+    stamp: Option<Stamp>,
+) -> Result<PrintedReport, SwitchFault> {
+    let (sheet, books) = plan;
+    let form = match words.form {
+        FormWords::Tsv => Form::Tsv,
+        FormWords::Json => Form::Json,
+        FormWords::Jsonl => Form::Jsonl,
+        _ => Form::Columns,
+    };
+    let portion = portion_by(words.portion);
+    report_own(
+        threads,
+        rt.alloc(),
+        &inputs(sheet, books, batch),
+        portion,
+        form,
+        stamp,
+    )
+}
+
+// What is printed, so far of this many plans.
+#[derive(Drop)]
+struct Reports {
+    text: Vec<u8>,
+    count: usize,
+    form: PlansForm,
+}
+
+impl Reports {
+    // Adds the report of a plan.
+    fn add(&mut self, alloc: Global, name: &str, report: &[u8]) -> Result<(), Memory> {
+        match self.form {
+            PlansForm::Columns => self.add_columns(alloc, name, report)?,
+            PlansForm::Tsv => self.add_rows(name, report)?,
+            PlansForm::Json => self.add_object(alloc, name, report)?,
+            PlansForm::Jsonl => put_named_lines(alloc, &mut self.text, name, report)?,
+        }
+        self.count = self.count.saturating_add(1);
+        Ok(())
+    }
+
+    // Below the plan's name, after an empty line where an earlier plan's stands.
+    fn add_columns(&mut self, alloc: Global, name: &str, report: &[u8]) -> Result<(), Memory> {
+        if self.count > 0 {
+            self.text.push(b'\n')?;
+        }
+        let head = plan_head(alloc, name)?;
+        self.text.extend_from_slice(head.as_str().as_bytes())?;
+        self.text.extend_from_slice(report)?;
+        Ok(())
+    }
+
+    // Rows with the plan's name in the first column, the heading only once.
+    fn add_rows(&mut self, name: &str, report: &[u8]) -> Result<(), Memory> {
+        let mut is_heading = true;
+        for row in report.split(|byte| *byte == b'\n') {
+            if is_heading {
+                self.add_heading(row)?;
+            } else if !row.is_empty() {
+                put_escaped(&mut self.text, Style::Terminal, name.as_bytes())?;
+                self.add_cells(row)?;
+            }
+            is_heading = false;
+        }
+        Ok(())
+    }
+
+    fn add_heading(&mut self, row: &[u8]) -> Result<(), Memory> {
+        if self.count > 0 {
+            return Ok(());
+        }
+        self.text.extend_from_slice(b"plan")?;
+        self.add_cells(row)
+    }
+
+    fn add_cells(&mut self, row: &[u8]) -> Result<(), Memory> {
+        self.text.push(b'\t')?;
+        self.text.extend_from_slice(row)?;
+        self.text.push(b'\n')?;
+        Ok(())
+    }
+
+    // An object of the list `plans`.
+    fn add_object(&mut self, alloc: Global, name: &str, report: &[u8]) -> Result<(), Memory> {
+        if self.count == 0 {
+            self.text.extend_from_slice(b"{\"plans\":[\n")?;
+        } else {
+            self.text.extend_from_slice(b",\n")?;
+        }
+        let member = name_member(alloc, name)?;
+        if let [b'{', rest @ .., b'\n'] = report {
+            put_object(&mut self.text, member.as_str(), rest)?;
+        }
+        Ok(())
+    }
+
+    // Adds what stands after the last plan's.
+    fn end(&mut self) -> Result<(), Memory> {
+        if self.form == PlansForm::Json {
+            self.text.extend_from_slice(b"]}\n")?;
+        }
+        Ok(())
+    }
+}
