@@ -1,5 +1,5 @@
 -- Plumbing: open books: the books, and the fill keys that have a slot.
-use Rattle.std.specs.Prelude.{◌≡◌, List}
+use Rattle.std.specs.Prelude.{◌≡◌, ℕ, List, Some, slice_get}
 use Rattle.std.specs.List.{Contains}
 use Rattle.rx_fields.specs.Order.{key_cmp}
 use Rattle.rx_fields.specs.declared.key.Key.{Key}
@@ -36,6 +36,10 @@ books_over b s = record b { ledger = record b.ledger { rows = with_slot key_cmp 
 
 abbrev pub open_over : OpenParts → KeySlot → OpenParts
 open_over o s = record o { books = books_over o.books s }
+
+-- the place of a fill key's slot, if it has one
+abbrev pub IsSlotOf : OpenParts → Key → ℕ → Type 0
+IsSlotOf o key place = Contains o.slots key → slice_get o.slots place ≡ Some key
 
 -- what stands under these fill keys is what stands there in a ledger; all else is as it was
 pub record HasTaken (old : OpenParts) (from : Ledger) (keys : List Key) (new : OpenParts) : Type 0 where

@@ -96,14 +96,16 @@ impl Places {
         guesses
     }
 
-    /// Looks where a member is first looked for, by which the processor has it near. It promises nothing.
-    pub(crate) fn is_seen(&self, members: &[Member], key: &MemberKey) -> bool {
+    /// Looks where a member is first looked for, by which the processor has it near; true only where there are members.
+    pub(crate) fn is_seen(&self, members: &[Member], key: &MemberKey) -> bool
+        ensures { IsTrue result → 0 < length members.now }
+    {
         let at = nth_try(self.places.len(), hash_of(key), 0);
         let place = self.places.get(at).copied().unwrap_or(EMPTY);
-        match members.get(place as usize) {
-            Some(member) => !member.key.family.bytes().is_empty(),
-            None => false,
-        }
+        let Some(member) = members.get(place as usize) else {
+            return false;
+        };
+        !member.key.family.bytes().is_empty()
     }
 
     // The place of a member, where it is at one of those that its hash gives.

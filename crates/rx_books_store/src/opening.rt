@@ -1,5 +1,5 @@
 ghost use Rattle.std.specs.Prelude.{◌≡◌, ◌<◌, ◌≤◌, ◌-◌, ◌^◌, ◌++◌, ◌∷◌, ℕ, [], OnOk, false, if◌then◌else◌};
-ghost use Rattle.std.specs.Prelude.{IfOk, IfSome, Some, true, is_some, length, slice_get, slice_index};
+ghost use Rattle.std.specs.Prelude.{IfOk, IfSome, IsTrue, Some, true, is_some, length, slice_get, slice_index};
 ghost use Rattle.rx_fields.specs.Order.{id_cmp};
 ghost use Rattle.rx_sorted.specs.Ascending.{IsAscending, IsAt, is_past};
 ghost use Rattle.rx_ledger.specs.Ledger.{IsLedger, is_listed, is_whole};
@@ -207,8 +207,10 @@ impl Opening {
         self.lists.member_of(key)
     }
 
-    /// Looks where a member is first looked for, by which the processor has it near. It promises nothing.
-    pub(crate) fn is_member_seen(&self, key: &MemberKey) -> bool {
+    /// Looks where a member is first looked for, by which the processor has it near; true only where there are members.
+    pub(crate) fn is_member_seen(&self, key: &MemberKey) -> bool
+        ensures { IsTrue result → 0 < length self.now.members }
+    {
         self.lists.is_member_seen(key)
     }
 
@@ -326,7 +328,9 @@ impl Lists {
         self.places.place_of(&self.members, key)
     }
 
-    fn is_member_seen(&self, key: &MemberKey) -> bool {
+    fn is_member_seen(&self, key: &MemberKey) -> bool
+        ensures { IsTrue result → 0 < length self.now.members }
+    {
         self.places.is_seen(self.members.as_slice(), key)
     }
 

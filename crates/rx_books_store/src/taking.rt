@@ -1,33 +1,57 @@
-ghost use Rattle.std.specs.Prelude.{◌≡◌, Some, false, slice_get};
-ghost use Rattle.std.specs.List.{All, Contains};
+ghost use Rattle.std.specs.Prelude.{◌≡◌, IfOk, Some, false, slice_get};
+ghost use Rattle.std.specs.List.{All, AllZip, Contains};
 ghost use Rattle.rx_ledger.specs.Ledger.{is_taken, row_under};
-ghost use Rattle.rx_books_store.specs.OpenBooks.{HasTaken, open_over, open_without};
+ghost use Rattle.rx_books_store.specs.OpenBooks.{HasTaken, IsSlotOf, open_over, open_without};
 ghost use Rattle.rx_books_store.specs.Store.{IsSlot};
 
 use crate::open_books::OpenBooks;
 use crate::search::guess_slot;
 use crate::slot::{KeySlot, slot_at};
 use crate::slots::fresh_slot;
-use rx_fields::Key;
+use rx_fields::{Key, Memory};
 use rx_sorted::place_near;
+use std::alloc::Global;
 
 // How many slots are looked at ahead.
 const AHEAD: usize = 16;
 
 impl OpenBooks {
+    /// For each of these fill keys that has a slot, the slot's place. Keys that ascend are found in one pass.
+    pub fn slots_of(&self, alloc: Global, keys: &[Key]) -> Result<Vec<usize>, Memory>
+        ensures { IfOk result (λ slots. AllZip (IsSlotOf self.now) keys.now slots.items) }
+    {
+        let mut slots = Vec::with_capacity(alloc, keys.len())?;
+        let mut near = 0;
+        for key in keys {
+            near = self.slot_guess(near, key);
+            slots.push(self.slot_or(near, key))?;
+        }
+        Ok(slots)
+    }
+
+    // The place of a fill key's slot; the place where it is looked for first, if there is none.
+    fn slot_or(&self, near: usize, key: &Key) -> usize
+        ensures { IsSlotOf self.now key.now result }
+    {
+        match self.slot_near(near, key) {
+            Some(slot) => slot,
+            None => near,
+        }
+    }
+
     /// Takes over what stands under these fill keys in other books of the same members: the row there, or none. Each key
-    /// has a slot here. Keys that ascend are found in one pass. It takes no memory.
-    pub fn take_over(&mut self, from: &OpenBooks, keys: &[Key])
+    /// has a slot here, which is looked for first at the place that `near` has for it; there it is looked for first at the
+    /// key's own place among the keys. It takes no memory.
+    pub fn take_over(&mut self, from: &OpenBooks, keys: &[Key], near: &[usize])
         requires members { from.now.books.ledger.members ≡ self.old.books.ledger.members }
         requires slots { All (Contains self.old.slots) keys.now }
         ensures { HasTaken self.old from.now.books.ledger keys.now self.new }
     {
-        let (mut ours, mut theirs, mut looked) = (0, 0, 0);
-        for key in keys {
-            ours = self.slot_guess(ours, key);
-            theirs = from.slot_guess(theirs, key);
-            looked = self.looked_after(from, looked, theirs);
-            self.take_slot(ours, from.slot_under(theirs, key));
+        let mut looked = 0;
+        for (at, key) in keys.iter().enumerate() {
+            looked = self.looked_after(from, looked, at);
+            let ours = near.get(at).copied().unwrap_or(at);
+            self.take_slot(ours, from.slot_under(at, key));
         }
     }
 
@@ -48,7 +72,7 @@ impl OpenBooks {
                 return at.saturating_add(1);
             };
             at = at.saturating_add(1);
-            if slot.held.is_some() && !self.are_totals_seen(slot.holder as usize) {
+            if slot.held.is_some() && !self.are_sums_seen(slot.holder as usize) {
                 return at;
             }
         }

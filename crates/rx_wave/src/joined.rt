@@ -7,6 +7,7 @@ ghost use Rattle.rx_wave.specs.Jobs.{AreReplies, HaveRun, IsFinished, IsOpened, 
 use crate::job::Job;
 use crate::names::named_keys;
 use crate::shard::Ended;
+use rayon::prelude::*;
 use rx_books_store::{Books, OpenBooks};
 use rx_d0_values::{Reply, Transmission};
 use rx_fields::{Memory, Period};
@@ -14,6 +15,7 @@ use rx_schedule::Shards;
 use rx_serial::Finished;
 use std::alloc::Global;
 use std::marker::Model;
+use std::thread::Threads;
 use std::vec;
 
 /// These books with the totals of a period, and a slot for each fill key that the records name.
@@ -31,7 +33,8 @@ pub(crate) fn opened(
 }
 
 /// What the shards of a batch leave together: the books after all records, and the replies in file order.
-pub(crate) fn joined(
+pub(crate) fn joined<R: Threads + Sync>(
+    rt: &R,
     alloc: Global,
     job: &Job<'_>,
     opened: OpenBooks,
@@ -42,13 +45,29 @@ pub(crate) fn joined(
     requires run { HaveRun job.now shards.now.numbers.items ended.items }
     ensures { IfOk result (IsFinished job.now) }
 {
-    let books = joined_books(job, opened, &ended);
+    let near = slots_of_each(rt, alloc, &opened, &ended)?;
+    let books = joined_books(job, opened, &ended, &near);
     let replies = joined_replies(alloc, &shards.numbers, ended)?;
     Ok(Finished { books, replies })
 }
 
-// The opened books, with what each shard leaves under the fill keys that it names.
-fn joined_books(job: &Job<'_>, opened: OpenBooks, ended: &[Ended]) -> Books
+// For each shard the places of its fill keys' slots in the opened books, looked for by a thread of its own.
+fn slots_of_each<R: Threads + Sync>(
+    rt: &R,
+    alloc: Global,
+    opened: &OpenBooks,
+    ended: &[Ended],
+) -> Result<Vec<Vec<usize>>, Memory> {
+    ended
+        .par_iter()
+        .with_min_len(1)
+        .map(move |end: &Ended| -> Result<Vec<usize>, Memory> { opened.slots_of(alloc, &end.keys) })
+        .collect::<Result<Vec<Vec<usize>>, Memory>>(rt, alloc)?
+}
+
+// The opened books, with what each shard leaves under the fill keys that it names. Their slots are looked for first at the
+// places in `near`.
+fn joined_books(job: &Job<'_>, opened: OpenBooks, ended: &[Ended], near: &[Vec<usize>]) -> Books
     requires opened { IsOpened job.now opened }
     requires run { (numbers : List ℕ) × HaveRun job.now numbers ended.now }
     ensures { result ≡ record {
@@ -57,12 +76,20 @@ fn joined_books(job: &Job<'_>, opened: OpenBooks, ended: &[Ended]) -> Books
     } }
 {
     let mut books = opened;
-    for end in ended {
-        books.take_over(&end.books, &end.keys);
+    for (shard, end) in ended.iter().enumerate() {
+        books.take_over(&end.books, &end.keys, near_of(near, shard));
     }
     let books = books.close();
     prove!(books.period() == job.sheet.period());
     books
+}
+
+// The places for a shard; none where there are none.
+fn near_of(near: &[Vec<usize>], shard: usize) -> &[usize] {
+    match near.get(shard) {
+        Some(places) => places.as_slice(),
+        None => &[],
+    }
 }
 
 // The replies of the shards, in file order, by the shard of each record.

@@ -45,7 +45,7 @@ pub(crate) fn run_in_shards<R: Threads + Sync, G: Gate + Sync>(
     let Some(Ran { shards, ended }) = ran? else {
         return Ok(None);
     };
-    let finished = joined(alloc, job, opened?, &shards, ended)?;
+    let finished = joined(rt, alloc, job, opened?, &shards, ended)?;
     Ok(Some(finished))
 }
 

@@ -17,8 +17,8 @@ use Rattle.rx_wave.proofs.Keys.{named_of_all}
 use Rattle.rx_wave.proofs.RunOn.{members_kept}
 use Rattle.rx_wave.proofs.joined.joined_books.Goals as goal
 
-pub loop-end-init : goal.loop-end-init
-loop-end-init c =
+pub loop-shard-init : goal.loop-shard-init
+loop-shard-init c =
     let same = c.requires.opened.same in
     record {
       period = ap (λ (b : LedgerBooks). b.period) same;
@@ -31,39 +31,39 @@ loop-end-init c =
 pub take_over-requires-clause-members : goal.take_over-requires-clause-members
 take_over-requires-clause-members c =
     let job = c.args.job.now in
-    let at = c.loop-end.end-index in
-    let is : slice_get c.args.ended.now at ≡ Some c.end-item.result =
-    slice_get_read c.args.ended.now (length c.args.ended.now) at c.end-item.result refl (omega arith) c.end-item.is in
-    let ran = c.requires.run.1.each at c.end-item.result is in
+    let at = c.loop-shard.shard in
+    let is : slice_get c.args.ended.now at ≡ Some c.index-ended-shard.result =
+    slice_get_read c.args.ended.now (length c.args.ended.now) at c.index-ended-shard.result refl (omega arith) c.index-ended-shard.is in
+    let ran = c.requires.run.1.each at c.index-ended-shard.result is in
     ap (λ (N : Ledger). N.members) ran.ledger
     ∙ members_kept job.lot job.sheet.now job.transmissions.now
     (places_of (is_of (number_in c.requires.run.0) at) (length job.transmissions.now)) job.books.now.ledger
-    ∙ sym c.loop-end.invariant.members
+    ∙ sym c.loop-shard.invariant.members
 
 pub take_over-requires-clause-slots : goal.take_over-requires-clause-slots
 take_over-requires-clause-slots c =
     let job = c.args.job.now in
-    let at = c.loop-end.end-index in
-    let end = c.end-item.result in
+    let at = c.loop-shard.shard in
+    let end = c.index-ended-shard.result in
     let is : slice_get c.args.ended.now at ≡ Some end =
-    slice_get_read c.args.ended.now (length c.args.ended.now) at end refl (omega arith) c.end-item.is in
+    slice_get_read c.args.ended.now (length c.args.ended.now) at end refl (omega arith) c.index-ended-shard.is in
     let ran = c.requires.run.1.each at end is in
-    subst (All (Contains c.loop-end.books.slots)) (sym c.deref.ensures.value) (λ k d lt.
+    subst (All (Contains c.loop-shard.books.slots)) (sym c.deref.ensures.value) (λ k d lt.
     let key : Key = get_or end.keys.items k d in
-    c.loop-end.invariant.slots key (named_of_all job.transmissions.now (is_of (number_in c.requires.run.0) at) key
+    c.loop-shard.invariant.slots key (named_of_all job.transmissions.now (is_of (number_in c.requires.run.0) at) key
     ((ran.keys key).0 (Contains-get_or end.keys.items k d lt))))
 
-pub loop-end-preserved : goal.loop-end-preserved
-loop-end-preserved c =
+pub loop-shard-preserved : goal.loop-shard-preserved
+loop-shard-preserved c =
     let job = c.args.job.now in
     let ended = c.args.ended.now in
-    let at = c.loop-end.end-index in
-    let item = c.end-item.result in
-    let inv = c.loop-end.invariant in
+    let at = c.loop-shard.shard in
+    let item = c.index-ended-shard.result in
+    let inv = c.loop-shard.invariant in
     let h = c.take_over.ensures in
     let E = c.deref.ensures.value in
     let is_at : slice_get ended at ≡ Some item =
-    slice_get_read ended (length ended) at item refl (omega arith) c.end-item.is in
+    slice_get_read ended (length ended) at item refl (omega arith) c.index-ended-shard.is in
     record {
       period = h.period ∙ inv.period;
       slots = λ key named. subst (λ (s : List Key). Contains s key) (sym h.slots) (inv.slots key named);
@@ -89,8 +89,8 @@ pub returns : goal.returns
 returns c =
     let job = c.args.job.now in
     let ended = c.args.ended.now in
-    let inv = c.loop-end.invariant in
-    let M = c.loop-end.books.books.ledger in
+    let inv = c.loop-shard.invariant in
+    let M = c.loop-shard.books.books.ledger in
     let closed = c.close-books.ensures in
     let rises = subst (λ (b : LedgerBooks). IsInOrder b.ledger) closed
     (rises_of c.close-books.result.ledger c.period.ensures.within) in
@@ -98,4 +98,4 @@ returns c =
     all_joined job c.requires.run.0 ended c.requires.run.1 M rises inv.members
     (λ k end is. let low = low_of ended k end is in inv.taken k end (omega arith) is)
     (λ key none. inv.kept key (λ k end lt is. none k end is)) in
-    closed ∙ books_path c.loop-end.books.books _ _ inv.period all
+    closed ∙ books_path c.loop-shard.books.books _ _ inv.period all

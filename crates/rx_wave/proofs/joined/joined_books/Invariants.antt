@@ -7,17 +7,17 @@ use Rattle.rx_serial.specs.Named.{keys_named}
 use Rattle.rx_wave.specs.declared.shard.Ended.{Ended}
 use Rattle.rx_wave.proofs.joined.joined_books.Given as goal
 
-abbrev pub invariant-loop-end : goal.invariant-loop-end
-invariant-loop-end l =
+abbrev pub invariant-loop-shard : goal.invariant-loop-shard
+invariant-loop-shard l =
     let M = l.books.books.ledger in
     let L = l.job.books.now.ledger in
     record {
       period : l.books.books.period ≡ l.job.sheet.now.figures.period;
       slots : (key : Key) → Contains (keys_named l.job.transmissions.now) key → Contains l.books.slots key;
       members : M.members ≡ L.members;
-      taken : (k : ℕ) (end : Ended) → k < l.end-index → slice_get l.ended k ≡ Some end → (key : Key)
+      taken : (k : ℕ) (end : Ended) → k < l.shard → slice_get l.ended k ≡ Some end → (key : Key)
           → Contains end.keys.items key → row_under M key ≡ row_under end.books.books.ledger key;
       kept : (key : Key)
-          → ((k : ℕ) (end : Ended) → k < l.end-index → slice_get l.ended k ≡ Some end → ¬ Contains end.keys.items key)
+          → ((k : ℕ) (end : Ended) → k < l.shard → slice_get l.ended k ≡ Some end → ¬ Contains end.keys.items key)
           → row_under M key ≡ row_under L key;
     }
