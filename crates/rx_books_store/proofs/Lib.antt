@@ -17,6 +17,7 @@ pub mod Openings
 pub mod Passes
 pub mod Opens
 pub mod Patches
+pub mod ReadLines
 pub mod ReadLists
 pub mod Runs
 pub mod Same

@@ -37,7 +37,7 @@ line_of r = ended (line_text Three (line.Claim r))
 
 -- ---- where lines are
 
-sum_lengths : (rows : List Row) → sum (claim_lengths Three rows) ≡ length (claims_text rows)
+pub sum_lengths : (rows : List Row) → sum (claim_lengths Three rows) ≡ length (claims_text rows)
 sum_lengths [] = refl
 sum_lengths (r ∷ rows) =
     sum_by-cons (λ (n : ℕ). n) (claim_length Three r) (claim_lengths Three rows)

@@ -12,6 +12,7 @@ pub mod Opening
 pub mod Parts
 pub mod Patching
 pub mod Quick
+pub mod ReadClaims
 pub mod Standing
 pub mod Store
 pub mod WholeBooks

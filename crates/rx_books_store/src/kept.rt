@@ -63,10 +63,23 @@ impl Kept {
     {
         begin + bytes_of(&self.lengths[first..last])
     }
+
+    /// The lines of the claims, one after another, and how many bytes each has.
+    pub(crate) fn lines(&self) -> (&[u8], &[u8])
+        requires { self.now.above + sum self.now.lengths.items ≤ length (kept_text self.now) }
+        ensures lines { result.0.now
+            ≡ slice_range (kept_text self.now) self.now.above (self.now.above + sum self.now.lengths.items) }
+        ensures lengths { result.1.now ≡ self.now.lengths.items }
+        ensures few { length result.0.now < 2 ^ 64 }
+    {
+        let lengths = self.lengths.as_slice();
+        let end = self.above + bytes_of(lengths);
+        (&self.text.as_slice()[self.above..end], lengths)
+    }
 }
 
-// How many bytes lines of these lengths have.
-fn bytes_of(lengths: &[u8]) -> usize
+/// How many bytes lines of these lengths have.
+pub(crate) fn bytes_of(lengths: &[u8]) -> usize
     requires { sum lengths.now < 2 ^ 64 }
     ensures { result ≡ sum lengths.now }
 {

@@ -16,9 +16,9 @@
 //! these, its own places stand instead (`specs/WholeBooks.antt`).
 //!
 //! - `books`: `Books`, in one of two forms; `open_books`: `OpenBooks`, with the members, families and slots at their places
-//! - `plain`: books of the first form made of a ledger, copied and compared; `figures`, `amounts`, `sums`, `opening_sums`: their
+//! - `plain`, `copying`: books of the first form made of a ledger, copied and compared; `figures`, `amounts`, `sums`, `opening_sums`: their
 //!   totals
-//! - `opening`: the lists that books were made from, and `kept`: the text that they were read from
+//! - `opening`: the lists that books were made from, and `kept`: the text that they were read from; `read_claims`: its lines
 //! - `holders`, `hints`, `search`: where members and rows are in these lists
 //! - `slot`, `slots`: what stands under a fill key of the batch; `standing`: a pass over the rows that stand
 //! - `looks`: at what is asked for soon; `taking`: what stands under fill keys in other open books, taken over
@@ -36,6 +36,7 @@ mod amended_lists;
 mod amounts;
 mod books;
 mod comparison;
+mod copying;
 mod figures;
 mod hints;
 mod holders;
@@ -49,6 +50,7 @@ mod opening_sums;
 mod parts;
 mod patching;
 mod plain;
+mod read_claims;
 mod reader;
 mod search;
 mod slot;
@@ -64,4 +66,5 @@ pub use books::Books;
 pub use law::{one_reading, told_by_rows};
 pub use lent::Lent;
 pub use open_books::OpenBooks;
+pub use read_claims::ReadClaims;
 pub use standing::Standing;
