@@ -305,7 +305,12 @@ NUMBERS = (
     ((4, 5, 6), "books:6: "), ((4, 6, 0), "1000000"), ((5, 1, 12), "STX"), ((5, 2, 0), "STX 00"), ((5, 3, 0), "header"),
     ((5, 4, 75), "ETX"), ((5, 5, 75), "G1"), ((5, 6, 75), "reference"), ((5, 7, 300), "trailer"), ((5, 8, 326), "trailer"),
     ((5, 9, 300), "batch number"), ((5, 10, 300), "count"), ((5, 11, 326), "trailer"), ((5, 12, 9), "100000"),
-    ((6, 0, 0), "memory"), ((7, 0, 0), "thread"),
+    ((6, 0, 0), "memory"), ((7, 0, 0), "thread"), ((8, 1, 0), "members: more than 1000000 "), ((8, 2, 1), "members:1: "),
+    ((8, 3, 4), "members:4: "), ((8, 4, 5), "members:5: the member of an earlier line"), ((8, 5, 6), "members:6: expected a line feed"),
+    ((9, 1, 0), "--before: "), ((9, 2, 0), "--books-out "), ((10, 1, 0), "plans: "), ((10, 2, 0), "[[plan]]"),
+    ((10, 3, 2), "plans: plan 2: it isn't a table"), ((10, 4, 2), "plans: plan 2: a key is missing"), ((10, 5, 1), "plans: plan 1: "),
+    ((10, 6, 2), "plans: plan 2: its BIN "), ((11, 1, 0), "response: it answers another batch"), ((11, 2, 0), "response: its stamp "),
+    ((11, 3, 7), "response: record 7: its reference "), ((11, 4, 7), "response: record 7: it holds no reply "),
 )
 
 
@@ -315,9 +320,11 @@ def fault(job):
         want((status, told) == (0, "") and word in out.decode() and out.count(b"\n") == 1, f"{numbers}: {status} {out} {told}")
     lines = {job.run("fault", *map(str, numbers))[1] for numbers, _ in NUMBERS}
     want(len(lines) == len(NUMBERS), "two refusals have the same words")
-    for numbers in ((0, 0, 0), (1, 1, 0), (3, 1, 1), (3, 2, 15), (3, 4, 0), (4, 7, 0), (5, 13, 0), (8, 0, 0), (4, 1, 5)):
+    none = ((0, 0, 0), (1, 1, 0), (3, 1, 1), (3, 2, 15), (3, 4, 0), (4, 7, 0), (5, 13, 0), (4, 1, 5), (8, 0, 0), (8, 2, 2), (8, 6, 1),
+            (9, 1, 1), (10, 1, 1), (10, 3, 0), (10, 7, 1), (11, 1, 1), (11, 3, 0), (11, 5, 1), (12, 1, 0))
+    for numbers in none:
         status, out, told = job.run("fault", *map(str, numbers))
-        want((status, out, told) == (4, b"", "rxbatch: no run is refused with these numbers\n"), f"{numbers}: {out} {told}")
+        want((status, out, told) == (4, b"", "rxbatch: no refusal has these numbers\n"), f"{numbers}: {out} {told}")
 
 
 CASES = (

@@ -1,8 +1,10 @@
 //! The commands that print a text, each from the files that its words name.
 use crate::ending::Ending;
+use crate::join_files::numbered_join;
 use crate::nodes::Node;
 use crate::origin::Noted;
 use crate::page_folder::write_pages;
+use crate::plans_file::numbered_plans;
 use crate::refused_text::{GivenTexts, refused_response};
 use crate::run_gate::RunGate;
 use crate::shown_path::shown_path;
@@ -11,6 +13,7 @@ use crate::switch_inputs::refused_batch;
 use crate::texts::{
     open_and_read, open_each, opened, read_each, read_opened, slices, text_in, text_of,
 };
+use crate::upkeep_words::numbered_upkeep;
 use crate::{plans_explained, plans_reported, plans_verified};
 use rx_check::fault_numbered;
 use rx_cli::{
@@ -113,12 +116,27 @@ pub fn fault(rt: &HostRuntime, numbers: &FaultNumbers) -> Result<(), Ending> {
         Some(SwitchFault::Workers) => String::from_str(alloc, "the workers aren't 1 to 64"),
         Some(SwitchFault::Stamp) => String::from_str(alloc, "the stamp is no date and time"),
         Some(fault) => return told_fault(rt, fault),
-        None => {
-            let line = String::from_str(alloc, "no run is refused with these numbers")?;
-            return Err(Ending::Stopped(line));
-        }
+        None => return other_fault(rt, kind, within, place),
     };
     print_line(rt, line?)
+}
+
+// Prints the numbers of a refusal of another command than a run.
+fn other_fault(rt: &HostRuntime, kind: u64, within: u64, place: u64) -> Result<(), Ending> {
+    let alloc = rt.alloc();
+    let line = match kind {
+        8 | 9 => numbered_upkeep(alloc, kind, within, place)?,
+        10 => numbered_plans(rt, within, place)?,
+        11 => numbered_join(alloc, within, place)?,
+        _ => None,
+    };
+    match line {
+        Some(line) => print_line(rt, line),
+        None => {
+            let line = String::from_str(alloc, "no refusal has these numbers")?;
+            Err(Ending::Stopped(line))
+        }
+    }
 }
 
 fn told_fault(rt: &HostRuntime, fault: SwitchFault) -> Result<(), Ending> {

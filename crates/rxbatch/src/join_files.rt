@@ -179,23 +179,10 @@ fn refused_run<'x>(
             refused_plan(rt, plan, sheet, &[], SwitchFault::Sheet(fault))
         }
         JoinFault::Response(_, fault) => no_response_file(rt, plan, response, fault),
-        JoinFault::OtherBatch(_) => {
-            let why = "it answers another batch: its header isn't this batch's, sent back";
-            not_joined(rt, plan, 1, 0, why)
-        }
-        JoinFault::OtherStamp(_) => {
-            let why = "its stamp isn't that of the first plan's response file";
-            not_joined(rt, plan, 2, 0, why)
-        }
-        JoinFault::OtherDetail(_, place) => {
-            let why =
-                "its reference isn't that of the batch's record, or one of the two isn't there";
-            not_joined(rt, plan, 3, place, why)
-        }
-        JoinFault::OtherReply(_, place) => {
-            let why = "it holds no reply that this plan can give the batch's record";
-            not_joined(rt, plan, 4, place, why)
-        }
+        JoinFault::OtherBatch(_) => not_joined(rt, plan, 1, 0),
+        JoinFault::OtherStamp(_) => not_joined(rt, plan, 2, 0),
+        JoinFault::OtherDetail(_, place) => not_joined(rt, plan, 3, place),
+        JoinFault::OtherReply(_, place) => not_joined(rt, plan, 4, place),
         _ => Ending::from(Memory),
     }
 }
@@ -225,18 +212,46 @@ fn response_path(plan: &PlanFiles) -> &str {
 }
 
 // The ending where the response file of a plan isn't one to this batch: the number of the fault, the place of the record, 0
-// where it is of none, and why.
-fn not_joined(rt: &HostRuntime, plan: &PlanFiles, fault: u64, place: usize, why: &str) -> Ending {
+// where it is of none.
+fn not_joined(rt: &HostRuntime, plan: &PlanFiles, fault: u64, place: usize) -> Ending {
     let numbers = Numbers::Refused([JOIN, fault, place as u64]);
-    in_words(numbers, join_words(rt.alloc(), plan, place, why))
+    in_words(numbers, join_words(rt.alloc(), plan, fault, place as u64))
 }
 
-fn join_words(alloc: Global, plan: &PlanFiles, place: usize, why: &str) -> Result<String, Memory> {
+fn join_words(alloc: Global, plan: &PlanFiles, fault: u64, place: u64) -> Result<String, Memory> {
     let shown = shown_path(alloc, response_path(plan))?;
-    let line = if place == 0 {
-        format!(in alloc; "response {shown}: {why}")?
-    } else {
-        format!(in alloc; "response {shown}: record {place}: {why}")?
-    };
+    let label = format!(in alloc; "response {shown}")?;
+    let line = placed_words(alloc, label.as_str(), place, why_not_joined(fault))?;
     plan_line(alloc, plan.name.as_str(), line.as_str())
+}
+
+fn placed_words(alloc: Global, label: &str, place: u64, why: &str) -> Result<String, Memory> {
+    let line = match place {
+        0 => format!(in alloc; "{label}: {why}")?,
+        record => format!(in alloc; "{label}: record {record}: {why}")?,
+    };
+    Ok(line)
+}
+
+// Why a response file isn't joined, by the number of the fault.
+fn why_not_joined(fault: u64) -> &'static str {
+    match fault {
+        1 => "it answers another batch: its header isn't this batch's, sent back",
+        2 => "its stamp isn't that of the first plan's response file",
+        3 => "its reference isn't that of the batch's record, or one of the two isn't there",
+        _ => "it holds no reply that this plan can give the batch's record",
+    }
+}
+
+/// The words of the refusal of a response file that isn't joined with these last two numbers; none where none has them.
+pub fn numbered_join(alloc: Global, within: u64, place: u64) -> Result<Option<String>, Memory> {
+    let is_one = match within {
+        1 | 2 => place == 0,
+        3 | 4 => place > 0,
+        _ => false,
+    };
+    if !is_one {
+        return Ok(None);
+    }
+    Ok(Some(placed_words(alloc, "response", place, why_not_joined(within))?))
 }

@@ -144,6 +144,24 @@ fn plans_words<'x>(
     Ok(line)
 }
 
+/// The words of the refusal of a plans file with these last two numbers; none where none has them.
+pub fn numbered_plans(rt: &HostRuntime, within: u64, place: u64) -> Result<Option<String>, Memory> {
+    let why = match (within, place) {
+        (1, 0) => {
+            let given = GivenTexts::of(inputs("plans", "", ""), inputs(None, None, None));
+            return Ok(Some(given.words(rt, SwitchFault::Sheet(SheetFault::NotToml))?));
+        }
+        (2, 0) => return Ok(Some(plans_words(rt, "plans", &[], PlansFault::NoPlans)?)),
+        (_, 0) => return Ok(None),
+        (3, _) => "it isn't a table",
+        (4, _) => "a key is missing",
+        (5, _) => "a key's value isn't a text, or it is empty",
+        (6, _) => "its BIN and processor control number are those of an earlier plan",
+        _ => return Ok(None),
+    };
+    Ok(Some(format!(in rt.alloc(); "plans: plan {place}: {why}")?))
+}
+
 // Where the text stops being TOML.
 fn no_toml_words<'x>(rt: &HostRuntime, path: &'x str, text: &'x [u8]) -> Result<String, Memory> {
     let paths = inputs(path, "", "");

@@ -76,6 +76,31 @@ impl<'a> Given<'a> {
     }
 }
 
+/// The words of these commands' refusal with these numbers, of files that are called as here; none where none has them.
+pub fn numbered_upkeep(
+    alloc: Global,
+    kind: u64,
+    within: u64,
+    place: u64,
+) -> Result<Option<String>, Memory> {
+    let table = ("members", "".as_bytes());
+    let line = match (kind, within, place) {
+        (8, 1, 0) => table_words(alloc, TableFault::TooMuch, table)?,
+        (8, 2, 1) => table_words(alloc, TableFault::Heading, table)?,
+        (8, 3, line) if line > 1 => format!(in alloc;
+            "members:{line}: expected a member: family, person, first, last, with a tab between each two"
+        )?,
+        (8, 4, line) if line > 2 => format!(in alloc;
+            "members:{line}: the member of an earlier line again; expected once"
+        )?,
+        (8, 5, line) if line > 0 => table_words(alloc, TableFault::Unended(line), table)?,
+        (9, 1, 0) => after_period(alloc)?,
+        (9, 2, 0) => too_much(alloc, "books")?,
+        _ => return Ok(None),
+    };
+    Ok(Some(line))
+}
+
 fn after_period(alloc: Global) -> Result<String, Memory> {
     let text =
         "--before: the day is after the first day of the period, whose totals would lack claims";
