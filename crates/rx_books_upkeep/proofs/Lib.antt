@@ -2,8 +2,8 @@ pub mod AgedFigures
 pub mod AgedLedger
 pub mod Ages
 pub mod Carried
-pub mod ClaimRuns
 pub mod CountedChanges
+pub mod Cuts
 pub mod FamilyLists
 pub mod FiguredText
 pub mod LineFeeds
@@ -16,5 +16,4 @@ pub mod TableCuts
 pub mod TableSteps
 pub mod TakenOut
 pub mod Thinned
-pub mod ThreeTexts
 pub mod Unlisted

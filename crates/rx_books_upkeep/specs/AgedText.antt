@@ -1,29 +1,37 @@
 -- Plumbing: claims that leave, and what is left without them.
-use Rattle.std.specs.Prelude.{◌≡◌, ℕ, List, MatchOption, Option, length}
-use Rattle.std.specs.List.{All}
-use Rattle.rx_fields.specs.Calendar.{Civil, IsCivil}
-use Rattle.rx_fields.specs.Numbered.{Span}
+use Rattle.std.specs.Prelude.{◌≡◌, ℕ, Bool, false, int_le, not, List, [], Option, Some, None, filter, length, map}
+use Rattle.std.specs.List.{AllZip, flat_map, list_all}
+use Rattle.rx_fields.specs.Calendar.{Civil, IsCivil, day_number}
 use Rattle.rx_ledger.specs.declared.row.Row.{Row}
-use Rattle.rx_ledger.specs.Ledger.{Ledger}
-use Rattle.rx_books_store.specs.BooksText.{above_text, below_text, claims_text}
-use Rattle.rx_books_upkeep.specs.declared.aged_text.Leaving.{Leaving}
-use Rattle.rx_books_upkeep.specs.declared.aged_text.Staying.{Staying}
-use Rattle.rx_books_upkeep.specs.Ageing.{IsFirstSafe, IsSafe, aged}
-use Rattle.rx_books_upkeep.specs.ClaimRuns.{IsWithin, runs_text}
+use Rattle.rx_books_store.specs.BooksText.{claims_text}
+use Rattle.rx_books_upkeep.specs.declared.cut_claims.CutClaims.{CutClaims}
+use Rattle.rx_books_upkeep.specs.declared.cut_claims.Cuts.{Cuts}
+use Rattle.std.specs.Vec.{vec_items}
+use Rattle.rx_books_upkeep.specs.Ageing.{dropped, is_before, is_over}
 
--- how many these claims are, and the first day that is safe at the percentage
-pub record AreLeft (percent : ℕ) (rows : List Row) (left : ℕ) (first : Option Civil) : Type 0 where
-  pub count : left ≡ length rows
-  pub first_safe : MatchOption first ((day : Civil) → IsCivil day → ¬ IsSafe percent rows day) (IsFirstSafe percent rows)
+-- the claims that stay
+abbrev pub staying : Civil → List Row → List Row
+staying day rows = filter (λ r. not (is_before day r)) rows
 
--- the same, and their lines
-pub record HasLeft (percent : ℕ) (rows : List Row) (l : Leaving) : Type 0 where
-  pub lines : l.lines.items ≡ claims_text rows
-  pub left : AreLeft percent rows l.left l.first_safe
+-- whether the day is one of those from a first one on; none is where there is no first one
+abbrev pub is_reached : Option Civil → Civil → Bool
+is_reached None day = false
+is_reached (Some first) day = int_le (day_number first) (day_number day)
 
--- runs of the text with the lines of the claims that stay, and the head and total lines of the books with the totals of the period
-pub record AreStaying (text : List ℕ) (day : Civil) (period : Span) (L : Ledger) (s : Staying) : Type 0 where
-  pub within : All (IsWithin text) s.runs.items
-  pub lines : runs_text text s.runs.items ≡ claims_text (aged day L).rows
-  pub above : s.above.items ≡ above_text period L
-  pub below : s.below.items ≡ below_text period L
+-- from this day on, and on no other, each of these claims is over
+abbrev pub IsOverFrom : ℕ → List Row → Option Civil → Type 0
+IsOverFrom percent rows first = (day : Civil) → IsCivil day → list_all (is_over percent day) rows ≡ is_reached first day
+
+-- these claims, cut into those that leave before a day and those that stay
+pub record IsCut (percent : ℕ) (day : Civil) (rows : List Row) (cut : CutClaims) : Type 0 where
+  pub staying : cut.staying.items ≡ claims_text (staying day rows)
+  pub leaving : cut.leaving.items ≡ claims_text (dropped day rows)
+  pub left : cut.left ≡ length (dropped day rows)
+  pub over : IsOverFrom percent (dropped day rows) cut.first_safe
+
+-- the same of all claims, in parts
+pub record AreCut (percent : ℕ) (day : Civil) (rows : List Row) (cuts : Cuts) : Type 0 where
+  pub staying : flat_map vec_items cuts.staying.items ≡ claims_text (staying day rows)
+  pub leaving : flat_map vec_items cuts.leaving.items ≡ claims_text (dropped day rows)
+  pub left : cuts.left ≡ length (dropped day rows)
+  pub over : IsOverFrom percent (dropped day rows) cuts.first_safe

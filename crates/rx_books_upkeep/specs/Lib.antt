@@ -3,7 +3,6 @@ pub mod AgedText
 pub mod Ageing
 pub mod Batches
 pub mod ChangeKinds
-pub mod ClaimRuns
 pub mod Figured
 pub mod LoadedText
 pub mod Loading

@@ -7,6 +7,7 @@ use Rattle.rx_books_store.specs.BooksText.{above_text, below_text, claims_text}
 use Rattle.rx_books_store.specs.LedgerBooks.{LedgerBooks}
 use Rattle.rx_books_upkeep.specs.declared.loaded_text.LoadedSides.{LoadedSides}
 use Rattle.rx_books_upkeep.specs.declared.text_fault.UpkeepFault.{UpkeepFault}
+use Rattle.rx_books_upkeep.specs.ChangeKinds.{counts_in}
 use Rattle.rx_books_upkeep.specs.Loading.{changes_of, loaded}
 
 -- each of these claims has one line
@@ -22,3 +23,4 @@ pub record AreLoaded (b : LedgerBooks) (table : List Member) (s : LoadedSides) :
   pub above : s.above.items ≡ above_text b.period (loaded b.ledger table)
   pub below : s.below.items ≡ below_text b.period (loaded b.ledger table)
   pub changes : s.changes.items ≡ changes_of b.ledger table
+  pub counts : s.counts ≡ counts_in s.changes.items

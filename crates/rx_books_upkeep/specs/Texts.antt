@@ -82,7 +82,7 @@ abbrev pub AgedMade : Type 0
 AgedMade = List ℕ × List ℕ × ℕ
 
 abbrev pub seen_aged : AgedText → AgedMade
-seen_aged done = (text_of done.books, done.dropped.items, done.left)
+seen_aged done = (text_of done.books, text_of done.dropped, done.left)
 
 -- the books without the claims before the day, with the totals of the period
 abbrev pub without_claims : Civil → Span → Ledger → AgedMade

@@ -39,17 +39,18 @@ pub(crate) fn above_and_below<R: Threads + Sync>(
             requires { IsLedger books.now.books.ledger }
             ensures { IfOk result (λ text. text.items
                 ≡ above_text books.entry.now.books.period (of_members members.entry.now books.entry.now.books.ledger)) }
-        { above_claims(alloc, books, members) },
+        { above_claims(rt, alloc, books, members) },
         || -> Result<Vec<u8>, Memory>
             requires { (IsLedger books.now.books.ledger) × (IsAscending member_cmp member_key members.now) }
             ensures { IfOk result (λ text. text.items
                 ≡ below_text books.entry.now.books.period (of_members members.entry.now books.entry.now.books.ledger)) }
-        { below_claims(alloc, books, members) },
+        { below_claims(rt, alloc, books, members) },
     )
 }
 
-/// The head line and the member lines.
-pub(crate) fn above_claims(
+// The head line and the member lines.
+fn above_claims<R: Threads + Sync>(
+    rt: &R,
     alloc: Global,
     books: &OpenBooks,
     members: &[Member],
@@ -59,12 +60,60 @@ pub(crate) fn above_claims(
 {
     let mut text = Vec::with_capacity(alloc, members.len().saturating_mul(LINE))?;
     put_head(&mut text, books.period())?;
+    with_persons(rt, alloc, text, books, members)
+}
+
+// The text with the lines of these members after it, half of them written on a thread of its own.
+fn with_persons<R: Threads + Sync>(
+    rt: &R,
+    alloc: Global,
+    text: Vec<u8>,
+    books: &OpenBooks,
+    members: &[Member],
+) -> Result<Vec<u8>, Memory>
+    requires { IsLedger books.now.books.ledger }
+    ensures { IfOk result (λ all. all.items ≡ text.items ++ person_lines books.now.books members.now) }
+{
+    let (front, back) = members.split_at(members.len() / 2);
+    let (front, back) = thread::join(
+        rt,
+        || -> Result<Vec<u8>, Memory>
+            requires { IsLedger books.now.books.ledger }
+            ensures { IfOk result (λ all. all.items ≡ text.items ++ person_lines books.entry.now.books front.entry.now) }
+        { after(text, books, front) },
+        || -> Result<Vec<u8>, Memory>
+            requires { IsLedger books.now.books.ledger }
+            ensures { IfOk result (λ all. all.items ≡ person_lines books.entry.now.books back.entry.now) }
+        { persons_text(alloc, books, back) },
+    );
+    let mut all = front?;
+    let back = back?;
+    all.extend_from_slice(&back)?;
+    Ok(all)
+}
+
+// The lines of these members.
+fn persons_text(alloc: Global, books: &OpenBooks, members: &[Member]) -> Result<Vec<u8>, Memory>
+    requires { IsLedger books.now.books.ledger }
+    ensures { IfOk result (λ text. text.items ≡ person_lines books.now.books members.now) }
+{
+    let text = Vec::with_capacity(alloc, members.len().saturating_mul(LINE))?;
+    after(text, books, members)
+}
+
+// The text with the lines of these members after it.
+fn after(text: Vec<u8>, books: &OpenBooks, members: &[Member]) -> Result<Vec<u8>, Memory>
+    requires { IsLedger books.now.books.ledger }
+    ensures { IfOk result (λ all. all.items ≡ text.items ++ person_lines books.now.books members.now) }
+{
+    let mut text = text;
     put_persons(&mut text, books, members)?;
     Ok(text)
 }
 
-/// The total lines of the families of these members.
-pub(crate) fn below_claims(
+// The total lines of the families of these members.
+fn below_claims<R: Threads + Sync>(
+    rt: &R,
     alloc: Global,
     books: &OpenBooks,
     members: &[Member],
@@ -74,8 +123,50 @@ pub(crate) fn below_claims(
     ensures { IfOk result (λ text. text.items ≡ below_text books.now.books.period (of_members members.now books.now.books.ledger)) }
 {
     let families = families_of(alloc, members)?;
-    let mut text = Vec::with_capacity(alloc, families.len().saturating_mul(LINE))?;
-    put_families(&mut text, books, families.as_slice())?;
+    families_text(rt, alloc, books, families.as_slice())
+}
+
+// The total lines of these families, half of them written on a thread of its own.
+fn families_text<R: Threads + Sync>(
+    rt: &R,
+    alloc: Global,
+    books: &OpenBooks,
+    families: &[Family],
+) -> Result<Vec<u8>, Memory>
+    requires { IsLedger books.now.books.ledger }
+    ensures { IfOk result (λ text. text.items ≡ family_lines books.now.books families.now) }
+{
+    let (front, back) = families.split_at(families.len() / 2);
+    let room = families.len().saturating_mul(LINE);
+    let (front, back) = thread::join(
+        rt,
+        || -> Result<Vec<u8>, Memory>
+            requires { IsLedger books.now.books.ledger }
+            ensures { IfOk result (λ text. text.items ≡ family_lines books.entry.now.books front.entry.now) }
+        { totals_text(alloc, room, books, front) },
+        || -> Result<Vec<u8>, Memory>
+            requires { IsLedger books.now.books.ledger }
+            ensures { IfOk result (λ text. text.items ≡ family_lines books.entry.now.books back.entry.now) }
+        { totals_text(alloc, room, books, back) },
+    );
+    let mut text = front?;
+    let back = back?;
+    text.extend_from_slice(&back)?;
+    Ok(text)
+}
+
+// The total lines of these families, in a text with room for so many bytes.
+fn totals_text(
+    alloc: Global,
+    room: usize,
+    books: &OpenBooks,
+    families: &[Family],
+) -> Result<Vec<u8>, Memory>
+    requires { IsLedger books.now.books.ledger }
+    ensures { IfOk result (λ text. text.items ≡ family_lines books.now.books families.now) }
+{
+    let mut text = Vec::with_capacity(alloc, room)?;
+    put_families(&mut text, books, families)?;
     Ok(text)
 }
 

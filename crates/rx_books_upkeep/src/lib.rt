@@ -16,7 +16,7 @@
 mod aged_text;
 mod ageing;
 mod change;
-mod claim_runs;
+mod cut_claims;
 mod families;
 mod figured;
 mod law;

@@ -18,6 +18,24 @@ pub(crate) fn merged(
     requires table { IsAscending member_cmp member_key table.now }
     ensures { IfOk result (λ list. list ≡ put_all member_cmp member_key members.now table.now) }
 {
+    let list = merged_list(alloc, members, table)?;
+    match Ascending::from_vec(list) {
+        Ok(list) => Ok(list),
+        Err(_) => unreachable!(),
+    }
+}
+
+/// The same as a plain list.
+pub(crate) fn merged_list(
+    alloc: Global,
+    members: &[Member],
+    table: &[Member],
+) -> Result<Vec<Member>, Memory>
+    requires members { IsAscending member_cmp member_key members.now }
+    requires table { IsAscending member_cmp member_key table.now }
+    ensures value { IfOk result (λ list. list.items ≡ put_all member_cmp member_key members.now table.now) }
+    ensures rise { IfOk result (λ list. IsAscending member_cmp member_key list.items) }
+{
     let mut rest = members;
     let mut list = Vec::with_capacity(alloc, members.len().saturating_add(table.len()))?;
     'table: for member in table {
@@ -27,10 +45,7 @@ pub(crate) fn merged(
         rest = after;
     }
     list.extend_from_slice(rest)?;
-    match Ascending::from_vec(list) {
-        Ok(list) => Ok(list),
-        Err(_) => unreachable!(),
-    }
+    Ok(list)
 }
 
 // The members before a key and those after it, between which a member of this key goes. It is looked for at the first of them

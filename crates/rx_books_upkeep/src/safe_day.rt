@@ -1,5 +1,6 @@
 ghost use Rattle.std.specs.Prelude.{◌≡◌, ◌≤◌, ◌<◌, ◌+◌, ◌*◌, ◌&&◌, MatchOption, false, int_le, true};
 ghost use Rattle.rx_fields.specs.Calendar.{Civil, IsCivil, day_number};
+ghost use Rattle.rx_books_upkeep.specs.AgedText.{is_reached};
 ghost use Rattle.rx_books_upkeep.specs.Ageing.{IsFirstSafe, IsSafe, is_over};
 
 use rx_fields::{Day, Days, date_read};
@@ -23,8 +24,8 @@ pub fn first_safe_day(dropped: &[Row], refill_percent: u64) -> Option<Day>
     Some(first)
 }
 
-// The day from which on a claim is over.
-fn over_from(row: &Row, percent: u64) -> Option<Day>
+/// The day from which on a claim is over.
+pub(crate) fn over_from(row: &Row, percent: u64) -> Option<Day>
     requires { percent ≤ 100 }
     ensures { MatchOption result ((day : Civil) → IsCivil day → is_over percent day row.now ≡ false)
         (λ first. (day : Civil) → is_over percent day row.now ≡ int_le (day_number first) (day_number day)) }
@@ -42,6 +43,13 @@ fn days_until_over(days: Days, percent: u64) -> u64
     (days.get() * percent).div_ceil(100).max(1)
 }
 
+/// The later of two days, none where one is none.
+pub(crate) fn later_of(one: Option<Day>, other: Option<Day>) -> Option<Day>
+    ensures { (day : Civil) → is_reached result day ≡ (is_reached one day && is_reached other day) }
+{
+    Some(later(one?, other?))
+}
+
 fn later(one: Day, other: Day) -> Day
     ensures { (day : Civil) → int_le (day_number result) (day_number day)
         ≡ (int_le (day_number one) (day_number day) && int_le (day_number other) (day_number day)) }
@@ -53,7 +61,8 @@ fn later(one: Day, other: Day) -> Day
     }
 }
 
-fn first_day() -> Day
+/// The first day of the calendar.
+pub(crate) fn first_day() -> Day
     ensures { (day : Civil) → IsCivil day → int_le (day_number result) (day_number day) ≡ true }
 {
     match date_read(FIRST_DAY) {

@@ -3,7 +3,6 @@ ghost use Rattle.std.specs.Prelude.{◌≡◌, ◌≤◌, IfOk, MatchOption, Ok}
 ghost use Rattle.std.specs.Arc.{arc_value};
 ghost use Rattle.rx_fields.specs.Calendar.{Civil, IsCivil};
 ghost use Rattle.rx_io.specs.Pieces.{text_of};
-ghost use Rattle.rx_books_store.specs.BooksFile.{IsBooksText};
 ghost use Rattle.rx_books_store.specs.Figures.{books_of};
 ghost use Rattle.rx_books_store.specs.LedgerBooks.{LedgerBooks};
 ghost use Rattle.rx_books_upkeep.specs.Ageing.{IsFirstSafe, IsSafe, dropped};
@@ -12,7 +11,7 @@ ghost use Rattle.rx_books_upkeep.specs.TextFault.{GivesAs};
 ghost use Rattle.rx_books_upkeep.specs.Texts.{aged_made, changes_made, changes_put, listed, members_founded, members_made, members_put, no_books};
 ghost use Rattle.rx_books_upkeep.specs.Texts.{opened, seen_aged, seen_members};
 
-use crate::aged_text::{aged_text, text_of_three};
+use crate::aged_text::aged_text;
 use crate::change::{Loaded, MemberChange};
 use crate::loaded_text::loaded_text;
 use crate::table::read_members;
@@ -44,7 +43,7 @@ pub struct AgedText {
     /// The text of the end books.
     pub books: Pieces,
     /// The lines of the claims that left, as in a books file.
-    pub dropped: Vec<u8>,
+    pub dropped: Pieces,
     /// How many claims left.
     pub left: usize,
     /// The first day from which on no batch shows that they left; None where the calendar ends before.
@@ -71,7 +70,7 @@ pub fn members_text<R: Threads + Sync>(
     let books = books?;
     let table = table?;
     let done = loaded_text(rt, alloc, &books, &table);
-    drop(books);
+    free(rt, books);
     done
 }
 
@@ -137,9 +136,14 @@ pub fn age_text<R: Threads + Sync>(
     if before > period.first() {
         return Err(UpkeepFault::AfterPeriod);
     }
-    let text = text_of_three(rt, alloc, parts, &opened, books)?;
-    let done = aged_text(rt, alloc, &opened, &text, before, period, refill_percent)?;
-    Ok(done)
+    let done = aged_text(rt, alloc, &opened, before, period, refill_percent);
+    free(rt, opened);
+    Ok(done?)
+}
+
+// Frees the books, by a thread of its own where one can be started: nobody waits for it.
+fn free<R: Threads>(rt: &R, books: Books) {
+    let _ = thread::spawn(rt, move || drop(books));
 }
 
 // The books and the members of these texts, each read on a thread of its own.
@@ -178,7 +182,6 @@ fn opened<R: Threads + Sync>(
 ) -> Result<Books, UpkeepFault>
     ensures books { GivesAs (λ b. b) result (opened (arc_value text.now).items) }
     ensures lines { ReadsLines result }
-    ensures text { IfOk result (λ b. IsBooksText (arc_value text.now).items b.period b.ledger) }
 {
     match Books::read_shared(rt, alloc, parts, text) {
         Ok(books) => Ok(books),

@@ -15,7 +15,7 @@ pub struct TwoOutputs<'a> {
     pub books: &'a Pieces,
     pub other: &'a str,
     pub name: ProgramFile,
-    pub text: &'a [u8],
+    pub text: &'a Pieces,
     pub safe: bool,
 }
 
@@ -81,7 +81,7 @@ impl<'a> TwoOutputs<'a> {
         end_books: &mut KeptFile,
         other: &mut KeptFile,
     ) -> Result<(), Ending> {
-        other.put(self.name, self.text)?;
+        other.put_pieces(rt, self.name, self.text)?;
         end_books.put_pieces(rt, END_BOOKS, self.books)?;
         other.take_path(rt)?;
         end_books.take_path(rt)

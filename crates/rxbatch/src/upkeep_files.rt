@@ -123,7 +123,9 @@ fn write_members(
         let put = write_books(rt, words.books_out, words.safe, inputs, &done.books);
         return put.map_err(|ending| ending.at_path(rt, words.books_out));
     };
-    let text = changes_text(rt.alloc(), &done.changes)?;
+    let mut texts = Vec::new(rt.alloc());
+    texts.push(changes_text(rt.alloc(), &done.changes)?)?;
+    let text = Pieces::Texts(texts);
     let outputs = TwoOutputs {
         books_out: words.books_out,
         books: &done.books,

@@ -6,11 +6,11 @@ use Rattle.rx_books_upkeep.proofs.FiguredText.{above_is}
 use Rattle.rx_books_upkeep.proofs.figured.above_claims.Goals as goal
 
 pub returns : goal.returns
-returns c =
+returns g c =
     let b = c.args.books.now.books in
     let lines = person_lines b c.args.members.now in
     let head = ended (head_text (record { version = Three; period = c.period.result })) in
-    c.in_ok-put_persons.ensures
+    c.with_persons.ensures
     ∙ ap (λ t. t ++ lines) (c.in_ok-put_head.ensures ∙ ap (λ t. t ++ head) c.in_ok-text.ensures.items)
     ∙ ap (λ p. ended (head_text (record { version = Three; period = p })) ++ lines) c.period.ensures.value
     ∙ above_is b c.args.members.now

@@ -1,13 +1,11 @@
-use Rattle.std.proofs.Common.{◌++◌, ap, ◌∙◌}
+use Rattle.std.proofs.Common.{ap, ◌∙◌}
 use Rattle.rx_books_upkeep.specs.Figured.{family_lines}
 use Rattle.rx_books_upkeep.proofs.FiguredText.{below_is}
 use Rattle.rx_books_upkeep.proofs.figured.below_claims.Goals as goal
 
 pub returns : goal.returns
-returns c =
+returns g c =
     let b = c.args.books.now.books in
-    let fs = c.as_slice.result.now in
-    c.in_ok-put_families.ensures
-    ∙ ap (λ t. t ++ family_lines b fs) c.in_ok-text.ensures.items
+    c.families_text.ensures
     ∙ ap (family_lines b) c.as_slice.ensures.value
     ∙ below_is b c.in_ok-families.families c.args.members.now c.in_ok-families.ensures

@@ -1,4 +1,4 @@
-use Rattle.std.proofs.Common.{◌≡◌, ◌+◌, ◌++◌, length, Ok, false, true, sym, subst, ap, ◌∙◌}
+use Rattle.std.proofs.Common.{◌≡◌, ◌+◌, ◌++◌, length, false, true, sym, subst, ap, ◌∙◌}
 use Rattle.std.specs.Prelude.{nat_lt}
 use Rattle.rx_fields.specs.declared.limits.TheConstants.{MOST_LINES}
 use Rattle.rx_io.specs.Pieces.{text_of}
@@ -40,12 +40,11 @@ returns-clause-text g c =
     let text : text_of c.in_ok-end_books.end_books ≡ sides.above.items ++ (claims ++ sides.below.items) =
     c.in_ok-end_books.ensures ∙ ap (λ t. sides.above.items ++ (claims ++ t)) c.deref-3.ensures.value in
     not_long b c.args.table.now sides.above.items sides.below.items lines made.above made.below count few claims
-    (text_of c.in_ok-end_books.end_books) (counts_in sides.changes.items)
-    (ap (λ (x : LedgerBooks). claims_text x.ledger.rows) same) text (ap counts_in made.changes)
-    ∙ ap Ok (sym c.members_text_of.ensures.text)
+    (text_of c.in_ok-end_books.end_books) sides.counts
+    (ap (λ (x : LedgerBooks). claims_text x.ledger.rows) same) text (made.counts ∙ ap counts_in made.changes)
 
 pub returns-clause-changes : goal.returns-clause-changes
 returns-clause-changes g c =
     let same : c.books-books.result.now.books ≡ c.args.books.now = c.books-books.ensures ∙ c.in_ok-lent.ensures in
     let made = subst (λ (x : LedgerBooks). AreLoaded x c.args.table.now c.in_ok-sides.sides) same c.in_ok-sides.ensures in
-    sym made.changes ∙ ap (λ v. v.items) (sym c.members_text_of.ensures.changes)
+    sym made.changes

@@ -1,50 +1,13 @@
-use Rattle.std.proofs.Common.{◌≡◌, ◌++◌, ◌∷◌, ◌∙◌, [], ap, subst, sym, refl, false, true, drop, ◌+◌}
+use Rattle.std.proofs.Common.{◌≡◌, ◌∙◌, ap, false, sym, true}
 use Rattle.rx_sorted.specs.Ascending.{is_ascending}
-use Rattle.rx_sorted.proofs.AllSlots.{drop_next, none_left}
-use Rattle.rx_sorted.proofs.Kept.{IsAscending-drop, IsAscending-put_all, is_ascending-from_fact}
+use Rattle.rx_sorted.proofs.Kept.{is_ascending-from_fact}
 use Rattle.rx_ledger.specs.Members.{member_cmp, member_key}
 use Rattle.rx_ledger.proofs.Orders.{member_total}
-use Rattle.rx_books_upkeep.proofs.MergedMembers.{Rises, joined, joined_more, rest_rises}
 use Rattle.rx_books_upkeep.proofs.merging.merged.Goals as goal
-
-pub table-preserved : goal.table-preserved
-table-preserved c =
-    let i = c.table.member-index in
-    let y = c.member-item.result in
-    let ys = drop (i + 1) c.args.table.now in
-    let rest = c.table.rest.now in
-    let zs = c.sides_of.result.0.now in
-    let after = c.sides_of.result.1.now in
-    let left = drop_next i y c.args.table.now c.table-test.true c.member-item.is in
-    let above : Rises (y ∷ ys) =
-    subst Rises left (IsAscending-drop member_cmp member_total member_key i c.args.table.now c.requires.table) in
-    let is = c.sides_of.ensures y refl in
-    record {
-      rise = rest_rises rest ys y zs after c.table.invariant.rise above is;
-      so_far = ap (λ ms. ms ++ joined after ys) (c.in_ok-push.ensures.items
-          ∙ ap (λ ms. ms ++ y ∷ []) c.in_ok-extend_from_slice.ensures.items)
-          ∙ joined_more rest ys y zs after c.table.invariant.rise above is c.table.list.items
-          (joined c.args.members.now c.args.table.now)
-          (ap (λ ms. c.table.list.items ++ joined rest ms) (sym left) ∙ c.table.invariant.so_far);
-    }
 
 pub unreachable-requires : goal.unreachable-requires
 unreachable-requires c =
-    let none : drop c.table.member-index c.args.table.now ≡ [] =
-    none_left c.table.member-index c.args.table.now c.table-test.false in
-    let whole : c.extend_from_slice-2.new.self.items ≡ joined c.args.members.now c.args.table.now =
-    c.in_ok-extend_from_slice-2.ensures.items
-    ∙ ap (λ ms. c.table.list.items ++ joined c.table.rest.now ms) (sym none) ∙ c.table.invariant.so_far in
-    let rise : is_ascending member_cmp member_key c.extend_from_slice-2.new.self.items ≡ true =
-    ap (is_ascending member_cmp member_key) whole
-    ∙ is_ascending-from_fact member_cmp member_total member_key (joined c.args.members.now c.args.table.now)
-    (IsAscending-put_all member_cmp member_total member_key c.args.members.now c.args.table.now c.requires.members) in
+    let rise : is_ascending member_cmp member_key c.in_ok-list.list.items ≡ true =
+    is_ascending-from_fact member_cmp member_total member_key c.in_ok-list.list.items c.in_ok-list.ensures.rise in
     let e : false ≡ true = c.in-Err.ensures.ok ∙ rise in
     cc
-
-pub returns : goal.returns
-returns c =
-    let none : drop c.table.member-index c.args.table.now ≡ [] =
-    none_left c.table.member-index c.args.table.now c.table-test.false in
-    c.in-Ok.ensures.value ∙ c.in_ok-extend_from_slice-2.ensures.items
-    ∙ ap (λ ms. c.table.list.items ++ joined c.table.rest.now ms) (sym none) ∙ c.table.invariant.so_far

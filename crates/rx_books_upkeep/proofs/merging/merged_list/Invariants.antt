@@ -1,6 +1,6 @@
 use Rattle.std.proofs.Common.{◌≡◌, ◌++◌, drop}
 use Rattle.rx_books_upkeep.proofs.MergedMembers.{Rises, joined}
-use Rattle.rx_books_upkeep.proofs.merging.merged.Given as goal
+use Rattle.rx_books_upkeep.proofs.merging.merged_list.Given as goal
 
 abbrev pub invariant-table : goal.invariant-table
 invariant-table l = record {

@@ -1,0 +1,181 @@
+-- Claims that are cut into those that leave and those that stay.
+use Rattle.std.proofs.Common.{◌≡◌, ℕ, suc, ◌+◌, ◌<◌, Bool, true, false, List, [], ◌∷◌, ◌++◌, Option, Some, None, length, get_or, take}
+use Rattle.std.proofs.Common.{refl, sym, subst, ap, ◌∙◌, inl, inr, arith, append_assoc, length-append}
+use Rattle.std.specs.Prelude.{◌&&◌, int_le, not, MatchOption, filter}
+use Rattle.std.specs.List.{AllZip, flat_map, list_all}
+use Rattle.std.specs.Vec.{vec_items}
+use Rattle.std.specs.declared.vec.Vec.{Vec}
+use Rattle.std.proofs.lemmas.Bool.{both_ways, cases_Bool}
+use Rattle.std.proofs.lemmas.Grind.{flat_map-append}
+use Rattle.std.proofs.lemmas.List.{append-nil, take_more}
+use Rattle.std.proofs.lemmas.List.Elements.{filter-append}
+use Rattle.std.proofs.lemmas.List.Folds.{list_all-append}
+use Rattle.std.proofs.lemmas.Int.{ints}
+use Rattle.rx_fields.specs.Calendar.{Civil, IsCivil, day_number}
+use Rattle.rx_ledger.specs.declared.row.Row.{Row}
+use Rattle.rx_books_text.specs.declared.line.Line.TheVariants as line
+use Rattle.rx_books_text.specs.declared.version.Version.TheVariants.{Three}
+use Rattle.rx_books_text.specs.LineText.{ended, line_text}
+use Rattle.rx_books_store.specs.BooksText.{claims_text}
+use Rattle.rx_books_upkeep.specs.declared.cut_claims.CutClaims.{CutClaims}
+use Rattle.rx_books_upkeep.specs.declared.cut_claims.Cuts.{Cuts}
+use Rattle.rx_books_upkeep.specs.Ageing.{IsFirstSafe, IsSafe, dropped, is_before, is_over}
+use Rattle.rx_books_upkeep.specs.AgedText.{AreCut, IsCut, IsOverFrom, is_reached, staying}
+use Rattle.rx_books_upkeep.proofs.SafeDays.{le_from, le_true}
+
+abbrev line_of : Row → List ℕ
+line_of r = ended (line_text Three (line.Claim r))
+
+and_true : (b : Bool) → (b && true) ≡ b
+and_true true = refl
+and_true false = refl
+
+module _ (percent : ℕ) (day : Civil) where
+  -- ---- claims, and others after them
+
+  staying_both : (rows more : List Row)
+      → claims_text (staying day (rows ++ more)) ≡ claims_text (staying day rows) ++ claims_text (staying day more)
+  staying_both rows more =
+      ap claims_text (filter-append (λ r. not (is_before day r)) rows more)
+      ∙ flat_map-append line_of (staying day rows) (staying day more)
+
+  leaving_both : (rows more : List Row)
+      → claims_text (dropped day (rows ++ more)) ≡ claims_text (dropped day rows) ++ claims_text (dropped day more)
+  leaving_both rows more =
+      ap claims_text (filter-append (is_before day) rows more) ∙ flat_map-append line_of (dropped day rows) (dropped day more)
+
+  left_both : (rows more : List Row) → length (dropped day (rows ++ more)) ≡ length (dropped day rows) + length (dropped day more)
+  left_both rows more =
+      ap length (filter-append (is_before day) rows more) ∙ length-append (dropped day rows) (dropped day more)
+
+  over_both : (rows more : List Row) (first second both : Option Civil) → IsOverFrom percent rows first
+      → IsOverFrom percent more second → ((d : Civil) → is_reached both d ≡ (is_reached first d && is_reached second d))
+      → IsOverFrom percent (rows ++ more) both
+  over_both rows more first second both one two later d civil =
+      list_all-append (is_over percent d) rows more ∙ (λ i. one d civil i && two d civil i) ∙ sym (later d)
+
+  dropped_over : (rows more : List Row) (first second both : Option Civil) → IsOverFrom percent (dropped day rows) first
+      → IsOverFrom percent (dropped day more) second
+      → ((d : Civil) → is_reached both d ≡ (is_reached first d && is_reached second d))
+      → IsOverFrom percent (dropped day (rows ++ more)) both
+  dropped_over rows more first second both one two later =
+      subst (λ (rs : List Row). IsOverFrom percent rs both) (sym (filter-append (is_before day) rows more))
+      (over_both (dropped day rows) (dropped day more) first second both one two later)
+
+  -- ---- one claim more
+
+  over_one : (r : Row) (over : Option Civil)
+      → MatchOption over ((d : Civil) → IsCivil d → is_over percent d r ≡ false)
+      (λ first. (d : Civil) → is_over percent d r ≡ int_le (day_number first) (day_number d))
+      → IsOverFrom percent (r ∷ []) over
+  over_one r None never d civil = rw (never d civil) refl
+  over_one r (Some first) from d civil = and_true (is_over percent d r) ∙ from d
+
+  -- nothing yet
+  pub over_none : (first : Civil) → ((d : Civil) → IsCivil d → int_le (day_number first) (day_number d) ≡ true)
+      → IsOverFrom percent [] (Some first)
+  over_none first before d civil = sym (before d civil)
+
+  module _ (rows : List Row) (r : Row) (old new : CutClaims) (line : List ℕ) (cut : IsCut percent day rows old)
+      (line_is : line ≡ claims_text (r ∷ [])) where
+    pub one_stays : is_before day r ≡ false → new.staying.items ≡ old.staying.items ++ line → new.leaving ≡ old.leaving
+        → new.left ≡ old.left → new.first_safe ≡ old.first_safe → IsCut percent day (rows ++ r ∷ []) new
+    one_stays stays put same_leaving same_left same_first =
+        let here : staying day (r ∷ []) ≡ r ∷ [] = rw stays refl in
+        let none : dropped day (r ∷ []) ≡ [] = rw stays refl in
+        let all : dropped day (rows ++ r ∷ []) ≡ dropped day rows =
+        filter-append (is_before day) rows (r ∷ []) ∙ ap (λ (rs : List Row). dropped day rows ++ rs) none
+        ∙ append-nil (dropped day rows) in
+        record {
+          staying = put ∙ (λ i. cut.staying i ++ line_is i)
+              ∙ ap (λ (rs : List Row). claims_text (staying day rows) ++ claims_text rs) (sym here)
+              ∙ sym (staying_both rows (r ∷ []));
+          leaving = ap (λ (v : Vec ℕ _). v.items) same_leaving ∙ cut.leaving ∙ ap claims_text (sym all);
+          left = same_left ∙ cut.left ∙ ap length (sym all);
+          over = subst (λ (rs : List Row). IsOverFrom percent rs new.first_safe) (sym all)
+              (subst (IsOverFrom percent (dropped day rows)) (sym same_first) cut.over);
+        }
+
+    pub one_leaves : (over : Option Civil) → is_before day r ≡ true → new.leaving.items ≡ old.leaving.items ++ line
+        → new.staying ≡ old.staying → new.left ≡ old.left + 1
+        → MatchOption over ((d : Civil) → IsCivil d → is_over percent d r ≡ false)
+        (λ first. (d : Civil) → is_over percent d r ≡ int_le (day_number first) (day_number d))
+        → ((d : Civil) → is_reached new.first_safe d ≡ (is_reached old.first_safe d && is_reached over d))
+        → IsCut percent day (rows ++ r ∷ []) new
+    one_leaves over leaves put same_staying more from later =
+        let here : dropped day (r ∷ []) ≡ r ∷ [] = rw leaves refl in
+        let none : staying day (r ∷ []) ≡ [] = rw leaves refl in
+        let all : staying day (rows ++ r ∷ []) ≡ staying day rows =
+        filter-append (λ q. not (is_before day q)) rows (r ∷ []) ∙ ap (λ (rs : List Row). staying day rows ++ rs) none
+        ∙ append-nil (staying day rows) in
+        record {
+          staying = ap (λ (v : Vec ℕ _). v.items) same_staying ∙ cut.staying ∙ ap claims_text (sym all);
+          leaving = put ∙ (λ i. cut.leaving i ++ line_is i)
+              ∙ ap (λ (rs : List Row). claims_text (dropped day rows) ++ claims_text rs) (sym here)
+              ∙ sym (leaving_both rows (r ∷ []));
+          left = more ∙ (λ i. cut.left i + length (sym here i)) ∙ sym (left_both rows (r ∷ []));
+          over = dropped_over rows (r ∷ []) old.first_safe over new.first_safe cut.over
+              (subst (λ (rs : List Row). IsOverFrom percent rs over) (sym here) (over_one r over from)) later;
+        }
+
+  -- ---- the claims of one part more
+
+  pub part_more : (rows more : List Row) (old new : Cuts) (cut : CutClaims) → AreCut percent day rows old → IsCut percent day more cut
+      → new.staying.items ≡ old.staying.items ++ cut.staying ∷ [] → new.leaving.items ≡ old.leaving.items ++ cut.leaving ∷ []
+      → new.left ≡ old.left + cut.left
+      → ((d : Civil) → is_reached new.first_safe d ≡ (is_reached old.first_safe d && is_reached cut.first_safe d))
+      → AreCut percent day (rows ++ more) new
+  part_more rows more old new cut are is stay leave count later = record {
+    staying = ap (flat_map vec_items) stay ∙ flat_map-append vec_items old.staying.items (cut.staying ∷ [])
+        ∙ (λ i. are.staying i ++ (append-nil cut.staying.items ∙ is.staying) i) ∙ sym (staying_both rows more);
+    leaving = ap (flat_map vec_items) leave ∙ flat_map-append vec_items old.leaving.items (cut.leaving ∷ [])
+        ∙ (λ i. are.leaving i ++ (append-nil cut.leaving.items ∙ is.leaving) i) ∙ sym (leaving_both rows more);
+    left = count ∙ (λ i. are.left i + is.left i) ∙ sym (left_both rows more);
+    over = dropped_over rows more old.first_safe cut.first_safe new.first_safe are.over is.over later;
+  }
+
+-- the next part, cut
+pub next_part : {C : Type 0} (Cut : List Row → C → Type 0) (parts : List (List Row)) (done : List C) (c : C) (rest : List C)
+    → AllZip Cut parts (done ++ c ∷ rest)
+    → (part : List Row) × (Cut part c
+    × (flat_map (λ p. p) (take (length done + 1) parts) ≡ flat_map (λ p. p) (take (length done) parts) ++ part))
+next_part Cut [] [] c rest all = absurd all
+next_part Cut [] (x ∷ done) c rest all = absurd all
+next_part Cut (p ∷ parts) [] c rest all = (p, (all.0, append-nil p))
+next_part Cut (p ∷ parts) (x ∷ done) c rest all =
+    let next = next_part Cut parts done c rest all.1 in (
+      next.0,
+      (
+        next.1.0,
+        ap (λ (t : List Row). p ++ t) next.1.1 ∙ sym (append_assoc p (flat_map (λ (q : List Row). q) (take (length done) parts)) next.0),
+      ),
+    )
+
+-- all of them
+pub all_parts : {C : Type 0} (Cut : List Row → C → Type 0) (parts : List (List Row)) (cuts : List C) → AllZip Cut parts cuts
+    → take (length cuts) parts ≡ parts
+all_parts Cut [] [] all = refl
+all_parts Cut [] (c ∷ cuts) all = absurd all
+all_parts Cut (p ∷ parts) [] all = absurd all
+all_parts Cut (p ∷ parts) (c ∷ cuts) all = ap (λ (ps : List (List Row)). p ∷ ps) (all_parts Cut parts cuts all.1)
+
+-- claims of which none leaves
+pub whole : (day : Civil) (rows : List Row) → dropped day rows ≡ [] → staying day rows ≡ rows
+whole day [] none = refl
+whole day (r ∷ rows) none = elim (cases_Bool (is_before day r)) [
+  | inl leaves ↦ absurd (let e = rw leaves at none in cc)
+  | inr stays ↦ rw stays (ap (λ (rs : List Row). r ∷ rs) (whole day rows (rw stays at none)))
+]
+
+-- ---- the first safe day
+
+pub first_safe_is : (percent : ℕ) (rows : List Row) (first : Option Civil) → IsOverFrom percent rows first
+    → MatchOption first ((d : Civil) → IsCivil d → ¬ IsSafe percent rows d) (IsFirstSafe percent rows)
+first_safe_is percent rows None over d civil safe =
+    both_ways _ (over d civil) (safe d (record { civil = civil; from = omega (arith, ints) }))
+first_safe_is percent rows (Some first) over = record {
+  safe = λ date from. over date from.civil ∙ le_true (day_number first) (day_number date) from.from;
+  least = λ other civil safe.
+      le_from (day_number first) (day_number other)
+      (sym (over other civil) ∙ safe other (record { civil = civil; from = omega (arith, ints) }));
+}
