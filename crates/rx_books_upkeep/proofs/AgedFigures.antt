@@ -68,7 +68,12 @@ module _ (before : Civil) (p : Span) (L : Ledger) (early : is_gt (day_cmp before
   below_aged = ap (λ ts. lines_text (map (λ t. line.Total t) ts)) (totals (families_of L.members))
 
   -- the claims that stay, between what stands above and below those of the books
-  pub aged_is : (claims : List ℕ) → claims ≡ claims_text (aged before L).rows
+  aged_is : (claims : List ℕ) → claims ≡ claims_text (aged before L).rows
       → above_text p L ++ (claims ++ below_text p L) ≡ books_text Three p (aged before L)
   aged_is claims is =
       (λ i. sym above_aged i ++ (is i ++ sym below_aged i)) ∙ books_text-parts p (aged before L)
+
+  -- the text of the claims that stay
+  pub aged_between : (above claims below : List ℕ) → above ≡ above_text p L → claims ≡ claims_text (aged before L).rows
+      → below ≡ below_text p L → above ++ (claims ++ below) ≡ books_text Three p (aged before L)
+  aged_between above claims below is_above are is_below = (λ i. is_above i ++ (claims ++ is_below i)) ∙ aged_is claims are

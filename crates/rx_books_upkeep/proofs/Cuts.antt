@@ -134,30 +134,81 @@ module _ (percent : ℕ) (day : Civil) where
     over = dropped_over rows more old.first_safe cut.first_safe new.first_safe are.over is.over later;
   }
 
--- the next part, cut
-pub next_part : {C : Type 0} (Cut : List Row → C → Type 0) (parts : List (List Row)) (done : List C) (c : C) (rest : List C)
-    → AllZip Cut parts (done ++ c ∷ rest)
-    → (part : List Row) × (Cut part c
-    × (flat_map (λ p. p) (take (length done + 1) parts) ≡ flat_map (λ p. p) (take (length done) parts) ++ part))
+-- ---- claims one after another
+
+-- these are cut, and the others are still to come
+pub record IsCutSoFar (percent : ℕ) (day : Civil) (all left : List Row) (cut : CutClaims) : Type 0 where
+  pub done : List Row
+  pub split : done ++ left ≡ all
+  pub cut : IsCut percent day done cut
+
+pub one_more : (percent : ℕ) (day : Civil) (all left more : List Row) (r : Row) (old new : CutClaims)
+    → (far : IsCutSoFar percent day all left old) → left ≡ r ∷ more → IsCut percent day (far.done ++ r ∷ []) new
+    → IsCutSoFar percent day all more new
+one_more percent day all left more r old new far next is = record {
+  done = far.done ++ r ∷ [];
+  split = append_assoc far.done (r ∷ []) more ∙ ap (λ (rs : List Row). far.done ++ rs) (sym next) ∙ far.split;
+  cut = is;
+}
+
+pub all_cut : (percent : ℕ) (day : Civil) (all left : List Row) (cut : CutClaims) → IsCutSoFar percent day all left cut → left ≡ []
+    → IsCut percent day all cut
+all_cut percent day all left cut far none =
+    let same : far.done ≡ all = sym (append-nil far.done) ∙ ap (λ (rs : List Row). far.done ++ rs) (sym none) ∙ far.split in
+    subst (λ (rs : List Row). IsCut percent day rs cut) same far.cut
+
+-- ---- parts one after another
+
+-- the claims of the first parts, as many as these
+abbrev pub first_claims : List (List Row) → ℕ → List Row
+first_claims parts n = flat_map (λ part. part) (take n parts)
+
+-- a part of which something holds, after those so far
+pub record NextPart (Cut : List Row → CutClaims → Type 0) (parts : List (List Row)) (done : List CutClaims) (c : CutClaims) : Type 0 where
+  pub part : List Row
+  pub is : Cut part c
+  pub more : first_claims parts (length (done ++ c ∷ [])) ≡ first_claims parts (length done) ++ part
+
+pub next_part : (Cut : List Row → CutClaims → Type 0) (parts : List (List Row)) (done : List CutClaims) (c : CutClaims)
+    (rest : List CutClaims) → AllZip Cut parts (done ++ c ∷ rest) → NextPart Cut parts done c
 next_part Cut [] [] c rest all = absurd all
 next_part Cut [] (x ∷ done) c rest all = absurd all
-next_part Cut (p ∷ parts) [] c rest all = (p, (all.0, append-nil p))
+next_part Cut (p ∷ parts) [] c rest all = record { part = p; is = all.0; more = append-nil p }
 next_part Cut (p ∷ parts) (x ∷ done) c rest all =
-    let next = next_part Cut parts done c rest all.1 in (
-      next.0,
-      (
-        next.1.0,
-        ap (λ (t : List Row). p ++ t) next.1.1 ∙ sym (append_assoc p (flat_map (λ (q : List Row). q) (take (length done) parts)) next.0),
-      ),
-    )
+    let next = next_part Cut parts done c rest all.1 in
+    record {
+      part = next.part;
+      is = next.is;
+      more = ap (λ (t : List Row). p ++ t) next.more ∙ sym (append_assoc p (first_claims parts (length done)) next.part);
+    }
 
 -- all of them
-pub all_parts : {C : Type 0} (Cut : List Row → C → Type 0) (parts : List (List Row)) (cuts : List C) → AllZip Cut parts cuts
+pub all_parts : (Cut : List Row → CutClaims → Type 0) (parts : List (List Row)) (cuts : List CutClaims) → AllZip Cut parts cuts
     → take (length cuts) parts ≡ parts
 all_parts Cut [] [] all = refl
 all_parts Cut [] (c ∷ cuts) all = absurd all
 all_parts Cut (p ∷ parts) [] all = absurd all
 all_parts Cut (p ∷ parts) (c ∷ cuts) all = ap (λ (ps : List (List Row)). p ∷ ps) (all_parts Cut parts cuts all.1)
+
+-- the claims of all parts, one part more, and none more
+pub part_taken : (percent : ℕ) (day : Civil) (parts : List (List Row)) (found done rest : List CutClaims) (c : CutClaims)
+    (old new : Cuts) → AllZip (IsCut percent day) parts found → done ++ (c ∷ rest) ≡ found
+    → AreCut percent day (first_claims parts (length done)) old
+    → ((rows more : List Row) → AreCut percent day rows old → IsCut percent day more c → AreCut percent day (rows ++ more) new)
+    → AreCut percent day (first_claims parts (length (done ++ c ∷ []))) new
+part_taken percent day parts found done rest c old new each split far taken =
+    let next = next_part (IsCut percent day) parts done c rest (subst (AllZip (IsCut percent day) parts) (sym split) each) in
+    subst (λ (rs : List Row). AreCut percent day rs new) (sym next.more)
+    (taken (first_claims parts (length done)) next.part far next.is)
+
+pub parts_taken : (percent : ℕ) (day : Civil) (parts : List (List Row)) (found done rest : List CutClaims) (cuts : Cuts)
+    → AllZip (IsCut percent day) parts found → done ++ rest ≡ found → rest ≡ []
+    → AreCut percent day (first_claims parts (length done)) cuts → AreCut percent day (flat_map (λ part. part) parts) cuts
+parts_taken percent day parts found done rest cuts each split none far =
+    let same : done ≡ found = sym (append-nil done) ∙ ap (λ (cs : List CutClaims). done ++ cs) (sym none) ∙ split in
+    let all : take (length done) parts ≡ parts =
+    ap (λ (cs : List CutClaims). take (length cs) parts) same ∙ all_parts (IsCut percent day) parts found each in
+    subst (λ (ps : List (List Row)). AreCut percent day (flat_map (λ part. part) ps) cuts) all far
 
 -- claims of which none leaves
 pub whole : (day : Civil) (rows : List Row) → dropped day rows ≡ [] → staying day rows ≡ rows
