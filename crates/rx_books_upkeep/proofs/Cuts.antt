@@ -1,13 +1,12 @@
 -- Claims that are cut into those that leave and those that stay.
-use Rattle.std.proofs.Common.{◌≡◌, ℕ, suc, ◌+◌, ◌<◌, Bool, true, false, List, [], ◌∷◌, ◌++◌, Option, Some, None, length, get_or, take}
+use Rattle.std.proofs.Common.{◌≡◌, ℕ, ◌+◌, Bool, true, false, List, [], ◌∷◌, ◌++◌, Option, Some, None, length, take}
 use Rattle.std.proofs.Common.{refl, sym, subst, ap, ◌∙◌, inl, inr, arith, append_assoc, length-append}
-use Rattle.std.specs.Prelude.{◌&&◌, int_le, not, MatchOption, filter}
-use Rattle.std.specs.List.{AllZip, flat_map, list_all}
-use Rattle.std.specs.Vec.{vec_items}
+use Rattle.std.specs.Prelude.{◌&&◌, int_le, not, MatchOption}
+use Rattle.std.specs.List.{AllZip, flat_map}
 use Rattle.std.specs.declared.vec.Vec.{Vec}
 use Rattle.std.proofs.lemmas.Bool.{both_ways, cases_Bool}
 use Rattle.std.proofs.lemmas.Grind.{flat_map-append}
-use Rattle.std.proofs.lemmas.List.{append-nil, take_more}
+use Rattle.std.proofs.lemmas.List.{append-nil}
 use Rattle.std.proofs.lemmas.List.Elements.{filter-append}
 use Rattle.std.proofs.lemmas.List.Folds.{list_all-append}
 use Rattle.std.proofs.lemmas.Int.{ints}
@@ -118,29 +117,13 @@ module _ (percent : ℕ) (day : Civil) where
               (subst (λ (rs : List Row). IsOverFrom percent rs over) (sym here) (over_one r over from)) later;
         }
 
-  -- ---- the claims of one part more
-
-  pub part_more : (rows more : List Row) (old new : Cuts) (cut : CutClaims) → AreCut percent day rows old → IsCut percent day more cut
-      → new.staying.items ≡ old.staying.items ++ cut.staying ∷ [] → new.leaving.items ≡ old.leaving.items ++ cut.leaving ∷ []
-      → new.left ≡ old.left + cut.left
-      → ((d : Civil) → is_reached new.first_safe d ≡ (is_reached old.first_safe d && is_reached cut.first_safe d))
-      → AreCut percent day (rows ++ more) new
-  part_more rows more old new cut are is stay leave count later = record {
-    staying = ap (flat_map vec_items) stay ∙ flat_map-append vec_items old.staying.items (cut.staying ∷ [])
-        ∙ (λ i. are.staying i ++ (append-nil cut.staying.items ∙ is.staying) i) ∙ sym (staying_both rows more);
-    leaving = ap (flat_map vec_items) leave ∙ flat_map-append vec_items old.leaving.items (cut.leaving ∷ [])
-        ∙ (λ i. are.leaving i ++ (append-nil cut.leaving.items ∙ is.leaving) i) ∙ sym (leaving_both rows more);
-    left = count ∙ (λ i. are.left i + is.left i) ∙ sym (left_both rows more);
-    over = dropped_over rows more old.first_safe cut.first_safe new.first_safe are.over is.over later;
-  }
-
 -- ---- claims one after another
 
 -- these are cut, and the others are still to come
-pub record IsCutSoFar (percent : ℕ) (day : Civil) (all left : List Row) (cut : CutClaims) : Type 0 where
+pub record IsCutSoFar (percent : ℕ) (day : Civil) (all left : List Row) (made : CutClaims) : Type 0 where
   pub done : List Row
   pub split : done ++ left ≡ all
-  pub cut : IsCut percent day done cut
+  pub cut : IsCut percent day done made
 
 pub one_more : (percent : ℕ) (day : Civil) (all left more : List Row) (r : Row) (old new : CutClaims)
     → (far : IsCutSoFar percent day all left old) → left ≡ r ∷ more → IsCut percent day (far.done ++ r ∷ []) new
@@ -222,7 +205,7 @@ whole day (r ∷ rows) none = elim (cases_Bool (is_before day r)) [
 
 pub first_safe_is : (percent : ℕ) (rows : List Row) (first : Option Civil) → IsOverFrom percent rows first
     → MatchOption first ((d : Civil) → IsCivil d → ¬ IsSafe percent rows d) (IsFirstSafe percent rows)
-first_safe_is percent rows None over d civil safe =
+first_safe_is percent rows None over = λ d civil safe.
     both_ways _ (over d civil) (safe d (record { civil = civil; from = omega (arith, ints) }))
 first_safe_is percent rows (Some first) over = record {
   safe = λ date from. over date from.civil ∙ le_true (day_number first) (day_number date) from.from;

@@ -1,9 +1,9 @@
 -- What stands above and below the claims of books with other members is made of figures of the ledger as it was.
-use Rattle.std.proofs.Common.{append_assoc, drop, get_or, take, true, false, ◌≡◌, ℕ, ◌+◌, ◌-◌, ◌<◌, ◌≤◌, ◌^◌, min, List, [], ◌∷◌, ◌++◌, length, cond, map, refl, sym, ap, ◌∙◌, inl, inr, arith}
+use Rattle.std.proofs.Common.{append_assoc, get_or, take, true, false, ◌≡◌, ℕ, ◌+◌, ◌-◌, ◌<◌, ◌≤◌, ◌^◌, min, List, [], ◌∷◌, ◌++◌, length, cond, map, refl, sym, ap, ◌∙◌, inl, inr, arith}
 use Rattle.std.specs.Prelude.{◌==◌, Err, Ok, nat_lt}
 use Rattle.std.proofs.lemmas.Bool.{cases_lt, le-ltb, lt-ltb}
 use Rattle.std.proofs.lemmas.Grind.{flat_map-append}
-use Rattle.std.proofs.lemmas.List.{append-nil, take-append-drop, take_more}
+use Rattle.std.proofs.lemmas.List.{append-nil, take_more}
 use Rattle.std.proofs.lemmas.List.Sums.{sum_by-append}
 use Rattle.rx_fields.specs.Numbered.{Span}
 use Rattle.rx_ledger.specs.declared.member.Member.{Member}
@@ -145,20 +145,3 @@ module _ (b : LedgerBooks) (table : List Member) (above below : List ℕ) (lines
       let same : text ≡ made = is ∙ text_between b.period (loaded b.ledger table) above claims below is_above is_below are in
       let all : counts ≡ counts_of b.ledger table = is_counts ∙ counted b.ledger table in
       rw test (λ i. Ok (sym same i, sym all i))
-
--- the lines of members and of families, cut in two
-pub persons_cut : (b : LedgerBooks) (ms : List Member) (n : ℕ) (front back before all : List ℕ)
-    → front ≡ before ++ person_lines b (take n ms) → back ≡ person_lines b (drop n ms) → all ≡ front ++ back
-    → all ≡ before ++ person_lines b ms
-persons_cut b ms n front back before all one two both =
-    both ∙ (λ i. one i ++ two i) ∙ append_assoc before (person_lines b (take n ms)) (person_lines b (drop n ms))
-    ∙ ap (λ t. before ++ t) (sym (flat_map-append (λ m. ended (line_text Three (person_line b m))) (take n ms) (drop n ms))
-    ∙ ap (person_lines b) (take-append-drop n ms))
-
-pub families_cut : (b : LedgerBooks) (fs : List Family) (n : ℕ) (front back all : List ℕ)
-    → front ≡ family_lines b (take n fs) → back ≡ family_lines b (drop n fs) → all ≡ front ++ back → all ≡ family_lines b fs
-families_cut b fs n front back all one two both =
-    both ∙ (λ i. one i ++ two i)
-    ∙ sym (flat_map-append (λ (f : Family). ended (line_text Three (line.Total (total_of Three b.period b.ledger f.id))))
-    (take n fs) (drop n fs))
-    ∙ ap (family_lines b) (take-append-drop n fs)

@@ -1,19 +1,19 @@
 -- Plumbing: claims that leave, and what is left without them.
-use Rattle.std.specs.Prelude.{◌≡◌, ℕ, Bool, false, int_le, not, List, [], Option, Some, None, filter, length, map}
-use Rattle.std.specs.List.{AllZip, flat_map, list_all}
+use Rattle.std.specs.Prelude.{◌≡◌, ℕ, Bool, false, int_le, not, List, Option, Some, None, filter, length}
+use Rattle.std.specs.List.{flat_map, list_all}
+use Rattle.std.specs.Vec.{vec_items}
 use Rattle.rx_fields.specs.Calendar.{Civil, IsCivil, day_number}
 use Rattle.rx_ledger.specs.declared.row.Row.{Row}
 use Rattle.rx_books_store.specs.BooksText.{claims_text}
 use Rattle.rx_books_upkeep.specs.declared.cut_claims.CutClaims.{CutClaims}
 use Rattle.rx_books_upkeep.specs.declared.cut_claims.Cuts.{Cuts}
-use Rattle.std.specs.Vec.{vec_items}
 use Rattle.rx_books_upkeep.specs.Ageing.{dropped, is_before, is_over}
 
 -- the claims that stay
 abbrev pub staying : Civil → List Row → List Row
 staying day rows = filter (λ r. not (is_before day r)) rows
 
--- whether the day is one of those from a first one on; none is where there is no first one
+-- whether the day is one of those from a first one on; without a first one none is
 abbrev pub is_reached : Option Civil → Civil → Bool
 is_reached None day = false
 is_reached (Some first) day = int_le (day_number first) (day_number day)

@@ -53,7 +53,10 @@ pub(crate) fn cut_claims<R: Threads + Sync>(
         return Ok(None);
     }
     match books.read_claims(alloc)? {
-        Some(claims) => Ok(Some(cut_in_parts(rt, alloc, &claims, day, percent)?)),
+        Some(claims) => {
+            let found = cut_each(rt, alloc, &claims, day, percent)?;
+            Ok(Some(gathered(alloc, found)?))
+        }
         None => Ok(Some(cut_in_one(alloc, books, day, percent)?)),
     }
 }
@@ -71,26 +74,7 @@ fn all_stay(books: &OpenBooks, day: Day) -> bool
     true
 }
 
-// The claims of these parts, cut, each part by a thread of its own.
-fn cut_in_parts<R: Threads + Sync>(
-    rt: &R,
-    alloc: Global,
-    parts: &[ReadClaims],
-    day: Day,
-    percent: u64,
-) -> Result<Cuts, Memory>
-    requires { percent ≤ 100 }
-    ensures { IfOk result (AreCut percent day (flat_map (λ part. part) parts.now)) }
-{
-    let found = cut_each(rt, alloc, parts, day, percent)?;
-    let mut cuts = Cuts::none(alloc);
-    for cut in found {
-        cuts.take(cut)?;
-    }
-    Ok(cuts)
-}
-
-// Each part cut, by as many threads as there are processors.
+// Each part of the claims cut, by as many threads as there are processors.
 fn cut_each<R: Threads + Sync>(
     rt: &R,
     alloc: Global,
@@ -126,6 +110,18 @@ fn cut_part(alloc: Global, part: &ReadClaims, day: Day, percent: u64) -> Result<
     Ok(cut)
 }
 
+// What was found in each part, one after another.
+fn gathered(alloc: Global, found: Vec<CutClaims>) -> Result<Cuts, Memory>
+    ensures { (percent : ℕ) (day : Civil) (parts : List (List Row)) → AllZip (IsCut percent day) parts found.items
+        → IfOk result (AreCut percent day (flat_map (λ part. part) parts)) }
+{
+    let mut cuts = Cuts::none(alloc);
+    for cut in found {
+        cuts.take(cut)?;
+    }
+    Ok(cuts)
+}
+
 // The claims of books that keep no text, cut in one part.
 fn cut_in_one(alloc: Global, books: &OpenBooks, day: Day, percent: u64) -> Result<Cuts, Memory>
     requires { percent ≤ 100 }
@@ -159,7 +155,7 @@ fn cut_standing(
 }
 
 impl CutClaims {
-    // No claim, with room for lines of so many bytes.
+    // No claim, with room for lines of this many bytes.
     fn none(alloc: Global, room: usize) -> Result<CutClaims, Memory>
         ensures { (percent : ℕ) (day : Civil) → IfOk result (IsCut percent day []) }
     {

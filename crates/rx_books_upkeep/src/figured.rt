@@ -155,7 +155,7 @@ fn families_text<R: Threads + Sync>(
     Ok(text)
 }
 
-// The total lines of these families, in a text with room for so many bytes.
+// The total lines of these families, in a text with room for this many bytes.
 fn totals_text(
     alloc: Global,
     room: usize,

@@ -1,4 +1,4 @@
-use Rattle.std.proofs.Common.{◌≡◌, ◌∙◌, ap, false, sym, true}
+use Rattle.std.proofs.Common.{◌≡◌, ◌∙◌, false, true}
 use Rattle.rx_sorted.specs.Ascending.{is_ascending}
 use Rattle.rx_sorted.proofs.Kept.{is_ascending-from_fact}
 use Rattle.rx_ledger.specs.Members.{member_cmp, member_key}

@@ -1,5 +1,4 @@
 use Rattle.std.proofs.Common.{◌≡◌, ◌++◌, ◌∷◌, ◌∙◌, [], ap, subst, sym, refl, drop, ◌+◌}
-use Rattle.rx_sorted.specs.Ascending.{IsAscending}
 use Rattle.rx_sorted.proofs.AllSlots.{drop_next, none_left}
 use Rattle.rx_sorted.proofs.Kept.{IsAscending-drop, IsAscending-put_all}
 use Rattle.rx_ledger.specs.Members.{member_cmp, member_key}

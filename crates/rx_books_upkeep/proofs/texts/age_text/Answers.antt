@@ -12,6 +12,6 @@ returns-clause-first_safe g c b is =
     let read = c.in_ok-opened.opened in
     let both : Ok b ≡ Ok read = ap (renamed of_books) (sym is) ∙ c.in_ok-opened.ensures.books in
     let same : read ≡ b = cc in
-    subst (λ (x : LedgerBooks). MatchOption c.in_ok-done.done.first_safe
+    subst (λ (x : LedgerBooks). MatchOption c.in_ok-done.field-0.first_safe
     ((day : Civil) → IsCivil day → ¬ IsSafe c.args.refill_percent (dropped c.args.before x.ledger.rows) day)
     (IsFirstSafe c.args.refill_percent (dropped c.args.before x.ledger.rows))) same c.in_ok-done.ensures.first_safe
