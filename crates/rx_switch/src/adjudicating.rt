@@ -4,7 +4,6 @@ ghost use Rattle.std.specs.Vec.{vec_items};
 ghost use Rattle.rx_books_store.specs.BooksText.{books_text};
 ghost use Rattle.rx_books_text.specs.declared.version.Version.TheVariants.{Three};
 ghost use Rattle.rx_fields.specs.declared.limits.TheConstants.{MOST_DETAILS};
-ghost use Rattle.rx_io.specs.Pieces.{text_of};
 ghost use Rattle.rx_ledger.specs.Fold.{fold_ledger, fold_replies};
 ghost use Rattle.rx_response.specs.Response.{response_text};
 ghost use Rattle.rx_settle.specs.Settlement.{settlement_text};
@@ -85,11 +84,12 @@ pub(crate) fn adjudicate<R: Threads + Wait + Sync, G: Gate + Sync>(
     } = accepted;
     let finished = finish_batch(rt, alloc, manner, &sheet, books, &batch, &asked)?;
     drop(asked);
-    let pieces = render(rt, alloc, parts, &batch, &stamp, &finished)?;
+    let Finished { books, replies } = finished;
+    let pieces = render(rt, alloc, parts, &batch, &stamp, books, &replies)?;
     let remains = Remains {
         sheet,
         batch,
-        finished,
+        replies,
     };
     Ok(Adjudicated {
         pieces,
@@ -109,7 +109,7 @@ pub(crate) fn wait_for<R: Threads>(rt: &R, freeing: Option<JoinHandle<()>>) {
 struct Remains {
     sheet: Sheet,
     batch: Batch,
-    finished: Finished,
+    replies: Vec<Reply>,
 }
 
 impl Remains {
@@ -125,58 +125,57 @@ impl Remains {
     }
 }
 
-// The texts of the replies to a batch's details, and of the books after them.
+// The texts of the replies to a batch's details, and of the books after them, which are freed before the others are made.
 fn render<R: Threads + Sync>(
     rt: &R,
     alloc: Global,
     parts: usize,
     batch: &Batch,
     stamp: &Stamp,
-    finished: &Finished,
+    books: Books,
+    replies: &[Reply],
 ) -> Result<OutputPieces, Memory>
-    requires equally_many { length batch.now.details ≡ length finished.now.replies.items }
+    requires equally_many { length batch.now.details ≡ length replies.now }
     requires few { length batch.now.details ≤ MOST_DETAILS }
     ensures { IfOk result (λ output. texts_in_pieces output ≡ record {
-      response = response_text batch.now.head stamp.now batch.now.details finished.now.replies.items;
-      books = books_text Three finished.now.books.period finished.now.books.ledger;
-      settlement = settlement_text batch.now.head.lot stamp.now finished.now.replies.items;
+      response = response_text batch.now.head stamp.now batch.now.details replies.now;
+      books = books_text Three books.period books.ledger;
+      settlement = settlement_text batch.now.head.lot stamp.now replies.now;
     }) }
 {
-    if parts < 2 {
-        let replied = render_replies(rt, alloc, batch, stamp, &finished.replies, parts)?;
-        let books = finished.books.write_parts(rt, alloc, parts)?;
-        return Ok(replied.with_books(books));
-    }
-    let (books, replied) = render_apart(rt, alloc, parts, batch, stamp, finished);
-    Ok(replied?.with_books(books?))
+    let written = books.write_parts(rt, alloc, parts)?;
+    let replied = render_while_freeing(rt, alloc, parts, books, batch, stamp, replies)?;
+    Ok(replied.with_books(written))
 }
 
-// The same texts, those of the books by a thread of their own.
-fn render_apart<R: Threads + Sync>(
+// The texts of the replies to a batch's details. The books are freed before, or by a thread of their own where there are
+// several parts.
+fn render_while_freeing<R: Threads + Sync>(
     rt: &R,
     alloc: Global,
     parts: usize,
+    books: Books,
     batch: &Batch,
     stamp: &Stamp,
-    finished: &Finished,
-) -> (Result<Vec<Pieces>, Memory>, Result<Replied, Memory>)
-    requires equally_many { length batch.now.details ≡ length finished.now.replies.items }
+    replies: &[Reply],
+) -> Result<Replied, Memory>
+    requires equally_many { length batch.now.details ≡ length replies.now }
     requires few { length batch.now.details ≤ MOST_DETAILS }
-    ensures books { IfOk result.0 (λ books. flat_map text_of books.items
-        ≡ books_text Three finished.now.books.period finished.now.books.ledger) }
-    ensures replied { IfOk result.1 (IsOfReplies batch.now stamp.now finished.now.replies.items) }
+    ensures { IfOk result (IsOfReplies batch.now stamp.now replies.now) }
 {
-    thread::join(
+    if parts < 2 {
+        drop(books);
+        return render_replies(rt, alloc, batch, stamp, replies, parts);
+    }
+    let (_, replied) = thread::join(
         rt,
-        || -> Result<Vec<Pieces>, Memory>
-            ensures { IfOk result (λ books. flat_map text_of books.items
-                ≡ books_text Three finished.entry.now.books.period finished.entry.now.books.ledger) }
-        { finished.books.write_parts(rt, alloc, parts) },
+        move || drop(books),
         || -> Result<Replied, Memory>
-            requires { (length batch.now.details ≡ length finished.now.replies.items) × (length batch.now.details ≤ MOST_DETAILS) }
-            ensures { IfOk result (IsOfReplies batch.entry.now stamp.entry.now finished.entry.now.replies.items) }
-        { render_replies(rt, alloc, batch, stamp, &finished.replies, parts) },
-    )
+            requires { (length batch.now.details ≡ length replies.now) × (length batch.now.details ≤ MOST_DETAILS) }
+            ensures { IfOk result (IsOfReplies batch.entry.now stamp.entry.now replies.entry.now) }
+        { render_replies(rt, alloc, batch, stamp, replies, parts) },
+    );
+    replied
 }
 
 // The texts of the replies to a batch's details.
