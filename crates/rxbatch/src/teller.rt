@@ -16,6 +16,9 @@ const FIRST: u64 = 1_000;
 
 const BETWEEN: u64 = 200;
 
+// After how many records the clock is looked at.
+const LOOKED_AT: u64 = 64;
+
 /// What reports a run, where that is asked for: its steps, and how many of its records are adjudicated.
 #[derive(Drop)]
 pub struct Teller<'a> {
@@ -144,7 +147,10 @@ impl Gate for Teller<'_> {
     fn leave(&self, _place: usize) {
         if self.is_asked {
             let before = self.adjudicated.fetch_add(1, Ordering::SeqCst);
-            self.tell_progress(before.saturating_add(1));
+            let adjudicated = before.saturating_add(1);
+            if adjudicated % LOOKED_AT == 0 {
+                self.tell_progress(adjudicated);
+            }
         }
     }
 
