@@ -92,15 +92,6 @@ fn with_persons<R: Threads + Sync>(
     Ok(all)
 }
 
-// The lines of these members.
-fn persons_text(alloc: Global, books: &OpenBooks, members: &[Member]) -> Result<Vec<u8>, Memory>
-    requires { IsLedger books.now.books.ledger }
-    ensures { IfOk result (λ text. text.items ≡ person_lines books.now.books members.now) }
-{
-    let text = Vec::with_capacity(alloc, members.len().saturating_mul(LINE))?;
-    after(text, books, members)
-}
-
 // The text with the lines of these members after it.
 fn after(text: Vec<u8>, books: &OpenBooks, members: &[Member]) -> Result<Vec<u8>, Memory>
     requires { IsLedger books.now.books.ledger }
@@ -109,6 +100,15 @@ fn after(text: Vec<u8>, books: &OpenBooks, members: &[Member]) -> Result<Vec<u8>
     let mut text = text;
     put_persons(&mut text, books, members)?;
     Ok(text)
+}
+
+// The lines of these members.
+fn persons_text(alloc: Global, books: &OpenBooks, members: &[Member]) -> Result<Vec<u8>, Memory>
+    requires { IsLedger books.now.books.ledger }
+    ensures { IfOk result (λ text. text.items ≡ person_lines books.now.books members.now) }
+{
+    let text = Vec::with_capacity(alloc, members.len().saturating_mul(LINE))?;
+    after(text, books, members)
 }
 
 // The total lines of the families of these members.
@@ -137,35 +137,29 @@ fn families_text<R: Threads + Sync>(
     ensures { IfOk result (λ text. text.items ≡ family_lines books.now.books families.now) }
 {
     let (front, back) = families.split_at(families.len() / 2);
-    let room = families.len().saturating_mul(LINE);
     let (front, back) = thread::join(
         rt,
         || -> Result<Vec<u8>, Memory>
             requires { IsLedger books.now.books.ledger }
             ensures { IfOk result (λ text. text.items ≡ family_lines books.entry.now.books front.entry.now) }
-        { totals_text(alloc, room, books, front) },
+        { totals_text(alloc, books, front) },
         || -> Result<Vec<u8>, Memory>
             requires { IsLedger books.now.books.ledger }
             ensures { IfOk result (λ text. text.items ≡ family_lines books.entry.now.books back.entry.now) }
-        { totals_text(alloc, room, books, back) },
+        { totals_text(alloc, books, back) },
     );
-    let mut text = front?;
     let back = back?;
+    let mut text = front?;
     text.extend_from_slice(&back)?;
     Ok(text)
 }
 
-// The total lines of these families, in a text with room for this many bytes.
-fn totals_text(
-    alloc: Global,
-    room: usize,
-    books: &OpenBooks,
-    families: &[Family],
-) -> Result<Vec<u8>, Memory>
+// The total lines of these families.
+fn totals_text(alloc: Global, books: &OpenBooks, families: &[Family]) -> Result<Vec<u8>, Memory>
     requires { IsLedger books.now.books.ledger }
     ensures { IfOk result (λ text. text.items ≡ family_lines books.now.books families.now) }
 {
-    let mut text = Vec::with_capacity(alloc, room)?;
+    let mut text = Vec::with_capacity(alloc, families.len().saturating_mul(LINE))?;
     put_families(&mut text, books, families)?;
     Ok(text)
 }
