@@ -1,6 +1,8 @@
 -- The plans of a switch are opened one after another.
 use Rattle.std.proofs.Common.{◌≡◌, ℕ, ◌+◌, ◌<◌, Bool, true, false, not, List, [], ◌∷◌, ◌++◌, get_or, length, map, take, refl, ap, sym}
 use Rattle.std.proofs.Common.{subst, ◌∙◌, arith, Ok, Some}
+use Rattle.std.specs.Prelude.{IfOk, IfSome, Result, Err}
+use Rattle.std.specs.Result.{result_ok}
 use Rattle.std.specs.List.{AllZip, list_any, range_with_len, slice_get}
 use Rattle.std.proofs.lemmas.Bool.{and_from, and_parts}
 use Rattle.std.proofs.lemmas.List.{get_or-map, length-append, length-map, map-append, map-id, take_more}
@@ -97,3 +99,8 @@ numbered_next so_far next numbers number =
     ∙ ap (λ n. range_with_len 0 (length so_far) ++ n ∷ []) number
     ∙ sym (range_more (length so_far))
     ∙ ap (range_with_len 0) (sym long)
+
+-- what is Ok, as an option
+pub IfOk-some : {X E : Type 0} (P : X → Type 0) (r : Result X E) → IfOk r P → IfSome (result_ok r) P
+IfOk-some P (Ok x) is = is
+IfOk-some P (Err e) is = tt

@@ -53,21 +53,6 @@ pub(crate) fn open_plans<R: Threads + Sync>(
             return Ok(all);
         }
     }
-    open_each(rt, alloc, workers, plans)
-}
-
-// The plans, one after another.
-fn open_each<R: Threads + Sync>(
-    rt: &R,
-    alloc: Global,
-    workers: u16,
-    plans: &[PlanJob<'_>],
-) -> Result<Vec<OpenPlan>, RouteFault>
-    ensures opened { IfOk result (λ all. AreAccepted (map plan_texts plans.now) (map opened all.items)) }
-    ensures numbered { IfOk result (λ all. AreNumbered all.items) }
-    ensures refused { (g : SwitchGiven) → (s : Stamp) → stamp_for g.workers g.stamp ≡ Ok s → g.plans ≡ map plan_texts plans.now
-        → IfErr result (λ fault. IsNotRouted g fault) }
-{
     let mut so_far: Vec<OpenPlan> = Vec::new(alloc);
     for plan in plans {
         let next = open_plan(rt, alloc, workers, &so_far, plan)?;

@@ -57,10 +57,7 @@ fn read_in_pieces<R: Threads + Sync>(
     else {
         return None;
     };
-    let Ok(plans) = read else {
-        return None;
-    };
-    Some(plans)
+    read.ok()
 }
 
 fn read_plan<R: Threads + Sync>(

@@ -2,7 +2,7 @@
 use Rattle.std.proofs.Common.{◌≡◌, length, map, take}
 use Rattle.rx_switch.specs.RouteParts.{AreNumbered, opened, plan_texts}
 use Rattle.rx_switch.specs.Routed.{AreAccepted}
-use Rattle.rx_switch.proofs.open_plans.open_each.Given as goal
+use Rattle.rx_switch.proofs.open_plans.open_plans.Given as goal
 
 abbrev pub invariant-loop-plan : goal.invariant-loop-plan
 invariant-loop-plan g l = record {

@@ -6,7 +6,7 @@ use Rattle.rx_switch.specs.RouteParts.{opened, plan_texts}
 use Rattle.rx_switch.specs.RouteRefused.IsNotRouted.{memory}
 use Rattle.rx_switch.specs.Routed.{AreAccepted, PlanTexts}
 use Rattle.rx_switch.proofs.Opening.{accepted_next, is_next, numbered_next}
-use Rattle.rx_switch.proofs.open_plans.open_each.Goals as goal
+use Rattle.rx_switch.proofs.open_plans.open_plans.Goals as goal
 
 pub returns-in_err-next-clause-refused : goal.returns-in_err-next-clause-refused
 returns-in_err-next-clause-refused g c switch s stamped given =
