@@ -100,7 +100,7 @@ impl Books {
         }
     }
 
-    /// The same claims, of these members, among whom each claim's is. The totals are of the same period.
+    /// The same claims, of these members; each claim's is one of them. The totals are of the same period.
     pub fn with_members(&self, alloc: Global, members: Ascending<Member>) -> Result<Books, Memory>
         requires { IsLedger (record { members = members; rows = self.now.ledger.rows }) }
         ensures { IfOk result (λ books. books ≡ record {

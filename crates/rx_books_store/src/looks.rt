@@ -18,7 +18,7 @@ impl OpenBooks {
         })
     }
 
-    /// Looks at the slot at a place; true only where there is one.
+    /// Looks at the slot at a place; true only if there is one.
     pub fn is_slot_seen(&self, slot: usize) -> bool
         ensures { IsTrue result → slot < length self.now.slots }
     {
@@ -28,7 +28,7 @@ impl OpenBooks {
         !slot.key.provider.bytes().is_empty() && slot.holder < u32::MAX
     }
 
-    /// Looks at the member at a place, and at the totals of the member and the family; true only where there is one.
+    /// Looks at the member at a place, and at the totals of the member and the family; true only if there is one.
     pub fn are_totals_seen(&self, member: usize) -> bool
         ensures { IsTrue result → member < length self.now.books.ledger.members }
     {

@@ -108,7 +108,7 @@ impl Opening {
         Ok(Opening { lists, kept: None })
     }
 
-    /// The same rows, with the text that they were read from, of these members, among whom each row's is.
+    /// The same rows, with the text that they were read from, of these members; each row's is one of them.
     pub(crate) fn with_members(
         &self,
         alloc: Global,
@@ -278,7 +278,7 @@ impl Lists {
         })
     }
 
-    // The same rows, shared, of these members, among whom each row's is.
+    // The same rows, shared, of these members; each row's is one of them.
     fn with_members(&self, alloc: Global, members: Ascending<Member>) -> Result<Lists, Memory>
         ensures value { IfOk result (λ lists. lists ≡ record { members = members; rows = self.now.rows }) }
         ensures within { IfOk result (λ lists. IsLedger lists) }

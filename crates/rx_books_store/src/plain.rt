@@ -139,7 +139,7 @@ impl OpenBooks {
         OpenBooks::added_up(alloc, period, opening, changed)
     }
 
-    /// The same claims, of these members, among whom each claim's is; no slot is open.
+    /// The same claims, of these members; each claim's is one of them, and no slot is open.
     pub(crate) fn with_members(
         &self,
         alloc: Global,

@@ -16,7 +16,7 @@ use std::thread::Threads;
 /// For every plan sheet, opening books, batch file, stamp and number of workers, where the run succeeds, the response
 /// file, end books and settlement are byte for byte those of adjudicating the records one after another in file order,
 /// and every family's accumulators are the sums over its standing claims; where it is refused, the written definitions
-/// refuse the inputs, or memory or a thread was wanting.
+/// refuse the inputs, or memory or a thread was refused.
 ///
 /// # Errors
 ///

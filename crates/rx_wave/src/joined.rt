@@ -84,7 +84,7 @@ fn joined_books(job: &Job<'_>, opened: OpenBooks, ended: &[Ended], near: &[Vec<u
     books
 }
 
-// The places for a shard; none where there are none.
+// The places for a shard; none if it has none.
 fn near_of(near: &[Vec<usize>], shard: usize) -> &[usize] {
     match near.get(shard) {
         Some(places) => places.as_slice(),
