@@ -136,12 +136,11 @@ impl Differences {
 
 // Bytes as a terminal shows them, of many the front only.
 fn put_piece(lines: &mut Vec<u8>, piece: &[u8]) -> Result<(), Memory> {
-    if piece.len() <= LONGEST {
-        put_escaped(lines, Style::Terminal, piece)?;
-        return Ok(());
+    let front = piece.get(..LONGEST).unwrap_or(piece);
+    put_escaped(lines, Style::Terminal, front)?;
+    if front.len() < piece.len() {
+        lines.extend_from_slice(b"..")?;
     }
-    put_escaped(lines, Style::Terminal, &piece[..LONGEST])?;
-    lines.extend_from_slice(b"..")?;
     Ok(())
 }
 
