@@ -13,7 +13,7 @@ use rx_ledger::{Basis, Figures, Member, MemberKey, Row, Used, is_too_soon};
 use std::marker::Model;
 
 /// A parcel whose books agree: it answers as the ledger of its books only.
-#[derive(Debug, Drop)]
+#[derive(Drop)]
 pub(crate) struct Agreed {
     parcel: Parcel,
 }

@@ -12,7 +12,7 @@ use std::marker::Model;
 
 /// An order that was adjudicated: the order as it was, the parcel after it, and the reply to it. These are what the
 /// rules make of the order (docs/GUARANTEES.md, "Record and fold").
-#[derive(Debug, Drop)]
+#[derive(Drop)]
 pub struct Done {
     order: Order,
     after: Parcel,

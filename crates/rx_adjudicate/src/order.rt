@@ -10,7 +10,7 @@ use std::alloc::Global;
 use std::marker::Model;
 
 /// A record to be adjudicated: its place in the batch, from 1, its terms, and the parcel of its books, which fits it.
-#[derive(Debug, Drop)]
+#[derive(Drop)]
 pub struct Order {
     place: u64,
     transmission: Transmission,

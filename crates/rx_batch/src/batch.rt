@@ -2,7 +2,7 @@ use crate::detail::Details;
 use crate::head::Head;
 
 /// A batch: its head, and its details in file order.
-#[derive(Debug, Drop)]
+#[derive(Drop)]
 pub struct Batch {
     /// The header's fields.
     pub head: Head,

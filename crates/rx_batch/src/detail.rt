@@ -3,7 +3,7 @@ ghost use Rattle.std.specs.Prelude.{◌≡◌};
 use std::marker::Model;
 
 /// One detail of a batch (docs/FORMATS.md, "Batch file").
-#[derive(Debug, Drop)]
+#[derive(Drop)]
 pub struct Detail {
     /// The sender's name for the detail: any bytes but STX and ETX.
     pub reference: [u8; 10],
@@ -12,7 +12,7 @@ pub struct Detail {
 }
 
 /// Bytes that belong to their detail; contracts see the list of the bytes.
-#[derive(Debug, Drop)]
+#[derive(Drop)]
 pub struct Text {
     bytes: Vec<u8>,
 }
@@ -26,7 +26,7 @@ impl Model for Text {
 }
 
 /// The details of a batch, in file order; contracts see the list of the details.
-#[derive(Debug, Drop)]
+#[derive(Drop)]
 pub struct Details {
     details: Vec<Detail>,
 }

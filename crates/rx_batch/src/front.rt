@@ -11,7 +11,7 @@ use crate::record;
 use std::alloc::Global;
 
 /// How far a batch file was read: no record, the header, or the trailer too.
-#[derive(Clone, Copy, Debug, PartialEq, Eq)]
+#[derive(Clone, Copy, PartialEq, Eq)]
 pub enum Stage {
     Start,
     Headed(Head),
@@ -19,7 +19,7 @@ pub enum Stage {
 }
 
 /// What was read of a good front: a start of a file that is made of skipped bytes and whole good records.
-#[derive(Debug, Drop)]
+#[derive(Drop)]
 pub struct Front {
     pub stage: Stage,
     pub details: Details,

@@ -4,7 +4,7 @@ ghost use Rattle.rx_batch.specs.Header.{file_of, byte_of_file, byte_of_kind};
 use rx_fields::{Lot, Time};
 
 /// The header of a batch file (docs/FORMATS.md, "Batch file").
-#[derive(Clone, Copy, Debug, PartialEq, Eq)]
+#[derive(Clone, Copy, PartialEq, Eq)]
 pub struct Head {
     /// What the records are; `read_batch` reads only requests.
     pub kind: Kind,
@@ -30,7 +30,7 @@ impl Head {
 }
 
 /// What the records of a file are: requests, or the replies to them.
-#[derive(Clone, Copy, Debug, PartialEq, Eq)]
+#[derive(Clone, Copy, PartialEq, Eq)]
 pub enum Kind {
     /// Requests: `T`.
     Transmission,
@@ -51,7 +51,7 @@ impl Kind {
 }
 
 /// Whether a file is for production or a test.
-#[derive(Clone, Copy, Debug, PartialEq, Eq)]
+#[derive(Clone, Copy, PartialEq, Eq)]
 pub enum FileType {
     /// Production: `P`.
     Production,

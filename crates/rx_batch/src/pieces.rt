@@ -12,7 +12,7 @@ use std::marker::Model;
 /// A batch file that comes in pieces, cut anywhere (docs/FORMATS.md, "Batch file").
 ///
 /// It keeps the head, the details and the record that was begun, and no other byte of the text.
-#[derive(Debug, Drop)]
+#[derive(Drop)]
 pub struct Pieces {
     alloc: Global,
     reader: Reader,

@@ -14,7 +14,7 @@ use rx_text::line_ends;
 use std::alloc::Global;
 
 /// A good front of a text, and the bytes after the STX of a record that was begun.
-#[derive(Debug, Drop)]
+#[derive(Drop)]
 pub struct Reader {
     pub front: Front,
     pub begun: Option<Text>,

@@ -22,7 +22,7 @@ const FEW_MEMBERS: usize = 4;
 /// The book of a family: its members and its standing claims, with each member's deductible and the family's out of
 /// pocket and deductible stored next to them. Each total is the sum over the book's rows that are dated within its
 /// period (docs/RULES.md, "Accumulators").
-#[derive(Debug, Drop)]
+#[derive(Drop)]
 pub struct Family {
     family: Id,
     period: Period,

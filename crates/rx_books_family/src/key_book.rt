@@ -3,7 +3,7 @@ use rx_ledger::Row;
 use rx_sorted::Keyed;
 
 /// The book of a fill key: the row that stands under it, if there is one.
-#[derive(Clone, Copy, Debug, PartialEq, Eq)]
+#[derive(Clone, Copy, PartialEq, Eq)]
 pub struct KeyBook {
     /// The fill key.
     pub key: Key,

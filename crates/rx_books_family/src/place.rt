@@ -10,7 +10,7 @@ use rx_ledger::{Member, Row};
 use rx_sorted::{Hashed, Keyed, Slot, hash_of_text, mixed};
 
 /// The place of a fill key's book: the row that stands under the key, or none; or nothing, where the book is out.
-#[derive(Clone, Copy, Debug)]
+#[derive(Clone, Copy)]
 pub struct KeyPlace {
     /// The fill key.
     pub key: Key,
@@ -86,7 +86,7 @@ impl Slot for KeyPlace {
 }
 
 /// The place of a family's book: the book, or nothing, where it is out.
-#[derive(Debug, Drop)]
+#[derive(Drop)]
 pub struct FamilyPlace {
     /// The family.
     pub family: Id,

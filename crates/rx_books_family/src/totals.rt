@@ -6,7 +6,7 @@ use rx_ledger::{Member, MemberKey};
 use rx_sorted::Ascending;
 
 /// The totals of a family's book, in cents.
-#[derive(Debug, Drop)]
+#[derive(Drop)]
 pub struct FamilyTotals {
     /// The members' deductibles, in their order.
     pub deductibles: Vec<u128>,

@@ -10,7 +10,7 @@ use std::alloc::Global;
 use std::marker::Model;
 
 /// The books that a record names: fill keys and families, each in order without repeats (docs/RULES.md, "Words").
-#[derive(Debug, Drop)]
+#[derive(Drop)]
 pub struct Footprint {
     keys: Few<Key>,
     families: Few<Id>,

@@ -21,7 +21,7 @@ use std::marker::Model;
 
 /// The books that a footprint names, moved out of the ledger: of each fill key the row under it or none, of each family
 /// its book with the totals of one period (docs/RULES.md, "Words").
-#[derive(Debug, Drop)]
+#[derive(Drop)]
 pub struct Parcel {
     period: Period,
     keys: Few<KeyBook>,

@@ -3,7 +3,7 @@ use rx_ledger::{Member, Row};
 use rx_sorted::{Ascending, Runs};
 
 /// The lists that a books text prints, before anything is looked up in them.
-#[derive(Debug, Drop)]
+#[derive(Drop)]
 pub struct Lists {
     /// The version and the period.
     pub head: Head,

@@ -76,7 +76,7 @@ fn head_at(text: &[u8]) -> Option<(Head, &[u8])>
 }
 
 // What is no part of the lines, or runs out of memory.
-#[derive(Debug, Drop)]
+#[derive(Drop)]
 struct Unread;
 
 // What each piece prints, read by as many threads as there are processors.

@@ -39,7 +39,7 @@ impl From<Memory> for TakeFault {
 
 /// Why a parcel was not given back, with the parcel: it is a stranger, for its totals are of another period than the
 /// shelf's, or one of its books has no place on the shelf, or is not out.
-#[derive(Debug, Drop)]
+#[derive(Drop)]
 pub struct GiveFault {
     /// The parcel that was given.
     pub parcel: Parcel,

@@ -27,7 +27,7 @@ use std::marker::Model;
 /// The books of a batch, with a place for each book that it names: parcels are taken from there, and given back
 /// (docs/ARCHITECTURE.md, "Desk and shelf"). Contracts see the period, the ledger that the books were opened on, and
 /// each place with what it holds; `value_of` is what a book is worth.
-#[derive(Debug, Drop)]
+#[derive(Drop)]
 pub struct Shelf {
     // The books that the shelf was made of. They stay as they were.
     pub(crate) books: OpenBooks,
@@ -197,7 +197,7 @@ fn placed_families(
 }
 
 // Where a place of a parcel's keys and one of its families is, or may be.
-#[derive(Clone, Copy, Debug)]
+#[derive(Clone, Copy)]
 struct Near {
     key: usize,
     family: usize,

@@ -16,7 +16,7 @@ use std::alloc::Global;
 use std::marker::Model;
 
 /// The book of a family while its members and rows are gathered, before its totals are there.
-#[derive(Debug, Drop)]
+#[derive(Drop)]
 pub(crate) struct Unsummed {
     family: Id,
     period: Period,
@@ -45,7 +45,7 @@ impl Keyed for Unsummed {
 }
 
 /// How many members and rows a book will have.
-#[derive(Clone, Copy, Debug)]
+#[derive(Clone, Copy)]
 pub(crate) struct Room {
     pub(crate) members: usize,
     pub(crate) rows: usize,

@@ -14,7 +14,7 @@ use std::marker::Model;
 
 /// Books with places that stand instead of what the opened ones hold: what a shelf leaves where a family's book was given
 /// with other members than the opening's. No run makes such books, so what may take memory makes plain ones of them.
-#[derive(Debug, Drop)]
+#[derive(Drop)]
 pub(crate) struct AmendedBooks {
     books: OpenBooks,
     keys: Hinted<KeyPlace>,

@@ -21,14 +21,14 @@ use std::marker::Model;
 /// All books: the members and the standing claims, with the deductible of each member and the figures of each family
 /// stored next to them. Contracts see the plain ledger, and the period that the totals are of (docs/RULES.md,
 /// "Accumulators").
-#[derive(Debug, Drop)]
+#[derive(Drop)]
 pub struct Books {
     pub(crate) form: Form,
 }
 
 /// The two forms of books: as all are that were read or made of a ledger, and as a shelf leaves them where a family has
 /// other members than the opening's.
-#[derive(Debug, Drop)]
+#[derive(Drop)]
 pub(crate) enum Form {
     Plain(OpenBooks),
     Amended(AmendedBooks),

@@ -20,7 +20,7 @@ const GOLDEN: u64 = 0x9e37_79b9_7f4a_7c15;
 
 /// Where members probably are, by a hash of their keys. It promises nothing: the member found is compared, and one that
 /// isn't found is searched for.
-#[derive(Debug, Drop)]
+#[derive(Drop)]
 pub(crate) struct Places {
     // As many as a power of two, twice the members at least.
     places: Vec<u32>,

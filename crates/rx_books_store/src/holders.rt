@@ -47,7 +47,7 @@ pub(crate) fn holders_in_parts<R: Threads + Sync>(
 }
 
 // What isn't found, or runs out of memory.
-#[derive(Debug, Drop)]
+#[derive(Drop)]
 struct Unfound;
 
 // For each run the places of its rows' members, by as many threads as there are processors.

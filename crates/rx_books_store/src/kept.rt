@@ -2,7 +2,7 @@ use std::alloc::Global;
 use std::sync::Arc;
 
 /// The text that claims were read from, in which their lines stand one after another, and how many bytes each has.
-#[derive(Debug, Drop)]
+#[derive(Drop)]
 pub(crate) struct Kept {
     text: Arc<Vec<u8>, Global>,
     // How many bytes stand above the first line.

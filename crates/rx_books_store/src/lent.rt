@@ -7,7 +7,7 @@ use rx_fields::Memory;
 use std::alloc::Global;
 
 /// Books that are lent opened, for what only reads their members and the claims that stand.
-#[derive(Debug, Drop)]
+#[derive(Drop)]
 pub enum Lent<'a> {
     /// The books themselves.
     Own(&'a OpenBooks),

@@ -27,7 +27,7 @@ use std::marker::Model;
 /// Books that are open for a batch: a slot is kept for each fill key that it can touch, and a row is written into its
 /// slot, or taken out of it, without memory. Contracts see the books, and the fill keys that have a slot. Members,
 /// families and slots are known by their places, which stay while the books are open.
-#[derive(Debug, Drop)]
+#[derive(Drop)]
 pub struct OpenBooks {
     pub(crate) period: Period,
     pub(crate) opening: Opening,

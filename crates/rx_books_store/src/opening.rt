@@ -25,7 +25,7 @@ use std::marker::Model;
 use std::sync::Arc;
 
 /// A family that has a member.
-#[derive(Clone, Copy, Debug)]
+#[derive(Clone, Copy)]
 pub(crate) struct FamilyName {
     pub(crate) family: Id,
 }
@@ -41,7 +41,7 @@ impl Keyed for FamilyName {
 }
 
 /// The lists of a ledger, with the place of each member's family and of each row's member. Contracts see the ledger.
-#[derive(Debug, Drop)]
+#[derive(Drop)]
 pub(crate) struct Lists {
     members: Ascending<Member>,
     rows: Arc<Runs<Row>, Global>,
@@ -67,7 +67,7 @@ impl Model for Lists {
 }
 
 /// What books were made from. It never changes, and copies share it. Contracts see the ledger.
-#[derive(Debug, Drop)]
+#[derive(Drop)]
 pub(crate) struct Opening {
     lists: Arc<Lists, Global>,
     // The text that they were read from, if it is one of version 3 and was given to be kept.

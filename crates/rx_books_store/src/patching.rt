@@ -263,7 +263,7 @@ fn put_span(
 }
 
 // Rows with lesser keys: the place after the last of them, and the one after the row that has the key.
-#[derive(Clone, Copy, Debug)]
+#[derive(Clone, Copy)]
 struct Run {
     last: usize,
     next: usize,

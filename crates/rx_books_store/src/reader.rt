@@ -4,7 +4,7 @@ use rx_sorted::Ascending;
 
 /// Books that were read quickly, and where the lines of their claims are in the text that they were read from: below this
 /// many bytes of it, and each has this many.
-#[derive(Debug, Drop)]
+#[derive(Drop)]
 pub(crate) struct Quick {
     books: OpenBooks,
     version: Version,
@@ -13,7 +13,7 @@ pub(crate) struct Quick {
 }
 
 /// What a text has besides its head, its members and its claims, and where the lines of its claims are.
-#[derive(Debug, Drop)]
+#[derive(Drop)]
 pub(crate) struct Rest {
     deductibles: Vec<u128>,
     above: usize,

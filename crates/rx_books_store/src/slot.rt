@@ -9,7 +9,7 @@ use rx_ledger::Row;
 use rx_sorted::{Ascending, Keyed};
 
 /// What stands now under a fill key that has a slot: a row, with the place of its member, or none.
-#[derive(Clone, Copy, Debug)]
+#[derive(Clone, Copy)]
 pub(crate) struct KeySlot {
     pub(crate) key: Key,
     pub(crate) held: Option<Row>,

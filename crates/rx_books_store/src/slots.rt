@@ -102,7 +102,7 @@ fn merged_lists(
 }
 
 // The next slot of two lists, and how many of each are passed with it.
-#[derive(Clone, Copy, Debug)]
+#[derive(Clone, Copy)]
 struct Next {
     slot: KeySlot,
     low: usize,

@@ -19,7 +19,7 @@ use rx_sorted::Ascending;
 use std::alloc::Global;
 
 /// A figure for each member, and two for each family, in cents.
-#[derive(Debug, Drop)]
+#[derive(Drop)]
 pub(crate) struct Figures {
     pub(crate) deductibles: Vec<u128>,
     pub(crate) out_of_pockets: Vec<u128>,

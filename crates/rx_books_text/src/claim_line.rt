@@ -11,7 +11,7 @@ use rx_fields::{Days, Key, Product, Quantity};
 use rx_ledger::Row;
 
 /// What a claim dispensed.
-#[derive(Clone, Copy, Debug)]
+#[derive(Clone, Copy)]
 pub struct Dispensed {
     pub product: Product,
     pub quantity: Quantity,

@@ -10,7 +10,7 @@ use crate::version::Version;
 use rx_fields::Period;
 
 /// What the head line of a books file says.
-#[derive(Clone, Copy, Debug, PartialEq, Eq)]
+#[derive(Clone, Copy, PartialEq, Eq)]
 pub struct Head {
     /// The version of the lines after it.
     pub version: Version,

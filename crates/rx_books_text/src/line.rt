@@ -12,7 +12,7 @@ use rx_fields::Id;
 use rx_ledger::{Member, Row};
 
 /// A member line: who is covered, and what was paid so far.
-#[derive(Clone, Copy, Debug, PartialEq, Eq)]
+#[derive(Clone, Copy, PartialEq, Eq)]
 pub struct MemberLine {
     /// The member and the coverage.
     pub member: Member,
@@ -21,7 +21,7 @@ pub struct MemberLine {
 }
 
 /// A total line: what a family paid so far.
-#[derive(Clone, Copy, Debug, PartialEq, Eq)]
+#[derive(Clone, Copy, PartialEq, Eq)]
 pub struct TotalLine {
     /// The cardholder id.
     pub family: Id,
@@ -32,7 +32,7 @@ pub struct TotalLine {
 }
 
 /// A line of a books file after the head line.
-#[derive(Clone, Copy, Debug, PartialEq, Eq)]
+#[derive(Clone, Copy, PartialEq, Eq)]
 pub enum Line {
     /// A member, `M|`.
     Member(MemberLine),

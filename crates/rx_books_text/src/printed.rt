@@ -20,7 +20,7 @@ impl Keyed for TotalLine {
 }
 
 /// A books file as it is printed: its figures are those of its lines, whatever the sums over the claims are.
-#[derive(Debug, Drop)]
+#[derive(Drop)]
 pub struct Printed {
     pub(crate) head: Head,
     pub(crate) ledger: Ledger,

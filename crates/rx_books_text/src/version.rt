@@ -1,5 +1,5 @@
 /// A version of the books file (docs/FORMATS.md, "Books file").
-#[derive(Clone, Copy, Debug, PartialEq, Eq)]
+#[derive(Clone, Copy, PartialEq, Eq)]
 pub enum Version {
     /// Claim lines have no coinsurance, and total lines no deductible.
     One,

@@ -14,7 +14,7 @@ use rx_ledger::Row;
 use std::alloc::Global;
 
 /// Books without the claims before a day, and those claims.
-#[derive(Debug, Drop)]
+#[derive(Drop)]
 pub struct Aged {
     /// The books without the claims.
     pub books: Books,

@@ -11,7 +11,7 @@ use rx_sorted::{Ascending, Keyed};
 use std::alloc::Global;
 
 /// A family that has a member.
-#[derive(Clone, Copy, Debug)]
+#[derive(Clone, Copy)]
 pub(crate) struct Family {
     pub(crate) id: Id,
 }

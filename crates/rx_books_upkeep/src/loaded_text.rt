@@ -26,7 +26,7 @@ use std::alloc::Global;
 use std::thread::{self, Threads};
 
 /// What stands above and below the claims of books with the members of a table, and what each of these comes to.
-#[derive(Debug, Drop)]
+#[derive(Drop)]
 pub(crate) struct LoadedSides {
     pub(crate) above: Vec<u8>,
     pub(crate) below: Vec<u8>,

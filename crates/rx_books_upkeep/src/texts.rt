@@ -27,7 +27,7 @@ use std::sync::Arc;
 use std::thread::{self, Threads};
 
 /// What became of books into which a members table was loaded.
-#[derive(Debug, Drop)]
+#[derive(Drop)]
 pub struct MembersText {
     /// The text of the end books.
     pub books: Pieces,
@@ -38,7 +38,7 @@ pub struct MembersText {
 }
 
 /// What became of books of which old claims left.
-#[derive(Debug, Drop)]
+#[derive(Drop)]
 pub struct AgedText {
     /// The text of the end books.
     pub books: Pieces,

@@ -10,7 +10,7 @@ use rx_switch::SwitchFault;
 use std::alloc::Global;
 
 /// What `check` prints, and how it ends.
-#[derive(Debug, Drop)]
+#[derive(Drop)]
 pub struct Checked {
     /// A line for the first fault of each file, and then one for each warning.
     pub text: String,

@@ -20,7 +20,7 @@ use rx_text::all_digits;
 use std::alloc::{AllocError, Global};
 
 /// An input: its name, and its bytes where they could be read again.
-#[derive(Clone, Copy, Debug)]
+#[derive(Clone, Copy)]
 pub struct Input<'a> {
     /// The name of the file.
     pub name: &'a str,
@@ -29,7 +29,7 @@ pub struct Input<'a> {
 }
 
 /// The inputs of a run, its stamp and its number of workers.
-#[derive(Clone, Copy, Debug)]
+#[derive(Clone, Copy)]
 pub struct RunInputs<'a> {
     /// The three inputs.
     pub inputs: Inputs<Input<'a>>,

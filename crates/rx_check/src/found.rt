@@ -7,7 +7,7 @@ use rx_books_text::BooksFault;
 use rx_sheet::SheetFault;
 
 /// What is found of the inputs of a run.
-#[derive(Debug, Drop)]
+#[derive(Drop)]
 pub struct Found {
     /// The first fault of the plan sheet.
     pub sheet: Option<SheetFault>,

@@ -125,7 +125,7 @@ fn hint(alloc: Global, name: &str, like: Option<&'static str>) -> Result<String,
 }
 
 // What a table within the sheet holds.
-#[derive(Clone, Copy, Debug)]
+#[derive(Clone, Copy)]
 enum Part {
     Tier,
     Drug,

@@ -12,7 +12,7 @@ use rx_sheet::{SheetFault, read_sheet};
 use std::alloc::Global;
 
 /// An input as it was read: what it stands for, or its first fault; neither of one that isn't given.
-#[derive(Debug, Drop)]
+#[derive(Drop)]
 pub(crate) struct Read<T, F> {
     pub(crate) taken: Option<T>,
     pub(crate) fault: Option<F>,

@@ -13,7 +13,7 @@ use rx_ledger::Sheet;
 use std::alloc::Global;
 
 /// What a run takes and an operator would hardly mean.
-#[derive(Debug, Drop)]
+#[derive(Drop)]
 pub struct Warnings {
     /// The keys of the sheet that are ignored, each with the known one that it is most like.
     pub ignored: Vec<String>,

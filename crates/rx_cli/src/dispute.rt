@@ -2,7 +2,7 @@
 use rx_io::Inputs;
 
 /// The words of `excerpt`.
-#[derive(Clone, Copy, Debug, PartialEq, Eq)]
+#[derive(Clone, Copy, PartialEq, Eq)]
 pub struct ExcerptWords<'a> {
     pub inputs: Inputs<&'a str>,
     /// `--record`: the place of the record, from 1.

@@ -23,7 +23,7 @@ use std::alloc::Global;
 use std::thread::Threads;
 
 /// Sheet and books with which a batch would be adjudicated.
-#[derive(Clone, Copy, Debug)]
+#[derive(Clone, Copy)]
 pub struct Others<'a> {
     /// The plan sheet's text.
     pub sheet: &'a [u8],

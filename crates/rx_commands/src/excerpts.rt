@@ -53,7 +53,7 @@ use std::alloc::Global;
 use std::thread::Threads;
 
 /// What one record of a batch hangs on, as inputs of a run of their own: the texts of a folder that can be sent.
-#[derive(Debug, Drop)]
+#[derive(Drop)]
 pub struct Excerpt {
     /// A plan sheet: the plan's figures, and the drugs that the record bills.
     pub sheet: Vec<u8>,

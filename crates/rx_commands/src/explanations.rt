@@ -114,7 +114,7 @@ fn printed_with(
 }
 
 // What is explained, and how.
-#[derive(Clone, Copy, Debug)]
+#[derive(Clone, Copy)]
 struct Task<'a, 'b> {
     retraced: &'a Retraced,
     // The response file that is compared, if one is.
@@ -186,7 +186,7 @@ fn outcome_by(is_found: bool, differs: bool) -> Outcome
 }
 
 // What is explained so far.
-#[derive(Debug, Drop)]
+#[derive(Drop)]
 struct Shown {
     text: Vec<u8>,
     // Whether the response file hasn't the reply to one of the transactions.

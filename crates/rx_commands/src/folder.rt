@@ -16,7 +16,7 @@ use std::alloc::Global;
 use std::thread::Threads;
 
 /// The pages that `report --html-dir` writes, and whether there is a line on them.
-#[derive(Debug, Drop)]
+#[derive(Drop)]
 pub struct PrintedFolder {
     /// First the page that leads to the others, then each provider's.
     pub pages: Vec<PageFile>,

@@ -1,5 +1,5 @@
 /// What a command prints on standard output, and how it ends.
-#[derive(Debug, Drop)]
+#[derive(Drop)]
 pub struct Printed {
     /// The text; where nothing is found, a line for standard error.
     pub text: Vec<u8>,
@@ -8,7 +8,7 @@ pub struct Printed {
 }
 
 /// How a command ends that refuses none of its inputs.
-#[derive(Clone, Copy, Debug, PartialEq, Eq)]
+#[derive(Clone, Copy, PartialEq, Eq)]
 pub enum Outcome {
     /// It is done.
     Done,

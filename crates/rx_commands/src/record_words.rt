@@ -15,7 +15,7 @@ use rx_ledger::Figures;
 use std::alloc::Global;
 
 /// What the words under an answer quote of the inputs: names of tiers, and the details of the batch.
-#[derive(Clone, Copy, Debug)]
+#[derive(Clone, Copy)]
 pub(crate) struct Quoted<'a> {
     pub(crate) tiers: &'a Tiers,
     pub(crate) details: &'a Details,

@@ -23,7 +23,7 @@ use std::alloc::Global;
 use std::thread::Threads;
 
 /// What a report is written as.
-#[derive(Clone, Copy, Debug)]
+#[derive(Clone, Copy)]
 pub enum Form<'a> {
     /// Aligned columns.
     Columns,
@@ -38,7 +38,7 @@ pub enum Form<'a> {
 }
 
 /// What `report` prints, and whether a line is in it: a portion may have none.
-#[derive(Debug, Drop)]
+#[derive(Drop)]
 pub struct PrintedReport {
     pub text: Vec<u8>,
     pub has_lines: bool,

@@ -27,7 +27,7 @@ use std::alloc::Global;
 use std::thread::Threads;
 
 /// A batch replayed, with the explanations that were asked for.
-#[derive(Debug, Drop)]
+#[derive(Drop)]
 pub(crate) struct Retraced {
     /// The batch's lot.
     pub lot: Lot,

@@ -12,7 +12,7 @@ use std::str;
 use toml::{Table, Value};
 
 /// The tiers in which a plan sheet's text has its products, by their names (docs/FORMATS.md, "Plan sheet").
-#[derive(Debug, Drop)]
+#[derive(Drop)]
 pub(crate) struct Tiers {
     sheet: Option<Table>,
 }

@@ -61,7 +61,7 @@ fn outcome_by(differences: &Outputs<Option<usize>>) -> Outcome
 
 // A run done again. For each file the first place where it differs from the run's text, in bytes from its start; None where
 // it is the same.
-#[derive(Debug, Drop)]
+#[derive(Drop)]
 pub(crate) struct Verified {
     output: Output,
     differences: Outputs<Option<usize>>,

@@ -19,7 +19,7 @@ pub const PCN_AT: usize = 10;
 pub const PCN_LENGTH: usize = 10;
 
 /// The fields of a header, missing bytes being blanks.
-#[derive(Clone, Copy, Debug)]
+#[derive(Clone, Copy)]
 pub(crate) struct Header {
     pub(crate) bin: [u8; BIN_LENGTH],
     pub(crate) version: [u8; 2],

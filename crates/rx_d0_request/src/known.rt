@@ -7,14 +7,14 @@ use crate::field::put_values;
 use crate::part::put_segments;
 
 /// The values of segment 04, insurance.
-#[derive(Clone, Copy, Debug)]
+#[derive(Clone, Copy)]
 pub(crate) struct Insurance<'a> {
     pub(crate) cardholder: Option<&'a [u8]>,
     pub(crate) person: Option<&'a [u8]>,
 }
 
 /// The values of segment 07, claim.
-#[derive(Clone, Copy, Debug)]
+#[derive(Clone, Copy)]
 pub(crate) struct Claim<'a> {
     pub(crate) reference_qualifier: Option<&'a [u8]>,
     pub(crate) reference: Option<&'a [u8]>,
@@ -27,7 +27,7 @@ pub(crate) struct Claim<'a> {
 }
 
 /// The values of segment 11, pricing.
-#[derive(Clone, Copy, Debug)]
+#[derive(Clone, Copy)]
 pub(crate) struct Pricing<'a> {
     pub(crate) ingredient_cost: Option<&'a [u8]>,
     pub(crate) dispensing_fee: Option<&'a [u8]>,
@@ -36,7 +36,7 @@ pub(crate) struct Pricing<'a> {
 }
 
 /// The known values of a group.
-#[derive(Clone, Copy, Debug)]
+#[derive(Clone, Copy)]
 pub(crate) struct Group<'a> {
     pub(crate) claim: Claim<'a>,
     pub(crate) pricing: Pricing<'a>,

@@ -4,7 +4,7 @@ use rx_fields::{Cents, Days, Id, Person, Product, Quantity, Reference};
 use std::marker::Model;
 
 /// What a billing says.
-#[derive(Clone, Copy, Debug, PartialEq, Eq)]
+#[derive(Clone, Copy, PartialEq, Eq)]
 pub struct BillParts {
     /// The prescription reference number (402-D2).
     pub reference: Reference,
@@ -29,7 +29,7 @@ pub struct BillParts {
 }
 
 /// A billing (B1) that states a charge: the usual and customary charge, the gross amount due, or both.
-#[derive(Clone, Copy, Debug, PartialEq, Eq)]
+#[derive(Clone, Copy, PartialEq, Eq)]
 pub struct Bill {
     parts: BillParts,
 }

@@ -4,7 +4,7 @@ use rx_fields::Code;
 use std::marker::Model;
 
 /// The reject codes of one answer: 1 to 5 of them, in the order in which they were found.
-#[derive(Clone, Copy, Debug, PartialEq, Eq)]
+#[derive(Clone, Copy, PartialEq, Eq)]
 pub struct Codes {
     codes: [Code; 5],
     len: u8,

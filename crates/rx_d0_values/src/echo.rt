@@ -4,7 +4,7 @@ use rx_text::{all_printable, is_printable};
 use std::marker::Model;
 
 /// The bytes of a request's header that a reply repeats.
-#[derive(Clone, Copy, Debug, PartialEq, Eq)]
+#[derive(Clone, Copy, PartialEq, Eq)]
 pub struct EchoParts {
     /// The version, as `D0`.
     pub version: [u8; 2],
@@ -19,7 +19,7 @@ pub struct EchoParts {
 }
 
 /// What a reply repeats of its request: only printable bytes (docs/FORMATS.md, "Reply transmission").
-#[derive(Clone, Copy, Debug, PartialEq, Eq)]
+#[derive(Clone, Copy, PartialEq, Eq)]
 pub struct Echo {
     parts: EchoParts,
 }

@@ -5,7 +5,7 @@ use rx_fields::MOST_CENTS;
 use std::marker::Model;
 
 /// The amounts of a paid claim, in cents.
-#[derive(Clone, Copy, Debug, PartialEq, Eq)]
+#[derive(Clone, Copy, PartialEq, Eq)]
 pub struct Amounts {
     /// The ingredient cost paid (506-F6).
     pub ingredient_cost: u64,
@@ -21,7 +21,7 @@ pub struct Amounts {
 
 /// How a claim is paid: cost and fee together at most 99,999,999 cents, of which the patient pays no more than all
 /// (docs/FORMATS.md, "Books file"). Each amount is kept in four bytes.
-#[derive(Clone, Copy, Debug, PartialEq, Eq)]
+#[derive(Clone, Copy, PartialEq, Eq)]
 pub struct Pricing {
     ingredient_cost: u32,
     dispensing_fee: u32,

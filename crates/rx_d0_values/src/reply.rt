@@ -8,7 +8,7 @@ use rx_fields::{Authorization, Cents, Reference};
 use std::marker::Model;
 
 /// A claim that is paid, now or before.
-#[derive(Clone, Copy, Debug, PartialEq, Eq)]
+#[derive(Clone, Copy, PartialEq, Eq)]
 pub struct Paid {
     /// The authorization number (503-F3).
     pub number: Authorization,
@@ -19,7 +19,7 @@ pub struct Paid {
 }
 
 /// A claim that is taken back.
-#[derive(Clone, Copy, Debug, PartialEq, Eq)]
+#[derive(Clone, Copy, PartialEq, Eq)]
 pub struct Approved {
     /// The reversal's authorization number (503-F3).
     pub number: Authorization,
@@ -30,7 +30,7 @@ pub struct Approved {
 }
 
 /// A transaction that is rejected.
-#[derive(Clone, Copy, Debug, PartialEq, Eq)]
+#[derive(Clone, Copy, PartialEq, Eq)]
 pub struct Refused {
     /// Why.
     pub codes: Codes,
@@ -39,7 +39,7 @@ pub struct Refused {
 }
 
 /// The answer to one transaction.
-#[derive(Clone, Copy, Debug, PartialEq, Eq)]
+#[derive(Clone, Copy, PartialEq, Eq)]
 pub enum Answer {
     /// Status P: the claim stands from now on.
     Paid(Paid),
@@ -52,7 +52,7 @@ pub enum Answer {
 }
 
 /// The answers of a reply: 1 to 4.
-#[derive(Debug, Drop)]
+#[derive(Drop)]
 pub struct Answers {
     items: Vec<Answer>,
 }
@@ -70,7 +70,7 @@ impl Model for Answers {
 }
 
 /// What follows the echo of a reply.
-#[derive(Debug, Drop)]
+#[derive(Drop)]
 pub enum Outcome {
     /// The header is rejected: each answer has these codes.
     Rejected(Rejected),
@@ -79,7 +79,7 @@ pub enum Outcome {
 }
 
 /// The reply to a transmission.
-#[derive(Debug, Drop)]
+#[derive(Drop)]
 pub struct Reply {
     /// What it repeats of the request.
     pub echo: Echo,

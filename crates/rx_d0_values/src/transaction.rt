@@ -9,7 +9,7 @@ use std::marker::Model;
 use std::slice;
 
 /// A reversal (B2): it takes back the claim that stands under its fill key.
-#[derive(Clone, Copy, Debug, PartialEq, Eq)]
+#[derive(Clone, Copy, PartialEq, Eq)]
 pub struct Reversal {
     /// The prescription reference number (402-D2).
     pub reference: Reference,
@@ -18,7 +18,7 @@ pub struct Reversal {
 }
 
 /// A transaction that could not be read.
-#[derive(Clone, Copy, Debug, PartialEq, Eq)]
+#[derive(Clone, Copy, PartialEq, Eq)]
 pub struct Faulty {
     /// Why.
     pub codes: Codes,
@@ -27,7 +27,7 @@ pub struct Faulty {
 }
 
 /// One transaction of a transmission.
-#[derive(Clone, Copy, Debug, PartialEq, Eq)]
+#[derive(Clone, Copy, PartialEq, Eq)]
 pub enum Transaction {
     /// A well-formed billing.
     Bill(Bill),
@@ -51,13 +51,13 @@ impl Transaction {
 }
 
 /// The transactions of a transmission: 1 to 4, never a billing with a reversal.
-#[derive(Debug, Drop)]
+#[derive(Drop)]
 pub struct Transactions {
     kept: Kept,
 }
 
 // Where they stand. Most transmissions have one, and that takes no allocation.
-#[derive(Debug, Drop)]
+#[derive(Drop)]
 enum Kept {
     One(Transaction),
     Several(Vec<Transaction>),

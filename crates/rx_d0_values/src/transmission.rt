@@ -8,7 +8,7 @@ use rx_fields::{Count, Day, Key, Memory, Provider, Reference};
 use std::alloc::Global;
 
 /// A header that could not be accepted.
-#[derive(Clone, Copy, Debug, PartialEq, Eq)]
+#[derive(Clone, Copy, PartialEq, Eq)]
 pub struct Rejected {
     /// Why.
     pub codes: Codes,
@@ -17,7 +17,7 @@ pub struct Rejected {
 }
 
 /// A header that was accepted, with its transactions.
-#[derive(Debug, Drop)]
+#[derive(Drop)]
 pub struct Heard {
     /// The pharmacy (201-B1).
     pub provider: Provider,
@@ -28,7 +28,7 @@ pub struct Heard {
 }
 
 /// What follows the echo of a transmission.
-#[derive(Debug, Drop)]
+#[derive(Drop)]
 pub enum Body {
     /// The header is rejected, and with it all transactions.
     Rejected(Rejected),
@@ -37,7 +37,7 @@ pub enum Body {
 }
 
 /// A decoded request.
-#[derive(Debug, Drop)]
+#[derive(Drop)]
 pub struct Transmission {
     /// What the reply repeats.
     pub echo: Echo,

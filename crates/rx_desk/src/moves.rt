@@ -16,7 +16,7 @@ use rx_schedule::Event;
 use std::alloc::Global;
 
 /// The books of a record, with copies of them and of the record.
-#[derive(Debug, Drop)]
+#[derive(Drop)]
 pub(crate) struct Taken {
     pub(crate) parcel: Parcel,
     pub(crate) kept: Parcel,

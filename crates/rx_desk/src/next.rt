@@ -1,7 +1,7 @@
 use rx_adjudicate::Order;
 
 /// What a desk issues.
-#[derive(Debug, Drop)]
+#[derive(Drop)]
 pub enum Next {
     /// A record whose earlier sharers were all given, with its books. The desk keeps an equal order as out.
     Order(Order),

@@ -88,7 +88,7 @@ fn after_words(alloc: Global, key: &str, before: &str, order: &str) -> Result<St
 }
 
 /// What a line after the head is about.
-#[derive(Clone, Copy, Debug)]
+#[derive(Clone, Copy)]
 pub(crate) enum LineKind {
     Member,
     Claim,

@@ -6,7 +6,7 @@ use rx_fields::Memory;
 use std::alloc::{AllocError, Global};
 
 /// A fault in words: its place, and what is to be said of it.
-#[derive(Debug, Drop)]
+#[derive(Drop)]
 pub struct Words {
     /// Where in its file the fault stands.
     pub place: Place,
@@ -95,7 +95,7 @@ fn record_name(alloc: Global, number: u64) -> Result<String, AllocError>
 }
 
 /// What is said of a fault, as yet without its place.
-#[derive(Debug, Drop)]
+#[derive(Drop)]
 pub(crate) struct Said {
     pub(crate) text: String,
     pub(crate) mend: &'static str,

@@ -1,7 +1,7 @@
 ghost use Rattle.std.specs.Prelude.{◌≡◌, ◌<◌, get_or, length};
 
 /// Where a transaction stands in a batch. Ordered as the batch is adjudicated.
-#[derive(Clone, Copy, Debug, PartialEq, Eq, PartialOrd, Ord)]
+#[derive(Clone, Copy, PartialEq, Eq, PartialOrd, Ord)]
 pub struct At {
     /// The record's place in the batch, from 1.
     pub place: u64,

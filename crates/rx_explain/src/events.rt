@@ -13,7 +13,7 @@ use std::alloc::{AllocError, Global};
 use std::marker::Model;
 
 /// What a transaction did to the claim under its fill key.
-#[derive(Clone, Copy, Debug, PartialEq, Eq)]
+#[derive(Clone, Copy, PartialEq, Eq)]
 pub enum Change {
     /// P: the claim stands from then on.
     Paid,
@@ -22,7 +22,7 @@ pub enum Change {
 }
 
 /// A transaction that changed the ledger.
-#[derive(Clone, Copy, Debug, PartialEq, Eq)]
+#[derive(Clone, Copy, PartialEq, Eq)]
 pub struct Event {
     /// Where it stands.
     pub at: At,
@@ -34,7 +34,7 @@ pub struct Event {
 
 /// The transactions of a batch that changed the ledger, in order. They are also kept in parts by the fill keys of their
 /// claims, so that for a claim only few are visited.
-#[derive(Debug, Drop)]
+#[derive(Drop)]
 pub struct Events {
     all: Vec<Event>,
     parts: Vec<Vec<Event>>,

@@ -18,7 +18,7 @@ use rx_ledger::{Decision, Row};
 use std::alloc::Global;
 
 /// Why a transaction was answered as it was.
-#[derive(Debug, Drop)]
+#[derive(Drop)]
 pub struct Explanation {
     /// Where it stands.
     pub at: At,

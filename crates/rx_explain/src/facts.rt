@@ -19,7 +19,7 @@ use std::alloc::Global;
 
 /// What decided a transaction: facts of the ledger before it. Where the claims come from and what becomes of them is known
 /// once the whole batch is adjudicated (`Facts::traced`).
-#[derive(Debug, Drop)]
+#[derive(Drop)]
 pub struct Facts {
     /// Where the transaction stands.
     pub at: At,

@@ -1,5 +1,5 @@
 /// What an explanation cites of the inputs, as it stands there.
-#[derive(Clone, Copy, Debug)]
+#[derive(Clone, Copy)]
 pub struct Cited<'a> {
     /// The text of the record's transmission.
     pub request: &'a [u8],

@@ -4,7 +4,7 @@ use crate::limits::{MOST_AUTHORIZATION, MOST_QUANTITY, MOST_REFERENCE};
 use std::marker::Model;
 
 /// A number from `LOW` to `HIGH`, both included, ordered as numbers are.
-#[derive(Clone, Copy, Debug, PartialEq, Eq, PartialOrd, Ord)]
+#[derive(Clone, Copy, PartialEq, Eq, PartialOrd, Ord)]
 pub struct Bounded<const LOW: u64, const HIGH: u64> {
     number: u64,
 }

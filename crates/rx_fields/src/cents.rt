@@ -5,7 +5,7 @@ use crate::limits::MOST_CENTS;
 use std::marker::Model;
 
 /// An amount of money in a claim, in cents: 0 to 99,999,999, kept in four bytes.
-#[derive(Clone, Copy, Debug, PartialEq, Eq, PartialOrd, Ord)]
+#[derive(Clone, Copy, PartialEq, Eq, PartialOrd, Ord)]
 pub struct Cents {
     number: u32,
 }

@@ -2,7 +2,7 @@ ghost use Rattle.std.specs.Prelude.{◌≡◌, Some};
 ghost use Rattle.rx_fields.specs.Codes.{code_text, code_of};
 
 /// A reject code, in the order of its characters (docs/FORMATS.md, "Request transmission"; docs/RULES.md, "Billing").
-#[derive(Clone, Copy, Debug, PartialEq, Eq)]
+#[derive(Clone, Copy, PartialEq, Eq)]
 pub enum Code {
     /// 01: the BIN isn't the plan's.
     Bin,

@@ -6,7 +6,7 @@ use jiff_core::civil::Date;
 use std::marker::Model;
 
 /// A civil date of the years 0000 to 9999 that exists, ordered from earlier to later (docs/RULES.md, "Words").
-#[derive(Clone, Copy, Debug, PartialEq, Eq, PartialOrd, Ord)]
+#[derive(Clone, Copy, PartialEq, Eq, PartialOrd, Ord)]
 pub struct Day {
     year: u16,
     month: u8,

@@ -1,6 +1,6 @@
 /// The BIN and the processor control number that a transmission has to name to be accepted (docs/FORMATS.md, "Request
 /// transmission").
-#[derive(Clone, Copy, Debug, PartialEq, Eq)]
+#[derive(Clone, Copy, PartialEq, Eq)]
 pub struct Door {
     /// The bank identification number, as six bytes.
     pub bin: [u8; 6],

@@ -13,7 +13,7 @@ use std::marker::Model;
 
 /// A text that names a provider, a family or a person: 1 to 20 printable ASCII bytes without `|` and without a
 /// trailing blank. Ids are ordered by their bytes, a prefix first (docs/RULES.md, "Words").
-#[derive(Clone, Copy, Debug)]
+#[derive(Clone, Copy)]
 pub struct Id {
     bytes: [u8; 20],
     len: u8,

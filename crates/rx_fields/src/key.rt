@@ -4,7 +4,7 @@ use crate::short_id::Provider;
 
 /// A fill key: what a standing claim is known by. Ordered by provider, then reference, then date
 /// (docs/RULES.md, "Words").
-#[derive(Clone, Copy, Debug, PartialEq, Eq, PartialOrd, Ord)]
+#[derive(Clone, Copy, PartialEq, Eq, PartialOrd, Ord)]
 pub struct Key {
     /// The pharmacy's id.
     pub provider: Provider,

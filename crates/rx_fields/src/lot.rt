@@ -4,7 +4,7 @@ use crate::day::Day;
 use std::marker::Model;
 
 /// The batch number and the creation date of a batch header (docs/RULES.md, "Words").
-#[derive(Clone, Copy, Debug, PartialEq, Eq)]
+#[derive(Clone, Copy, PartialEq, Eq)]
 pub struct Lot {
     number: u32,
     created: Day,

@@ -5,7 +5,7 @@ use std::marker::Model;
 
 /// A benefit period or a coverage: the days from a first to a last one, both included (docs/RULES.md, "Rules of
 /// adjudication").
-#[derive(Clone, Copy, Debug, PartialEq, Eq)]
+#[derive(Clone, Copy, PartialEq, Eq)]
 pub struct Period {
     first: Day,
     last: Day,

@@ -6,7 +6,7 @@ use std::marker::Model;
 
 /// A drug product: an eleven-digit National Drug Code, kept as its number and ordered as its digits are
 /// (docs/FORMATS.md, "Request transmission").
-#[derive(Clone, Copy, Debug, PartialEq, Eq, PartialOrd, Ord)]
+#[derive(Clone, Copy, PartialEq, Eq, PartialOrd, Ord)]
 pub struct Product {
     number: u64,
 }

@@ -12,7 +12,7 @@ use std::cmp::Ordering;
 use std::marker::Model;
 
 /// An id of at most `MAX` bytes, kept in `MAX` bytes and one for its length.
-#[derive(Clone, Copy, Debug)]
+#[derive(Clone, Copy)]
 pub struct ShortId<const MAX: usize> {
     bytes: [u8; MAX],
     len: u8,

@@ -3,7 +3,7 @@ use crate::time::Time;
 
 /// When a run took place: a day and a time, which the response file carries (docs/FORMATS.md, "Batch file"). Ordered
 /// from earlier to later.
-#[derive(Clone, Copy, Debug, PartialEq, Eq, PartialOrd, Ord)]
+#[derive(Clone, Copy, PartialEq, Eq, PartialOrd, Ord)]
 pub struct Stamp {
     /// The day of the run.
     pub date: Day,

@@ -5,7 +5,7 @@ use rx_text::all_digits;
 use std::marker::Model;
 
 /// A time of day to the minute, 00:00 to 23:59, ordered as the clock is (docs/FORMATS.md, "Batch file").
-#[derive(Clone, Copy, Debug, PartialEq, Eq, PartialOrd, Ord)]
+#[derive(Clone, Copy, PartialEq, Eq, PartialOrd, Ord)]
 pub struct Time {
     hour: u8,
     minute: u8,

@@ -7,7 +7,7 @@ use crate::source::LEAST_ROOM;
 use std::io::{self, ErrorKind, Read};
 
 // One of std's readers, each call of which is counted: no other file of the crate can call it.
-#[derive(Debug, Drop)]
+#[derive(Drop)]
 pub(crate) struct CountedReader<R> {
     reader: R,
     // The calls that were made.

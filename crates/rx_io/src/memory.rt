@@ -11,7 +11,7 @@ use std::alloc::Global;
 
 // How a device in memory takes its calls: at most this many bytes a call, and a failure at one call where it is to
 // fail.
-#[derive(Clone, Copy, Debug)]
+#[derive(Clone, Copy)]
 struct Calls {
     // The most bytes of a call.
     most: usize,
@@ -64,7 +64,7 @@ impl Calls {
 }
 
 /// A source over bytes in memory, which reports them. As a test needs it, it gives few bytes a call, or fails.
-#[derive(Clone, Copy, Debug)]
+#[derive(Clone, Copy)]
 pub struct SliceSource<'a> {
     left: &'a [u8],
     calls: Calls,
@@ -127,7 +127,7 @@ impl<'a> Source for SliceSource<'a> {
 
 /// A sink that keeps its bytes in memory, and reports them. As a test needs it, it takes few bytes a call or none, or
 /// fails.
-#[derive(Debug, Drop)]
+#[derive(Drop)]
 pub struct VecSink {
     written: Vec<u8>,
     calls: Calls,

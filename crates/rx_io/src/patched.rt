@@ -14,7 +14,7 @@ use std::marker::Model;
 use std::sync::Arc;
 
 // A part of the text that lends, or of the own bytes, from one place to another.
-#[derive(Clone, Copy, Debug)]
+#[derive(Clone, Copy)]
 enum Piece {
     Lent { first: usize, last: usize },
     Own { first: usize, last: usize },
@@ -22,7 +22,7 @@ enum Piece {
 
 /// A text that is made of parts of another, which it shares, and of bytes of its own between them. Contracts see the text
 /// that lends, and the one that is made.
-#[derive(Debug, Drop)]
+#[derive(Drop)]
 pub struct Patched {
     lender: Arc<Vec<u8>, Global>,
     own: Vec<u8>,

@@ -1,7 +1,7 @@
 use crate::patched::Patched;
 
 /// A text in pieces, one after another.
-#[derive(Debug, Drop)]
+#[derive(Drop)]
 pub enum Pieces {
     /// Texts of their own.
     Texts(Vec<Vec<u8>>),

@@ -29,7 +29,7 @@ fn unless_interrupted(answer: io::Result<usize>) -> Option<Result<usize, Failed>
 /// A source that is one of std's readers. It reports the bytes that its reader reports: those of a text in memory, and
 /// none of a file. Its `reads` are the calls of its reader: those that were made, and those that may be made again where
 /// signals interrupt them, which are 65,536 at first. Once these are used up, an interrupted call is a failed read.
-#[derive(Debug, Drop)]
+#[derive(Drop)]
 pub struct ReaderSource<R> {
     reader: CountedReader<R>,
     // How many calls may be made again.
@@ -126,7 +126,7 @@ fn read_through<R: Read>(
 
 /// A sink that is one of std's writers. It reports the bytes that its writer reports. A writer that keeps bytes back,
 /// as a `BufWriter`, isn't flushed.
-#[derive(Debug, Drop)]
+#[derive(Drop)]
 pub struct WriterSink<W> {
     writer: W,
     failed: bool,

@@ -6,7 +6,7 @@ use crate::row::Row;
 use rx_fields::Period;
 
 /// What a row counts in a period, in cents: nothing where it isn't dated within it.
-#[derive(Clone, Copy, Debug, PartialEq, Eq)]
+#[derive(Clone, Copy, PartialEq, Eq)]
 pub struct Counted {
     /// Toward the deductibles.
     pub deductible: u128,

@@ -10,7 +10,7 @@ use rx_d0_values::{Answer, Approved, Codes, Faulty, Paid, Pricing, Refused, Tran
 use rx_fields::{Authorization, Cents, Code, Reference};
 
 /// What a billing is paid by.
-#[derive(Clone, Copy, Debug, PartialEq, Eq)]
+#[derive(Clone, Copy, PartialEq, Eq)]
 pub struct Payment {
     /// What the plan says of the product.
     pub drug: Drug,
@@ -22,7 +22,7 @@ pub struct Payment {
 
 /// The decision on a transaction: the first row of the tables of adjudication that holds, with what it needs
 /// (docs/RULES.md, "Rules of adjudication"). The variants stand in the order of the rows.
-#[derive(Clone, Copy, Debug, PartialEq, Eq)]
+#[derive(Clone, Copy, PartialEq, Eq)]
 pub enum Decision {
     /// R 52: the family has no member.
     NoFamily,

@@ -7,7 +7,7 @@ use rx_fields::MOST_CENTS;
 pub const MOST_PRICE: u64 = 1_000_000_000;
 
 /// What a member pays of a drug, besides the deductible.
-#[derive(Clone, Copy, Debug, PartialEq, Eq)]
+#[derive(Clone, Copy, PartialEq, Eq)]
 pub enum Share {
     /// A fixed copay, in cents: 0 to 99,999,999.
     Copay(u64),
@@ -16,7 +16,7 @@ pub enum Share {
 }
 
 /// What the plan says of a product.
-#[derive(Clone, Copy, Debug, PartialEq, Eq)]
+#[derive(Clone, Copy, PartialEq, Eq)]
 pub struct Drug {
     /// What the member pays.
     pub share: Share,

@@ -5,7 +5,7 @@ use rx_text::{all_digits, all_printable};
 pub const MOST_LIMIT: u64 = 99_999_999_999;
 
 /// The figures of a plan sheet (docs/FORMATS.md, "Plan sheet").
-#[derive(Clone, Copy, Debug, PartialEq, Eq)]
+#[derive(Clone, Copy, PartialEq, Eq)]
 pub struct Figures {
     /// The BIN, six digits, and the processor control number, printable.
     pub door: Door,

@@ -49,7 +49,7 @@ impl From<Memory> for AddError {
 
 /// The members and the standing claims, in plain lists: members ascending by family and person, rows ascending by
 /// fill key, and the member of each row is listed (docs/RULES.md, "Words").
-#[derive(Debug, Drop)]
+#[derive(Drop)]
 pub struct Ledger {
     members: Ascending<Member>,
     rows: Ascending<Row>,

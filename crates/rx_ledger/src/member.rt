@@ -7,7 +7,7 @@ use rx_fields::{Day, Id, Period, Person};
 use rx_sorted::Keyed;
 
 /// What a member is known by: the family, and the person within it.
-#[derive(Clone, Copy, Debug, PartialEq, Eq, PartialOrd, Ord)]
+#[derive(Clone, Copy, PartialEq, Eq, PartialOrd, Ord)]
 pub struct MemberKey {
     /// The cardholder id.
     pub family: Id,
@@ -29,7 +29,7 @@ impl MemberKey {
 }
 
 /// A person that the plan covers.
-#[derive(Clone, Copy, Debug, PartialEq, Eq)]
+#[derive(Clone, Copy, PartialEq, Eq)]
 pub struct Member {
     /// The family and the person.
     pub key: MemberKey,

@@ -9,7 +9,7 @@ use rx_d0_values::{Bill, Heard, Paid};
 use rx_fields::{Authorization, Day, Key, Lot, NUMBERS_OF_A_BATCH, Provider, Reference};
 
 /// What a transaction is asked under.
-#[derive(Clone, Copy, Debug, PartialEq, Eq)]
+#[derive(Clone, Copy, PartialEq, Eq)]
 pub struct Occasion {
     /// The lot of the batch.
     pub lot: Lot,

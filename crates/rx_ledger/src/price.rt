@@ -8,7 +8,7 @@ use std::marker::Model;
 
 /// What is allowed for a fill before the patient's share: cost and fee together at most 99,999,999 cents
 /// (docs/RULES.md, "Rules of adjudication").
-#[derive(Clone, Copy, Debug, PartialEq, Eq)]
+#[derive(Clone, Copy, PartialEq, Eq)]
 pub struct Allowance {
     ingredient_cost: u64,
     dispensing_fee: u64,

@@ -8,7 +8,7 @@ use rx_sorted::Keyed;
 use std::mem::size_of;
 
 /// A standing claim (docs/RULES.md, "Words"). Its fields stand in an order that leaves few gaps: a ledger has many.
-#[derive(Clone, Copy, Debug, PartialEq, Eq)]
+#[derive(Clone, Copy, PartialEq, Eq)]
 pub struct Row {
     /// The fill key.
     pub key: Key,

@@ -9,7 +9,7 @@ use crate::price::Allowance;
 use rx_d0_values::{Amounts, Pricing};
 
 /// What is used of a plan's figures in the benefit period, in cents.
-#[derive(Clone, Copy, Debug, PartialEq, Eq)]
+#[derive(Clone, Copy, PartialEq, Eq)]
 pub struct Used {
     /// The deductible of the member.
     pub deductible: u128,

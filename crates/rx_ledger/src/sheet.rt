@@ -9,7 +9,7 @@ use std::alloc::Global;
 use std::marker::Model;
 
 /// A product with what the plan says of it.
-#[derive(Clone, Copy, Debug, PartialEq, Eq)]
+#[derive(Clone, Copy, PartialEq, Eq)]
 pub struct Listed {
     /// The product.
     pub product: Product,
@@ -54,7 +54,7 @@ impl AddFault {
 }
 
 /// A plan sheet: figures within their ranges, and the drugs that the plan covers (docs/FORMATS.md, "Plan sheet").
-#[derive(Debug, Drop)]
+#[derive(Drop)]
 pub struct Sheet {
     figures: Figures,
     drugs: Ascending<Listed>,

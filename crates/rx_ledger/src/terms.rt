@@ -9,7 +9,7 @@ use std::marker::Model;
 
 /// What one record is adjudicated under: its lot, and a small sheet with all figures and the drugs of the record's
 /// products.
-#[derive(Clone, Copy, Debug)]
+#[derive(Clone, Copy)]
 pub struct Terms {
     lot: Lot,
     figures: Figures,

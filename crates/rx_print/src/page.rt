@@ -15,7 +15,7 @@ use rx_fields::{Authorization, Day, date_write, digits_write};
 use std::alloc::{AllocError, Global};
 
 /// A text that is written from front to end.
-#[derive(Debug, Drop)]
+#[derive(Drop)]
 pub struct Page {
     alloc: Global,
     /// The bytes written so far.

@@ -2,7 +2,7 @@ ghost use Rattle.std.specs.Prelude.{◌≡◌};
 ghost use Rattle.rx_report.specs.Cells.{is_number, name_of};
 
 /// What a report says of an answer.
-#[derive(Clone, Copy, Debug)]
+#[derive(Clone, Copy)]
 pub enum Column {
     /// The record's place in the batch.
     Place,

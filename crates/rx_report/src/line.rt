@@ -2,7 +2,7 @@ use rx_d0_values::Answer;
 use rx_fields::{Days, Id, Person, Product, Quantity};
 
 /// How much of its product a billing is of, and for how long.
-#[derive(Clone, Copy, Debug)]
+#[derive(Clone, Copy)]
 pub struct Dispensed {
     /// The quantity (442-E7), in thousandths.
     pub quantity: Quantity,
@@ -11,7 +11,7 @@ pub struct Dispensed {
 }
 
 /// One answer of a batch, with what its request says of it.
-#[derive(Clone, Copy, Debug)]
+#[derive(Clone, Copy)]
 pub struct Line {
     /// The record's place in the batch, from 1.
     pub place: u64,

@@ -8,7 +8,7 @@ use rx_settle::names_provider;
 use std::alloc::Global;
 
 /// Which lines of a batch to report.
-#[derive(Clone, Copy, Debug)]
+#[derive(Clone, Copy)]
 pub enum Portion<'a> {
     /// All of them.
     Whole,

@@ -2,7 +2,7 @@ use crate::line::Line;
 use rx_settle::{Field, Tally};
 
 /// A provider's lines, with what they come to.
-#[derive(Clone, Copy, Debug)]
+#[derive(Clone, Copy)]
 pub struct Section<'a> {
     /// The provider, filled with blanks; all blanks stand for all that are no id.
     pub provider: Field,
@@ -13,7 +13,7 @@ pub struct Section<'a> {
 }
 
 /// The sections of a report, in order of first appearance, and what they come to.
-#[derive(Debug, Drop)]
+#[derive(Drop)]
 pub struct Account<'a> {
     pub sections: Vec<Section<'a>>,
     pub total: Tally,

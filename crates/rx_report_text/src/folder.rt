@@ -15,7 +15,7 @@ use rx_sorted::Ascending;
 use std::alloc::Global;
 
 /// A page of a folder.
-#[derive(Debug, Drop)]
+#[derive(Drop)]
 pub struct PageFile {
     /// The name of its file: letters, digits and a point.
     pub name: Vec<u8>,

@@ -6,7 +6,7 @@ use rx_settle::Field;
 use std::alloc::AllocError;
 
 // What a page is for.
-#[derive(Clone, Copy, Debug)]
+#[derive(Clone, Copy)]
 pub(crate) enum Layout {
     // A page for itself, with its claims.
     Claims,

@@ -10,7 +10,7 @@ use rx_print::{Page, Style};
 use std::alloc::AllocError;
 
 /// A file from which a page was made.
-#[derive(Clone, Copy, Debug)]
+#[derive(Clone, Copy)]
 pub struct InputFile<'a> {
     /// Its path, as it was given.
     pub path: &'a str,
@@ -19,7 +19,7 @@ pub struct InputFile<'a> {
 }
 
 /// What a page was made from, by what and when.
-#[derive(Clone, Copy, Debug)]
+#[derive(Clone, Copy)]
 pub struct Origin<'a> {
     pub sheet: InputFile<'a>,
     pub books: InputFile<'a>,
@@ -33,7 +33,7 @@ pub struct Origin<'a> {
 }
 
 /// What a page says at its head: the batch, the stamp of its run, the plan, and the page's origin.
-#[derive(Clone, Copy, Debug)]
+#[derive(Clone, Copy)]
 pub struct PageHead<'a> {
     pub lot: Lot,
     /// Where it is known.

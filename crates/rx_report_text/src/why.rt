@@ -6,7 +6,7 @@ use rx_report::Line;
 use rx_sorted::{Ascending, Keyed};
 
 /// Where an answer stands in a batch. Ordered as the batch is adjudicated.
-#[derive(Clone, Copy, Debug, PartialEq, Eq, PartialOrd, Ord)]
+#[derive(Clone, Copy, PartialEq, Eq, PartialOrd, Ord)]
 pub struct AnswerSpot {
     /// The record's place in the batch, from 1.
     pub place: u64,
@@ -15,7 +15,7 @@ pub struct AnswerSpot {
 }
 
 /// Why an answer was given.
-#[derive(Debug, Drop)]
+#[derive(Drop)]
 pub struct Why {
     /// Where the answer stands.
     pub spot: AnswerSpot,

@@ -8,7 +8,7 @@ use rx_report::{Line, Section};
 use std::alloc::{AllocError, Global};
 
 // A column with its width in bytes.
-#[derive(Clone, Copy, Debug)]
+#[derive(Clone, Copy)]
 pub(crate) struct Wide {
     pub(crate) shown: Shown,
     pub(crate) width: usize,

@@ -12,7 +12,7 @@ const FIELD_FRONT: u64 = 0x1C_46_42;
 const MARKED: usize = 3;
 
 /// The reject codes in the bytes of a response file that passed: the two bytes after each FS, F and B.
-#[derive(Debug, Drop)]
+#[derive(Drop)]
 pub struct CodesPassed {
     // The last five bytes, as a number.
     five: u64,

@@ -9,7 +9,7 @@ use crate::traffic::Traffic;
 use std::alloc::Global;
 
 /// The size and the sum of what passed through a file of a run, where it was read or written.
-#[derive(Debug, Drop)]
+#[derive(Drop)]
 pub struct FileSum {
     bytes: Option<u64>,
     sha256: Option<String>,

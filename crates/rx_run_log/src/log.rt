@@ -5,7 +5,7 @@ use crate::step::StepTimes;
 use rx_io::{Inputs, Outputs};
 
 /// A file of a run. What isn't known is `None`.
-#[derive(Clone, Copy, Debug)]
+#[derive(Clone, Copy)]
 pub struct FileLog<'a> {
     /// The path, as it was given.
     pub path: &'a str,
@@ -16,14 +16,14 @@ pub struct FileLog<'a> {
 }
 
 /// How often a reject code was given.
-#[derive(Debug, Drop)]
+#[derive(Drop)]
 pub struct CodeCount {
     pub code: String,
     pub count: u64,
 }
 
 /// The fields of a log's line. What isn't known is `None`.
-#[derive(Clone, Copy, Debug)]
+#[derive(Clone, Copy)]
 pub struct RunLog<'a> {
     /// The version of the program.
     pub version: &'a str,

@@ -2,7 +2,7 @@ use crate::settlement::Totals;
 use crate::step::Step;
 
 /// What is counted in a step.
-#[derive(Clone, Copy, Debug, PartialEq, Eq)]
+#[derive(Clone, Copy, PartialEq, Eq)]
 pub enum Counted {
     /// Lines of a text.
     Lines(u64),
@@ -11,7 +11,7 @@ pub enum Counted {
 }
 
 /// What is reported of a step. What isn't known, or isn't the step's, is `None`.
-#[derive(Clone, Copy, Debug)]
+#[derive(Clone, Copy)]
 pub struct StepReport {
     pub step: Step,
     pub counted: Option<Counted>,
@@ -22,7 +22,7 @@ pub struct StepReport {
 }
 
 /// How a batch was dealt out to several workers, in shards that share no book.
-#[derive(Clone, Copy, Debug, PartialEq, Eq)]
+#[derive(Clone, Copy, PartialEq, Eq)]
 pub struct Shards {
     pub count: u64,
     /// How many transactions the largest shard has.
@@ -32,7 +32,7 @@ pub struct Shards {
 }
 
 /// What is reported of a run that is done. What isn't known is `None`.
-#[derive(Clone, Copy, Debug)]
+#[derive(Clone, Copy)]
 pub struct RunReport {
     pub totals: Option<Totals>,
     /// The most memory that the program had, in bytes.

@@ -12,7 +12,7 @@ use rx_io::{Inputs, Outputs};
 const NO_DETAILS: u64 = 2;
 
 /// What passed through the six files of a run.
-#[derive(Debug, Drop)]
+#[derive(Drop)]
 pub struct RunTraffic {
     pub inputs: Inputs<Traffic>,
     pub outputs: Outputs<Traffic>,

@@ -3,7 +3,7 @@ ghost use Rattle.rx_run_log.specs.Lines.{label_of};
 ghost use Rattle.rx_run_log.specs.Steps.{time_of};
 
 /// A step of a run, in the order in which a run takes them.
-#[derive(Clone, Copy, Debug, PartialEq, Eq)]
+#[derive(Clone, Copy, PartialEq, Eq)]
 pub enum Step {
     /// The plan sheet is read.
     Sheet,
@@ -42,7 +42,7 @@ impl Step {
 }
 
 /// How long each step took, in microseconds; `None` where the run didn't come to it.
-#[derive(Clone, Copy, Debug)]
+#[derive(Clone, Copy)]
 pub struct StepTimes {
     /// In the order of the steps.
     pub micros: [Option<u64>; 8],

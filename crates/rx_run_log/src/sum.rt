@@ -7,7 +7,7 @@ use sha2::{Digest, Sha256};
 use std::alloc::{AllocError, Global};
 
 /// What the sum of the bytes that pass is made of.
-#[derive(Debug, Drop)]
+#[derive(Drop)]
 pub(crate) enum Sum {
     /// They are summed as they pass.
     Made(Sha256),

@@ -4,7 +4,7 @@ ghost use Rattle.rx_run_log.specs.Times.{micros_between, micros_from};
 use std::time::Duration;
 
 /// When a run began and ended, where its clock answered.
-#[derive(Clone, Copy, Debug)]
+#[derive(Clone, Copy)]
 pub struct RunTimes {
     pub begin: Option<Duration>,
     pub end: Option<Duration>,

@@ -16,7 +16,7 @@ use std::time::Duration;
 const KEPT: usize = 256;
 
 /// What passed through a device so far.
-#[derive(Debug, Drop)]
+#[derive(Drop)]
 pub struct Traffic {
     bytes: u64,
     line_feeds: u64,

@@ -6,7 +6,7 @@ use std::alloc::Global;
 use std::time::{Clock, Duration};
 
 /// A device and its traffic: what a sink takes, and what a source gives. It answers what the device answers.
-#[derive(Debug, Drop)]
+#[derive(Drop)]
 pub struct Watched<'c, D, C> {
     pub(crate) device: D,
     pub(crate) traffic: Traffic,

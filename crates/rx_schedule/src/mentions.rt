@@ -13,14 +13,14 @@ use std::alloc::Global;
 
 /// That the record at a place, counted from 0, names a book. Equal books have equal names; two books that differ have
 /// one name hardly ever, and then their records are together without need. It is small, since mentions are sorted.
-#[derive(Clone, Copy, Debug)]
+#[derive(Clone, Copy)]
 pub(crate) struct Mention {
     pub(crate) name: u32,
     pub(crate) at: u32,
 }
 
 /// That the record at a place, counted from 0, reverses a fill key.
-#[derive(Clone, Copy, Debug)]
+#[derive(Clone, Copy)]
 pub(crate) struct Reversed {
     pub(crate) key: Key,
     pub(crate) at: u32,

@@ -7,7 +7,7 @@ use rx_fields::Memory;
 use std::alloc::Global;
 
 /// The shards of a batch: records of two shards share no book, and may go at once (docs/RULES.md, "Shards").
-#[derive(Debug, Drop)]
+#[derive(Drop)]
 pub struct Shards {
     /// The shard of each record, in file order, from 0.
     pub numbers: Vec<usize>,

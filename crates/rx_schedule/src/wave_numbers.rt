@@ -1,5 +1,5 @@
 /// The waves of a batch: records of one wave share no book, and may go in any order (docs/RULES.md, "Waves").
-#[derive(Debug, Drop)]
+#[derive(Drop)]
 pub struct Waves {
     /// The wave of each record, in file order, from 1.
     pub numbers: Vec<usize>,

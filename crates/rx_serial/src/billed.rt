@@ -11,7 +11,7 @@ use std::alloc::Global;
 
 /// Where the members of some records' transactions are listed, in order, with None if there is none; where those of
 /// each record begin; and an entry that counts nothing for each fill that the records bill.
-#[derive(Debug, Drop)]
+#[derive(Drop)]
 pub(crate) struct Billed {
     pub(crate) holders: Vec<Option<usize>>,
     pub(crate) firsts: Vec<usize>,

@@ -20,7 +20,7 @@ use std::alloc::Global;
 
 /// The counts of fills; and for each transaction of the records, where the entry of its own fill is among them, if it has
 /// one. What is looked up there is compared.
-#[derive(Debug, Drop)]
+#[derive(Drop)]
 pub(crate) struct Counts {
     pub(crate) fills: Ascending<Fill>,
     pub(crate) places: Vec<usize>,

@@ -2,7 +2,7 @@ use rx_books_store::OpenBooks;
 use rx_fields::Key;
 
 /// What some records of a batch leave.
-#[derive(Debug, Drop)]
+#[derive(Drop)]
 pub struct Ended {
     /// The books after the records, with a slot for each of the fill keys.
     pub books: OpenBooks,

@@ -7,14 +7,14 @@ use rx_ledger::Row;
 use rx_sorted::{Ascending, InsertError, Keyed};
 
 /// A member, by the place among the members, and a product.
-#[derive(Clone, Copy, Debug, PartialEq, Eq, PartialOrd, Ord)]
+#[derive(Clone, Copy, PartialEq, Eq, PartialOrd, Ord)]
 pub(crate) struct Course {
     pub(crate) holder: usize,
     pub(crate) product: Product,
 }
 
 /// From when a fill is, as the number of its day and as its day, and for how many days.
-#[derive(Clone, Copy, Debug, PartialEq, Eq, PartialOrd, Ord)]
+#[derive(Clone, Copy, PartialEq, Eq, PartialOrd, Ord)]
 pub(crate) struct When {
     pub(crate) number: i32,
     pub(crate) date: Day,
@@ -22,27 +22,27 @@ pub(crate) struct When {
 }
 
 /// What a refill is tested by: whose fill it is of what, from when, and for how many days.
-#[derive(Clone, Copy, Debug, PartialEq, Eq, PartialOrd, Ord)]
+#[derive(Clone, Copy, PartialEq, Eq, PartialOrd, Ord)]
 pub(crate) struct FillKey {
     pub(crate) course: Course,
     pub(crate) when: When,
 }
 
 /// How many standing claims are such fills.
-#[derive(Clone, Copy, Debug, PartialEq, Eq)]
+#[derive(Clone, Copy, PartialEq, Eq)]
 pub(crate) struct Fill {
     pub(crate) key: FillKey,
     pub(crate) count: u64,
 }
 
 /// The first day on which the records bill, as a number. No fill that is over by then makes one of theirs too soon.
-#[derive(Clone, Copy, Debug)]
+#[derive(Clone, Copy)]
 pub(crate) struct FirstDay {
     pub(crate) number: i32,
 }
 
 /// An entry, and which transaction's it is, counted over all records; it is none's where it stands for a claim.
-#[derive(Clone, Copy, Debug)]
+#[derive(Clone, Copy)]
 pub(crate) struct Entry {
     pub(crate) fill: Fill,
     pub(crate) transaction: usize,

@@ -2,7 +2,7 @@ use rx_books_store::Books;
 use rx_d0_values::Reply;
 
 /// What a run of records gives.
-#[derive(Debug, Drop)]
+#[derive(Drop)]
 pub struct Finished {
     /// The books after all records.
     pub books: Books,

@@ -32,7 +32,7 @@ use std::marker::Model;
 
 /// Books on which records of a batch are adjudicated one after another: all of them, or some in file order. Contracts see
 /// the books so far, the fill keys that have a slot, and those that the records name.
-#[derive(Debug, Drop)]
+#[derive(Drop)]
 pub struct InOrder {
     pub(crate) books: OpenBooks,
     // The fill keys that the records name, each once, in order. All of them have a slot.

@@ -9,7 +9,7 @@ use std::alloc::Global;
 const MARKS: usize = 16;
 
 /// Marks for what is billed: which members, by their places; and which courses. Few other courses have a mark.
-#[derive(Debug, Drop)]
+#[derive(Drop)]
 pub(crate) struct Marks {
     pub(crate) members: Vec<bool>,
     pub(crate) courses: Vec<bool>,

@@ -11,7 +11,7 @@ use std::alloc::Global;
 
 /// A fill key that some records name, and which of their transactions does, counted over all of them. By their ranks most
 /// keys are in order.
-#[derive(Clone, Copy, Debug)]
+#[derive(Clone, Copy)]
 pub(crate) struct Named {
     pub(crate) rank: u128,
     pub(crate) key: Key,
@@ -19,7 +19,7 @@ pub(crate) struct Named {
 }
 
 /// The fill keys that some records name: as their transactions do, and each once, in order.
-#[derive(Debug, Drop)]
+#[derive(Drop)]
 pub(crate) struct Names {
     pub(crate) named: Vec<Named>,
     pub(crate) keys: Vec<Key>,

@@ -11,7 +11,7 @@ use rx_sorted::Ascending;
 
 /// A billing as a refill: its course, its date of service, and how many days of an earlier fill have to be over, in
 /// percent.
-#[derive(Clone, Copy, Debug)]
+#[derive(Clone, Copy)]
 pub(crate) struct Refill {
     pub(crate) course: Course,
     pub(crate) date: Day,

@@ -1,5 +1,5 @@
 /// A plan as a plans file names it (docs/FORMATS.md, "Plans file"). No text is empty.
-#[derive(Debug, Drop)]
+#[derive(Drop)]
 pub struct PlanFiles {
     /// The name of the plan in reports and messages.
     pub name: String,

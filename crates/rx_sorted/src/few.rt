@@ -7,7 +7,7 @@ ghost use Rattle.rx_sorted.specs.FewLends.{lends_item};
 use std::alloc::{AllocError, Global};
 
 /// A list of mostly one item, which then stands in place and takes no memory of its own.
-#[derive(Debug, Drop)]
+#[derive(Drop)]
 pub enum Few<T> {
     /// A single item.
     One(T),

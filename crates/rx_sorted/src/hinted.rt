@@ -31,7 +31,7 @@ pub trait Hashed: Keyed {
 /// A list in the ascending order of its items' keys, at most one item of a key, whose items are found by a hash of their
 /// keys. Contracts see the list: of the hints nothing is promised, for the item found is compared, and one that isn't
 /// found is searched for.
-#[derive(Debug, Drop)]
+#[derive(Drop)]
 pub struct Hinted<T: Hashed> {
     pub(crate) items: Vec<T>,
     // Where items probably are, by the upper halves of the hashes of their keys: each place below the lower half, so that

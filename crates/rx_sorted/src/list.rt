@@ -33,7 +33,7 @@ impl<T> From<AllocFailed<T>> for InsertError<T> {
 }
 
 /// A list of items in the ascending order of their keys, at most one item of a key.
-#[derive(Debug, Drop)]
+#[derive(Drop)]
 pub struct Ascending<T: Keyed> {
     items: Vec<T>,
 }

@@ -13,7 +13,7 @@ use std::marker::Model;
 
 /// A list of items in the ascending order of their keys, at most one item of a key, that is kept as some runs, one
 /// after the other. It never changes.
-#[derive(Debug, Drop)]
+#[derive(Drop)]
 pub struct Runs<T: Keyed> {
     runs: Vec<Vec<T>>,
     len: usize,

@@ -9,7 +9,7 @@ use rx_io::{Outputs, Pieces, one_text};
 use std::alloc::Global;
 
 /// What a run is given (docs/CLI.md, "run").
-#[derive(Clone, Copy, Debug)]
+#[derive(Clone, Copy)]
 pub struct Job<'a> {
     /// The plan sheet's text.
     pub sheet: &'a [u8],
@@ -26,7 +26,7 @@ pub struct Job<'a> {
 }
 
 /// What a run gives.
-#[derive(Debug, Drop)]
+#[derive(Drop)]
 pub struct Output {
     /// The response file's bytes.
     pub response: Vec<u8>,

@@ -3,7 +3,7 @@ use rx_desk::{Desk, Next, Remains};
 use rx_fields::Memory;
 
 /// What a worker does next.
-#[derive(Debug, Drop)]
+#[derive(Drop)]
 pub(crate) enum Turn {
     /// It adjudicates the order; `wakes` says that another record can go in parallel with it.
     Go { order: Order, wakes: bool },

@@ -4,7 +4,7 @@ use rx_fields::Lot;
 use rx_ledger::Sheet;
 
 /// What is adjudicated: the records of a batch, by a plan sheet, on opening books.
-#[derive(Clone, Copy, Debug)]
+#[derive(Clone, Copy)]
 pub(crate) struct Job<'a> {
     pub(crate) lot: Lot,
     pub(crate) sheet: &'a Sheet,

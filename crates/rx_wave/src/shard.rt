@@ -16,7 +16,7 @@ use rx_serial::{Finished, InOrder};
 use std::alloc::Global;
 
 /// What the records of a shard leave: the books, the fill keys that they name, and a reply to each record.
-#[derive(Debug, Drop)]
+#[derive(Drop)]
 pub(crate) struct Ended {
     pub(crate) books: OpenBooks,
     pub(crate) keys: Vec<Key>,

@@ -6,7 +6,7 @@ use std::alloc::{AllocError, Global};
 use std::io;
 
 /// A file that the program reads or writes.
-#[derive(Clone, Copy, Debug, PartialEq, Eq)]
+#[derive(Clone, Copy, PartialEq, Eq)]
 pub enum ProgramFile {
     /// One of the six files of a run.
     Of(Device),

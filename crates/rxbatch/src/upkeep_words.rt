@@ -9,7 +9,7 @@ use rx_switch::SwitchFault;
 use std::alloc::{AllocError, Global};
 
 /// What a command was given: the paths, as they were written, and the texts; those of no file are empty.
-#[derive(Clone, Copy, Debug)]
+#[derive(Clone, Copy)]
 pub struct Given<'a> {
     pub books: (&'a str, &'a [u8]),
     pub table: (&'a str, &'a [u8]),

@@ -66,11 +66,11 @@ fn order(rt: &impl Abort, desk: &mut Desk) -> Order {
 }
 
 fn done(rt: &impl Abort, alloc: Global, order: Order) -> Done {
-    adjudicate(alloc, order).expect(rt, "memory")
+    adjudicate(alloc, order).ok().expect(rt, "memory")
 }
 
 fn give(rt: &impl Abort, desk: &mut Desk, done: Done) {
-    desk.give(done).expect(rt, "taken back");
+    desk.give(done).ok().expect(rt, "taken back");
 }
 
 // The record at the place goes out, and no other is ready next to it.

@@ -49,7 +49,7 @@ fn taken(rt: &impl Abort, alloc: Global, shelf: &mut Shelf, reference: u64) -> P
 }
 
 fn give(rt: &impl Abort, shelf: &mut Shelf, parcel: Parcel) {
-    shelf.give(parcel).expect(rt, "given back");
+    shelf.give(parcel).ok().expect(rt, "given back");
 }
 
 // The number of the fault with which a parcel comes back; None where it is accepted.
@@ -90,7 +90,7 @@ fn closed(rt: &impl Abort, shelf: Shelf) -> Books {
     if !shelf.agrees() {
         panic!(rt; "books that agree");
     }
-    shelf.close().expect(rt, "closed")
+    shelf.close().ok().expect(rt, "closed")
 }
 
 // A shelf whose parcel of the first fill is out, and was dropped.

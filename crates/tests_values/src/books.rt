@@ -102,7 +102,7 @@ fn put(rt: &impl Abort, parcel: &mut Parcel, row: Row) {
 
 fn closed(rt: &impl Abort, shelf: Shelf) -> Books {
     assert!(rt; shelf.agrees(), "books that agree");
-    shelf.close().expect(rt, "closed")
+    shelf.close().ok().expect(rt, "closed")
 }
 
 // The books after the claim was put into its parcel.
@@ -110,7 +110,7 @@ fn after(rt: &impl Abort, alloc: Global) -> Books {
     let mut shelf = shelf(rt, alloc);
     let mut parcel = taken(rt, alloc, &mut shelf);
     put(rt, &mut parcel, claim(rt));
-    shelf.give(parcel).expect(rt, "given back");
+    shelf.give(parcel).ok().expect(rt, "given back");
     closed(rt, shelf)
 }
 
@@ -126,7 +126,7 @@ fn a_parcel_is_out_until_it_is_given(rt: HostRuntime) {
     let mut shelf = shelf(&rt, rt.alloc());
     let parcel = taken(&rt, rt.alloc(), &mut shelf);
     same!(rt; refused(&rt, rt.alloc(), &mut shelf), Some(TakeFault::Absent));
-    shelf.give(parcel).expect(&rt, "given back");
+    shelf.give(parcel).ok().expect(&rt, "given back");
 }
 
 #[test]

@@ -15,7 +15,7 @@ use std::thread::Threads;
 const MOST: usize = 4;
 
 // What is done to the claim under a reference number.
-#[derive(Clone, Copy, Debug)]
+#[derive(Clone, Copy)]
 enum Touch {
     // A slot is kept for it, and nothing else.
     Opened,

@@ -56,7 +56,7 @@ fn outcome(rt: &impl Abort, alloc: Global, body: &Body) -> Outcome {
             for transaction in heard.list.as_slice() {
                 answers.push(answer(rt, transaction)).expect(rt, "memory");
             }
-            Outcome::Heard(Answers::new(answers).expect(rt, "1 to 4 answers"))
+            Outcome::Heard(Answers::new(answers).ok().expect(rt, "1 to 4 answers"))
         }
     }
 }

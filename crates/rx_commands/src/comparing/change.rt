@@ -11,7 +11,7 @@ use rx_settle::Tally;
 use std::alloc::AllocError;
 
 /// How many answers differ, and the cents that they move. Its numbers are wide enough for all answers that fit in memory.
-#[derive(Clone, Copy, Debug)]
+#[derive(Clone, Copy)]
 pub(crate) struct Change {
     /// How many they are.
     pub count: u128,

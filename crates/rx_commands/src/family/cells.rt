@@ -7,7 +7,7 @@ use rx_print::Page;
 use std::alloc::AllocError;
 
 /// What a table says of a family's claim.
-#[derive(Clone, Copy, Debug)]
+#[derive(Clone, Copy)]
 pub(crate) enum Column {
     Date,
     Person,

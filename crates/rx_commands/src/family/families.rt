@@ -14,7 +14,7 @@ use rx_ledger::{Member, MemberKey, Row};
 use std::alloc::Global;
 
 /// A sum over the claims of a benefit period, in cents.
-#[derive(Clone, Copy, Debug)]
+#[derive(Clone, Copy)]
 pub struct Total {
     /// The sum.
     pub sum: u128,
@@ -25,7 +25,7 @@ pub struct Total {
 }
 
 /// A member of a family.
-#[derive(Clone, Copy, Debug)]
+#[derive(Clone, Copy)]
 pub struct FamilyMember {
     /// The member, with its coverage.
     pub member: Member,
@@ -34,7 +34,7 @@ pub struct FamilyMember {
 }
 
 /// A family with its members and its standing claims.
-#[derive(Debug, Drop)]
+#[derive(Drop)]
 pub struct Family {
     /// The cardholder id.
     pub id: Id,

@@ -19,7 +19,7 @@ use rx_report_text::{InputFile, POLICY, STYLE, put_file, put_term};
 use std::alloc::AllocError;
 
 /// What a family's page was made from, by what and when.
-#[derive(Clone, Copy, Debug)]
+#[derive(Clone, Copy)]
 pub struct FamilyOrigin<'a> {
     /// The plan sheet, where one was given.
     pub sheet: Option<InputFile<'a>>,

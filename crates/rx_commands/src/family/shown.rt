@@ -22,7 +22,7 @@ use std::alloc::Global;
 use std::thread::Threads;
 
 /// Which family is asked for. Blanks at the end of an id don't count.
-#[derive(Clone, Copy, Debug)]
+#[derive(Clone, Copy)]
 pub struct FamilyAsked<'a> {
     /// Its cardholder id.
     pub family: &'a [u8],
@@ -31,7 +31,7 @@ pub struct FamilyAsked<'a> {
 }
 
 /// What a family is written as.
-#[derive(Clone, Copy, Debug)]
+#[derive(Clone, Copy)]
 pub enum FamilyForm<'a> {
     /// Aligned columns, amounts in dollars.
     Columns,

@@ -15,7 +15,7 @@ use rx_fields::Memory;
 use std::alloc::Global;
 
 /// A batch adjudicated, and some of its records explained on the way.
-#[derive(Debug, Drop)]
+#[derive(Drop)]
 pub struct Replayed {
     /// The replies to all records.
     pub replies: Vec<Reply>,
@@ -24,7 +24,7 @@ pub struct Replayed {
 }
 
 /// A record explained where it was met.
-#[derive(Debug, Drop)]
+#[derive(Drop)]
 pub struct Explained {
     /// The record's place in the batch, from 1.
     pub place: u64,

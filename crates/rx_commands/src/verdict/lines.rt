@@ -18,7 +18,7 @@ use std::alloc::{AllocError, Global};
 const LONGEST: usize = 60;
 
 /// What a place in a file is counted in: pieces, each ended by one byte.
-#[derive(Clone, Copy, Debug)]
+#[derive(Clone, Copy)]
 pub(crate) enum Cut {
     Line,
     Record,

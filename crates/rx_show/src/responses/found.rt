@@ -9,7 +9,7 @@ use rx_fields::Memory;
 use std::alloc::Global;
 
 /// What a detail of a response file holds.
-#[derive(Debug, Drop)]
+#[derive(Drop)]
 pub enum Found {
     /// The text of this reply.
     Reply(Reply),

@@ -10,13 +10,13 @@ use std::alloc::Global;
 use std::process::Abort;
 
 // A seat, and the guest who has it.
-#[derive(Clone, Copy, Debug, PartialEq, Eq)]
+#[derive(Clone, Copy, PartialEq, Eq)]
 struct Seat {
     place: Place,
     guest: u32,
 }
 
-#[derive(Clone, Copy, Debug, PartialEq, Eq, PartialOrd, Ord)]
+#[derive(Clone, Copy, PartialEq, Eq, PartialOrd, Ord)]
 struct Place {
     row: u8,
     number: u16,
@@ -54,7 +54,7 @@ fn seats_of(rt: &impl Abort, alloc: Global, taken: &[(u8, u16, u32)]) -> Ascendi
     let mut seats = Ascending::new(alloc);
     for (row, number, guest) in taken {
         let seat = seated(*row, *number, *guest);
-        seats.insert(seat).expect(rt, "a free seat");
+        seats.insert(seat).ok().expect(rt, "a free seat");
     }
     seats
 }

@@ -4,7 +4,7 @@ use std::alloc::Global;
 use std::process::Abort;
 
 // A page, and how many words are on it.
-#[derive(Clone, Copy, Debug, PartialEq, Eq)]
+#[derive(Clone, Copy, PartialEq, Eq)]
 struct Page {
     number: u16,
     words: u32,
