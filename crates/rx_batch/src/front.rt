@@ -11,7 +11,7 @@ use crate::record;
 use std::alloc::Global;
 
 /// How far a batch file was read: no record, the header, or the trailer too.
-#[derive(Clone, Copy, PartialEq, Eq)]
+#[derive(Clone, Copy)]
 pub enum Stage {
     Start,
     Headed(Head),

@@ -4,7 +4,7 @@ ghost use Rattle.rx_batch.specs.Header.{trailer_of};
 use rx_fields::number_read;
 
 /// What a trailer says of its batch.
-#[derive(Clone, Copy, PartialEq, Eq)]
+#[derive(Clone, Copy)]
 pub struct Trailer {
     pub number: u64,
     pub count: u64,

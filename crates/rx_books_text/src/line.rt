@@ -12,7 +12,7 @@ use rx_fields::Id;
 use rx_ledger::{Member, Row};
 
 /// A member line: who is covered, and what was paid so far.
-#[derive(Clone, Copy, PartialEq, Eq)]
+#[derive(Clone, Copy)]
 pub struct MemberLine {
     /// The member and the coverage.
     pub member: Member,
@@ -32,7 +32,7 @@ pub struct TotalLine {
 }
 
 /// A line of a books file after the head line.
-#[derive(Clone, Copy, PartialEq, Eq)]
+#[derive(Clone, Copy)]
 pub enum Line {
     /// A member, `M|`.
     Member(MemberLine),

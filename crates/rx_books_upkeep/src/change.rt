@@ -22,14 +22,14 @@ pub enum Change {
 }
 
 /// A member of a table, with the table's coverage, and what the table does to it.
-#[derive(Clone, Copy, PartialEq, Eq)]
+#[derive(Clone, Copy)]
 pub struct MemberChange {
     pub member: Member,
     pub change: Change,
 }
 
 /// What a table did to the members of books: how many of its members there are of each kind.
-#[derive(Clone, Copy, PartialEq, Eq)]
+#[derive(Clone, Copy)]
 pub struct Loaded {
     /// Members who weren't listed before.
     pub came_in: usize,

@@ -23,7 +23,7 @@ pub(crate) const LINE_FEED: u8 = b'\n';
 pub(crate) const HEADING: &[u8; 24] = b"family\tperson\tfirst\tlast";
 
 /// Where a member is listed, and with which coverage.
-#[derive(Clone, Copy, PartialEq, Eq)]
+#[derive(Clone, Copy)]
 pub(crate) struct Listed {
     pub(crate) line: u64,
     pub(crate) coverage: Period,

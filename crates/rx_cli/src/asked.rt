@@ -14,7 +14,7 @@ use crate::upkeep::{AgeWords, FamilyWords, MembersWords};
 use rx_io::{Inputs, Outputs};
 
 /// The words of `run`. Its six files and its log are different texts.
-#[derive(Clone, Copy, PartialEq, Eq)]
+#[derive(Clone, Copy)]
 pub struct RunWords<'a> {
     pub inputs: Inputs<&'a str>,
     pub outputs: Outputs<&'a str>,
@@ -65,7 +65,7 @@ impl<'a> RunWords<'a> {
 }
 
 /// The words of `show`.
-#[derive(Clone, Copy, PartialEq, Eq)]
+#[derive(Clone, Copy)]
 pub struct ShowWords<'a> {
     /// `--sheet`: the plan sheet.
     pub sheet: &'a str,
@@ -76,7 +76,7 @@ pub struct ShowWords<'a> {
 }
 
 /// One of the subcommands, with the values of its options (docs/CLI.md, "Commands").
-#[derive(Drop, PartialEq, Eq)]
+#[derive(Drop)]
 pub enum Command<'a> {
     /// `run`: adjudicates a batch file.
     Run(RunWords<'a>),

@@ -16,7 +16,7 @@ use rx_io::Inputs;
 use std::alloc::Global;
 
 /// What `compare` prints its answers as.
-#[derive(Clone, Copy, PartialEq, Eq)]
+#[derive(Clone, Copy)]
 pub enum CompareForm {
     /// Lines for people.
     Words,
@@ -27,7 +27,7 @@ pub enum CompareForm {
 }
 
 /// The words of `compare`.
-#[derive(Clone, Copy, PartialEq, Eq)]
+#[derive(Clone, Copy)]
 pub struct CompareWords<'a> {
     pub inputs: Inputs<&'a str>,
     /// `--with-sheet`: the other plan sheet, if there is one.

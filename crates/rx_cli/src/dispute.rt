@@ -2,7 +2,7 @@
 use rx_io::Inputs;
 
 /// The words of `excerpt`.
-#[derive(Clone, Copy, PartialEq, Eq)]
+#[derive(Clone, Copy)]
 pub struct ExcerptWords<'a> {
     pub inputs: Inputs<&'a str>,
     /// `--record`: the place of the record, from 1.

@@ -8,7 +8,7 @@ use clap::ArgMatches;
 use rx_io::{Inputs, Outputs};
 
 /// The inputs of a command.
-#[derive(Clone, Copy, PartialEq, Eq)]
+#[derive(Clone, Copy)]
 pub enum GivenInputs<'a> {
     /// `--sheet`, `--books` and `--batch`.
     OnePlan(Inputs<&'a str>),
@@ -17,7 +17,7 @@ pub enum GivenInputs<'a> {
 }
 
 /// The inputs of `verify`, and the outputs that it compares.
-#[derive(Clone, Copy, PartialEq, Eq)]
+#[derive(Clone, Copy)]
 pub enum ComparedFiles<'a> {
     /// Those of a run.
     OnePlan {
@@ -34,7 +34,7 @@ pub enum ComparedFiles<'a> {
 }
 
 /// The words of `check`: what stands of a plan's inputs, or of those of a plans file.
-#[derive(Clone, Copy, PartialEq, Eq)]
+#[derive(Clone, Copy)]
 pub enum CheckWords<'a> {
     /// `--sheet`, and `--books` and `--batch` where they are to be checked too.
     OnePlan(Inputs<&'a str, Option<&'a str>, Option<&'a str>>),

@@ -2,7 +2,7 @@
 use rx_io::Inputs;
 
 /// The words of `adjudicate`.
-#[derive(Clone, Copy, PartialEq, Eq)]
+#[derive(Clone, Copy)]
 pub struct AdjudicateWords<'a> {
     pub inputs: Inputs<&'a str>,
     /// `--out`: the folder for the outputs and the log.
@@ -20,7 +20,7 @@ pub struct AdjudicateWords<'a> {
 }
 
 /// The numbers of the line `refused N M P` (docs/CLI.md, "Refusals").
-#[derive(Clone, Copy, PartialEq, Eq)]
+#[derive(Clone, Copy)]
 pub struct FaultNumbers {
     /// N: the kind of refusal.
     pub kind: u64,

@@ -3,7 +3,7 @@
 use crate::given::{ComparedFiles, GivenInputs};
 
 /// What `explain` is asked after.
-#[derive(Clone, Copy, PartialEq, Eq)]
+#[derive(Clone, Copy)]
 pub enum Asked<'a> {
     /// `--record PLACE[.NTH]`, as it was written.
     Record(&'a str),
@@ -17,7 +17,7 @@ pub enum Asked<'a> {
 }
 
 /// The words of `explain`.
-#[derive(Clone, Copy, PartialEq, Eq)]
+#[derive(Clone, Copy)]
 pub struct ExplainWords<'a> {
     pub inputs: GivenInputs<'a>,
     /// `--record`, `--number` or `--rx`.
@@ -33,7 +33,7 @@ pub struct ExplainWords<'a> {
 }
 
 /// The words of `verify`.
-#[derive(Clone, Copy, PartialEq, Eq)]
+#[derive(Clone, Copy)]
 pub struct VerifyWords<'a> {
     pub files: ComparedFiles<'a>,
     /// `--stamp`, as it was written.
@@ -60,7 +60,7 @@ pub enum Portion<'a> {
 }
 
 /// What a report is written as.
-#[derive(Clone, Copy, PartialEq, Eq)]
+#[derive(Clone, Copy)]
 pub enum Form<'a> {
     /// Aligned columns.
     Columns,
@@ -77,7 +77,7 @@ pub enum Form<'a> {
 }
 
 /// The words of `report`.
-#[derive(Clone, Copy, PartialEq, Eq)]
+#[derive(Clone, Copy)]
 pub struct ReportWords<'a> {
     pub inputs: GivenInputs<'a>,
     pub portion: Portion<'a>,

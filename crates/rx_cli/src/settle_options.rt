@@ -13,7 +13,7 @@ use clap::{Arg, ArgAction, ArgMatches};
 use std::alloc::{AllocError, Global};
 
 /// The words of `settle`.
-#[derive(Drop, PartialEq, Eq)]
+#[derive(Drop)]
 pub struct SettleWords<'a> {
     /// `--response`: the response files, in the order in which they stand.
     pub responses: Vec<&'a str>,

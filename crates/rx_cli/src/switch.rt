@@ -1,7 +1,7 @@
 //! What the commands for several plans are asked to do.
 
 /// The files of a command for several plans.
-#[derive(Clone, Copy, PartialEq, Eq)]
+#[derive(Clone, Copy)]
 pub struct SwitchFiles<'a> {
     /// `--plans`: the plans file.
     pub plans: &'a str,
@@ -14,7 +14,7 @@ pub struct SwitchFiles<'a> {
 }
 
 /// The words of `route`.
-#[derive(Clone, Copy, PartialEq, Eq)]
+#[derive(Clone, Copy)]
 pub struct RouteWords<'a> {
     pub files: SwitchFiles<'a>,
     /// `--stamp`, as it was written.
@@ -30,7 +30,7 @@ pub struct RouteWords<'a> {
 }
 
 /// The words of `join`.
-#[derive(Clone, Copy, PartialEq, Eq)]
+#[derive(Clone, Copy)]
 pub struct JoinWords<'a> {
     pub files: SwitchFiles<'a>,
     /// `--safe`: the outputs take their paths only when all are written.

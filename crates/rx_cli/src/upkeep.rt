@@ -1,7 +1,7 @@
 //! What the commands that keep books up, and the one that shows a family of them, are asked to do.
 
 /// Which books a members table is loaded into.
-#[derive(Clone, Copy, PartialEq, Eq)]
+#[derive(Clone, Copy)]
 pub enum Origin<'a> {
     /// `--books`: these opening books.
     Books(&'a str),
@@ -10,7 +10,7 @@ pub enum Origin<'a> {
 }
 
 /// The words of `members`.
-#[derive(Clone, Copy, PartialEq, Eq)]
+#[derive(Clone, Copy)]
 pub struct MembersWords<'a> {
     pub origin: Origin<'a>,
     /// `--members`: the members table.
@@ -24,7 +24,7 @@ pub struct MembersWords<'a> {
 }
 
 /// What says which refill percentage a plan has at most.
-#[derive(Clone, Copy, PartialEq, Eq)]
+#[derive(Clone, Copy)]
 pub enum Percent<'a> {
     /// `--sheet`: the plan sheet.
     Sheet(&'a str),
@@ -33,7 +33,7 @@ pub enum Percent<'a> {
 }
 
 /// The words of `age`.
-#[derive(Clone, Copy, PartialEq, Eq)]
+#[derive(Clone, Copy)]
 pub struct AgeWords<'a> {
     /// `--books`: the opening books.
     pub books: &'a str,
@@ -52,7 +52,7 @@ pub struct AgeWords<'a> {
 }
 
 /// What a family is written as.
-#[derive(Clone, Copy, PartialEq, Eq)]
+#[derive(Clone, Copy)]
 pub enum FamilyForm {
     /// Aligned columns.
     Columns,
@@ -65,7 +65,7 @@ pub enum FamilyForm {
 }
 
 /// The words of `family`.
-#[derive(Clone, Copy, PartialEq, Eq)]
+#[derive(Clone, Copy)]
 pub struct FamilyWords<'a> {
     /// `--books`: the books.
     pub books: &'a str,

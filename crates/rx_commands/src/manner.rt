@@ -1,5 +1,5 @@
 /// How `explain` prints an explanation.
-#[derive(Clone, Copy, PartialEq, Eq)]
+#[derive(Clone, Copy)]
 pub enum Manner {
     /// In words; of the claims of a sum the 20 that count most.
     Words,

@@ -8,7 +8,7 @@ pub struct Printed {
 }
 
 /// How a command ends that refuses none of its inputs.
-#[derive(Clone, Copy, PartialEq, Eq)]
+#[derive(Clone, Copy)]
 pub enum Outcome {
     /// It is done.
     Done,

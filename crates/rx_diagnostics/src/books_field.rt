@@ -8,7 +8,7 @@ use rx_text::{all_digits, all_printable};
 use std::alloc::{AllocError, Global};
 
 /// What a field of a books line holds.
-#[derive(Clone, Copy, PartialEq, Eq)]
+#[derive(Clone, Copy)]
 pub(crate) enum Holds {
     /// An id of at most this many bytes.
     Id(usize),

@@ -5,7 +5,7 @@ use rx_batch::{BatchFault, STX};
 use rx_books_text::BooksFault;
 
 /// Where in its file a fault stands.
-#[derive(Clone, Copy, PartialEq, Eq)]
+#[derive(Clone, Copy)]
 pub enum Place {
     /// The file as a whole.
     Whole,

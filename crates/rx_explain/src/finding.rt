@@ -10,7 +10,7 @@ use rx_fields::{Authorization, Memory, Provider, Reference};
 use std::alloc::{AllocError, Global};
 
 /// Which transactions of a batch are asked for.
-#[derive(Clone, Copy, PartialEq, Eq)]
+#[derive(Clone, Copy)]
 pub enum Wanted {
     /// Those of the record at a place, from 1.
     Place(u64),

@@ -10,7 +10,7 @@ use rx_ledger::Row;
 use std::alloc::Global;
 
 /// Where a standing claim comes from.
-#[derive(Clone, Copy, PartialEq, Eq)]
+#[derive(Clone, Copy)]
 pub enum Source {
     /// The opening books.
     Opening,
@@ -22,7 +22,7 @@ pub enum Source {
 
 /// A claim that stands before a transaction, with what came before and comes after. A claim is known by its fill key:
 /// authorization numbers may repeat.
-#[derive(Clone, Copy, PartialEq, Eq)]
+#[derive(Clone, Copy)]
 pub struct Traced {
     /// The claim.
     pub row: Row,

@@ -11,7 +11,7 @@ use rx_ledger::{
 };
 
 /// The steps from a billing to its amounts, in cents (docs/RULES.md, "Rules of adjudication").
-#[derive(Clone, Copy, PartialEq, Eq)]
+#[derive(Clone, Copy)]
 pub struct Workings {
     /// What the claim is paid by.
     pub payment: Payment,

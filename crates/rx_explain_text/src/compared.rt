@@ -1,7 +1,7 @@
 use rx_fields::Lot;
 
 /// What a response file has at the place of a record, against the reply that the replay gives.
-#[derive(Clone, Copy, PartialEq, Eq)]
+#[derive(Clone, Copy)]
 pub enum Compared {
     /// The reference of the request and the same reply, byte for byte.
     Same,

@@ -14,7 +14,7 @@ use std::alloc::{AllocError, Global};
 pub(crate) const MOST_LISTED: usize = 20;
 
 /// Which of the claims of a sum are listed.
-#[derive(Clone, Copy, PartialEq, Eq)]
+#[derive(Clone, Copy)]
 pub enum Listing {
     /// The 20 that count most, the largest first, and how many more there are.
     Largest,

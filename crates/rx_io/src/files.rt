@@ -4,7 +4,7 @@ ghost use Rattle.rx_io.specs.Files.{input_at, output_at};
 use crate::device::Device;
 
 /// Something of each input of a run: its name, its text, or a source that it is read from.
-#[derive(Clone, Copy, Drop, PartialEq, Eq)]
+#[derive(Clone, Copy, Drop)]
 pub struct Inputs<A, B = A, C = A> {
     /// The plan sheet.
     pub sheet: A,
@@ -75,7 +75,7 @@ impl<T> Inputs<T> {
 }
 
 /// Something of each output of a run.
-#[derive(Clone, Copy, Drop, PartialEq, Eq)]
+#[derive(Clone, Copy, Drop)]
 pub struct Outputs<A, B = A, C = A> {
     /// The response file.
     pub response: A,

@@ -4,7 +4,7 @@ ghost use Rattle.rx_print.specs.Escape.{back_of, front_of, is_special};
 use rx_text::is_printable;
 
 /// Where bytes are to stand.
-#[derive(Clone, Copy, PartialEq, Eq)]
+#[derive(Clone, Copy)]
 pub enum Style {
     /// In the text or in a quoted attribute of an HTML page: as `&#x3C;`.
     Html,

@@ -10,7 +10,7 @@ use rx_report::{Column, Line, cell_of, cents_of};
 use std::alloc::{AllocError, Global};
 
 /// A column of a report for people. The provider stands above its lines; the last four are on pages only.
-#[derive(Clone, Copy, PartialEq, Eq)]
+#[derive(Clone, Copy)]
 pub enum Shown {
     /// The record's place, and the answer's in its reply, as `4.1`.
     Record,

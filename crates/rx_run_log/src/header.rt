@@ -6,7 +6,7 @@ use rx_batch::{BATCH_NUMBER_AT, CREATION_DATE_AT, CREATION_TIME_AT};
 use rx_text::{all_digits, line_ends};
 
 /// The lot of a batch file: its header's batch number and creation date, CCYYMMDD.
-#[derive(Clone, Copy, PartialEq, Eq)]
+#[derive(Clone, Copy)]
 pub struct Lot<'a> {
     pub number: &'a str,
     pub created: &'a str,

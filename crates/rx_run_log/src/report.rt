@@ -2,7 +2,7 @@ use crate::settlement::Totals;
 use crate::step::Step;
 
 /// What is counted in a step.
-#[derive(Clone, Copy, PartialEq, Eq)]
+#[derive(Clone, Copy)]
 pub enum Counted {
     /// Lines of a text.
     Lines(u64),
@@ -22,7 +22,7 @@ pub struct StepReport {
 }
 
 /// How a batch was dealt out to several workers, in shards that share no book.
-#[derive(Clone, Copy, PartialEq, Eq)]
+#[derive(Clone, Copy)]
 pub struct Shards {
     pub count: u64,
     /// How many transactions the largest shard has.

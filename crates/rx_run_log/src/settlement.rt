@@ -7,7 +7,7 @@ use crate::digit_text::text_of;
 use rx_text::all_digits;
 
 /// How many transactions of a run have each answer, and the net of its settlement in cents.
-#[derive(Clone, Copy, PartialEq, Eq)]
+#[derive(Clone, Copy)]
 pub struct Totals {
     pub paid: u64,
     pub duplicate: u64,

@@ -3,7 +3,7 @@ ghost use Rattle.rx_run_log.specs.Lines.{label_of};
 ghost use Rattle.rx_run_log.specs.Steps.{time_of};
 
 /// A step of a run, in the order in which a run takes them.
-#[derive(Clone, Copy, PartialEq, Eq)]
+#[derive(Clone, Copy)]
 pub enum Step {
     /// The plan sheet is read.
     Sheet,

@@ -29,7 +29,7 @@ pub(crate) struct FillKey {
 }
 
 /// How many standing claims are such fills.
-#[derive(Clone, Copy, PartialEq, Eq)]
+#[derive(Clone, Copy)]
 pub(crate) struct Fill {
     pub(crate) key: FillKey,
     pub(crate) count: u64,

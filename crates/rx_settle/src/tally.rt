@@ -5,7 +5,7 @@ use rx_d0_values::{Answer, Outcome};
 
 /// How many answers of each status there are, and the cents that they move. Its numbers are wide enough for all
 /// replies that fit in memory.
-#[derive(Clone, Copy, Default, PartialEq, Eq)]
+#[derive(Clone, Copy, Default)]
 pub struct Tally {
     /// Status P.
     pub paid: u128,

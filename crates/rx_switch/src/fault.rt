@@ -152,7 +152,7 @@ impl From<SwitchFault> for IoFault {
 
 /// What a fault is reported as: an exit status, and the numbers of the line on standard error (docs/CLI.md,
 /// "Refusals").
-#[derive(Clone, Copy, PartialEq, Eq)]
+#[derive(Clone, Copy)]
 pub struct Told {
     /// 1 for a refused run, whose line is `refused N M P`; 3 for a file fault, whose line is `file K`.
     pub status: u8,

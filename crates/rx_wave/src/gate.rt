@@ -1,7 +1,7 @@
 ghost use Rattle.std.specs.Prelude.{◌≡◌, ℕ, Bool, true};
 
 /// How a batch was dealt out in shards, which share no book.
-#[derive(Clone, Copy, PartialEq, Eq)]
+#[derive(Clone, Copy)]
 pub struct Deal {
     /// How many shards there are; a batch of one goes on the calling thread.
     pub shards: usize,
@@ -38,7 +38,7 @@ pub trait Gate {
 }
 
 /// The gate that starts every worker, does nothing, and holds no record up.
-#[derive(Clone, Copy, PartialEq, Eq)]
+#[derive(Clone, Copy)]
 pub struct NoGate;
 
 impl Gate for NoGate {

@@ -44,7 +44,7 @@ pub enum Ending {
 }
 
 /// What the line of numbers says of a run that isn't done.
-#[derive(Clone, Copy, PartialEq, Eq)]
+#[derive(Clone, Copy)]
 pub enum Numbers {
     /// The three numbers of a refusal.
     Refused([u64; 3]),

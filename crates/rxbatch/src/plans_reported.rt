@@ -15,7 +15,7 @@ use std::alloc::Global;
 use std::thread::Threads;
 
 // What a report of several plans is written as.
-#[derive(Clone, Copy, PartialEq, Eq)]
+#[derive(Clone, Copy)]
 enum PlansForm {
     Columns,
     Tsv,

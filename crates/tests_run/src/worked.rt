@@ -158,7 +158,9 @@ pub(crate) fn record(
     asking(Body::Heard(Heard {
         provider: provider(rt),
         date: day(rt, date),
-        list: Transactions::new(items).ok().expect(rt, "one to four of a kind"),
+        list: Transactions::new(items)
+            .ok()
+            .expect(rt, "one to four of a kind"),
     }))
 }
 

@@ -1,5 +1,5 @@
 /// What a comparison is written as.
-#[derive(Clone, Copy, PartialEq, Eq)]
+#[derive(Clone, Copy)]
 pub enum CompareForm {
     /// A line for each answer, for people.
     Words,

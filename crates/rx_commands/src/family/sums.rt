@@ -12,7 +12,7 @@ use std::alloc::Global;
 use std::collections::BTreeMap;
 
 /// The limits of a plan, in cents; None for one that the plan lacks, or without a plan.
-#[derive(Clone, Copy, PartialEq, Eq)]
+#[derive(Clone, Copy)]
 pub struct Limits {
     /// Of the deductible of a member.
     pub deductible: Option<u64>,
@@ -23,7 +23,7 @@ pub struct Limits {
 }
 
 /// A sum up to a claim, in cents.
-#[derive(Clone, Copy, PartialEq, Eq)]
+#[derive(Clone, Copy)]
 pub struct Running {
     /// The sum with the claim.
     pub sum: u128,
