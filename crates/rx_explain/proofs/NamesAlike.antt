@@ -1,12 +1,12 @@
 -- Explanations of a pharmacy's transaction on a ledger and on one with other names differ only in names.
-use Rattle.std.specs.Prelude.{◌&&◌, ◌==◌, ◌||◌, ◌⊎◌, if◌then◌else◌, nat_lt, not}
+use Rattle.std.specs.Prelude.{◌&&◌, ◌==◌, ◌⊎◌, not}
 use Rattle.std.proofs.Common.{◌≡◌, ℕ, List, [], ◌∷◌, map, get_or, Bool, true, false, Option, Some, None, refl, sym, ap}
 use Rattle.std.proofs.Common.{subst, ◌∙◌, inl, inr, arith}
 use Rattle.std.specs.Option.{option_map}
 use Rattle.std.specs.List.{All, Contains, filter, fold, list_any}
 use Rattle.std.specs.List.Sorted.{IsPermutation}
 use Rattle.std.specs.Cmp.{IsTotalOrder}
-use Rattle.std.specs.Ordering.{is_gt, is_lt, ordering_then}
+use Rattle.std.specs.Ordering.{ordering_then}
 use Rattle.std.specs.declared.cmp.Ordering.{Ordering}
 use Rattle.std.specs.declared.cmp.Ordering.TheVariants.{Equal}
 use Rattle.std.proofs.lemmas.Bool.{cases_Bool}
@@ -14,8 +14,8 @@ use Rattle.std.proofs.lemmas.Int.{by_lt_z}
 use Rattle.std.proofs.lemmas.List.Elements.{All-cons, All-contains, All-contains_itself, All-filter, All-head, All-nil, All-tail}
 use Rattle.std.proofs.lemmas.List.Elements.{All-weaker}
 use Rattle.std.proofs.lemmas.List.Sorted.{IsPermutation-map, IsPermutation-refl}
-use Rattle.rx_fields.specs.Calendar.{Civil, day_cmp, day_number}
-use Rattle.rx_fields.specs.Numbered.{LotParts, Span, is_within}
+use Rattle.rx_fields.specs.Calendar.{Civil, day_number}
+use Rattle.rx_fields.specs.Numbered.{LotParts, Span}
 use Rattle.rx_fields.specs.Order.{key_cmp}
 use Rattle.rx_fields.proofs.DayNumbers.{same_number, signed_arith}
 use Rattle.rx_d0_values.specs.declared.bill.BillParts.{BillParts}
@@ -27,11 +27,11 @@ use Rattle.rx_sorted.proofs.Filters.{Contains-filter}
 use Rattle.rx_sorted.proofs.Kept.{IsAscending-filter}
 use Rattle.rx_sorted.proofs.LookUps.{item_at-found}
 use Rattle.rx_ledger.specs.Answers.{answer_to}
-use Rattle.rx_ledger.specs.Decisions.{Asked, billing, decision_of, if_found, is_same_claim, is_too_soon, key_of, payment}
-use Rattle.rx_ledger.specs.Decisions.{row_of, unless_found}
+use Rattle.rx_ledger.specs.Decisions.{Asked, decision_of, is_same_claim, is_too_soon, key_of}
+use Rattle.rx_ledger.specs.Decisions.{row_of}
 use Rattle.rx_ledger.specs.Fold.{asked, authorization}
-use Rattle.rx_ledger.specs.Ledger.{Ledger, members_of, row_under, rows_of}
-use Rattle.rx_ledger.specs.Members.{is_same, member_cmp, member_key, of_family, person_in}
+use Rattle.rx_ledger.specs.Ledger.{Ledger, members_of, row_under}
+use Rattle.rx_ledger.specs.Members.{is_same, member_cmp, member_key, person_in}
 use Rattle.rx_ledger.specs.Plan.{Plan, drug_of}
 use Rattle.rx_ledger.specs.Rows.{claimed_by, row_key}
 use Rattle.rx_ledger.specs.declared.decision.Decision.{Decision}
@@ -40,6 +40,7 @@ use Rattle.rx_ledger.specs.declared.member.Member.{Member}
 use Rattle.rx_ledger.specs.declared.member.MemberKey.{MemberKey}
 use Rattle.rx_ledger.specs.declared.row.Row.{Row}
 use Rattle.rx_ledger.proofs.Found.{person_found}
+use Rattle.rx_ledger.proofs.Mapped.{billing-mapped, reversal-mapped, row-mapped}
 use Rattle.rx_ledger.proofs.Orders.{key_exact, key_total, member_exact, member_total}
 use Rattle.rx_explain.proofs.Counted.{filter_both}
 use Rattle.rx_explain.specs.Opens.{IsFirstOpen, IsOpenFrom, is_early_fill, is_open}
@@ -118,42 +119,30 @@ module _ (plan : Plan) (n : Names) (are : AreNames n) (L : Ledger) (is : InOrder
       let both : person_named n m.key ≡ m.key = ap (person_named n) key ∙ same ∙ sym key in
       λ i. record { key = both i; coverage = m.coverage }
 
-  keep-if : (b : Bool) (row below : Decision) → Keeps row → Keeps below → Keeps (if b then row else below)
-  keep-if true row below first rest = first
-  keep-if false row below first rest = rest
+  all-keep : {A : Type 0} (f : A → A) (o : Option A) → ((x : A) → o ≡ Some x → f x ≡ x) → o ≡ option_map f o
+  all-keep f None keeps = refl
+  all-keep f (Some x) keeps = ap Some (sym (keeps x refl))
 
-  keep-unless : {A : Type 0} (o : Option A) (row : Decision) (below : A → Decision) → Keeps row
-      → ((x : A) → o ≡ Some x → Keeps (below x)) → Keeps (unless_found o row below)
-  keep-unless None row below first rest = first
-  keep-unless (Some x) row below first rest = rest x refl
-
-  keep-found : {A : Type 0} (o : Option A) (row : A → Decision) (below : Decision)
-      → ((x : A) → o ≡ Some x → Keeps (row x)) → Keeps below → Keeps (if_found o row below)
-  keep-found None row below first rest = rest
-  keep-found (Some x) row below first rest = first x refl
-
-  billing-keeps : (b : BillParts) → bill_named n provider b ≡ b → Keeps (billing a L b)
-  billing-keeps b kept =
-      keep-if (not (list_any (of_family b.family) L.members)) decision.NoFamily _ refl
-      (keep-unless (person_in (members_of L b.family) b.person) decision.NoPerson _ refl (λ m m-is.
-      keep-found (row_under L (key_of a b.reference)) _ _
-      (λ r r-is. keep-if (is_same_claim b r) (decision.SameStands r) (decision.OtherStands r)
-      (ap decision.SameStands (row-keeps b.reference r r-is)) (ap decision.OtherStands (row-keeps b.reference r r-is)))
-      (keep-if (is_lt (day_cmp date plan.figures.period.first)) decision.BeforePeriod _ refl
-      (keep-if (is_gt (day_cmp date lot.created)) decision.AfterCreation _ refl
-      (keep-if (not (is_within m.coverage date) || is_gt (day_cmp date plan.figures.period.last)) (decision.NotCovered m) _
-      (ap decision.NotCovered (member-keeps b kept m m-is))
-      (keep-unless (drug_of plan b.product) decision.NotListed _ refl (λ d d-is.
-      keep-if (nat_lt plan.figures.max_days b.days) decision.TooManyDays _ refl
-      (keep-if (list_any (is_too_soon plan.figures date b) (rows_of L b.family)) decision.TooSoon
-      (decision.Payable (payment plan.figures d b (rows_of L b.family))) refl refl))))))))
+  rows-keep-under : (reference : ℕ) → row_under L (key_of a reference) ≡ option_map (row_named n) (row_under L (key_of a reference))
+  rows-keep-under reference = all-keep (row_named n) (row_under L (key_of a reference)) (row-keeps reference)
 
   decision-keeps : (t : Transaction) → transaction_named n provider date t ≡ t → Keeps (decision_of a L t)
-  decision-keeps (Bill b) kept = let same : bill_named n provider b ≡ b = cc in billing-keeps b same
+  decision-keeps (Bill b) kept =
+      let same : bill_named n provider b ≡ b = cc in
+      sym (billing-mapped (row_named n) (member_named n) (faulty_named n provider) a provider L L b b.family b.person b.reference
+      b.product (record {
+        some = refl;
+        member = all-keep (member_named n) (person_in (members_of L b.family) b.person) (member-keeps b same);
+        coverage = λ m is. refl;
+        standing = rows-keep-under b.reference;
+        claim = λ r is. ap (is_same_claim b) (row-keeps b.reference r is);
+        drug = refl;
+        soon = refl;
+        used = refl;
+      }))
   decision-keeps (Reverse v) kept =
-      keep-unless (row_under L (key_of a v.reference)) decision.NoneStands _ refl (λ r r-is.
-      keep-if (r.product == v.product) (decision.TakenBack r) (decision.OtherProduct r)
-      (ap decision.TakenBack (row-keeps v.reference r r-is)) (ap decision.OtherProduct (row-keeps v.reference r r-is)))
+      sym (reversal-mapped (row_named n) (member_named n) (faulty_named n provider) a provider L L v v (rows-keep-under v.reference)
+      (λ r is. ap (λ (s : Row). s.product == v.product) (row-keeps v.reference r is)))
   decision-keeps (Faulty f) kept = let same : faulty_named n provider f ≡ f = cc in ap decision.Unread same
 
   drug-keeps : (t : Transaction) → transaction_named n provider date t ≡ t → IsOneDrug n plan t
@@ -471,21 +460,7 @@ module _ (plan : Plan) (n : Names) (are : AreNames n) (L : Ledger) (is : InOrder
     -- ---- the row that decided
 
     row-same : (d : Decision) → row_of (decision_named n provider d) ≡ option_map (row_named n) (row_of d)
-    row-same decision.NoFamily = refl
-    row-same decision.NoPerson = refl
-    row-same (decision.SameStands r) = refl
-    row-same (decision.OtherStands r) = refl
-    row-same decision.BeforePeriod = refl
-    row-same decision.AfterCreation = refl
-    row-same (decision.NotCovered m) = refl
-    row-same decision.NotListed = refl
-    row-same decision.TooManyDays = refl
-    row-same decision.TooSoon = refl
-    row-same (decision.Payable p) = refl
-    row-same decision.NoneStands = refl
-    row-same (decision.OtherProduct r) = refl
-    row-same (decision.TakenBack r) = refl
-    row-same (decision.Unread f) = refl
+    row-same = row-mapped (row_named n) (member_named n) (faulty_named n provider)
 
     shown-same : (o : Option Row) → option_map (row_named n) o ≡ o → option_map here o ≡ option_map there o
     shown-same None same = refl
@@ -505,21 +480,8 @@ module _ (plan : Plan) (n : Names) (are : AreNames n) (L : Ledger) (is : InOrder
       open_is : (K : Ledger) (o : Option Civil) → IsOpenFrom plan.figures date K (Bill b) d o → o ≡ None
 
     soon-or-not : (b : BillParts) (d : Decision) → (d ≡ decision.TooSoon) ⊎ IsNotSoon b d
-    soon-or-not b decision.NoFamily = inr (record { row_is = λ K. refl; open_is = λ K o is. is })
-    soon-or-not b decision.NoPerson = inr (record { row_is = λ K. refl; open_is = λ K o is. is })
-    soon-or-not b (decision.SameStands r) = inr (record { row_is = λ K. refl; open_is = λ K o is. is })
-    soon-or-not b (decision.OtherStands r) = inr (record { row_is = λ K. refl; open_is = λ K o is. is })
-    soon-or-not b decision.BeforePeriod = inr (record { row_is = λ K. refl; open_is = λ K o is. is })
-    soon-or-not b decision.AfterCreation = inr (record { row_is = λ K. refl; open_is = λ K o is. is })
-    soon-or-not b (decision.NotCovered m) = inr (record { row_is = λ K. refl; open_is = λ K o is. is })
-    soon-or-not b decision.NotListed = inr (record { row_is = λ K. refl; open_is = λ K o is. is })
-    soon-or-not b decision.TooManyDays = inr (record { row_is = λ K. refl; open_is = λ K o is. is })
     soon-or-not b decision.TooSoon = inl refl
-    soon-or-not b (decision.Payable p) = inr (record { row_is = λ K. refl; open_is = λ K o is. is })
-    soon-or-not b decision.NoneStands = inr (record { row_is = λ K. refl; open_is = λ K o is. is })
-    soon-or-not b (decision.OtherProduct r) = inr (record { row_is = λ K. refl; open_is = λ K o is. is })
-    soon-or-not b (decision.TakenBack r) = inr (record { row_is = λ K. refl; open_is = λ K o is. is })
-    soon-or-not b (decision.Unread f) = inr (record { row_is = λ K. refl; open_is = λ K o is. is })
+    soon-or-not b other = inr (record { row_is = λ K. refl; open_is = λ K o is. is })
 
     module _ (t : Transaction) (kept : transaction_named n provider date t ≡ t) where
       abbrev d : Decision
@@ -562,21 +524,8 @@ module _ (plan : Plan) (n : Names) (are : AreNames n) (L : Ledger) (is : InOrder
       counts-or-not : (b : BillParts) (e : Decision)
           → ((K : Ledger) → counted_for plan.figures.period K (Bill b) e ≡ counted_rows plan.figures.period K b.family)
           ⊎ ((K : Ledger) → counted_for plan.figures.period K (Bill b) e ≡ [])
-      counts-or-not b decision.NoFamily = inr (λ K. refl)
-      counts-or-not b decision.NoPerson = inr (λ K. refl)
-      counts-or-not b (decision.SameStands r) = inr (λ K. refl)
-      counts-or-not b (decision.OtherStands r) = inr (λ K. refl)
-      counts-or-not b decision.BeforePeriod = inr (λ K. refl)
-      counts-or-not b decision.AfterCreation = inr (λ K. refl)
-      counts-or-not b (decision.NotCovered m) = inr (λ K. refl)
-      counts-or-not b decision.NotListed = inr (λ K. refl)
-      counts-or-not b decision.TooManyDays = inr (λ K. refl)
-      counts-or-not b decision.TooSoon = inr (λ K. refl)
       counts-or-not b (decision.Payable p) = inl (λ K. refl)
-      counts-or-not b decision.NoneStands = inr (λ K. refl)
-      counts-or-not b (decision.OtherProduct r) = inr (λ K. refl)
-      counts-or-not b (decision.TakenBack r) = inr (λ K. refl)
-      counts-or-not b (decision.Unread f) = inr (λ K. refl)
+      counts-or-not b other = inr (λ K. refl)
 
       pub rows-alike : (u : Transaction) → t ≡ u
           → AreAlike provider u (map here (counted_for plan.figures.period L u d)) (map there (counted_for plan.figures.period M u d))

@@ -1,11 +1,11 @@
 -- A transaction with other names is decided alike on a ledger with these names.
-use Rattle.std.proofs.Common.{◌≡◌, ℕ, ◌+◌, List, [], ◌∷◌, Bool, true, false, not, cond, Option, Some, None, refl, sym, ap}
+use Rattle.std.proofs.Common.{◌≡◌, ℕ, ◌+◌, List, [], ◌∷◌, Bool, true, false, cond, Some, None, refl, sym, ap}
 use Rattle.std.proofs.Common.{◌∙◌, inl, inr, arith}
-use Rattle.std.specs.Prelude.{◌&&◌, ◌||◌, ◌==◌, if◌then◌else◌, nat_lt}
+use Rattle.std.specs.Prelude.{◌&&◌, ◌==◌}
 use Rattle.std.specs.Option.{option_map}
 use Rattle.std.specs.List.{All, filter, list_any, sum_by}
 use Rattle.std.specs.Cmp.{IsTotalOrder}
-use Rattle.std.specs.Ordering.{is_eq, is_gt, is_lt}
+use Rattle.std.specs.Ordering.{is_eq}
 use Rattle.std.specs.declared.cmp.Ordering.{Ordering}
 use Rattle.std.proofs.lemmas.Bool.{cases_Bool}
 use Rattle.std.proofs.lemmas.Cmp.{tied_itself}
@@ -13,8 +13,8 @@ use Rattle.std.proofs.lemmas.Map.Lookups.{CmpEqualImpliesEq}
 use Rattle.std.proofs.lemmas.Bool.Decides.{Decides-eqb}
 use Rattle.std.proofs.lemmas.List.Elements.{All-contains}
 use Rattle.std.proofs.lemmas.List.Sums.{sum_by-cons}
-use Rattle.rx_fields.specs.Calendar.{Civil, day_cmp}
-use Rattle.rx_fields.specs.Numbered.{LotParts, is_within}
+use Rattle.rx_fields.specs.Calendar.{Civil}
+use Rattle.rx_fields.specs.Numbered.{LotParts}
 use Rattle.rx_fields.specs.Order.{id_cmp, key_cmp}
 use Rattle.rx_fields.specs.declared.key.Key.{Key}
 use Rattle.rx_d0_values.specs.declared.bill.BillParts.{BillParts}
@@ -26,26 +26,21 @@ use Rattle.rx_d0_values.specs.declared.transaction.Transaction.TheVariants.{Bill
 use Rattle.rx_sorted.specs.Ascending.{IsAscending, item_at}
 use Rattle.rx_sorted.proofs.Keys.{Equal-from_is_eq}
 use Rattle.rx_ledger.specs.Answers.{after, answer, answer_by, paid_row}
-use Rattle.rx_ledger.specs.Price.{allowance}
-use Rattle.rx_ledger.specs.Share.{shared}
 use Rattle.rx_ledger.proofs.OfMember.{paid-free}
 use Rattle.rx_sorted.proofs.LookUps.{item_at-found, item_at-free}
-use Rattle.rx_ledger.specs.Decisions.{Asked, billing, decision_of, if_found, is_same_claim, is_too_soon, key_of, payment, reversal}
-use Rattle.rx_ledger.specs.Decisions.{unless_found, used_by}
+use Rattle.rx_ledger.specs.Decisions.{Asked, billing, decision_of, is_same_claim, is_too_soon, key_of, reversal}
+use Rattle.rx_ledger.specs.Decisions.{used_by}
 use Rattle.rx_ledger.specs.Ledger.{Ledger, members_of, row_under, rows_of}
 use Rattle.rx_ledger.specs.Members.{is_same, member_cmp, member_key, of_family, person_in}
-use Rattle.rx_ledger.specs.Plan.{Plan, drug_of}
+use Rattle.rx_ledger.specs.Plan.{Plan}
 use Rattle.rx_ledger.specs.Rows.{claimed_by, row_key}
 use Rattle.rx_ledger.specs.Sums.{counted, deductible_paid, paid_by_patient, persons_deductible_paid}
 use Rattle.rx_ledger.specs.declared.decision.Decision.{Decision}
 use Rattle.rx_ledger.specs.declared.decision.Decision.TheVariants as decision
-use Rattle.rx_ledger.specs.declared.decision.Payment.{Payment}
-use Rattle.rx_ledger.specs.declared.drug.Drug.{Drug}
-use Rattle.rx_ledger.specs.declared.member.Member.{Member}
 use Rattle.rx_ledger.specs.declared.member.MemberKey.{MemberKey}
 use Rattle.rx_ledger.specs.declared.row.Row.{Row}
-use Rattle.rx_ledger.specs.declared.share.Used.{Used}
 use Rattle.rx_ledger.proofs.Found.{any_of_passed, person_found}
+use Rattle.rx_ledger.proofs.Mapped.{billing-mapped, decision_mapped, reversal-mapped}
 use Rattle.rx_ledger.proofs.Orders.{id_exact, id_total, key_exact, key_total, member_exact, member_total}
 use Rattle.rx_explain.specs.Names.{AgreesRow, AreNames, IsOneDrug, Names, bill_named, key_named, ledger_named, member_named, person_named}
 use Rattle.rx_explain.specs.Names.{faulty_named, reversal_named, row_named, transaction_named}
@@ -133,81 +128,7 @@ answer_named n pharmacy (Approved p) = Approved (record p { reference = n.prescr
 answer_named n pharmacy (Refused p) = Refused (record p { reference = option_map (n.prescription pharmacy) p.reference })
 
 abbrev pub decision_named : Names → List ℕ → Decision → Decision
-decision_named n pharmacy decision.NoFamily = decision.NoFamily
-decision_named n pharmacy decision.NoPerson = decision.NoPerson
-decision_named n pharmacy (decision.SameStands r) = decision.SameStands (row_named n r)
-decision_named n pharmacy (decision.OtherStands r) = decision.OtherStands (row_named n r)
-decision_named n pharmacy decision.BeforePeriod = decision.BeforePeriod
-decision_named n pharmacy decision.AfterCreation = decision.AfterCreation
-decision_named n pharmacy (decision.NotCovered m) = decision.NotCovered (member_named n m)
-decision_named n pharmacy decision.NotListed = decision.NotListed
-decision_named n pharmacy decision.TooManyDays = decision.TooManyDays
-decision_named n pharmacy decision.TooSoon = decision.TooSoon
-decision_named n pharmacy (decision.Payable p) = decision.Payable p
-decision_named n pharmacy decision.NoneStands = decision.NoneStands
-decision_named n pharmacy (decision.OtherProduct r) = decision.OtherProduct (row_named n r)
-decision_named n pharmacy (decision.TakenBack r) = decision.TakenBack (row_named n r)
-decision_named n pharmacy (decision.Unread f) = decision.Unread (faulty_named n pharmacy f)
-
--- the first row of the table of billings that holds, by what each of its rows looks at
-abbrev first-row : (some : Bool) → Option Member → Option Row → (Row → Bool) → (early late : Bool) → (Member → Bool) → Option Drug
-    → (many soon : Bool) → (Drug → Payment) → Decision
-first-row some person standing same early late outside drug many soon pay =
-    if not some then decision.NoFamily
-    else (unless_found person decision.NoPerson (λ m.
-    if_found standing (λ r. if same r then decision.SameStands r else decision.OtherStands r)
-    (if early then decision.BeforePeriod
-    else (if late then decision.AfterCreation
-    else (if outside m then decision.NotCovered m
-    else (unless_found drug decision.NotListed (λ d.
-    if many then decision.TooManyDays
-    else (if soon then decision.TooSoon
-    else decision.Payable (pay d)))))))))
-
-module _ (n : Names) (pharmacy : List ℕ) where
-  stands-named : (b : Bool) (r : Row) → (if b then decision.SameStands (row_named n r) else decision.OtherStands (row_named n r))
-      ≡ decision_named n pharmacy (if b then decision.SameStands r else decision.OtherStands r)
-  stands-named true r = refl
-  stands-named false r = refl
-
-  takes-named : (b : Bool) (r : Row) → (if b then decision.TakenBack (row_named n r) else decision.OtherProduct (row_named n r))
-      ≡ decision_named n pharmacy (if b then decision.TakenBack r else decision.OtherProduct r)
-  takes-named true r = refl
-  takes-named false r = refl
-
-  priced-named : (many soon : Bool) (p q : Payment) → p ≡ q
-      → (if many then decision.TooManyDays else (if soon then decision.TooSoon else decision.Payable p))
-      ≡ decision_named n pharmacy (if many then decision.TooManyDays else (if soon then decision.TooSoon else decision.Payable q))
-  priced-named true soon p q same = refl
-  priced-named false true p q same = refl
-  priced-named false false p q same = ap decision.Payable same
-
-  row-named : (some : Bool) (person : Option Member) (standing : Option Row) (same same' : Row → Bool) (early late : Bool)
-      (outside outside' : Member → Bool) (drug : Option Drug) (many soon : Bool) (pay pay' : Drug → Payment)
-      → ((r : Row) → same' (row_named n r) ≡ same r) → ((m : Member) → outside' (member_named n m) ≡ outside m)
-      → ((d : Drug) → pay' d ≡ pay d)
-      → first-row some (option_map (member_named n) person) (option_map (row_named n) standing) same' early late outside' drug many
-      soon pay'
-      ≡ decision_named n pharmacy (first-row some person standing same early late outside drug many soon pay)
-  row-named false person standing same same' early late outside outside' drug many soon pay pay' rows out paid = refl
-  row-named true None standing same same' early late outside outside' drug many soon pay pay' rows out paid = refl
-  row-named true (Some m) (Some r) same same' early late outside outside' drug many soon pay pay' rows out paid =
-      ap (λ b. if b then decision.SameStands (row_named n r) else decision.OtherStands (row_named n r)) (rows r)
-      ∙ stands-named (same r) r
-  row-named true (Some m) None same same' true late outside outside' drug many soon pay pay' rows out paid = refl
-  row-named true (Some m) None same same' false true outside outside' drug many soon pay pay' rows out paid = refl
-  row-named true (Some m) None same same' false false outside outside' drug many soon pay pay' rows out paid =
-      elim (cases_Bool (outside m)) [
-        | inl here ↦ rw (out m, here) refl
-        | inr other ↦ rw (out m, other) (listed drug)
-      ]
-    where
-      listed : (o : Option Drug) → unless_found o decision.NotListed (λ d. if many then decision.TooManyDays
-          else (if soon then decision.TooSoon else decision.Payable (pay' d)))
-          ≡ decision_named n pharmacy (unless_found o decision.NotListed (λ d. if many then decision.TooManyDays
-          else (if soon then decision.TooSoon else decision.Payable (pay d))))
-      listed None = refl
-      listed (Some d) = priced-named many soon (pay' d) (pay d) (paid d)
+decision_named n pharmacy = decision_mapped (row_named n) (member_named n) (faulty_named n pharmacy)
 
 -- ---- two names stay two
 
@@ -356,39 +277,28 @@ module _ (plan : Plan) (n : Names) (are : AreNames n) where
         billing-named : IsOneDrug n plan (Bill b) → billing z (ledger_named n L) c ≡ decision_named n provider (billing a L b)
         billing-named drug =
             let M : Ledger = ledger_named n L in
-            let some = any-member b.family in
-            let person = person-found b.family b.person in
-            let standing = row-under (key_of a b.reference) in
             let soon : list_any (is_too_soon plan.figures date c) (rows_of M c.family)
             ≡ list_any (is_too_soon plan.figures date b) (rows_of L b.family) =
             sym (any_of_passed (claimed_by c.family) (is_too_soon plan.figures date c) M.rows)
             ∙ any-of-family b.family (is_too_soon plan.figures date c) (is_too_soon plan.figures date b) (too-soon date)
             ∙ any_of_passed (claimed_by b.family) (is_too_soon plan.figures date b) L.rows in
-            let early : Bool = is_lt (day_cmp date plan.figures.period.first) in
-            let late : Bool = is_gt (day_cmp date lot.created) in
-            let outside : Member → Bool =
-            λ m. not (is_within m.coverage date) || is_gt (day_cmp date plan.figures.period.last) in
-            let many : Bool = nat_lt plan.figures.max_days b.days in
-            (λ i. first-row (some i) (person i) (standing i) (is_same_claim c) early late outside (drug i) many (soon i)
-            (λ d. payment plan.figures d c (rows_of M c.family)))
-            ∙ row-named n provider (list_any (of_family b.family) L.members) (person_in (members_of L b.family) b.person)
-            (row_under L (key_of a b.reference)) (is_same_claim b) (is_same_claim c) early late outside outside
-            (drug_of plan b.product) many (list_any (is_too_soon plan.figures date b) (rows_of L b.family))
-            (λ d. payment plan.figures d b (rows_of L b.family)) (λ d. payment plan.figures d c (rows_of M c.family))
-            same-claim (λ m. refl)
-            (λ d. ap (λ (u : Used). record {
-              drug = d;
-              used = u;
-              pricing = shared plan.figures d.share u (allowance d.price plan.figures.fee b);
-            }) used-same)
+            billing-mapped (row_named n) (member_named n) (faulty_named n provider) a (n.pharmacy provider) L M b c.family c.person
+            c.reference c.product (record {
+              some = any-member b.family;
+              member = person-found b.family b.person;
+              coverage = λ m is. refl;
+              standing = row-under (key_of a b.reference);
+              claim = λ r is. same-claim r;
+              drug = drug;
+              soon = soon;
+              used = used-same;
+            })
 
       reversal-named : (v : Reversal) → reversal z (ledger_named n L) (reversal_named n provider date v)
           ≡ decision_named n provider (reversal a L v)
       reversal-named v =
-          ap (λ o. unless_found o decision.NoneStands
-          (λ r. if r.product == n.reversed (key_of a v.reference) v.product then decision.TakenBack r else decision.OtherProduct r))
-          (row-under (key_of a v.reference))
-          ∙ taken (row_under L (key_of a v.reference)) refl
+          reversal-mapped (row_named n) (member_named n) (faulty_named n provider) a (n.pharmacy provider) L (ledger_named n L) v
+          (reversal_named n provider date v) (row-under (key_of a v.reference)) product-is
         where
           -- what the reversal names is what the claim under its key has
           product-is : (r : Row) → row_under L (key_of a v.reference) ≡ Some r
@@ -402,17 +312,6 @@ module _ (plan : Plan) (n : Names) (are : AreNames n) where
               numbers-agree (n.product r.family r.person r.product) (n.reversed (key_of a v.reference) v.product) r.product v.product
               (λ same. sym (one.0 (sym name ∙ sym same))) (λ same. sym (name ∙ one.1 (sym same)))
 
-          taken : (o : Option Row) → row_under L (key_of a v.reference) ≡ o
-              → unless_found (option_map (row_named n) o) decision.NoneStands
-              (λ r. if r.product == n.reversed (key_of a v.reference) v.product then decision.TakenBack r else decision.OtherProduct r)
-              ≡ decision_named n provider (unless_found o decision.NoneStands
-              (λ r. if r.product == v.product then decision.TakenBack r else decision.OtherProduct r))
-          taken None found = refl
-          taken (Some r) found =
-              ap (λ b. if b then decision.TakenBack (row_named n r) else decision.OtherProduct (row_named n r))
-              (product-is r found)
-              ∙ takes-named n provider (r.product == v.product) r
-
       pub decided-named : (t : Transaction) → IsOneDrug n plan t → decision_of z (ledger_named n L) (transaction_named n provider date t)
           ≡ decision_named n provider (decision_of a L t)
       decided-named (Bill b) drug = billing-named b drug
@@ -425,20 +324,7 @@ module _ (plan : Plan) (n : Names) (are : AreNames n) where
           → answer_by number (n.prescription provider reference) (decision_named n provider d)
           ≡ answer_named n provider (answer_by number reference d)
       answers-by reference decision.NoFamily = refl
-      answers-by reference decision.NoPerson = refl
-      answers-by reference (decision.SameStands r) = refl
-      answers-by reference (decision.OtherStands r) = refl
-      answers-by reference decision.BeforePeriod = refl
-      answers-by reference decision.AfterCreation = refl
-      answers-by reference (decision.NotCovered m) = refl
-      answers-by reference decision.NotListed = refl
-      answers-by reference decision.TooManyDays = refl
-      answers-by reference decision.TooSoon = refl
-      answers-by reference (decision.Payable p) = refl
-      answers-by reference decision.NoneStands = refl
-      answers-by reference (decision.OtherProduct r) = refl
-      answers-by reference (decision.TakenBack r) = refl
-      answers-by reference (decision.Unread f) = refl
+      answers-by reference other = refl
 
       pub answered-named : (t : Transaction) → IsOneDrug n plan t → answer z (ledger_named n L) (transaction_named n provider date t)
           ≡ answer_named n provider (answer a L t)

@@ -47,39 +47,17 @@ module _ (u v : Explanation) (said : IsSameSaid u v) where
   bills : (d : Decision) (lot : LotParts) (figures : Figures) (b : BillParts)
       → bill_reason d lot figures u b ≡ bill_reason d lot figures v b
   unfolding stands_text same_text other_text
-  bills decision.NoFamily lot figures b = refl
-  bills decision.NoPerson lot figures b = refl
   bills (decision.SameStands r) lot figures b = simp (said.decision_is, said.standing_is) refl
   bills (decision.OtherStands r) lot figures b = simp (said.decision_is, said.standing_is) refl
-  bills decision.BeforePeriod lot figures b = refl
-  bills decision.AfterCreation lot figures b = refl
   bills (decision.NotCovered m) lot figures b = ap (coverage_text figures.period m.coverage) said.date_is
-  bills decision.NotListed lot figures b = refl
-  bills decision.TooManyDays lot figures b = refl
   bills decision.TooSoon lot figures b = soon figures u.standing ∙ ap (soon_text figures v) said.standing_is
-  bills (decision.Payable p) lot figures b = refl
-  bills decision.NoneStands lot figures b = refl
-  bills (decision.OtherProduct r) lot figures b = refl
-  bills (decision.TakenBack r) lot figures b = refl
-  bills (decision.Unread f) lot figures b = refl
+  bills other lot figures b = refl
 
   reverses : (d : Decision) (product : ℕ) → reversal_reason d u product ≡ reversal_reason d v product
   unfolding product_text taken_text
-  reverses decision.NoFamily product = refl
-  reverses decision.NoPerson product = refl
-  reverses (decision.SameStands r) product = refl
-  reverses (decision.OtherStands r) product = refl
-  reverses decision.BeforePeriod product = refl
-  reverses decision.AfterCreation product = refl
-  reverses (decision.NotCovered m) product = refl
-  reverses decision.NotListed product = refl
-  reverses decision.TooManyDays product = refl
-  reverses decision.TooSoon product = refl
-  reverses (decision.Payable p) product = refl
-  reverses decision.NoneStands product = refl
   reverses (decision.OtherProduct r) product = simp (said.decision_is, said.standing_is) refl
   reverses (decision.TakenBack r) product = simp (said.decision_is, said.standing_is) refl
-  reverses (decision.Unread f) product = refl
+  reverses other product = refl
 
   reasons : (t : Transaction) (lot : LotParts) (figures : Figures) (request : List ℕ)
       → reason_text t lot figures u request ≡ reason_text t lot figures v request
@@ -139,21 +117,8 @@ module _ (u v : Explanation) (said : IsSameSaid u v) where
   passes figures (Some t) = simp (said.date_is, said.open_from_is) refl
 
   decides : (d : Decision) (lot : LotParts) (figures : Figures) → case_json d lot figures u ≡ case_json d lot figures v
-  decides decision.NoFamily lot figures = refl
-  decides decision.NoPerson lot figures = refl
-  decides (decision.SameStands r) lot figures = refl
-  decides (decision.OtherStands r) lot figures = refl
-  decides decision.BeforePeriod lot figures = refl
-  decides decision.AfterCreation lot figures = refl
-  decides (decision.NotCovered m) lot figures = refl
-  decides decision.NotListed lot figures = refl
-  decides decision.TooManyDays lot figures = refl
   decides decision.TooSoon lot figures = passes figures u.standing ∙ ap (soon_json figures v) said.standing_is
-  decides (decision.Payable p) lot figures = refl
-  decides decision.NoneStands lot figures = refl
-  decides (decision.OtherProduct r) lot figures = refl
-  decides (decision.TakenBack r) lot figures = refl
-  decides (decision.Unread f) lot figures = refl
+  decides other lot figures = refl
 
   paid_alike : (tier : Option (List ℕ)) (figures : Figures) (o : Option (BillParts × Workings))
       → if_paid (payable_json tier figures u) o ≡ if_paid (payable_json tier figures v) o

@@ -5,6 +5,7 @@ pub mod Found
 pub mod Held
 pub mod Ledgers
 pub mod Limits
+pub mod Mapped
 pub mod NamedKeys
 pub mod OfMember
 pub mod Orders

@@ -1,4 +1,4 @@
-use Rattle.std.proofs.Common.{◌≡◌, true, refl, sym, ◌∙◌, arith}
+use Rattle.std.proofs.Common.{refl, sym, ◌∙◌, arith}
 use Rattle.rx_fields.proofs.DayNumbers.{signed_arith}
 use Rattle.rx_explain.proofs.Opened.{none_left, none_next}
 use Rattle.rx_explain.proofs.open_from.first_open.Goals as goal
