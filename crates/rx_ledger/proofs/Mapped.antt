@@ -83,7 +83,7 @@ module _ (rows : Row → Row) (members : Member → Member) (texts : Unreadable 
         pub claim : (r : Row) → row_under L (key_of a b.reference) ≡ Some r → is_same_claim c (rows r) ≡ is_same_claim b r
         pub drug : drug_of a.plan product ≡ drug_of a.plan b.product
         pub soon : list_any (is_too_soon a.plan.figures a.date c) (rows_of M family)
-          ≡ list_any (is_too_soon a.plan.figures a.date b) (rows_of L b.family)
+            ≡ list_any (is_too_soon a.plan.figures a.date b) (rows_of L b.family)
         pub used : used_by a.plan.figures person (rows_of M family) ≡ used_by a.plan.figures b.person (rows_of L b.family)
 
       pub billing-mapped : IsBillingAlike → billing z M c ≡ mapped (billing a L b)
