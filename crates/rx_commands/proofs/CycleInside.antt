@@ -92,36 +92,7 @@ amount_clean z = joined_clean (digits_text 7 (unsigned_abs z / 10)) (last_char (
 
 code_clean : (c : Code) → is_clean (code_text c) ≡ true
 code_clean code.Bin = refl
-code_clean code.Version = refl
-code_clean code.TransactionCode = refl
-code_clean code.ProcessorControlNumber = refl
-code_clean code.Provider = refl
-code_clean code.Cardholder = refl
-code_clean code.OtherCoverage = refl
-code_clean code.DateOfService = refl
-code_clean code.Reference = refl
-code_clean code.DaysSupply = refl
-code_clean code.Compound = refl
-code_clean code.ProductId = refl
-code_clean code.IngredientCost = refl
-code_clean code.UnknownCardholder = refl
-code_clean code.Person = refl
-code_clean code.NotCovered = refl
-code_clean code.ProductNotCovered = refl
-code_clean code.PlanLimits = refl
-code_clean code.RefillTooSoon = refl
-code_clean code.TooOld = refl
-code_clean code.PostDated = refl
-code_clean code.DuplicatePaid = refl
-code_clean code.ReversalNotProcessed = refl
-code_clean code.TransactionCount = refl
-code_clean code.DispensingFee = refl
-code_clean code.UsualCharge = refl
-code_clean code.GrossAmount = refl
-code_clean code.ProductQualifier = refl
-code_clean code.Quantity = refl
-code_clean code.ReferenceQualifier = refl
-code_clean code.Syntax = refl
+code_clean other = refl
 
 codes_clean : (cs : List Code) → is_clean (flat_map code_field cs) ≡ true
 codes_clean [] = refl

@@ -1,11 +1,9 @@
 -- A record that keeps its names is answered alike on a ledger with other names.
-use Rattle.std.specs.Prelude.{slice_get, ◌==◌, ◌||◌, if◌then◌else◌, nat_lt, not}
-use Rattle.std.proofs.Common.{◌≡◌, ℕ, ◌+◌, List, [], ◌∷◌, Bool, true, false, Option, Some, None, map, take, refl, sym, ap, ◌∙◌}
-use Rattle.std.specs.List.{All, list_any}
-use Rattle.std.specs.Ordering.{is_gt, is_lt}
+use Rattle.std.specs.Prelude.{slice_get}
+use Rattle.std.proofs.Common.{◌≡◌, ℕ, ◌+◌, List, [], ◌∷◌, Some, map, take, refl, sym, ap, ◌∙◌}
+use Rattle.std.specs.List.{All}
 use Rattle.std.proofs.lemmas.List.Elements.{All-take}
-use Rattle.rx_fields.specs.Calendar.{day_cmp}
-use Rattle.rx_fields.specs.Numbered.{LotParts, is_within}
+use Rattle.rx_fields.specs.Numbered.{LotParts}
 use Rattle.rx_d0_values.specs.declared.bill.BillParts.{BillParts}
 use Rattle.rx_d0_values.specs.declared.reply.Answer.{Answer}
 use Rattle.rx_d0_values.specs.declared.reply.Outcome.TheVariants as outcome
@@ -18,11 +16,11 @@ use Rattle.rx_d0_values.specs.declared.transmission.Body.TheVariants.{Rejected, 
 use Rattle.rx_d0_values.specs.declared.transmission.Heard.{Heard as HeardRecord}
 use Rattle.rx_d0_values.specs.declared.transmission.Transmission.{Transmission}
 use Rattle.rx_ledger.specs.Answers.{Asked, after, answer, answer_by, unread}
-use Rattle.rx_ledger.specs.Decisions.{billing, if_found, is_same_claim, is_too_soon, key_of, payment, reversal, unless_found}
+use Rattle.rx_ledger.specs.Decisions.{billing, reversal}
 use Rattle.rx_ledger.specs.Fold.{answers_from, asked, fold_ledger, fold_replies, outcome_of, reply_to}
-use Rattle.rx_ledger.specs.Ledger.{Ledger, members_of, row_under, rows_of}
-use Rattle.rx_ledger.specs.Members.{of_family, person_in}
-use Rattle.rx_ledger.specs.Plan.{Plan, drug_of}
+use Rattle.rx_ledger.specs.Ledger.{Ledger}
+use Rattle.rx_ledger.specs.Plan.{Plan}
+use Rattle.rx_ledger.proofs.Tabled.{IsOfBilling, IsOfReversal, of-billing, of-reversal}
 use Rattle.rx_ledger.specs.declared.decision.Decision.{Decision}
 use Rattle.rx_ledger.specs.declared.decision.Decision.TheVariants as decision
 use Rattle.rx_explain.specs.Names.{AgreesBody, AreNames, Names, bill_named, body_named, faulty_named, heard_named, ledger_named}
@@ -34,64 +32,27 @@ use Rattle.rx_explain.proofs.NamesFolded.{Agree, AreBodies, InOrder, batch-in_or
 
 -- ---- an answer names the prescription of its transaction
 
-module _ (P : Decision → Type 0) where
-  one-if : (b : Bool) (row below : Decision) → P row → P below → P (if b then row else below)
-  one-if true row below first rest = first
-  one-if false row below first rest = rest
-
-  one-unless : {A : Type 0} (o : Option A) (row : Decision) (below : A → Decision) → P row → ((x : A) → P (below x))
-      → P (unless_found o row below)
-  one-unless None row below first rest = first
-  one-unless (Some x) row below first rest = rest x
-
-  one-found : {A : Type 0} (o : Option A) (row : A → Decision) (below : Decision) → ((x : A) → P (row x)) → P below
-      → P (if_found o row below)
-  one-found None row below first rest = rest
-  one-found (Some x) row below first rest = first x
-
 module _ (n : Names) (p : List ℕ) (number reference : ℕ) (same : n.prescription p reference ≡ reference) where
   abbrev Keeps : Decision → Type 0
   Keeps d = answer_named n p (answer_by number reference d) ≡ answer_by number reference d
 
-  billing-keeps : (a : Asked) (L : Ledger) (b : BillParts) → Keeps (billing a L b)
-  billing-keeps a L b =
-      one-if Keeps (not (list_any (of_family b.family) L.members)) decision.NoFamily _
-      (ap (λ r. answer_by number r decision.NoFamily) same)
-      (one-unless Keeps (person_in (members_of L b.family) b.person) decision.NoPerson _
-      (ap (λ r. answer_by number r decision.NoPerson) same) (λ m.
-      one-found Keeps (row_under L (key_of a b.reference)) _ _
-      (λ q. one-if Keeps (is_same_claim b q) (decision.SameStands q) (decision.OtherStands q)
-      (ap (λ r. answer_by number r (decision.SameStands q)) same) (ap (λ r. answer_by number r (decision.OtherStands q)) same))
-      (one-if Keeps (is_lt (day_cmp a.date a.plan.figures.period.first)) decision.BeforePeriod _
-      (ap (λ r. answer_by number r decision.BeforePeriod) same)
-      (one-if Keeps (is_gt (day_cmp a.date a.lot.created)) decision.AfterCreation _
-      (ap (λ r. answer_by number r decision.AfterCreation) same)
-      (one-if Keeps (not (is_within m.coverage a.date) || is_gt (day_cmp a.date a.plan.figures.period.last)) (decision.NotCovered m) _
-      (ap (λ r. answer_by number r (decision.NotCovered m)) same)
-      (one-unless Keeps (drug_of a.plan b.product) decision.NotListed _ (ap (λ r. answer_by number r decision.NotListed) same) (λ d.
-      one-if Keeps (nat_lt a.plan.figures.max_days b.days) decision.TooManyDays _
-      (ap (λ r. answer_by number r decision.TooManyDays) same)
-      (one-if Keeps (list_any (is_too_soon a.plan.figures a.date b) (rows_of L b.family)) decision.TooSoon
-      (decision.Payable (payment a.plan.figures d b (rows_of L b.family)))
-      (ap (λ r. answer_by number r decision.TooSoon) same)
-      (ap (λ r. answer_by number r (decision.Payable (payment a.plan.figures d b (rows_of L b.family)))) same)))))))))
+  billing-keeps : (d : Decision) → IsOfBilling d → Keeps d
+  billing-keeps (decision.Unread f) is = absurd is
+  billing-keeps other is = ap (λ r. answer_by number r other) same
 
-  reversal-keeps : (a : Asked) (L : Ledger) (v : Reversal) → Keeps (reversal a L v)
-  reversal-keeps a L v =
-      one-unless Keeps (row_under L (key_of a v.reference)) decision.NoneStands _
-      (ap (λ r. answer_by number r decision.NoneStands) same) (λ q.
-      one-if Keeps (q.product == v.product) (decision.TakenBack q) (decision.OtherProduct q)
-      (ap (λ r. answer_by number r (decision.TakenBack q)) same) (ap (λ r. answer_by number r (decision.OtherProduct q)) same))
+  reversal-keeps : (d : Decision) → IsOfReversal d → Keeps d
+  reversal-keeps (decision.Unread f) is = absurd is
+  reversal-keeps other is = ap (λ r. answer_by number r other) same
 
 module _ (n : Names) where
   answer-keeps : (a : Asked) (L : Ledger) (t : Transaction) → transaction_named n a.provider a.date t ≡ t
       → answer_named n a.provider (answer a L t) ≡ answer a L t
   answer-keeps a L (Bill b) kept =
       let bill : bill_named n a.provider b ≡ b = cc in
-      billing-keeps n a.provider a.number b.reference (ap (λ (c : BillParts). c.reference) bill) a L b
+      billing-keeps n a.provider a.number b.reference (ap (λ (c : BillParts). c.reference) bill) (billing a L b) (of-billing a L b)
   answer-keeps a L (Reverse v) kept =
       let back : reversal_named n a.provider a.date v ≡ v = cc in
-      reversal-keeps n a.provider a.number v.reference (ap (λ (w : Reversal). w.reference) back) a L v
+      reversal-keeps n a.provider a.number v.reference (ap (λ (w : Reversal). w.reference) back) (reversal a L v) (of-reversal a L v)
   answer-keeps a L (Faulty f) kept = let same : faulty_named n a.provider f ≡ f = cc in ap unread same
 
   module _ (lot : LotParts) (plan : Plan) (place : ℕ) (h : HeardRecord) where

@@ -16,4 +16,5 @@ pub mod Refusals
 pub mod SameText
 pub mod Stepped
 pub mod Summed
+pub mod Tabled
 pub mod Within
