@@ -6,7 +6,7 @@
 - Each call, law and type in the tables of docs/GUARANTEES.md is public in the crate that its row names, or in one that this
   crate passes on; each clause, written `call` (clause), is a clause of that call; each edit is in the must-fail folder of its
   crate; and each crate of the storeys has a row.
-- Each crate of crates.txt has one line in docs/ARCHITECTURE.md and one place in its drawing, and uses no crate of a storey
+- Each crate of crates.txt has one line in docs/MAP.md and one place in its drawing, and uses no crate of a storey
   above its own.
 - The headline stands in the README and in the code as docs/GUARANTEES.md has it.
 - The definitions to be trusted are those that tools/trusted.py finds, with their number of lines in hundreds, there and in the
@@ -166,7 +166,7 @@ def storeys(page):
 
 def check_crates(root, pages, checks):
     """Each crate has one line and one place in the drawing, and uses nothing of a storey above its own."""
-    name = "docs/ARCHITECTURE.md"
+    name = "docs/MAP.md"
     lines = re.findall(r"^- `((?:rx|tests_)\w*)`: ", section(pages[name], "The crates"), re.M)
     height, crates = storeys(pages[name]), libraries(root)
     for crate, uses in crates.items():
