@@ -77,9 +77,16 @@ def is_test(path):
     return "tests" in path.removesuffix(".rt").split("/")
 
 
+def without_debug(line):
+    """The line without a derived `Debug`, which has no contract."""
+    return re.sub(r"^\s*#\[derive\(\)\]", "", re.sub(r"(#\[derive\((?:.*, )?)Debug(?:, )?(.*\)\])", r"\1\2", line).replace(", )]", ")]"))
+
+
 def said(text):
-    """The lines of a text that mean something to the prover: no comment, no empty line, no tests next to the code."""
-    lines = [line for line in text.splitlines() if line.strip() and not line.lstrip().startswith(("//", "--"))]
+    """The lines of a text that mean something to the prover: no comment, no empty line, no derived `Debug`, no tests next to the
+    code."""
+    lines = [without_debug(line) for line in text.splitlines() if not line.lstrip().startswith(("//", "--"))]
+    lines = [line for line in lines if line.strip()]
     return [line for at, line in enumerate(lines) if line.strip() not in ("#[cfg(test)]", "mod tests;")]
 
 
