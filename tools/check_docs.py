@@ -140,7 +140,7 @@ def check_promises(root, pages, crates, checks):
             else:
                 there = crate and (root / f"crates/{crate}/must-fail/{name}.edit").exists()
                 checks.expect(there, f"{where}: {crate}: no edit {name}")
-    faces = {"rx_d0", "rx_books", "rxbatch", "rx_bench", "tests_values", "tests_run"}
+    faces = {"rx_d0", "rx_books", "rxbatch", "rx_bench", "rx_tests"}
     for crate in sorted(set(crates) - named - faces):
         checks.expect(False, f"docs/GUARANTEES.md: no promise of {crate}")
 
@@ -158,7 +158,7 @@ def libraries(root):
 def storeys(page):
     """The storey of each crate in the drawing, the lowest 0; crates next to the house stand on top."""
     drawing = re.search(r"```\n(.*?)```", page, re.S)[1]
-    rows = [re.findall(r"\b(?:rx\w*|tests_\w+)\b", line) for line in drawing.splitlines()]
+    rows = [re.findall(r"\brx\w*\b", line) for line in drawing.splitlines()]
     house = list(reversed([row for row in rows if row][:-1]))
     beside = [row for row in rows if row][-1]
     return {crate: height for height, row in enumerate([*house, beside]) for crate in row}
@@ -167,7 +167,7 @@ def storeys(page):
 def check_crates(root, pages, checks):
     """Each crate has one line and one place in the drawing, and uses nothing of a storey above its own."""
     name = "docs/MAP.md"
-    lines = re.findall(r"^- `((?:rx|tests_)\w*)`: ", section(pages[name], "The crates"), re.M)
+    lines = re.findall(r"^- `(rx\w*)`: ", section(pages[name], "The crates"), re.M)
     height, crates = storeys(pages[name]), libraries(root)
     for crate, uses in crates.items():
         checks.expect((root / "crates" / crate / "src").is_dir(), f"crates.txt: {crate}: no such crate")
@@ -268,7 +268,7 @@ def check_glossary(root, pages, checks):
 
 
 def check_tests(root, pages, checks):
-    tests = (root / "crates/tests_run/src/workers.rt").read_text()
+    tests = (root / "crates/rx_tests/src/workers.rt").read_text()
     for cells in rows_of(section(pages["tests/README.md"], "What only the tests of the workers refuse")):
         for name in re.findall(r"`([^`]+)`", cells[-1]):
             checks.expect(f"#[test]\nfn {name}(" in tests, f"tests/README.md: {cells[0]}: rx_wave has no test {name}")

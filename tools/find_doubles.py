@@ -69,7 +69,7 @@ def lines_of(path):
 
 def is_read(path):
     """Whether a file has code or definitions, and no tests."""
-    return not any(part.startswith("tests") for part in path.parts)
+    return not any(part.startswith(("tests", "rx_tests")) for part in path.parts)
 
 
 def places_of(files, least):

@@ -1,6 +1,6 @@
 use Rattle.std.proofs.Common.{subst}
 use Rattle.rx_schedule.specs.Machine.{Was}
-use Rattle.tests_run.proofs.schedule.pass_next.Goals as goal
+use Rattle.rx_tests.proofs.schedule.pass_next.Goals as goal
 
 -- a ready place wasn't issued, so it wasn't passed
 pub pass-requires-clause-unpassed : goal.pass-requires-clause-unpassed

@@ -1,8 +1,0 @@
-//! The comparison of values. It stands in functions of its own, since each place that compares by itself is dear to prove.
-
-use std::process::Abort;
-
-/// What is given is what is expected.
-pub(crate) fn same<T: PartialEq + Drop>(rt: &impl Abort, given: T, wanted: T) {
-    assert!(rt; given == wanted);
-}
