@@ -4,7 +4,7 @@
 # and units. make deb: the same as a package in out/deb.
 .PHONY: test all-edits cases demo look install uninstall deb kit cc
 PROGRAM = crates/rxbatch/out/rxbatch
-TRIALS = crates/rx_bench/out/rx_bench
+CALLS = crates/rx_tests/out/rx_tests_tests
 FIRST = examples/first_job
 PREFIX = /usr/local
 DESTDIR =
@@ -70,11 +70,10 @@ cases: kit cc
 	python3 tests/run_route.py $(PROGRAM) --join
 	python3 tests/run_switch.py $(PROGRAM) --calls
 	python3 tests/run_join.py $(PROGRAM)
-	test -x $(TRIALS) || (cd crates/rx_bench && rt run -- orders 1 > /dev/null)
+	test -x $(CALLS) || (cd crates/rx_tests && rt test > /dev/null)
 	python3 tests/run_failing.py $(PROGRAM)
 	python3 tests/refused_memory.py $(PROGRAM)
-	python3 tests/refused_desk.py "$(TRIALS) orders" --jobs 3
-	python3 tests/refused_desk.py "$(TRIALS) refusals"
+	python3 tests/refused_desk.py $(CALLS)
 
 demo: kit
 	@python3 tools/build.py

@@ -140,7 +140,7 @@ def check_promises(root, pages, crates, checks):
             else:
                 there = crate and (root / f"crates/{crate}/must-fail/{name}.edit").exists()
                 checks.expect(there, f"{where}: {crate}: no edit {name}")
-    faces = {"rx_d0", "rx_books", "rxbatch", "rx_bench", "rx_tests"}
+    faces = {"rx_d0", "rx_books", "rxbatch", "rx_tests"}
     for crate in sorted(set(crates) - named - faces):
         checks.expect(False, f"docs/GUARANTEES.md: no promise of {crate}")
 
@@ -234,7 +234,7 @@ def check_places(root, pages, checks):
     for name, text in pages.items():
         folder = (root / name).parent
         for path in PATH.findall(text):
-            generated = path.startswith(("crates/rxbatch/out", "crates/rx_bench/out", "crates/NAME"))
+            generated = path.startswith(("crates/rxbatch/out", "crates/rx_tests/out", "crates/NAME"))
             checks.expect(generated or (root / path).exists(), f"{name}: {path}: no such path")
         for link, anchor in LINK.findall(text):
             there = (folder / link).resolve()

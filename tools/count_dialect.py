@@ -47,7 +47,7 @@ CODE_COMMENT = re.compile(r"^(?P<code>(?:[^\"/]|\"(?:\\.|[^\"\\])*\"|/(?!/))*)(?
 
 def is_test(path):
     """Whether a file of code has only tests."""
-    return any(part.startswith(("tests", "rx_tests", "rx_bench")) for part in path.parts)
+    return any(part.startswith(("tests", "rx_tests")) for part in path.parts)
 
 
 def of_code(path, text):

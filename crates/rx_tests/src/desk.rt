@@ -34,8 +34,8 @@ fn put(
     fills.push(today(rt, alloc, &[bill])).expect(rt, "memory");
 }
 
-// The fills of the case.
-fn fills(rt: &impl Abort, alloc: Global) -> Vec<Transmission> {
+/// The fills of the case.
+pub(crate) fn fills(rt: &impl Abort, alloc: Global) -> Vec<Transmission> {
     let mut fills = Vec::new(alloc);
     put(rt, alloc, &mut fills, 201, b"C100", b"01");
     put(rt, alloc, &mut fills, 202, b"C100", b"02");

@@ -4,6 +4,7 @@
 //!   `books_kept`, `books_lines`, `books_members` and `books_quick`: books, read and written, exactly and quickly, whole and in parts;
 //! - `decoding`, `run_one`, `shards` and `workers`: `rx_wave`; `failing` and `face`: a run on devices; `runs`: a run over bytes, at
 //!   `gates`; `devices`: readers and writers; `cycle`: the laws of `settle`;
+//! - `refused`: a desk and runs while memory is refused (`tests/refused_desk.py`);
 //! - `table`, `values`, `worked`, `one_billing` and `texts`: what the cases are made of.
 //!
 //! What the program prints and writes, the scripts in `tests/` compare byte for byte.
@@ -57,6 +58,8 @@ mod parcels;
 mod plan;
 #[cfg(test)]
 mod plans;
+#[cfg(test)]
+mod refused;
 #[cfg(test)]
 mod reply;
 #[cfg(test)]

@@ -1,8 +1,0 @@
-use Rattle.std.proofs.Common.{subst}
-use Rattle.rx_schedule.specs.Machine.{Was}
-use Rattle.rx_bench.proofs.schedule.drive.Goals as goal
-
--- a ready place wasn't issued, so it wasn't passed
-pub pass-requires-clause-unpassed : goal.pass-requires-clause-unpassed
-pass-requires-clause-unpassed c = λ was. c.in-Some.ensures.next.unhanded
-    (c.ready.ensures.within.after c.in-Some.place (subst (λ ps. Was c.in-Some.place ps) c.hand.ensures.passed was))
