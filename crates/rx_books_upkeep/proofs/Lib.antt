@@ -1,5 +1,4 @@
 pub mod AgedFigures
-pub mod AgedLedger
 pub mod Ages
 pub mod Carried
 pub mod CountedChanges
@@ -7,13 +6,11 @@ pub mod Cuts
 pub mod FamilyLists
 pub mod FiguredText
 pub mod LineFeeds
-pub mod LoadedLedger
 pub mod Loads
 pub mod MergedMembers
 pub mod QuickTables
 pub mod SafeDays
 pub mod TableCuts
 pub mod TableSteps
-pub mod TakenOut
 pub mod Thinned
 pub mod Unlisted

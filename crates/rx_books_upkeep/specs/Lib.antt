@@ -12,6 +12,5 @@ pub mod Table
 pub mod TableAnswer
 pub mod TableField
 pub mod TableLine
-pub mod TakenOut
 pub mod TextFault
 pub mod Texts

@@ -3,8 +3,6 @@ use Rattle.std.specs.Prelude.{Bool, true, false, Result}
 use Rattle.rx_text.specs.Outcomes as outcome
 use Rattle.rx_books_text.specs.declared.fault.BooksFault.{BooksFault}
 use Rattle.rx_books_text.specs.declared.fault.BooksFault.TheVariants as books
-use Rattle.rx_books_upkeep.specs.declared.ageing.AgeFault.{AgeFault}
-use Rattle.rx_books_upkeep.specs.declared.ageing.AgeFault.TheVariants as ageing
 use Rattle.rx_books_upkeep.specs.declared.table_fault.TableFault.{TableFault}
 use Rattle.rx_books_upkeep.specs.declared.table_fault.TableFault.TheVariants as table
 use Rattle.rx_books_upkeep.specs.declared.text_fault.UpkeepFault.{UpkeepFault}
@@ -13,10 +11,6 @@ use Rattle.rx_books_upkeep.specs.declared.text_fault.UpkeepFault.TheVariants as 
 abbrev pub of_books : BooksFault → UpkeepFault
 of_books books.Memory = fault.Memory
 of_books f = fault.Books f
-
-abbrev pub of_ageing : AgeFault → UpkeepFault
-of_ageing ageing.AfterPeriod = fault.AfterPeriod
-of_ageing ageing.Memory = fault.Memory
 
 abbrev pub of_table : TableFault → UpkeepFault
 of_table table.Memory = fault.Memory

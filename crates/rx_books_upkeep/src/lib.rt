@@ -1,8 +1,7 @@
 //! What is done to books between two runs: members are loaded, and old claims leave.
 //!
-//! In come books, and a table of members or a day; out come books again, and what the call did to them: as values
-//! (`load`, `age`) and from text to text (`members_text`, `founded_text`, `age_text`). Which batches are answered as
-//! before stands in two laws (`law_of_loading`, `law_of_ageing`).
+//! In come the text of books, and a table of members or a day; out comes the text of books again, and what the call did to
+//! them. Which batches are answered as before stands in two laws (`law_of_loading`, `law_of_ageing`).
 //!
 //! ```rust
 //! let done = rx_books_upkeep::members_text(alloc, books, table)?;
@@ -21,7 +20,6 @@ mod families;
 mod figured;
 mod law;
 mod loaded_text;
-mod members;
 mod merging;
 mod quick_table;
 mod report;
@@ -32,12 +30,9 @@ mod table_line;
 mod text_fault;
 mod texts;
 
-pub use ageing::{AgeFault, Aged, age};
 pub use change::{Change, Loaded, MemberChange};
 pub use law::{law_of_ageing, law_of_loading};
-pub use members::{load, load_each};
 pub use report::changes_text;
-pub use safe_day::first_safe_day;
 pub use table::read_members;
 pub use table_fault::{TableFault, Wrong};
 pub use text_fault::UpkeepFault;

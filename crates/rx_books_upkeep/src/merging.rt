@@ -5,27 +5,10 @@ ghost use Rattle.rx_ledger.specs.Members.{member_cmp, member_key};
 
 use rx_fields::Memory;
 use rx_ledger::{Member, MemberKey};
-use rx_sorted::{Ascending, place_near};
+use rx_sorted::place_near;
 use std::alloc::Global;
 
 /// The members with those of the table, each in its place; where both lists have one, the table's.
-pub(crate) fn merged(
-    alloc: Global,
-    members: &[Member],
-    table: &[Member],
-) -> Result<Ascending<Member>, Memory>
-    requires members { IsAscending member_cmp member_key members.now }
-    requires table { IsAscending member_cmp member_key table.now }
-    ensures { IfOk result (λ list. list ≡ put_all member_cmp member_key members.now table.now) }
-{
-    let list = merged_list(alloc, members, table)?;
-    match Ascending::from_vec(list) {
-        Ok(list) => Ok(list),
-        Err(_) => unreachable!(),
-    }
-}
-
-/// The same as a plain list.
 pub(crate) fn merged_list(
     alloc: Global,
     members: &[Member],

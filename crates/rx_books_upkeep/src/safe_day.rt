@@ -1,28 +1,15 @@
+//! The first day from which on claims that left can't matter to a plan: each is dated before, so that no billing or reversal names
+//! it, and no fill is too soon by it (docs/RULES.md, "Ageing").
 ghost use Rattle.std.specs.Prelude.{◌≡◌, ◌≤◌, ◌<◌, ◌+◌, ◌*◌, ◌&&◌, MatchOption, false, int_le, true};
 ghost use Rattle.rx_fields.specs.Calendar.{Civil, IsCivil, day_number};
 ghost use Rattle.rx_books_upkeep.specs.AgedText.{is_reached};
-ghost use Rattle.rx_books_upkeep.specs.Ageing.{IsFirstSafe, IsSafe, is_over};
+ghost use Rattle.rx_books_upkeep.specs.Ageing.{is_over};
 
 use rx_fields::{Day, Days, date_read};
 use rx_ledger::Row;
 
 // The first day of the calendar.
 const FIRST_DAY: &[u8; 8] = b"00000101";
-
-/// The first day from which on these claims can't matter to a plan whose refill percentage is at most this one: each is
-/// dated before, so that no billing or reversal names it, and no fill is too soon by it. None where the calendar ends before
-/// (docs/RULES.md, "Ageing").
-pub fn first_safe_day(dropped: &[Row], refill_percent: u64) -> Option<Day>
-    requires { refill_percent ≤ 100 }
-    ensures { MatchOption result ((day : Civil) → IsCivil day → ¬ IsSafe refill_percent dropped.now day)
-        (IsFirstSafe refill_percent dropped.now) }
-{
-    let mut first = first_day();
-    for row in dropped {
-        first = later(first, over_from(row, refill_percent)?);
-    }
-    Some(first)
-}
 
 /// The day from which on a claim is over.
 pub(crate) fn over_from(row: &Row, percent: u64) -> Option<Day>

@@ -1,5 +1,4 @@
 //! Why a text of books isn't kept up.
-use crate::ageing::AgeFault;
 use crate::table_fault::TableFault;
 use rx_books_text::BooksFault;
 use rx_fields::Memory;
@@ -29,20 +28,6 @@ impl From<TableFault> for UpkeepFault {
         match fault {
             TableFault::Memory => UpkeepFault::Memory,
             fault => UpkeepFault::Table(fault),
-        }
-    }
-}
-
-impl From<AgeFault> for UpkeepFault {
-    ghost use Rattle.std.specs.Prelude.{◌≡◌};
-    ghost use Rattle.rx_books_upkeep.specs.TextFault.{of_ageing};
-
-    ghost from_gives = { λ from fault. fault ≡ of_ageing from };
-
-    fn from(fault: AgeFault) -> UpkeepFault {
-        match fault {
-            AgeFault::AfterPeriod => UpkeepFault::AfterPeriod,
-            AgeFault::Memory => UpkeepFault::Memory,
         }
     }
 }
