@@ -1,31 +1,32 @@
 #!/usr/bin/env python3
 """Times two programs in turn on the same files, and prints what the second takes of the first.
 
-    bench/compare_programs.py OLD NEW DIR [--few DIR] [--small DIR] [--calls OLD NEW] [--rounds R]
+    bench/compare_programs.py OLD NEW DIR [--few DIR] [--small DIR] [--steps] [--rounds R]
 
 DIR and the folder of --few have what make_job.py wrote: `run` is timed with 1, 2 and 4 workers on both, on DIR with `-v`, `--log`
 and `--log --sums` too, each as a share of the plain run of the same program. The folder of --small has a sheet, books and a batch
-of few records: there each command is timed, in processor time too. `--calls` takes two programs that time single calls, `rx_bench`
-as each commit builds it: books of DIR are read by them, and end books written, with none of their claims touched and with those
-that the batch touches. All programs have to end with status 0, and both to write the same files. A line has the best and the
-middle of R rounds in seconds for both, the shares of both, and of a run the peaks of memory in MiB.
+of few records: there each command is timed, in processor time too. With `--steps` both programs write logs on DIR and on the folder
+of --few, with 1 and 4 workers, and their steps are compared: where few records touch few claims, most of `adjudicate` are the books
+read, and the end books made of their unchanged lines. All programs have to end with status 0, and both to write the same files. A
+line has the best and the middle of R rounds in seconds for both, the shares of both, and of a run the peaks of memory in MiB.
 """
 
 import argparse
 import os
-import re
 import statistics
 import subprocess
 import sys
 import tempfile
 import time
 
-from time_run import INPUTS, OUTPUTS, paths, stamp_of
+from time_run import INPUTS, OUTPUTS, STEPS, paths, stamp_of, steps_of
 
 # the first job's stamp is as good as any for commands that only read
 STAMP = "202603170600"
 # how often a small command is run in one round, which is then timed as one
 TIMES = 20
+# the seconds that a step has to take to be compared
+LEAST = 0.001
 
 
 def timed(words):
@@ -121,29 +122,19 @@ def small_commands(programs, folder, into, rounds):
             print(f"| {kind}: {ended} |", flush=True)
 
 
-# a call's time, in microseconds, by its name
-TIME = re.compile(r"^\d+ (.*) in (\d+) us, ", re.MULTILINE)
-# what is compared: the name of the line, the call of the older program, and that of the newer one and what times it
-CALLS = (
-    ("books read", "bytes read", "books", "bytes read"),
-    ("books read in 4 parts", "books read in 4 parts", "books", "books read in 4 parts"),
-    ("end books, none touched", "bytes written", "books", "times written over their text"),
-    ("end books of the batch", "bytes written", "in_order", "times end books written"),
-)
-
-
-def called(program, name, folder):
-    """The best time of each call in seconds, by its name."""
-    printed = subprocess.run([program, name, folder], stdin=subprocess.DEVNULL, capture_output=True, text=True, check=True).stdout
-    return {call: int(micros) / 1e6 for call, micros in TIME.findall(printed)}
-
-
-def single_calls(programs, folder, rounds):
-    """Prints a line for each call that is compared."""
-    old, new = programs
-    found = [(called(old, "books", folder), {name: called(new, name, folder) for name in ("books", "in_order")}) for _ in range(rounds)]
-    for name, before, by, call in CALLS:
-        line(name, [(each[before], 0) for each, _ in found], [(each[by][call], 0) for _, each in found], with_peaks=False)
+def logged_steps(name, programs, folder, into, rounds):
+    """Prints a line for each step that takes a millisecond, by the logs of both programs."""
+    log = f"{into}/log"
+    for workers in (1, 4):
+        found = {it: [] for it in programs}
+        for _ in range(rounds):
+            for program in programs:
+                timed(run_words(program, folder, into, workers, ["--log", log]))
+                found[program].append(steps_of(log))
+        for step in STEPS:
+            old, new = ([(each[step], 0) for each in found[it]] for it in programs)
+            if min(*old, *new)[0] >= LEAST:
+                line(f"{name}, {workers} workers: {step}", old, new, with_peaks=False)
 
 
 def main():
@@ -153,7 +144,7 @@ def main():
     parser.add_argument("folder", metavar="DIR")
     parser.add_argument("--few", metavar="DIR", help="a job of few records over many claims")
     parser.add_argument("--small", metavar="DIR", help="a job of few records and few claims")
-    parser.add_argument("--calls", nargs=2, metavar=("OLD", "NEW"), help="programs that time single calls")
+    parser.add_argument("--steps", action="store_true", help="compare the steps in the logs of runs, too")
     parser.add_argument("--rounds", type=int, default=7)
     given = parser.parse_args()
     programs = [os.path.abspath(given.old), os.path.abspath(given.new)]
@@ -165,10 +156,12 @@ def main():
         if given.few:
             whole_runs("few records", programs, given.few, into, given.rounds)
         logged_runs(programs, given.folder, into, given.rounds)
+        if given.steps:
+            logged_steps("run", programs, given.folder, into, given.rounds)
+            if given.few:
+                logged_steps("few records", programs, given.few, into, given.rounds)
         if given.small:
             small_commands(programs, given.small, into, given.rounds)
-    if given.calls:
-        single_calls(given.calls, given.folder, given.rounds)
 
 
 if __name__ == "__main__":
