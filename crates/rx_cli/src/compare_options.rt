@@ -8,8 +8,8 @@ ghost use Rattle.rx_cli.specs.Syntax.{Draws, compare_line};
 use crate::draft::Draft;
 use crate::fault::WordsFault;
 use crate::misuse::conflict;
-use crate::options::{flag as flag_in, inputs, text};
-use crate::syntax::{draft, flag, optional, takes_inputs};
+use crate::options::{flag, inputs, text};
+use crate::syntax::{draft, takes_inputs};
 use clap::ArgMatches;
 use clap::error::ErrorKind;
 use rx_io::Inputs;
@@ -46,19 +46,17 @@ pub(crate) fn compare_line<'a>(alloc: Global) -> Draft<'a>
         "compare",
         "Prints which answers another sheet or other books would change",
     );
-    let with_sheet = optional(alloc, "with-sheet", "FILE", "Other plan sheet");
-    let with_books = optional(alloc, "with-books", "FILE", "Other opening books");
-    takes_inputs(alloc, compare)
-        .arg(with_sheet)
-        .arg(with_books)
-        .arg(flag(alloc, "tsv", "Print tab-separated values"))
-        .arg(flag(alloc, "json", "Print JSON"))
+    takes_inputs(compare)
+        .optional("with-sheet", "FILE", "Other plan sheet")
+        .optional("with-books", "FILE", "Other opening books")
+        .flag("tsv", "Print tab-separated values")
+        .flag("json", "Print JSON")
 }
 
 fn compare_form(found: &ArgMatches<'_>) -> Option<CompareForm>
     ensures { result ≡ compare_form_in (rows_of (found_of found.now)) }
 {
-    match (flag_in(found, "tsv"), flag_in(found, "json")) {
+    match (flag(found, "tsv"), flag(found, "json")) {
         (false, false) => Some(CompareForm::Words),
         (true, false) => Some(CompareForm::Tsv),
         (false, true) => Some(CompareForm::Json),

@@ -3,7 +3,7 @@ ghost use Rattle.clap.specs.Words.{App};
 ghost use Rattle.rx_cli.specs.Syntax.{Draws, excerpt_line, with_disputes};
 
 use crate::draft::Draft;
-use crate::syntax::{draft, option, optional, takes_inputs};
+use crate::syntax::{draft, takes_inputs};
 use std::alloc::Global;
 
 /// The subcommand `excerpt`.
@@ -15,11 +15,10 @@ pub(crate) fn excerpt<'a>(alloc: Global) -> Draft<'a>
         "excerpt",
         "Writes a record with what its answer hangs on into a folder",
     );
-    let inputs = takes_inputs(alloc, excerpt);
-    let record = option(alloc, "record", "PLACE", "Record");
-    let out = option(alloc, "out", "DIR", "New folder for the excerpt");
-    let response = optional(alloc, "response", "FILE", "Response file to compare");
-    inputs.arg(record).arg(out).arg(response)
+    takes_inputs(excerpt)
+        .option("record", "PLACE", "Record")
+        .option("out", "DIR", "New folder for the excerpt")
+        .optional("response", "FILE", "Response file to compare")
 }
 
 /// The line with this subcommand.

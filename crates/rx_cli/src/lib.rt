@@ -18,6 +18,7 @@
 //! path names isn't looked at: paths are compared as texts.
 #![tactic(auto)]
 
+mod argument;
 mod asked;
 mod compare_options;
 mod dispute;

@@ -1,15 +1,15 @@
 //! The words of `settle`.
-ghost use Rattle.std.specs.Prelude.{◌≡◌, false, IfErr, IfOk, map, option_map};
-ghost use Rattle.clap.specs.Words.{all_of, found_of, rows_of, rule_of};
+ghost use Rattle.std.specs.Prelude.{◌≡◌, IfErr, IfOk, map, option_map};
+ghost use Rattle.clap.specs.Words.{all_of, found_of, rows_of};
 ghost use Rattle.rx_cli.specs.Asked.{HoldsSettle, NoneHolds};
 ghost use Rattle.rx_cli.specs.Faults.{IsWords};
-ghost use Rattle.rx_cli.specs.Syntax.{Draws, repeated_option, settle_line};
+ghost use Rattle.rx_cli.specs.Syntax.{Draws, settle_line};
 
 use crate::draft::Draft;
 use crate::fault::WordsFault;
 use crate::options::text;
-use crate::syntax::{draft, option, optional};
-use clap::{Arg, ArgAction, ArgMatches};
+use crate::syntax::draft;
+use clap::ArgMatches;
 use std::alloc::{AllocError, Global};
 
 /// The words of `settle`.
@@ -21,29 +21,17 @@ pub struct SettleWords<'a> {
     pub provider: Option<&'a str>,
 }
 
-/// The option `--name FILE..`, which may stand several times.
-fn files<'a>(alloc: Global, name: &'a str, help: &'a str) -> Arg<'a>
-    ensures rule { rule_of result ≡ repeated_option name.entry.now }
-    ensures local { result.global ≡ false }
-{
-    option(alloc, name, "FILE", help)
-        .action(ArgAction::Append)
-        .num_args(1..)
-}
-
 /// The subcommand `settle`.
 pub(crate) fn settle_line<'a>(alloc: Global) -> Draft<'a>
     ensures { Draws settle_line result }
 {
-    let responses = files(alloc, "response", "Response files, one or more");
-    let provider = optional(alloc, "provider", "ID", "Only the line of this provider");
     draft(
         alloc,
         "settle",
         "Prints the settlement of response files, all together",
     )
-    .arg(responses)
-    .arg(provider)
+    .files("response", "Response files, one or more")
+    .optional("provider", "ID", "Only the line of this provider")
 }
 
 /// The texts of an option that may stand several times.

@@ -4,33 +4,32 @@ ghost use Rattle.rx_cli.specs.Syntax.{Draws, join_line, route_line, with_route_o
 ghost use Rattle.rx_cli.specs.Syntax.{with_switch_outputs, with_switch_watch};
 
 use crate::draft::Draft;
-use crate::syntax::{WORKERS_OR_ALL, draft, file, flag, option, optional, workers};
+use crate::syntax::{WORKERS_OR_ALL, draft};
 use std::alloc::Global;
 
 const SAFE: &str = "Write to temporary files, renamed when all is done";
 
 // A line with the plans file and the batch file.
-fn takes_switch_inputs<'a>(alloc: Global, line: Draft<'a>) -> Draft<'a>
+fn takes_switch_inputs<'a>(line: Draft<'a>) -> Draft<'a>
     ensures { (app : App) → Draws app line.entry → Draws (with_switch_inputs app) result }
 {
-    line.arg(file(alloc, "plans", "Plans file"))
-        .arg(file(alloc, "batch", "Batch file"))
+    line.file("plans", "Plans file").file("batch", "Batch file")
 }
 
 // A line with the outputs of all plans.
-fn takes_switch_outputs<'a>(alloc: Global, line: Draft<'a>) -> Draft<'a>
+fn takes_switch_outputs<'a>(line: Draft<'a>) -> Draft<'a>
     ensures { (app : App) → Draws app line.entry → Draws (with_switch_outputs app) result }
 {
-    line.arg(file(alloc, "response", "Response file to write"))
-        .arg(file(alloc, "settlement", "Settlement to write"))
+    line.file("response", "Response file to write")
+        .file("settlement", "Settlement to write")
 }
 
 // A line with the stamp and the workers.
-fn takes_route_options<'a>(alloc: Global, line: Draft<'a>) -> Draft<'a>
+fn takes_route_options<'a>(line: Draft<'a>) -> Draft<'a>
     ensures { (app : App) → Draws app line.entry → Draws (with_route_options app) result }
 {
-    let stamp = option(alloc, "stamp", "STAMP", "Date and time, CCYYMMDDHHMM");
-    line.arg(stamp).arg(workers(alloc, WORKERS_OR_ALL))
+    line.option("stamp", "STAMP", "Date and time, CCYYMMDDHHMM")
+        .workers(WORKERS_OR_ALL)
 }
 
 /// The subcommand `route`.
@@ -38,19 +37,16 @@ pub(crate) fn route<'a>(alloc: Global) -> Draft<'a>
     ensures { Draws route_line result }
 {
     let route = draft(alloc, "route", "Adjudicates a batch file for several plans");
-    let inputs = takes_switch_inputs(alloc, route);
-    let options = takes_route_options(alloc, inputs);
-    let outputs = takes_switch_outputs(alloc, options);
-    takes_switch_watch(alloc, outputs.arg(flag(alloc, "safe", SAFE)))
+    let options = takes_route_options(takes_switch_inputs(route));
+    takes_switch_watch(takes_switch_outputs(options).flag("safe", SAFE))
 }
 
 // A line with what a run of several plans says of itself.
-fn takes_switch_watch<'a>(alloc: Global, line: Draft<'a>) -> Draft<'a>
+fn takes_switch_watch<'a>(line: Draft<'a>) -> Draft<'a>
     ensures { (app : App) → Draws app line.entry → Draws (with_switch_watch app) result }
 {
-    let verbose = flag(alloc, "verbose", "Print what each plan came to").short('v');
-    let log = optional(alloc, "log", "FILE", "Log, a line of JSON for each plan");
-    line.arg(verbose).arg(log)
+    line.verbose("Print what each plan came to")
+        .optional("log", "FILE", "Log, a line of JSON for each plan")
 }
 
 /// The subcommand `join`.
@@ -62,9 +58,7 @@ fn join<'a>(alloc: Global) -> Draft<'a>
         "join",
         "Joins the response files of several plans' runs",
     );
-    let inputs = takes_switch_inputs(alloc, join);
-    let outputs = takes_switch_outputs(alloc, inputs);
-    outputs.arg(flag(alloc, "safe", SAFE))
+    takes_switch_outputs(takes_switch_inputs(join)).flag("safe", SAFE)
 }
 
 /// A line with the subcommands for several plans.

@@ -1,7 +1,7 @@
 //! The command line as `clap` reads it.
-ghost use Rattle.std.specs.Prelude.{◌≡◌, false, IfOk};
-ghost use Rattle.clap.specs.Words.{App, app_of, new_app, rule_of};
-ghost use Rattle.rx_cli.specs.Syntax.{Draws, IsLocal, flag, optional_option, required_option, verbose_flag, workers_option};
+ghost use Rattle.std.specs.Prelude.{◌≡◌, IfOk};
+ghost use Rattle.clap.specs.Words.{App, app_of, new_app};
+ghost use Rattle.rx_cli.specs.Syntax.{Draws, IsLocal};
 ghost use Rattle.rx_cli.specs.Syntax.{with_inputs, with_log, with_outputs, with_run_options, with_watch, with_ways};
 ghost use Rattle.rx_cli.specs.Syntax.{with_compared, with_given};
 ghost use Rattle.rx_cli.specs.Syntax.{check_line, plan_line, run_line, show_line, with_adjudication};
@@ -15,7 +15,7 @@ use crate::people_syntax::takes_people;
 use crate::settle_options::settle_line;
 use crate::switch_syntax::takes_switch;
 use crate::upkeep_syntax::takes_upkeep;
-use clap::{Arg, ArgAction, Command as Line};
+use clap::Command as Line;
 use std::alloc::{AllocError, Global};
 
 /// What `rxbatch --version` prints after the program's name: the version, and the kit that proved it, without the letter of
@@ -30,53 +30,6 @@ pub(crate) const STAMP_OR_NOW: &'static str = "Date and time, CCYYMMDDHHMM; else
 
 pub(crate) const WORKERS_OR_ALL: &'static str = "Number of threads, 1 to 64; else the processors";
 
-/// The option `--name VALUE`.
-pub(crate) fn option<'a>(alloc: Global, name: &'a str, value: &'a str, help: &'a str) -> Arg<'a>
-    ensures rule { rule_of result ≡ required_option name.entry.now }
-    ensures local { result.global ≡ false }
-{
-    Arg::new(alloc, name)
-        .long(name)
-        .value_name(value)
-        .required(true)
-        .help(help)
-}
-
-/// The option `--name FILE`.
-pub(crate) fn file<'a>(alloc: Global, name: &'a str, help: &'a str) -> Arg<'a>
-    ensures rule { rule_of result ≡ required_option name.entry.now }
-    ensures local { result.global ≡ false }
-{
-    option(alloc, name, "FILE", help)
-}
-
-/// The option `--name VALUE`, which may be absent.
-pub(crate) fn optional<'a>(alloc: Global, name: &'a str, value: &'a str, help: &'a str) -> Arg<'a>
-    ensures rule { rule_of result ≡ optional_option name.entry.now }
-    ensures local { result.global ≡ false }
-{
-    option(alloc, name, value, help).required(false)
-}
-
-/// The option `--workers N`, which may be absent.
-pub(crate) fn workers<'a>(alloc: Global, help: &'a str) -> Arg<'a>
-    ensures rule { rule_of result ≡ workers_option }
-    ensures local { result.global ≡ false }
-{
-    optional(alloc, "workers", "N", help)
-}
-
-/// The flag `--name`.
-pub(crate) fn flag<'a>(alloc: Global, name: &'a str, help: &'a str) -> Arg<'a>
-    ensures rule { rule_of result ≡ flag name.entry.now }
-    ensures local { result.global ≡ false }
-{
-    Arg::new(alloc, name)
-        .long(name)
-        .action(ArgAction::SetTrue)
-        .help(help)
-}
-
 /// The line of this name, as yet without an option.
 fn named<'a>(alloc: Global, name: &'a str, about: &'a str) -> Line<'a>
     ensures shape { app_of result ≡ new_app name.entry.now }
@@ -89,119 +42,101 @@ fn named<'a>(alloc: Global, name: &'a str, about: &'a str) -> Line<'a>
 pub(crate) fn draft<'a>(alloc: Global, name: &'a str, about: &'a str) -> Draft<'a>
     ensures { Draws (new_app name.entry.now) result }
 {
-    Draft::of(named(alloc, name, about))
+    Draft::of(alloc, named(alloc, name, about))
 }
 
 /// A line with the three input files.
-pub(crate) fn takes_inputs<'a>(alloc: Global, line: Draft<'a>) -> Draft<'a>
+pub(crate) fn takes_inputs<'a>(line: Draft<'a>) -> Draft<'a>
     ensures { (app : App) → Draws app line.entry → Draws (with_inputs app) result }
 {
-    line.arg(file(alloc, "sheet", "Plan sheet"))
-        .arg(file(alloc, "books", "Opening books"))
-        .arg(file(alloc, "batch", "Batch file"))
+    line.file("sheet", "Plan sheet")
+        .file("books", "Opening books")
+        .file("batch", "Batch file")
 }
 
 /// A line with the batch file, and plan sheet and opening books or the plans file.
-fn takes_given<'a>(alloc: Global, line: Draft<'a>) -> Draft<'a>
+fn takes_given<'a>(line: Draft<'a>) -> Draft<'a>
     ensures { (app : App) → Draws app line.entry → Draws (with_given app) result }
 {
-    line.arg(optional(alloc, "sheet", "FILE", "Plan sheet"))
-        .arg(optional(alloc, "books", "FILE", "Opening books"))
-        .arg(optional(alloc, "plans", "FILE", PLANS))
-        .arg(file(alloc, "batch", "Batch file"))
+    line.optional("sheet", "FILE", "Plan sheet")
+        .optional("books", "FILE", "Opening books")
+        .optional("plans", "FILE", PLANS)
+        .file("batch", "Batch file")
 }
 
 /// A line with the output files that are compared, of which the plans file names the end books of several plans.
-fn takes_compared<'a>(alloc: Global, line: Draft<'a>) -> Draft<'a>
+fn takes_compared<'a>(line: Draft<'a>) -> Draft<'a>
     ensures { (app : App) → Draws app line.entry → Draws (with_compared app) result }
 {
-    line.arg(file(alloc, "response", "Response file to compare"))
-        .arg(optional(alloc, "books-out", "FILE", "End books to compare"))
-        .arg(file(alloc, "settlement", "Settlement to compare"))
+    line.file("response", "Response file to compare")
+        .optional("books-out", "FILE", "End books to compare")
+        .file("settlement", "Settlement to compare")
 }
 
 /// A line with the three output files.
-fn takes_outputs<'a>(alloc: Global, line: Draft<'a>) -> Draft<'a>
+fn takes_outputs<'a>(line: Draft<'a>) -> Draft<'a>
     ensures { (app : App) → Draws app line.entry → Draws (with_outputs app) result }
 {
-    line.arg(file(alloc, "response", "Response file to write"))
-        .arg(file(alloc, "books-out", "End books to write"))
-        .arg(file(alloc, "settlement", "Settlement to write"))
+    line.file("response", "Response file to write")
+        .file("books-out", "End books to write")
+        .file("settlement", "Settlement to write")
 }
 
 /// A line with the options of `run` that are no files.
-fn takes_run_options<'a>(alloc: Global, line: Draft<'a>) -> Draft<'a>
+fn takes_run_options<'a>(line: Draft<'a>) -> Draft<'a>
     ensures { (app : App) → Draws app line.entry → Draws (with_run_options app) result }
 {
-    let stamp = optional(alloc, "stamp", "STAMP", STAMP_OR_NOW);
-    takes_ways(alloc, line.arg(stamp).arg(workers(alloc, WORKERS_OR_ALL)))
+    let timed = line.optional("stamp", "STAMP", STAMP_OR_NOW);
+    takes_ways(timed.workers(WORKERS_OR_ALL))
 }
 
 /// A line with the other ways to adjudicate, which change no byte of an output.
-fn takes_ways<'a>(alloc: Global, line: Draft<'a>) -> Draft<'a>
+fn takes_ways<'a>(line: Draft<'a>) -> Draft<'a>
     ensures { (app : App) → Draws app line.entry → Draws (with_ways app) result }
 {
-    let plain = flag(
-        alloc,
+    line.flag(
         "plain",
         "Use the reference implementation, slow on large books",
-    );
-    let desk = flag(
-        alloc,
-        "desk",
-        "Hand the records out to the workers one by one",
-    );
-    line.arg(plain).arg(desk)
+    )
+    .flag("desk", "Hand the records out to the workers one by one")
 }
 
 /// A line with the options of `run` for a run that nobody watches.
-fn takes_watch<'a>(alloc: Global, line: Draft<'a>) -> Draft<'a>
+fn takes_watch<'a>(line: Draft<'a>) -> Draft<'a>
     ensures { (app : App) → Draws app line.entry → Draws (with_watch app) result }
 {
-    let safe = flag(
-        alloc,
-        "safe",
-        "Write to temporary files, renamed when all is done",
-    );
-    let verbose = flag(alloc, "verbose", "Print the steps, and a refusal in words").short('v');
-    takes_log(alloc, line.arg(safe).arg(verbose))
+    let safe = line.flag("safe", "Write to temporary files, renamed when all is done");
+    takes_log(safe.verbose("Print the steps, and a refusal in words"))
 }
 
 /// A line with the options of a log.
-fn takes_log<'a>(alloc: Global, line: Draft<'a>) -> Draft<'a>
+fn takes_log<'a>(line: Draft<'a>) -> Draft<'a>
     ensures { (app : App) → Draws app line.entry → Draws (with_log app) result }
 {
-    let log = optional(alloc, "log", "FILE", "Log of the run, one line of JSON");
-    let sums = flag(alloc, "sums", "Write the SHA-256 of each file into the log");
-    line.arg(log).arg(sums)
+    line.optional("log", "FILE", "Log of the run, one line of JSON")
+        .flag("sums", "Write the SHA-256 of each file into the log")
 }
 
 /// The subcommand `run`.
 pub(crate) fn run<'a>(alloc: Global) -> Draft<'a>
     ensures { Draws run_line result }
 {
-    let run = draft(alloc, "run", "Adjudicates a batch file");
-    let inputs = takes_inputs(alloc, run);
-    let files = takes_outputs(alloc, inputs);
-    let options = takes_run_options(alloc, files);
-    takes_watch(alloc, options)
+    let inputs = takes_inputs(draft(alloc, "run", "Adjudicates a batch file"));
+    takes_watch(takes_run_options(takes_outputs(inputs)))
 }
 
 /// The subcommand `show`.
 fn show<'a>(alloc: Global) -> Draft<'a>
     ensures { Draws show_line result }
 {
-    let sheet = file(alloc, "sheet", "Plan sheet");
-    let batch = file(alloc, "batch", "Batch file");
-    let tsv = flag(alloc, "tsv", "Print tab-separated values, with the amounts");
     draft(
         alloc,
         "show",
         "Prints the transactions of a batch, a line each",
     )
-    .arg(sheet)
-    .arg(batch)
-    .arg(tsv)
+    .file("sheet", "Plan sheet")
+    .file("batch", "Batch file")
+    .flag("tsv", "Print tab-separated values, with the amounts")
 }
 
 /// The subcommand `plan`.
@@ -209,42 +144,36 @@ fn plan<'a>(alloc: Global) -> Draft<'a>
     ensures { Draws plan_line result }
 {
     let plan = draft(alloc, "plan", "Prints which records wait for each other");
-    takes_inputs(alloc, plan)
+    takes_inputs(plan)
 }
 
 /// The subcommand `check`.
 pub(crate) fn check<'a>(alloc: Global) -> Draft<'a>
     ensures { Draws check_line result }
 {
-    let sheet = optional(alloc, "sheet", "FILE", "Plan sheet");
-    let books = optional(alloc, "books", "FILE", "Books");
-    let plans = optional(alloc, "plans", "FILE", PLANS);
-    let batch = optional(alloc, "batch", "FILE", "Batch file");
     draft(
         alloc,
         "check",
         "Prints faults of input files in words, and warnings",
     )
-    .arg(sheet)
-    .arg(books)
-    .arg(plans)
-    .arg(batch)
+    .optional("sheet", "FILE", "Plan sheet")
+    .optional("books", "FILE", "Books")
+    .optional("plans", "FILE", PLANS)
+    .optional("batch", "FILE", "Batch file")
 }
 
 /// A line with what `explain` is asked after.
-fn takes_asked<'a>(alloc: Global, line: Draft<'a>) -> Draft<'a>
+fn takes_asked<'a>(line: Draft<'a>) -> Draft<'a>
     ensures { (app : App) → Draws app line.entry → Draws (with_asked app) result }
 {
-    let record = optional(
-        alloc,
+    line.optional(
         "record",
         "PLACE",
         "Record, PLACE or PLACE.NTH for one transaction",
-    );
-    let number = optional(alloc, "number", "AUTHORIZATION", "Authorization number");
-    let reference = optional(alloc, "rx", "REFERENCE", "Prescription reference number");
-    let provider = optional(alloc, "provider", "ID", "Provider of the prescription");
-    line.arg(record).arg(number).arg(reference).arg(provider)
+    )
+    .optional("number", "AUTHORIZATION", "Authorization number")
+    .optional("rx", "REFERENCE", "Prescription reference number")
+    .optional("provider", "ID", "Provider of the prescription")
 }
 
 /// The subcommand `explain`.
@@ -256,34 +185,30 @@ pub(crate) fn explain<'a>(alloc: Global) -> Draft<'a>
         "explain",
         "Explains why claims are answered as they are",
     );
-    let inputs = takes_given(alloc, explain);
-    let asked = takes_asked(alloc, inputs);
-    let response = optional(alloc, "response", "FILE", "Response file to compare");
-    let json = flag(alloc, "json", "Print JSON");
-    let all = flag(alloc, "all", "List all claims of each sum");
-    takes_reader(alloc, asked.arg(response).arg(json).arg(all))
+    let answered = takes_asked(takes_given(explain))
+        .optional("response", "FILE", "Response file to compare")
+        .flag("json", "Print JSON")
+        .flag("all", "List all claims of each sum");
+    takes_reader(answered)
 }
 
 /// A line with the pharmacy that a text is for.
-fn takes_reader<'a>(alloc: Global, line: Draft<'a>) -> Draft<'a>
+fn takes_reader<'a>(line: Draft<'a>) -> Draft<'a>
     ensures { (app : App) → Draws app line.entry → Draws (with_reader app) result }
 {
-    let reader = optional(
-        alloc,
+    line.optional(
         "for-provider",
         "ID",
         "Only what this provider may see: its own claims, of others' dates and amounts",
-    );
-    line.arg(reader)
+    )
 }
 
 /// A line with the options of `verify` that are no files.
-fn takes_verify_options<'a>(alloc: Global, line: Draft<'a>) -> Draft<'a>
+fn takes_verify_options<'a>(line: Draft<'a>) -> Draft<'a>
     ensures { (app : App) → Draws app line.entry → Draws (with_verify_options app) result }
 {
-    let stamp = option(alloc, "stamp", "STAMP", "Date and time, CCYYMMDDHHMM");
-    let workers = workers(alloc, "Number of threads, 1 to 64");
-    takes_ways(alloc, line.arg(stamp).arg(workers))
+    let timed = line.option("stamp", "STAMP", "Date and time, CCYYMMDDHHMM");
+    takes_ways(timed.workers("Number of threads, 1 to 64"))
 }
 
 /// The subcommand `verify`.
@@ -291,26 +216,18 @@ pub(crate) fn verify<'a>(alloc: Global) -> Draft<'a>
     ensures { Draws verify_line result }
 {
     let verify = draft(alloc, "verify", "Repeats a run and compares its outputs");
-    let inputs = takes_given(alloc, verify);
-    let files = takes_compared(alloc, inputs);
-    takes_verify_options(alloc, files)
+    takes_verify_options(takes_compared(takes_given(verify)))
 }
 
 /// A line with the forms of a report.
-fn takes_forms<'a>(alloc: Global, line: Draft<'a>) -> Draft<'a>
+fn takes_forms<'a>(line: Draft<'a>) -> Draft<'a>
     ensures { (app : App) → Draws app line.entry → Draws (with_forms app) result }
 {
-    let tsv = flag(alloc, "tsv", "Print tab-separated values");
-    let json = flag(alloc, "json", "Print JSON");
-    let jsonl = flag(alloc, "jsonl", "Print JSON, a line for each answer");
-    let html = flag(alloc, "html", "Print one HTML page");
-    let pages = optional(
-        alloc,
-        "html-dir",
-        "DIR",
-        "Write an HTML page for each provider",
-    );
-    line.arg(tsv).arg(json).arg(jsonl).arg(html).arg(pages)
+    line.flag("tsv", "Print tab-separated values")
+        .flag("json", "Print JSON")
+        .flag("jsonl", "Print JSON, a line for each answer")
+        .flag("html", "Print one HTML page")
+        .optional("html-dir", "DIR", "Write an HTML page for each provider")
 }
 
 /// The subcommand `report`.
@@ -322,30 +239,28 @@ pub(crate) fn report<'a>(alloc: Global) -> Draft<'a>
         "report",
         "Prints the answers, a line each, by provider",
     );
-    let inputs = takes_given(alloc, report);
-    let stamp = optional(
-        alloc,
-        "stamp",
-        "STAMP",
-        "Date and time of the run, CCYYMMDDHHMM, to print",
-    );
-    let provider = optional(alloc, "provider", "ID", "Only the lines of this provider");
-    let family = optional(alloc, "family", "ID", "Only the lines of this family");
-    let portions = inputs.arg(stamp).arg(provider).arg(family);
-    takes_forms(alloc, takes_reader(alloc, portions))
+    let inputs = takes_given(report);
+    let portions = inputs
+        .optional(
+            "stamp",
+            "STAMP",
+            "Date and time of the run, CCYYMMDDHHMM, to print",
+        )
+        .optional("provider", "ID", "Only the lines of this provider")
+        .optional("family", "ID", "Only the lines of this family");
+    takes_forms(takes_reader(portions))
 }
 
 /// The subcommand `replies`.
 fn replies<'a>(alloc: Global) -> Draft<'a>
     ensures { Draws replies_line result }
 {
-    let response = file(alloc, "response", "Response file");
     draft(
         alloc,
         "replies",
         "Prints the replies of a response file, a line each",
     )
-    .arg(response)
+    .file("response", "Response file")
 }
 
 /// The line with the subcommands that adjudicate and show.
@@ -378,7 +293,7 @@ pub(crate) fn line<'a>(alloc: Global) -> Result<Line<'a>, AllocError>
     let top = named(alloc, "rxbatch", "Adjudicates pharmacy batch files")
         .subcommand_required(true)
         .version(VERSION);
-    let adjudicates = takes_adjudication(alloc, Draft::of(top));
+    let adjudicates = takes_adjudication(alloc, Draft::of(alloc, top));
     let retraces = takes_retracing(alloc, adjudicates);
     let disputed = takes_disputes(alloc, retraces);
     let peopled = takes_people(alloc, disputed);

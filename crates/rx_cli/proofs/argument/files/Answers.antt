@@ -1,5 +1,5 @@
 use Rattle.rx_cli.proofs.GivenTexts.{repeated}
-use Rattle.rx_cli.proofs.settle_options.files.Goals as goal
+use Rattle.rx_cli.proofs.argument.files.Goals as goal
 
 pub returns-clause-rule : goal.returns-clause-rule
 returns-clause-rule c =

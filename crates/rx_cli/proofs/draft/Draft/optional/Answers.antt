@@ -1,0 +1,5 @@
+use Rattle.rx_cli.proofs.DraftLemmas.{draws_as}
+use Rattle.rx_cli.proofs.draft.Draft.optional.Goals as goal
+
+pub returns : goal.returns
+returns c app drawn = draws_as app c.arg.result c.optional-optional.ensures.rule (c.arg.ensures app drawn)
