@@ -16,7 +16,7 @@ use std::process::Abort;
 use std::sync::Wait;
 use std::thread::Threads;
 
-// The end books of three-fills-reach-the-family-maximum with the base claim of another family, whose record can be out beside
+// The end books of three-fills-reach-the-family-maximum with the base claim of another family, whose record can be out with
 // the others.
 const END_BOOKS: &[u8] = b"BOOKS|3|20260101|20261231
 M|C100|01|20260101|20261231|10000
