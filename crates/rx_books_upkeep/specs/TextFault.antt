@@ -12,14 +12,14 @@ abbrev pub of_books : BooksFault → UpkeepFault
 of_books books.Memory = fault.Memory
 of_books f = fault.Books f
 
-abbrev pub of_table : TableFault → UpkeepFault
-of_table table.Memory = fault.Memory
-of_table f = fault.Table f
-
 -- the fault is out of memory
 abbrev pub wants_memory : UpkeepFault → Bool
 wants_memory fault.Memory = true
 wants_memory other = false
+
+abbrev pub of_table : TableFault → UpkeepFault
+of_table table.Memory = fault.Memory
+of_table f = fault.Table f
 
 -- what a call answered, seen by `view`, is what the definition has, unless memory ran out
 abbrev pub GivesAs : {X Y : Type 0} → (X → Y) → Result X UpkeepFault → Result Y UpkeepFault → Type 0
