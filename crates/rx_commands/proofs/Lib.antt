@@ -48,6 +48,5 @@ pub mod ProductNames
 pub mod Replied
 pub mod Same
 pub mod Shown
-pub mod Sizes
 pub mod Spots
 pub mod Verdicts

@@ -108,7 +108,7 @@ fn text_of(
     ensures { IfOk result (λ text. text.items ≡ text_of form given.now changed.now) }
 {
     let mut page = Page::new(alloc);
-    put_front(&mut page, form)?;
+    put_front(&mut page, form);
     let (replies, with_replies) = (&given.batch.replies, &changed.batch.replies);
     let change = put_lines(
         &mut page,
@@ -117,8 +117,8 @@ fn text_of(
         &given.lines,
         with_replies,
         &changed.lines,
-    )?;
+    );
     let (net, with_net) = (&given.settled.total, &changed.settled.total);
-    put_end(&mut page, form, given.batch.lot, net, with_net, &change)?;
-    Ok(page.into_bytes())
+    put_end(&mut page, form, given.batch.lot, net, with_net, &change);
+    page.into_bytes()
 }

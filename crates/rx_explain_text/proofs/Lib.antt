@@ -1,6 +1,5 @@
 -- Lemmas of the words of an explanation.
 mod ExplanationRead
-pub mod Joined
 mod JsonNames
 pub mod Largest
 mod Worked

@@ -2,12 +2,13 @@ ghost use Rattle.std.specs.Prelude.{◌≡◌, ◌∷◌, ◌++◌, IfOk, OnOk};
 ghost use Rattle.std.specs.List.{flat_map};
 ghost use Rattle.rx_explain_text.specs.Absent.{absent_line, after_comma, has_text, places_left, named_text, near_text, near_words};
 ghost use Rattle.rx_explain_text.specs.Absent.{absent_for, pharmacy_text, prescription_text, record_text, records_text, transaction_text};
+ghost use Rattle.rx_print.specs.Page.{Writes};
 
 use crate::header::{put_at, put_numbered};
 use rx_explain::{At, Wanted};
 use rx_fields::{Memory, Provider, Reference};
 use rx_print::{Page, Style};
-use std::alloc::{AllocError, Global};
+use std::alloc::Global;
 
 /// How many places are listed after the first.
 pub(crate) const MOST_OTHERS: usize = 19;
@@ -25,11 +26,11 @@ pub fn absent_text(
     ensures { IfOk result (λ text. text.items ≡ absent_line wanted.now records near.now) }
 {
     let mut page = Page::new(alloc);
-    page.say("rxbatch: ")?;
-    put_named(&mut page, wanted)?;
-    put_has(&mut page, wanted, records, near)?;
-    page.say("\n")?;
-    Ok(page.into_bytes())
+    page.say("rxbatch: ");
+    put_named(&mut page, wanted);
+    put_has(&mut page, wanted, records, near);
+    page.say("\n");
+    page.into_bytes()
 }
 
 /// The line where no transaction of a pharmacy, which may see only its own, is what was asked for.
@@ -42,17 +43,17 @@ pub fn absent_for_text(
     ensures { IfOk result (λ text. text.items ≡ absent_for wanted.now provider.now) }
 {
     let mut page = Page::new(alloc);
-    page.say("rxbatch: ")?;
-    put_named(&mut page, wanted)?;
-    page.say(" of pharmacy ")?;
-    page.escaped(Style::Terminal, provider.bytes())?;
-    page.say("\n")?;
-    Ok(page.into_bytes())
+    page.say("rxbatch: ");
+    put_named(&mut page, wanted);
+    page.say(" of pharmacy ");
+    page.escaped(Style::Terminal, provider.bytes());
+    page.say("\n");
+    page.into_bytes()
 }
 
 // What was asked for.
-fn put_named(page: &mut Page, wanted: &Wanted) -> Result<(), AllocError>
-    ensures { OnOk result (page.new.bytes.items ≡ page.old.bytes.items ++ named_text wanted.now) }
+fn put_named(page: &mut Page, wanted: &Wanted)
+    ensures { Writes page.old page.new (named_text wanted.now) }
 {
     match wanted {
         Wanted::Place(place) => put_record(page, *place),
@@ -64,48 +65,45 @@ fn put_named(page: &mut Page, wanted: &Wanted) -> Result<(), AllocError>
 }
 
 #[tactic(auto, using(std::proofs::Common::append_assoc), unfolding(crate::specs::Absent::record_text))]
-fn put_record(page: &mut Page, place: u64) -> Result<(), AllocError>
-    ensures { OnOk result (page.new.bytes.items ≡ page.old.bytes.items ++ record_text place) }
+fn put_record(page: &mut Page, place: u64)
+    ensures { Writes page.old page.new (record_text place) }
 {
     if place == 0 {
-        return page.say("no such claim");
+        page.say("no such claim");
+    } else {
+        page.say("no record ");
+        page.number(u128::from(place));
     }
-    page.say("no record ")?;
-    page.number(u128::from(place))
 }
 
 #[tactic(auto, using(std::proofs::Common::append_assoc), unfolding(crate::specs::Absent::transaction_text))]
-fn put_transaction(page: &mut Page, at: At) -> Result<(), AllocError>
-    ensures { OnOk result (page.new.bytes.items ≡ page.old.bytes.items ++ transaction_text at) }
+fn put_transaction(page: &mut Page, at: At)
+    ensures { Writes page.old page.new (transaction_text at) }
 {
-    page.say("no transaction ")?;
-    put_at(page, at)
+    page.say("no transaction ");
+    put_at(page, at);
 }
 
 #[tactic(auto, using(std::proofs::Common::append_assoc), unfolding(crate::specs::Absent::prescription_text))]
-fn put_prescription(page: &mut Page, reference: Reference) -> Result<(), AllocError>
-    ensures { OnOk result (page.new.bytes.items ≡ page.old.bytes.items ++ prescription_text reference) }
+fn put_prescription(page: &mut Page, reference: Reference)
+    ensures { Writes page.old page.new (prescription_text reference) }
 {
-    page.say("no rx ")?;
-    page.number(u128::from(reference.get()))
+    page.say("no rx ");
+    page.number(u128::from(reference.get()));
 }
 
 #[tactic(auto, using(std::proofs::Common::append_assoc), unfolding(crate::specs::Absent::pharmacy_text))]
-fn put_pharmacy(
-    page: &mut Page,
-    reference: Reference,
-    provider: &Provider,
-) -> Result<(), AllocError>
-    ensures { OnOk result (page.new.bytes.items ≡ page.old.bytes.items ++ pharmacy_text reference provider.now) }
+fn put_pharmacy(page: &mut Page, reference: Reference, provider: &Provider)
+    ensures { Writes page.old page.new (pharmacy_text reference provider.now) }
 {
-    put_prescription(page, reference)?;
-    page.say(" at ")?;
-    page.escaped(Style::Terminal, provider.bytes())
+    put_prescription(page, reference);
+    page.say(" at ");
+    page.escaped(Style::Terminal, provider.bytes());
 }
 
 // What the batch has.
-fn put_has(page: &mut Page, wanted: &Wanted, records: usize, near: &[At]) -> Result<(), AllocError>
-    ensures { OnOk result (page.new.bytes.items ≡ page.old.bytes.items ++ has_text wanted.now records near.now) }
+fn put_has(page: &mut Page, wanted: &Wanted, records: usize, near: &[At])
+    ensures { Writes page.old page.new (has_text wanted.now records near.now) }
 {
     match near {
         [] => put_records(page, records),
@@ -114,25 +112,26 @@ fn put_has(page: &mut Page, wanted: &Wanted, records: usize, near: &[At]) -> Res
 }
 
 #[tactic(auto, using(std::proofs::Common::append_assoc), unfolding(crate::specs::Absent::records_text))]
-fn put_records(page: &mut Page, records: usize) -> Result<(), AllocError>
-    ensures { OnOk result (page.new.bytes.items ≡ page.old.bytes.items ++ records_text records) }
+fn put_records(page: &mut Page, records: usize)
+    ensures { Writes page.old page.new (records_text records) }
 {
     if records == 0 {
-        return page.say("; the batch has no record");
+        page.say("; the batch has no record");
+    } else {
+        page.say("; the batch has records 1 to ");
+        page.number(records as u128);
     }
-    page.say("; the batch has records 1 to ")?;
-    page.number(records as u128)
 }
 
 // The first places of those near, and how many more there are.
 #[tactic(auto, using(std::proofs::Common::append_assoc), unfolding(crate::specs::Absent::near_text))]
-fn put_near(page: &mut Page, wanted: &Wanted, first: At, others: &[At]) -> Result<(), AllocError>
-    ensures { OnOk result (page.new.bytes.items ≡ page.old.bytes.items ++ near_text wanted.now first others.now) }
+fn put_near(page: &mut Page, wanted: &Wanted, first: At, others: &[At])
+    ensures { Writes page.old page.new (near_text wanted.now first others.now) }
 {
-    page.say(near_words(wanted))?;
-    put_at(page, first)?;
-    put_others(page, &others[..others.len().min(MOST_OTHERS)])?;
-    put_more(page, others.len().saturating_sub(MOST_OTHERS))
+    page.say(near_words(wanted));
+    put_at(page, first);
+    put_others(page, &others[..others.len().min(MOST_OTHERS)]);
+    put_more(page, others.len().saturating_sub(MOST_OTHERS));
 }
 
 fn near_words(wanted: &Wanted) -> &'static str
@@ -144,31 +143,30 @@ fn near_words(wanted: &Wanted) -> &'static str
     }
 }
 
-fn put_others(page: &mut Page, others: &[At]) -> Result<(), AllocError>
-    ensures { OnOk result (page.new.bytes.items ≡ page.old.bytes.items ++ flat_map after_comma others.now) }
+fn put_others(page: &mut Page, others: &[At])
+    ensures { Writes page.old page.new (flat_map after_comma others.now) }
 {
     for at in others {
-        put_other(page, *at)?;
+        put_other(page, *at);
     }
-    Ok(())
 }
 
 #[tactic(auto, using(std::proofs::Common::append_assoc), unfolding(crate::specs::Absent::places_left))]
-fn put_more(page: &mut Page, more: usize) -> Result<(), AllocError>
-    ensures { OnOk result (page.new.bytes.items ≡ page.old.bytes.items ++ places_left more) }
+fn put_more(page: &mut Page, more: usize)
+    ensures { Writes page.old page.new (places_left more) }
 {
     if more == 0 {
-        return Ok(());
+        return;
     }
-    page.say(" and ")?;
-    page.number(more as u128)?;
-    page.say(" more")
+    page.say(" and ");
+    page.number(more as u128);
+    page.say(" more");
 }
 
 #[tactic(auto, using(std::proofs::Common::append_assoc))]
-fn put_other(page: &mut Page, at: At) -> Result<(), AllocError>
-    ensures { OnOk result (page.new.bytes.items ≡ page.old.bytes.items ++ after_comma at) }
+fn put_other(page: &mut Page, at: At)
+    ensures { Writes page.old page.new (after_comma at) }
 {
-    page.say(", ")?;
-    put_at(page, at)
+    page.say(", ");
+    put_at(page, at);
 }

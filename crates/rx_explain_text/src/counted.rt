@@ -2,6 +2,7 @@ ghost use Rattle.std.specs.Prelude.{◌≡◌, ◌≤◌, ◌++◌, IfOk, OnOk, 
 ghost use Rattle.std.specs.List.{flat_map, fold, prefix_len};
 ghost use Rattle.rx_explain_text.specs.Counted.{by_size, claims_text, counted_line, counted_lines, counted_of, counts_some};
 ghost use Rattle.rx_explain_text.specs.Counted.{counts_as_much, entry_line, largest_text, less, more_line, more_text, put_in};
+ghost use Rattle.rx_print.specs.Page.{Writes};
 
 use crate::figures::{AMOUNT, LABEL};
 use crate::reasons::put_traced;
@@ -51,9 +52,8 @@ struct Counted {
 }
 
 /// The claims of a sum, which come to `used` cents.
-pub(crate) fn put_claims(page: &mut Page, used: u128, claims: &Claims<'_>) -> Result<(), AllocError>
-    ensures { let b = claims.now in OnOk result (page.new.bytes.items
-        ≡ page.old.bytes.items ++ claims_text b.listing used b.counts b.bill.now b.counted.now) }
+pub(crate) fn put_claims(page: &mut Page, used: u128, claims: &Claims<'_>)
+    ensures { let b = claims.now in Writes page.old page.new (claims_text b.listing used b.counts b.bill.now b.counted.now) }
 {
     let Claims {
         counted,
@@ -68,33 +68,27 @@ pub(crate) fn put_claims(page: &mut Page, used: u128, claims: &Claims<'_>) -> Re
 }
 
 // A line for each claim that counts, with what it counts.
-fn put_all(
-    page: &mut Page,
-    counted: &[Traced],
-    bill: &Bill,
-    counts: Counts,
-) -> Result<(), AllocError>
-    ensures { OnOk result (page.new.bytes.items ≡ page.old.bytes.items ++ counted_lines counts bill.now counted.now) }
+fn put_all(page: &mut Page, counted: &[Traced], bill: &Bill, counts: Counts)
+    ensures { Writes page.old page.new (counted_lines counts bill.now counted.now) }
 {
     for traced in counted {
-        put_claim(page, traced, counted_of(traced, bill, counts))?;
+        put_claim(page, traced, counted_of(traced, bill, counts));
     }
-    Ok(())
 }
 
 // The claim with what it counts, in cents; nothing where it counts nothing.
 #[tactic(auto, using(std::proofs::Common::append_assoc), unfolding(crate::specs::Counted::counted_line))]
-fn put_claim(page: &mut Page, traced: &Traced, cents: u64) -> Result<(), AllocError>
-    ensures { OnOk result (page.new.bytes.items ≡ page.old.bytes.items ++ counted_line cents traced.now) }
+fn put_claim(page: &mut Page, traced: &Traced, cents: u64)
+    ensures { Writes page.old page.new (counted_line cents traced.now) }
 {
     if cents == 0 {
-        return Ok(());
+        return;
     }
-    page.blanks(4 + LABEL + AMOUNT)?;
-    page.column(AMOUNT, u128::from(cents))?;
-    page.say("  ")?;
-    put_traced(page, traced)?;
-    page.say("\n")
+    page.blanks(4 + LABEL + AMOUNT);
+    page.column(AMOUNT, u128::from(cents));
+    page.say("  ");
+    put_traced(page, traced);
+    page.say("\n");
 }
 
 // What the claim counts, in cents.
@@ -112,20 +106,17 @@ fn counted_of(traced: &Traced, bill: &Bill, counts: Counts) -> u64
 
 // The claims that count most, and how many more count something.
 #[tactic(auto, using(std::proofs::Common::append_assoc), unfolding(crate::specs::Counted::largest_text))]
-fn put_largest(
-    page: &mut Page,
-    used: u128,
-    counted: &[Traced],
-    bill: &Bill,
-    counts: Counts,
-) -> Result<(), AllocError>
-    ensures { OnOk result (page.new.bytes.items ≡ page.old.bytes.items ++ largest_text used counts bill.now counted.now) }
+fn put_largest(page: &mut Page, used: u128, counted: &[Traced], bill: &Bill, counts: Counts)
+    ensures { Writes page.old page.new (largest_text used counts bill.now counted.now) }
 {
-    let listed = largest(page.alloc(), counted, bill, counts)?;
     let more = count(counted, bill, counts).saturating_sub(MOST_LISTED);
-    let rest = rest_of(used, &listed);
-    put_entries(page, &listed)?;
-    put_more(page, more, rest)
+    match largest(page.alloc(), counted, bill, counts) {
+        Ok(listed) => {
+            put_entries(page, &listed);
+            put_more(page, more, rest_of(used, &listed));
+        }
+        Err(_) => page.lacks = true,
+    }
 }
 
 // The claims that count most, the largest first.
@@ -195,33 +186,32 @@ fn rest_of(used: u128, listed: &[Counted]) -> u128
     rest
 }
 
-fn put_entries(page: &mut Page, listed: &[Counted]) -> Result<(), AllocError>
-    ensures { OnOk result (page.new.bytes.items ≡ page.old.bytes.items ++ flat_map entry_line listed.now) }
+fn put_entries(page: &mut Page, listed: &[Counted])
+    ensures { Writes page.old page.new (flat_map entry_line listed.now) }
 {
     for entry in listed {
-        put_claim(page, &entry.traced, entry.cents)?;
+        put_claim(page, &entry.traced, entry.cents);
     }
-    Ok(())
 }
 
 // How many claims aren't listed, and what they count, if there are some.
-fn put_more(page: &mut Page, more: usize, cents: u128) -> Result<(), AllocError>
-    ensures { OnOk result (page.new.bytes.items ≡ page.old.bytes.items ++ more_text more cents) }
+fn put_more(page: &mut Page, more: usize, cents: u128)
+    ensures { Writes page.old page.new (more_text more cents) }
 {
     if more == 0 {
-        return Ok(());
+        return;
     }
-    put_more_line(page, more as u64, cents)
+    put_more_line(page, more as u64, cents);
 }
 
 #[tactic(auto, using(std::proofs::Common::append_assoc), unfolding(crate::specs::Counted::more_line))]
-fn put_more_line(page: &mut Page, more: u64, cents: u128) -> Result<(), AllocError>
-    ensures { OnOk result (page.new.bytes.items ≡ page.old.bytes.items ++ more_line more cents) }
+fn put_more_line(page: &mut Page, more: u64, cents: u128)
+    ensures { Writes page.old page.new (more_line more cents) }
 {
-    page.blanks(6 + LABEL + AMOUNT + AMOUNT)?;
-    page.say("and ")?;
-    page.grouped(more)?;
-    page.say(" more, ")?;
-    page.money(cents)?;
-    page.say("\n")
+    page.blanks(6 + LABEL + AMOUNT + AMOUNT);
+    page.say("and ");
+    page.grouped(more);
+    page.say(" more, ");
+    page.money(cents);
+    page.say("\n");
 }

@@ -1,5 +1,6 @@
 mod JsonGrammar
+mod Worked
 pub mod JsonPieces
 pub mod JsonWords
 pub mod Reading
-mod Worked
+pub mod Written

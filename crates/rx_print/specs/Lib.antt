@@ -6,4 +6,5 @@ pub mod Escape
 pub mod Hexadecimal
 pub mod JsonData
 pub mod Money
+pub mod Page
 pub mod Said

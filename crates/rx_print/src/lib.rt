@@ -6,13 +6,15 @@
 //! `specs/JsonData.antt` says as which value a text of JSON is read; `proofs/JsonPieces.antt` puts such texts together.
 //!
 //! ```rust
-//! rx_print::put_escaped(&mut text, Style::Html, family.bytes())?;
-//! rx_print::put_grouped(&mut text, records)?;
+//! let mut page = Page::new(alloc);
+//! page.escaped(Style::Html, family.bytes());
+//! page.grouped(records);
+//! let text = page.into_bytes()?;
 //! ```
 //!
-//! Each other text is a definition of `specs/`. A function whose name begins with `put` puts it at the end of a text; where
-//! a growth was refused, what was put by then stays, but for `put_codes`, which leaves the text as it was. `Page` has the
-//! same as methods.
+//! Each other text is a definition of `specs/`, and a method of `Page` writes it. Where a growth was refused bytes are
+//! missing, and `into_bytes` says so in the end. A function whose name begins with `put` puts the same at the end of a `Vec`;
+//! where a growth was refused, what was put by then stays, but for `put_codes`, which leaves the text as it was.
 #![tactic(auto)]
 
 mod byte;

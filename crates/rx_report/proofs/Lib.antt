@@ -1,6 +1,7 @@
 -- Laws of the definitions in `specs/`.
 pub mod AddedUp
 pub mod Counted
+pub mod EachItem
 pub mod Falling
 pub mod Grouping
 pub mod LinesRead

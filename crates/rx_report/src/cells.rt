@@ -1,49 +1,39 @@
-ghost use Rattle.std.specs.Prelude.{◌≡◌, ◌++◌, ◌∷◌, [], IfOk, OnOk};
+ghost use Rattle.std.specs.Prelude.{◌≡◌, ◌∷◌, []};
+ghost use Rattle.rx_print.specs.Page.{Writes};
 ghost use Rattle.rx_report.specs.Cells.{authorization_cell, cell, cents_cell, cents_in, cents_of, codes_cell, days_of, family_cell};
 ghost use Rattle.rx_report.specs.Cells.{given_back, known_cell, person_cell, product_cell, quantity_of, reference_of, status_of};
-ghost use Rattle.rx_fields.specs.Digits.{digits_text};
 ghost use Rattle.rx_settle.specs.Providers.{named};
 
 use crate::column::Column;
 use crate::line::{Dispensed, Line};
 use rx_d0_values::{Answer, Pricing};
-use rx_fields::{Authorization, Id, Person, Product, Provider, Reference, digits_write};
-use rx_print::{put_codes, put_decimal, put_signed};
-use std::alloc::{AllocError, Global};
+use rx_fields::{Id, Person, Product, Provider, Reference};
+use rx_print::Page;
 
-/// What a report says of an answer in a column, as its bytes are; blank where it isn't known. Amounts are in cents.
-pub fn cell_of(alloc: Global, column: Column, line: &Line) -> Result<Vec<u8>, AllocError>
-    ensures { IfOk result (λ text. text.items ≡ cell column line.now) }
-{
-    let mut text = Vec::new(alloc);
-    put_cell(&mut text, column, line)?;
-    Ok(text)
-}
-
-/// Puts it.
-pub fn put_cell(text: &mut Vec<u8>, column: Column, line: &Line) -> Result<(), AllocError>
-    ensures { OnOk result (text.new.items ≡ text.old.items ++ cell column line.now) }
+/// Writes what a report says of an answer in a column, as its bytes are; nothing where it isn't known. Amounts are in cents.
+pub fn put_cell(page: &mut Page, column: Column, line: &Line)
+    ensures { Writes page.old page.new (cell column line.now) }
 {
     match column {
-        Column::Place => put_decimal(text, u128::from(line.place)),
-        Column::Nth => put_decimal(text, u128::from(line.nth)),
-        Column::Status => Ok(text.push(status_of(&line.answer))?),
-        Column::Codes => put_code_list(text, &line.answer),
-        Column::Provider => put_provider(text, &line.provider),
-        Column::Prescription => put_known(text, number_of(reference_of(&line.answer))),
-        Column::Date => text.extend_from_slice(&line.date),
-        Column::Family => put_family(text, &line.member),
-        Column::Person => put_person(text, &line.member),
+        Column::Place => page.number(u128::from(line.place)),
+        Column::Nth => page.number(u128::from(line.nth)),
+        Column::Status => page.put(&[status_of(&line.answer)]),
+        Column::Codes => put_codes(page, &line.answer),
+        Column::Provider => put_provider(page, &line.provider),
+        Column::Prescription => put_known(page, number_of(reference_of(&line.answer))),
+        Column::Date => page.put(&line.date),
+        Column::Family => put_family(page, &line.member),
+        Column::Person => put_person(page, &line.member),
         Column::Allowed
         | Column::Deductible
         | Column::Copay
         | Column::Coinsurance
         | Column::Member
-        | Column::Plan => put_cents(text, cents_of(column, &line.answer)),
-        Column::Authorization => put_authorization(text, &line.answer),
-        Column::Product => put_product(text, line.product),
-        Column::Quantity => put_known(text, quantity_of(line.dispensed)),
-        Column::Days => put_known(text, days_of(line.dispensed)),
+        | Column::Plan => put_cents(page, cents_of(column, &line.answer)),
+        Column::Authorization => put_authorization(page, &line.answer),
+        Column::Product => put_product(page, line.product),
+        Column::Quantity => put_known(page, quantity_of(line.dispensed)),
+        Column::Days => put_known(page, days_of(line.dispensed)),
     }
 }
 
@@ -58,21 +48,21 @@ fn status_of(answer: &Answer) -> u8
     }
 }
 
-fn put_code_list(text: &mut Vec<u8>, answer: &Answer) -> Result<(), AllocError>
-    ensures { OnOk result (text.new.items ≡ text.old.items ++ codes_cell answer.now) }
+fn put_codes(page: &mut Page, answer: &Answer)
+    ensures { Writes page.old page.new (codes_cell answer.now) }
 {
     match answer {
-        Answer::Refused(refused) => put_codes(text, &refused.codes),
-        Answer::Paid(_) | Answer::Twice(_) | Answer::Approved(_) => Ok(()),
+        Answer::Refused(refused) => page.codes(&refused.codes),
+        Answer::Paid(_) | Answer::Twice(_) | Answer::Approved(_) => {}
     }
 }
 
-fn put_provider(text: &mut Vec<u8>, field: &[u8; 15]) -> Result<(), AllocError>
-    ensures { OnOk result (text.new.items ≡ text.old.items ++ named field.now) }
+fn put_provider(page: &mut Page, field: &[u8; 15])
+    ensures { Writes page.old page.new (named field.now) }
 {
     match Provider::new(field) {
-        Ok(provider) => text.extend_from_slice(provider.bytes()),
-        Err(_) => Ok(()),
+        Ok(provider) => page.put(provider.bytes()),
+        Err(_) => {}
     }
 }
 
@@ -113,57 +103,49 @@ fn days_of(dispensed: Option<Dispensed>) -> Option<u64>
     }
 }
 
-fn put_known(text: &mut Vec<u8>, number: Option<u64>) -> Result<(), AllocError>
-    ensures { OnOk result (text.new.items ≡ text.old.items ++ known_cell number) }
+fn put_known(page: &mut Page, number: Option<u64>)
+    ensures { Writes page.old page.new (known_cell number) }
 {
     match number {
-        Some(number) => put_decimal(text, u128::from(number)),
-        None => Ok(()),
+        Some(number) => page.number(u128::from(number)),
+        None => {}
     }
 }
 
-fn put_authorization(text: &mut Vec<u8>, answer: &Answer) -> Result<(), AllocError>
-    ensures { OnOk result (text.new.items ≡ text.old.items ++ authorization_cell answer.now) }
+fn put_authorization(page: &mut Page, answer: &Answer)
+    ensures { Writes page.old page.new (authorization_cell answer.now) }
 {
     match answer {
-        Answer::Paid(paid) | Answer::Twice(paid) => put_fifteen(text, paid.number),
-        Answer::Approved(approved) => put_fifteen(text, approved.number),
-        Answer::Refused(_) => Ok(()),
+        Answer::Paid(paid) | Answer::Twice(paid) => page.authorization(paid.number),
+        Answer::Approved(approved) => page.authorization(approved.number),
+        Answer::Refused(_) => {}
     }
 }
 
-// Its 15 digits.
-fn put_fifteen(text: &mut Vec<u8>, number: Authorization) -> Result<(), AllocError>
-    ensures { OnOk result (text.new.items ≡ text.old.items ++ digits_text 15 number) }
-{
-    let digits: [u8; 15] = digits_write(number.get());
-    text.extend_from_slice(&digits)
-}
-
-fn put_product(text: &mut Vec<u8>, product: Option<Product>) -> Result<(), AllocError>
-    ensures { OnOk result (text.new.items ≡ text.old.items ++ product_cell product) }
+fn put_product(page: &mut Page, product: Option<Product>)
+    ensures { Writes page.old page.new (product_cell product) }
 {
     match product {
-        Some(product) => text.extend_from_slice(&product.digits()),
-        None => Ok(()),
+        Some(product) => page.put(&product.digits()),
+        None => {}
     }
 }
 
-fn put_family(text: &mut Vec<u8>, member: &Option<(Id, Person)>) -> Result<(), AllocError>
-    ensures { OnOk result (text.new.items ≡ text.old.items ++ family_cell member.now) }
+fn put_family(page: &mut Page, member: &Option<(Id, Person)>)
+    ensures { Writes page.old page.new (family_cell member.now) }
 {
     match member {
-        Some((family, _)) => text.extend_from_slice(family.bytes()),
-        None => Ok(()),
+        Some((family, _)) => page.put(family.bytes()),
+        None => {}
     }
 }
 
-fn put_person(text: &mut Vec<u8>, member: &Option<(Id, Person)>) -> Result<(), AllocError>
-    ensures { OnOk result (text.new.items ≡ text.old.items ++ person_cell member.now) }
+fn put_person(page: &mut Page, member: &Option<(Id, Person)>)
+    ensures { Writes page.old page.new (person_cell member.now) }
 {
     match member {
-        Some((_, person)) => text.extend_from_slice(person.bytes()),
-        None => Ok(()),
+        Some((_, person)) => page.put(person.bytes()),
+        None => {}
     }
 }
 
@@ -202,11 +184,11 @@ fn given_back(column: Column, cents: u64) -> Option<i128>
     }
 }
 
-fn put_cents(text: &mut Vec<u8>, cents: Option<i128>) -> Result<(), AllocError>
-    ensures { OnOk result (text.new.items ≡ text.old.items ++ cents_cell cents) }
+fn put_cents(page: &mut Page, cents: Option<i128>)
+    ensures { Writes page.old page.new (cents_cell cents) }
 {
     match cents {
-        Some(cents) => put_signed(text, cents),
-        None => Ok(()),
+        Some(cents) => page.signed(cents),
+        None => {}
     }
 }

@@ -37,7 +37,7 @@ mod tallying;
 mod texts;
 
 pub use accounting::account_of;
-pub use cells::{cell_of, cents_of, put_cell};
+pub use cells::{cents_of, put_cell};
 pub use claims::{claims_json, put_batch, put_lot};
 pub use column::Column;
 pub use groups::Groups;
@@ -47,4 +47,6 @@ pub use lines::report_lines;
 pub use net_order::by_net;
 pub use portion::{Portion, kept_lines};
 pub use section::{Account, Section};
-pub use texts::{lines_json, put_cells, put_member, put_members, put_names, put_quoted, tsv_text};
+pub use texts::{
+    put_cells, put_lines_json, put_member, put_members, put_names, put_quoted, tsv_text,
+};

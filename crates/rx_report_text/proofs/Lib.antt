@@ -1,4 +1,3 @@
 -- Lemmas of what is written.
 mod AccountRead
 mod Minus
-pub mod Written

@@ -1,6 +1,7 @@
 ghost use Rattle.std.specs.Prelude.{◌≡◌, ◌++◌, IfOk, OnOk, codes, map};
 ghost use Rattle.std.specs.List.{enumerate_from};
 ghost use Rattle.rx_report_text.specs.Folder.{file_of, folder, index_text, leaf, leaves};
+ghost use Rattle.rx_report_text.specs.Layouts.{page_name};
 ghost use Rattle.rx_report_text.specs.Whole.{parts_of_page};
 
 use crate::layout::{Layout, put_page_name};
@@ -93,12 +94,17 @@ fn leaf_page(
         &section.tally,
         whys,
     )?;
+    let name = page_name(alloc, before)?;
+    Ok(PageFile { name, text })
+}
+
+// The name of the page of the provider after this many.
+fn page_name(alloc: Global, before: usize) -> Result<Vec<u8>, Memory>
+    ensures { IfOk result (λ name. name.items ≡ page_name before) }
+{
     let mut name = Page::new(alloc);
-    put_page_name(&mut name, before)?;
-    Ok(PageFile {
-        name: name.into_bytes(),
-        text,
-    })
+    put_page_name(&mut name, before);
+    name.into_bytes()
 }
 
 fn page_in(
@@ -114,6 +120,6 @@ fn page_in(
         ≡ parts_of_page layout head.now portion.entry sections.now total.now whys.now) }
 {
     let mut page = Page::new(alloc);
-    put_page(&mut page, layout, head, portion, sections, total, whys)?;
-    Ok(page.into_bytes())
+    put_page(&mut page, layout, head, portion, sections, total, whys);
+    page.into_bytes()
 }

@@ -1,9 +1,9 @@
-ghost use Rattle.std.specs.Prelude.{◌≡◌, ◌++◌, OnOk};
+ghost use Rattle.std.specs.Prelude.{◌≡◌};
+ghost use Rattle.rx_print.specs.Page.{Writes};
 ghost use Rattle.rx_report_text.specs.Layouts.{has_claims, layout_of, page_name};
 
 use rx_print::Page;
 use rx_settle::Field;
-use std::alloc::AllocError;
 
 // What a page is for.
 #[derive(Clone, Copy)]
@@ -43,10 +43,10 @@ impl Layout {
 
 /// Writes the name of the page of the provider after this many.
 #[tactic(auto, using(std::proofs::Common::append_assoc))]
-pub(crate) fn put_page_name(page: &mut Page, before: usize) -> Result<(), AllocError>
-    ensures { OnOk result (page.new.bytes.items ≡ page.old.bytes.items ++ page_name before) }
+pub(crate) fn put_page_name(page: &mut Page, before: usize)
+    ensures { Writes page.old page.new (page_name before) }
 {
-    page.markup("p")?;
-    page.number(before as u128 + 1)?;
-    page.markup(".html")
+    page.markup("p");
+    page.number(before as u128 + 1);
+    page.markup(".html");
 }

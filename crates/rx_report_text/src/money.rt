@@ -1,39 +1,39 @@
-ghost use Rattle.std.specs.Prelude.{◌≡◌, ◌++◌, IfOk, OnOk, unsigned_abs};
+ghost use Rattle.std.specs.Prelude.{◌≡◌, unsigned_abs};
 ghost use Rattle.std.specs.Fmt.{signed_decimal};
 ghost use Rattle.rx_print.specs.Money.{signed_dollars};
+ghost use Rattle.rx_print.specs.Page.{Writes};
 ghost use Rattle.rx_report_text.specs.Money.{minus_of};
 ghost use Rattle.rx_settle.specs.Settlement.{net};
 
-use rx_print::{put_decimal, put_dollars};
+use rx_print::{Page, put_dollars};
 use rx_settle::Tally;
-use std::alloc::AllocError;
 
-/// Puts the net of a tally in cents, with a minus where more was taken back than paid out.
+/// Writes the net of a tally in cents, with a minus where more was taken back than paid out.
 #[tactic(auto, using(std::proofs::Common::append_assoc, crate::proofs::Minus::after_minus))]
-pub fn put_net_cents(text: &mut Vec<u8>, tally: &Tally) -> Result<(), AllocError>
-    ensures { OnOk result (text.new.items ≡ text.old.items ++ signed_decimal (net tally.now)) }
+pub fn put_net_cents(page: &mut Page, tally: &Tally)
+    ensures { Writes page.old page.new (signed_decimal (net tally.now)) }
 {
-    let cents = put_minus(text, tally)?;
-    put_decimal(text, cents)
+    let cents = put_minus(page, tally);
+    page.number(cents);
 }
 
-/// Puts the net of a tally in dollars and cents, with a minus where more was taken back than paid out.
+/// Writes the net of a tally in dollars and cents, with a minus where more was taken back than paid out.
 #[tactic(auto, using(std::proofs::Common::append_assoc, crate::proofs::Minus::dollars_after_minus))]
-pub fn put_net(text: &mut Vec<u8>, tally: &Tally) -> Result<(), AllocError>
-    ensures { OnOk result (text.new.items ≡ text.old.items ++ signed_dollars (net tally.now)) }
+pub fn put_net(page: &mut Page, tally: &Tally)
+    ensures { Writes page.old page.new (signed_dollars (net tally.now)) }
 {
-    let cents = put_minus(text, tally)?;
-    put_dollars(text, cents)
+    let cents = put_minus(page, tally);
+    page.lacks |= put_dollars(&mut page.bytes, cents).is_err();
 }
 
-// Puts a minus where more was taken back than paid out, and returns the net without it.
-fn put_minus(text: &mut Vec<u8>, tally: &Tally) -> Result<u128, AllocError>
-    ensures minus { OnOk result (text.new.items ≡ text.old.items ++ minus_of (net tally.now)) }
-    ensures cents { IfOk result (λ cents. cents ≡ unsigned_abs (net tally.now)) }
+// Writes a minus where more was taken back than paid out, and returns the net without it.
+fn put_minus(page: &mut Page, tally: &Tally) -> u128
+    ensures minus { Writes page.old page.new (minus_of (net tally.now)) }
+    ensures cents { result ≡ unsigned_abs (net tally.now) }
 {
     if tally.taken_back <= tally.paid_out {
-        return Ok(tally.paid_out - tally.taken_back);
+        return tally.paid_out - tally.taken_back;
     }
-    text.push(b'-')?;
-    Ok(tally.taken_back - tally.paid_out)
+    page.put(b"-");
+    tally.taken_back - tally.paid_out
 }

@@ -1,5 +1,6 @@
-ghost use Rattle.std.specs.Prelude.{◌≡◌, ◌++◌, codes, OnOk};
+ghost use Rattle.std.specs.Prelude.{◌≡◌, ◌++◌, codes};
 ghost use Rattle.std.specs.List.{flat_map};
+ghost use Rattle.rx_print.specs.Page.{Writes};
 ghost use Rattle.rx_report_text.specs.Rows.{answer_cell, answer_words, class_of, classed_cell, code_words, data_cell};
 ghost use Rattle.rx_report_text.specs.Rows.{code_within, group_front, heading_text, record_text, row_text, title_cell};
 ghost use Rattle.rx_report_text.specs.Rows.{title_of, titles_text};
@@ -11,7 +12,6 @@ use rx_explain_text::name;
 use rx_fields::Code;
 use rx_print::Page;
 use rx_report::Line;
-use std::alloc::AllocError;
 
 // The columns of a claim's row after its record and its answer.
 const ROW: [Shown; 9] = [
@@ -27,41 +27,40 @@ const ROW: [Shown; 9] = [
 ];
 
 /// Begins a table of claims, with its caption and headings.
-pub(crate) fn put_titles(page: &mut Page) -> Result<(), AllocError>
-    ensures { OnOk result (page.new.bytes.items ≡ page.old.bytes.items ++ titles_text) }
+pub(crate) fn put_titles(page: &mut Page)
+    ensures { Writes page.old page.new titles_text }
 {
     page.markup(
         "<table class=\"claims\">\n<caption>Claims in file order; amounts in dollars</caption>\n<thead><tr>",
-    )?;
-    page.markup("<th scope=\"col\">Record</th><th scope=\"col\">Answer</th>")?;
-    put_each_title(page, &ROW)?;
-    page.markup("</tr></thead>\n")
+    );
+    page.markup("<th scope=\"col\">Record</th><th scope=\"col\">Answer</th>");
+    put_each_title(page, &ROW);
+    page.markup("</tr></thead>\n");
 }
 
-fn put_each_title(page: &mut Page, columns: &[Shown]) -> Result<(), AllocError>
-    ensures { OnOk result (page.new.bytes.items ≡ page.old.bytes.items ++ flat_map title_cell columns.now) }
+fn put_each_title(page: &mut Page, columns: &[Shown])
+    ensures { Writes page.old page.new (flat_map title_cell columns.now) }
 {
     for shown in columns {
-        put_title(page, *shown)?;
+        put_title(page, *shown);
     }
-    Ok(())
 }
 
 #[tactic(auto, unfolding(crate::specs::Rows::title_cell))]
-fn put_title(page: &mut Page, shown: Shown) -> Result<(), AllocError>
-    ensures { OnOk result (page.new.bytes.items ≡ page.old.bytes.items ++ title_cell shown) }
+fn put_title(page: &mut Page, shown: Shown)
+    ensures { Writes page.old page.new (title_cell shown) }
 {
-    put_heading(page, class_of(shown), title_of(shown))
+    put_heading(page, class_of(shown), title_of(shown));
 }
 
-fn put_heading(page: &mut Page, class: &'static str, title: &'static str) -> Result<(), AllocError>
-    ensures { OnOk result (page.new.bytes.items ≡ page.old.bytes.items ++ heading_text class.now title.now) }
+fn put_heading(page: &mut Page, class: &'static str, title: &'static str)
+    ensures { Writes page.old page.new (heading_text class.now title.now) }
 {
-    page.markup("<th scope=\"col\" class=\"")?;
-    page.markup(class)?;
-    page.markup("\">")?;
-    page.markup(title)?;
-    page.markup("</th>")
+    page.markup("<th scope=\"col\" class=\"");
+    page.markup(class);
+    page.markup("\">");
+    page.markup(title);
+    page.markup("</th>");
 }
 
 fn title_of(shown: Shown) -> &'static str
@@ -107,31 +106,31 @@ fn class_of(shown: Shown) -> &'static str
 
 /// Begins a claim's row group, and writes its row: the record, which leads to the row itself, the answer in words, and a
 /// cell for each column.
-pub(crate) fn put_row(page: &mut Page, line: &Line) -> Result<(), AllocError>
-    ensures { OnOk result (page.new.bytes.items ≡ page.old.bytes.items ++ row_text line.now) }
+pub(crate) fn put_row(page: &mut Page, line: &Line)
+    ensures { Writes page.old page.new (row_text line.now) }
 {
-    put_record(page, line)?;
-    put_answer(page, &line.answer)?;
-    put_cells(page, line, &ROW)?;
-    page.markup("</tr>\n")
+    put_record(page, line);
+    put_answer(page, &line.answer);
+    put_cells(page, line, &ROW);
+    page.markup("</tr>\n");
 }
 
-fn put_record(page: &mut Page, line: &Line) -> Result<(), AllocError>
-    ensures { OnOk result (page.new.bytes.items ≡ page.old.bytes.items ++ record_text line.now) }
+fn put_record(page: &mut Page, line: &Line)
+    ensures { Writes page.old page.new (record_text line.now) }
 {
-    put_group(page, &line.answer)?;
-    put_cell(page, Shown::Record, line)?;
-    page.markup("\">\n<tr><th scope=\"row\"><a href=\"#r")?;
-    put_cell(page, Shown::Record, line)?;
-    page.markup("\">")?;
-    put_cell(page, Shown::Record, line)?;
-    page.markup("</a></th>")
+    put_group(page, &line.answer);
+    put_cell(page, Shown::Record, line);
+    page.markup("\">\n<tr><th scope=\"row\"><a href=\"#r");
+    put_cell(page, Shown::Record, line);
+    page.markup("\">");
+    put_cell(page, Shown::Record, line);
+    page.markup("</a></th>");
 }
 
-fn put_group(page: &mut Page, answer: &Answer) -> Result<(), AllocError>
-    ensures { OnOk result (page.new.bytes.items ≡ page.old.bytes.items ++ group_front answer.now) }
+fn put_group(page: &mut Page, answer: &Answer)
+    ensures { Writes page.old page.new (group_front answer.now) }
 {
-    page.markup(group_front(answer))
+    page.markup(group_front(answer));
 }
 
 fn group_front(answer: &Answer) -> &'static str
@@ -145,16 +144,16 @@ fn group_front(answer: &Answer) -> &'static str
     }
 }
 
-fn put_answer(page: &mut Page, answer: &Answer) -> Result<(), AllocError>
-    ensures { OnOk result (page.new.bytes.items ≡ page.old.bytes.items ++ answer_cell answer.now) }
+fn put_answer(page: &mut Page, answer: &Answer)
+    ensures { Writes page.old page.new (answer_cell answer.now) }
 {
-    page.markup("<td class=\"answer\">")?;
-    put_answer_words(page, answer)?;
-    page.markup("</td>")
+    page.markup("<td class=\"answer\">");
+    put_answer_words(page, answer);
+    page.markup("</td>");
 }
 
-fn put_answer_words(page: &mut Page, answer: &Answer) -> Result<(), AllocError>
-    ensures { OnOk result (page.new.bytes.items ≡ page.old.bytes.items ++ answer_words answer.now) }
+fn put_answer_words(page: &mut Page, answer: &Answer)
+    ensures { Writes page.old page.new (answer_words answer.now) }
 {
     match answer {
         Answer::Paid(_) => page.markup("paid"),
@@ -164,21 +163,20 @@ fn put_answer_words(page: &mut Page, answer: &Answer) -> Result<(), AllocError>
     }
 }
 
-fn put_rejected(page: &mut Page, listed: &[Code]) -> Result<(), AllocError>
-    ensures { OnOk result (page.new.bytes.items ≡ page.old.bytes.items ++ (codes "rejected" ++ flat_map code_words listed.now)) }
+fn put_rejected(page: &mut Page, listed: &[Code])
+    ensures { Writes page.old page.new (codes "rejected" ++ flat_map code_words listed.now) }
 {
-    page.markup("rejected")?;
-    put_codes(page, listed)
+    page.markup("rejected");
+    put_codes(page, listed);
 }
 
 // Reject codes, each with its words.
-fn put_codes(page: &mut Page, listed: &[Code]) -> Result<(), AllocError>
-    ensures { OnOk result (page.new.bytes.items ≡ page.old.bytes.items ++ flat_map code_words listed.now) }
+fn put_codes(page: &mut Page, listed: &[Code])
+    ensures { Writes page.old page.new (flat_map code_words listed.now) }
 {
     for code in listed {
-        put_code_within(page, " <span><b>", "</b> ", "</span>", *code)?;
+        put_code_within(page, " <span><b>", "</b> ", "</span>", *code);
     }
-    Ok(())
 }
 
 /// Writes a reject code and its words, with markup before, between and after the two.
@@ -188,44 +186,38 @@ pub(crate) fn put_code_within(
     between: &'static str,
     end: &'static str,
     code: Code,
-) -> Result<(), AllocError>
-    ensures { OnOk result (page.new.bytes.items ≡ page.old.bytes.items ++ code_within front.now between.now end.now code) }
+)
+    ensures { Writes page.old page.new (code_within front.now between.now end.now code) }
 {
     let text = code.text();
-    page.markup(front)?;
-    page.put(&text)?;
-    page.markup(between)?;
-    page.markup(name(code))?;
-    page.markup(end)
+    page.markup(front);
+    page.put(&text);
+    page.markup(between);
+    page.markup(name(code));
+    page.markup(end);
 }
 
-fn put_cells(page: &mut Page, line: &Line, columns: &[Shown]) -> Result<(), AllocError>
-    ensures { OnOk result (page.new.bytes.items ≡ page.old.bytes.items ++ flat_map (data_cell line.now) columns.now) }
+fn put_cells(page: &mut Page, line: &Line, columns: &[Shown])
+    ensures { Writes page.old page.new (flat_map (data_cell line.now) columns.now) }
 {
     for shown in columns {
-        put_data(page, line, *shown)?;
+        put_data(page, line, *shown);
     }
-    Ok(())
 }
 
 #[tactic(auto, unfolding(crate::specs::Rows::data_cell))]
-fn put_data(page: &mut Page, line: &Line, shown: Shown) -> Result<(), AllocError>
-    ensures { OnOk result (page.new.bytes.items ≡ page.old.bytes.items ++ data_cell line.now shown) }
+fn put_data(page: &mut Page, line: &Line, shown: Shown)
+    ensures { Writes page.old page.new (data_cell line.now shown) }
 {
-    put_classed(page, class_of(shown), line, shown)
+    put_classed(page, class_of(shown), line, shown);
 }
 
-fn put_classed(
-    page: &mut Page,
-    class: &'static str,
-    line: &Line,
-    shown: Shown,
-) -> Result<(), AllocError>
-    ensures { OnOk result (page.new.bytes.items ≡ page.old.bytes.items ++ classed_cell class.now line.now shown) }
+fn put_classed(page: &mut Page, class: &'static str, line: &Line, shown: Shown)
+    ensures { Writes page.old page.new (classed_cell class.now line.now shown) }
 {
-    page.markup("<td class=\"")?;
-    page.markup(class)?;
-    page.markup("\">")?;
-    put_cell(page, shown, line)?;
-    page.markup("</td>")
+    page.markup("<td class=\"");
+    page.markup(class);
+    page.markup("\">");
+    put_cell(page, shown, line);
+    page.markup("</td>");
 }

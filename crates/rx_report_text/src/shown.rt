@@ -1,13 +1,13 @@
-ghost use Rattle.std.specs.Prelude.{◌≡◌, ◌++◌, ◌∷◌, IfOk, OnOk};
-ghost use Rattle.rx_print.specs.Dates.{dashed_digits};
+ghost use Rattle.std.specs.Prelude.{◌≡◌, ◌++◌, ◌∷◌, IfOk};
+ghost use Rattle.rx_print.specs.Page.{Writes};
 ghost use Rattle.rx_report.specs.Cells.{cell, cents_of};
 ghost use Rattle.rx_report.specs.declared.column.Column.TheVariants.{Nth, Place};
 ghost use Rattle.rx_report_text.specs.Shown.{amount_text, heading_of, is_amount, member_text, quantity_text, shown_cell};
 
-use rx_fields::{Id, Person};
-use rx_print::{Page, dashed_digits, put_signed_dollars};
-use rx_report::{Column, Line, cell_of, cents_of};
-use std::alloc::{AllocError, Global};
+use rx_fields::{Id, Memory, Person};
+use rx_print::{Page, dashed_digits};
+use rx_report::{Column, Dispensed, Line, cents_of, put_cell};
+use std::alloc::Global;
 
 /// A column of a report for people. The provider stands above its lines; the last four are on pages only.
 #[derive(Clone, Copy)]
@@ -108,83 +108,76 @@ impl Shown {
 }
 
 /// What stands for an answer in a column, as its bytes are; blank where it isn't known. Amounts are in dollars and cents.
-pub fn shown_cell(alloc: Global, shown: Shown, line: &Line) -> Result<Vec<u8>, AllocError>
+pub fn shown_cell(alloc: Global, shown: Shown, line: &Line) -> Result<Vec<u8>, Memory>
     ensures { IfOk result (λ text. text.items ≡ shown_cell shown line.now) }
 {
-    match shown {
-        Shown::Record => record_cell(alloc, line),
-        Shown::Answer => cell_of(alloc, Column::Status, line),
-        Shown::Codes => cell_of(alloc, Column::Codes, line),
-        Shown::Prescription => cell_of(alloc, Column::Prescription, line),
-        Shown::Date => date_cell(alloc, line.date),
-        Shown::Member => member_cell(alloc, line),
-        Shown::Allowed => amount_cell(alloc, Column::Allowed, line),
-        Shown::Deductible => amount_cell(alloc, Column::Deductible, line),
-        Shown::Copay => amount_cell(alloc, Column::Copay, line),
-        Shown::Coinsurance => amount_cell(alloc, Column::Coinsurance, line),
-        Shown::MemberPays => amount_cell(alloc, Column::Member, line),
-        Shown::PlanPays => amount_cell(alloc, Column::Plan, line),
-        Shown::Product => cell_of(alloc, Column::Product, line),
-        Shown::Quantity => quantity_cell(alloc, line),
-        Shown::Days => cell_of(alloc, Column::Days, line),
-        Shown::Authorization => cell_of(alloc, Column::Authorization, line),
-    }
-}
-
-#[tactic(auto, using(std::proofs::Common::append_assoc))]
-fn record_cell(alloc: Global, line: &Line) -> Result<Vec<u8>, AllocError>
-    ensures { IfOk result (λ text. text.items ≡ cell Place line.now ++ 46 ∷ cell Nth line.now) }
-{
-    let nth = cell_of(alloc, Column::Nth, line)?;
-    let mut text = cell_of(alloc, Column::Place, line)?;
-    text.push(b'.')?;
-    text.extend_from_slice(&nth)?;
-    Ok(text)
-}
-
-fn date_cell(alloc: Global, date: [u8; 8]) -> Result<Vec<u8>, AllocError>
-    ensures { IfOk result (λ text. text.items ≡ dashed_digits date) }
-{
-    Vec::from_slice(alloc, &dashed_digits(date))
-}
-
-fn member_cell(alloc: Global, line: &Line) -> Result<Vec<u8>, AllocError>
-    ensures { IfOk result (λ text. text.items ≡ member_text line.now.member) }
-{
-    let mut text = Vec::new(alloc);
-    match &line.member {
-        Some((family, person)) => put_member(&mut text, family, person)?,
-        None => {}
-    }
-    Ok(text)
-}
-
-#[tactic(auto, using(std::proofs::Common::append_assoc))]
-fn put_member(text: &mut Vec<u8>, family: &Id, person: &Person) -> Result<(), AllocError>
-    ensures { OnOk result (text.new.items ≡ text.old.items ++ (family.now ++ 47 ∷ person.now)) }
-{
-    text.extend_from_slice(family.bytes())?;
-    text.push(b'/')?;
-    text.extend_from_slice(person.bytes())
-}
-
-fn quantity_cell(alloc: Global, line: &Line) -> Result<Vec<u8>, AllocError>
-    ensures { IfOk result (λ text. text.items ≡ quantity_text line.now.dispensed) }
-{
     let mut page = Page::new(alloc);
-    match &line.dispensed {
-        Some(dispensed) => page.thousandths(dispensed.quantity.get())?,
-        None => {}
-    }
-    Ok(page.into_bytes())
+    put_shown(&mut page, shown, line);
+    page.into_bytes()
 }
 
-fn amount_cell(alloc: Global, column: Column, line: &Line) -> Result<Vec<u8>, AllocError>
-    ensures { IfOk result (λ text. text.items ≡ amount_text (cents_of column line.now.answer)) }
+fn put_shown(page: &mut Page, shown: Shown, line: &Line)
+    ensures { Writes page.old page.new (shown_cell shown line.now) }
 {
-    let mut text = Vec::new(alloc);
-    if let Some(cents) = cents_of(column, &line.answer) {
-        put_signed_dollars(&mut text, cents)?;
+    match shown {
+        Shown::Record => put_record(page, line),
+        Shown::Answer => put_cell(page, Column::Status, line),
+        Shown::Codes => put_cell(page, Column::Codes, line),
+        Shown::Prescription => put_cell(page, Column::Prescription, line),
+        Shown::Date => page.put(&dashed_digits(line.date)),
+        Shown::Member => put_member(page, &line.member),
+        Shown::Allowed => put_amount(page, Column::Allowed, line),
+        Shown::Deductible => put_amount(page, Column::Deductible, line),
+        Shown::Copay => put_amount(page, Column::Copay, line),
+        Shown::Coinsurance => put_amount(page, Column::Coinsurance, line),
+        Shown::MemberPays => put_amount(page, Column::Member, line),
+        Shown::PlanPays => put_amount(page, Column::Plan, line),
+        Shown::Product => put_cell(page, Column::Product, line),
+        Shown::Quantity => put_quantity(page, line.dispensed),
+        Shown::Days => put_cell(page, Column::Days, line),
+        Shown::Authorization => put_cell(page, Column::Authorization, line),
     }
-    Ok(text)
+}
+
+fn put_record(page: &mut Page, line: &Line)
+    ensures { Writes page.old page.new (cell Place line.now ++ 46 ∷ cell Nth line.now) }
+{
+    put_cell(page, Column::Place, line);
+    page.put(b".");
+    put_cell(page, Column::Nth, line);
+}
+
+fn put_member(page: &mut Page, member: &Option<(Id, Person)>)
+    ensures { Writes page.old page.new (member_text member.now) }
+{
+    match member {
+        Some((family, person)) => put_known_member(page, family, person),
+        None => {}
+    }
+}
+
+fn put_known_member(page: &mut Page, family: &Id, person: &Person)
+    ensures { Writes page.old page.new (family.now ++ 47 ∷ person.now) }
+{
+    page.put(family.bytes());
+    page.put(b"/");
+    page.put(person.bytes());
+}
+
+fn put_quantity(page: &mut Page, dispensed: Option<Dispensed>)
+    ensures { Writes page.old page.new (quantity_text dispensed) }
+{
+    match dispensed {
+        Some(dispensed) => page.thousandths(dispensed.quantity.get()),
+        None => {}
+    }
+}
+
+fn put_amount(page: &mut Page, column: Column, line: &Line)
+    ensures { Writes page.old page.new (amount_text (cents_of column line.now.answer)) }
+{
+    match cents_of(column, &line.answer) {
+        Some(cents) => page.signed_dollars(cents),
+        None => {}
+    }
 }

@@ -1,7 +1,8 @@
-ghost use Rattle.std.specs.Prelude.{◌≡◌, ◌++◌, [], codes, length, nat_le, sum_by, IfOk, OnOk};
+ghost use Rattle.std.specs.Prelude.{◌≡◌, ◌++◌, [], codes, length, nat_le, sum_by, IfOk};
 ghost use Rattle.std.specs.List.{enumerate_from};
 ghost use Rattle.rx_print.specs.Dates.{dashed};
 ghost use Rattle.rx_print.specs.Escape.{escaped};
+ghost use Rattle.rx_print.specs.Page.{Writes};
 ghost use Rattle.rx_print.specs.declared.style.Style.TheVariants.{Html};
 ghost use Rattle.rx_report_text.specs.Claims.{sections_text};
 ghost use Rattle.rx_report_text.specs.ClaimsShown.{shows_claims};
@@ -25,7 +26,7 @@ use rx_print::{Page, Style, dashed_digits};
 use rx_report::{Account, Portion, Section};
 use rx_settle::{Field, Tally};
 use rx_sorted::Ascending;
-use std::alloc::{AllocError, Global};
+use std::alloc::Global;
 
 /// How many lines of a whole batch a page shows at most; of more it has the table of providers only.
 pub const MOST_LINES: usize = 2000;
@@ -62,8 +63,8 @@ pub fn explained_page(
         &account.sections,
         &account.total,
         whys,
-    )?;
-    Ok(page.into_bytes())
+    );
+    page.into_bytes()
 }
 
 /// Head, title, what it comes to, why answers were rejected, the table of providers and what stands below it.
@@ -75,26 +76,25 @@ pub(crate) fn put_page(
     sections: &[Section<'_>],
     total: &Tally,
     whys: &Whys,
-) -> Result<(), AllocError>
-    ensures { OnOk result (page.new.bytes.items
-        ≡ page.old.bytes.items ++ parts_of_page layout head.now portion.entry sections.now total.now whys.now) }
+)
+    ensures { Writes page.old page.new (parts_of_page layout head.now portion.entry sections.now total.now whys.now) }
 {
-    put_head(page, layout, head.lot)?;
-    put_title(page, layout, head, portion)?;
-    put_summary(page, total)?;
-    put_rejects(page, sections, layout.has_claims())?;
-    put_providers(page, layout, portion, sections, total)?;
-    put_below(page, layout, head, sections, whys)?;
-    put_end(page)
+    put_head(page, layout, head.lot);
+    put_title(page, layout, head, portion);
+    put_summary(page, total);
+    put_rejects(page, sections, layout.has_claims());
+    put_providers(page, layout, portion, sections, total);
+    put_below(page, layout, head, sections, whys);
+    put_end(page);
 }
 
 // The script.
-fn put_end(page: &mut Page) -> Result<(), AllocError>
-    ensures { OnOk result (page.new.bytes.items ≡ page.old.bytes.items ++ end_text) }
+fn put_end(page: &mut Page)
+    ensures { Writes page.old page.new end_text }
 {
-    page.markup("<script>")?;
-    page.markup(SCRIPT)?;
-    page.markup("</script>\n</body>\n</html>\n")
+    page.markup("<script>");
+    page.markup(SCRIPT);
+    page.markup("</script>\n</body>\n</html>\n");
 }
 
 // The claims of each provider, or how they are had.
@@ -105,8 +105,8 @@ fn put_below(
     head: &PageHead<'_>,
     sections: &[Section<'_>],
     whys: &Whys,
-) -> Result<(), AllocError>
-    ensures { OnOk result (page.new.bytes.items ≡ page.old.bytes.items ++ below_table layout head.now sections.now whys.now) }
+)
+    ensures { Writes page.old page.new (below_table layout head.now sections.now whys.now) }
 {
     match layout {
         Layout::Claims | Layout::Leaf(_) => put_claims_part(page, sections, whys),
@@ -115,21 +115,20 @@ fn put_below(
     }
 }
 
-fn put_claims_part(page: &mut Page, sections: &[Section<'_>], whys: &Whys) -> Result<(), AllocError>
-    ensures { OnOk result (page.new.bytes.items
-        ≡ page.old.bytes.items ++ claims_part (sections_text whys.now (enumerate_from 0 sections.now))) }
+fn put_claims_part(page: &mut Page, sections: &[Section<'_>], whys: &Whys)
+    ensures { Writes page.old page.new (claims_part (sections_text whys.now (enumerate_from 0 sections.now))) }
 {
-    page.markup("<div id=\"claims\">\n")?;
-    put_sections(page, sections, whys)?;
-    page.markup("</div>\n</main>\n")
+    page.markup("<div id=\"claims\">\n");
+    put_sections(page, sections, whys);
+    page.markup("</div>\n</main>\n");
 }
 
-fn put_command_part(page: &mut Page, origin: &Origin<'_>) -> Result<(), AllocError>
-    ensures { OnOk result (page.new.bytes.items ≡ page.old.bytes.items ++ claims_part (too_many_text origin.now)) }
+fn put_command_part(page: &mut Page, origin: &Origin<'_>)
+    ensures { Writes page.old page.new (claims_part (too_many_text origin.now)) }
 {
-    page.markup("<div id=\"claims\">\n")?;
-    put_command(page, origin)?;
-    page.markup("</div>\n</main>\n")
+    page.markup("<div id=\"claims\">\n");
+    put_command(page, origin);
+    page.markup("</div>\n</main>\n");
 }
 
 /// Whether the page of an account has its claims, and not the table of providers only: those of a portion, and those of
@@ -157,30 +156,30 @@ fn are_few(sections: &[Section<'_>]) -> bool
     true
 }
 
-fn put_head(page: &mut Page, layout: Layout, lot: Lot) -> Result<(), AllocError>
-    ensures { OnOk result (page.new.bytes.items ≡ page.old.bytes.items ++ head_text layout lot) }
+fn put_head(page: &mut Page, layout: Layout, lot: Lot)
+    ensures { Writes page.old page.new (head_text layout lot) }
 {
-    page.markup("<!DOCTYPE html>\n<html lang=\"en\">\n<head>\n<meta charset=\"utf-8\">\n")?;
-    page.markup(POLICY)?;
+    page.markup("<!DOCTYPE html>\n<html lang=\"en\">\n<head>\n<meta charset=\"utf-8\">\n");
+    page.markup(POLICY);
     page.markup(
         "<meta name=\"viewport\" content=\"width=device-width, initial-scale=1\">\n<title>",
-    )?;
-    put_called(page, layout, lot)?;
-    page.markup("</title>\n")?;
-    put_style(page, lot)?;
-    page.markup("</head>\n<body>\n")?;
-    page.markup(skip_text(layout))
+    );
+    put_called(page, layout, lot);
+    page.markup("</title>\n");
+    put_style(page, lot);
+    page.markup("</head>\n<body>\n");
+    page.markup(skip_text(layout));
 }
 
 // How the page looks; on paper the batch stands at the head of each sheet.
-fn put_style(page: &mut Page, lot: Lot) -> Result<(), AllocError>
-    ensures { OnOk result (page.new.bytes.items ≡ page.old.bytes.items ++ style_text lot) }
+fn put_style(page: &mut Page, lot: Lot)
+    ensures { Writes page.old page.new (style_text lot) }
 {
-    page.markup("<style>\n")?;
-    page.markup(STYLE)?;
-    page.markup("@page{@top-left{content:'")?;
-    put_lot(page, lot)?;
-    page.markup("'}}\n</style>\n")
+    page.markup("<style>\n");
+    page.markup(STYLE);
+    page.markup("@page{@top-left{content:'");
+    put_lot(page, lot);
+    page.markup("'}}\n</style>\n");
 }
 
 // The first link, past what stands at the head.
@@ -196,8 +195,8 @@ fn skip_text(layout: Layout) -> &'static str
 }
 
 // What the page is called.
-fn put_called(page: &mut Page, layout: Layout, lot: Lot) -> Result<(), AllocError>
-    ensures { OnOk result (page.new.bytes.items ≡ page.old.bytes.items ++ called_text layout lot) }
+fn put_called(page: &mut Page, layout: Layout, lot: Lot)
+    ensures { Writes page.old page.new (called_text layout lot) }
 {
     match layout {
         Layout::Leaf(provider) => put_called_after(page, lot, &provider),
@@ -206,41 +205,35 @@ fn put_called(page: &mut Page, layout: Layout, lot: Lot) -> Result<(), AllocErro
 }
 
 #[tactic(auto, using(std::proofs::Common::append_assoc))]
-fn put_called_after(page: &mut Page, lot: Lot, provider: &Field) -> Result<(), AllocError>
-    ensures { OnOk result (page.new.bytes.items
-        ≡ page.old.bytes.items ++ (lot_text lot ++ (codes ", provider " ++ provider_text provider.now))) }
+fn put_called_after(page: &mut Page, lot: Lot, provider: &Field)
+    ensures { Writes page.old page.new (lot_text lot ++ (codes ", provider " ++ provider_text provider.now)) }
 {
-    put_lot(page, lot)?;
-    page.markup(", provider ")?;
-    put_provider_text(page, provider)
+    put_lot(page, lot);
+    page.markup(", provider ");
+    put_provider_text(page, provider);
 }
 
 #[tactic(auto, using(std::proofs::Common::append_assoc))]
-fn put_lot(page: &mut Page, lot: Lot) -> Result<(), AllocError>
-    ensures { OnOk result (page.new.bytes.items ≡ page.old.bytes.items ++ lot_text lot) }
+fn put_lot(page: &mut Page, lot: Lot)
+    ensures { Writes page.old page.new (lot_text lot) }
 {
     let number: [u8; 7] = digits_write(u64::from(lot.number()));
-    page.markup("Batch ")?;
-    page.escaped(Style::Html, &number)
+    page.markup("Batch ");
+    page.escaped(Style::Html, &number);
 }
 
 // The batch, its date, whose lines the page has, and its origin.
-fn put_title(
-    page: &mut Page,
-    layout: Layout,
-    head: &PageHead<'_>,
-    portion: Portion<'_>,
-) -> Result<(), AllocError>
-    ensures { OnOk result (page.new.bytes.items ≡ page.old.bytes.items ++ title_text layout head.now portion.entry) }
+fn put_title(page: &mut Page, layout: Layout, head: &PageHead<'_>, portion: Portion<'_>)
+    ensures { Writes page.old page.new (title_text layout head.now portion.entry) }
 {
-    page.markup(header_text(layout))?;
-    put_lot(page, head.lot)?;
-    page.markup("</h1>\n<p>created ")?;
-    put_day(page, head.lot.created())?;
-    put_whose(page, layout, portion)?;
-    page.markup("; amounts in dollars</p>\n")?;
-    put_origin(page, head)?;
-    page.markup(print_text(layout.has_claims()))
+    page.markup(header_text(layout));
+    put_lot(page, head.lot);
+    page.markup("</h1>\n<p>created ");
+    put_day(page, head.lot.created());
+    put_whose(page, layout, portion);
+    page.markup("; amounts in dollars</p>\n");
+    put_origin(page, head);
+    page.markup(print_text(layout.has_claims()));
 }
 
 // The front of the header; of a page in a folder with the way to the first.
@@ -267,15 +260,15 @@ fn print_text(has_claims: bool) -> &'static str
 }
 
 // A day as `2026-03-05`.
-fn put_day(page: &mut Page, day: Day) -> Result<(), AllocError>
-    ensures { OnOk result (page.new.bytes.items ≡ page.old.bytes.items ++ escaped Html (dashed day)) }
+fn put_day(page: &mut Page, day: Day)
+    ensures { Writes page.old page.new (escaped Html (dashed day)) }
 {
-    page.escaped(Style::Html, &dashed_digits(date_write(day)))
+    page.escaped(Style::Html, &dashed_digits(date_write(day)));
 }
 
 // Whose lines the page has.
-fn put_whose(page: &mut Page, layout: Layout, portion: Portion<'_>) -> Result<(), AllocError>
-    ensures { OnOk result (page.new.bytes.items ≡ page.old.bytes.items ++ whose_text layout portion.entry) }
+fn put_whose(page: &mut Page, layout: Layout, portion: Portion<'_>)
+    ensures { Writes page.old page.new (whose_text layout portion.entry) }
 {
     match layout {
         Layout::Leaf(provider) => put_leaf_whose(page, &provider, portion),
@@ -284,27 +277,26 @@ fn put_whose(page: &mut Page, layout: Layout, portion: Portion<'_>) -> Result<()
 }
 
 // Those of a provider, and of the family, if it is one.
-fn put_leaf_whose(page: &mut Page, provider: &Field, portion: Portion<'_>) -> Result<(), AllocError>
-    ensures { OnOk result (page.new.bytes.items
-        ≡ page.old.bytes.items ++ (codes ", only provider " ++ (provider_text provider.now ++ leaf_portion_text portion.entry))) }
+fn put_leaf_whose(page: &mut Page, provider: &Field, portion: Portion<'_>)
+    ensures { Writes page.old page.new (codes ", only provider " ++ (provider_text provider.now ++ leaf_portion_text portion.entry)) }
 {
-    page.markup(", only provider ")?;
-    put_provider_text(page, provider)?;
-    put_leaf_portion(page, portion)
+    page.markup(", only provider ");
+    put_provider_text(page, provider);
+    put_leaf_portion(page, portion);
 }
 
 // The same on a page that names its provider.
-fn put_leaf_portion(page: &mut Page, portion: Portion<'_>) -> Result<(), AllocError>
-    ensures { OnOk result (page.new.bytes.items ≡ page.old.bytes.items ++ leaf_portion_text portion.entry) }
+fn put_leaf_portion(page: &mut Page, portion: Portion<'_>)
+    ensures { Writes page.old page.new (leaf_portion_text portion.entry) }
 {
     match portion {
-        Portion::Whole | Portion::Provider(_) => Ok(()),
+        Portion::Whole | Portion::Provider(_) => {}
         Portion::Family(id) => put_family(page, id),
     }
 }
 
-fn put_portion(page: &mut Page, portion: Portion<'_>) -> Result<(), AllocError>
-    ensures { OnOk result (page.new.bytes.items ≡ page.old.bytes.items ++ portion_text portion.entry) }
+fn put_portion(page: &mut Page, portion: Portion<'_>)
+    ensures { Writes page.old page.new (portion_text portion.entry) }
 {
     match portion {
         Portion::Whole => page.markup(", all providers"),
@@ -313,39 +305,38 @@ fn put_portion(page: &mut Page, portion: Portion<'_>) -> Result<(), AllocError>
     }
 }
 
-fn put_only(page: &mut Page, id: &[u8]) -> Result<(), AllocError>
-    ensures { OnOk result (page.new.bytes.items ≡ page.old.bytes.items ++ (codes ", only provider " ++ escaped Html id.now)) }
+fn put_only(page: &mut Page, id: &[u8])
+    ensures { Writes page.old page.new (codes ", only provider " ++ escaped Html id.now) }
 {
-    page.markup(", only provider ")?;
-    page.escaped(Style::Html, id)
+    page.markup(", only provider ");
+    page.escaped(Style::Html, id);
 }
 
-fn put_family(page: &mut Page, id: &[u8]) -> Result<(), AllocError>
-    ensures { OnOk result (page.new.bytes.items ≡ page.old.bytes.items ++ family_text id.now) }
+fn put_family(page: &mut Page, id: &[u8])
+    ensures { Writes page.old page.new (family_text id.now) }
 {
-    page.markup(", the lines of family ")?;
-    page.escaped(Style::Html, id)?;
-    page.markup("; counts and net are of these")
+    page.markup(", the lines of family ");
+    page.escaped(Style::Html, id);
+    page.markup("; counts and net are of these");
 }
 
 // Each provider's claims.
-fn put_sections(page: &mut Page, sections: &[Section<'_>], whys: &Whys) -> Result<(), AllocError>
-    ensures { OnOk result (page.new.bytes.items ≡ page.old.bytes.items ++ sections_text whys.now (enumerate_from 0 sections.now)) }
+fn put_sections(page: &mut Page, sections: &[Section<'_>], whys: &Whys)
+    ensures { Writes page.old page.new (sections_text whys.now (enumerate_from 0 sections.now)) }
 {
     for (before, section) in sections.iter().enumerate() {
-        put_claims(page, before, section, whys)?;
+        put_claims(page, before, section, whys);
     }
-    Ok(())
 }
 
 // How the claims are had.
-fn put_command(page: &mut Page, origin: &Origin<'_>) -> Result<(), AllocError>
-    ensures { OnOk result (page.new.bytes.items ≡ page.old.bytes.items ++ too_many_text origin.now) }
+fn put_command(page: &mut Page, origin: &Origin<'_>)
+    ensures { Writes page.old page.new (too_many_text origin.now) }
 {
     page.markup(
         "<p>These are too many claims for one page. A page for each provider, and one that leads to them, are made by</p>\n",
-    )?;
-    page.markup("<pre>rxbatch report ")?;
-    put_text(page, origin.options)?;
-    page.markup(" --html-dir DIR</pre>\n")
+    );
+    page.markup("<pre>rxbatch report ");
+    put_text(page, origin.options);
+    page.markup(" --html-dir DIR</pre>\n");
 }

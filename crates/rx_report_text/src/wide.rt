@@ -3,9 +3,9 @@ ghost use Rattle.rx_report_text.specs.Columns.{printed, wide, wide_columns, wide
 
 use crate::shown::{COLUMNS, Shown, shown_cell};
 use rx_fields::Memory;
-use rx_print::{Style, put_escaped};
+use rx_print::{Page, Style};
 use rx_report::{Line, Section};
-use std::alloc::{AllocError, Global};
+use std::alloc::Global;
 
 // A column with its width in bytes.
 #[derive(Clone, Copy)]
@@ -36,7 +36,7 @@ fn all_wide(alloc: Global, sections: &[Section<'_>], columns: &[Shown]) -> Resul
     Ok(wides)
 }
 
-fn width_of(alloc: Global, shown: Shown, sections: &[Section<'_>]) -> Result<usize, AllocError>
+fn width_of(alloc: Global, shown: Shown, sections: &[Section<'_>]) -> Result<usize, Memory>
     ensures { IfOk result (λ width. width ≡ width_of sections.now shown) }
 {
     let mut width = shown.heading().len();
@@ -46,7 +46,7 @@ fn width_of(alloc: Global, shown: Shown, sections: &[Section<'_>]) -> Result<usi
     Ok(width)
 }
 
-fn widened(alloc: Global, shown: Shown, heading: usize, lines: &[Line]) -> Result<usize, AllocError>
+fn widened(alloc: Global, shown: Shown, heading: usize, lines: &[Line]) -> Result<usize, Memory>
     ensures { IfOk result (λ width. width ≡ widened shown heading lines.now) }
 {
     let mut width = heading;
@@ -56,7 +56,7 @@ fn widened(alloc: Global, shown: Shown, heading: usize, lines: &[Line]) -> Resul
     Ok(width)
 }
 
-fn wider(alloc: Global, shown: Shown, width: usize, line: &Line) -> Result<usize, AllocError>
+fn wider(alloc: Global, shown: Shown, width: usize, line: &Line) -> Result<usize, Memory>
     ensures { IfOk result (λ wider. wider ≡ max width (length (printed shown line.now))) }
 {
     let cell = printed(alloc, shown, line)?;
@@ -64,11 +64,11 @@ fn wider(alloc: Global, shown: Shown, width: usize, line: &Line) -> Result<usize
 }
 
 /// What is printed for an answer in a column.
-pub(crate) fn printed(alloc: Global, shown: Shown, line: &Line) -> Result<Vec<u8>, AllocError>
+pub(crate) fn printed(alloc: Global, shown: Shown, line: &Line) -> Result<Vec<u8>, Memory>
     ensures { IfOk result (λ text. text.items ≡ printed shown line.now) }
 {
     let cell = shown_cell(alloc, shown, line)?;
-    let mut text = Vec::new(alloc);
-    put_escaped(&mut text, Style::Terminal, &cell)?;
-    Ok(text)
+    let mut page = Page::new(alloc);
+    page.escaped(Style::Terminal, &cell);
+    page.into_bytes()
 }

@@ -1,150 +1,128 @@
-ghost use Rattle.std.specs.Prelude.{◌≡◌, ◌++◌, ◌∷◌, ◌<◌, ◌^◌, ◌+◌, [], codes, IfOk, OnOk, length};
+ghost use Rattle.std.specs.Prelude.{◌≡◌, ◌++◌, ◌∷◌, ◌<◌, ◌^◌, ◌+◌, [], codes, IfOk, length};
 ghost use Rattle.std.specs.Fmt.{decimal};
 ghost use Rattle.std.specs.List.{join_with_byte};
 ghost use Rattle.rx_fields.specs.Calendar.{date_text};
 ghost use Rattle.rx_print.specs.CodeList.{code_list};
+ghost use Rattle.rx_print.specs.Page.{Writes};
 ghost use Rattle.rx_show.specs.Lines.{bill_words, body_lines, rejected_line, reversal_words};
-ghost use Rattle.rx_show.specs.Lines.{shown_lines, transaction_lines, words_of};
+ghost use Rattle.rx_show.specs.Lines.{shown_lines, transaction_line, transaction_lines, words_of};
 
 use rx_d0_values::{BillParts, Body, Heard, Rejected, Reversal, Transaction, Transmission};
 use rx_fields::{Memory, Reference, date_write};
-use rx_print::put_codes;
-use std::alloc::{AllocError, Global};
+use rx_print::Page;
+use std::alloc::Global;
 
 /// A line for each transaction, and one for each rejected header, of transmissions in file order (docs/CLI.md,
 /// "show").
 pub fn show_lines(alloc: Global, transmissions: &[Transmission]) -> Result<Vec<u8>, Memory>
     ensures { IfOk result (λ text. text.items ≡ shown_lines transmissions.now) }
 {
-    let mut text = Vec::new(alloc);
+    let mut page = Page::new(alloc);
     for (before, transmission) in transmissions.iter().enumerate() {
-        put_body(alloc, &mut text, before + 1, &transmission.body)?;
+        put_body(&mut page, before + 1, &transmission.body);
     }
-    Ok(text)
+    page.into_bytes()
 }
 
 // The lines of the record at a place.
-fn put_body(alloc: Global, text: &mut Vec<u8>, place: usize, body: &Body) -> Result<(), AllocError>
-    ensures { OnOk result (text.new.items ≡ text.old.items ++ body_lines place body.now) }
+fn put_body(page: &mut Page, place: usize, body: &Body)
+    ensures { Writes page.old page.new (body_lines place body.now) }
 {
     match body {
-        Body::Rejected(rejected) => put_rejected(alloc, text, place, rejected),
-        Body::Heard(heard) => put_transactions(alloc, text, place, heard),
+        Body::Rejected(rejected) => put_rejected(page, place, rejected),
+        Body::Heard(heard) => put_transactions(page, place, heard),
     }
+}
+
+fn put_transactions(page: &mut Page, place: usize, heard: &Heard)
+    ensures { Writes page.old page.new (transaction_lines place heard.now 1 heard.now.list) }
+{
+    for (before, transaction) in heard.list.as_slice().iter().enumerate() {
+        put_line(page, place, before + 1, heard, transaction);
+    }
+}
+
+// The line of the nth transaction of the record at a place.
+#[tactic(auto, using(std::proofs::Common::append_assoc))]
+fn put_line(page: &mut Page, place: usize, nth: usize, heard: &Heard, transaction: &Transaction)
+    ensures { Writes page.old page.new (transaction_line place heard.now nth transaction.now) }
+{
+    put_place(page, place, nth);
+    page.put(b" ");
+    put_transaction(page, heard, transaction);
+    page.put(b"\n");
 }
 
 #[tactic(auto, using(std::proofs::Common::append_assoc))]
-fn put_transactions(
-    alloc: Global,
-    text: &mut Vec<u8>,
-    place: usize,
-    heard: &Heard,
-) -> Result<(), AllocError>
-    ensures { OnOk result (text.new.items ≡ text.old.items ++ transaction_lines place heard.now 1 heard.now.list) }
-{
-    for (before, transaction) in heard.list.as_slice().iter().enumerate() {
-        put_place(alloc, text, place, before + 1)?;
-        text.push(b' ')?;
-        put_transaction(alloc, text, heard, transaction)?;
-        text.extend_from_slice(b"\n")?;
-    }
-    Ok(())
-}
-
-fn put_transaction(
-    alloc: Global,
-    text: &mut Vec<u8>,
-    heard: &Heard,
-    transaction: &Transaction,
-) -> Result<(), AllocError>
-    ensures { OnOk result (text.new.items ≡ text.old.items ++ join_with_byte 32 (words_of heard.now transaction.now)) }
+fn put_transaction(page: &mut Page, heard: &Heard, transaction: &Transaction)
+    ensures { Writes page.old page.new (join_with_byte 32 (words_of heard.now transaction.now)) }
 {
     match transaction {
-        Transaction::Bill(bill) => put_bill(alloc, text, heard, bill.parts()),
-        Transaction::Reverse(reversal) => put_reversal(alloc, text, heard, reversal),
+        Transaction::Bill(bill) => put_bill(page, heard, bill.parts()),
+        Transaction::Reverse(reversal) => put_reversal(page, heard, reversal),
         Transaction::Faulty(faulty) => {
-            text.extend_from_slice(b"faulty ")?;
-            put_codes(text, &faulty.codes)
+            page.put(b"faulty ");
+            page.codes(&faulty.codes)
         }
     }
 }
 
 #[tactic(auto, using(std::proofs::Common::append_assoc))]
-fn put_bill(
-    alloc: Global,
-    text: &mut Vec<u8>,
-    heard: &Heard,
-    bill: &BillParts,
-) -> Result<(), AllocError>
-    ensures { OnOk result (text.new.items ≡ text.old.items ++ join_with_byte 32 (bill_words heard.now bill.now)) }
+fn put_bill(page: &mut Page, heard: &Heard, bill: &BillParts)
+    ensures { Writes page.old page.new (join_with_byte 32 (bill_words heard.now bill.now)) }
 {
-    text.extend_from_slice(b"bill ")?;
-    put_key(alloc, text, heard, bill.reference)?;
-    put_word(text, bill.family.bytes())?;
-    put_word(text, bill.person.bytes())
+    page.put(b"bill ");
+    put_key(page, heard, bill.reference);
+    put_word(page, bill.family.bytes());
+    put_word(page, bill.person.bytes());
 }
 
-fn put_reversal(
-    alloc: Global,
-    text: &mut Vec<u8>,
-    heard: &Heard,
-    reversal: &Reversal,
-) -> Result<(), AllocError>
-    ensures { OnOk result (text.new.items ≡ text.old.items ++ join_with_byte 32 (reversal_words heard.now reversal.now)) }
+#[tactic(auto, using(std::proofs::Common::append_assoc))]
+fn put_reversal(page: &mut Page, heard: &Heard, reversal: &Reversal)
+    ensures { Writes page.old page.new (join_with_byte 32 (reversal_words heard.now reversal.now)) }
 {
-    text.extend_from_slice(b"reverse ")?;
-    put_key(alloc, text, heard, reversal.reference)
+    page.put(b"reverse ");
+    put_key(page, heard, reversal.reference);
 }
 
 // Provider, prescription reference number and date of service.
-fn put_key(
-    alloc: Global,
-    text: &mut Vec<u8>,
-    heard: &Heard,
-    reference: Reference,
-) -> Result<(), AllocError>
-    ensures { OnOk result (text.new.items ≡ text.old.items ++ join_with_byte 32
+#[tactic(auto, using(std::proofs::Common::append_assoc))]
+fn put_key(page: &mut Page, heard: &Heard, reference: Reference)
+    ensures { Writes page.old page.new (join_with_byte 32
         (heard.now.provider ∷ decimal reference ∷ date_text heard.now.date ∷ [])) }
 {
-    text.extend_from_slice(heard.provider.bytes())?;
-    let number = reference.get();
-    let reference = format!(in alloc; " {number} ")?;
-    text.extend_from_slice(reference.as_str().as_bytes())?;
-    text.extend_from_slice(&date_write(heard.date))
+    page.put(heard.provider.bytes());
+    page.put(b" ");
+    page.number(u128::from(reference.get()));
+    put_word(page, &date_write(heard.date));
 }
 
 /// Puts the line of the record at a place whose header is rejected.
-pub(crate) fn put_rejected(
-    alloc: Global,
-    text: &mut Vec<u8>,
-    place: usize,
-    rejected: &Rejected,
-) -> Result<(), AllocError>
-    ensures { OnOk result (text.new.items ≡ text.old.items ++ rejected_line place rejected.now) }
+#[tactic(auto, using(std::proofs::Common::append_assoc))]
+pub(crate) fn put_rejected(page: &mut Page, place: usize, rejected: &Rejected)
+    ensures { Writes page.old page.new (rejected_line place rejected.now) }
 {
-    put_place(alloc, text, place, 0)?;
-    text.extend_from_slice(b" rejected ")?;
-    put_codes(text, &rejected.codes)?;
-    text.extend_from_slice(b"\n")
+    put_place(page, place, 0);
+    page.put(b" rejected ");
+    page.codes(&rejected.codes);
+    page.put(b"\n");
 }
 
 /// Puts a record's place in its file, a blank, and the place in the record.
-pub(crate) fn put_place(
-    alloc: Global,
-    text: &mut Vec<u8>,
-    place: usize,
-    nth: usize,
-) -> Result<(), AllocError>
-    ensures { OnOk result (text.new.items ≡ text.old.items ++ join_with_byte 32 (decimal place ∷ decimal nth ∷ [])) }
+#[tactic(auto, using(std::proofs::Common::append_assoc))]
+pub(crate) fn put_place(page: &mut Page, place: usize, nth: usize)
+    ensures { Writes page.old page.new (join_with_byte 32 (decimal place ∷ decimal nth ∷ [])) }
 {
-    let places = format!(in alloc; "{place} {nth}")?;
-    text.extend_from_slice(places.as_str().as_bytes())
+    page.number(place as u128);
+    page.put(b" ");
+    page.number(nth as u128);
 }
 
 // A word after a blank.
-fn put_word(text: &mut Vec<u8>, word: &[u8]) -> Result<(), AllocError>
-    ensures { OnOk result (text.new.items ≡ text.old.items ++ 32 ∷ word.now) }
+#[tactic(auto, using(std::proofs::Common::append_assoc))]
+fn put_word(page: &mut Page, word: &[u8])
+    ensures { Writes page.old page.new (32 ∷ word.now) }
 {
-    text.push(b' ')?;
-    text.extend_from_slice(word)
+    page.put(b" ");
+    page.put(word);
 }

@@ -1,14 +1,14 @@
 //! What the answers that differ come to.
-ghost use Rattle.std.specs.Prelude.{◌≡◌, ◌≤◌, ◌<◌, ◌^◌, ◌+◌, ◌++◌, ◌-ℤ◌, OnOk, pos};
+ghost use Rattle.std.specs.Prelude.{◌≡◌, ◌≤◌, ◌<◌, ◌^◌, ◌+◌, ◌++◌, ◌-ℤ◌, pos};
 ghost use Rattle.std.specs.Fmt.{signed_decimal};
 ghost use Rattle.rx_commands.specs.Differing.{both, gain, less, more};
 ghost use Rattle.rx_commands.specs.Changes.{added, cents_of, weight};
 ghost use Rattle.rx_settle.specs.Answers.{paid_out, taken_back};
+ghost use Rattle.rx_print.specs.Page.{Writes};
 
-use rx_print::{Page, put_signed};
+use rx_print::Page;
 use rx_report::Line;
 use rx_settle::Tally;
-use std::alloc::AllocError;
 
 /// How many answers differ, and the cents that they move. Its numbers are wide enough for all answers that fit in memory.
 #[derive(Clone, Copy)]
@@ -51,19 +51,12 @@ pub(crate) fn gain_of(given: &Line, changed: &Line) -> i128
 
 /// Puts this in cents, between these texts.
 #[tactic(auto, using(std::proofs::Common::append_assoc))]
-pub(crate) fn put_gain(
-    page: &mut Page,
-    front: &[u8],
-    given: &Line,
-    changed: &Line,
-    end: &[u8],
-) -> Result<(), AllocError>
-    ensures { OnOk result (page.new.bytes.items ≡ page.old.bytes.items
-        ++ (front.now ++ (signed_decimal (gain (both given.now changed.now)) ++ end.now))) }
+pub(crate) fn put_gain(page: &mut Page, front: &[u8], given: &Line, changed: &Line, end: &[u8])
+    ensures { Writes page.old page.new (front.now ++ (signed_decimal (gain (both given.now changed.now)) ++ end.now)) }
 {
-    page.put(front)?;
-    put_signed(&mut page.bytes, gain_of(given, changed))?;
-    page.put(end)
+    page.put(front);
+    page.signed(gain_of(given, changed));
+    page.put(end);
 }
 
 // By how much the one is more than the other.

@@ -1,9 +1,10 @@
 //! The answers that differ, written one after another in a form.
-ghost use Rattle.std.specs.Prelude.{◌≡◌, ◌≤◌, ◌<◌, ◌^◌, ◌+◌, ◌++◌, IfOk, OnOk};
+ghost use Rattle.std.specs.Prelude.{◌≡◌, ◌≤◌, ◌<◌, ◌^◌, ◌+◌};
 ghost use Rattle.rx_commands.specs.Changes.{after, no_change, weight};
 ghost use Rattle.rx_commands.specs.ComparedText.{end_text, front_text, line_after, lines_after, separator};
 ghost use Rattle.rx_commands.specs.Changes.{cents_of};
 ghost use Rattle.rx_commands.specs.Differing.{both, differing_by, differing_of, entries_of};
+ghost use Rattle.rx_print.specs.Page.{Writes};
 
 use super::change::Change;
 use super::differing::are_one;
@@ -15,14 +16,13 @@ use rx_fields::Lot;
 use rx_print::Page;
 use rx_report::Line;
 use rx_settle::Tally;
-use std::alloc::AllocError;
 
 /// Puts what stands before all lines.
-pub(crate) fn put_front(page: &mut Page, form: CompareForm) -> Result<(), AllocError>
-    ensures { OnOk result (page.new.bytes.items ≡ page.old.bytes.items ++ front_text form) }
+pub(crate) fn put_front(page: &mut Page, form: CompareForm)
+    ensures { Writes page.old page.new (front_text form) }
 {
     match form {
-        CompareForm::Words => Ok(()),
+        CompareForm::Words => {}
         CompareForm::Tsv => put_heading(page),
         CompareForm::Json => page.put(b"{\"lines\":["),
     }
@@ -36,12 +36,12 @@ pub(crate) fn put_lines(
     lines: &[Line],
     with_replies: &[Reply],
     with_lines: &[Line],
-) -> Result<Change, AllocError>
-    ensures lines { OnOk result (page.new.bytes.items ≡ page.old.bytes.items ++ lines_after form 0
+) -> Change
+    ensures lines { Writes page.old page.new (lines_after form 0
         (differing_of (entries_of replies.now lines.now) (entries_of with_replies.now with_lines.now))) }
-    ensures change { IfOk result (λ change. change ≡ after no_change
-        (differing_of (entries_of replies.now lines.now) (entries_of with_replies.now with_lines.now))) }
-    ensures within { IfOk result (λ change. weight change < 2 ^ 127) }
+    ensures change { result ≡ after no_change
+        (differing_of (entries_of replies.now lines.now) (entries_of with_replies.now with_lines.now)) }
+    ensures within { weight result < 2 ^ 127 }
 {
     let mut change = Change {
         count: 0,
@@ -52,9 +52,9 @@ pub(crate) fn put_lines(
         let given = &lines[at];
         let changed = &with_lines[at];
         let is_one = are_one(replies, given, with_replies, changed);
-        put_unless(page, form, &mut change, is_one, given, changed)?;
+        put_unless(page, form, &mut change, is_one, given, changed);
     }
-    Ok(change)
+    change
 }
 
 // Puts the line of two answers, unless they are one, and counts it.
@@ -65,50 +65,41 @@ fn put_unless(
     is_one: bool,
     given: &Line,
     changed: &Line,
-) -> Result<(), AllocError>
+)
     requires { weight change.old + 400_000_001 < 2 ^ 127 }
-    ensures lines { OnOk result (page.new.bytes.items ≡ page.old.bytes.items
-        ++ lines_after form change.old.count (differing_by is_one given.now changed.now)) }
-    ensures change { OnOk result (change.new ≡ after change.old (differing_by is_one given.now changed.now)) }
-    ensures within { OnOk result (weight change.new ≤ weight change.old + 400_000_001) }
+    ensures lines { Writes page.old page.new (lines_after form change.old.count (differing_by is_one given.now changed.now)) }
+    ensures change { change.new ≡ after change.old (differing_by is_one given.now changed.now) }
+    ensures within { weight change.new ≤ weight change.old + 400_000_001 }
 {
     if is_one {
-        return Ok(());
+        return;
     }
-    put_line(page, form, change.count, given, changed)?;
+    put_line(page, form, change.count, given, changed);
     change.add(given, changed);
-    Ok(())
 }
 
 // Puts the line of an answer that differs, after this many.
-fn put_line(
-    page: &mut Page,
-    form: CompareForm,
-    before: u128,
-    given: &Line,
-    changed: &Line,
-) -> Result<(), AllocError>
-    ensures { OnOk result (page.new.bytes.items
-        ≡ page.old.bytes.items ++ line_after form before (both given.now changed.now)) }
+fn put_line(page: &mut Page, form: CompareForm, before: u128, given: &Line, changed: &Line)
+    ensures { Writes page.old page.new (line_after form before (both given.now changed.now)) }
 {
     match form {
         CompareForm::Words => words::put_words(page, given, changed),
         CompareForm::Tsv => put_row(page, given, changed),
         CompareForm::Json => {
-            put_separator(page, before)?;
+            put_separator(page, before);
             objects::put_object(page, given, changed)
         }
     }
 }
 
 // What parts an object from those before it.
-fn put_separator(page: &mut Page, before: u128) -> Result<(), AllocError>
-    ensures { OnOk result (page.new.bytes.items ≡ page.old.bytes.items ++ separator before) }
+fn put_separator(page: &mut Page, before: u128)
+    ensures { Writes page.old page.new (separator before) }
 {
     if before == 0 {
-        return Ok(());
+        return;
     }
-    page.put(b",\n")
+    page.put(b",\n");
 }
 
 /// Puts what stands after all lines.
@@ -119,14 +110,13 @@ pub(crate) fn put_end(
     given: &Tally,
     changed: &Tally,
     change: &Change,
-) -> Result<(), AllocError>
+)
     requires { weight change.now < 2 ^ 127 }
-    ensures { OnOk result (page.new.bytes.items ≡ page.old.bytes.items
-        ++ end_text form lot given.now changed.now change.now.count (cents_of change.now)) }
+    ensures { Writes page.old page.new (end_text form lot given.now changed.now change.now.count (cents_of change.now)) }
 {
     match form {
         CompareForm::Words => words::put_end(page, given, changed, change),
-        CompareForm::Tsv => Ok(()),
+        CompareForm::Tsv => {}
         CompareForm::Json => objects::put_end(page, lot, given, changed, change),
     }
 }

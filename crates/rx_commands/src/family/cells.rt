@@ -1,10 +1,10 @@
-ghost use Rattle.std.specs.Prelude.{◌≡◌, ◌++◌, OnOk};
+ghost use Rattle.std.specs.Prelude.{◌≡◌};
 ghost use Rattle.rx_commands.specs.FamilyCells.{cell, is_number, left_cell, name_of, names_of_reached, reached_cell};
+ghost use Rattle.rx_print.specs.Page.{Writes};
 
 use crate::family::sums::Claim;
 use rx_fields::date_write;
 use rx_print::Page;
-use std::alloc::AllocError;
 
 /// What a table says of a family's claim.
 #[derive(Clone, Copy)]
@@ -103,8 +103,8 @@ impl Column {
 }
 
 /// Writes a claim's cell of a column.
-pub(crate) fn put_cell(page: &mut Page, column: Column, claim: &Claim) -> Result<(), AllocError>
-    ensures { OnOk result (page.new.bytes.items ≡ page.old.bytes.items ++ cell column claim.now) }
+pub(crate) fn put_cell(page: &mut Page, column: Column, claim: &Claim)
+    ensures { Writes page.old page.new (cell column claim.now) }
 {
     let row = &claim.row;
     let amounts = row.pricing.amounts();
@@ -135,12 +135,12 @@ pub(crate) fn put_cell(page: &mut Page, column: Column, claim: &Claim) -> Result
     }
 }
 
-fn put_left(page: &mut Page, left: Option<u64>) -> Result<(), AllocError>
-    ensures { OnOk result (page.new.bytes.items ≡ page.old.bytes.items ++ left_cell left) }
+fn put_left(page: &mut Page, left: Option<u64>)
+    ensures { Writes page.old page.new (left_cell left) }
 {
     match left {
         Some(cents) => page.number(u128::from(cents)),
-        None => Ok(()),
+        None => {}
     }
 }
 

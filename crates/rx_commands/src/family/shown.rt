@@ -6,6 +6,7 @@ ghost use Rattle.rx_sheet.specs.Fault.{Gives};
 ghost use Rattle.rx_commands.specs.Families.{summed_over};
 ghost use Rattle.rx_commands.specs.FamilyShown.{IsAsked, IsFamilyShown, IsNoFamilyShown, IsPortion, IsPortionOf};
 ghost use Rattle.rx_commands.specs.FamilyShown.{family_text, figures_of, limits_under, period_under};
+ghost use Rattle.rx_print.specs.Page.{Writes};
 
 use crate::family::columns::put_page;
 use crate::family::families::{Family, family_of, part_of};
@@ -162,11 +163,17 @@ pub fn family_text(alloc: Global, family: &Family, form: FamilyForm<'_>) -> Resu
     ensures { IfOk result (λ text. text.items ≡ family_text form.entry family.now) }
 {
     let mut page = Page::new(alloc);
+    put_text(&mut page, family, form);
+    page.into_bytes()
+}
+
+fn put_text(page: &mut Page, family: &Family, form: FamilyForm<'_>)
+    ensures { Writes page.old page.new (family_text form.entry family.now) }
+{
     match form {
-        FamilyForm::Columns => put_page(&mut page, family)?,
-        FamilyForm::Tsv => put_tsv(&mut page, &family.claims)?,
-        FamilyForm::Json => put_family(&mut page, family)?,
-        FamilyForm::Html(origin) => put_html(&mut page, &origin, family)?,
+        FamilyForm::Columns => put_page(page, family),
+        FamilyForm::Tsv => put_tsv(page, &family.claims),
+        FamilyForm::Json => put_family(page, family),
+        FamilyForm::Html(origin) => put_html(page, &origin, family),
     }
-    Ok(page.into_bytes())
 }

@@ -1,115 +1,112 @@
 //! A family as a table of tabs and as JSON.
-ghost use Rattle.std.specs.Prelude.{◌≡◌, ◌++◌, OnOk};
+ghost use Rattle.std.specs.Prelude.{◌≡◌};
 ghost use Rattle.std.specs.List.{enumerate_from, flat_map};
-ghost use Rattle.rx_report.specs.Texts.{quoted};
 ghost use Rattle.rx_commands.specs.FamilyTables.{claim_json, claims_json, comma_after, comma_member, day_json};
 ghost use Rattle.rx_commands.specs.FamilyTables.{family_json, head_json, heading, json_member, json_value, left_json, member_json};
 ghost use Rattle.rx_commands.specs.FamilyTables.{members_json, reached_json, row, span_json, tab_cell, tab_name, total_json, totals_json};
 ghost use Rattle.rx_commands.specs.FamilyTables.{tsv_text};
+ghost use Rattle.rx_print.specs.Page.{Writes};
 
 use crate::family::cells::{Column, OTHERS, put_cell};
 use crate::family::families::{Family, FamilyMember, Total};
 use crate::family::sums::Claim;
-use rx_fields::{Day, Period, date_write, digits_write};
+use rx_fields::{Day, Memory, Period, date_write, digits_write};
 use rx_ledger::Row;
 use rx_print::{Page, dashed_digits};
 use rx_report::put_quoted;
-use std::alloc::AllocError;
 
 /// Writes the claims as a table: a heading, and a row for each, with a tab between each two cells.
-pub(crate) fn put_tsv(page: &mut Page, claims: &[Claim]) -> Result<(), AllocError>
-    ensures { OnOk result (page.new.bytes.items ≡ page.old.bytes.items ++ tsv_text claims.now) }
+pub(crate) fn put_tsv(page: &mut Page, claims: &[Claim])
+    ensures { Writes page.old page.new (tsv_text claims.now) }
 {
-    put_heading(page)?;
-    put_rows(page, claims)
+    put_heading(page);
+    put_rows(page, claims);
 }
 
 #[tactic(auto, using(std::proofs::Common::append_assoc))]
-fn put_heading(page: &mut Page) -> Result<(), AllocError>
-    ensures { OnOk result (page.new.bytes.items ≡ page.old.bytes.items ++ heading) }
+fn put_heading(page: &mut Page)
+    ensures { Writes page.old page.new heading }
 {
-    page.put(Column::Date.name())?;
-    put_names(page, &OTHERS)?;
-    page.put(b"\n")
+    page.put(Column::Date.name());
+    put_names(page, &OTHERS);
+    page.put(b"\n");
 }
 
 // Each name after a tab.
-fn put_names(page: &mut Page, columns: &[Column]) -> Result<(), AllocError>
-    ensures { OnOk result (page.new.bytes.items ≡ page.old.bytes.items ++ flat_map tab_name columns.now) }
+fn put_names(page: &mut Page, columns: &[Column])
+    ensures { Writes page.old page.new (flat_map tab_name columns.now) }
 {
     for column in columns {
-        page.put(b"\t")?;
-        page.put(column.name())?;
+        page.put(b"\t");
+        page.put(column.name());
     }
-    Ok(())
 }
 
 #[tactic(auto, using(std::proofs::Common::append_assoc))]
-fn put_row(page: &mut Page, claim: &Claim) -> Result<(), AllocError>
-    ensures { OnOk result (page.new.bytes.items ≡ page.old.bytes.items ++ row claim.now) }
+fn put_row(page: &mut Page, claim: &Claim)
+    ensures { Writes page.old page.new (row claim.now) }
 {
-    put_cell(page, Column::Date, claim)?;
-    put_cells(page, claim, &OTHERS)?;
-    page.put(b"\n")
+    put_cell(page, Column::Date, claim);
+    put_cells(page, claim, &OTHERS);
+    page.put(b"\n");
 }
 
 // Each cell after a tab.
-fn put_cells(page: &mut Page, claim: &Claim, columns: &[Column]) -> Result<(), AllocError>
-    ensures { OnOk result (page.new.bytes.items ≡ page.old.bytes.items ++ flat_map (tab_cell claim.now) columns.now) }
+fn put_cells(page: &mut Page, claim: &Claim, columns: &[Column])
+    ensures { Writes page.old page.new (flat_map (tab_cell claim.now) columns.now) }
 {
     for column in columns {
-        page.put(b"\t")?;
-        put_cell(page, *column, claim)?;
+        page.put(b"\t");
+        put_cell(page, *column, claim);
     }
-    Ok(())
 }
 
 /// Writes the family as one object of JSON. What isn't known is `null`.
-pub(crate) fn put_family(page: &mut Page, family: &Family) -> Result<(), AllocError>
-    ensures { OnOk result (page.new.bytes.items ≡ page.old.bytes.items ++ family_json family.now) }
+pub(crate) fn put_family(page: &mut Page, family: &Family)
+    ensures { Writes page.old page.new (family_json family.now) }
 {
-    put_head(page, family)?;
-    page.put(b",\n\"members\":[")?;
-    put_members(page, &family.members)?;
-    page.put(b"],\n")?;
-    put_totals(page, family)?;
-    page.put(b",\n\"claims\":[")?;
-    put_claims(page, &family.claims)?;
-    page.put(b"]}\n")
+    put_head(page, family);
+    page.put(b",\n\"members\":[");
+    put_members(page, &family.members);
+    page.put(b"],\n");
+    put_totals(page, family);
+    page.put(b",\n\"claims\":[");
+    put_claims(page, &family.claims);
+    page.put(b"]}\n");
 }
 
-fn put_head(page: &mut Page, family: &Family) -> Result<(), AllocError>
-    ensures { OnOk result (page.new.bytes.items ≡ page.old.bytes.items ++ head_json family.now) }
+fn put_head(page: &mut Page, family: &Family)
+    ensures { Writes page.old page.new (head_json family.now) }
 {
-    page.put(b"{\"family\":")?;
-    put_string(page, family.id.bytes())?;
-    page.put(b",")?;
-    put_span(page, family.period)
+    page.put(b"{\"family\":");
+    put_quoted(page, family.id.bytes());
+    page.put(b",");
+    put_span(page, family.period);
 }
 
-fn put_totals(page: &mut Page, family: &Family) -> Result<(), AllocError>
-    ensures { OnOk result (page.new.bytes.items ≡ page.old.bytes.items ++ totals_json family.now) }
+fn put_totals(page: &mut Page, family: &Family)
+    ensures { Writes page.old page.new (totals_json family.now) }
 {
-    page.put(b"\"family_deductible\":")?;
-    put_total(page, &family.deductible)?;
-    page.put(b",\n\"out_of_pocket\":")?;
-    put_total(page, &family.out_of_pocket)
+    page.put(b"\"family_deductible\":");
+    put_total(page, &family.deductible);
+    page.put(b",\n\"out_of_pocket\":");
+    put_total(page, &family.out_of_pocket);
 }
 
-fn put_total(page: &mut Page, total: &Total) -> Result<(), AllocError>
-    ensures { OnOk result (page.new.bytes.items ≡ page.old.bytes.items ++ total_json total.now) }
+fn put_total(page: &mut Page, total: &Total)
+    ensures { Writes page.old page.new (total_json total.now) }
 {
-    page.put(b"{\"sum\":")?;
-    page.number(total.sum)?;
-    page.put(b",\"left\":")?;
-    put_left(page, total.left)?;
-    page.put(b",\"reached\":")?;
-    put_reached(page, &total.reached)?;
-    page.put(b"}")
+    page.put(b"{\"sum\":");
+    page.number(total.sum);
+    page.put(b",\"left\":");
+    put_left(page, total.left);
+    page.put(b",\"reached\":");
+    put_reached(page, &total.reached);
+    page.put(b"}");
 }
 
-fn put_left(page: &mut Page, left: Option<u64>) -> Result<(), AllocError>
-    ensures { OnOk result (page.new.bytes.items ≡ page.old.bytes.items ++ left_json left) }
+fn put_left(page: &mut Page, left: Option<u64>)
+    ensures { Writes page.old page.new (left_json left) }
 {
     match left {
         Some(cents) => page.number(u128::from(cents)),
@@ -117,53 +114,53 @@ fn put_left(page: &mut Page, left: Option<u64>) -> Result<(), AllocError>
     }
 }
 
-fn put_reached(page: &mut Page, reached: &Option<Row>) -> Result<(), AllocError>
-    ensures { OnOk result (page.new.bytes.items ≡ page.old.bytes.items ++ reached_json reached.now) }
+fn put_reached(page: &mut Page, reached: &Option<Row>)
+    ensures { Writes page.old page.new (reached_json reached.now) }
 {
-    let Some(row) = reached else {
-        return page.put(b"null");
-    };
-    let digits: [u8; 15] = digits_write(row.number.get());
-    put_string(page, &digits)
+    if let Some(row) = reached {
+        let digits: [u8; 15] = digits_write(row.number.get());
+        put_quoted(page, &digits);
+    } else {
+        page.put(b"null");
+    }
 }
 
-fn put_day(page: &mut Page, day: Day) -> Result<(), AllocError>
-    ensures { OnOk result (page.new.bytes.items ≡ page.old.bytes.items ++ day_json day) }
+fn put_day(page: &mut Page, day: Day)
+    ensures { Writes page.old page.new (day_json day) }
 {
-    put_string(page, &dashed_digits(date_write(day)))
+    put_quoted(page, &dashed_digits(date_write(day)));
 }
 
 #[tactic(auto, using(std::proofs::Common::append_assoc), unfolding(crate::specs::FamilyTables::span_json))]
-fn put_span(page: &mut Page, span: Period) -> Result<(), AllocError>
-    ensures { OnOk result (page.new.bytes.items ≡ page.old.bytes.items ++ span_json span) }
+fn put_span(page: &mut Page, span: Period)
+    ensures { Writes page.old page.new (span_json span) }
 {
-    page.put(b"\"first\":")?;
-    put_day(page, span.first())?;
-    page.put(b",\"last\":")?;
-    put_day(page, span.last())
+    page.put(b"\"first\":");
+    put_day(page, span.first());
+    page.put(b",\"last\":");
+    put_day(page, span.last());
 }
 
 // The members, each on a line of its own, with a comma before all but the first.
-fn put_members(page: &mut Page, members: &[FamilyMember]) -> Result<(), AllocError>
-    ensures { OnOk result (page.new.bytes.items ≡ page.old.bytes.items ++ members_json (enumerate_from 0 members.now)) }
+fn put_members(page: &mut Page, members: &[FamilyMember])
+    ensures { Writes page.old page.new (members_json (enumerate_from 0 members.now)) }
 {
     for (before, member) in members.iter().enumerate() {
-        put_member(page, before, member)?;
+        put_member(page, before, member);
     }
-    Ok(())
 }
 
-fn put_member(page: &mut Page, before: usize, shown: &FamilyMember) -> Result<(), AllocError>
-    ensures { OnOk result (page.new.bytes.items ≡ page.old.bytes.items ++ member_json before shown.now) }
+fn put_member(page: &mut Page, before: usize, shown: &FamilyMember)
+    ensures { Writes page.old page.new (member_json before shown.now) }
 {
-    page.put(comma_after(before))?;
-    page.put(b"{\"person\":")?;
-    put_string(page, shown.member.key.person.bytes())?;
-    page.put(b",")?;
-    put_span(page, shown.member.coverage)?;
-    page.put(b",\"deductible\":")?;
-    put_total(page, &shown.deductible)?;
-    page.put(b"}")
+    page.put(comma_after(before));
+    page.put(b"{\"person\":");
+    put_quoted(page, shown.member.key.person.bytes());
+    page.put(b",");
+    put_span(page, shown.member.coverage);
+    page.put(b",\"deductible\":");
+    put_total(page, &shown.deductible);
+    page.put(b"}");
 }
 
 // What stands between an item and this many before it.
@@ -174,73 +171,66 @@ fn comma_after(before: usize) -> &'static [u8]
 }
 
 #[tactic(auto, using(std::proofs::Common::append_assoc), unfolding(crate::specs::FamilyTables::claim_json))]
-fn put_claim(page: &mut Page, before: usize, claim: &Claim) -> Result<(), AllocError>
-    ensures { OnOk result (page.new.bytes.items ≡ page.old.bytes.items ++ claim_json before claim.now) }
+fn put_claim(page: &mut Page, before: usize, claim: &Claim)
+    ensures { Writes page.old page.new (claim_json before claim.now) }
 {
-    page.put(comma_after(before))?;
-    page.put(b"{")?;
-    put_named(page, claim, Column::Date)?;
-    put_others(page, claim, &OTHERS)?;
-    page.put(b"}")
+    page.put(comma_after(before));
+    page.put(b"{");
+    put_named(page, claim, Column::Date);
+    put_others(page, claim, &OTHERS);
+    page.put(b"}");
 }
 
 // The claims in the same way.
-fn put_claims(page: &mut Page, claims: &[Claim]) -> Result<(), AllocError>
-    ensures { OnOk result (page.new.bytes.items ≡ page.old.bytes.items ++ claims_json (enumerate_from 0 claims.now)) }
+fn put_claims(page: &mut Page, claims: &[Claim])
+    ensures { Writes page.old page.new (claims_json (enumerate_from 0 claims.now)) }
 {
     for (before, claim) in claims.iter().enumerate() {
-        put_claim(page, before, claim)?;
+        put_claim(page, before, claim);
     }
-    Ok(())
 }
 
 #[tactic(auto, using(std::proofs::Common::append_assoc))]
-fn put_named(page: &mut Page, claim: &Claim, column: Column) -> Result<(), AllocError>
-    ensures { OnOk result (page.new.bytes.items ≡ page.old.bytes.items ++ json_member claim.now column) }
+fn put_named(page: &mut Page, claim: &Claim, column: Column)
+    ensures { Writes page.old page.new (json_member claim.now column) }
 {
     let mut value = Page::new(page.alloc());
-    put_cell(&mut value, column, claim)?;
-    let value = value.into_bytes();
-    page.put(b"\"")?;
-    page.put(column.name())?;
-    page.put(b"\":")?;
-    put_value(page, column, &value)
+    put_cell(&mut value, column, claim);
+    page.put(b"\"");
+    page.put(column.name());
+    page.put(b"\":");
+    match value.into_bytes() {
+        Ok(value) => put_value(page, column, &value),
+        Err(Memory) => page.lacks = true,
+    }
 }
 
 // Each member of the object after a comma.
-fn put_others(page: &mut Page, claim: &Claim, columns: &[Column]) -> Result<(), AllocError>
-    ensures { OnOk result (page.new.bytes.items ≡ page.old.bytes.items ++ flat_map (comma_member claim.now) columns.now) }
+fn put_others(page: &mut Page, claim: &Claim, columns: &[Column])
+    ensures { Writes page.old page.new (flat_map (comma_member claim.now) columns.now) }
 {
     for column in columns {
-        page.put(b",")?;
-        put_named(page, claim, *column)?;
+        page.put(b",");
+        put_named(page, claim, *column);
     }
-    Ok(())
 }
 
-fn put_string(page: &mut Page, bytes: &[u8]) -> Result<(), AllocError>
-    ensures { OnOk result (page.new.bytes.items ≡ page.old.bytes.items ++ quoted bytes.now) }
-{
-    put_quoted(&mut page.bytes, bytes)
-}
-
-fn put_value(page: &mut Page, column: Column, value: &[u8]) -> Result<(), AllocError>
-    ensures { OnOk result (page.new.bytes.items ≡ page.old.bytes.items ++ json_value column value.now) }
+fn put_value(page: &mut Page, column: Column, value: &[u8])
+    ensures { Writes page.old page.new (json_value column value.now) }
 {
     if value.is_empty() {
-        return page.put(b"null");
+        page.put(b"null");
+    } else if column.is_number() {
+        page.put(value);
+    } else {
+        put_quoted(page, value);
     }
-    if column.is_number() {
-        return page.put(value);
-    }
-    put_string(page, value)
 }
 
-fn put_rows(page: &mut Page, claims: &[Claim]) -> Result<(), AllocError>
-    ensures { OnOk result (page.new.bytes.items ≡ page.old.bytes.items ++ flat_map row claims.now) }
+fn put_rows(page: &mut Page, claims: &[Claim])
+    ensures { Writes page.old page.new (flat_map row claims.now) }
 {
     for claim in claims {
-        put_row(page, claim)?;
+        put_row(page, claim);
     }
-    Ok(())
 }

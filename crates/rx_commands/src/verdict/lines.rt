@@ -1,5 +1,5 @@
-ghost use Rattle.std.specs.Prelude.{◌≡◌, ◌≤◌, ◌++◌, IfOk, OnOk, codes};
-ghost use Rattle.std.specs.Fmt.{decimal};
+ghost use Rattle.std.specs.Prelude.{◌≡◌, ◌≤◌, IfOk};
+ghost use Rattle.rx_print.specs.Page.{Writes};
 ghost use Rattle.rx_switch.specs.Job.{texts_in};
 ghost use Rattle.rx_commands.specs.Verdict.{difference_lines, end_of, first_of, front_text, option_line, place_line};
 ghost use Rattle.rx_commands.specs.Verdict.{place_words, same_line, shown_piece, sized, verdict_text, word_of};
@@ -10,9 +10,9 @@ use crate::verdict::{Verified, are_none};
 use rx_batch::ETX;
 use rx_fields::Memory;
 use rx_io::Outputs;
-use rx_print::{Style, put_decimal, put_escaped, put_grouped};
+use rx_print::{Page, Style};
 use rx_switch::Output;
-use std::alloc::{AllocError, Global};
+use std::alloc::Global;
 
 // How many bytes of a line or record are shown.
 const LONGEST: usize = 60;
@@ -67,159 +67,126 @@ pub(crate) fn verdict_text(
     ensures { IfOk result (λ text. text.items ≡ verdict_text (texts_in verified.now.output)
         (texts_in_files files.now) verified.now.differences) }
 {
-    let mut text = Vec::new(alloc);
+    let mut page = Page::new(alloc);
     if are_none(&verified.differences) {
-        put_same(&mut text, &verified.output)?;
+        put_same(&mut page, &verified.output);
     } else {
-        put_differences(&mut text, verified, files)?;
+        put_differences(&mut page, verified, files);
     }
-    Ok(text)
+    page.into_bytes()
 }
 
 // The line that the files are the same, with the sizes of all three.
-#[tactic(auto, using(std::proofs::Common::append_assoc))]
-fn put_same(text: &mut Vec<u8>, output: &Output) -> Result<(), AllocError>
-    ensures { OnOk result (text.new.items ≡ text.old.items ++ same_line (texts_in output.now)) }
+fn put_same(page: &mut Page, output: &Output)
+    ensures { Writes page.old page.new (same_line (texts_in output.now)) }
 {
-    put_size(text, b"same: response ", &output.response)?;
-    put_size(text, b" bytes, books ", &output.books)?;
-    put_size(text, b", settlement ", &output.settlement)?;
-    text.extend_from_slice(b"\n")
+    put_size(page, b"same: response ", &output.response);
+    put_size(page, b" bytes, books ", &output.books);
+    put_size(page, b", settlement ", &output.settlement);
+    page.put(b"\n");
 }
 
 // A file's size, after the words that say which it is.
 #[tactic(auto, using(std::proofs::Common::append_assoc), unfolding(crate::specs::Verdict::sized))]
-fn put_size(text: &mut Vec<u8>, words: &[u8], file: &[u8]) -> Result<(), AllocError>
-    ensures { OnOk result (text.new.items ≡ text.old.items ++ sized words.now file.now) }
+fn put_size(page: &mut Page, words: &[u8], file: &[u8])
+    ensures { Writes page.old page.new (sized words.now file.now) }
 {
-    text.extend_from_slice(words)?;
-    put_grouped(text, file.len() as u64)
+    page.put(words);
+    page.grouped(file.len() as u64);
 }
 
 // A line for each file that differs.
 #[tactic(auto, using(std::proofs::Common::append_assoc))]
-fn put_differences(
-    text: &mut Vec<u8>,
-    verified: &Verified,
-    files: &Outputs<&[u8]>,
-) -> Result<(), AllocError>
-    ensures { OnOk result (text.new.items ≡ text.old.items ++ difference_lines (texts_in verified.now.output)
+fn put_differences(page: &mut Page, verified: &Verified, files: &Outputs<&[u8]>)
+    ensures { Writes page.old page.new (difference_lines (texts_in verified.now.output)
         (texts_in_files files.now) verified.now.differences) }
 {
     let (ours, found) = (&verified.output, verified.differences);
     put_difference(
-        text,
+        page,
         b"response",
         Cut::Record,
         &ours.response,
         files.response,
         found.response,
-    )?;
+    );
     put_difference(
-        text,
+        page,
         b"books",
         Cut::Line,
         &ours.books,
         files.books,
         found.books,
-    )?;
+    );
     put_difference(
-        text,
+        page,
         b"settlement",
         Cut::Line,
         &ours.settlement,
         files.settlement,
         found.settlement,
-    )
+    );
 }
 
 // The line of one file, where it differs.
 fn put_difference(
-    text: &mut Vec<u8>,
+    page: &mut Page,
     name: &[u8],
     cut: Cut,
     ours: &[u8],
     theirs: &[u8],
     at: Option<usize>,
-) -> Result<(), AllocError>
-    ensures { OnOk result (text.new.items ≡ text.old.items ++ option_line name.now cut ours.now theirs.now at) }
+)
+    ensures { Writes page.old page.new (option_line name.now cut ours.now theirs.now at) }
 {
     match at {
-        Some(at) => put_place(text, name, cut, ours, theirs, at),
-        None => Ok(()),
+        Some(at) => put_place(page, name, cut, ours, theirs, at),
+        None => {}
     }
 }
 
 #[tactic(auto, using(std::proofs::Common::append_assoc))]
-fn put_place(
-    text: &mut Vec<u8>,
-    name: &[u8],
-    cut: Cut,
-    ours: &[u8],
-    theirs: &[u8],
-    at: usize,
-) -> Result<(), AllocError>
-    ensures { OnOk result (text.new.items ≡ text.old.items ++ place_line name.now cut ours.now theirs.now at) }
+fn put_place(page: &mut Page, name: &[u8], cut: Cut, ours: &[u8], theirs: &[u8], at: usize)
+    ensures { Writes page.old page.new (place_line name.now cut ours.now theirs.now at) }
 {
-    put_words(text, name, cut, pieces_before(ours, at, cut.end()), at)?;
-    put_piece(text, cut, theirs, at)?;
-    text.extend_from_slice(b", replay ")?;
-    put_piece(text, cut, ours, at)?;
-    text.extend_from_slice(b"\n")
+    put_words(page, name, cut, pieces_before(ours, at, cut.end()), at);
+    put_piece(page, cut, theirs, at);
+    page.put(b", replay ");
+    put_piece(page, cut, ours, at);
+    page.put(b"\n");
 }
 
 // Which line or record of a file it is, and which byte of the file.
-#[tactic(auto, using(std::proofs::Common::append_assoc))]
-fn put_words(
-    text: &mut Vec<u8>,
-    name: &[u8],
-    cut: Cut,
-    number: usize,
-    at: usize,
-) -> Result<(), AllocError>
-    ensures { OnOk result (text.new.items ≡ text.old.items ++ place_words name.now cut number at) }
+fn put_words(page: &mut Page, name: &[u8], cut: Cut, number: usize, at: usize)
+    ensures { Writes page.old page.new (place_words name.now cut number at) }
 {
-    put_named(text, name, cut)?;
-    put_numbers(text, number as u128 + cut.first(), at as u128)
-}
-
-#[tactic(auto, using(std::proofs::Common::append_assoc))]
-fn put_named(text: &mut Vec<u8>, name: &[u8], cut: Cut) -> Result<(), AllocError>
-    ensures { OnOk result (text.new.items ≡ text.old.items ++ (name.now ++ (codes ": " ++ (word_of cut ++ codes " ")))) }
-{
-    text.extend_from_slice(name)?;
-    text.extend_from_slice(b": ")?;
-    text.extend_from_slice(cut.word())?;
-    text.extend_from_slice(b" ")
-}
-
-#[tactic(auto, using(std::proofs::Common::append_assoc))]
-fn put_numbers(text: &mut Vec<u8>, number: u128, at: u128) -> Result<(), AllocError>
-    ensures { OnOk result (text.new.items ≡ text.old.items ++ (decimal number
-        ++ (codes " differs from byte " ++ (decimal at ++ codes ": file ")))) }
-{
-    put_decimal(text, number)?;
-    text.extend_from_slice(b" differs from byte ")?;
-    put_decimal(text, at)?;
-    text.extend_from_slice(b": file ")
+    page.put(name);
+    page.put(b": ");
+    page.put(cut.word());
+    page.put(b" ");
+    page.number(number as u128 + cut.first());
+    page.put(b" differs from byte ");
+    page.number(at as u128);
+    page.put(b": file ");
 }
 
 // What stands from a place to the end of its line or record.
-fn put_piece(text: &mut Vec<u8>, cut: Cut, file: &[u8], at: usize) -> Result<(), AllocError>
-    ensures { OnOk result (text.new.items ≡ text.old.items ++ shown_piece cut file.now at) }
+fn put_piece(page: &mut Page, cut: Cut, file: &[u8], at: usize)
+    ensures { Writes page.old page.new (shown_piece cut file.now at) }
 {
-    put_front(text, rest_of_piece(file, at, cut.end()))
+    put_front(page, rest_of_piece(file, at, cut.end()));
 }
 
 // Bytes as a terminal shows them, of many the front only.
 #[tactic(auto, using(std::proofs::Common::append_assoc))]
-fn put_front(text: &mut Vec<u8>, bytes: &[u8]) -> Result<(), AllocError>
-    ensures { OnOk result (text.new.items ≡ text.old.items ++ front_text bytes.now) }
+fn put_front(page: &mut Page, bytes: &[u8])
+    ensures { Writes page.old page.new (front_text bytes.now) }
 {
     if bytes.len() <= LONGEST {
-        return put_escaped(text, Style::Terminal, bytes);
+        page.escaped(Style::Terminal, bytes);
+        return;
     }
     let front = &bytes[..LONGEST];
-    put_escaped(text, Style::Terminal, front)?;
-    text.extend_from_slice(b"..")
+    page.escaped(Style::Terminal, front);
+    page.put(b"..");
 }

@@ -1,9 +1,10 @@
-ghost use Rattle.std.specs.Prelude.{◌≡◌, ◌++◌, ◌∷◌, [], IfOk, OnOk, codes};
+ghost use Rattle.std.specs.Prelude.{◌≡◌, ◌++◌, ◌∷◌, [], IfOk, codes};
 ghost use Rattle.std.specs.Fmt.{decimal};
-ghost use Rattle.std.specs.List.{flat_map, join_with_byte};
+ghost use Rattle.std.specs.List.{flat_map};
 ghost use Rattle.rx_d0_values.specs.Priced.{patient_pay, total_paid};
 ghost use Rattle.rx_fields.specs.Digits.{digits_text};
 ghost use Rattle.rx_d0_reply.specs.Fault.{fault_code};
+ghost use Rattle.rx_print.specs.Page.{Writes};
 ghost use Rattle.rx_settle.specs.Providers.{named};
 ghost use Rattle.rx_show.specs.Lines.{line};
 ghost use Rattle.rx_show.specs.ReplyLines.{after_blank, amount_words, answer_line, answer_lines, answer_words, found_lines};
@@ -15,207 +16,175 @@ use crate::lines::{put_place, put_rejected};
 use rx_d0_reply::ReplyFault;
 use rx_d0_values::{Answer, Approved, EchoParts, Outcome, Paid, Pricing, Refused};
 use rx_fields::{Authorization, Memory, Provider, Reference, digits_write};
-use rx_print::put_codes;
-use std::alloc::{AllocError, Global};
+use rx_print::Page;
+use std::alloc::Global;
 
 /// The lines of what the details of a response file hold, in file order (docs/CLI.md, "replies"). Amounts are in
 /// cents.
 pub fn reply_lines(alloc: Global, found: &[Found]) -> Result<Vec<u8>, Memory>
     ensures { IfOk result (λ text. text.items ≡ reply_lines found.now) }
 {
-    let mut text = Vec::new(alloc);
+    let mut page = Page::new(alloc);
     for (before, one) in found.iter().enumerate() {
-        put_found(alloc, &mut text, before + 1, one)?;
+        put_found(&mut page, before + 1, one);
     }
-    Ok(text)
+    page.into_bytes()
 }
 
 // The lines of the record at a place.
-fn put_found(
-    alloc: Global,
-    text: &mut Vec<u8>,
-    place: usize,
-    found: &Found,
-) -> Result<(), AllocError>
-    ensures { OnOk result (text.new.items ≡ text.old.items ++ found_lines place found.now) }
+#[tactic(auto, using(std::proofs::Common::append_assoc))]
+fn put_found(page: &mut Page, place: usize, found: &Found)
+    ensures { Writes page.old page.new (found_lines place found.now) }
 {
     match found {
-        Found::Reply(reply) => put_outcome(alloc, text, place, reply.echo.parts(), &reply.outcome),
+        Found::Reply(reply) => put_outcome(page, place, reply.echo.parts(), &reply.outcome),
         Found::Unreadable(fault) => {
-            put_place(alloc, text, place, 0)?;
-            put_fault(alloc, text, *fault)
+            put_place(page, place, 0);
+            put_fault(page, *fault)
         }
     }
 }
 
 // Why a record holds no reply, and the line's end.
-fn put_fault(alloc: Global, text: &mut Vec<u8>, fault: ReplyFault) -> Result<(), AllocError>
-    ensures { OnOk result (text.new.items ≡ text.old.items ++ 32 ∷ line (codes "unreadable" ∷ decimal (fault_code fault) ∷ [])) }
+#[tactic(auto, using(std::proofs::Common::append_assoc))]
+fn put_fault(page: &mut Page, fault: ReplyFault)
+    ensures { Writes page.old page.new (32 ∷ line (codes "unreadable" ∷ decimal (fault_code fault) ∷ [])) }
 {
-    let code = fault.code();
-    let words = format!(in alloc; " unreadable {code}\n")?;
-    text.extend_from_slice(words.as_str().as_bytes())
+    page.put(b" unreadable ");
+    page.number(u128::from(fault.code()));
+    page.put(b"\n");
 }
 
-fn put_outcome(
-    alloc: Global,
-    text: &mut Vec<u8>,
-    place: usize,
-    echo: &EchoParts,
-    outcome: &Outcome,
-) -> Result<(), AllocError>
-    ensures { OnOk result (text.new.items ≡ text.old.items ++ outcome_lines place echo.now outcome.now) }
+fn put_outcome(page: &mut Page, place: usize, echo: &EchoParts, outcome: &Outcome)
+    ensures { Writes page.old page.new (outcome_lines place echo.now outcome.now) }
 {
     match outcome {
-        Outcome::Rejected(rejected) => put_rejected(alloc, text, place, rejected),
-        Outcome::Heard(answers) => put_answers(alloc, text, place, echo, answers.as_slice()),
+        Outcome::Rejected(rejected) => put_rejected(page, place, rejected),
+        Outcome::Heard(answers) => put_answers(page, place, echo, answers.as_slice()),
     }
 }
 
-fn put_answers(
-    alloc: Global,
-    text: &mut Vec<u8>,
-    place: usize,
-    echo: &EchoParts,
-    answers: &[Answer],
-) -> Result<(), AllocError>
-    ensures { OnOk result (text.new.items ≡ text.old.items ++ answer_lines place echo.now 1 answers.now) }
+fn put_answers(page: &mut Page, place: usize, echo: &EchoParts, answers: &[Answer])
+    ensures { Writes page.old page.new (answer_lines place echo.now 1 answers.now) }
 {
     for (before, answer) in answers.iter().enumerate() {
-        put_line(alloc, text, place, before + 1, echo, answer)?;
+        put_line(page, place, before + 1, echo, answer);
     }
-    Ok(())
 }
 
 // The line of the nth answer of the record at a place.
-fn put_line(
-    alloc: Global,
-    text: &mut Vec<u8>,
-    place: usize,
-    nth: usize,
-    echo: &EchoParts,
-    answer: &Answer,
-) -> Result<(), AllocError>
-    ensures { OnOk result (text.new.items ≡ text.old.items ++ answer_line place echo.now nth answer.now) }
+#[tactic(auto, using(std::proofs::Common::append_assoc))]
+fn put_line(page: &mut Page, place: usize, nth: usize, echo: &EchoParts, answer: &Answer)
+    ensures { Writes page.old page.new (answer_line place echo.now nth answer.now) }
 {
-    put_place(alloc, text, place, nth)?;
-    put_answer(alloc, text, echo, answer)?;
-    text.extend_from_slice(b"\n")
-}
-
-fn put_answer(
-    alloc: Global,
-    text: &mut Vec<u8>,
-    echo: &EchoParts,
-    answer: &Answer,
-) -> Result<(), AllocError>
-    ensures { OnOk result (text.new.items ≡ text.old.items ++ flat_map after_blank (answer_words echo.now answer.now)) }
-{
-    match answer {
-        Answer::Paid(paid) => {
-            put_visit(text, b" paid ", echo)?;
-            put_paid(alloc, text, paid)
-        }
-        Answer::Twice(paid) => {
-            put_visit(text, b" duplicate ", echo)?;
-            put_paid(alloc, text, paid)
-        }
-        Answer::Approved(approved) => {
-            put_visit(text, b" approved ", echo)?;
-            put_approved(alloc, text, approved)
-        }
-        Answer::Refused(refused) => {
-            put_visit(text, b" refused ", echo)?;
-            put_refused(alloc, text, refused)
-        }
-    }
-}
-
-// The answer's word, with blanks about it, the pharmacy and the date of service.
-fn put_visit(text: &mut Vec<u8>, word: &[u8], echo: &EchoParts) -> Result<(), AllocError>
-    ensures { OnOk result (text.new.items ≡ text.old.items ++ (word.now ++ join_with_byte 32 (visit_words echo.now))) }
-{
-    text.extend_from_slice(word)?;
-    put_provider(text, &echo.provider)?;
-    text.push(b' ')?;
-    text.extend_from_slice(&echo.date)
-}
-
-// The provider that a field names; nothing if it is no id.
-fn put_provider(text: &mut Vec<u8>, field: &[u8; 15]) -> Result<(), AllocError>
-    ensures { OnOk result (text.new.items ≡ text.old.items ++ named field.now) }
-{
-    match Provider::new(field) {
-        Ok(provider) => text.extend_from_slice(provider.bytes()),
-        Err(_) => Ok(()),
-    }
-}
-
-fn put_paid(alloc: Global, text: &mut Vec<u8>, paid: &Paid) -> Result<(), AllocError>
-    ensures { OnOk result (text.new.items ≡ text.old.items ++ flat_map after_blank (paid_words paid.now)) }
-{
-    put_claim(alloc, text, paid.reference, paid.number)?;
-    put_amounts(alloc, text, &paid.pricing)
-}
-
-fn put_approved(alloc: Global, text: &mut Vec<u8>, approved: &Approved) -> Result<(), AllocError>
-    ensures { OnOk result (text.new.items ≡ text.old.items ++ flat_map after_blank (approved_words approved.now)) }
-{
-    put_claim(alloc, text, approved.reference, approved.number)?;
-    put_cents(alloc, text, approved.total_paid.get())
-}
-
-// The prescription reference number and the authorization number.
-fn put_claim(
-    alloc: Global,
-    text: &mut Vec<u8>,
-    reference: Reference,
-    number: Authorization,
-) -> Result<(), AllocError>
-    ensures { OnOk result (text.new.items ≡ text.old.items ++ flat_map after_blank (decimal reference ∷ digits_text 15 number ∷ [])) }
-{
-    put_reference(alloc, text, reference)?;
-    text.push(b' ')?;
-    let digits: [u8; 15] = digits_write(number.get());
-    text.extend_from_slice(&digits)
-}
-
-fn put_reference(alloc: Global, text: &mut Vec<u8>, reference: Reference) -> Result<(), AllocError>
-    ensures { OnOk result (text.new.items ≡ text.old.items ++ after_blank (decimal reference)) }
-{
-    let reference = reference.get();
-    let word = format!(in alloc; " {reference}")?;
-    text.extend_from_slice(word.as_str().as_bytes())
+    put_place(page, place, nth);
+    put_answer(page, echo, answer);
+    page.put(b"\n");
 }
 
 #[tactic(auto, using(std::proofs::Common::append_assoc))]
-fn put_amounts(alloc: Global, text: &mut Vec<u8>, pricing: &Pricing) -> Result<(), AllocError>
-    ensures { OnOk result (text.new.items ≡ text.old.items ++ flat_map after_blank (amount_words pricing.now)) }
+fn put_answer(page: &mut Page, echo: &EchoParts, answer: &Answer)
+    ensures { Writes page.old page.new (flat_map after_blank (answer_words echo.now answer.now)) }
+{
+    match answer {
+        Answer::Paid(paid) => {
+            put_visit(page, b"paid", echo);
+            put_paid(page, paid)
+        }
+        Answer::Twice(paid) => {
+            put_visit(page, b"duplicate", echo);
+            put_paid(page, paid)
+        }
+        Answer::Approved(approved) => {
+            put_visit(page, b"approved", echo);
+            put_approved(page, approved)
+        }
+        Answer::Refused(refused) => {
+            put_visit(page, b"refused", echo);
+            put_refused(page, refused)
+        }
+    }
+}
+
+// The answer's word, the pharmacy and the date of service, each after a blank.
+#[tactic(auto, using(std::proofs::Common::append_assoc))]
+fn put_visit(page: &mut Page, word: &[u8], echo: &EchoParts)
+    ensures { Writes page.old page.new (flat_map after_blank (word.now ∷ visit_words echo.now)) }
+{
+    page.put(b" ");
+    page.put(word);
+    page.put(b" ");
+    put_provider(page, &echo.provider);
+    page.put(b" ");
+    page.put(&echo.date);
+}
+
+// The provider that a field names; nothing if it is no id.
+fn put_provider(page: &mut Page, field: &[u8; 15])
+    ensures { Writes page.old page.new (named field.now) }
+{
+    if let Ok(provider) = Provider::new(field) {
+        page.put(provider.bytes());
+    }
+}
+
+#[tactic(auto, using(std::proofs::Common::append_assoc))]
+fn put_paid(page: &mut Page, paid: &Paid)
+    ensures { Writes page.old page.new (flat_map after_blank (paid_words paid.now)) }
+{
+    put_claim(page, paid.reference, paid.number);
+    put_amounts(page, &paid.pricing);
+}
+
+#[tactic(auto, using(std::proofs::Common::append_assoc))]
+fn put_approved(page: &mut Page, approved: &Approved)
+    ensures { Writes page.old page.new (flat_map after_blank (approved_words approved.now)) }
+{
+    put_claim(page, approved.reference, approved.number);
+    put_number(page, approved.total_paid.get());
+}
+
+// The prescription reference number and the authorization number.
+#[tactic(auto, using(std::proofs::Common::append_assoc))]
+fn put_claim(page: &mut Page, reference: Reference, number: Authorization)
+    ensures { Writes page.old page.new (flat_map after_blank (decimal reference ∷ digits_text 15 number ∷ [])) }
+{
+    put_number(page, reference.get());
+    page.put(b" ");
+    let digits: [u8; 15] = digits_write(number.get());
+    page.put(&digits);
+}
+
+#[tactic(auto, using(std::proofs::Common::append_assoc))]
+fn put_amounts(page: &mut Page, pricing: &Pricing)
+    ensures { Writes page.old page.new (flat_map after_blank (amount_words pricing.now)) }
 {
     let amounts = pricing.amounts();
-    put_cents(alloc, text, pricing.patient_pay())?;
-    put_cents(alloc, text, amounts.ingredient_cost)?;
-    put_cents(alloc, text, amounts.dispensing_fee)?;
-    put_cents(alloc, text, pricing.total_paid())?;
-    put_cents(alloc, text, amounts.deductible)?;
-    put_cents(alloc, text, amounts.copay)?;
-    put_cents(alloc, text, amounts.coinsurance)
+    put_number(page, pricing.patient_pay());
+    put_number(page, amounts.ingredient_cost);
+    put_number(page, amounts.dispensing_fee);
+    put_number(page, pricing.total_paid());
+    put_number(page, amounts.deductible);
+    put_number(page, amounts.copay);
+    put_number(page, amounts.coinsurance);
 }
 
-fn put_cents(alloc: Global, text: &mut Vec<u8>, cents: u64) -> Result<(), AllocError>
-    ensures { OnOk result (text.new.items ≡ text.old.items ++ after_blank (decimal cents)) }
+// A number after a blank.
+#[tactic(auto, using(std::proofs::Common::append_assoc))]
+fn put_number(page: &mut Page, number: u64)
+    ensures { Writes page.old page.new (after_blank (decimal number)) }
 {
-    let word = format!(in alloc; " {cents}")?;
-    text.extend_from_slice(word.as_str().as_bytes())
+    page.put(b" ");
+    page.number(u128::from(number));
 }
 
-fn put_refused(alloc: Global, text: &mut Vec<u8>, refused: &Refused) -> Result<(), AllocError>
-    ensures { OnOk result (text.new.items ≡ text.old.items ++ flat_map after_blank (refused_words refused.now)) }
+#[tactic(auto, using(std::proofs::Common::append_assoc))]
+fn put_refused(page: &mut Page, refused: &Refused)
+    ensures { Writes page.old page.new (flat_map after_blank (refused_words refused.now)) }
 {
-    text.push(b' ')?;
-    put_codes(text, &refused.codes)?;
-    match refused.reference {
-        Some(reference) => put_reference(alloc, text, reference),
-        None => Ok(()),
+    page.put(b" ");
+    page.codes(&refused.codes);
+    if let Some(reference) = refused.reference {
+        put_number(page, reference.get());
     }
 }

@@ -1,159 +1,132 @@
-ghost use Rattle.std.specs.Prelude.{◌≡◌, ◌++◌, Some, OnOk};
+ghost use Rattle.std.specs.Prelude.{◌≡◌, ◌++◌, Some};
 ghost use Rattle.std.specs.Fmt.{decimal};
 ghost use Rattle.std.specs.List.{flat_map};
 ghost use Rattle.rx_fields.specs.Digits.{digits_text};
+ghost use Rattle.rx_print.specs.Page.{Writes};
 ghost use Rattle.rx_show.specs.Table.{after_tab, asked_cells, bill_cells, cells_of, charge_cells, faulty_cells, key_cells, known};
 ghost use Rattle.rx_show.specs.Table.{measure_cells, reversal_cells};
 
 use rx_d0_values::{BillParts, Faulty, Heard, Reversal, Transaction};
 use rx_fields::{Cents, Product, Reference, date_write};
-use rx_print::put_codes;
-use std::alloc::{AllocError, Global};
+use rx_print::Page;
 
 /// Puts a transaction's cells, each after a tab.
-pub(crate) fn put_transaction(
-    alloc: Global,
-    text: &mut Vec<u8>,
-    heard: &Heard,
-    transaction: &Transaction,
-) -> Result<(), AllocError>
-    ensures { OnOk result (text.new.items ≡ text.old.items ++ flat_map after_tab (cells_of heard.now transaction.now)) }
+pub(crate) fn put_transaction(page: &mut Page, heard: &Heard, transaction: &Transaction)
+    ensures { Writes page.old page.new (flat_map after_tab (cells_of heard.now transaction.now)) }
 {
     match transaction {
-        Transaction::Bill(bill) => put_bill(alloc, text, heard, bill.parts()),
-        Transaction::Reverse(reversal) => put_reversal(alloc, text, heard, reversal),
-        Transaction::Faulty(faulty) => put_faulty(alloc, text, heard, faulty),
+        Transaction::Bill(bill) => put_bill(page, heard, bill.parts()),
+        Transaction::Reverse(reversal) => put_reversal(page, heard, reversal),
+        Transaction::Faulty(faulty) => put_faulty(page, heard, faulty),
     }
 }
 
 #[tactic(auto, using(std::proofs::Common::append_assoc))]
-fn put_bill(
-    alloc: Global,
-    text: &mut Vec<u8>,
-    heard: &Heard,
-    bill: &BillParts,
-) -> Result<(), AllocError>
-    ensures { OnOk result (text.new.items ≡ text.old.items ++ flat_map after_tab (bill_cells heard.now bill.now)) }
+fn put_bill(page: &mut Page, heard: &Heard, bill: &BillParts)
+    ensures { Writes page.old page.new (flat_map after_tab (bill_cells heard.now bill.now)) }
 {
-    text.extend_from_slice(b"\tbill")?;
-    put_key(alloc, text, heard, Some(bill.reference))?;
-    put_cell(text, bill.family.bytes())?;
-    put_cell(text, bill.person.bytes())?;
-    put_asked(alloc, text, bill)
+    page.put(b"\tbill");
+    put_key(page, heard, Some(bill.reference));
+    put_cell(page, bill.family.bytes());
+    put_cell(page, bill.person.bytes());
+    put_asked(page, bill);
 }
 
 #[tactic(auto, using(std::proofs::Common::append_assoc))]
-fn put_asked(alloc: Global, text: &mut Vec<u8>, bill: &BillParts) -> Result<(), AllocError>
-    ensures { OnOk result (text.new.items ≡ text.old.items ++ flat_map after_tab (asked_cells bill.now)) }
+fn put_asked(page: &mut Page, bill: &BillParts)
+    ensures { Writes page.old page.new (flat_map after_tab (asked_cells bill.now)) }
 {
-    put_measures(alloc, text, bill)?;
-    put_charges(alloc, text, bill)?;
-    text.extend_from_slice(b"\t")
+    put_measures(page, bill);
+    put_charges(page, bill);
+    page.put(b"\t");
 }
 
 #[tactic(auto, using(std::proofs::Common::append_assoc))]
-fn put_measures(alloc: Global, text: &mut Vec<u8>, bill: &BillParts) -> Result<(), AllocError>
-    ensures { OnOk result (text.new.items ≡ text.old.items ++ flat_map after_tab (measure_cells bill.now)) }
+fn put_measures(page: &mut Page, bill: &BillParts)
+    ensures { Writes page.old page.new (flat_map after_tab (measure_cells bill.now)) }
 {
-    put_product(text, bill.product)?;
-    put_number(alloc, text, bill.quantity.get())?;
-    put_number(alloc, text, bill.days.get())
+    put_product(page, bill.product);
+    put_number(page, bill.quantity.get());
+    put_number(page, bill.days.get());
 }
 
 #[tactic(auto, using(std::proofs::Common::append_assoc))]
-fn put_charges(alloc: Global, text: &mut Vec<u8>, bill: &BillParts) -> Result<(), AllocError>
-    ensures { OnOk result (text.new.items ≡ text.old.items ++ flat_map after_tab (charge_cells bill.now)) }
+fn put_charges(page: &mut Page, bill: &BillParts)
+    ensures { Writes page.old page.new (flat_map after_tab (charge_cells bill.now)) }
 {
-    put_number(alloc, text, bill.ingredient_cost.get())?;
-    put_cents(alloc, text, bill.dispensing_fee)?;
-    put_cents(alloc, text, bill.usual_charge)?;
-    put_cents(alloc, text, bill.gross_amount)
+    put_number(page, bill.ingredient_cost.get());
+    put_cents(page, bill.dispensing_fee);
+    put_cents(page, bill.usual_charge);
+    put_cents(page, bill.gross_amount);
 }
 
 #[tactic(auto, using(std::proofs::Common::append_assoc))]
-fn put_reversal(
-    alloc: Global,
-    text: &mut Vec<u8>,
-    heard: &Heard,
-    reversal: &Reversal,
-) -> Result<(), AllocError>
-    ensures { OnOk result (text.new.items ≡ text.old.items ++ flat_map after_tab (reversal_cells heard.now reversal.now)) }
+fn put_reversal(page: &mut Page, heard: &Heard, reversal: &Reversal)
+    ensures { Writes page.old page.new (flat_map after_tab (reversal_cells heard.now reversal.now)) }
 {
-    text.extend_from_slice(b"\treverse")?;
-    put_key(alloc, text, heard, Some(reversal.reference))?;
-    text.extend_from_slice(b"\t\t")?;
-    put_product(text, reversal.product)?;
-    text.extend_from_slice(b"\t\t\t\t\t\t\t")
+    page.put(b"\treverse");
+    put_key(page, heard, Some(reversal.reference));
+    page.put(b"\t\t");
+    put_product(page, reversal.product);
+    page.put(b"\t\t\t\t\t\t\t");
 }
 
 #[tactic(auto, using(std::proofs::Common::append_assoc))]
-fn put_faulty(
-    alloc: Global,
-    text: &mut Vec<u8>,
-    heard: &Heard,
-    faulty: &Faulty,
-) -> Result<(), AllocError>
-    ensures { OnOk result (text.new.items ≡ text.old.items ++ flat_map after_tab (faulty_cells heard.now faulty.now)) }
+fn put_faulty(page: &mut Page, heard: &Heard, faulty: &Faulty)
+    ensures { Writes page.old page.new (flat_map after_tab (faulty_cells heard.now faulty.now)) }
 {
-    text.extend_from_slice(b"\tfaulty")?;
-    put_key(alloc, text, heard, faulty.reference)?;
-    text.extend_from_slice(b"\t\t\t\t\t\t\t\t\t\t")?;
-    put_codes(text, &faulty.codes)
+    page.put(b"\tfaulty");
+    put_key(page, heard, faulty.reference);
+    page.put(b"\t\t\t\t\t\t\t\t\t\t");
+    page.codes(&faulty.codes);
 }
 
 // Provider, prescription reference number and date of service.
 #[tactic(auto, using(std::proofs::Common::append_assoc))]
-fn put_key(
-    alloc: Global,
-    text: &mut Vec<u8>,
-    heard: &Heard,
-    reference: Option<Reference>,
-) -> Result<(), AllocError>
-    ensures { OnOk result (text.new.items ≡ text.old.items ++ flat_map after_tab (key_cells heard.now reference)) }
+fn put_key(page: &mut Page, heard: &Heard, reference: Option<Reference>)
+    ensures { Writes page.old page.new (flat_map after_tab (key_cells heard.now reference)) }
 {
-    put_cell(text, heard.provider.bytes())?;
-    put_reference(alloc, text, reference)?;
-    put_cell(text, &date_write(heard.date))
+    put_cell(page, heard.provider.bytes());
+    put_reference(page, reference);
+    put_cell(page, &date_write(heard.date));
 }
 
-fn put_reference(
-    alloc: Global,
-    text: &mut Vec<u8>,
-    reference: Option<Reference>,
-) -> Result<(), AllocError>
-    ensures { OnOk result (text.new.items ≡ text.old.items ++ after_tab (known reference)) }
+fn put_reference(page: &mut Page, reference: Option<Reference>)
+    ensures { Writes page.old page.new (after_tab (known reference)) }
 {
     match reference {
-        Some(reference) => put_number(alloc, text, reference.get()),
-        None => text.extend_from_slice(b"\t"),
+        Some(reference) => put_number(page, reference.get()),
+        None => page.put(b"\t"),
     }
 }
 
-fn put_cents(alloc: Global, text: &mut Vec<u8>, cents: Option<Cents>) -> Result<(), AllocError>
-    ensures { OnOk result (text.new.items ≡ text.old.items ++ after_tab (known cents)) }
+fn put_cents(page: &mut Page, cents: Option<Cents>)
+    ensures { Writes page.old page.new (after_tab (known cents)) }
 {
     match cents {
-        Some(cents) => put_number(alloc, text, cents.get()),
-        None => text.extend_from_slice(b"\t"),
+        Some(cents) => put_number(page, cents.get()),
+        None => page.put(b"\t"),
     }
 }
 
-fn put_product(text: &mut Vec<u8>, product: Product) -> Result<(), AllocError>
-    ensures { OnOk result (text.new.items ≡ text.old.items ++ after_tab (digits_text 11 product)) }
+fn put_product(page: &mut Page, product: Product)
+    ensures { Writes page.old page.new (after_tab (digits_text 11 product)) }
 {
-    put_cell(text, &product.digits())
+    put_cell(page, &product.digits());
 }
 
-fn put_number(alloc: Global, text: &mut Vec<u8>, number: u64) -> Result<(), AllocError>
-    ensures { OnOk result (text.new.items ≡ text.old.items ++ after_tab (decimal number)) }
+#[tactic(auto, using(std::proofs::Common::append_assoc))]
+fn put_number(page: &mut Page, number: u64)
+    ensures { Writes page.old page.new (after_tab (decimal number)) }
 {
-    let cell = format!(in alloc; "\t{number}")?;
-    text.extend_from_slice(cell.as_str().as_bytes())
+    page.put(b"\t");
+    page.number(u128::from(number));
 }
 
-fn put_cell(text: &mut Vec<u8>, cell: &[u8]) -> Result<(), AllocError>
-    ensures { OnOk result (text.new.items ≡ text.old.items ++ after_tab cell.now) }
+#[tactic(auto, using(std::proofs::Common::append_assoc))]
+fn put_cell(page: &mut Page, cell: &[u8])
+    ensures { Writes page.old page.new (after_tab cell.now) }
 {
-    text.push(b'\t')?;
-    text.extend_from_slice(cell)
+    page.put(b"\t");
+    page.put(cell);
 }

@@ -1,4 +1,5 @@
 use Rattle.std.proofs.Common.{◌≡◌, ◌++◌, List, ap, ◌∙◌, vec_items}
+use Rattle.std.proofs.lemmas.Result.{IfOk-weaker}
 use Rattle.rx_commands.specs.Changes.{after, no_change}
 use Rattle.rx_commands.specs.ComparedText.{lines_after}
 use Rattle.rx_commands.specs.Differing.{Differing, differing, differing_of, entries_of}
@@ -13,11 +14,14 @@ returns c =
     ≡ differing r s =
     λ j. differing_of (entries_of (c.deref.ensures.value j) (c.deref-2.ensures.value j))
     (entries_of (c.deref-3.ensures.value j) (c.deref-4.ensures.value j)) in
-    let front = c.put_front.new.page.bytes.items in
-    ap vec_items c.into_bytes.ensures
-    ∙ told c.args.form r.batch.lot r.settled.total s.settled.total (differing r s) c.in_ok-change.change
-    c.new-page.result.bytes.items front c.put_lines.new.page.bytes.items c.put_end.new.page.bytes.items c.new-page.ensures
-    c.in_ok-put_front.ensures
-    (c.in_ok-change.ensures.lines ∙ ap (λ (ds : List Differing). front ++ lines_after c.args.form 0 ds) found)
-    (c.in_ok-change.ensures.change ∙ ap (after no_change) found)
-    c.in_ok-put_end.ensures
+    IfOk-weaker c.into_bytes.result _ _ (λ bytes is.
+    let end = c.put_end.ensures is.0 in
+    let lines = c.put_lines-change.ensures.lines end.0 in
+    let front = c.put_front.ensures lines.0 in
+    let begun = c.put_front.new.page.bytes.items in
+    ap vec_items is.1
+    ∙ told c.args.form r.batch.lot r.settled.total s.settled.total (differing r s) c.put_lines-change.result
+    c.new-page.result.bytes.items begun c.put_lines-change.new.page.bytes.items c.put_end.new.page.bytes.items c.new-page.ensures.bytes
+    front.1 (lines.1 ∙ ap (λ (ds : List Differing). begun ++ lines_after c.args.form 0 ds) found)
+    (c.put_lines-change.ensures.change ∙ ap (after no_change) found) end.1)
+    c.into_bytes.ensures

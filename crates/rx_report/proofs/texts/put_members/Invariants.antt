@@ -1,7 +1,8 @@
-use Rattle.std.proofs.Common.{◌≡◌, ◌++◌, take}
+use Rattle.std.proofs.Common.{take}
 use Rattle.std.specs.List.{flat_map}
+use Rattle.rx_print.specs.Page.{Writes}
 use Rattle.rx_report.specs.Texts.{comma_member}
 use Rattle.rx_report.proofs.texts.put_members.Given as goal
 
 abbrev pub invariant-loop-column : goal.invariant-loop-column
-invariant-loop-column l = l.text.items ≡ l.fn.text.items ++ flat_map (comma_member l.line) (take l.column-index l.columns)
+invariant-loop-column l = Writes l.fn.page l.page (flat_map (comma_member l.line) (take l.column-index l.columns))

@@ -1,7 +1,8 @@
-use Rattle.std.proofs.Common.{◌≡◌, ◌++◌, take}
+use Rattle.std.proofs.Common.{take}
 use Rattle.std.specs.List.{flat_map}
+use Rattle.rx_print.specs.Page.{Writes}
 use Rattle.rx_report.specs.Texts.{row}
 use Rattle.rx_report.proofs.texts.put_rows.Given as goal
 
 abbrev pub invariant-loop-line : goal.invariant-loop-line
-invariant-loop-line l = l.text.items ≡ l.fn.text.items ++ flat_map (row l.lot l.stamp) (take l.line-index l.lines)
+invariant-loop-line l = Writes l.fn.page l.page (flat_map (row l.lot l.stamp) (take l.line-index l.lines))

@@ -4,13 +4,14 @@ use Rattle.std.specs.Fmt.{decimal}
 use Rattle.rx_report_text.specs.Claims.{claim_text, section_text}
 use Rattle.rx_report_text.specs.Pages.{provider_text}
 use Rattle.rx_report_text.specs.Rows.{titles_text}
-use Rattle.rx_report_text.proofs.Written.{eight}
+use Rattle.rx_print.proofs.Written.{eight}
 use Rattle.rx_report_text.proofs.claims.put_claims.Goals as goal
 
 pub returns : goal.returns
 unfolding section_text
 returns c =
-    eight c.markup-4.result c.markup-4.new.self.bytes.items c.args.page.now.bytes.items
+    eight c.args.page.now c.markup.new.self c.number.new.self c.markup-2.new.self c.put_provider_text.new.page c.markup-3.new.self
+    c.put_titles.new.page c.put_each.new.page c.markup-4.new.self
     (codes "<section id=\"p")
     (decimal c.args.before)
     (codes "\">\n<h2>Provider ")
@@ -19,11 +20,11 @@ returns c =
     titles_text
     (flat_map (claim_text c.args.whys.now) c.args.section.now.lines.now)
     (codes "</table>\n</section>\n")
-    c.in_ok-markup.ensures
-    c.in_ok-number.ensures
-    c.in_ok-markup-2.ensures
-    c.in_ok-put_provider_text.ensures
-    c.in_ok-markup-3.ensures
-    c.in_ok-put_titles.ensures
-    c.in_ok-put_each.ensures
+    c.markup.ensures
+    c.number.ensures
+    c.markup-2.ensures
+    c.put_provider_text.ensures
+    c.markup-3.ensures
+    c.put_titles.ensures
+    c.put_each.ensures
     c.markup-4.ensures

@@ -1,7 +1,8 @@
-use Rattle.std.proofs.Common.{◌≡◌, ◌++◌, take}
+use Rattle.std.proofs.Common.{take}
 use Rattle.std.specs.List.{flat_map}
+use Rattle.rx_print.specs.Page.{Writes}
 use Rattle.rx_report_text.specs.Columns.{line_cell}
 use Rattle.rx_report_text.proofs.columns.put_line_cells.Given as goal
 
 abbrev pub invariant-loop-column : goal.invariant-loop-column
-invariant-loop-column l = l.cells.items ≡ l.fn.cells.items ++ flat_map (line_cell l.line) (take l.column-index l.columns)
+invariant-loop-column l = Writes l.fn.cells l.cells (flat_map (line_cell l.line) (take l.column-index l.columns))

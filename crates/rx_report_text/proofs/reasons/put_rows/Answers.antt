@@ -4,6 +4,7 @@ use Rattle.std.proofs.lemmas.List.{append-nil, map-append}
 use Rattle.std.proofs.lemmas.Iterator.Consumers.{YieldsList-at, YieldsList-end}
 use Rattle.std.proofs.lemmas.Iterator.Splits.{YieldsList-from_slice_split}
 use Rattle.rx_report_text.specs.Reasons.{line_row}
+use Rattle.rx_print.proofs.Written.{as_text, two}
 use Rattle.rx_report_text.proofs.reasons.put_rows.Goals as goal
 
 -- one line more has one row more
@@ -15,12 +16,12 @@ row_more (l ∷ lines) line =
 
 pub loop-line-preserved : goal.loop-line-preserved
 loop-line-preserved c =
-    let start = c.args.page.now.bytes.items in
     let before = map (λ line. line.now) c.loop-line.yielded in
-    c.in_ok-put_line_row.ensures ∙ ap (λ rows. rows ++ line_row c.in-Some.line.now) c.loop-line.invariant
-    ∙ append_assoc start (flat_map line_row before) (line_row c.in-Some.line.now)
-    ∙ ap (λ rows. start ++ rows) (sym (row_more before c.in-Some.line.now)
+    as_text c.args.page.now c.put_line_row.new.page
+    (sym (row_more before c.in-Some.line.now)
     ∙ ap (flat_map line_row) (sym (map-append (λ line. line.now) c.loop-line.yielded (c.in-Some.line ∷ []))))
+    (two c.args.page.now c.loop-line.page c.put_line_row.new.page (flat_map line_row before) (line_row c.in-Some.line.now)
+    c.loop-line.invariant c.put_line_row.ensures)
 
 -- the lines that the iterator gives are those of the text
 pub returns : goal.returns
@@ -31,4 +32,4 @@ returns c =
     (YieldsList-from_slice_split _ (λ b. eqb b 10) c.args.text.now c.split-line-items.ensures.rest c.split-line-items.ensures.done
     c.split-line-items.ensures.closure (λ x b q k. search rules)))
     c.loop-line.yielded _ c.loop-line.yielded_by _ _ c.in-None.is c.next.ensures.steps in
-    c.loop-line.invariant ∙ ap (λ ls. c.args.page.now.bytes.items ++ flat_map line_row ls) lines.0
+    as_text c.args.page.now c.loop-line.page (ap (flat_map line_row) lines.0) c.loop-line.invariant

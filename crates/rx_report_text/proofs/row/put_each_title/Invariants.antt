@@ -1,7 +1,8 @@
-use Rattle.std.proofs.Common.{◌≡◌, ◌++◌, take}
+use Rattle.std.proofs.Common.{take}
 use Rattle.std.specs.List.{flat_map}
+use Rattle.rx_print.specs.Page.{Writes}
 use Rattle.rx_report_text.specs.Rows.{title_cell}
 use Rattle.rx_report_text.proofs.row.put_each_title.Given as goal
 
 abbrev pub invariant-loop-shown : goal.invariant-loop-shown
-invariant-loop-shown l = l.page.bytes.items ≡ l.fn.page.bytes.items ++ flat_map title_cell (take l.shown-index l.columns)
+invariant-loop-shown l = Writes l.fn.page l.page (flat_map title_cell (take l.shown-index l.columns))

@@ -1,11 +1,12 @@
 use Rattle.std.proofs.Common.{codes}
 use Rattle.std.specs.Fmt.{decimal}
-use Rattle.rx_report_text.proofs.Written.{seven}
+use Rattle.rx_print.proofs.Written.{seven}
 use Rattle.rx_report_text.proofs.summary.put_count.Goals as goal
 
 pub returns : goal.returns
 returns c =
-    seven c.markup-6.result c.markup-6.new.self.bytes.items c.args.page.now.bytes.items
+    seven c.args.page.now c.markup.new.self c.markup-2.new.self c.markup-3.new.self c.number.new.self c.markup-4.new.self
+    c.markup-5.new.self c.markup-6.new.self
     (codes "<span class=\"")
     c.args.name.now
     (codes "\"><b>")
@@ -13,10 +14,10 @@ returns c =
     (codes "</b> ")
     c.args.name.now
     (codes "</span> ")
-    c.in_ok-markup.ensures
-    c.in_ok-markup-2.ensures
-    c.in_ok-markup-3.ensures
-    c.in_ok-number.ensures
-    c.in_ok-markup-4.ensures
-    c.in_ok-markup-5.ensures
+    c.markup.ensures
+    c.markup-2.ensures
+    c.markup-3.ensures
+    c.number.ensures
+    c.markup-4.ensures
+    c.markup-5.ensures
     c.markup-6.ensures

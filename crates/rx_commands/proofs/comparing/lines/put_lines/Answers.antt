@@ -1,5 +1,6 @@
 use Rattle.std.proofs.Common.{◌≡◌, ◌+◌, ◌++◌, Bool, List, ap, ◌∙◌, arith}
 use Rattle.rx_d0_values.specs.declared.reply.Reply.{Reply}
+use Rattle.rx_print.proofs.Written.{as_text}
 use Rattle.rx_report.specs.declared.line.Line.{Line}
 use Rattle.rx_commands.specs.Changes.{after, no_change}
 use Rattle.rx_commands.specs.ComparedText.{lines_after}
@@ -29,13 +30,16 @@ loop-at-preserved c =
     let next = c.put_unless.new.change in
     let now_so_far = so_far replies lines others with_lines (at + 1) in
     record {
-      lines = written c.args.form old text new before ds now_so_far change next c.loop-at.invariant.change longer
-          c.loop-at.invariant.lines
-          (c.in_ok-put_unless.ensures.lines
-          ∙ ap (λ (b : Bool). text ++ lines_after c.args.form change.count (differing_by b l m)) c.are_one-is_one.ensures);
+      lines = λ whole.
+          let more = c.put_unless.ensures.lines whole in
+          let so = c.loop-at.invariant.lines more.0 in (
+            so.0,
+            written c.args.form old text new before ds now_so_far change next c.loop-at.invariant.change longer so.1
+                (more.1 ∙ ap (λ (b : Bool). text ++ lines_after c.args.form change.count (differing_by b l m)) c.are_one-is_one.ensures),
+          );
       change = counted_too c.args.form old text new before ds now_so_far change next c.loop-at.invariant.change longer
-          (c.in_ok-put_unless.ensures.change ∙ ap (λ (b : Bool). after change (differing_by b l m)) c.are_one-is_one.ensures);
-      within = omega (arith, c.in_ok-put_unless.ensures.within, c.loop-at.invariant.within);
+          (c.put_unless.ensures.change ∙ ap (λ (b : Bool). after change (differing_by b l m)) c.are_one-is_one.ensures);
+      within = omega (arith, c.put_unless.ensures.within, c.loop-at.invariant.within);
     }
 
 -- at the end these are all
@@ -43,8 +47,8 @@ pub returns-clause-lines : goal.returns-clause-lines
 returns-clause-lines c =
     let all = so_all c.args.replies.now c.args.lines.now c.args.with_replies.now c.args.with_lines.now c.loop-at.at
     (omega (arith, c.loop-at-test.false, c.min-at-end.ensures)) in
+    as_text c.args.page.now c.loop-at.page (ap (λ (ds : List Differing). lines_after c.args.form 0 ds) all)
     c.loop-at.invariant.lines
-    ∙ ap (λ (ds : List Differing). c.args.page.now.bytes.items ++ lines_after c.args.form 0 ds) all
 
 pub returns-clause-change : goal.returns-clause-change
 returns-clause-change c =

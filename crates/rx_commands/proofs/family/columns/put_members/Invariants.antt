@@ -1,7 +1,8 @@
-use Rattle.std.proofs.Common.{◌≡◌, ◌++◌, take}
+use Rattle.std.proofs.Common.{take}
 use Rattle.std.specs.List.{flat_map}
 use Rattle.rx_commands.specs.FamilyColumns.{member_text}
+use Rattle.rx_print.specs.Page.{Writes}
 use Rattle.rx_commands.proofs.family.columns.put_members.Given as goal
 
 abbrev pub invariant-loop-member : goal.invariant-loop-member
-invariant-loop-member l = l.page.bytes.items ≡ l.fn.page.bytes.items ++ flat_map member_text (take l.member-index l.members)
+invariant-loop-member l = Writes l.fn.page l.page (flat_map member_text (take l.member-index l.members))

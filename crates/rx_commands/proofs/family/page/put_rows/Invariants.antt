@@ -1,7 +1,8 @@
-use Rattle.std.proofs.Common.{◌≡◌, ◌++◌, take}
+use Rattle.std.proofs.Common.{take}
 use Rattle.std.specs.List.{flat_map}
 use Rattle.rx_commands.specs.FamilyPage.{claim_row}
+use Rattle.rx_print.specs.Page.{Writes}
 use Rattle.rx_commands.proofs.family.page.put_rows.Given as goal
 
 abbrev pub invariant-loop-claim : goal.invariant-loop-claim
-invariant-loop-claim l = l.page.bytes.items ≡ l.fn.page.bytes.items ++ flat_map claim_row (take l.claim-index l.claims)
+invariant-loop-claim l = Writes l.fn.page l.page (flat_map claim_row (take l.claim-index l.claims))

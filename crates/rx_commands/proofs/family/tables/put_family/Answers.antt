@@ -1,13 +1,14 @@
 use Rattle.rx_commands.specs.FamilyTables.{claims_json, family_json, head_json, members_json, totals_json}
-use Rattle.rx_report_text.proofs.Written.{eight}
-use Rattle.std.proofs.Common.{ap, codes, ◌++◌, ◌∙◌}
+use Rattle.rx_print.proofs.Written.{as_text, eight}
+use Rattle.std.proofs.Common.{ap, codes}
 use Rattle.std.specs.List.{enumerate_from}
 use Rattle.rx_commands.proofs.family.tables.put_family.Goals as goal
 
 pub returns : goal.returns
 unfolding family_json
 returns c =
-    eight c.put-4.result c.put-4.new.self.bytes.items c.args.page.now.bytes.items
+    eight c.args.page.now c.put_head.new.page c.put.new.self c.put_members.new.page c.put-2.new.self
+    c.put_totals.new.page c.put-3.new.self c.put_claims.new.page c.put-4.new.self
     (head_json c.args.family.now)
     (codes ",\n\"members\":[")
     (members_json (enumerate_from 0 c.args.family.now.members.items))
@@ -16,13 +17,13 @@ returns c =
     (codes ",\n\"claims\":[")
     (claims_json (enumerate_from 0 c.args.family.now.claims.items))
     (codes "]}\n")
-    c.in_ok-put_head.ensures
-    c.in_ok-put.ensures
-    (c.in_ok-put_members.ensures
-    ∙ ap (λ ms. c.put.new.self.bytes.items ++ members_json (enumerate_from 0 ms)) c.deref.ensures.value)
-    c.in_ok-put-2.ensures
-    c.in_ok-put_totals.ensures
-    c.in_ok-put-3.ensures
-    (c.in_ok-put_claims.ensures
-    ∙ ap (λ cs. c.put-3.new.self.bytes.items ++ claims_json (enumerate_from 0 cs)) c.deref-2.ensures.value)
+    c.put_head.ensures
+    c.put.ensures
+    (as_text c.put.new.self c.put_members.new.page
+    (ap (λ ms. members_json (enumerate_from 0 ms)) c.deref.ensures.value) c.put_members.ensures)
+    c.put-2.ensures
+    c.put_totals.ensures
+    c.put-3.ensures
+    (as_text c.put-3.new.self c.put_claims.new.page
+    (ap (λ cs. claims_json (enumerate_from 0 cs)) c.deref-2.ensures.value) c.put_claims.ensures)
     c.put-4.ensures

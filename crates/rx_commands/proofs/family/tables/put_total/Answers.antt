@@ -1,5 +1,5 @@
 use Rattle.rx_commands.specs.FamilyTables.{left_json, reached_json, total_json}
-use Rattle.rx_report_text.proofs.Written.{seven}
+use Rattle.rx_print.proofs.Written.{seven}
 use Rattle.std.proofs.Common.{codes}
 use Rattle.std.specs.Fmt.{decimal}
 use Rattle.rx_commands.proofs.family.tables.put_total.Goals as goal
@@ -7,7 +7,8 @@ use Rattle.rx_commands.proofs.family.tables.put_total.Goals as goal
 pub returns : goal.returns
 unfolding total_json
 returns c =
-    seven c.put-4.result c.put-4.new.self.bytes.items c.args.page.now.bytes.items
+    seven c.args.page.now c.put.new.self c.number.new.self c.put-2.new.self c.put_left.new.page c.put-3.new.self
+    c.put_reached.new.page c.put-4.new.self
     (codes "{\"sum\":")
     (decimal c.args.total.now.sum)
     (codes ",\"left\":")
@@ -15,10 +16,10 @@ returns c =
     (codes ",\"reached\":")
     (reached_json c.args.total.now.reached)
     (codes "}")
-    c.in_ok-put.ensures
-    c.in_ok-number.ensures
-    c.in_ok-put-2.ensures
-    c.in_ok-put_left.ensures
-    c.in_ok-put-3.ensures
-    c.in_ok-put_reached.ensures
+    c.put.ensures
+    c.number.ensures
+    c.put-2.ensures
+    c.put_left.ensures
+    c.put-3.ensures
+    c.put_reached.ensures
     c.put-4.ensures
