@@ -44,6 +44,15 @@ impl Model for Books {
     ghost view = { λ b. books_in b.form };
 }
 
+impl AmendedBooks {
+    // The same members and rows, with the totals of this period.
+    fn made_plain(&self, alloc: Global, period: Period) -> Result<Books, Memory>
+        ensures { IfOk result (λ books. books ≡ record { period = period; ledger = self.now.ledger }) }
+    {
+        Ok(self.whole().made_plain(alloc, period)?.close())
+    }
+}
+
 impl Books {
     /// The books of a ledger, each total summed once over the rows of the period.
     pub fn from_ledger(alloc: Global, ledger: &Ledger, period: Period) -> Result<Books, Memory>
@@ -96,7 +105,7 @@ impl Books {
     {
         match &self.form {
             Form::Plain(books) => Ok(books.copy(alloc, period)?.close()),
-            Form::Amended(books) => Ok(books.whole().made_plain(alloc, period)?.close()),
+            Form::Amended(books) => books.made_plain(alloc, period),
         }
     }
 
@@ -124,7 +133,7 @@ impl Books {
         let Books { form } = self;
         match form {
             Form::Plain(books) => Ok(books.with_period(alloc, period)?.close()),
-            Form::Amended(books) => Ok(books.whole().made_plain(alloc, period)?.close()),
+            Form::Amended(books) => books.made_plain(alloc, period),
         }
     }
 

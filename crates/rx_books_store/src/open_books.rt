@@ -12,6 +12,7 @@ ghost use Rattle.rx_books_store.specs.BooksText.{families_of};
 ghost use Rattle.rx_books_store.specs.LedgerBooks.{has_members};
 ghost use Rattle.rx_books_store.specs.OpenBooks.{open_with, open_without};
 
+use crate::amended::AmendedBooks;
 use crate::amounts::{add_at, take_at};
 use crate::books::{Books, Form};
 use crate::opening::Opening;
@@ -64,12 +65,21 @@ impl Books {
         let Books { form } = self;
         match form {
             Form::Plain(books) => books.opened(alloc, keys),
-            Form::Amended(books) => {
-                let books = books.whole();
-                let books = books.made_plain(alloc, books.period())?;
-                books.opened(alloc, keys)
-            }
+            Form::Amended(books) => books.opened(alloc, keys),
         }
+    }
+}
+
+impl AmendedBooks {
+    // The same members and rows, with a slot for each of these fill keys.
+    fn opened(&self, alloc: Global, keys: &[Key]) -> Result<OpenBooks, Memory>
+        requires { IsAscending key_cmp (λ key. key) keys.now }
+        ensures same { IfOk result (λ opened. opened.books ≡ self.now) }
+        ensures slots { IfOk result (λ opened. All (Contains opened.slots) keys.now) }
+    {
+        let books = self.whole();
+        let books = books.made_plain(alloc, books.period())?;
+        books.opened(alloc, keys)
     }
 }
 

@@ -21,15 +21,17 @@ use std::alloc::Global;
 use std::thread::{self, Threads};
 
 /// The text of the books without the claims before a day, with the totals of this period, none of which counts one; and the
-/// lines of these claims.
+/// lines of these claims. The same books are open too.
 pub(crate) fn aged_text<R: Threads + Sync>(
     rt: &R,
     alloc: Global,
     books: &Books,
+    own: &OpenBooks,
     before: Day,
     period: Period,
     refill_percent: u64,
 ) -> Result<AgedText, Memory>
+    requires same { own.now.books ≡ books.now }
     requires percent { refill_percent ≤ 100 }
     requires early { is_gt (day_cmp before period.first) ≡ false }
     ensures books { IfOk result (λ done. text_of done.books ≡ books_text versions.Three period (aged before books.now.ledger)) }
@@ -39,12 +41,10 @@ pub(crate) fn aged_text<R: Threads + Sync>(
         MatchOption done.first_safe ((day : Civil) → IsCivil day → ¬ IsSafe refill_percent (dropped before books.now.ledger.rows) day)
         (IsFirstSafe refill_percent (dropped before books.now.ledger.rows))) }
 {
-    let lent = books.lend(alloc)?;
-    let own = lent.books();
-    let (cuts, sides) = cuts_and_sides(rt, alloc, own, books, before, period, refill_percent);
+    let (cuts, sides) = cuts_and_sides(rt, alloc, own, before, refill_percent, books, period);
     let (above, below) = sides?;
     match cuts? {
-        Some(cuts) => Ok(text_of_cuts(alloc, cuts, above, below)?),
+        Some(cuts) => text_of_cuts(alloc, cuts, above, below),
         None => Ok(AgedText {
             books: own.claims_between(alloc, above, &below)?,
             dropped: Pieces::Texts(Vec::new(alloc)),
@@ -59,10 +59,10 @@ fn cuts_and_sides<R: Threads + Sync>(
     rt: &R,
     alloc: Global,
     own: &OpenBooks,
-    books: &Books,
     day: Day,
-    period: Period,
     percent: u64,
+    books: &Books,
+    period: Period,
 ) -> (
     Result<Option<Cuts>, Memory>,
     Result<(Vec<u8>, Vec<u8>), Memory>,
@@ -98,11 +98,21 @@ fn sides_of<R: Threads + Sync>(
     ensures above { IfOk result (λ sides. sides.0.items ≡ above_text period books.now.ledger) }
     ensures below { IfOk result (λ sides. sides.1.items ≡ below_text period books.now.ledger) }
 {
-    let books = books.copy_in_parts(rt, alloc, period)?;
+    let copy = books.copy_in_parts(rt, alloc, period)?;
+    sides_of_copy(rt, alloc, &copy)
+}
+
+fn sides_of_copy<R: Threads + Sync>(
+    rt: &R,
+    alloc: Global,
+    books: &Books,
+) -> Result<(Vec<u8>, Vec<u8>), Memory>
+    ensures above { IfOk result (λ sides. sides.0.items ≡ above_text books.now.period books.now.ledger) }
+    ensures below { IfOk result (λ sides. sides.1.items ≡ below_text books.now.period books.now.ledger) }
+{
     let lent = books.lend(alloc)?;
     let books = lent.books();
-    let (above, below) = above_and_below(rt, alloc, books, books.members());
-    Ok((above?, below?))
+    above_and_below(rt, alloc, books, books.members())
 }
 
 // The text of the claims that stay between what stands above and below them, and the lines of those that leave.

@@ -27,13 +27,15 @@ pub(crate) fn above_and_below<R: Threads + Sync>(
     alloc: Global,
     books: &OpenBooks,
     members: &[Member],
-) -> (Result<Vec<u8>, Memory>, Result<Vec<u8>, Memory>)
+) -> Result<(Vec<u8>, Vec<u8>), Memory>
     requires ledger { IsLedger books.now.books.ledger }
     requires rise { IsAscending member_cmp member_key members.now }
-    ensures above { IfOk result.0 (λ text. text.items ≡ above_text books.now.books.period (of_members members.now books.now.books.ledger)) }
-    ensures below { IfOk result.1 (λ text. text.items ≡ below_text books.now.books.period (of_members members.now books.now.books.ledger)) }
+    ensures above { IfOk result (λ sides. sides.0.items
+        ≡ above_text books.now.books.period (of_members members.now books.now.books.ledger)) }
+    ensures below { IfOk result (λ sides. sides.1.items
+        ≡ below_text books.now.books.period (of_members members.now books.now.books.ledger)) }
 {
-    thread::join(
+    let (above, below) = thread::join(
         rt,
         || -> Result<Vec<u8>, Memory>
             requires { IsLedger books.now.books.ledger }
@@ -45,7 +47,8 @@ pub(crate) fn above_and_below<R: Threads + Sync>(
             ensures { IfOk result (λ text. text.items
                 ≡ below_text books.entry.now.books.period (of_members members.entry.now books.entry.now.books.ledger)) }
         { below_claims(rt, alloc, books, members) },
-    )
+    );
+    Ok((above?, below?))
 }
 
 // The head line and the member lines.

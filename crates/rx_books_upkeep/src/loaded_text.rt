@@ -120,8 +120,7 @@ fn figures_of<R: Threads + Sync>(
     ensures below { IfOk result (λ sides. sides.1.items ≡ below_text books.now.books.period (loaded books.now.books.ledger table.now)) }
 {
     let members = merged_list(alloc, books.members(), table.as_slice())?;
-    let (above, below) = above_and_below(rt, alloc, books, &members);
-    Ok((above?, below?))
+    above_and_below(rt, alloc, books, &members)
 }
 
 // Whether books have more lines than are read again: of what stands above and below the claims, and of the claims.

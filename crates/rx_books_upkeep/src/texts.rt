@@ -1,5 +1,5 @@
 //! Books kept up from text to text.
-ghost use Rattle.std.specs.Prelude.{◌≡◌, ◌≤◌, IfOk, MatchOption, Ok};
+ghost use Rattle.std.specs.Prelude.{◌≡◌, ◌≤◌, IfOk, MatchOption, Ok, unwrap_or};
 ghost use Rattle.std.specs.Arc.{arc_value};
 ghost use Rattle.rx_fields.specs.Calendar.{Civil, IsCivil};
 ghost use Rattle.rx_io.specs.Pieces.{text_of};
@@ -9,7 +9,7 @@ ghost use Rattle.rx_books_upkeep.specs.Ageing.{IsFirstSafe, IsSafe, dropped};
 ghost use Rattle.rx_books_upkeep.specs.LoadedText.{HasLineEach, ReadsLines};
 ghost use Rattle.rx_books_upkeep.specs.TextFault.{GivesAs};
 ghost use Rattle.rx_books_upkeep.specs.Texts.{aged_made, changes_made, changes_put, listed, members_founded, members_made, members_put, no_books};
-ghost use Rattle.rx_books_upkeep.specs.Texts.{opened, seen_aged, seen_members};
+ghost use Rattle.rx_books_upkeep.specs.Texts.{opened, seen_aged, seen_members, within_period};
 
 use crate::aged_text::aged_text;
 use crate::change::{Loaded, MemberChange};
@@ -132,13 +132,33 @@ pub fn age_text<R: Threads + Sync>(
         (IsFirstSafe refill_percent (dropped before b.ledger.rows))) }
 {
     let opened = opened(rt, alloc, parts, books)?;
-    let period = period.unwrap_or(opened.period());
+    let done = age(rt, alloc, &opened, before, period, refill_percent);
+    free(rt, opened);
+    done
+}
+
+// The same of these books.
+fn age<R: Threads + Sync>(
+    rt: &R,
+    alloc: Global,
+    books: &Books,
+    before: Day,
+    period: Option<Period>,
+    refill_percent: u64,
+) -> Result<AgedText, UpkeepFault>
+    requires { refill_percent ≤ 100 }
+    ensures text { GivesAs seen_aged result (within_period before (unwrap_or period books.now.period) books.now) }
+    ensures first_safe { IfOk result (λ done.
+        MatchOption done.first_safe ((day : Civil) → IsCivil day → ¬ IsSafe refill_percent (dropped before books.now.ledger.rows) day)
+        (IsFirstSafe refill_percent (dropped before books.now.ledger.rows))) }
+{
+    let period = period.unwrap_or(books.period());
     if before > period.first() {
         return Err(UpkeepFault::AfterPeriod);
     }
-    let done = aged_text(rt, alloc, &opened, before, period, refill_percent);
-    free(rt, opened);
-    Ok(done?)
+    let lent = books.lend(alloc)?;
+    let own = lent.books();
+    Ok(aged_text(rt, alloc, books, own, before, period, refill_percent)?)
 }
 
 // Frees the books, by a thread of its own where one can be started: nobody waits for it.

@@ -1,8 +1,10 @@
-ghost use Rattle.std.specs.Prelude.{◌≡◌, ℕ, List, Err, IfErr, IfOk};
+ghost use Rattle.std.specs.Prelude.{◌≡◌, ℕ, List, Err, IfErr, IfOk, Ok};
 ghost use Rattle.rx_batch.specs.Fault.{UnlessMemory};
 ghost use Rattle.rx_batch.specs.Grammar.{IsFile};
 ghost use Rattle.rx_batch.specs.Reading.{HasFault};
-ghost use Rattle.rx_books_store.specs.BooksFile.{NamesFirstFault, ReadsBooksAlone};
+ghost use Rattle.rx_books_store.specs.BooksFile.{IsBooksText, NamesFirstFault, ReadsBooksAlone};
+ghost use Rattle.rx_ledger.specs.Plan.{Plan};
+ghost use Rattle.rx_sheet.specs.SheetText.{sheet_of_text};
 ghost use Rattle.rx_switch.specs.Job.{HasBytes, accepted_of, books_bytes, given_read};
 ghost use Rattle.rx_switch.specs.Output.{IsRefused, StandFor, stamp_for};
 ghost use Rattle.rx_wave.specs.Decoding.{transmissions_of};
@@ -84,15 +86,54 @@ pub(crate) fn accept<R: Threads + Sync>(
 {
     let stamp = stamp_for(workers, stamp)?;
     let sheet = read_sheet(alloc, sheet)?;
-    let batch = batch.read(alloc);
-    let details = details_of(&batch);
-    let (asked, books) = asked_and_books(rt, alloc, workers, sheet.door(), details, books);
-    let books = books?;
-    let batch = batch?;
-    let asked = asked?;
+    let opened = read_books_and_batch(rt, alloc, workers, sheet.door(), books, batch)?;
+    let Opened {
+        books,
+        batch,
+        asked,
+    } = opened;
     Ok(Accepted {
         stamp,
         sheet,
+        books,
+        batch,
+        asked,
+    })
+}
+
+// The books and the batch, and what its details ask for.
+#[derive(Drop)]
+struct Opened {
+    books: Books,
+    batch: Batch,
+    asked: Vec<Transmission>,
+}
+
+// Reads the books and the batch. Where neither can be read, the fault is that of the books.
+fn read_books_and_batch<R: Threads + Sync>(
+    rt: &R,
+    alloc: Global,
+    workers: u16,
+    door: &Door,
+    books: BooksFile<'_>,
+    batch: BatchFile<'_>,
+) -> Result<Opened, SwitchFault>
+    ensures books { IfOk result (λ opened. IsBooksText (books_bytes books.entry) opened.books.period opened.books.ledger) }
+    ensures batch { (bytes : List ℕ) → HasBytes batch.entry bytes
+        → IfOk result (λ opened. IsFile bytes opened.batch.head opened.batch.details) }
+    ensures asked { IfOk result (λ opened. opened.asked.items ≡ transmissions_of door.now opened.batch.details) }
+    ensures refused { (stamp sheet bytes : List ℕ) → (s : Stamp) → (plan : Plan) → HasBytes batch.entry bytes
+        → stamp_for workers stamp ≡ Ok s → sheet_of_text sheet ≡ Ok plan
+        → IfErr result (IsRefused (given_read stamp workers sheet (books_bytes books.entry) bytes)) }
+    ensures no_thread { result ≡ Err SwitchFault.Thread → ⊥ }
+{
+    let batch = batch.read(alloc);
+    let details = details_of(&batch);
+    let (asked, books) = asked_and_books(rt, alloc, workers, door, details, books);
+    let books = books?;
+    let batch = batch?;
+    let asked = asked?;
+    Ok(Opened {
         books,
         batch,
         asked,

@@ -45,10 +45,28 @@ pub(crate) fn joined<R: Threads + Sync>(
     requires run { HaveRun job.now shards.now.numbers.items ended.items }
     ensures { IfOk result (IsFinished job.now) }
 {
-    let near = slots_of_each(rt, alloc, &opened, &ended)?;
-    let books = joined_books(job, opened, &ended, &near);
+    let books = books_after(rt, alloc, job, opened, &ended)?;
     let replies = joined_replies(alloc, &shards.numbers, ended)?;
     Ok(Finished { books, replies })
+}
+
+// The books after all records.
+fn books_after<R: Threads + Sync>(
+    rt: &R,
+    alloc: Global,
+    job: &Job<'_>,
+    opened: OpenBooks,
+    ended: &[Ended],
+) -> Result<Books, Memory>
+    requires opened { IsOpened job.now opened }
+    requires run { (numbers : List ℕ) × HaveRun job.now numbers ended.now }
+    ensures { IfOk result (λ books. books ≡ record {
+      period = job.now.sheet.now.figures.period;
+      ledger = fold_ledger job.now.lot job.now.sheet.now 1 job.now.transmissions.now job.now.books.now.ledger;
+    }) }
+{
+    let near = slots_of_each(rt, alloc, &opened, ended)?;
+    Ok(joined_books(job, opened, ended, &near))
 }
 
 // For each shard the places of its fill keys' slots in the opened books, looked for by a thread of its own.

@@ -1,8 +1,9 @@
-ghost use Rattle.std.specs.Prelude.{◌≡◌, ◌≤◌, IfOk, OnOk, length, map};
-ghost use Rattle.std.specs.List.{All};
+ghost use Rattle.std.specs.Prelude.{◌≡◌, ◌≤◌, ◌↔◌, IfOk, OnOk, length, map};
+ghost use Rattle.std.specs.List.{All, Contains};
+ghost use Rattle.rx_fields.specs.declared.key.Key.{Key as KeyValue};
 ghost use Rattle.rx_fields.specs.declared.limits.TheConstants.{MOST_DETAILS};
 ghost use Rattle.rx_schedule.specs.Footprints.{record_at};
-ghost use Rattle.rx_schedule.specs.Shards.{ledger_of, replies_of};
+ghost use Rattle.rx_schedule.specs.Shards.{keys_at, ledger_of, replies_of};
 ghost use Rattle.rx_serial.specs.Underway.{IsAwaited};
 ghost use Rattle.rx_wave.specs.Jobs.{ArePlaces, HasRun, IsJob, IsPlaceOf};
 
@@ -34,9 +35,7 @@ pub(crate) fn run_shard<G: Gate>(
     requires places { ArePlaces job.now places.now }
     ensures { IfOk result (HasRun job.now places.now) }
 {
-    let records = records_at(alloc, job.transmissions, places)?;
-    let books = job.books.copy(alloc, job.sheet.period())?;
-    let mut order = InOrder::of_records(alloc, books, &records)?;
+    let mut order = order_of(alloc, job, places)?;
     let replies = replies_to(gate, alloc, job, &mut order, places)?;
     let ended = order.into_parts();
     Ok(Ended {
@@ -79,6 +78,21 @@ pub fn run_places<G: Gate>(
     let Ended { books, replies, .. } = ended;
     let books = books.close();
     Ok(Finished { books, replies })
+}
+
+// A copy of the opening books, on which the records at these places are awaited.
+fn order_of(alloc: Global, job: &Job<'_>, places: &[usize]) -> Result<InOrder, Memory>
+    requires job { IsJob job.now }
+    requires places { ArePlaces job.now places.now }
+    ensures period { IfOk result (λ order. order.books.period ≡ job.now.sheet.now.figures.period) }
+    ensures ledger { IfOk result (λ order. order.books.ledger ≡ job.now.books.now.ledger) }
+    ensures awaited { IfOk result (λ order. All (λ place. IsAwaited order (record_at job.now.transmissions.now place)) places.now) }
+    ensures keys { IfOk result (λ order. (key : KeyValue)
+        → Contains order.keys key ↔ Contains (keys_at job.now.transmissions.now places.now) key) }
+{
+    let records = records_at(alloc, job.transmissions, places)?;
+    let books = job.books.copy(alloc, job.sheet.period())?;
+    InOrder::of_records(alloc, books, &records)
 }
 
 // The records at these places.

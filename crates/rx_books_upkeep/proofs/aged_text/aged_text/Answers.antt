@@ -1,6 +1,7 @@
 use Rattle.std.proofs.Common.{◌≡◌, ◌++◌, List, [], Some, ap, sym, subst, ◌∙◌}
 use Rattle.std.specs.List.{flat_map}
 use Rattle.std.specs.Vec.{vec_items}
+use Rattle.std.proofs.lemmas.Result.{IfOk-weaker}
 use Rattle.rx_ledger.specs.declared.row.Row.{Row}
 use Rattle.rx_books_store.specs.BooksText.{claims_text}
 use Rattle.rx_books_store.specs.LedgerBooks.{LedgerBooks}
@@ -13,50 +14,48 @@ use Rattle.rx_books_upkeep.proofs.aged_text.aged_text.Goals as goal
 pub returns-in-Some-clause-books : goal.returns-in-Some-clause-books
 returns-in-Some-clause-books g c =
     let b = c.args.books.now in
-    let same : c.books-own.result.now.books ≡ b = c.books-own.ensures ∙ c.in_ok-lent.ensures in
+    let same : c.args.own.now.books ≡ b = c.requires.same in
     let cut = rw (c.in_ok-cuts.was, c.in-Some.is) at c.cuts_and_sides-cuts.ensures.cuts in
     let are = subst (λ (x : LedgerBooks). AreCut c.args.refill_percent c.args.before x.ledger.rows c.in-Some.cuts) same cut in
     let above = rw c.in_ok-above.was at c.cuts_and_sides-cuts.ensures.above in
     let below = rw c.in_ok-above.was at c.cuts_and_sides-cuts.ensures.below in
-    c.in_ok-text_of_cuts-in-Some.ensures.books
+    IfOk-weaker c.text_of_cuts.result _ _ (λ done is. is
     ∙ aged_between c.args.before c.args.period b.ledger c.requires.early c.in_ok-above.above.items
-    (flat_map vec_items c.in-Some.cuts.staying.items) c.in_ok-above.below.items above are.staying below
+    (flat_map vec_items c.in-Some.cuts.staying.items) c.in_ok-above.below.items above are.staying below) c.text_of_cuts.ensures.books
 
 pub returns-in-Some-clause-dropped : goal.returns-in-Some-clause-dropped
 returns-in-Some-clause-dropped g c =
-    let same : c.books-own.result.now.books ≡ c.args.books.now = c.books-own.ensures ∙ c.in_ok-lent.ensures in
+    let same : c.args.own.now.books ≡ c.args.books.now = c.requires.same in
     let cut = rw (c.in_ok-cuts.was, c.in-Some.is) at c.cuts_and_sides-cuts.ensures.cuts in
     let are = subst (λ (x : LedgerBooks). AreCut c.args.refill_percent c.args.before x.ledger.rows c.in-Some.cuts) same cut in
-    c.in_ok-text_of_cuts-in-Some.ensures.dropped ∙ are.leaving
+    IfOk-weaker c.text_of_cuts.result _ _ (λ done is. is ∙ are.leaving) c.text_of_cuts.ensures.dropped
 
 pub returns-in-Some-clause-left : goal.returns-in-Some-clause-left
 returns-in-Some-clause-left g c =
-    let same : c.books-own.result.now.books ≡ c.args.books.now = c.books-own.ensures ∙ c.in_ok-lent.ensures in
+    let same : c.args.own.now.books ≡ c.args.books.now = c.requires.same in
     let cut = rw (c.in_ok-cuts.was, c.in-Some.is) at c.cuts_and_sides-cuts.ensures.cuts in
     let are = subst (λ (x : LedgerBooks). AreCut c.args.refill_percent c.args.before x.ledger.rows c.in-Some.cuts) same cut in
-    c.in_ok-text_of_cuts-in-Some.ensures.left ∙ are.left
+    IfOk-weaker c.text_of_cuts.result _ _ (λ done is. is ∙ are.left) c.text_of_cuts.ensures.left
 
 pub returns-in-Some-clause-first_safe : goal.returns-in-Some-clause-first_safe
 returns-in-Some-clause-first_safe g c =
-    let same : c.books-own.result.now.books ≡ c.args.books.now = c.books-own.ensures ∙ c.in_ok-lent.ensures in
+    let same : c.args.own.now.books ≡ c.args.books.now = c.requires.same in
     let cut = rw (c.in_ok-cuts.was, c.in-Some.is) at c.cuts_and_sides-cuts.ensures.cuts in
     let are = subst (λ (x : LedgerBooks). AreCut c.args.refill_percent c.args.before x.ledger.rows c.in-Some.cuts) same cut in
     let rows = dropped c.args.before c.args.books.now.ledger.rows in
-    let first = c.in_ok-text_of_cuts-in-Some.field-0.first_safe in
-    let over : IsOverFrom c.args.refill_percent rows first =
-    subst (IsOverFrom c.args.refill_percent rows) (sym c.in_ok-text_of_cuts-in-Some.ensures.first_safe) are.over in
-    first_safe_is c.args.refill_percent rows first over
+    IfOk-weaker c.text_of_cuts.result _ _ (λ done is. first_safe_is c.args.refill_percent rows done.first_safe
+    (subst (IsOverFrom c.args.refill_percent rows) (sym is) are.over)) c.text_of_cuts.ensures.first_safe
 
-pub returns-clause-books : goal.returns-clause-books
-returns-clause-books g c =
+pub returns-in_ok-claims_between-in-None-clause-books : goal.returns-in_ok-claims_between-in-None-clause-books
+returns-in_ok-claims_between-in-None-clause-books g c =
     let b = c.args.books.now in
-    let same : c.books-own.result.now.books ≡ b = c.books-own.ensures ∙ c.in_ok-lent.ensures in
+    let same : c.args.own.now.books ≡ b = c.requires.same in
     let none = rw (c.in_ok-cuts.was, c.in-None.is) at c.cuts_and_sides-cuts.ensures.cuts in
     let stay : dropped c.args.before b.ledger.rows ≡ [] =
     subst (λ (x : LedgerBooks). dropped c.args.before x.ledger.rows ≡ []) same none in
     let above = rw c.in_ok-above.was at c.cuts_and_sides-cuts.ensures.above in
     let below = rw c.in_ok-above.was at c.cuts_and_sides-cuts.ensures.below in
-    let claims = claims_text c.books-own.result.now.books.ledger.rows in
+    let claims = claims_text c.args.own.now.books.ledger.rows in
     let are = ap (λ (x : LedgerBooks). claims_text x.ledger.rows) same
     ∙ ap claims_text (sym (whole c.args.before b.ledger.rows stay)) in
     c.in_ok-claims_between-in-None.ensures
@@ -64,10 +63,10 @@ returns-clause-books g c =
     ∙ aged_between c.args.before c.args.period b.ledger c.requires.early c.in_ok-above.above.items claims c.in_ok-above.below.items
     above are below
 
-pub returns-clause-first_safe : goal.returns-clause-first_safe
-returns-clause-first_safe g c =
+pub returns-in_ok-claims_between-in-None-clause-first_safe : goal.returns-in_ok-claims_between-in-None-clause-first_safe
+returns-in_ok-claims_between-in-None-clause-first_safe g c =
     let b = c.args.books.now in
-    let same : c.books-own.result.now.books ≡ b = c.books-own.ensures ∙ c.in_ok-lent.ensures in
+    let same : c.args.own.now.books ≡ b = c.requires.same in
     let none = rw (c.in_ok-cuts.was, c.in-None.is) at c.cuts_and_sides-cuts.ensures.cuts in
     let stay : dropped c.args.before b.ledger.rows ≡ [] =
     subst (λ (x : LedgerBooks). dropped c.args.before x.ledger.rows ≡ []) same none in

@@ -14,7 +14,7 @@ joined_replies-requires g c =
     let reply = reply_at job.lot job.sheet.now job.books.now.ledger job.transmissions.now in (
       reply,
       subst (λ (ns : List ℕ). AreReplies reply ns (map (λ end. end.replies.items) c.args.ended.items))
-          (sym c.deref-4.ensures.value) (are_replies job numbers c.args.ended.items c.requires.run),
+          (sym c.deref-2.ensures.value) (are_replies job numbers c.args.ended.items c.requires.run),
     )
 
 pub returns : goal.returns
@@ -23,11 +23,11 @@ returns g c =
     let numbers = c.args.shards.now.numbers.items in
     let reply = reply_at job.lot job.sheet.now job.books.now.ledger job.transmissions.now in
     let are = subst (λ (ns : List ℕ). AreReplies reply ns (map (λ end. end.replies.items) c.args.ended.items))
-    (sym c.deref-4.ensures.value) (are_replies job numbers c.args.ended.items c.requires.run) in
+    (sym c.deref-2.ensures.value) (are_replies job numbers c.args.ended.items c.requires.run) in
     record {
-      books = c.joined_books-books.ensures;
+      books = c.in_ok-books.ensures;
       replies = c.in_ok-replies.ensures reply are
-          ∙ ap (λ ns. map reply (range_with_len 1 (length ns))) c.deref-4.ensures.value
+          ∙ ap (λ ns. map reply (range_with_len 1 (length ns))) c.deref-2.ensures.value
           ∙ ap (λ n. map reply (range_with_len 1 n)) c.requires.run.one_each
           ∙ all_replies job.lot job.sheet.now job.transmissions.now job.books.now.ledger;
     }
