@@ -1,103 +1,64 @@
 -- A command of a name.
-use Rattle.std.proofs.Common.{◌≡◌, ◌∙◌, ◌<◌, ℕ, List, [], ◌∷◌, codes, sym, ap, arith}
+use Rattle.std.proofs.Common.{◌≡◌, ◌∙◌, Bool, true, false, List, codes, subst, sym}
+use Rattle.std.specs.Str.{bytes_eq}
+use Rattle.std.specs.Borrow.{Bor}
 use Rattle.clap.specs.Words.{Row, Text}
-use Rattle.rx_cli.specs.Asked.{HoldsExcerpt, HoldsFault, HoldsNamed, NoneHolds}
+use Rattle.rx_cli.specs.Asked.{HasText, HoldsAdjudicate, HoldsAge, HoldsCheck, HoldsCompare, HoldsExcerpt, HoldsExplain}
+use Rattle.rx_cli.specs.Asked.{HoldsFamily, HoldsFault, HoldsInputs, HoldsJoin, HoldsMembers, HoldsNamed, HoldsReport}
+use Rattle.rx_cli.specs.Asked.{HoldsRoute, HoldsRunApart, HoldsSettle, HoldsShow, HoldsVerify, NoneHolds}
 use Rattle.rx_cli.specs.declared.asked.Command.TheVariants.{Run, Show, Plan, Sample, Check, Explain, Verify, Report, Replies}
 use Rattle.rx_cli.specs.declared.asked.Command.TheVariants.{Adjudicate, Age, Compare, Excerpt, Fault, Join, Members, Route, Settle}
 use Rattle.rx_cli.specs.declared.asked.Command.TheVariants.{ShowFamily}
 
--- the first letter
-letter : Text → ℕ
-letter [] = 0
-letter (b ∷ rest) = b
+-- the first, or the other
+abbrev pub one_of : Bool → Type 0 → Type 0 → Type 0
+one_of true one other = one
+one_of false one other = other
 
-third : Text → ℕ
-third (a ∷ b ∷ c ∷ rest) = c
-third text = 0
+abbrev pub HasReplies : List Row → Bor Text → Type 0
+HasReplies rows path = HasText rows (codes "response") path.now
 
-below : (n m : ℕ) → n ≡ m → n < m → ⊥
-below n m same less = absurd (omega arith)
+-- no words of the command of this name are held
+abbrev pub NoneOf : Text → List Row → Type 0
+NoneOf name rows =
+    one_of (bytes_eq name (codes "run")) (NoneHolds (HoldsRunApart rows)) (
+    one_of (bytes_eq name (codes "show")) (NoneHolds (HoldsShow rows)) (
+    one_of (bytes_eq name (codes "plan")) (NoneHolds (HoldsInputs rows)) (
+    one_of (bytes_eq name (codes "sample")) ⊥ (
+    one_of (bytes_eq name (codes "check")) (NoneHolds (HoldsCheck rows)) (
+    one_of (bytes_eq name (codes "explain")) (NoneHolds (HoldsExplain rows)) (
+    one_of (bytes_eq name (codes "excerpt")) (NoneHolds (HoldsExcerpt rows)) (
+    one_of (bytes_eq name (codes "verify")) (NoneHolds (HoldsVerify rows)) (
+    one_of (bytes_eq name (codes "report")) (NoneHolds (HoldsReport rows)) (
+    one_of (bytes_eq name (codes "adjudicate")) (NoneHolds (HoldsAdjudicate rows)) (
+    one_of (bytes_eq name (codes "fault")) (NoneHolds (HoldsFault rows)) (
+    one_of (bytes_eq name (codes "members")) (NoneHolds (HoldsMembers rows)) (
+    one_of (bytes_eq name (codes "age")) (NoneHolds (HoldsAge rows)) (
+    one_of (bytes_eq name (codes "family")) (NoneHolds (HoldsFamily rows)) (
+    one_of (bytes_eq name (codes "route")) (NoneHolds (HoldsRoute rows)) (
+    one_of (bytes_eq name (codes "join")) (NoneHolds (HoldsJoin rows)) (
+    one_of (bytes_eq name (codes "replies")) (NoneHolds (HasReplies rows)) (
+    one_of (bytes_eq name (codes "compare")) (NoneHolds (HoldsCompare rows)) (
+    one_of (bytes_eq name (codes "settle")) (NoneHolds (HoldsSettle rows)) ⊥))))))))))))))))))
 
--- where no numbers of a refusal are held, no command is the one of this name
-pub no_fault_named : (name : Text) (rows : List Row) → name ≡ codes "fault" → NoneHolds (HoldsFault rows)
-    → NoneHolds (HoldsNamed name rows)
-unfolding letter third
-no_fault_named name rows is none (Run r) h =
-    below 102 114 (ap letter (sym is ∙ h.0)) (omega arith)
-no_fault_named name rows is none (Show s) h =
-    below 102 115 (ap letter (sym is ∙ h.0)) (omega arith)
-no_fault_named name rows is none (Plan i) h =
-    below 102 112 (ap letter (sym is ∙ h.0)) (omega arith)
-no_fault_named name rows is none Sample h =
-    below 102 115 (ap letter (sym is ∙ h)) (omega arith)
-no_fault_named name rows is none (Check k) h =
-    below 99 102 (ap letter (sym h.0 ∙ is)) (omega arith)
-no_fault_named name rows is none (Excerpt e) h =
-    below 101 102 (ap letter (sym h.0 ∙ is)) (omega arith)
-no_fault_named name rows is none (Explain e) h =
-    below 101 102 (ap letter (sym h.0 ∙ is)) (omega arith)
-no_fault_named name rows is none (Verify v) h =
-    below 102 118 (ap letter (sym is ∙ h.0)) (omega arith)
-no_fault_named name rows is none (Report r) h =
-    below 102 114 (ap letter (sym is ∙ h.0)) (omega arith)
-no_fault_named name rows is none (Adjudicate a) h =
-    below 97 102 (ap letter (sym h.0 ∙ is)) (omega arith)
-no_fault_named name rows is none (Members m) h =
-    below 102 109 (ap letter (sym is ∙ h.0)) (omega arith)
-no_fault_named name rows is none (Age a) h =
-    below 97 102 (ap letter (sym h.0 ∙ is)) (omega arith)
-no_fault_named name rows is none (ShowFamily f) h =
-    below 109 117 (ap third (sym h.0 ∙ is)) (omega arith)
-no_fault_named name rows is none (Route r) h =
-    below 102 114 (ap letter (sym is ∙ h.0)) (omega arith)
-no_fault_named name rows is none (Join j) h =
-    below 102 106 (ap letter (sym is ∙ h.0)) (omega arith)
-no_fault_named name rows is none (Replies p) h =
-    below 102 114 (ap letter (sym is ∙ h.0)) (omega arith)
-no_fault_named name rows is none (Compare c) h =
-    below 99 102 (ap letter (sym h.0 ∙ is)) (omega arith)
-no_fault_named name rows is none (Settle s) h =
-    below 102 115 (ap letter (sym is ∙ h.0)) (omega arith)
-no_fault_named name rows is none (Fault f) h = none f h.1
-
--- and where no words of an excerpt are held, none is the one of that name
-pub no_excerpt_named : (name : Text) (rows : List Row) → name ≡ codes "excerpt" → NoneHolds (HoldsExcerpt rows)
-    → NoneHolds (HoldsNamed name rows)
-unfolding letter third
-no_excerpt_named name rows is none (Run r) h =
-    below 101 114 (ap letter (sym is ∙ h.0)) (omega arith)
-no_excerpt_named name rows is none (Show s) h =
-    below 101 115 (ap letter (sym is ∙ h.0)) (omega arith)
-no_excerpt_named name rows is none (Plan i) h =
-    below 101 112 (ap letter (sym is ∙ h.0)) (omega arith)
-no_excerpt_named name rows is none Sample h =
-    below 101 115 (ap letter (sym is ∙ h)) (omega arith)
-no_excerpt_named name rows is none (Check k) h =
-    below 99 101 (ap letter (sym h.0 ∙ is)) (omega arith)
-no_excerpt_named name rows is none (Explain e) h =
-    below 99 112 (ap third (sym is ∙ h.0)) (omega arith)
-no_excerpt_named name rows is none (Verify v) h =
-    below 101 118 (ap letter (sym is ∙ h.0)) (omega arith)
-no_excerpt_named name rows is none (Report r) h =
-    below 101 114 (ap letter (sym is ∙ h.0)) (omega arith)
-no_excerpt_named name rows is none (Adjudicate a) h =
-    below 97 101 (ap letter (sym h.0 ∙ is)) (omega arith)
-no_excerpt_named name rows is none (Members m) h =
-    below 101 109 (ap letter (sym is ∙ h.0)) (omega arith)
-no_excerpt_named name rows is none (Age a) h =
-    below 97 101 (ap letter (sym h.0 ∙ is)) (omega arith)
-no_excerpt_named name rows is none (ShowFamily f) h =
-    below 101 102 (ap letter (sym is ∙ h.0)) (omega arith)
-no_excerpt_named name rows is none (Route r) h =
-    below 101 114 (ap letter (sym is ∙ h.0)) (omega arith)
-no_excerpt_named name rows is none (Join j) h =
-    below 101 106 (ap letter (sym is ∙ h.0)) (omega arith)
-no_excerpt_named name rows is none (Replies p) h =
-    below 101 114 (ap letter (sym is ∙ h.0)) (omega arith)
-no_excerpt_named name rows is none (Compare c) h =
-    below 99 101 (ap letter (sym h.0 ∙ is)) (omega arith)
-no_excerpt_named name rows is none (Settle s) h =
-    below 101 115 (ap letter (sym is ∙ h.0)) (omega arith)
-no_excerpt_named name rows is none (Fault f) h =
-    below 101 102 (ap letter (sym is ∙ h.0)) (omega arith)
-no_excerpt_named name rows is none (Excerpt e) h = none e h.1
+-- where none of the words of the command of this name are held, no command is of this name
+pub none_named : (name said : Text) (rows : List Row) → name ≡ said → NoneOf said rows → NoneHolds (HoldsNamed name rows)
+none_named name said rows is none (Run r) h = (subst (λ n. NoneOf n rows) (sym is ∙ h.0) none) r h.1
+none_named name said rows is none (Show s) h = (subst (λ n. NoneOf n rows) (sym is ∙ h.0) none) s h.1
+none_named name said rows is none (Plan i) h = (subst (λ n. NoneOf n rows) (sym is ∙ h.0) none) i h.1
+none_named name said rows is none Sample h = subst (λ n. NoneOf n rows) (sym is ∙ h) none
+none_named name said rows is none (Check k) h = (subst (λ n. NoneOf n rows) (sym is ∙ h.0) none) k h.1
+none_named name said rows is none (Explain e) h = (subst (λ n. NoneOf n rows) (sym is ∙ h.0) none) e h.1
+none_named name said rows is none (Excerpt e) h = (subst (λ n. NoneOf n rows) (sym is ∙ h.0) none) e h.1
+none_named name said rows is none (Verify v) h = (subst (λ n. NoneOf n rows) (sym is ∙ h.0) none) v h.1
+none_named name said rows is none (Report r) h = (subst (λ n. NoneOf n rows) (sym is ∙ h.0) none) r h.1
+none_named name said rows is none (Adjudicate a) h = (subst (λ n. NoneOf n rows) (sym is ∙ h.0) none) a h.1
+none_named name said rows is none (Fault f) h = (subst (λ n. NoneOf n rows) (sym is ∙ h.0) none) f h.1
+none_named name said rows is none (Members m) h = (subst (λ n. NoneOf n rows) (sym is ∙ h.0) none) m h.1
+none_named name said rows is none (Age a) h = (subst (λ n. NoneOf n rows) (sym is ∙ h.0) none) a h.1
+none_named name said rows is none (ShowFamily f) h = (subst (λ n. NoneOf n rows) (sym is ∙ h.0) none) f h.1
+none_named name said rows is none (Route r) h = (subst (λ n. NoneOf n rows) (sym is ∙ h.0) none) r h.1
+none_named name said rows is none (Join j) h = (subst (λ n. NoneOf n rows) (sym is ∙ h.0) none) j h.1
+none_named name said rows is none (Replies p) h = (subst (λ n. NoneOf n rows) (sym is ∙ h.0) none) p h.1
+none_named name said rows is none (Compare c) h = (subst (λ n. NoneOf n rows) (sym is ∙ h.0) none) c h.1
+none_named name said rows is none (Settle s) h = (subst (λ n. NoneOf n rows) (sym is ∙ h.0) none) s h.1

@@ -2,7 +2,7 @@
 use Rattle.std.proofs.Common.{◌≡◌, ◌∙◌, true, List, Option, Some, None, option_map, refl, ap, sym}
 use Rattle.std.specs.Prelude.{Box}
 use Rattle.std.specs.Box.{box_value}
-use Rattle.clap.specs.Words.{App, HasMatchesOf, Row, Text, is_simple, is_simple_and_free, subcommand_name_of}
+use Rattle.clap.specs.Words.{Row, Text, is_simple, is_simple_and_free, subcommand_name_of}
 use Rattle.clap.specs.Words.{subcommand_of, subcommand_rows, subcommand_rows_of}
 use Rattle.clap.specs.declared.parser.matches.ArgMatches.{ArgMatches}
 use Rattle.clap.specs.declared.parser.matches.SubCommand.{SubCommand}
@@ -28,11 +28,9 @@ both None name rows named held = absurd cc
 both (Some b) name rows named held = cc
 
 -- a name and rows that a parse of the command line shows are those of the words
-pub subcommand_met : (m : ArgMatches) (line : App) (words : List Text) (name : Text) (rows : List Row)
-    → line ≡ whole_line → HasMatchesOf line words m → Some name ≡ subcommand_name_of m
+pub subcommand_met : (m : ArgMatches) (words : List Text) (name : Text) (rows : List Row)
+    → subcommand_rows_of m ≡ subcommand_of whole_line words → Some name ≡ subcommand_name_of m
     → Some rows ≡ option_map (λ p. p.1) (subcommand_rows_of m)
     → Some (name, rows) ≡ subcommand_of whole_line words
-subcommand_met m line words name rows is matches named held =
-    let given = matches (ap is_simple is ∙ whole_line_simple) in
-    let same = given.1 ∙ ap (λ (a : App). subcommand_of a words) is in
+subcommand_met m words name rows same named held =
     sym (sym same ∙ both (out-ArgMatches m).subcommand name rows named held)

@@ -1,5 +1,5 @@
 -- Meaning: the command line: its subcommands and their options (docs/CLI.md, "Commands").
-use Rattle.std.specs.Prelude.{◌≡◌, true, false, IfOk, Some, codes}
+use Rattle.std.specs.Prelude.{◌≡◌, true, false, Box, IfOk, Some, codes}
 use Rattle.clap.specs.Lexer.{usize_max}
 use Rattle.clap.specs.Words.{App, Rule, Text, app_of, new_app, new_rule, with_rule, with_subcommand}
 use Rattle.clap.specs.declared.builder.command.Command.{Command}
@@ -259,6 +259,10 @@ whole_line = with_switch (with_upkeep (with_people (with_disputes (with_retracin
 abbrev pub IsLocal : Command → Type 0
 IsLocal line = (out-Command line).has_globals ≡ false
 
+-- the line in the box is this one, and no option of it is one of its subcommands' too
+abbrev pub IsDrawn : {Z : Type 0} → App → Box Command Z → Type 0
+IsDrawn app line = (app_of line.value ≡ app) × IsLocal line.value
+
 -- unless memory ran out, the draft is of this line, and no option of it is one of its subcommands' too
 abbrev pub Draws : App → Draft → Type 0
-Draws app draft = IfOk draft.line (λ l. (app_of l ≡ app) × IsLocal l)
+Draws app draft = IfOk draft.line (IsDrawn app)

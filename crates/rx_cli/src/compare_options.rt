@@ -84,5 +84,5 @@ pub(crate) fn compare_conflict(alloc: Global) -> WordsFault
     ensures { IsMisuse ErrorKind.ArgumentConflict result }
 {
     let text = "at most one of '--tsv' and '--json' is taken";
-    conflict(compare_line(alloc).line(), "rxbatch compare", text)
+    conflict(compare_line(alloc), "rxbatch compare", text)
 }

@@ -1,7 +1,7 @@
 //! A command line that is being drawn up.
 ghost use Rattle.std.specs.Prelude.{◌≡◌, false, IfOk};
 ghost use Rattle.clap.specs.Words.{App, app_of, rule_of, with_rule, with_subcommand};
-ghost use Rattle.rx_cli.specs.Syntax.{Draws, IsLocal, flag, optional_option, positional, repeated_option, required_option};
+ghost use Rattle.rx_cli.specs.Syntax.{Draws, IsDrawn, IsLocal, flag, optional_option, positional, repeated_option, required_option};
 ghost use Rattle.rx_cli.specs.Syntax.{verbose_flag, workers_option};
 
 use crate::argument;
@@ -9,10 +9,12 @@ use clap::{Arg, Command as Line};
 use std::alloc::{AllocError, Global};
 
 /// A line as far as it is drawn up. Where memory runs out once, there is no line in the end.
+///
+/// The line is boxed: each option hands the draft on by value, and a line is large.
 #[derive(Drop)]
 pub(crate) struct Draft<'a> {
     alloc: Global,
-    line: Result<Line<'a>, AllocError>,
+    line: Result<Box<Line<'a>>, AllocError>,
 }
 
 impl<'a> Draft<'a> {
@@ -23,7 +25,7 @@ impl<'a> Draft<'a> {
     {
         Draft {
             alloc,
-            line: Ok(line),
+            line: boxed(alloc, line),
         }
     }
 
@@ -95,16 +97,11 @@ impl<'a> Draft<'a> {
         ensures { (app : App) → Draws app self.entry → Draws (with_rule app (rule_of arg.entry)) result }
     {
         let alloc = self.alloc;
-        match self.line {
-            Ok(line) => Draft {
-                alloc,
-                line: line.arg(arg),
-            },
-            Err(error) => Draft {
-                alloc,
-                line: Err(error),
-            },
-        }
+        let line = match self.line {
+            Ok(line) => with_arg(alloc, line, arg),
+            Err(error) => Err(error),
+        };
+        Draft { alloc, line }
     }
 
     /// The line with this subcommand too.
@@ -113,22 +110,46 @@ impl<'a> Draft<'a> {
             → Draws (with_subcommand app sub.top) result }
     {
         let alloc = self.alloc;
-        match (self.line, draft.line) {
-            (Ok(line), Ok(subcommand)) => Draft {
-                alloc,
-                line: line.subcommand(subcommand),
-            },
-            (Err(error), _) | (_, Err(error)) => Draft {
-                alloc,
-                line: Err(error),
-            },
-        }
+        let line = match self.line {
+            Ok(line) => with_subcommand(alloc, line, draft),
+            Err(error) => Err(error),
+        };
+        Draft { alloc, line }
     }
 
     /// The line as it is drawn up.
-    pub(crate) fn line(self) -> Result<Line<'a>, AllocError>
-        ensures { (app : App) → Draws app self.entry → IfOk result (λ l. app_of l ≡ app) }
+    pub(crate) fn line(self) -> Result<Box<Line<'a>>, AllocError>
+        ensures { (app : App) → Draws app self.entry → IfOk result (λ l. app_of l.value ≡ app) }
     {
         self.line
     }
+}
+
+fn boxed<'a>(alloc: Global, line: Line<'a>) -> Result<Box<Line<'a>>, AllocError>
+    ensures { IfOk result (λ l. l.value ≡ line.entry) }
+{
+    Ok(Box::new(alloc, line)?)
+}
+
+fn with_arg<'a>(
+    alloc: Global,
+    line: Box<Line<'a>>,
+    arg: Arg<'a>,
+) -> Result<Box<Line<'a>>, AllocError>
+    requires { arg.global ≡ false }
+    ensures { (app : App) → IsDrawn app line.entry → IfOk result (IsDrawn (with_rule app (rule_of arg.entry))) }
+{
+    boxed(alloc, Box::into_inner(line).arg(arg)?)
+}
+
+fn with_subcommand<'a>(
+    alloc: Global,
+    line: Box<Line<'a>>,
+    draft: Draft<'a>,
+) -> Result<Box<Line<'a>>, AllocError>
+    ensures { (app sub : App) → IsDrawn app line.entry → Draws sub draft.entry
+        → IfOk result (IsDrawn (with_subcommand app sub.top)) }
+{
+    let subcommand = Box::into_inner(draft.line?);
+    boxed(alloc, Box::into_inner(line).subcommand(subcommand)?)
 }

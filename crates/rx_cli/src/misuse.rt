@@ -3,37 +3,59 @@ ghost use Rattle.std.specs.Prelude.{◌≡◌, IfOk};
 ghost use Rattle.clap.specs.Words.{kind_of};
 ghost use Rattle.rx_cli.specs.Faults.{IsMisuse, IsMisuseOfOne, misuse_of};
 
+use crate::compare_options::compare_conflict;
 use crate::dispute_syntax::excerpt;
+use crate::draft::Draft;
 use crate::fault::WordsFault;
 use crate::given::{compared, given};
-use crate::options::text;
+use crate::options::{number_if_given, text};
 use crate::people_syntax::{adjudicate, fault as fault_line};
 use crate::switch_syntax::route;
 use crate::syntax::{check, explain, report, run, verify};
 use crate::upkeep_syntax::{age, family, members};
+use clap::ArgMatches;
 use clap::error::ErrorKind;
-use clap::{ArgMatches, Command as Line};
 use std::alloc::{AllocError, Global};
 
-/// The fault of `run` with workers that are no number.
-pub(crate) fn run_miscounted(alloc: Global, found: &ArgMatches<'_>) -> WordsFault
+/// Why there is no command of this name: its options aren't what it takes. Without a text where `run` names one path twice.
+pub(crate) fn misuse(alloc: Global, name: &str, found: &ArgMatches<'_>) -> WordsFault {
+    match name {
+        "run" if number_if_given(found, "workers").is_none() => run_miscounted(alloc, found),
+        "excerpt" => excerpt_no_number(alloc),
+        "check" => check_conflict(alloc),
+        "explain" => explain_misuse(alloc, found),
+        "verify" => verify_misuse(alloc, found),
+        "route" => route_miscounted(alloc, found),
+        "report" => report_conflict(alloc, found),
+        "adjudicate" => adjudicate_miscounted(alloc, found),
+        "fault" => fault_no_number(alloc),
+        "members" => members_conflict(alloc),
+        "age" => age_conflict(alloc),
+        "family" => family_conflict(alloc),
+        "compare" => compare_conflict(alloc),
+        _ => WordsFault::Words(None),
+    }
+}
+
+// The fault of `run` with workers that are no number.
+fn run_miscounted(alloc: Global, found: &ArgMatches<'_>) -> WordsFault
     ensures { IsMisuse ErrorKind.ValueValidation result }
 {
-    miscounted(alloc, run(alloc).line(), "rxbatch run", found)
+    miscounted(alloc, run(alloc), "rxbatch run", found)
 }
 
 // What a command takes that is about one plan or several.
 const ONE_PLAN_OR_SEVERAL: &str =
     "expected '--sheet <FILE>' and '--books <FILE>', or '--plans <FILE>'";
 
-/// The fault of `verify`: of the files of a run and of a plans file, or with such workers.
-pub(crate) fn verify_misuse(alloc: Global, found: &ArgMatches<'_>) -> WordsFault
+// The fault of `verify`: of the files of a run and of a plans file, or with such workers.
+fn verify_misuse(alloc: Global, found: &ArgMatches<'_>) -> WordsFault
     ensures { IsMisuseOfOne ErrorKind.ArgumentConflict ErrorKind.ValueValidation result }
 {
     if compared(found).is_none() {
         verify_conflict(alloc)
     } else {
-        miscounted(alloc, verify(alloc).line(), "rxbatch verify", found)
+        miscounted(alloc, verify(alloc), "rxbatch verify", found)
     }
 }
 
@@ -42,50 +64,46 @@ fn verify_conflict(alloc: Global) -> WordsFault
 {
     let text =
         "expected '--sheet <FILE>', '--books <FILE>' and '--books-out <FILE>', or '--plans <FILE>'";
-    conflict(verify(alloc).line(), "rxbatch verify", text)
+    conflict(verify(alloc), "rxbatch verify", text)
 }
 
-/// The fault of `check` of no sheet and no plans file, or of both.
-pub(crate) fn check_conflict(alloc: Global) -> WordsFault
+// The fault of `check` of no sheet and no plans file, or of both.
+fn check_conflict(alloc: Global) -> WordsFault
     ensures { IsMisuse ErrorKind.ArgumentConflict result }
 {
     let text =
         "expected one of '--sheet <FILE>' and '--plans <FILE>', and '--books <FILE>' only with '--sheet'";
-    conflict(check(alloc).line(), "rxbatch check", text)
+    conflict(check(alloc), "rxbatch check", text)
 }
 
-/// The fault of `adjudicate` with such workers.
-pub(crate) fn adjudicate_miscounted(alloc: Global, found: &ArgMatches<'_>) -> WordsFault
+// The fault of `adjudicate` with such workers.
+fn adjudicate_miscounted(alloc: Global, found: &ArgMatches<'_>) -> WordsFault
     ensures { IsMisuse ErrorKind.ValueValidation result }
 {
-    miscounted(alloc, adjudicate(alloc).line(), "rxbatch adjudicate", found)
+    miscounted(alloc, adjudicate(alloc), "rxbatch adjudicate", found)
 }
 
-/// The fault of `fault` with a value that is not a number.
-pub(crate) fn fault_no_number(alloc: Global) -> WordsFault
+// The fault of `fault` with a value that is not a number.
+fn fault_no_number(alloc: Global) -> WordsFault
     ensures { IsMisuse ErrorKind.ValueValidation result }
 {
     let text = "expected the three numbers of a line 'refused N M P'";
-    invalid(fault_line(alloc).line(), "rxbatch fault", text)
+    invalid(fault_line(alloc), "rxbatch fault", text)
 }
 
-/// The fault of `route` with such workers.
-pub(crate) fn route_miscounted(alloc: Global, found: &ArgMatches<'_>) -> WordsFault
+// The fault of `route` with such workers.
+fn route_miscounted(alloc: Global, found: &ArgMatches<'_>) -> WordsFault
     ensures { IsMisuse ErrorKind.ValueValidation result }
 {
-    miscounted(alloc, route(alloc).line(), "rxbatch route", found)
+    miscounted(alloc, route(alloc), "rxbatch route", found)
 }
 
-/// The fault of `explain`: not one plan or a plans file; asked after no thing or more than one, or after what isn't a number.
-pub(crate) fn explain_misuse(alloc: Global, found: &ArgMatches<'_>) -> WordsFault
+// The fault of `explain`: not one plan or a plans file; asked after no thing or more than one, or after what isn't a number.
+fn explain_misuse(alloc: Global, found: &ArgMatches<'_>) -> WordsFault
     ensures { IsMisuseOfOne ErrorKind.ArgumentConflict ErrorKind.ValueValidation result }
 {
     if given(found).is_none() {
-        conflict(
-            explain(alloc).line(),
-            "rxbatch explain",
-            ONE_PLAN_OR_SEVERAL,
-        )
+        conflict(explain(alloc), "rxbatch explain", ONE_PLAN_OR_SEVERAL)
     } else if is_asked_once(found) {
         explain_no_number(alloc)
     } else {
@@ -112,15 +130,15 @@ fn explain_no_number(alloc: Global) -> WordsFault
     let text =
         "expected only digits after '--record', '--number' and '--rx', or after '--record' two numbers \
                 with a point between them, as 5.3";
-    invalid(explain(alloc).line(), "rxbatch explain", text)
+    invalid(explain(alloc), "rxbatch explain", text)
 }
 
-/// The fault of `excerpt` with a record that isn't a number.
-pub(crate) fn excerpt_no_number(alloc: Global) -> WordsFault
+// The fault of `excerpt` with a record that isn't a number.
+fn excerpt_no_number(alloc: Global) -> WordsFault
     ensures { IsMisuse ErrorKind.ValueValidation result }
 {
     let text = "expected only digits after '--record': an excerpt is of a whole record, as 5";
-    invalid(excerpt(alloc).line(), "rxbatch excerpt", text)
+    invalid(excerpt(alloc), "rxbatch excerpt", text)
 }
 
 fn explain_conflict(alloc: Global) -> WordsFault
@@ -129,11 +147,11 @@ fn explain_conflict(alloc: Global) -> WordsFault
     let text =
         "expected one of '--record <PLACE>', '--number <AUTHORIZATION>' and '--rx <REFERENCE>', \
                 and '--provider <ID>' only with '--rx'";
-    conflict(explain(alloc).line(), "rxbatch explain", text)
+    conflict(explain(alloc), "rxbatch explain", text)
 }
 
-/// The fault of `report`: not one plan or a plans file; of more than one portion, or in more than one form.
-pub(crate) fn report_conflict(alloc: Global, found: &ArgMatches<'_>) -> WordsFault
+// The fault of `report`: not one plan or a plans file; of more than one portion, or in more than one form.
+fn report_conflict(alloc: Global, found: &ArgMatches<'_>) -> WordsFault
     ensures { IsMisuse ErrorKind.ArgumentConflict result }
 {
     let text = if given(found).is_none() {
@@ -141,57 +159,52 @@ pub(crate) fn report_conflict(alloc: Global, found: &ArgMatches<'_>) -> WordsFau
     } else {
         "at most one of '--provider <ID>', '--family <ID>' and '--for-provider <ID>' is taken, and of '--tsv', '--json', '--jsonl', '--html' and '--html-dir <DIR>'"
     };
-    conflict(report(alloc).line(), "rxbatch report", text)
+    conflict(report(alloc), "rxbatch report", text)
 }
 
-/// The fault of `members` of no books and no period, or of both.
-pub(crate) fn members_conflict(alloc: Global) -> WordsFault
+// The fault of `members` of no books and no period, or of both.
+fn members_conflict(alloc: Global) -> WordsFault
     ensures { IsMisuse ErrorKind.ArgumentConflict result }
 {
     let text = "expected one of '--books <FILE>' and '--period <FIRST-LAST>'";
-    conflict(members(alloc).line(), "rxbatch members", text)
+    conflict(members(alloc), "rxbatch members", text)
 }
 
-/// The fault of `age` with no sheet and no percentage, or with both.
-pub(crate) fn age_conflict(alloc: Global) -> WordsFault
+// The fault of `age` with no sheet and no percentage, or with both.
+fn age_conflict(alloc: Global) -> WordsFault
     ensures { IsMisuse ErrorKind.ArgumentConflict result }
 {
     let text = "expected one of '--sheet <FILE>' and '--refill-percent <N>'";
-    conflict(age(alloc).line(), "rxbatch age", text)
+    conflict(age(alloc), "rxbatch age", text)
 }
 
-/// The fault of `family` in more than one form.
-pub(crate) fn family_conflict(alloc: Global) -> WordsFault
+// The fault of `family` in more than one form.
+fn family_conflict(alloc: Global) -> WordsFault
     ensures { IsMisuse ErrorKind.ArgumentConflict result }
 {
     let text = "at most one of '--tsv', '--json' and '--html' is taken";
-    conflict(family(alloc).line(), "rxbatch family", text)
+    conflict(family(alloc), "rxbatch family", text)
 }
 
-fn miscounted(
-    alloc: Global,
-    line: Result<Line<'_>, AllocError>,
-    program: &str,
-    found: &ArgMatches<'_>,
-) -> WordsFault
+fn miscounted(alloc: Global, draft: Draft<'_>, program: &str, found: &ArgMatches<'_>) -> WordsFault
     ensures { IsMisuse ErrorKind.ValueValidation result }
 {
     let number = text(found, "workers").unwrap_or("");
-    fault(told_miscounted(alloc, line, program, number))
+    fault(told_miscounted(alloc, draft, program, number))
 }
 
 // Of options that exclude or require each other.
-pub(crate) fn conflict(line: Result<Line<'_>, AllocError>, program: &str, text: &str) -> WordsFault
+pub(crate) fn conflict(draft: Draft<'_>, program: &str, text: &str) -> WordsFault
     ensures { IsMisuse ErrorKind.ArgumentConflict result }
 {
-    fault(told(line, program, ErrorKind::ArgumentConflict, text))
+    fault(told(draft, program, ErrorKind::ArgumentConflict, text))
 }
 
 // Of a value that isn't understood.
-fn invalid(line: Result<Line<'_>, AllocError>, program: &str, text: &str) -> WordsFault
+fn invalid(draft: Draft<'_>, program: &str, text: &str) -> WordsFault
     ensures { IsMisuse ErrorKind.ValueValidation result }
 {
-    fault(told(line, program, ErrorKind::ValueValidation, text))
+    fault(told(draft, program, ErrorKind::ValueValidation, text))
 }
 
 fn fault(told: Result<clap::Error, AllocError>) -> WordsFault
@@ -205,7 +218,7 @@ fn fault(told: Result<clap::Error, AllocError>) -> WordsFault
 
 fn told_miscounted(
     alloc: Global,
-    line: Result<Line<'_>, AllocError>,
+    draft: Draft<'_>,
     program: &str,
     number: &str,
 ) -> Result<clap::Error, AllocError>
@@ -214,17 +227,17 @@ fn told_miscounted(
     let text = format!(in alloc;
         "invalid value '{number}' for '--workers <N>': expected a number from 1 to 64"
     )?;
-    told(line, program, ErrorKind::ValueValidation, text.as_str())
+    told(draft, program, ErrorKind::ValueValidation, text.as_str())
 }
 
 fn told(
-    line: Result<Line<'_>, AllocError>,
+    draft: Draft<'_>,
     program: &str,
     kind: ErrorKind,
     text: &str,
 ) -> Result<clap::Error, AllocError>
     ensures { IfOk result (λ told. kind_of told ≡ kind) }
 {
-    let mut line = line?.bin_name(program)?;
+    let mut line = Box::into_inner(draft.line()?).bin_name(program)?;
     line.error(kind, text)
 }

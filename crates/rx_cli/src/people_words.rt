@@ -1,19 +1,16 @@
 //! The words of these commands, read.
-ghost use Rattle.std.specs.Prelude.{IfErr, IfNone, IfOk, IfSome};
+ghost use Rattle.std.specs.Prelude.{IfNone, IfSome};
 ghost use Rattle.clap.specs.Words.{found_of, rows_of};
 ghost use Rattle.rx_cli.specs.Asked.{HoldsAdjudicate, HoldsFault, NoneHolds};
-ghost use Rattle.rx_cli.specs.Faults.{IsWords};
 
-use crate::fault::WordsFault;
-use crate::misuse::adjudicate_miscounted;
 use crate::options::{flag, inputs, long_number, number_if_given, text};
 use crate::people::{AdjudicateWords, FaultNumbers};
 use clap::ArgMatches;
-use std::alloc::Global;
 
-fn adjudicate<'a>(found: &ArgMatches<'a>) -> Option<AdjudicateWords<'a>>
-    ensures some { IfSome result (HoldsAdjudicate (rows_of (found_of found.now))) }
+/// What `adjudicate` takes, with its workers in digits only.
+pub(crate) fn adjudicate<'a>(found: &ArgMatches<'a>) -> Option<AdjudicateWords<'a>>
     ensures none { IfNone result (NoneHolds (HoldsAdjudicate (rows_of (found_of found.now)))) }
+    ensures some { IfSome result (HoldsAdjudicate (rows_of (found_of found.now))) }
 {
     let inputs = inputs(found)?;
     let out = text(found, "out")?;
@@ -27,20 +24,6 @@ fn adjudicate<'a>(found: &ArgMatches<'a>) -> Option<AdjudicateWords<'a>>
         strict: flag(found, "strict"),
         quiet: flag(found, "quiet"),
     })
-}
-
-/// What `adjudicate` takes, with its workers in digits only.
-pub(crate) fn adjudicate_taken<'a>(
-    alloc: Global,
-    found: &ArgMatches<'a>,
-) -> Result<AdjudicateWords<'a>, WordsFault>
-    ensures ok { IfOk result (HoldsAdjudicate (rows_of (found_of found.now))) }
-    ensures words { IfErr result (λ e. IsWords e → NoneHolds (HoldsAdjudicate (rows_of (found_of found.now)))) }
-{
-    match adjudicate(found) {
-        Some(words) => Ok(words),
-        None => Err(adjudicate_miscounted(alloc, found)),
-    }
 }
 
 /// What `fault` takes: three numbers in digits only.

@@ -287,8 +287,8 @@ fn takes_retracing<'a>(alloc: Global, line: Draft<'a>) -> Draft<'a>
 }
 
 /// The command line of the program.
-pub(crate) fn line<'a>(alloc: Global) -> Result<Line<'a>, AllocError>
-    ensures { IfOk result (λ l. app_of l ≡ whole_line) }
+pub(crate) fn line<'a>(alloc: Global) -> Result<Box<Line<'a>>, AllocError>
+    ensures { IfOk result (λ l. app_of l.value ≡ whole_line) }
 {
     let top = named(alloc, "rxbatch", "Adjudicates pharmacy batch files")
         .subcommand_required(true)
