@@ -8,7 +8,7 @@ use crate::settings::{RunManner, RunPlan};
 use crate::shown_path::shown_path;
 use crate::texts::{open_each, read_opened};
 use rx_batch::read_batch;
-use rx_check::{Checked, early_stamp};
+use rx_check::{Checked, Warnings, early_stamp};
 use rx_cli::AdjudicateWords;
 use rx_fields::Memory;
 use rx_io::{Device, Inputs};
@@ -45,34 +45,44 @@ fn look(
     words: &AdjudicateWords<'_>,
     inputs: &Inputs<File>,
 ) -> Result<(), Ending> {
-    let texts = read_opened(rt, inputs, &words.inputs)?;
-    let checked = check(rt.alloc(), &words.inputs, &texts);
-    let early = early_text(rt.alloc(), words.stamp, texts.batch.as_slice());
-    drop(texts);
-    let Checked {
-        text,
-        refusal,
-        has_warnings: _,
-        warnings,
-    } = checked?;
-    let early = early?;
-    let stops = warnings.stop(words.again, words.strict) || (words.strict && !early.is_empty());
-    let stops_unless_again = !words.again && warnings.stop(false, false);
-    drop(warnings);
-    if let Some(fault) = refusal {
-        return Err(Ending::from(fault).in_words(without_end(rt.alloc(), &text)?));
+    let (checked, early) = checked(rt, words, inputs)?;
+    if let Some(fault) = checked.refusal {
+        return Err(Ending::from(fault).in_words(without_end(rt.alloc(), &checked.text)?));
     }
+    let text = checked.text.as_str();
     let _ = eprint!(rt; "{text}{early}");
-    if !stops {
-        return Ok(());
+    let strictly = words.strict && !early.is_empty();
+    match why_stopped(words, &checked.warnings, strictly) {
+        Some(why) => Err(Ending::Stopped(String::from_str(rt.alloc(), why)?)),
+        None => Ok(()),
     }
-    let why = if stops_unless_again {
-        "nothing is written; --again adjudicates despite such warnings"
+}
+
+// Why the warnings stop the command, if they do.
+fn why_stopped(
+    words: &AdjudicateWords<'_>,
+    warnings: &Warnings,
+    early: bool,
+) -> Option<&'static str> {
+    if !words.again && warnings.stop(false, false) {
+        Some("nothing is written; --again adjudicates despite such warnings")
+    } else if early || warnings.stop(words.again, words.strict) {
+        Some("nothing is written; without --strict such warnings don't matter")
     } else {
-        "nothing is written; without --strict such warnings don't matter"
-    };
-    let line = String::from_str(rt.alloc(), why)?;
-    Err(Ending::Stopped(line))
+        None
+    }
+}
+
+// What a check finds, and the warning of the stamp.
+fn checked(
+    rt: &HostRuntime,
+    words: &AdjudicateWords<'_>,
+    inputs: &Inputs<File>,
+) -> Result<(Checked, String), Ending> {
+    let texts = read_opened(rt, inputs, &words.inputs)?;
+    let checked = check(rt.alloc(), &words.inputs, &texts)?;
+    let early = early_text(rt.alloc(), words.stamp, &texts.batch)?;
+    Ok((checked, early))
 }
 
 fn check(alloc: Global, paths: &Inputs<&str>, texts: &Inputs<Vec<u8>>) -> Result<Checked, Memory> {

@@ -296,25 +296,46 @@ pub fn report<R: Threads + Sync>(
             return plans_reported::report(rt, threads, words, plans, batch);
         }
     };
-    let files = open_each(rt, &paths)?;
-    let nodes = files.as_ref().map(|file| Node::of(file));
-    let texts = read_opened(rt, &files, &paths);
-    drop(files);
-    let texts = texts?;
-    let printed = match words.form {
-        FormWords::Columns => report_in(rt, threads, words, &paths, &texts, Form::Columns),
-        FormWords::Tsv => report_in(rt, threads, words, &paths, &texts, Form::Tsv),
-        FormWords::Json => report_in(rt, threads, words, &paths, &texts, Form::Json),
-        FormWords::Jsonl => report_in(rt, threads, words, &paths, &texts, Form::Jsonl),
-        FormWords::Html => report_page(rt, threads, words, &paths, &texts),
-        FormWords::HtmlDir(folder) => {
-            return report_pages(rt, threads, words, &paths, texts, nodes, folder);
-        }
-    };
+    let (texts, nodes) = read_with_nodes(rt, &paths)?;
+    if let FormWords::HtmlDir(folder) = words.form {
+        return report_pages(rt, threads, words, &paths, texts, nodes, folder);
+    }
+    let printed = printed_report(rt, threads, words, &paths, &texts)?;
     drop(texts);
-    let printed = printed?;
     need_lines(rt, words.portion, printed.has_lines)?;
     print(rt, &printed.text)
+}
+
+// Opens the inputs, and then reads them.
+fn read_with_nodes(
+    rt: &HostRuntime,
+    paths: &Inputs<&str>,
+) -> Result<(Inputs<Vec<u8>>, Inputs<Node>), Ending> {
+    let files = open_each(rt, paths)?;
+    let texts = read_opened(rt, &files, paths)?;
+    Ok((texts, files.as_ref().map(|file| Node::of(file))))
+}
+
+// The report in the form that is asked for, but for a folder of pages; a page says its origin.
+fn printed_report<R: Threads + Sync>(
+    rt: &HostRuntime,
+    threads: &R,
+    words: &ReportWords<'_>,
+    paths: &Inputs<&str>,
+    texts: &Inputs<Vec<u8>>,
+) -> Result<PrintedReport, Ending> {
+    let form = match words.form {
+        FormWords::Columns => Form::Columns,
+        FormWords::Tsv => Form::Tsv,
+        FormWords::Json => Form::Json,
+        FormWords::Jsonl => Form::Jsonl,
+        FormWords::Html | FormWords::HtmlDir(_) => {
+            let noted = Noted::of(rt, paths, texts)?;
+            let form = Form::Html(noted.origin(paths)?);
+            return report_in(rt, threads, words, paths, texts, form);
+        }
+    };
+    report_in(rt, threads, words, paths, texts, form)
 }
 
 // Ends where a report is for a pharmacy that no id names, or as a page: its head has checksums of the whole inputs.
@@ -408,21 +429,6 @@ fn no_lines(rt: &HostRuntime, option: &str, id: &str) -> Result<Ending, Memory> 
     let shown = shown_path(rt.alloc(), id)?;
     let line = format!(in rt.alloc(); "{option} {shown}: the batch has no answer of it")?;
     Ok(Ending::Stopped(line))
-}
-
-// The report as a page, which says its origin.
-fn report_page<R: Threads + Sync>(
-    rt: &HostRuntime,
-    threads: &R,
-    words: &ReportWords<'_>,
-    paths: &Inputs<&str>,
-    texts: &Inputs<Vec<u8>>,
-) -> Result<PrintedReport, Ending> {
-    let noted = Noted::of(rt, paths, texts)?;
-    let form = Form::Html(noted.origin(paths)?);
-    let printed = report_in(rt, threads, words, paths, texts, form);
-    drop(noted);
-    printed
 }
 
 // The report in a form.

@@ -43,24 +43,39 @@ pub fn join<R: Threads + Sync>(
     threads: &R,
     words: &JoinWords<'_>,
 ) -> Result<(), Ending> {
-    let files = &words.files;
-    let mut inputs = JoinInputs::read(rt, files.plans, files.batch)?;
-    add_common_outputs(rt, files, words.safe, &mut inputs.known)?;
-    for plan in &inputs.plans {
-        add_settlement(rt, plan, words.safe, &mut inputs.known)?;
-    }
-    let output = inputs.join(rt, threads, files.batch)?;
-    let kept = inputs.known.nodes();
-    let paths = (files.response, files.settlement);
-    let texts = (output.response.as_slice(), output.settlement.as_slice());
-    write_common(rt, paths, texts, words.safe, kept)?;
-    for (plan, settlement) in inputs.plans.iter().zip(output.settlements.iter()) {
-        write_settlement(rt, plan, settlement, words.safe, kept)?;
-    }
-    Ok(())
+    let inputs = JoinInputs::beside_outputs(rt, words)?;
+    let output = inputs.join(rt, threads, words.files.batch)?;
+    inputs.write(rt, words, &output)
 }
 
 impl JoinInputs {
+    // Those that are named, of which no output is one.
+    fn beside_outputs(rt: &HostRuntime, words: &JoinWords<'_>) -> Result<JoinInputs, Ending> {
+        let mut inputs = JoinInputs::read(rt, words.files.plans, words.files.batch)?;
+        add_common_outputs(rt, &words.files, words.safe, &mut inputs.known)?;
+        for plan in &inputs.plans {
+            add_settlement(rt, plan, words.safe, &mut inputs.known)?;
+        }
+        Ok(inputs)
+    }
+
+    // Writes the outputs of all plans, and then the settlement of each.
+    fn write(
+        &self,
+        rt: &HostRuntime,
+        words: &JoinWords<'_>,
+        output: &JoinOutput,
+    ) -> Result<(), Ending> {
+        let kept = self.known.nodes();
+        let paths = (words.files.response, words.files.settlement);
+        let texts = (output.response.as_slice(), output.settlement.as_slice());
+        write_common(rt, paths, texts, words.safe, kept)?;
+        for (plan, settlement) in self.plans.iter().zip(output.settlements.iter()) {
+            write_settlement(rt, plan, settlement, words.safe, kept)?;
+        }
+        Ok(())
+    }
+
     // Reads the plans file, plan by plan its sheet and its response file, and the batch file.
     fn read(rt: &HostRuntime, plans: &str, batch: &str) -> Result<JoinInputs, Ending> {
         let SwitchPlans { plans, node } = SwitchPlans::read(rt, plans)?;

@@ -4,13 +4,14 @@ use crate::ending::Ending;
 use crate::plan_json::put_named_lines;
 use crate::plan_words::plan_head;
 use crate::refused_text::{inputs, refused_response};
-use crate::standard_output::{print, print_outcome};
+use crate::standard_output::print_outcome;
 use crate::switch_inputs::SwitchInputs;
 use rx_batch::{BatchFault, read_batch};
 use rx_cli::{Asked, ExplainWords};
 use rx_commands::{ExplainFault, Outcome, Printed};
 use rx_d0_request::{door_in, plan_named};
 use rx_fields::{Door, Memory, Provider};
+use rx_print::Page;
 use rx_sheet::read_sheet;
 use rx_switch::SwitchFault;
 use std::thread::Threads;
@@ -29,13 +30,24 @@ pub fn explain<R: Threads + Sync>(
     let response = response_given(rt, words.response)?;
     let response = response.as_ref().map(|text| text.as_slice());
     match place_asked(&words.asked) {
-        Some(place) => {
-            let number = plan_of_record(rt, batch, &given, place)?;
-            let printed = explained_by(rt, threads, words, batch, &given, number, response)?;
-            print_outcome(rt, with_plan(rt, words, &given, number, printed)?)
-        }
+        Some(place) => explain_record(rt, threads, words, place, batch, &given, response),
         None => explain_each(rt, threads, words, batch, &given, response),
     }
+}
+
+// Prints why a record was answered so, by the plan that it names.
+fn explain_record<R: Threads + Sync>(
+    rt: &HostRuntime,
+    threads: &R,
+    words: &ExplainWords<'_>,
+    place: usize,
+    path: &str,
+    given: &SwitchInputs,
+    response: Option<&[u8]>,
+) -> Result<(), Ending> {
+    let number = plan_of_record(rt, path, given, place)?;
+    let printed = explained_by(rt, threads, words, path, given, number, response)?;
+    print_outcome(rt, with_plan(rt, words, given, number, printed)?)
 }
 
 // The record that is asked for, if one is.
@@ -186,18 +198,25 @@ fn with_plan(
     if outcome == Outcome::NotFound {
         return Ok(Printed { text, outcome });
     }
-    let mut named = Vec::new(rt.alloc());
+    let text = named_text(rt, words, plan.name.as_str(), &text)?;
+    Ok(Printed { text, outcome })
+}
+
+fn named_text(
+    rt: &HostRuntime,
+    words: &ExplainWords<'_>,
+    name: &str,
+    text: &[u8],
+) -> Result<Vec<u8>, Memory> {
+    let mut page = Page::new(rt.alloc());
     if words.json {
-        put_named_lines(rt.alloc(), &mut named, plan.name.as_str(), &text)?;
+        put_named_lines(&mut page, name, text)?;
     } else {
-        let head = plan_head(rt.alloc(), plan.name.as_str())?;
-        named.extend_from_slice(head.as_str().as_bytes())?;
-        named.extend_from_slice(&text)?;
+        let head = plan_head(rt.alloc(), name)?;
+        page.say(head.as_str());
+        page.put(text);
     }
-    Ok(Printed {
-        text: named,
-        outcome,
-    })
+    page.into_bytes()
 }
 
 // Prints what each plan explains that has what is asked for.
@@ -209,26 +228,44 @@ fn explain_each<R: Threads + Sync>(
     given: &SwitchInputs,
     response: Option<&[u8]>,
 ) -> Result<(), Ending> {
-    let mut found = Vec::new(rt.alloc());
-    let mut outcome = Outcome::NotFound;
-    let mut missed = Vec::new(rt.alloc());
+    let mut found = Found {
+        page: Page::new(rt.alloc()),
+        outcome: Outcome::NotFound,
+        missed: Vec::new(rt.alloc()),
+    };
     for number in 0..given.plans.len() {
         let printed = explained_by(rt, threads, words, path, given, number, response)?;
-        let printed = with_plan(rt, words, given, number, printed)?;
-        if printed.outcome == Outcome::NotFound {
-            missed = printed.text;
+        found.add(with_plan(rt, words, given, number, printed)?);
+    }
+    found.print(rt)
+}
+
+// What the plans explain that have what is asked for; of the last that hasn't, the line that says so.
+#[derive(Drop)]
+struct Found {
+    page: Page,
+    outcome: Outcome,
+    missed: Vec<u8>,
+}
+
+impl Found {
+    fn add(&mut self, printed: Printed) {
+        let Printed { text, outcome } = printed;
+        if outcome == Outcome::NotFound {
+            self.missed = text;
         } else {
-            found.extend_from_slice(&printed.text)?;
-            outcome = later(outcome, printed.outcome);
+            self.page.put(&text);
+            self.outcome = later(self.outcome, outcome);
         }
     }
-    match outcome {
-        Outcome::NotFound => Err(Ending::NotFound(missed)),
-        Outcome::Done => print(rt, &found),
-        Outcome::Differs => {
-            print(rt, &found)?;
-            Err(Ending::Differs)
+
+    fn print(self, rt: &HostRuntime) -> Result<(), Ending> {
+        if self.outcome == Outcome::NotFound {
+            return Err(Ending::NotFound(self.missed));
         }
+        let Found { page, outcome, .. } = self;
+        let text = page.into_bytes()?;
+        print_outcome(rt, Printed { text, outcome })
     }
 }
 

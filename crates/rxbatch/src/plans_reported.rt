@@ -9,9 +9,8 @@ use crate::switch_inputs::SwitchInputs;
 use rx_cli::{Form as FormWords, Portion as PortionWords, ReportWords};
 use rx_commands::{Form, PrintedReport, report_own};
 use rx_fields::{Memory, Stamp};
-use rx_print::{Style, put_escaped};
+use rx_print::{Page, Style};
 use rx_switch::SwitchFault;
-use std::alloc::Global;
 use std::thread::Threads;
 
 // What a report of several plans is written as.
@@ -34,20 +33,32 @@ pub fn report<R: Threads + Sync>(
 ) -> Result<(), Ending> {
     let form = form_by(words.form)?;
     let given = SwitchInputs::read(rt, plans, batch)?;
+    let reports = reports_of(rt, threads, words, batch, &given, form)?;
+    need_lines(rt, words.portion, reports.count > 0)?;
+    print(rt, &reports.into_bytes()?)
+}
+
+// The reports of all plans.
+fn reports_of<R: Threads + Sync>(
+    rt: &HostRuntime,
+    threads: &R,
+    words: &ReportWords<'_>,
+    batch: &str,
+    given: &SwitchInputs,
+    form: PlansForm,
+) -> Result<Reports, Ending> {
     let mut reports = Reports {
-        text: Vec::new(rt.alloc()),
+        page: Page::new(rt.alloc()),
         count: 0,
         form,
     };
     for number in 0..given.plans.len() {
-        let printed = report_by(rt, threads, &given, number, words, batch)?;
+        let printed = report_by(rt, threads, given, number, words, batch)?;
         if printed.has_lines || words.portion == PortionWords::Whole {
-            reports.add(rt.alloc(), name_of(&given, number), &printed.text)?;
+            reports.add(name_of(given, number), &printed.text)?;
         }
     }
-    need_lines(rt, words.portion, reports.count > 0)?;
-    reports.end()?;
-    print(rt, &reports.text)
+    Ok(reports)
 }
 
 fn form_by(words: FormWords<'_>) -> Result<PlansForm, Ending> {
@@ -117,84 +128,82 @@ fn report_texts<'x, R: Threads + Sync>(
 // What is printed, so far of this many plans.
 #[derive(Drop)]
 struct Reports {
-    text: Vec<u8>,
+    page: Page,
     count: usize,
     form: PlansForm,
 }
 
 impl Reports {
     // Adds the report of a plan.
-    fn add(&mut self, alloc: Global, name: &str, report: &[u8]) -> Result<(), Memory> {
+    fn add(&mut self, name: &str, report: &[u8]) -> Result<(), Memory> {
         match self.form {
-            PlansForm::Columns => self.add_columns(alloc, name, report)?,
-            PlansForm::Tsv => self.add_rows(name, report)?,
-            PlansForm::Json => self.add_object(alloc, name, report)?,
-            PlansForm::Jsonl => put_named_lines(alloc, &mut self.text, name, report)?,
+            PlansForm::Columns => self.add_columns(name, report)?,
+            PlansForm::Tsv => self.add_rows(name, report),
+            PlansForm::Json => self.add_object(name, report)?,
+            PlansForm::Jsonl => put_named_lines(&mut self.page, name, report)?,
         }
         self.count = self.count.saturating_add(1);
         Ok(())
     }
 
     // Below the plan's name, after an empty line where an earlier plan's stands.
-    fn add_columns(&mut self, alloc: Global, name: &str, report: &[u8]) -> Result<(), Memory> {
+    fn add_columns(&mut self, name: &str, report: &[u8]) -> Result<(), Memory> {
+        let head = plan_head(self.page.alloc(), name)?;
         if self.count > 0 {
-            self.text.push(b'\n')?;
+            self.page.say("\n");
         }
-        let head = plan_head(alloc, name)?;
-        self.text.extend_from_slice(head.as_str().as_bytes())?;
-        self.text.extend_from_slice(report)?;
+        self.page.say(head.as_str());
+        self.page.put(report);
         Ok(())
     }
 
     // Rows with the plan's name in the first column, the heading only once.
-    fn add_rows(&mut self, name: &str, report: &[u8]) -> Result<(), Memory> {
+    fn add_rows(&mut self, name: &str, report: &[u8]) {
         let mut is_heading = true;
         for row in report.split(|byte| *byte == b'\n') {
             if is_heading {
-                self.add_heading(row)?;
+                self.add_heading(row);
             } else if !row.is_empty() {
-                put_escaped(&mut self.text, Style::Terminal, name.as_bytes())?;
-                self.add_cells(row)?;
+                self.page.escaped(Style::Terminal, name.as_bytes());
+                self.add_cells(row);
             }
             is_heading = false;
         }
-        Ok(())
     }
 
-    fn add_heading(&mut self, row: &[u8]) -> Result<(), Memory> {
-        if self.count > 0 {
-            return Ok(());
+    fn add_heading(&mut self, row: &[u8]) {
+        if self.count == 0 {
+            self.page.say("plan");
+            self.add_cells(row);
         }
-        self.text.extend_from_slice(b"plan")?;
-        self.add_cells(row)
     }
 
-    fn add_cells(&mut self, row: &[u8]) -> Result<(), Memory> {
-        self.text.push(b'\t')?;
-        self.text.extend_from_slice(row)?;
-        self.text.push(b'\n')?;
-        Ok(())
+    fn add_cells(&mut self, row: &[u8]) {
+        self.page.say("\t");
+        self.page.put(row);
+        self.page.say("\n");
     }
 
     // An object of the list `plans`.
-    fn add_object(&mut self, alloc: Global, name: &str, report: &[u8]) -> Result<(), Memory> {
-        if self.count == 0 {
-            self.text.extend_from_slice(b"{\"plans\":[\n")?;
+    fn add_object(&mut self, name: &str, report: &[u8]) -> Result<(), Memory> {
+        let member = name_member(self.page.alloc(), name)?;
+        self.page.say(if self.count == 0 {
+            "{\"plans\":[\n"
         } else {
-            self.text.extend_from_slice(b",\n")?;
-        }
-        let member = name_member(alloc, name)?;
+            ",\n"
+        });
         if let [b'{', rest @ .., b'\n'] = report {
-            put_object(&mut self.text, member.as_str(), rest)?;
+            put_object(&mut self.page, member.as_str(), rest);
         }
         Ok(())
     }
 
-    // Adds what stands after the last plan's.
-    fn end(&mut self) -> Result<(), Memory> {
-        if self.form == PlansForm::Json {
-            self.text.extend_from_slice(b"]}\n")?;
+    // The whole text, with what stands after the last plan's.
+    fn into_bytes(self) -> Result<Vec<u8>, Memory> {
+        let Reports { mut page, form, .. } = self;
+        if form == PlansForm::Json {
+            page.say("]}\n");
         }
-        Ok(())
+        page.into_bytes()
     }
 }

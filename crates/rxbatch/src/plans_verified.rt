@@ -9,7 +9,7 @@ use rx_cli::VerifyWords;
 use rx_commands::{first_difference, pieces_before, rest_of_piece};
 use rx_fields::Memory;
 use rx_io::Device;
-use rx_print::{Style, put_escaped};
+use rx_print::{Page, Style};
 use rx_sheet::PlanFiles;
 use rx_switch::{PlanOutput, RouteOutput};
 use std::alloc::Global;
@@ -51,97 +51,137 @@ pub fn verify<R: Threads + Sync>(
         return Err(Ending::NoValue("--plans", "neither '--plain' nor '--desk'"));
     }
     let (plans, batch) = inputs;
-    let (response, settlement) = outputs;
     let inputs = SwitchInputs::read(rt, plans, batch)?;
-    let response = text_of(rt, response, Device::Response)?;
-    let settlement = text_of(rt, settlement, Device::Settlement)?;
-    let output = inputs.route(rt, threads, batch, words.stamp, words.workers)?;
-    let mut found = Differences {
-        lines: Vec::new(rt.alloc()),
+    verify_read(rt, threads, words, &inputs, batch, outputs)
+}
+
+// The same of inputs that were read.
+fn verify_read<R: Threads + Sync>(
+    rt: &HostRuntime,
+    threads: &R,
+    words: &VerifyWords<'_>,
+    inputs: &SwitchInputs,
+    batch: &str,
+    outputs: (&str, &str),
+) -> Result<(), Ending> {
+    let (response, settlement) = outputs;
+    let files = SharedFiles {
+        response: text_of(rt, response, Device::Response)?,
+        settlement: text_of(rt, settlement, Device::Settlement)?,
     };
-    found.add(rt.alloc(), "response", RECORD, &output.response, &response)?;
-    found.add(
-        rt.alloc(),
-        "settlement",
-        LINE,
-        &output.settlement,
-        &settlement,
-    )?;
-    for (plan, own) in inputs.plans.iter().zip(output.plans.iter()) {
-        found.add_plan(rt, plan, own)?;
-    }
-    if found.lines.is_empty() {
+    let output = inputs.route(rt, threads, batch, words.stamp, words.workers)?;
+    let lines = differences(rt, inputs, &output, &files)?;
+    if lines.is_empty() {
         return tell_same(rt, &output);
     }
-    print(rt, &found.lines)?;
+    print(rt, &lines)?;
     Err(Ending::Differs)
 }
 
-// A line for each file that isn't what the inputs give.
+// The files of an earlier run that are of all plans.
 #[derive(Drop)]
-struct Differences {
-    lines: Vec<u8>,
+struct SharedFiles {
+    response: Vec<u8>,
+    settlement: Vec<u8>,
 }
 
-impl Differences {
-    // Adds what differs of the files of a plan.
-    fn add_plan(
-        &mut self,
-        rt: &HostRuntime,
-        plan: &PlanFiles,
-        own: &PlanOutput,
-    ) -> Result<(), Ending> {
-        let (name, path) = (plan.name.as_str(), plan.books_out.as_str());
-        let books = plan_text(rt, name, "books_out", path, Device::EndBooks)?;
-        let label = plan_line(rt.alloc(), name, "books_out")?;
-        self.add(rt.alloc(), label.as_str(), LINE, &own.books, &books)?;
-        let Some(path) = &plan.settlement else {
-            return Ok(());
-        };
-        let settlement = plan_text(rt, name, "settlement", path.as_str(), Device::Settlement)?;
-        let label = plan_line(rt.alloc(), name, "settlement")?;
-        self.add(
-            rt.alloc(),
-            label.as_str(),
-            LINE,
-            &own.settlement,
-            &settlement,
-        )?;
-        Ok(())
+// A line for each file that isn't what the inputs give.
+fn differences(
+    rt: &HostRuntime,
+    inputs: &SwitchInputs,
+    output: &RouteOutput,
+    files: &SharedFiles,
+) -> Result<Vec<u8>, Ending> {
+    let mut page = Page::new(rt.alloc());
+    put_difference(
+        &mut page,
+        "response",
+        RECORD,
+        &output.response,
+        &files.response,
+    );
+    put_difference(
+        &mut page,
+        "settlement",
+        LINE,
+        &output.settlement,
+        &files.settlement,
+    );
+    for (plan, own) in inputs.plans.iter().zip(output.plans.iter()) {
+        put_plan(rt, &mut page, plan, own)?;
     }
+    Ok(page.into_bytes()?)
+}
 
-    // Adds a line where a file isn't the text: which line or record differs first, and from which byte on.
-    fn add(
-        &mut self,
-        alloc: Global,
-        label: &str,
-        cut: Cut,
-        ours: &[u8],
-        theirs: &[u8],
-    ) -> Result<(), Memory> {
-        let Some(at) = first_difference(ours, theirs) else {
-            return Ok(());
-        };
-        let number = pieces_before(ours, at, cut.end).saturating_add(cut.first);
-        let word = cut.word;
-        let place = format!(in alloc; "{label}: {word} {number} differs from byte {at}: file ")?;
-        self.lines.extend_from_slice(place.as_str().as_bytes())?;
-        put_piece(&mut self.lines, rest_of_piece(theirs, at, cut.end))?;
-        self.lines.extend_from_slice(b", replay ")?;
-        put_piece(&mut self.lines, rest_of_piece(ours, at, cut.end))?;
-        self.lines.push(b'\n')?;
-        Ok(())
-    }
+// What differs of the files of a plan.
+fn put_plan(
+    rt: &HostRuntime,
+    page: &mut Page,
+    plan: &PlanFiles,
+    own: &PlanOutput,
+) -> Result<(), Ending> {
+    let name = plan.name.as_str();
+    let books = plan_text(
+        rt,
+        name,
+        "books_out",
+        plan.books_out.as_str(),
+        Device::EndBooks,
+    )?;
+    put_plan_file(rt.alloc(), page, (name, "books_out"), &own.books, &books)?;
+    let Some(path) = &plan.settlement else {
+        return Ok(());
+    };
+    let settlement = plan_text(rt, name, "settlement", path.as_str(), Device::Settlement)?;
+    Ok(put_plan_file(
+        rt.alloc(),
+        page,
+        (name, "settlement"),
+        &own.settlement,
+        &settlement,
+    )?)
+}
+
+// What differs of a file of a plan, by the plan's name and the file's key.
+fn put_plan_file(
+    alloc: Global,
+    page: &mut Page,
+    (name, key): (&str, &str),
+    ours: &[u8],
+    theirs: &[u8],
+) -> Result<(), Memory> {
+    let label = plan_line(alloc, name, key)?;
+    put_difference(page, label.as_str(), LINE, ours, theirs);
+    Ok(())
+}
+
+// A line where a file isn't the text: which line or record differs first, and from which byte on.
+fn put_difference(page: &mut Page, label: &str, cut: Cut, ours: &[u8], theirs: &[u8]) {
+    let Some(at) = first_difference(ours, theirs) else {
+        return;
+    };
+    let number = pieces_before(ours, at, cut.end).saturating_add(cut.first);
+    page.say(label);
+    page.say(": ");
+    page.say(cut.word);
+    page.say(" ");
+    page.number(number as u128);
+    page.say(" differs from byte ");
+    page.number(at as u128);
+    page.say(": file ");
+    put_piece(page, rest_of_piece(theirs, at, cut.end));
+    page.say(", replay ");
+    put_piece(page, rest_of_piece(ours, at, cut.end));
+    page.say("\n");
 }
 
 // Bytes as a terminal shows them, of many the front only.
-fn put_piece(lines: &mut Vec<u8>, piece: &[u8]) -> Result<(), Memory> {
+fn put_piece(page: &mut Page, piece: &[u8]) {
     let front = piece.get(..LONGEST).unwrap_or(piece);
-    put_escaped(lines, Style::Terminal, front)?;
+    page.escaped(Style::Terminal, front);
     if front.len() < piece.len() {
-        lines.extend_from_slice(b"..")?;
+        page.say("..");
     }
-    Ok(())
 }
 
 fn tell_same(rt: &HostRuntime, output: &RouteOutput) -> Result<(), Ending> {

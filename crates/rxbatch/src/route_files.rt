@@ -26,24 +26,42 @@ pub fn route<R: Threads + Sync>(
 ) -> Result<(), Ending> {
     let workers = workers_or_all(threads, words.workers);
     let begin = RouteBegin::now(rt, workers);
+    let mut inputs = inputs_beside_outputs(rt, words)?;
+    match words.log {
+        Some(path) => route_with_log(rt, threads, words, &begin, &mut inputs, path),
+        None => match route_and_write(rt, threads, words, workers, &inputs) {
+            Ok(_) => Ok(()),
+            Err(ending) => Err(ending),
+        },
+    }
+}
+
+// The inputs, of which no output is one.
+fn inputs_beside_outputs(rt: &HostRuntime, words: &RouteWords<'_>) -> Result<SwitchInputs, Ending> {
     let mut inputs = SwitchInputs::read(rt, words.files.plans, words.files.batch)?;
     add_common_outputs(rt, &words.files, words.safe, &mut inputs.known)?;
     add_plan_outputs(rt, &inputs.plans, words.safe, &mut inputs.known)?;
-    let Some(path) = words.log else {
-        return match route_and_write(rt, threads, words, workers, &inputs) {
-            Ok(_) => Ok(()),
-            Err(ending) => Err(ending),
-        };
-    };
+    Ok(inputs)
+}
+
+// The same with a log at a path, to which lines are added.
+fn route_with_log<R: Threads + Sync>(
+    rt: &HostRuntime,
+    threads: &R,
+    words: &RouteWords<'_>,
+    begin: &RouteBegin,
+    inputs: &mut SwitchInputs,
+    path: &str,
+) -> Result<(), Ending> {
     let log = LogFile::open_known(rt, path, &mut inputs.known)?;
-    match route_and_write(rt, threads, words, workers, &inputs) {
+    match route_and_write(rt, threads, words, begin.workers, inputs) {
         Ok(output) => {
-            let lines = done_lines(rt, words, &begin, &inputs, &output);
+            let lines = done_lines(rt, words, begin, inputs, &output);
             add_lines(rt, log, lines)
         }
         Err(ending) => {
             // What ended the run is the answer, also where the log fails.
-            let line = failed_line(rt, words, &begin, &inputs, &ending);
+            let line = failed_line(rt, words, begin, inputs, &ending);
             let _ = add_lines(rt, log, line);
             Err(ending)
         }

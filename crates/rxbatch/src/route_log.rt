@@ -1,7 +1,7 @@
 //! The log of a run of several plans.
 use crate::ending::Ending;
 use crate::switch_inputs::{PlanTexts, SwitchInputs};
-use crate::watched_run::{failed_end, host_name, peak, text_of, time_now};
+use crate::watched_run::{ended_line, failed_end, host_name, peak, text_of, time_now};
 use rx_cli::{RouteWords, VERSION};
 use rx_io::{Inputs, Outputs};
 use rx_run_log::{
@@ -42,16 +42,28 @@ struct SizedFile {
 }
 
 impl SizedFile {
-    fn new(alloc: Global, path: &str, bytes: Option<u64>) -> Result<SizedFile, AllocError> {
+    // No file.
+    fn none(alloc: Global) -> SizedFile {
+        SizedFile {
+            path: String::new(alloc),
+            bytes: None,
+        }
+    }
+
+    // A file that wasn't written.
+    fn unwritten(alloc: Global, path: &str) -> Result<SizedFile, AllocError> {
         Ok(SizedFile {
             path: String::from_str(alloc, path)?,
-            bytes,
+            bytes: None,
         })
     }
 
     // A file of these bytes.
     fn of(alloc: Global, path: &str, text: &[u8]) -> Result<SizedFile, AllocError> {
-        SizedFile::new(alloc, path, Some(text.len() as u64))
+        Ok(SizedFile {
+            path: String::from_str(alloc, path)?,
+            bytes: Some(text.len() as u64),
+        })
     }
 
     fn log(&self) -> FileLog<'_> {
@@ -106,14 +118,20 @@ pub fn done_lines(
     let mut lines = String::new(alloc);
     let plans = inputs.plans.iter().zip(inputs.texts.iter());
     for ((plan, texts), own) in plans.zip(output.plans.iter()) {
-        let files = plan_inputs(alloc, plan, texts, words.files.batch, &inputs.batch)?;
-        let written = plan_outputs(alloc, &output.response, words.files.response, plan, own)?;
-        let run = run_parts(alloc, words, begin, &inputs.batch)?;
-        let parts = done_parts(alloc, run, plan, own, files, written)?;
+        let done = DonePlan { plan, texts, own };
+        let parts = done_parts(alloc, words, begin, inputs, output, done)?;
         let line = line(rt, words, begin, &parts)?;
         lines.push_str(line.as_str())?;
     }
     Ok(lines)
+}
+
+// A plan with what was read of it, and what it got.
+#[derive(Clone, Copy)]
+struct DonePlan<'a> {
+    plan: &'a PlanFiles,
+    texts: &'a PlanTexts,
+    own: &'a PlanOutput,
 }
 
 /// The line of a run that isn't done.
@@ -160,17 +178,18 @@ fn lot_parts(alloc: Global, batch: &[u8]) -> Result<Option<LotParts>, AllocError
     }
 }
 
-// Those of a plan with these files.
+// Those of a plan that is done.
 fn done_parts(
     alloc: Global,
-    run: RunParts,
-    plan: &PlanFiles,
-    own: &PlanOutput,
-    inputs: Inputs<SizedFile>,
-    outputs: Outputs<SizedFile>,
+    words: &RouteWords<'_>,
+    begin: &RouteBegin,
+    inputs: &SwitchInputs,
+    output: &RouteOutput,
+    done: DonePlan<'_>,
 ) -> Result<LineParts, AllocError> {
+    let DonePlan { plan, texts, own } = done;
     Ok(LineParts {
-        run,
+        run: run_parts(alloc, words, begin, &inputs.batch)?,
         plan: Some(String::from_str(alloc, plan.name.as_str())?),
         status: 0,
         refused: None,
@@ -178,8 +197,8 @@ fn done_parts(
         fault: None,
         end_books_lines: Some(line_feeds_in(&own.books)),
         totals: Totals::of_settlement(&own.settlement),
-        inputs,
-        outputs,
+        inputs: plan_inputs(alloc, plan, texts, words.files.batch, &inputs.batch)?,
+        outputs: plan_outputs(alloc, &output.response, words.files.response, plan, own)?,
     })
 }
 
@@ -206,7 +225,7 @@ fn plan_outputs(
 ) -> Result<Outputs<SizedFile>, AllocError> {
     let settlement = match &plan.settlement {
         Some(path) => SizedFile::of(alloc, path.as_str(), &own.settlement)?,
-        None => SizedFile::new(alloc, "", None)?,
+        None => SizedFile::none(alloc),
     };
     Ok(Outputs {
         response: SizedFile::of(alloc, path, response)?,
@@ -224,31 +243,39 @@ fn failed_parts(
     ending: &Ending,
 ) -> Result<LineParts, AllocError> {
     let (status, refused, file) = failed_end(ending);
-    let fault = match ending {
-        Ending::InWords(_, line) | Ending::Conflict(line) => {
-            Some(String::from_str(alloc, line.as_str())?)
-        }
-        _ => None,
-    };
     Ok(LineParts {
         run,
         plan: None,
         status,
         refused,
         file,
-        fault,
+        fault: fault_words(alloc, ending)?,
         end_books_lines: None,
         totals: None,
         inputs: Inputs {
-            sheet: SizedFile::new(alloc, "", None)?,
-            books: SizedFile::new(alloc, "", None)?,
+            sheet: SizedFile::none(alloc),
+            books: SizedFile::none(alloc),
             batch: SizedFile::of(alloc, words.files.batch, batch)?,
         },
-        outputs: Outputs {
-            response: SizedFile::new(alloc, words.files.response, None)?,
-            books: SizedFile::new(alloc, "", None)?,
-            settlement: SizedFile::new(alloc, words.files.settlement, None)?,
-        },
+        outputs: failed_outputs(alloc, words)?,
+    })
+}
+
+fn fault_words(alloc: Global, ending: &Ending) -> Result<Option<String>, AllocError> {
+    match ending {
+        Ending::InWords(_, line) | Ending::Conflict(line) => {
+            Ok(Some(String::from_str(alloc, line.as_str())?))
+        }
+        _ => Ok(None),
+    }
+}
+
+// The outputs of a run that wrote none.
+fn failed_outputs(alloc: Global, words: &RouteWords<'_>) -> Result<Outputs<SizedFile>, AllocError> {
+    Ok(Outputs {
+        response: SizedFile::unwritten(alloc, words.files.response)?,
+        books: SizedFile::none(alloc),
+        settlement: SizedFile::unwritten(alloc, words.files.settlement)?,
     })
 }
 
@@ -287,9 +314,7 @@ fn line(
         steps: StepTimes { micros: [None; 8] },
         peak: peak(rt),
     };
-    let mut line = log_line(rt.alloc(), &log)?;
-    line.push('\n')?;
-    Ok(line)
+    ended_line(log_line(rt.alloc(), &log))
 }
 
 fn lot_in_log(lot: &Option<LotParts>) -> Option<Lot<'_>> {

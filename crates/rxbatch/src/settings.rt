@@ -79,11 +79,7 @@ impl RunPlan {
     ) -> Result<RunPlan, AllocError> {
         let folder = words.out;
         let inputs = copied_inputs(alloc, &words.inputs)?;
-        let outputs = Outputs {
-            response: format!(in alloc; "{folder}/response.bin")?,
-            books: format!(in alloc; "{folder}/books.txt")?,
-            settlement: format!(in alloc; "{folder}/settlement.txt")?,
-        };
+        let outputs = outputs_in(alloc, folder)?;
         let log = format!(in alloc; "{folder}/log.jsonl")?;
         Ok(RunPlan {
             inputs,
@@ -147,6 +143,14 @@ impl RunManner {
             sums: true,
         }
     }
+}
+
+fn outputs_in(alloc: Global, folder: &str) -> Result<Outputs<String>, AllocError> {
+    Ok(Outputs {
+        response: format!(in alloc; "{folder}/response.bin")?,
+        books: format!(in alloc; "{folder}/books.txt")?,
+        settlement: format!(in alloc; "{folder}/settlement.txt")?,
+    })
 }
 
 fn copied_inputs(alloc: Global, paths: &Inputs<&str>) -> Result<Inputs<String>, AllocError> {

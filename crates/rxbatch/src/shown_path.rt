@@ -7,28 +7,27 @@ use std::alloc::{AllocError, Global};
 /// marks, else in quotes, with each other byte by its number.
 pub fn shown_path(alloc: Global, path: &str) -> Result<String, Memory> {
     let bytes = path.as_bytes();
-    let mut shown = String::new(alloc);
     if names_stream(path) {
-        shown.push_str(path)?;
-        return Ok(shown);
+        return Ok(String::from_str(alloc, path)?);
     }
     // A command would read it as an option.
-    if path.starts_with('-') {
-        shown.push_str("./")?;
-    }
+    let front = if path.starts_with('-') { "./" } else { "" };
     if !bytes.is_empty() && bytes.iter().all(|byte| is_plain(*byte)) {
-        shown.push_str(path)?;
+        Ok(format!(in alloc; "{front}{path}")?)
     } else if bytes.iter().all(|byte| is_quotable(*byte)) {
-        shown.push('\'')?;
-        shown.push_str(path)?;
-        shown.push('\'')?;
+        Ok(format!(in alloc; "{front}'{path}'")?)
     } else {
-        shown.push_str("$'")?;
-        for byte in bytes {
-            put_byte(alloc, &mut shown, *byte)?;
-        }
-        shown.push('\'')?;
+        Ok(numbered_path(alloc, front, bytes)?)
     }
+}
+
+// The path in quotes, with each byte that a shell wouldn't read as it is by its number.
+fn numbered_path(alloc: Global, front: &str, bytes: &[u8]) -> Result<String, AllocError> {
+    let mut shown = format!(in alloc; "{front}$'")?;
+    for byte in bytes {
+        put_byte(alloc, &mut shown, *byte)?;
+    }
+    shown.push('\'')?;
     Ok(shown)
 }
 

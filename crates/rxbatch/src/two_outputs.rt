@@ -59,10 +59,7 @@ impl<'a> TwoOutputs<'a> {
         mut end_books: KeptFile,
         mut other: KeptFile,
     ) -> Result<(), Ending> {
-        let first = end_books.twice(rt, END_BOOKS, inputs);
-        let second = other.twice(rt, self.name, inputs);
-        let third = other.twice(rt, self.name, &[(END_BOOKS, end_books.node())]);
-        if let Some(ending) = first.or(second).or(third) {
+        if let Some(ending) = self.twice(rt, inputs, &end_books, &other) {
             end_books.remove_made(rt);
             other.remove_made(rt);
             return Err(ending);
@@ -70,9 +67,24 @@ impl<'a> TwoOutputs<'a> {
         let all = self.put_both(rt, &mut end_books, &mut other);
         let other_ended = other.end(rt, self.name);
         let books_ended = end_books.end(rt, END_BOOKS);
-        all?;
-        other_ended?;
-        books_ended
+        all.and(other_ended).and(books_ended)
+    }
+
+    // The ending where an output is one of the inputs, or both are one file.
+    fn twice(
+        &self,
+        rt: &HostRuntime,
+        inputs: &[(ProgramFile, Node)],
+        end_books: &KeptFile,
+        other: &KeptFile,
+    ) -> Option<Ending> {
+        if let Some(ending) = end_books.twice(rt, END_BOOKS, inputs) {
+            return Some(ending);
+        }
+        if let Some(ending) = other.twice(rt, self.name, inputs) {
+            return Some(ending);
+        }
+        other.twice(rt, self.name, &[(END_BOOKS, end_books.node())])
     }
 
     fn put_both(

@@ -1,4 +1,6 @@
 //! The commands that keep books up, on files.
+ghost use Rattle.std.specs.Prelude.{◌≤◌, IfOk};
+
 use crate::ending::Ending;
 use crate::file_fault::ProgramFile;
 use crate::files::open_input;
@@ -14,7 +16,7 @@ use rx_books_upkeep::{
     AgedText, Loaded, MembersText, age_text, changes_text, founded_text, members_text,
 };
 use rx_cli::{AgeWords, MembersWords, Origin, Percent};
-use rx_fields::{Day, Memory, date_write};
+use rx_fields::{Day, Memory, Period, date_write};
 use rx_io::{Device, Pieces};
 use std::alloc::Global;
 use std::fs::File;
@@ -32,25 +34,40 @@ pub fn members<R: Threads + Sync>(
     words: &MembersWords<'_>,
 ) -> Result<(), Ending> {
     let table = open_table(rt, words.members)?;
-    let table_node = Node::of(&table);
-    let (books_node, done) = match words.origin {
-        Origin::Books(path) => {
-            let books = opened(rt, path, Device::Books)?;
-            (
-                Node::of(&books),
-                loaded(rt, threads, words, path, &books, &table)?,
-            )
+    match words.origin {
+        Origin::Books(path) => load(rt, threads, words, path, &table),
+        Origin::Period(period) => {
+            let done = first_books(rt, threads, words, period, &table)?;
+            finish_members(rt, words, Node::Other, &table, &done)
         }
-        Origin::Period(period) => (
-            Node::Other,
-            first_books(rt, threads, words, period, &table)?,
-        ),
-    };
-    let inputs = [(BOOKS, books_node), (ProgramFile::Members, table_node)];
-    write_members(rt, words, &inputs, &done)?;
-    let line = counts_line(rt.alloc(), done.counts);
-    drop(done);
-    print(rt, line?.as_str().as_bytes())
+    }
+}
+
+// Loads the table into the books at a path.
+fn load<R: Threads + Sync>(
+    rt: &HostRuntime,
+    threads: &R,
+    words: &MembersWords<'_>,
+    path: &str,
+    table: &File,
+) -> Result<(), Ending> {
+    let books = opened(rt, path, Device::Books)?;
+    let done = loaded(rt, threads, words, path, &books, table)?;
+    finish_members(rt, words, Node::of(&books), table, &done)
+}
+
+// Writes the end books, and prints what became of the members.
+fn finish_members(
+    rt: &HostRuntime,
+    words: &MembersWords<'_>,
+    books: Node,
+    table: &File,
+    done: &MembersText,
+) -> Result<(), Ending> {
+    let inputs = [(BOOKS, books), (ProgramFile::Members, Node::of(table))];
+    write_members(rt, words, &inputs, done)?;
+    let line = counts_line(rt.alloc(), done.counts)?;
+    print(rt, line.as_str().as_bytes())
 }
 
 // The table loaded into opening books.
@@ -179,30 +196,69 @@ pub fn age<R: Threads + Sync>(
     threads: &R,
     words: &AgeWords<'_>,
 ) -> Result<(), Ending> {
-    let before = day_in(words.before, "--before")?;
-    let period = match words.period {
-        Some(period) => Some(period_in(period)?),
-        None => None,
-    };
-    let percent = match words.percent {
-        Percent::Number(number) => percent_in(number)?,
-        Percent::Sheet(path) => percent_of_sheet(rt, path)?,
-    };
+    let ageing = Ageing::asked(rt, words)?;
     let books = opened(rt, words.books, Device::Books)?;
-    let node = Node::of(&books);
-    let text = shared_text(rt, &books, words.books)?;
+    let done = aged(rt, threads, words, &books, ageing)?;
+    write_aged(&done, rt, words, Node::of(&books))?;
+    let line = aged_line(rt.alloc(), done.left, done.first_safe)?;
+    print(rt, line.as_str().as_bytes())
+}
+
+// Which claims leave, and what the end books are made for.
+#[derive(Clone, Copy)]
+struct Ageing {
+    before: Day,
+    period: Option<Period>,
+    refill_percent: u64,
+}
+
+impl Ageing {
+    fn asked(rt: &HostRuntime, words: &AgeWords<'_>) -> Result<Ageing, Ending>
+        ensures { IfOk result (λ ageing. ageing.refill_percent ≤ 100) }
+    {
+        Ok(Ageing {
+            before: day_in(words.before, "--before")?,
+            period: match words.period {
+                Some(period) => Some(period_in(period)?),
+                None => None,
+            },
+            refill_percent: match words.percent {
+                Percent::Number(number) => percent_in(number)?,
+                Percent::Sheet(path) => percent_of_sheet(rt, path)?,
+            },
+        })
+    }
+}
+
+// The books without the claims that leave.
+fn aged<R: Threads + Sync>(
+    rt: &HostRuntime,
+    threads: &R,
+    words: &AgeWords<'_>,
+    books: &File,
+    ageing: Ageing,
+) -> Result<AgedText, Ending>
+    requires { ageing.refill_percent ≤ 100 }
+{
+    let Ageing {
+        before,
+        period,
+        refill_percent,
+    } = ageing;
+    let text = shared_text(rt, books, words.books)?;
     let parts = usize::from(workers_or_all(threads, None));
-    let done = match age_text(threads, rt.alloc(), parts, &text, before, period, percent) {
-        Ok(done) => done,
-        Err(fault) => {
-            return Err(Given::of_books(words.books, &text, words.books_out).refused(rt, fault));
-        },
-    };
-    drop(text);
-    write_aged(&done, rt, words, node)?;
-    let line = aged_line(rt.alloc(), done.left, done.first_safe);
-    drop(done);
-    print(rt, line?.as_str().as_bytes())
+    match age_text(
+        threads,
+        rt.alloc(),
+        parts,
+        &text,
+        before,
+        period,
+        refill_percent,
+    ) {
+        Ok(done) => Ok(done),
+        Err(fault) => Err(Given::of_books(words.books, &text, words.books_out).refused(rt, fault)),
+    }
 }
 
 // Writes the claims that left, and then the end books without them.

@@ -299,7 +299,12 @@ fn line(rt: &HostRuntime, words: &RunSettings<'_>, run: &WatchedRun) -> Result<S
         steps: run.traffic.steps(run.times),
         peak: peak(rt),
     };
-    let mut line = log_line(alloc, &log)?;
+    ended_line(log_line(alloc, &log))
+}
+
+/// The line with its line feed.
+pub fn ended_line(line: Result<String, AllocError>) -> Result<String, AllocError> {
+    let mut line = line?;
     line.push('\n')?;
     Ok(line)
 }
