@@ -1,6 +1,6 @@
 -- The answers that differ up to a place: what is written of them, and what they come to.
 use Rattle.std.proofs.Common.{◌≡◌, ◌≤◌, ◌<◌, ℕ, ◌+◌, min, pos, ◌-ℤ◌, get_or, take, zip, flat_map, List, [], ◌∷◌, ◌++◌, length}
-use Rattle.std.proofs.Common.{map, refl, ap, sym, ◌∙◌, arith, append_assoc, append-nil}
+use Rattle.std.proofs.Common.{refl, ap, sym, ◌∙◌, arith, append_assoc, append-nil}
 use Rattle.std.specs.List.{sum_by}
 use Rattle.std.proofs.lemmas.Grind.{flat_map-append}
 use Rattle.std.proofs.lemmas.List.{get_or-map, length-map, take_all, take_more}
@@ -127,12 +127,12 @@ module _ (form : CompareForm) (old text new : List ℕ) (before ds after_it : Li
 
 -- ---- the whole text
 
-pub told : (form : CompareForm) (lot : LotParts) (one other : Tally) (ds : List Differing) (c : Change)
+pub compared_text : (form : CompareForm) (lot : LotParts) (one other : Tally) (ds : List Differing) (c : Change)
     (empty front lines text : List ℕ)
     → empty ≡ [] → front ≡ empty ++ front_text form → lines ≡ front ++ lines_after form 0 ds → c ≡ after no_change ds
     → text ≡ lines ++ end_text form lot one other c.count (cents_of c)
     → text ≡ front_text form ++ (lines_after form 0 ds ++ end_text form lot one other (length ds) (change ds))
-told form lot one other ds c empty front lines text empty_is front_is lines_are is text_is =
+compared_text form lot one other ds c empty front lines text empty_is front_is lines_are is text_is =
     let many : c.count ≡ length ds = ap (λ (d : Change). d.count) is ∙ counted ds in
     let cents : cents_of c ≡ change ds = ap cents_of is ∙ cents-after ds in
     let begun : front ≡ front_text form = front_is ∙ ap (λ (t : List ℕ). t ++ front_text form) empty_is in

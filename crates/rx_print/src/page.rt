@@ -1,4 +1,4 @@
-ghost use Rattle.std.specs.Prelude.{◌≡◌, ◌++◌, [], IfOk, false, replicate};
+ghost use Rattle.std.specs.Prelude.{◌≡◌, ◌++◌, [], IfErr, IfOk, false, replicate, true};
 ghost use Rattle.std.specs.Fmt.{decimal, signed_decimal};
 ghost use Rattle.rx_fields.specs.Digits.{digits_text};
 ghost use Rattle.rx_print.specs.CodeList.{code_list};
@@ -52,7 +52,8 @@ impl Page {
     ///
     /// `Memory` where bytes are missing.
     pub fn into_bytes(self) -> Result<Vec<u8>, Memory>
-        ensures { IfOk result (λ bytes. (self.lacks ≡ false) × (bytes ≡ self.bytes)) }
+        ensures bytes { IfOk result (λ bytes. (self.lacks ≡ false) × (bytes ≡ self.bytes)) }
+        ensures refused { IfErr result (λ fault. self.lacks ≡ true) }
     {
         if self.lacks {
             return Err(Memory);

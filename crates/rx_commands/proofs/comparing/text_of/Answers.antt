@@ -3,7 +3,7 @@ use Rattle.std.proofs.lemmas.Result.{IfOk-weaker}
 use Rattle.rx_commands.specs.Changes.{after, no_change}
 use Rattle.rx_commands.specs.ComparedText.{lines_after}
 use Rattle.rx_commands.specs.Differing.{Differing, differing, differing_of, entries_of}
-use Rattle.rx_commands.proofs.ComparedLines.{told}
+use Rattle.rx_commands.proofs.ComparedLines.{compared_text}
 use Rattle.rx_commands.proofs.comparing.text_of.Goals as goal
 
 pub returns : goal.returns
@@ -20,8 +20,8 @@ returns c =
     let front = c.put_front.ensures lines.0 in
     let begun = c.put_front.new.page.bytes.items in
     ap vec_items is.1
-    ∙ told c.args.form r.batch.lot r.settled.total s.settled.total (differing r s) c.put_lines-change.result
+    ∙ compared_text c.args.form r.batch.lot r.settled.total s.settled.total (differing r s) c.put_lines-change.result
     c.new-page.result.bytes.items begun c.put_lines-change.new.page.bytes.items c.put_end.new.page.bytes.items c.new-page.ensures.bytes
     front.1 (lines.1 ∙ ap (λ (ds : List Differing). begun ++ lines_after c.args.form 0 ds) found)
     (c.put_lines-change.ensures.change ∙ ap (after no_change) found) end.1)
-    c.into_bytes.ensures
+    c.into_bytes.ensures.bytes
