@@ -160,10 +160,15 @@ def routes(program, folder, job):
         name = wrong(folder, job)
         if status or out or name or (err and "-v" not in words):
             yield f"route {' '.join(words)}: status {status}, {err!r}, {name}"
-        if "-v" in words:
-            lines = err.decode().splitlines()
-            if [line.split(":")[0] for line in lines] != [f"plan 'plan {number}'" for number in range(1, job.count + 1)]:
-                yield f"route -v: {err!r}"
+        if "-v" in words and err.decode().splitlines() != [came_to(job, number) for number in range(1, job.count + 1)]:
+            yield f"route -v: {err!r}"
+
+
+def came_to(job, number):
+    """What -v prints of a plan, by the last line of its settlement."""
+    *counts, net = map(int, job.right[f"{number}/s.txt"].splitlines()[-1].split(b"|")[1:])
+    dollars = f"{'-' if net < 0 else ''}{abs(net) // 100:,}.{abs(net) % 100:02}"
+    return "plan 'plan {}': {} paid, {} duplicate, {} approved, {} rejected, net {}".format(number, *counts, dollars)
 
 
 def logs(program, folder, job):

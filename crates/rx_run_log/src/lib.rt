@@ -46,7 +46,7 @@ pub use file_sum::FileSum;
 pub use header::Lot;
 pub use json::log_line;
 pub use law::{lot_is_the_headers, totals_are_the_settlements};
-pub use lines::{done_line, progress_line, shards_line, step_line};
+pub use lines::{done_line, progress_line, shards_line, step_line, totals_words};
 pub use log::{CodeCount, FileLog, RunLog};
 pub use marks::line_feeds_in;
 pub use report::{Counted, RunReport, Shards, StepReport};

@@ -81,6 +81,19 @@ pub fn done_line(alloc: Global, run: &RunReport) -> Result<Vec<u8>, AllocError>
     Ok(line)
 }
 
+/// What a run came to, as `12 paid, 1 duplicate, 2 approved, 8 rejected, net 4,405.30`, the net in dollars and cents.
+///
+/// # Errors
+///
+/// Out of memory.
+pub fn totals_words(alloc: Global, totals: &Totals) -> Result<Vec<u8>, AllocError>
+    ensures { IfOk result (λ words. words.items ≡ totals_text totals.now) }
+{
+    let mut words = Vec::new(alloc);
+    put_totals(&mut words, totals)?;
+    Ok(words)
+}
+
 #[tactic(auto, using(std::proofs::Common::append_assoc))]
 fn put_counted(line: &mut Vec<u8>, counted: Option<Counted>) -> Result<(), AllocError>
     ensures { OnOk result (line.new.items ≡ line.old.items ++ counted_part counted) }

@@ -10,7 +10,7 @@ use crate::switch_inputs::SwitchInputs;
 use crate::switch_outputs::{add_common_outputs, add_plan_outputs, write_common, write_plan};
 use rx_cli::RouteWords;
 use rx_fields::Memory;
-use rx_run_log::{Totals, line_feeds_in};
+use rx_run_log::{Totals, line_feeds_in, totals_words};
 use rx_sheet::PlanFiles;
 use rx_switch::{PlanOutput, RouteOutput};
 use std::alloc::{AllocError, Global};
@@ -108,7 +108,7 @@ fn write_plans(
         write_plan(rt, plan, &own.settlement, &own.books, words.safe, kept)?;
         warn_of_long_books(rt, plan, &own.books)?;
         if words.verbose {
-            tell_plan(rt, plan, &own.settlement);
+            print_totals(rt, plan, &own.settlement);
         }
     }
     Ok(())
@@ -125,24 +125,15 @@ fn warn_of_long_books(rt: &HostRuntime, plan: &PlanFiles, books: &[u8]) -> Resul
 }
 
 // Says what a plan came to.
-fn tell_plan(rt: &HostRuntime, plan: &PlanFiles, settlement: &[u8]) {
+fn print_totals(rt: &HostRuntime, plan: &PlanFiles, settlement: &[u8]) {
     if let Some(totals) = Totals::of_settlement(settlement) {
-        if let Ok(line) = totals_line(rt.alloc(), plan.name.as_str(), totals) {
+        if let Ok(line) = totals_line(rt.alloc(), plan.name.as_str(), &totals) {
             let _ = eprintln!(rt; "{line}");
         }
     }
 }
 
-fn totals_line(alloc: Global, name: &str, totals: Totals) -> Result<String, Memory> {
-    let Totals {
-        paid,
-        duplicate,
-        approved,
-        rejected,
-        net,
-    } = totals;
-    let line = format!(in alloc;
-        "{paid} paid, {duplicate} duplicate, {approved} approved, {rejected} rejected, net {net} cents"
-    )?;
-    plan_line(alloc, name, line.as_str())
+fn totals_line(alloc: Global, name: &str, totals: &Totals) -> Result<String, Memory> {
+    let words = totals_words(alloc, totals)?;
+    plan_line(alloc, name, str::from_utf8(&words).unwrap_or(""))
 }
